@@ -1,0 +1,5 @@
+pub mod Device
+pub mod KnownPart
+pub mod LineEnds
+pub mod References
+pub mod Table
