@@ -1,0 +1,15 @@
+//! Columns of characters, tagged text, and the decorators that mark it: what a line of laid out text is
+//! made of.
+#![tactic(auto)]
+
+mod columns;
+mod equal_copy;
+mod plain;
+mod tagged_line;
+mod tagged_string;
+
+pub use columns::{Columns, UnicodeColumns};
+pub use equal_copy::EqualCopy;
+pub use plain::PlainDecorator;
+pub use tagged_line::TaggedLine;
+pub use tagged_string::{TaggedLineElement, TaggedString};

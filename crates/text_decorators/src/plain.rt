@@ -1,0 +1,10 @@
+/// The decorator of plain text: it tags nothing.
+#[derive(Clone, Copy, Debug, Default, PartialEq, Eq)]
+pub struct PlainDecorator;
+
+impl PlainDecorator {
+    /// A decorator of plain text.
+    pub fn new() -> PlainDecorator {
+        PlainDecorator
+    }
+}
