@@ -1,5 +1,5 @@
 -- Line ends and the byte order mark of a page's text, a list of code points.
-use Rattle.std.specs.Prelude.{ℕ, Bool, true, false, ◌==◌, List, [], ◌∷◌, if◌then◌else◌}
+use Rattle.std.specs.Prelude.{ℕ, Bool, false, ◌==◌, List, [], ◌∷◌, if◌then◌else◌}
 
 -- U+FEFF, the byte order mark
 abbrev pub byte_order_mark : ℕ

@@ -89,7 +89,11 @@ impl<T> Device<T> {
     pub fn into_inner(self) -> T
         ensures { result ≡ inner_of self }
     {
-        let Device { inner, failed: _, given: _ } = self;
+        let Device {
+            inner,
+            failed: _,
+            given: _,
+        } = self;
         inner
     }
 }

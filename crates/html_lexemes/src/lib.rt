@@ -9,3 +9,8 @@ mod table;
 pub use device::{ByteReader, ByteWriter, Device, DeviceFault};
 pub use fault::ParseFault;
 pub use table::ReferenceTable;
+
+#[cfg(test)]
+mod rows;
+#[cfg(test)]
+mod tests;
