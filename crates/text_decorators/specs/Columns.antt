@@ -1,9 +1,9 @@
 -- How many columns a character and a text take. Unicode Standard Annex #11 gives a character's width; a
 -- text's columns are the sum over its characters.
-use Rattle.std.specs.Prelude.{◌≡◌, ℕ, ◌≤◌, ◌+◌, Bool, true, false, cond, ◌==◌, ◌||◌, ◌⊎◌, nat_lt, nat_le, min, List, [], ◌∷◌, Option, None, Some, IfSome, unwrap_or, sum_by, IsTrue, if◌then◌else◌, refl}
+use Rattle.std.specs.Prelude.{◌≡◌, ℕ, ◌≤◌, Bool, true, false, ◌==◌, ◌||◌, ◌⊎◌, min, List, Option, None, Some, IfSome, unwrap_or, sum_by, IsTrue, if◌then◌else◌, refl}
 use Rattle.std.specs.Option.{option_map}
 use Rattle.unicode_width.specs.Width.{char_width}
-use Rattle.std.proofs.Common.{arith, ap, inl, inr, subst, sym}
+use Rattle.std.proofs.Common.{arith, ap, inl, inr}
 use Rattle.std.proofs.lemmas.Bool.Decides.{nat_tests}
 
 -- The characters that borders are made of: ─ ┬ ┴ ┼ │ ┤ ├ ┌ ┐ └ ┘ and /.

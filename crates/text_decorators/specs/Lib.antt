@@ -1,2 +1,5 @@
 pub mod Columns
+pub mod Copies
+pub mod Elements
+pub mod Iterating
 pub mod Tagged

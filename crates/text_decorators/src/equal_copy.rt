@@ -1,4 +1,5 @@
-ghost use Rattle.std.specs.Prelude.{◌≡◌, ◌≢◌, true, false, IfOk, refl};
+ghost use Rattle.std.specs.Prelude.{◌≡◌, ◌≢◌, true, false, List, map, IfOk, refl};
+ghost use Rattle.text_decorators.specs.Copies.{seen-same, seen-apart};
 
 use std::alloc::{AllocError, Global};
 
@@ -31,5 +32,23 @@ impl EqualCopy for () {
 
     fn copy(&self, _alloc: Global) -> Result<(), AllocError> {
         Ok(())
+    }
+}
+
+impl<T: EqualCopy + Drop> EqualCopy for Vec<T> {
+    ghost Seen = { List T.Seen };
+
+    ghost seen = { λ tags. map T.seen tags.items };
+
+    ghost same = { λ x y. seen-same T.eq T.seen T.same x.items y.items };
+
+    ghost apart = { λ x y. seen-apart T.eq T.seen T.apart x.items y.items };
+
+    fn copy(&self, alloc: Global) -> Result<Vec<T>, AllocError> {
+        let mut tags = Vec::new(alloc);
+        for tag in self {
+            tags.push(tag.copy(alloc)?)?;
+        }
+        Ok(tags)
     }
 }

@@ -4,12 +4,15 @@
 
 mod columns;
 mod equal_copy;
+mod joining;
+mod line_iterators;
 mod plain;
 mod tagged_line;
 mod tagged_string;
 
 pub use columns::{Columns, UnicodeColumns};
 pub use equal_copy::EqualCopy;
+pub use line_iterators::{LineChars, TaggedStrings};
 pub use plain::PlainDecorator;
 pub use tagged_line::TaggedLine;
 pub use tagged_string::{TaggedLineElement, TaggedString};

@@ -1,40 +1,46 @@
 ghost use Rattle.std.specs.Prelude.{◌≡◌, ◌↔◌, [], ◌∷◌, ◌++◌, length, chars, string_bytes, IfOk, OnOk, OnErr, IsTrue};
+ghost use Rattle.std.specs.Slice.Iter.{iter_rest};
+ghost use Rattle.std.specs.Vec.Iter.{into_iter_items, into_iter_len};
+ghost use Rattle.text_decorators.specs.Columns.{text_columns};
+ghost use Rattle.text_decorators.specs.Elements.{elements_text};
 
-use crate::columns::{Columns, UnicodeColumns};
 use crate::equal_copy::EqualCopy;
-use crate::tagged_string::{TaggedLineElement, TaggedString};
+use crate::joining::{push_marker, push_text};
+use crate::line_iterators::{LineChars, TaggedStrings};
+use crate::tagged_string::{TaggedLineElement, columns_of};
 use std::alloc::{AllocError, Global};
-use std::{slice, str, vec};
+use std::{slice, vec};
 
-/// A line of tagged text. Neighbouring texts with equal tags are one, and no text is empty.
+/// A line of tagged text. What is pushed joins the text before it where their tags are equal.
 #[derive(Debug, Drop, PartialEq)]
 pub struct TaggedLine<T> {
     elements: Vec<TaggedLineElement<T>>,
+    columns: usize,
+    ghost counted: { columns ≡ text_columns (elements_text elements.items) },
 }
 
 impl<T: EqualCopy + Drop> TaggedLine<T> {
-    ghost use Rattle.text_decorators.specs.Tagged.{line_items, tagged, line_columns};
+    ghost use Rattle.text_decorators.specs.Tagged.{line_items, element_items, tagged, line_columns, IsJoined};
 
     /// A line without text.
     pub fn new(alloc: Global) -> TaggedLine<T>
-        ensures { line_items T.seen result ≡ [] }
+        ensures items { line_items T.seen result ≡ [] }
+        ensures joined { IsJoined T.seen result }
     {
         TaggedLine {
             elements: Vec::new(alloc),
+            columns: 0,
         }
     }
 
     /// A line of one text. The error is want of memory alone.
     pub fn from_string(alloc: Global, s: String, tag: &T) -> Result<TaggedLine<T>, AllocError>
-        ensures { IfOk result (λ line. line_items T.seen line
+        ensures items { IfOk result (λ line. line_items T.seen line
             ≡ tagged (chars (string_bytes s)) (T.seen tag.now)) }
+        ensures joined { IfOk result (IsJoined T.seen) }
     {
         let mut line = TaggedLine::new(alloc);
-        if !s.is_empty() {
-            let tag = tag.copy(alloc)?;
-            line.elements
-                .push(TaggedLineElement::Str(TaggedString { s, tag }))?;
-        }
+        line.push_str(alloc, s.as_str(), tag)?;
         Ok(line)
     }
 
@@ -42,18 +48,14 @@ impl<T: EqualCopy + Drop> TaggedLine<T> {
     pub fn is_empty(&self) -> bool
         ensures { IsTrue result ↔ (line_items T.seen self.now ≡ []) }
     {
-        self.elements.is_empty()
+        self.elements.iter().all(|element| element.is_empty())
     }
 
     /// The columns of the line's text, the sum over its characters.
     pub fn width(&self) -> usize
         ensures { result ≡ line_columns (line_items T.seen self.now) }
     {
-        let mut columns = 0usize;
-        for element in &self.elements {
-            columns = columns.saturating_add(element.width());
-        }
-        columns
+        self.columns
     }
 
     /// Adds a text at the end. The error is want of memory alone, and leaves the line as it was.
@@ -61,21 +63,15 @@ impl<T: EqualCopy + Drop> TaggedLine<T> {
         ensures ok { OnOk result (line_items T.seen self.new
             ≡ line_items T.seen self.old ++ tagged (chars text.now) (T.seen tag.now)) }
         ensures err { OnErr result (line_items T.seen self.new ≡ line_items T.seen self.old) }
+        ensures joined { IsJoined T.seen self.old → IsJoined T.seen self.new }
     {
-        if text.is_empty() {
-            return Ok(());
-        }
-        let at = self.elements.len();
-        if let Some(TaggedLineElement::Str(last)) = self.elements.last_mut() {
-            if last.tag == *tag {
-                return last.s.push_str(text);
-            }
-        }
-        let _ = at;
-        let s = String::from_str(alloc, text)?;
-        let tag = tag.copy(alloc)?;
-        self.elements
-            .push(TaggedLineElement::Str(TaggedString { s, tag }))?;
+        // No memory holds a text of more columns than a `usize` counts.
+        let columns = self
+            .columns
+            .checked_add(columns_of(text))
+            .ok_or(AllocError)?;
+        push_text(&mut self.elements, alloc, text, tag)?;
+        self.columns = columns;
         Ok(())
     }
 
@@ -84,6 +80,7 @@ impl<T: EqualCopy + Drop> TaggedLine<T> {
         ensures ok { OnOk result (line_items T.seen self.new
             ≡ line_items T.seen self.old ++ tagged (c ∷ []) (T.seen tag.now)) }
         ensures err { OnErr result (line_items T.seen self.new ≡ line_items T.seen self.old) }
+        ensures joined { IsJoined T.seen self.old → IsJoined T.seen self.new }
     {
         let mut bytes = [0; 4];
         self.push_str(alloc, c.encode_utf8(&mut bytes), tag)
@@ -94,18 +91,122 @@ impl<T: EqualCopy + Drop> TaggedLine<T> {
     pub fn push_line(&mut self, alloc: Global, other: &TaggedLine<T>) -> Result<(), AllocError>
         ensures ok { OnOk result (line_items T.seen self.new
             ≡ line_items T.seen self.old ++ line_items T.seen other.now) }
+        ensures joined { IsJoined T.seen self.old → IsJoined T.seen self.new }
     {
         for element in &other.elements {
-            match element {
-                TaggedLineElement::Str(string) => {
-                    self.push_str(alloc, string.s.as_str(), &string.tag)?;
-                }
-                TaggedLineElement::FragmentStart(name) => {
-                    let name = String::from_str(alloc, name.as_str())?;
-                    self.elements.push(TaggedLineElement::FragmentStart(name))?;
-                }
-            }
+            self.push_copy(alloc, element)?;
         }
         Ok(())
     }
+
+    // Adds a copy of the element at the end.
+    fn push_copy(&mut self, alloc: Global, element: &TaggedLineElement<T>) -> Result<(), AllocError>
+        ensures ok { OnOk result (line_items T.seen self.new
+            ≡ line_items T.seen self.old ++ element_items T.seen element.now) }
+        ensures err { OnErr result (line_items T.seen self.new ≡ line_items T.seen self.old) }
+        ensures joined { IsJoined T.seen self.old → IsJoined T.seen self.new }
+    {
+        match element {
+            TaggedLineElement::Str(string) => {
+                self.push_str(alloc, string.s.as_str(), &string.tag)
+            }
+            TaggedLineElement::FragmentStart(name) => {
+                push_marker(&mut self.elements, alloc, name.as_str())
+            }
+        }
+    }
 }
+
+impl<T> TaggedLine<T> {
+    ghost use Rattle.text_decorators.specs.Tagged.{line_elements, line_text, line_strings};
+    ghost use Rattle.text_decorators.specs.Iterating.{chars_left, strings_left};
+
+    /// The texts and markers, in order.
+    pub fn iter(&self) -> slice::Iter<'_, TaggedLineElement<T>>
+        ensures { iter_rest result ≡ line_elements self.now }
+    {
+        self.elements.iter()
+    }
+
+    /// The characters of the texts, in order; markers are left out.
+    pub fn chars(&self) -> LineChars<'_, T>
+        ensures { chars_left result ≡ line_text self.now }
+    {
+        LineChars::new(&self.elements)
+    }
+
+    /// The texts with their tags, in order; markers are left out.
+    pub fn tagged_strings(&self) -> TaggedStrings<'_, T>
+        ensures { strings_left result ≡ line_strings self.now }
+    {
+        TaggedStrings::new(&self.elements)
+    }
+}
+
+impl<T: Drop> TaggedLine<T> {
+    ghost use Rattle.text_decorators.specs.Elements.{MapsTags};
+    ghost use Rattle.text_decorators.specs.Tagged.{line_elements};
+
+    /// The same line, with what `f` makes of each text's tag; texts whose tags become equal stay apart. The
+    /// error is want of memory alone.
+    pub fn map_tag<U: Drop, F: Fn(T) -> U>(
+        self,
+        alloc: Global,
+        f: &F,
+    ) -> Result<TaggedLine<U>, AllocError>
+        requires { F.IsAlwaysCallable f.now }
+        ensures { IfOk result (λ line. MapsTags (F.post f.now) (line_elements self) (line_elements line)) }
+    {
+        let TaggedLine { elements, columns } = self;
+        let mut mapped = Vec::new(alloc);
+        for element in elements {
+            mapped.push(element.map_tag(f))?;
+        }
+        Ok(TaggedLine {
+            elements: mapped,
+            columns,
+        })
+    }
+}
+
+impl<T: EqualCopy + Drop> TaggedLine<T> {
+    ghost use Rattle.text_decorators.specs.Elements.{CopiesAll};
+    ghost use Rattle.text_decorators.specs.Tagged.{line_elements, line_items};
+
+    /// An equal line. The error is want of memory alone.
+    pub fn try_clone(&self, alloc: Global) -> Result<TaggedLine<T>, AllocError>
+        ensures elements { IfOk result (λ copy. CopiesAll T.seen (line_elements self.now) (line_elements copy)) }
+        ensures items { IfOk result (λ copy. line_items T.seen copy ≡ line_items T.seen self.now) }
+    {
+        let mut elements = Vec::new(alloc);
+        for element in &self.elements {
+            elements.push(element.try_clone(alloc)?)?;
+        }
+        Ok(TaggedLine {
+            elements,
+            columns: self.columns,
+        })
+    }
+}
+
+impl<T: Drop> IntoIterator for TaggedLine<T> {
+    ghost use Rattle.text_decorators.specs.Tagged.{line_elements};
+
+    type Item = TaggedLineElement<T>;
+
+    type IntoIter = vec::IntoIter<TaggedLineElement<T>>;
+
+    ghost into_iter_gives = { λ line it. (into_iter_items it ≡ line_elements line)
+        × (into_iter_len it ≡ length (line_elements line)) };
+
+    fn into_iter(self) -> vec::IntoIter<TaggedLineElement<T>> {
+        let TaggedLine {
+            elements,
+            columns: _,
+        } = self;
+        elements.into_iter()
+    }
+}
+
+#[cfg(test)]
+mod tests;

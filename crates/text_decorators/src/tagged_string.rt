@@ -1,4 +1,4 @@
-ghost use Rattle.std.specs.Prelude.{◌≡◌, [], chars, string_bytes, IfOk};
+ghost use Rattle.std.specs.Prelude.{◌≡◌, ◌↔◌, [], chars, string_bytes, IfOk, OnOk, OnErr, IsTrue};
 ghost use Rattle.text_decorators.specs.Columns.{text_columns};
 
 use crate::columns::{Columns, UnicodeColumns};
@@ -56,7 +56,7 @@ pub enum TaggedLineElement<T> {
 }
 
 impl<T> TaggedLineElement<T> {
-    ghost use Rattle.text_decorators.specs.Tagged.{element_text};
+    ghost use Rattle.text_decorators.specs.Elements.{element_text, Extends, IsEmpty, MapsTag};
 
     /// The columns of the text, 0 for a marker.
     pub fn width(&self) -> usize
@@ -75,13 +75,66 @@ impl<T> TaggedLineElement<T> {
         }
     }
 
+    /// Whether there is neither text nor a marker.
+    pub(crate) fn is_empty(&self) -> bool
+        ensures { IsTrue result ↔ IsEmpty self.now }
+    {
+        match self {
+            TaggedLineElement::Str(string) => string.s.is_empty(),
+            TaggedLineElement::FragmentStart(_) => false,
+        }
+    }
+
+    /// Adds to the text; a marker stays as it is.
+    pub(crate) fn push_str(&mut self, text: &str) -> Result<(), AllocError>
+        ensures ok { OnOk result (Extends self.old self.new text.now) }
+        ensures err { OnErr result (Extends self.old self.new []) }
+    {
+        match self {
+            TaggedLineElement::Str(string) => string.s.push_str(text),
+            TaggedLineElement::FragmentStart(_) => Ok(()),
+        }
+    }
+
     /// The same element, with what `f` makes of a text's tag.
     pub fn map_tag<U, F: Fn(T) -> U>(self, f: &F) -> TaggedLineElement<U>
         requires { F.IsAlwaysCallable f.now }
+        ensures { MapsTag (F.post f.now) self result }
     {
         match self {
             TaggedLineElement::Str(string) => TaggedLineElement::Str(string.map_tag(f)),
             TaggedLineElement::FragmentStart(name) => TaggedLineElement::FragmentStart(name),
+        }
+    }
+}
+
+impl<T: EqualCopy + Drop> TaggedLineElement<T> {
+    ghost use Rattle.text_decorators.specs.Elements.{Copies};
+
+    /// An equal element. The error is want of memory alone.
+    pub fn try_clone(&self, alloc: Global) -> Result<TaggedLineElement<T>, AllocError>
+        ensures { IfOk result (Copies T.seen self.now) }
+    {
+        match self {
+            TaggedLineElement::Str(string) => Ok(TaggedLineElement::Str(string.try_clone(alloc)?)),
+            TaggedLineElement::FragmentStart(name) => {
+                let name = String::from_str(alloc, name.as_str())?;
+                Ok(TaggedLineElement::FragmentStart(name))
+            }
+        }
+    }
+}
+
+impl<T: EqualCopy> TaggedLineElement<T> {
+    ghost use Rattle.text_decorators.specs.Elements.{HasTag};
+
+    /// Whether this is a text with an equal tag.
+    pub(crate) fn has_tag(&self, tag: &T) -> bool
+        ensures { IsTrue result ↔ HasTag T.seen (T.seen tag.now) self.now }
+    {
+        match self {
+            TaggedLineElement::Str(string) => string.tag == *tag,
+            TaggedLineElement::FragmentStart(_) => false,
         }
     }
 }
@@ -92,7 +145,7 @@ pub(crate) fn columns_of(text: &str) -> usize
 {
     let mut columns = 0usize;
     for c in text.chars() {
-        columns = columns.saturating_add(UnicodeColumns::columns(c).unwrap_or(0));
+        columns += UnicodeColumns::columns(c).unwrap_or(0);
     }
     columns
 }

@@ -1,0 +1,7 @@
+pub mod Copying
+pub mod Elementwise
+pub mod Emptiness
+pub mod Joined
+pub mod Joins
+pub mod Widths
+pub mod Yielding

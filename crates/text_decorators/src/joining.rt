@@ -1,0 +1,92 @@
+//! Adding text at the end of a line's elements.
+
+ghost use Rattle.std.specs.Prelude.{◌≡◌, ◌≢◌, ◌<◌, ◌↔◌, [], ◌∷◌, ◌++◌, chars, string_bytes, vec_len, OnOk, OnErr, IsTrue};
+ghost use Rattle.text_decorators.specs.Elements.{elements_items, tagged, marker, AreJoined, EndsWithTag};
+
+use crate::equal_copy::EqualCopy;
+use crate::tagged_string::{TaggedLineElement, TaggedString};
+use std::alloc::{AllocError, Global};
+
+/// Adds a text at the end. Where the last element is a text with an equal tag, it joins that.
+pub(crate) fn push_text<T: EqualCopy + Drop>(
+    elements: &mut Vec<TaggedLineElement<T>>,
+    alloc: Global,
+    text: &str,
+    tag: &T,
+) -> Result<(), AllocError>
+    ensures ok { OnOk result (elements_items T.seen elements.new.items
+        ≡ elements_items T.seen elements.old.items ++ tagged (chars text.now) (T.seen tag.now)) }
+    ensures err { OnErr result (elements_items T.seen elements.new.items
+        ≡ elements_items T.seen elements.old.items) }
+    ensures joined { AreJoined T.seen elements.old.items → AreJoined T.seen elements.new.items }
+{
+    if text.is_empty() {
+        Ok(())
+    } else if ends_with_tag(elements, tag) {
+        extend_last(elements, text)
+    } else {
+        push_new(elements, alloc, text, tag)
+    }
+}
+
+/// Adds a marker at the end.
+pub(crate) fn push_marker<T: EqualCopy + Drop>(
+    elements: &mut Vec<TaggedLineElement<T>>,
+    alloc: Global,
+    name: &str,
+) -> Result<(), AllocError>
+    ensures ok { OnOk result (elements_items T.seen elements.new.items
+        ≡ elements_items T.seen elements.old.items ++ marker (chars name.now) ∷ []) }
+    ensures err { OnErr result (elements.new.items ≡ elements.old.items) }
+    ensures joined { AreJoined T.seen elements.old.items → AreJoined T.seen elements.new.items }
+{
+    let name = String::from_str(alloc, name)?;
+    elements.push(TaggedLineElement::FragmentStart(name))?;
+    Ok(())
+}
+
+// Whether the last element is a text with an equal tag.
+fn ends_with_tag<T: EqualCopy>(elements: &[TaggedLineElement<T>], tag: &T) -> bool
+    ensures { IsTrue result ↔ EndsWithTag T.seen (T.seen tag.now) elements.now }
+{
+    match elements.last() {
+        Some(last) => last.has_tag(tag),
+        None => false,
+    }
+}
+
+// Adds to the text of the last element.
+fn extend_last<T: EqualCopy + Drop>(
+    elements: &mut Vec<TaggedLineElement<T>>,
+    text: &str,
+) -> Result<(), AllocError>
+    requires { 0 < vec_len elements.old }
+    ensures ok { OnOk result ((tag : T.Seen) → EndsWithTag T.seen tag elements.old.items
+        → elements_items T.seen elements.new.items
+        ≡ elements_items T.seen elements.old.items ++ tagged (chars text.now) tag) }
+    ensures err { OnErr result (elements_items T.seen elements.new.items
+        ≡ elements_items T.seen elements.old.items) }
+    ensures joined { AreJoined T.seen elements.old.items → AreJoined T.seen elements.new.items }
+{
+    let last = elements.len() - 1;
+    elements[last].push_str(text)
+}
+
+// Adds the text as an element of its own.
+fn push_new<T: EqualCopy + Drop>(
+    elements: &mut Vec<TaggedLineElement<T>>,
+    alloc: Global,
+    text: &str,
+    tag: &T,
+) -> Result<(), AllocError>
+    ensures ok { OnOk result (elements_items T.seen elements.new.items
+        ≡ elements_items T.seen elements.old.items ++ tagged (chars text.now) (T.seen tag.now)) }
+    ensures err { OnErr result (elements.new.items ≡ elements.old.items) }
+    ensures joined { OnOk result (AreJoined T.seen elements.old.items → text.now ≢ []
+        → ¬ EndsWithTag T.seen (T.seen tag.now) elements.old.items → AreJoined T.seen elements.new.items) }
+{
+    let s = String::from_str(alloc, text)?;
+    let tag = tag.copy(alloc)?;
+    elements.push(TaggedLineElement::Str(TaggedString { s, tag }))?;
+    Ok(())
+}
