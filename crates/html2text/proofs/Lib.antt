@@ -1,0 +1,11 @@
+pub mod DecoderReads
+pub mod DecoderTable
+pub mod DecoderText
+pub mod LinesTextLemmas
+pub mod PageTextLemmas
+pub mod ParagraphCuts
+pub mod ParagraphLemmas
+pub mod ParagraphPageLemmas
+pub mod ReadingLemmas
+pub mod TextBridges
+pub mod WritingLemmas

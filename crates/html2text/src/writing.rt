@@ -1,0 +1,75 @@
+ghost use Rattle.std.specs.Prelude.{◌≡◌, ◌+◌, ◌<◌, ◌≤◌, ◌⊎◌, true, Err, OnErr, OnOk};
+ghost use Rattle.std.specs.Io.KnownBytes.{Appends};
+ghost use Rattle.html_lexemes.specs.KnownPart.{AppendsPart};
+ghost use Rattle.html2text.specs.Config.{max_bytes_of};
+ghost use Rattle.html2text.specs.LinesText.{line_bytes, lines_bytes};
+
+use crate::config::Config;
+use crate::error::Error;
+use crate::layout::PlainLine;
+use html_lexemes::{ByteReader, ByteWriter, DeviceFault};
+use std::alloc::Global;
+use text_block_renderer::PlainDecorator;
+
+/// Reads a page, and writes the text of its lines, each with a newline. Nothing is written before the
+/// layout has succeeded.
+pub fn run<R: ByteReader, W: ByteWriter>(
+    alloc: Global,
+    reader: &mut R,
+    writer: &mut W,
+    config: Config<PlainDecorator>,
+    width: usize,
+) -> Result<(), Error>
+    ensures at_most { R.count reader.new ≤ R.count reader.old + max_bytes_of config + 1 }
+    ensures io { result ≡ Err Error.IoError → (R.has_failed reader.new ≡ true) ⊎ (W.has_failed writer.new ≡ true) }
+    ensures too_long { result ≡ Err Error.TooLong → R.count reader.old + max_bytes_of config < R.count reader.new }
+    ensures reader_stays { R.has_failed reader.old ≡ true → R.has_failed reader.new ≡ true }
+    ensures writer_stays { W.has_failed writer.old ≡ true → W.has_failed writer.new ≡ true }
+
+    // Only a fault of the writer leaves anything written.
+    ensures unwritten { OnErr result ((writer.new ≡ writer.old) ⊎ ((result ≡ Err Error.IoError) × (W.has_failed writer.new ≡ true))) }
+{
+    let lines = config.lines_from_read(alloc, reader, width)?;
+    write_lines(writer, &lines)?;
+    Ok(())
+}
+
+fn write_lines<W: ByteWriter>(writer: &mut W, lines: &[PlainLine]) -> Result<(), DeviceFault>
+    ensures ok { OnOk result (Appends (W.contents writer.old) (W.contents writer.new) (lines_bytes lines.now)) }
+    ensures part { OnErr result (AppendsPart (W.contents writer.old) (W.contents writer.new) (lines_bytes lines.now)) }
+    ensures failed { OnErr result (W.has_failed writer.new ≡ true) }
+    ensures stays { W.has_failed writer.old ≡ true → W.has_failed writer.new ≡ true }
+{
+    'lines: for line in lines {
+        write_line(writer, line)?;
+    }
+    Ok(())
+}
+
+fn write_line<W: ByteWriter>(writer: &mut W, line: &PlainLine) -> Result<(), DeviceFault>
+    ensures ok { OnOk result (Appends (W.contents writer.old) (W.contents writer.new) (line_bytes line.now)) }
+    ensures part { OnErr result (AppendsPart (W.contents writer.old) (W.contents writer.new) (line_bytes line.now)) }
+    ensures failed { OnErr result (W.has_failed writer.new ≡ true) }
+    ensures stays { W.has_failed writer.old ≡ true → W.has_failed writer.new ≡ true }
+{
+    'elements: for element in line.iter() {
+        write_all(writer, element.as_str().as_bytes())?;
+    }
+    write_all(writer, b"\n")
+}
+
+/// Writes all the bytes. A fault leaves a beginning of them.
+fn write_all<W: ByteWriter>(writer: &mut W, bytes: &[u8]) -> Result<(), DeviceFault>
+    ensures ok { OnOk result (Appends (W.contents writer.old) (W.contents writer.new) bytes.now) }
+    ensures part { OnErr result (AppendsPart (W.contents writer.old) (W.contents writer.new) bytes.now) }
+    ensures failed { OnErr result (W.has_failed writer.new ≡ true) }
+    ensures stays { W.has_failed writer.old ≡ true → W.has_failed writer.new ≡ true }
+{
+    let mut rest = bytes;
+    'bytes: while !rest.is_empty() {
+        let count = writer.write(rest)?;
+        let (_, after) = rest.split_at(count);
+        rest = after;
+    }
+    Ok(())
+}

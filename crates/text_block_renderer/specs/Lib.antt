@@ -1,0 +1,4 @@
+pub mod Block
+pub mod Filling
+pub mod Layout
+pub mod Units
