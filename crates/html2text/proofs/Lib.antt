@@ -1,11 +1,17 @@
+pub mod CommandLines
+pub mod CommandNumbers
+pub mod CommandTurns
 pub mod DecoderReads
 pub mod DecoderTable
 pub mod DecoderText
+pub mod LayoutLemmas
 pub mod LinesTextLemmas
 pub mod PageTextLemmas
 pub mod ParagraphCuts
 pub mod ParagraphLemmas
+pub mod ParagraphLinesLemmas
 pub mod ParagraphPageLemmas
 pub mod ReadingLemmas
 pub mod TextBridges
 pub mod WritingLemmas
+pub mod WrittenLemmas

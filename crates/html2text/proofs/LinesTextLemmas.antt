@@ -1,9 +1,13 @@
 -- The bytes of a line, element by element.
-use Rattle.std.proofs.Common.{◌≡◌, ℕ, List, [], ◌∷◌, ◌++◌, refl, ap, ◌∙◌, append_assoc, sym, append-nil}
-use Rattle.text_decorators.specs.Tagged.{element_text}
+use Rattle.std.proofs.Common.{◌≡◌, ℕ, List, [], ◌∷◌, ◌++◌, map, refl, ap, ◌∙◌, append_assoc, sym, rules, string_bytes, IsUtf8}
+use Rattle.std.specs.Str.{chars}
+use Rattle.std.proofs.lemmas.Str.{chars-nil, chars-append, IsUtf8-string_bytes, IsUtf8-append, IsUtf8-nil}
+use Rattle.text_decorators.specs.Tagged.{element_text, elements_text, line_text}
 use Rattle.text_decorators.specs.declared.tagged_line.TaggedLine.{TaggedLine}
 use Rattle.text_decorators.specs.declared.tagged_string.TaggedLineElement.{TaggedLineElement}
+use Rattle.text_decorators.specs.declared.tagged_string.TaggedLineElement.TheVariants.{Str, FragmentStart}
 use Rattle.html2text.specs.LinesText.{elements_bytes, line_bytes, lines_bytes, newline}
+use Rattle.html2text.specs.PageLines.{lines_text}
 
 pub elements_bytes-step : {T : Type 0} (es : List (TaggedLineElement T)) (e : TaggedLineElement T) (rest : List (TaggedLineElement T)) (bytes : List ℕ)
     → es ≡ e ∷ rest → bytes ≡ element_text e → elements_bytes es ++ newline ≡ bytes ++ (elements_bytes rest ++ newline)
@@ -14,3 +18,35 @@ elements_bytes-end es h = ap (λ l. elements_bytes l ++ newline) h
 
 pub lines_bytes-step : {T : Type 0} (ls : List (TaggedLine T)) (l : TaggedLine T) (rest : List (TaggedLine T)) → ls ≡ l ∷ rest → lines_bytes ls ≡ line_bytes l ++ lines_bytes rest
 lines_bytes-step ls l rest h = ap lines_bytes h
+
+element_utf8 : {T : Type 0} (e : TaggedLineElement T) → IsUtf8 (element_text e)
+element_utf8 (Str string) = IsUtf8-string_bytes string.s
+element_utf8 (FragmentStart name) = IsUtf8-nil
+
+elements_utf8 : {T : Type 0} (es : List (TaggedLineElement T)) → IsUtf8 (elements_bytes es)
+elements_utf8 [] = IsUtf8-nil
+elements_utf8 (e ∷ es) = IsUtf8-append (element_text e) (elements_bytes es) (element_utf8 e) (elements_utf8 es)
+
+chars-elements_bytes : {T : Type 0} (es : List (TaggedLineElement T)) → chars (elements_bytes es) ≡ elements_text es
+chars-elements_bytes [] = chars-nil
+chars-elements_bytes (e ∷ es) = chars-append (element_text e) (elements_bytes es) (element_utf8 e) ∙ ap (λ l. chars (element_text e) ++ l) (chars-elements_bytes es)
+
+chars-newline : chars newline ≡ newline
+unfolding chars
+chars-newline = refl
+
+newline_utf8 : IsUtf8 newline
+newline_utf8 = search rules
+
+line_utf8 : {T : Type 0} (line : TaggedLine T) → IsUtf8 (line_bytes line)
+line_utf8 line = IsUtf8-append (elements_bytes line.elements.items) newline (elements_utf8 line.elements.items) newline_utf8
+
+chars-line_bytes : {T : Type 0} (line : TaggedLine T) → chars (line_bytes line) ≡ line_text line ++ newline
+chars-line_bytes line =
+    chars-append (elements_bytes line.elements.items) newline (elements_utf8 line.elements.items) ∙ ap (λ l. l ++ chars newline) (chars-elements_bytes line.elements.items) ∙ ap (λ l. line_text line ++ l) chars-newline
+
+-- the bytes that are written are those of the lines' text
+pub chars-lines_bytes : {T : Type 0} (lines : List (TaggedLine T)) → chars (lines_bytes lines) ≡ lines_text (map line_text lines)
+chars-lines_bytes [] = chars-nil
+chars-lines_bytes (line ∷ lines) =
+    chars-append (line_bytes line) (lines_bytes lines) (line_utf8 line) ∙ ap (λ l. l ++ chars (lines_bytes lines)) (chars-line_bytes line) ∙ ap (λ l. (line_text line ++ newline) ++ l) (chars-lines_bytes lines)

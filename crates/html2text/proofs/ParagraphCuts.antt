@@ -1,12 +1,12 @@
 -- Texts cut at a mark, and the names of the basic references.
-use Rattle.std.proofs.Common.{◌≡◌, ◌≢◌, ℕ, zero, suc, ◌<◌, Bool, true, false, cond, eqb, List, [], ◌∷◌, ◌++◌, Contains, codes, refl, sym, ap, subst, subst₂, ◌∙◌, arith, append_assoc, slice_index_or, rules, IsUtf8, encode_utf8_all}
-use Rattle.std.proofs.lemmas.Bool.{eqb-false}
+use Rattle.std.proofs.Common.{◌≡◌, ◌≢◌, ℕ, zero, suc, ◌<◌, cond, eqb, List, [], ◌∷◌, ◌++◌, Contains, codes, refl, sym, ap, subst, subst₂, ◌∙◌, arith, append_assoc, slice_index_or, rules, IsUtf8, encode_utf8_all}
 use Rattle.std.proofs.lemmas.List.{same_from_push}
 use Rattle.std.proofs.lemmas.Str.{encodes-chars}
-use Rattle.std.specs.Str.{NonePass, chars}
+use Rattle.std.specs.Str.{chars}
 use Rattle.html_lexemes.specs.References.{basic_references}
 use Rattle.html2text.specs.PageText.{Lacks, IsCutAt}
 use Rattle.html2text.specs.ParagraphPage.{BeginsWithName}
+use Rattle.html2text.proofs.TextBridges.{Lacks-from_none}
 
 pub Lacks-append : (mark : ℕ) (front back : List ℕ) → Lacks mark front → Lacks mark back → Lacks mark (front ++ back)
 Lacks-append mark [] back f b = b
@@ -51,25 +51,21 @@ each_reference P amp lt gt quot nbsp name c h = at h.0 h.1 h.2
 abbrev pub HasStem : List ℕ → Type 0
 HasStem name = (stem : List ℕ) × (name ≡ stem ++ 59 ∷ []) × Lacks 59 stem
 
-lacks_by_test : (mark : ℕ) (cs : List ℕ) → NonePass (λ d. eqb d mark) cs → Lacks mark cs
-lacks_by_test mark [] h = tt
-lacks_by_test mark (c ∷ cs) h = (eqb-false c mark h.0, lacks_by_test mark cs h.1)
-
 pub name_stem : (name : List ℕ) (c : ℕ) → Contains basic_references (name, c ∷ []) → HasStem name
 name_stem = each_reference (λ name c. HasStem name)
-    (codes "amp", refl, lacks_by_test 59 (codes "amp") (search rules))
-    (codes "lt", refl, lacks_by_test 59 (codes "lt") (search rules))
-    (codes "gt", refl, lacks_by_test 59 (codes "gt") (search rules))
-    (codes "quot", refl, lacks_by_test 59 (codes "quot") (search rules))
-    (codes "nbsp", refl, lacks_by_test 59 (codes "nbsp") (search rules))
+    (codes "amp", refl, Lacks-from_none 59 (codes "amp") (search rules))
+    (codes "lt", refl, Lacks-from_none 59 (codes "lt") (search rules))
+    (codes "gt", refl, Lacks-from_none 59 (codes "gt") (search rules))
+    (codes "quot", refl, Lacks-from_none 59 (codes "quot") (search rules))
+    (codes "nbsp", refl, Lacks-from_none 59 (codes "nbsp") (search rules))
 
 pub name_lacks : (name : List ℕ) (c : ℕ) → Contains basic_references (name, c ∷ []) → Lacks 60 name × Lacks 0 name
 name_lacks = each_reference (λ name c. Lacks 60 name × Lacks 0 name)
-    (lacks_by_test 60 (codes "amp;") (search rules), lacks_by_test 0 (codes "amp;") (search rules))
-    (lacks_by_test 60 (codes "lt;") (search rules), lacks_by_test 0 (codes "lt;") (search rules))
-    (lacks_by_test 60 (codes "gt;") (search rules), lacks_by_test 0 (codes "gt;") (search rules))
-    (lacks_by_test 60 (codes "quot;") (search rules), lacks_by_test 0 (codes "quot;") (search rules))
-    (lacks_by_test 60 (codes "nbsp;") (search rules), lacks_by_test 0 (codes "nbsp;") (search rules))
+    (Lacks-from_none 60 (codes "amp;") (search rules), Lacks-from_none 0 (codes "amp;") (search rules))
+    (Lacks-from_none 60 (codes "lt;") (search rules), Lacks-from_none 0 (codes "lt;") (search rules))
+    (Lacks-from_none 60 (codes "gt;") (search rules), Lacks-from_none 0 (codes "gt;") (search rules))
+    (Lacks-from_none 60 (codes "quot;") (search rules), Lacks-from_none 0 (codes "quot;") (search rules))
+    (Lacks-from_none 60 (codes "nbsp;") (search rules), Lacks-from_none 0 (codes "nbsp;") (search rules))
 
 -- the character of a name, computed from its first letter
 first_value : List ℕ → ℕ

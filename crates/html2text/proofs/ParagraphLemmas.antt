@@ -1,9 +1,8 @@
 -- Pages of paragraphs, read from their beginning.
-use Rattle.std.proofs.Common.{◌≡◌, ◌≢◌, ℕ, ◌⊎◌, List, [], ◌∷◌, ◌++◌, Contains, codes, refl, sym, ap, subst, ◌∙◌, inl, inr, append_assoc, append-nil, arith}
-use Rattle.html_lexemes.specs.References.{basic_references}
+use Rattle.std.proofs.Common.{◌≡◌, ◌≢◌, ℕ, ◌⊎◌, List, [], ◌∷◌, ◌++◌, refl, sym, ap, subst, ◌∙◌, inl, inr, append_assoc, append-nil, arith}
 use Rattle.html2text.specs.PageText.{Lacks, IsCutAt}
-use Rattle.html2text.specs.ParagraphPage.{BeginsWithName, IsReference, IsCharacter, IsText, IsParagraphPage, start_tag, end_tag}
-use Rattle.html2text.proofs.ParagraphCuts.{Lacks-append, Lacks-front, cut_once, name_lacks, one_name}
+use Rattle.html2text.specs.ParagraphPage.{BeginsWithName, IsCharacter, IsText}
+use Rattle.html2text.proofs.ParagraphCuts.{Lacks-append, Lacks-front, name_lacks, one_name}
 
 -- What a source begins with: a character that is written as itself, or a reference.
 abbrev Reads : List ℕ → ℕ → List ℕ → Type 0

@@ -4,6 +4,7 @@ use Rattle.std.proofs.lemmas.List.{append_cancel_left}
 use Rattle.std.specs.Str.{chars}
 use Rattle.html2text.specs.PageText.{Lacks, IsCutAt}
 use Rattle.html2text.specs.ParagraphPage.{IsText, IsParagraphPage, start_tag, end_tag}
+use Rattle.html2text.proofs.TextBridges.{Lacks-seam}
 use Rattle.html2text.proofs.ParagraphCuts.{cut_once}
 use Rattle.html2text.proofs.ParagraphLemmas.{one_text, text_lacks, HasText}
 
@@ -84,10 +85,6 @@ no_page-start page texts rest h some wrong all a = let has = h.only all a in of 
     of [] none = some none
     of (t ∷ ts) m = wrong _ m.2
 
-lacks_cut : (mark : ℕ) (front back : List ℕ) → Lacks mark (front ++ mark ∷ back) → ⊥
-lacks_cut mark [] back h = h.0 refl
-lacks_cut mark (c ∷ front) back h = lacks_cut mark front back h.1
-
 pub no_page-end : (page : List ℕ) (texts : List (List ℕ)) (rest inner : List ℕ) → PageSoFar page texts rest → rest ≡ start_tag ++ inner → Lacks 60 inner → (all : List (List ℕ)) → IsParagraphPage page all → ⊥
 no_page-end page texts rest inner h starts lacks all a = let has = h.only all a in of has.0 has.1
   where
@@ -95,7 +92,7 @@ no_page-end page texts rest inner h starts lacks all a = let has = h.only all a 
     of [] none = let e : start_tag ++ inner ≡ [] = sym starts ∙ none in cc
     of (t ∷ ts) m =
         let behind : inner ≡ m.0 ++ 60 ∷ (end_rest ++ m.1) = append_cancel_left start_tag _ _ (sym starts ∙ m.2) in
-        lacks_cut 60 m.0 (end_rest ++ m.1) (subst (Lacks 60) behind lacks)
+        Lacks-seam 60 m.0 (end_rest ++ m.1) (subst (Lacks 60) behind lacks)
 
 pub no_page-tag : (page : List ℕ) (texts : List (List ℕ)) (rest inner source tag : List ℕ) → PageSoFar page texts rest → rest ≡ start_tag ++ inner → IsCutAt 60 inner source tag → ((after : List ℕ) → tag ≢ end_rest ++ after)
     → (all : List (List ℕ)) → IsParagraphPage page all → ⊥

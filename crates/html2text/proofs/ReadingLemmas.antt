@@ -1,7 +1,9 @@
 -- What a loop of reads has read so far.
 use Rattle.std.proofs.Common.{◌≡◌, ℕ, ◌+◌, ◌≤◌, Bool, true, false, List, [], ◌++◌, length, Option, None, Some, IfSome, refl, sym, ap, ◌∙◌, append_assoc, append-nil, length-append, subst, arith}
 use Rattle.std.specs.Io.KnownBytes.{Consumes, IsAtEnd}
-use Rattle.html2text.specs.PageLines.{page_text}
+use Rattle.html2text.specs.PageLines.{page_text, IsTooNarrowPage, IsWiderText}
+use Rattle.html2text.specs.ParagraphPage.{IsParagraphPage}
+use Rattle.std.specs.Prelude.{◌⊎◌, Any}
 use Rattle.html2text.specs.PageText.{continued}
 use Rattle.html2text.specs.ReplacedText.{replaced_text}
 
@@ -88,3 +90,9 @@ pub all_came : {count_then count_now most left : ℕ} {failed_then failed_now : 
     → Consumes now next [] → IsAtEnd next → count_next ≡ count_now + 0 → IfSome all (λ bytes. count_next ≡ count_then + length bytes)
 all_came {count_then} {count_now} {all = all} {now = now} next count_next r consumed end same =
     let Q : List ℕ → Type 0 = λ bytes. count_next ≡ count_then + length bytes in comes_end all now next _ Q r.came consumed end (λ bytes h. omega (arith, h))
+
+-- a page of paragraphs that was read, and is too narrow
+pub narrow_page : (width : ℕ) (all : Option (List ℕ)) (text : List ℕ) (texts : List (List ℕ)) → IfSome all (λ bytes. text ≡ page_text bytes) → IsParagraphPage text texts
+    → (width ≡ 0) ⊎ Any (IsWiderText width) texts → IfSome all (IsTooNarrowPage width)
+narrow_page width None text texts came page narrow = tt
+narrow_page width (Some bytes) text texts came page narrow = record { texts = texts; page = subst (λ t. IsParagraphPage t texts) came page; narrow = narrow }

@@ -1,5 +1,5 @@
 -- What calls on the bytes of a text say of its code points.
-use Rattle.std.proofs.Common.{◌≡◌, ◌≢◌, ℕ, zero, suc, ◌+◌, ◌<◌, ◌≤◌, Bool, true, false, List, [], ◌∷◌, ◌++◌, length, take, drop, get_or, eqb, Option, None, Some, IfSome, IsNone, MatchOption, MatchBool, IsUtf8, chars, unwrap_or, Bor, refl, sym, ap, subst, ◌∙◌, arith, length-append, length-drop, encode_utf8, encode_utf8_all, append-nil, String, string_bytes}
+use Rattle.std.proofs.Common.{◌≡◌, ◌≢◌, ℕ, zero, suc, ◌+◌, ◌<◌, ◌≤◌, Bool, true, false, List, [], ◌∷◌, ◌++◌, length, take, drop, eqb, Option, None, Some, IfSome, IsNone, MatchOption, MatchBool, IsUtf8, chars, unwrap_or, Bor, refl, sym, ap, subst, ◌∙◌, arith, length-drop, encode_utf8, encode_utf8_all, append-nil, String, string_bytes}
 use Rattle.std.proofs.lemmas.Bool.{eqb-true, eqb-false, ne_eqb, eq-eqb}
 use Rattle.std.proofs.lemmas.List.{take-append-drop, nil_from_length}
 use Rattle.std.proofs.lemmas.Str.{chars-append, chars-IsAscii, chars_past_char, chars_from_encodes, encodes-chars, encodes-append, IsUtf8-take, IsUtf8-from_ascii, IsUtf8-encode, IsUtf8-string_bytes, chars-nil, IsCharBoundary-before_ascii}
@@ -9,18 +9,19 @@ use Rattle.std.specs.Str.{IsAscii, NoCharPasses, NonePass}
 use Rattle.std.specs.Str.Pattern.{FindsChar, FindsCharPrefix, FindsTextPrefix}
 use Rattle.html2text.specs.PageText.{without_first, Lacks, IsCutAt}
 
-lacks_from_none : (mark : ℕ) (cs : List ℕ) → NonePass (λ d. eqb d mark) cs → Lacks mark cs
-lacks_from_none mark [] h = tt
-lacks_from_none mark (c ∷ cs) h = (eqb-false c mark h.0, lacks_from_none mark cs h.1)
+-- none of these characters is the mark, as a test
+pub Lacks-from_none : (mark : ℕ) (cs : List ℕ) → NonePass (λ d. eqb d mark) cs → Lacks mark cs
+Lacks-from_none mark [] h = tt
+Lacks-from_none mark (c ∷ cs) h = (eqb-false c mark h.0, Lacks-from_none mark cs h.1)
 
 -- a text of which no character is the mark
 lacks_in_text : (mark : ℕ) (bs : List ℕ) → IsUtf8 bs → NoCharPasses (λ d. eqb d mark) bs → Lacks mark (chars bs)
-lacks_in_text mark bs u h = subst (Lacks mark) (chars_from_encodes h.0 bs u h.1) (lacks_from_none mark h.0 h.2)
+lacks_in_text mark bs u h = subst (Lacks mark) (chars_from_encodes h.0 bs u h.1) (Lacks-from_none mark h.0 h.2)
 
 -- what holds the mark does not lack it
-pub lacks_seam : (mark : ℕ) (front back : List ℕ) → Lacks mark (front ++ mark ∷ back) → ⊥
-lacks_seam mark [] back h = h.0 refl
-lacks_seam mark (c ∷ front) back h = lacks_seam mark front back h.1
+pub Lacks-seam : (mark : ℕ) (front back : List ℕ) → Lacks mark (front ++ mark ∷ back) → ⊥
+Lacks-seam mark [] back h = h.0 refl
+Lacks-seam mark (c ∷ front) back h = Lacks-seam mark front back h.1
 
 one_ascii : (c : ℕ) → c < 128 → IsAscii (c ∷ [])
 one_ascii c low zero = low
@@ -58,7 +59,7 @@ pub contains-lacks : (mark : ℕ) (bs : List ℕ) (r : Bool) → IsUtf8 bs → m
     → MatchBool r (Lacks mark (chars bs) → ⊥) (Lacks mark (chars bs))
 contains-lacks mark bs true u low h = λ lacks.
     let cut = found_at mark bs h.0 h.1 u low h.2 in
-    lacks_seam mark (chars (take h.0 bs)) (chars (drop h.1 bs)) (subst (Lacks mark) cut.whole lacks)
+    Lacks-seam mark (chars (take h.0 bs)) (chars (drop h.1 bs)) (subst (Lacks mark) cut.whole lacks)
 contains-lacks mark bs false u low h = lacks_in_text mark bs u h
 
 -- the clause of `strip_prefix`, where R says which front matches

@@ -1,4 +1,5 @@
 -- What a refusal of a lower layer is to the callers of this one.
+use Rattle.std.specs.Prelude.{Result, Ok, Err}
 use Rattle.html2text.specs.declared.error.Error.{Error}
 use Rattle.html2text.specs.declared.error.Error.TheVariants as errors
 use Rattle.html_lexemes.specs.declared.fault.ParseFault.{ParseFault}
@@ -14,3 +15,13 @@ abbrev pub error_of_block : BlockError → Error
 error_of_block blocks.TooNarrow = errors.TooNarrow
 error_of_block blocks.Memory = errors.Memory
 error_of_block blocks.Failed = errors.Fail
+
+-- Lines, or that the page or its width is refused: what is answered of a whole page that was read, and not of a fault, a
+-- page too long or want of memory.
+abbrev pub IsAnswer : {T : Type 0} → Result T Error → Type 0
+IsAnswer (Ok lines) = Unit {0}
+IsAnswer (Err errors.TooNarrow) = Unit {0}
+IsAnswer (Err errors.Fail) = Unit {0}
+IsAnswer (Err errors.IoError) = ⊥
+IsAnswer (Err errors.TooLong) = ⊥
+IsAnswer (Err errors.Memory) = ⊥

@@ -1,3 +1,5 @@
+pub mod CommandRules
+pub mod CommandWords
 pub mod Config
 pub mod Decoding
 pub mod Errors
@@ -6,3 +8,5 @@ pub mod PageLines
 pub mod PageText
 pub mod ParagraphPage
 pub mod ReplacedText
+pub mod Statuses
+pub mod Written

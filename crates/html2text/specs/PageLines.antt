@@ -1,6 +1,7 @@
 -- A page's lines at a width.
-use Rattle.std.specs.Prelude.{◌≡◌, ℕ, ◌<◌, Bool, false, List, [], ◌∷◌, ◌++◌, ◌⊎◌, map, flat_map, Any, if◌then◌else◌}
+use Rattle.std.specs.Prelude.{◌≡◌, ℕ, ◌<◌, ◌≤◌, Bool, false, List, [], ◌∷◌, ◌++◌, ◌⊎◌, map, flat_map, Any, if◌then◌else◌}
 use Rattle.std.specs.List.{list_any}
+use Rattle.text_decorators.specs.Columns.{text_columns}
 use Rattle.text_decorators.specs.Tagged.{Item, characters}
 use Rattle.text_block_renderer.specs.Units.{lettered, is_filled}
 use Rattle.text_block_renderer.specs.Layout.{AreLinesOf, HasNoLayout, marks}
@@ -58,3 +59,13 @@ IsOtherPage bytes = (texts : List (List ℕ)) → IsParagraphPage (page_text byt
 -- The text of lines: the characters of each, and a newline.
 abbrev pub lines_text : List (List ℕ) → List ℕ
 lines_text lines = flat_map (λ line. line ++ 10 ∷ []) lines
+
+-- The text of a page's lines.
+pub record HasPageText (width : ℕ) (bytes text : List ℕ) : Type 0 where
+  pub lines : List (List ℕ)
+  pub page : ArePageLines width bytes lines
+  pub shown : text ≡ lines_text lines
+
+-- a line of at most so many columns, summed over its characters
+abbrev pub FitsWidth : ℕ → List ℕ → Type 0
+FitsWidth width line = text_columns line ≤ width

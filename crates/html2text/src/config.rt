@@ -1,5 +1,8 @@
-ghost use Rattle.std.specs.Prelude.{◌≡◌, ◌+◌, ◌<◌, ◌≤◌, ◌^◌, ◌-◌, true, false, Err, OnOk};
+ghost use Rattle.std.specs.Prelude.{◌≡◌, ◌+◌, ◌<◌, ◌≤◌, ◌^◌, ◌-◌, true, false, map, length, chars, string_bytes, All, Err, IfSome, IfOk, OnOk};
 ghost use Rattle.std.specs.Io.KnownBytes.{IsAtEnd};
+ghost use Rattle.text_decorators.specs.Tagged.{line_text};
+ghost use Rattle.html2text.specs.Errors.{IsAnswer};
+ghost use Rattle.html2text.specs.PageLines.{ArePageLines, FitsWidth, HasPageText, IsTooNarrowPage, IsOtherPage};
 
 use crate::error::Error;
 use crate::layout::{PlainLine, page_lines, text_of_lines};
@@ -40,6 +43,12 @@ impl Config<PlainDecorator> {
         input: &mut R,
         width: usize,
     ) -> Result<Vec<PlainLine>, Error>
+        ensures lines { IfOk result (λ lines. IfSome (R.remaining input.old)
+            (λ bytes. ArePageLines width bytes (map line_text lines.items))) }
+        ensures within { IfOk result (λ lines. All (FitsWidth width) (map line_text lines.items)) }
+        ensures narrow { result ≡ Err Error.TooNarrow → IfSome (R.remaining input.old) (IsTooNarrowPage width) }
+        ensures fail { result ≡ Err Error.Fail → IfSome (R.remaining input.old) IsOtherPage }
+        ensures short { IsAnswer result → IfSome (R.remaining input.old) (λ bytes. length bytes ≤ max_bytes_of self) }
         ensures at_most { R.count input.new ≤ R.count input.old + max_bytes_of self + 1 }
         ensures io { result ≡ Err Error.IoError → R.has_failed input.new ≡ true }
         ensures too_long { result ≡ Err Error.TooLong → R.count input.old + max_bytes_of self < R.count input.new }
@@ -59,6 +68,11 @@ impl Config<PlainDecorator> {
         input: &mut R,
         width: usize,
     ) -> Result<String, Error>
+        ensures text { IfOk result (λ text. IfSome (R.remaining input.old)
+            (λ bytes. HasPageText width bytes (chars (string_bytes text)))) }
+        ensures narrow { result ≡ Err Error.TooNarrow → IfSome (R.remaining input.old) (IsTooNarrowPage width) }
+        ensures fail { result ≡ Err Error.Fail → IfSome (R.remaining input.old) IsOtherPage }
+        ensures short { IsAnswer result → IfSome (R.remaining input.old) (λ bytes. length bytes ≤ max_bytes_of self) }
         ensures at_most { R.count input.new ≤ R.count input.old + max_bytes_of self + 1 }
         ensures io { result ≡ Err Error.IoError → R.has_failed input.new ≡ true }
         ensures too_long { result ≡ Err Error.TooLong → R.count input.old + max_bytes_of self < R.count input.new }
@@ -100,6 +114,11 @@ pub fn from_read<R: ByteReader>(
     width: usize,
     table: ReferenceTable,
 ) -> Result<String, Error>
+    ensures text { IfOk result (λ text. IfSome (R.remaining input.old)
+        (λ bytes. HasPageText width bytes (chars (string_bytes text)))) }
+    ensures narrow { result ≡ Err Error.TooNarrow → IfSome (R.remaining input.old) (IsTooNarrowPage width) }
+    ensures fail { result ≡ Err Error.Fail → IfSome (R.remaining input.old) IsOtherPage }
+    ensures short { IsAnswer result → IfSome (R.remaining input.old) (λ bytes. length bytes ≤ usize.MAX) }
     ensures at_most { R.count input.new ≤ R.count input.old + usize.MAX + 1 }
     ensures io { result ≡ Err Error.IoError → R.has_failed input.new ≡ true }
     ensures too_long { result ≡ Err Error.TooLong → R.count input.old + usize.MAX < R.count input.new }

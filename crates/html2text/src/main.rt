@@ -95,3 +95,6 @@ fn write_page<R: Input + Print + AllocGlobal>(rt: &R, request: &Request) -> Resu
 fn complain<R: Eprint, T: Display + Drop>(rt: &R, text: T) {
     let _ = eprintln!(rt; "html2text: {text}");
 }
+
+#[cfg(test)]
+mod tests;

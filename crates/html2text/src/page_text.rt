@@ -78,7 +78,7 @@ impl PageText {
     }
 }
 
-/// Adds lines of which none is begun, and tells whether the last ended in a CR, whose LF may still come.
+/// Adds text with its line ends as LF, and tells whether it ended in a CR, whose LF may still come.
 fn push_lines(text: &mut String, lines: &str) -> Result<bool, AllocError>
     ensures { IfOk result (λ after_return. (rest : List ℕ) →
         chars (string_bytes text.old) ++ lines_ended (chars lines.now ++ rest)

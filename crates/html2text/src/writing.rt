@@ -1,7 +1,10 @@
-ghost use Rattle.std.specs.Prelude.{◌≡◌, ◌+◌, ◌<◌, ◌≤◌, ◌⊎◌, true, Err, OnErr, OnOk};
+ghost use Rattle.std.specs.Prelude.{◌≡◌, ◌+◌, ◌<◌, ◌≤◌, ◌⊎◌, true, false, length, Err, IfSome, OnErr, OnOk};
 ghost use Rattle.std.specs.Io.KnownBytes.{Appends};
 ghost use Rattle.html_lexemes.specs.KnownPart.{AppendsPart};
 ghost use Rattle.html2text.specs.Config.{max_bytes_of};
+ghost use Rattle.html2text.specs.Errors.{IsAnswer};
+ghost use Rattle.html2text.specs.PageLines.{IsTooNarrowPage, IsOtherPage};
+ghost use Rattle.html2text.specs.Written.{WritesPage, WritesPart};
 ghost use Rattle.html2text.specs.LinesText.{line_bytes, lines_bytes};
 
 use crate::config::Config;
@@ -26,8 +29,15 @@ pub fn run<R: ByteReader, W: ByteWriter>(
     ensures reader_stays { R.has_failed reader.old ≡ true → R.has_failed reader.new ≡ true }
     ensures writer_stays { W.has_failed writer.old ≡ true → W.has_failed writer.new ≡ true }
 
-    // Only a fault of the writer leaves anything written.
-    ensures unwritten { OnErr result ((writer.new ≡ writer.old) ⊎ ((result ≡ Err Error.IoError) × (W.has_failed writer.new ≡ true))) }
+    // What was read is written as its lines' text.
+    ensures written { OnOk result (IfSome (R.remaining reader.old) (λ bytes. WritesPage width bytes (W.contents writer.old) (W.contents writer.new))) }
+    ensures narrow { result ≡ Err Error.TooNarrow → IfSome (R.remaining reader.old) (IsTooNarrowPage width) }
+    ensures fail { result ≡ Err Error.Fail → IfSome (R.remaining reader.old) IsOtherPage }
+    ensures short { IsAnswer result → IfSome (R.remaining reader.old) (λ bytes. length bytes ≤ max_bytes_of config) }
+
+    // Only a fault of the writer leaves anything written: a beginning of that text.
+    ensures unwritten { OnErr result ((writer.new ≡ writer.old) ⊎ ((result ≡ Err Error.IoError) × (W.has_failed writer.new ≡ true)
+        × IfSome (R.remaining reader.old) (λ bytes. WritesPart width bytes (W.contents writer.old) (W.contents writer.new)))) }
 {
     let lines = config.lines_from_read(alloc, reader, width)?;
     write_lines(writer, &lines)?;

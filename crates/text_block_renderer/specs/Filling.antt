@@ -1,8 +1,8 @@
 -- How lines are filled, unit by unit and letter by letter: what the state of a `WrappedBlock` means. That these are
 -- the fullest layouts is proved; no promise to callers speaks of it.
-use Rattle.std.specs.Prelude.{ℕ, Bool, nat_le, List, [], ◌∷◌, ◌++◌, Option, None, fold, is_some, if◌then◌else◌}
+use Rattle.std.specs.Prelude.{ℕ, nat_le, List, [], ◌∷◌, ◌++◌, Option, None, fold, is_some, if◌then◌else◌}
 use Rattle.text_decorators.specs.Columns.{columns_of}
-use Rattle.text_block_renderer.specs.Units.{Letter, Piece, piece, letters_columns, has_columns, is_filled, is_break_point, space_of, first_of, units}
+use Rattle.text_block_renderer.specs.Units.{Letter, Piece, piece, letters_columns, has_columns, is_filled, is_break_point, space_of, first_of}
 use Rattle.text_block_renderer.specs.Layout.{Mark, marked, opens, starts, inside, cuttable, columns}
 
 -- the lines that are done, and the one at hand
@@ -51,7 +51,7 @@ abbrev pub read_letter : {S : Type 0} → ℕ → Reading S → Letter S → Rea
 read_letter width r l =
     if is_break_point l.code
     then (if has_columns r.letters then reading (add_unit width r.lines (piece r.space r.letters)) (space_of l) []
-        else reading r.lines (first_of r.space (space_of l)) r.letters)
+    else reading r.lines (first_of r.space (space_of l)) r.letters)
     else reading r.lines r.space (if is_some (columns_of l.code) then r.letters ++ l ∷ [] else r.letters)
 
 abbrev pub read_letters : {S : Type 0} → ℕ → Reading S → List (Letter S) → Reading S

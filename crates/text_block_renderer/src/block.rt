@@ -1,9 +1,12 @@
-ghost use Rattle.std.specs.Prelude.{◌≡◌, ◌⊎◌, true, false, is_err, IfErr};
+ghost use Rattle.std.specs.Prelude.{◌≡◌, ◌⊎◌, ℕ, Bool, true, false, ◌||◌, nat_le, List, [], ◌∷◌, ◌++◌, map, chars, is_err, IsTrue, All, ◌≤◌, IfOk, IfErr, OnOk, if◌then◌else◌};
+ghost use Rattle.text_decorators.specs.Tagged.{line_items, line_columns};
+ghost use Rattle.text_block_renderer.specs.Units.{is_break_point};
+ghost use Rattle.text_block_renderer.specs.Block.{padded};
 
 use crate::fault::BlockError;
 use crate::filling::Filling;
 use crate::white_space::WhiteSpace;
-use std::alloc::Global;
+use std::alloc::{AllocError, Global};
 use text_decorators::{Columns, EqualCopy, TaggedLine, UnicodeColumns};
 
 /// A stretch of text that is wrapped into lines of at most `width` columns (characters that have no
@@ -19,13 +22,14 @@ pub struct WrappedBlock<T> {
     space: Option<T>,
     /// What was read since the last break point behind a character of some column.
     word: TaggedLine<T>,
-    /// The columns of the word.
-    columns: usize,
     failed: bool,
 }
 
 impl<T: EqualCopy + Drop> WrappedBlock<T> {
-    ghost use Rattle.text_block_renderer.specs.Block.{has_failed};
+    ghost use Rattle.text_block_renderer.specs.Units.{Letter, lettered, is_filled};
+    ghost use Rattle.text_block_renderer.specs.Layout.{marks_items, AreLinesOf, NeverFits};
+    ghost use Rattle.text_block_renderer.specs.Filling.{Reading, read_letters, nothing_read, lines_read};
+    ghost use Rattle.text_block_renderer.specs.Block.{has_failed, padding_of, HasRead, HasWider, ArePaddedLinesOf, HoldsReading, Moves, Reads, MeetsWider, end_read, space_read, word_read, lay_read};
 
     /// An empty block of lines of at most `width` columns. With `pad_blocks` each line is filled to the
     /// width with spaces tagged `default_tag`; with `allow_overflow` a character wider than the width
@@ -38,6 +42,8 @@ impl<T: EqualCopy + Drop> WrappedBlock<T> {
         default_tag: T,
     ) -> WrappedBlock<T>
         ensures works { has_failed result ≡ false }
+        ensures padding { padding_of T.seen result ≡ (if pad_blocks then Some (T.seen default_tag) else None) }
+        ensures read { HasRead T.seen width allow_overflow [] result }
     {
         WrappedBlock {
             width,
@@ -46,7 +52,6 @@ impl<T: EqualCopy + Drop> WrappedBlock<T> {
             lines: Filling::new(alloc, width, allow_overflow),
             space: None,
             word: TaggedLine::new(alloc),
-            columns: 0,
             failed: false,
         }
     }
@@ -65,6 +70,16 @@ impl<T: EqualCopy + Drop> WrappedBlock<T> {
         ensures refused { is_err result ≡ has_failed self.new }
         ensures failed { has_failed self.old ≡ true → result ≡ Err BlockError.Failed }
         ensures kinds { has_failed self.old ≡ false → IfErr result (λ e. (e ≡ BlockError.TooNarrow) ⊎ (e ≡ BlockError.Memory)) }
+        ensures padding { padding_of T.seen self.new ≡ padding_of T.seen self.old }
+        ensures read { OnOk result ((width : ℕ) (overflow : Bool) (read : List (Letter T.Seen))
+            → HasRead T.seen width overflow read self.old
+            → HasRead T.seen width overflow (read ++ lettered (chars text.now) (T.seen main_tag.now)) self.new) }
+        ensures narrow { result ≡ Err BlockError.TooNarrow → (width : ℕ) (overflow : Bool) (read : List (Letter T.Seen))
+            → HasRead T.seen width overflow read self.old
+            → HasWider width overflow (lettered (chars text.now) (T.seen main_tag.now)) }
+        ensures never { result ≡ Err BlockError.TooNarrow → (width : ℕ) (overflow : Bool) (read : List (Letter T.Seen))
+            → HasRead T.seen width overflow read self.old
+            → NeverFits width false (read ++ lettered (chars text.now) (T.seen main_tag.now)) }
     {
         if self.failed {
             return Err(BlockError::Failed);
@@ -79,18 +94,31 @@ impl<T: EqualCopy + Drop> WrappedBlock<T> {
 
     fn add_normal(&mut self, alloc: Global, text: &str, tag: &T) -> Result<(), BlockError>
         ensures kinds { IfErr result (λ e. (e ≡ BlockError.TooNarrow) ⊎ (e ≡ BlockError.Memory)) }
+        ensures padding { padding_of T.seen self.new ≡ padding_of T.seen self.old }
+        ensures read { OnOk result (Reads T.seen self.old self.new (lettered (chars text.now) (T.seen tag.now))) }
+        ensures narrow { result ≡ Err BlockError.TooNarrow → MeetsWider T.seen self.old (lettered (chars text.now) (T.seen tag.now)) }
     {
         for c in text.chars() {
-            if is_break_point(c) {
-                self.end_word(alloc)?;
-                if c != ZERO_WIDTH_SPACE && self.space.is_none() {
-                    self.space = Some(tag.copy(alloc)?);
-                }
-            } else if let Some(columns) = UnicodeColumns::columns(c) {
-                self.add_to_word(alloc, c, columns, tag)?;
-            }
+            self.add_char(alloc, c, tag)?;
         }
         Ok(())
+    }
+
+    fn add_char(&mut self, alloc: Global, c: char, tag: &T) -> Result<(), BlockError>
+        ensures kinds { IfErr result (λ e. (e ≡ BlockError.TooNarrow) ⊎ (e ≡ BlockError.Memory)) }
+        ensures padding { padding_of T.seen self.new ≡ padding_of T.seen self.old }
+        ensures read { OnOk result (Reads T.seen self.old self.new (lettered (c ∷ []) (T.seen tag.now))) }
+        ensures narrow { result ≡ Err BlockError.TooNarrow → MeetsWider T.seen self.old (lettered (c ∷ []) (T.seen tag.now)) }
+    {
+        if is_break_point(c) {
+            self.end_word(alloc)?;
+            self.add_space(alloc, c, tag)?;
+            return Ok(());
+        }
+        match UnicodeColumns::columns(c) {
+            Some(columns) => self.add_to_word(alloc, c, columns, tag),
+            None => Ok(()),
+        }
     }
 
     fn add_to_word(
@@ -101,46 +129,90 @@ impl<T: EqualCopy + Drop> WrappedBlock<T> {
         tag: &T,
     ) -> Result<(), BlockError>
         ensures kinds { IfErr result (λ e. (e ≡ BlockError.TooNarrow) ⊎ (e ≡ BlockError.Memory)) }
+        ensures padding { padding_of T.seen self.new ≡ padding_of T.seen self.old }
+        ensures read { OnOk result (Moves T.seen self.old self.new (word_read c (T.seen tag.now))) }
+        ensures room { OnOk result ((self.old.lines.allow_overflow || nat_le columns self.old.lines.width) ≡ true) }
+        ensures narrow { result ≡ Err BlockError.TooNarrow → (self.old.lines.allow_overflow || nat_le columns self.old.lines.width) ≡ false }
     {
         if !self.lines.has_room_for(columns) {
             return Err(BlockError::TooNarrow);
         }
         self.word.push_char(alloc, c, tag)?;
-        self.columns = self.columns.saturating_add(columns);
+        Ok(())
+    }
+
+    /// Keeps the tag of a white space, where it is the first.
+    fn add_space(&mut self, alloc: Global, c: char, tag: &T) -> Result<(), AllocError>
+        ensures padding { padding_of T.seen self.new ≡ padding_of T.seen self.old }
+        ensures read { OnOk result (IsTrue (is_break_point c) → Moves T.seen self.old self.new (space_read c (T.seen tag.now))) }
+    {
+        if c != ZERO_WIDTH_SPACE && self.space.is_none() {
+            self.space = Some(tag.copy(alloc)?);
+        }
         Ok(())
     }
 
     /// Lays the word, where it has columns; a word without columns joins the next.
     fn end_word(&mut self, alloc: Global) -> Result<(), BlockError>
         ensures kinds { IfErr result (λ e. e ≡ BlockError.Memory) }
+        ensures padding { padding_of T.seen self.new ≡ padding_of T.seen self.old }
+        ensures read { OnOk result (Moves T.seen self.old self.new end_read) }
     {
-        if self.columns == 0 {
-            return Ok(());
+        if self.word.width() == 0 {
+            Ok(())
+        } else {
+            self.lay_word(alloc)
         }
-        self.lay_word(alloc)
     }
 
+    /// Lays the word, where it has characters.
     fn lay_word(&mut self, alloc: Global) -> Result<(), BlockError>
         ensures kinds { IfErr result (λ e. e ≡ BlockError.Memory) }
+        ensures padding { padding_of T.seen self.new ≡ padding_of T.seen self.old }
+        ensures read { OnOk result (Moves T.seen self.old self.new lay_read) }
     {
+        if self.word.is_empty() {
+            return Ok(());
+        }
         let word = std::mem::replace(&mut self.word, TaggedLine::new(alloc));
         let space = self.space.take();
-        let columns = self.columns;
-        self.columns = 0;
-        self.lines.add_word(alloc, space.as_ref(), &word, columns)
+        self.lines.add_word(alloc, space.as_ref(), &word)
     }
 
-    /// The lines of the text. Refused as `TooNarrow` or `Memory`, or as `Failed` after a refusal.
-    pub fn into_lines(mut self, alloc: Global) -> Result<Vec<TaggedLine<T>>, BlockError>
+    /// The lines of the text. Refused as `Memory`, or as `Failed` after a refusal.
+    pub fn into_lines(self, alloc: Global) -> Result<Vec<TaggedLine<T>>, BlockError>
         ensures failed { has_failed self ≡ true → result ≡ Err BlockError.Failed }
-        ensures kinds { has_failed self ≡ false → IfErr result (λ e. (e ≡ BlockError.TooNarrow) ⊎ (e ≡ BlockError.Memory)) }
+        ensures kinds { has_failed self ≡ false → IfErr result (λ e. e ≡ BlockError.Memory) }
+        ensures laid { IfOk result (λ lines. (width : ℕ) (overflow : Bool) (read : List (Letter T.Seen))
+            → HasRead T.seen width overflow read self
+            → map (line_items T.seen) lines.items
+            ≡ map (padded width (padding_of T.seen self)) (map marks_items (lines_read width (read_letters width nothing_read read)))) }
+        ensures lines { IfOk result (λ lines. (width : ℕ) (overflow : Bool) (read : List (Letter T.Seen))
+            → HasRead T.seen width overflow read self
+            → ArePaddedLinesOf width overflow (padding_of T.seen self) read (map (line_items T.seen) lines.items)) }
+        ensures bare { IfOk result (λ lines. (width : ℕ) (overflow : Bool) (read : List (Letter T.Seen))
+            → HasRead T.seen width overflow read self → padding_of T.seen self ≡ None
+            → AreLinesOf width overflow read (map (line_items T.seen) lines.items)) }
+        ensures within { IfOk result (λ lines. (width : ℕ) (read : List (Letter T.Seen))
+            → HasRead T.seen width false read self → padding_of T.seen self ≡ None
+            → All (λ items. line_columns items ≤ width) (map (line_items T.seen) lines.items)) }
     {
         if self.failed {
-            return Err(BlockError::Failed);
+            Err(BlockError::Failed)
+        } else {
+            self.lay_lines(alloc)
         }
-        if !self.word.is_empty() {
-            self.lay_word(alloc)?;
-        }
+    }
+
+    /// The lines of the text, filled where lines are to be.
+    fn lay_lines(mut self, alloc: Global) -> Result<Vec<TaggedLine<T>>, BlockError>
+        ensures kinds { IfErr result (λ e. e ≡ BlockError.Memory) }
+        ensures laid { IfOk result (λ lines. (width : ℕ) (overflow : Bool) (read : List (Letter T.Seen))
+            → HasRead T.seen width overflow read self
+            → map (line_items T.seen) lines.items
+            ≡ map (padded width (padding_of T.seen self)) (map marks_items (lines_read width (read_letters width nothing_read read)))) }
+    {
+        self.lay_word(alloc)?;
         let WrappedBlock {
             width,
             pad_blocks,
@@ -148,13 +220,12 @@ impl<T: EqualCopy + Drop> WrappedBlock<T> {
             lines,
             ..
         } = self;
-        let mut lines = lines.into_lines(alloc)?;
+        let lines = lines.into_lines(alloc)?;
         if pad_blocks {
-            for line in &mut lines {
-                pad(alloc, line, width, &default_tag)?;
-            }
+            Ok(pad_lines(alloc, lines, width, &default_tag)?)
+        } else {
+            Ok(lines)
         }
-        Ok(lines)
     }
 }
 
@@ -163,8 +234,26 @@ const ZERO_WIDTH_SPACE: char = '\u{200b}';
 const NO_BREAK_SPACE: char = '\u{a0}';
 
 /// A character at which a line may break in normal text: U+200B, or white space other than U+00A0.
-fn is_break_point(c: char) -> bool {
+fn is_break_point(c: char) -> bool
+    ensures { result ≡ is_break_point c }
+{
     c == ZERO_WIDTH_SPACE || (c.is_whitespace() && c != NO_BREAK_SPACE)
+}
+
+/// Fills each line with spaces up to the width.
+fn pad_lines<T: EqualCopy + Drop>(
+    alloc: Global,
+    mut lines: Vec<TaggedLine<T>>,
+    width: usize,
+    tag: &T,
+) -> Result<Vec<TaggedLine<T>>, AllocError>
+    ensures { IfOk result (λ all. map (line_items T.seen) all.items
+        ≡ map (padded width (Some (T.seen tag.now))) (map (line_items T.seen) lines.items)) }
+{
+    for line in lines.iter_mut() {
+        pad(alloc, line, width, tag)?;
+    }
+    Ok(lines)
 }
 
 /// Fills the line with spaces up to the width; a wider one stays.
@@ -173,10 +262,12 @@ fn pad<T: EqualCopy + Drop>(
     line: &mut TaggedLine<T>,
     width: usize,
     tag: &T,
-) -> Result<(), BlockError>
-    ensures kinds { IfErr result (λ e. e ≡ BlockError.Memory) }
+) -> Result<(), AllocError>
+    ensures { OnOk result (line_items T.seen line.new
+        ≡ padded width (Some (T.seen tag.now)) (line_items T.seen line.old)) }
 {
-    for _ in line.width()..width {
+    let missing = width.saturating_sub(line.width());
+    for _space in 0..missing {
         line.push_char(alloc, ' ', tag)?;
     }
     Ok(())

@@ -1,7 +1,10 @@
-ghost use Rattle.std.specs.Prelude.{◌≡◌, IfErr};
+ghost use Rattle.std.specs.Prelude.{◌≡◌, ℕ, Bool, ◌+◌, ◌||◌, nat_le, [], ◌∷◌, ◌++◌, map, option_copied, chars, string_bytes, IfOk, IfErr, OnOk};
+ghost use Rattle.std.specs.Option.{option_map};
+ghost use Rattle.text_decorators.specs.Tagged.{line_items, element_items, line_columns, tagged};
+ghost use Rattle.text_block_renderer.specs.Block.{space_behind, space_columns};
 
 use crate::fault::BlockError;
-use std::alloc::Global;
+use std::alloc::{AllocError, Global};
 use text_decorators::{
     Columns, EqualCopy, TaggedLine, TaggedLineElement, TaggedString, UnicodeColumns,
 };
@@ -13,29 +16,37 @@ pub(crate) struct Filling<T> {
     allow_overflow: bool,
     done: Vec<TaggedLine<T>>,
     line: TaggedLine<T>,
-    /// The columns of the line.
-    columns: usize,
 }
 
 impl<T: EqualCopy + Drop> Filling<T> {
-    pub(crate) fn new(alloc: Global, width: usize, allow_overflow: bool) -> Filling<T> {
+    ghost use Rattle.text_block_renderer.specs.Layout.{Mark, marks_items};
+    ghost use Rattle.text_block_renderer.specs.Filling.{Filled, filled, all_lines};
+    ghost use Rattle.text_block_renderer.specs.Block.{HoldsLines, Lays, LaysUnit, LaysWhole, LaysCut, Cuts, with_room};
+
+    pub(crate) fn new(alloc: Global, width: usize, allow_overflow: bool) -> Filling<T>
+        ensures { HoldsLines T.seen width allow_overflow result (filled [] []) }
+    {
         Filling {
             width,
             allow_overflow,
             done: Vec::new(alloc),
             line: TaggedLine::new(alloc),
-            columns: 0,
         }
     }
 
     /// Whether some line can hold so many columns.
-    pub(crate) fn has_room_for(&self, columns: usize) -> bool {
+    pub(crate) fn has_room_for(&self, columns: usize) -> bool
+        ensures { result ≡ (self.now.allow_overflow || nat_le columns self.now.width) }
+    {
         self.allow_overflow || columns <= self.width
     }
 
-    /// Whether the line can take so many columns more.
-    fn fits(&self, columns: usize) -> bool {
-        self.columns <= self.width && columns <= self.width - self.columns
+    /// Whether the line can take so many columns more, and so many behind them.
+    fn fits(&self, gap: usize, columns: usize) -> bool
+        ensures { result ≡ nat_le (line_columns (line_items T.seen self.now.line) + (gap + columns)) self.now.width }
+    {
+        let taken = self.line.width();
+        taken <= self.width && gap <= self.width - taken && columns <= self.width - taken - gap
     }
 
     /// Adds a word behind the line's text, with a space of the given tag between them, where both go on
@@ -45,44 +56,71 @@ impl<T: EqualCopy + Drop> Filling<T> {
         alloc: Global,
         space: Option<&T>,
         word: &TaggedLine<T>,
-        columns: usize,
     ) -> Result<(), BlockError>
+        ensures laid { OnOk result (LaysUnit T.seen self.old self.new
+            (option_map T.seen (option_copied space.entry)) (line_items T.seen word.now)) }
         ensures kinds { IfErr result (λ e. e ≡ BlockError.Memory) }
     {
-        if columns > self.width {
-            self.end_line(alloc)?;
-            return self.cut_word(alloc, word);
+        if word.width() > self.width {
+            self.add_cut(alloc, word)
+        } else {
+            self.add_whole(alloc, space, word)
         }
-        let gap = if space.is_some() { 1 } else { 0 };
-        if !self.fits(columns.saturating_add(gap)) {
-            self.end_line(alloc)?;
-        }
-        if let Some(tag) = space {
-            if !self.line.is_empty() {
-                self.line.push_char(alloc, ' ', tag)?;
-                self.columns = self.columns.saturating_add(1);
-            }
-        }
-        self.line.push_line(alloc, word)?;
-        self.columns = self.columns.saturating_add(columns);
+    }
+
+    fn add_whole(
+        &mut self,
+        alloc: Global,
+        space: Option<&T>,
+        word: &TaggedLine<T>,
+    ) -> Result<(), BlockError>
+        ensures laid { OnOk result (LaysWhole T.seen self.old self.new
+            (option_map T.seen (option_copied space.entry)) (line_items T.seen word.now)) }
+        ensures kinds { IfErr result (λ e. e ≡ BlockError.Memory) }
+    {
+        self.make_room(alloc, space_columns(space), word.width())?;
+        push_behind(alloc, &mut self.line, space, word)?;
         Ok(())
+    }
+
+    fn add_cut(&mut self, alloc: Global, word: &TaggedLine<T>) -> Result<(), BlockError>
+        ensures laid { OnOk result (LaysCut T.seen self.old self.new (line_items T.seen word.now)) }
+        ensures kinds { IfErr result (λ e. e ≡ BlockError.Memory) }
+    {
+        self.end_line(alloc)?;
+        self.cut_word(alloc, word)
     }
 
     fn cut_word(&mut self, alloc: Global, word: &TaggedLine<T>) -> Result<(), BlockError>
+        ensures laid { OnOk result (Cuts T.seen self.old self.new (line_items T.seen word.now)) }
         ensures kinds { IfErr result (λ e. e ≡ BlockError.Memory) }
     {
         for element in word.iter() {
-            if let TaggedLineElement::Str(string) = element {
-                self.cut_string(alloc, string)?;
-            }
+            self.cut_element(alloc, element)?;
         }
         Ok(())
     }
 
-    fn cut_string(&mut self, alloc: Global, string: &TaggedString<T>) -> Result<(), BlockError>
+    fn cut_element(
+        &mut self,
+        alloc: Global,
+        element: &TaggedLineElement<T>,
+    ) -> Result<(), BlockError>
+        ensures laid { OnOk result (Cuts T.seen self.old self.new (element_items T.seen element.now)) }
         ensures kinds { IfErr result (λ e. e ≡ BlockError.Memory) }
     {
-        for c in string.s.chars() {
+        match element {
+            TaggedLineElement::Str(string) => self.cut_string(alloc, string),
+            TaggedLineElement::FragmentStart(_) => Ok(()),
+        }
+    }
+
+    fn cut_string(&mut self, alloc: Global, string: &TaggedString<T>) -> Result<(), BlockError>
+        ensures laid { OnOk result (Cuts T.seen self.old self.new
+            (tagged (chars (string_bytes string.now.s)) (T.seen string.now.tag))) }
+        ensures kinds { IfErr result (λ e. e ≡ BlockError.Memory) }
+    {
+        for c in string.s.as_str().chars() {
             self.add_char(alloc, c, &string.tag)?;
         }
         Ok(())
@@ -90,36 +128,92 @@ impl<T: EqualCopy + Drop> Filling<T> {
 
     /// Adds a character of a cut word: on a fresh line, where it doesn't go on the line.
     fn add_char(&mut self, alloc: Global, c: char, tag: &T) -> Result<(), BlockError>
+        ensures laid { OnOk result (Cuts T.seen self.old self.new (tagged (c ∷ []) (T.seen tag.now))) }
         ensures kinds { IfErr result (λ e. e ≡ BlockError.Memory) }
     {
         let columns = UnicodeColumns::columns(c).unwrap_or(0);
-        if !self.fits(columns) {
-            self.end_line(alloc)?;
-        }
+        self.make_room(alloc, 0, columns)?;
         self.line.push_char(alloc, c, tag)?;
-        self.columns = self.columns.saturating_add(columns);
         Ok(())
+    }
+
+    /// Ends the line, where it doesn't take so many columns more.
+    fn make_room(&mut self, alloc: Global, gap: usize, columns: usize) -> Result<(), BlockError>
+        ensures laid { OnOk result (Lays T.seen self.old self.new (with_room (gap + columns))) }
+        ensures kinds { IfErr result (λ e. e ≡ BlockError.Memory) }
+    {
+        if self.fits(gap, columns) {
+            Ok(())
+        } else {
+            self.end_line(alloc)
+        }
     }
 
     /// Ends the line, where it has text.
     fn end_line(&mut self, alloc: Global) -> Result<(), BlockError>
+        ensures laid { OnOk result (Lays T.seen self.old self.new (λ width f. filled (all_lines f) [])) }
         ensures kinds { IfErr result (λ e. e ≡ BlockError.Memory) }
     {
         if self.line.is_empty() {
             return Ok(());
         }
         let line = std::mem::replace(&mut self.line, TaggedLine::new(alloc));
-        self.columns = 0;
         self.done.push(line)?;
         Ok(())
     }
 
     /// The lines, the last one too.
     pub(crate) fn into_lines(mut self, alloc: Global) -> Result<Vec<TaggedLine<T>>, BlockError>
+        ensures lines { IfOk result (λ lines. (width : ℕ) (overflow : Bool) (f : Filled T.Seen)
+            → HoldsLines T.seen width overflow self f
+            → map (line_items T.seen) lines.items ≡ map marks_items (all_lines f)) }
         ensures kinds { IfErr result (λ e. e ≡ BlockError.Memory) }
     {
         self.end_line(alloc)?;
         let Filling { done, .. } = self;
         Ok(done)
+    }
+}
+
+/// The columns of a space, where there is one.
+fn space_columns<T: EqualCopy>(space: Option<&T>) -> usize
+    ensures { result ≡ space_columns (option_map T.seen (option_copied space.entry)) }
+{
+    match space {
+        Some(_) => 1,
+        None => 0,
+    }
+}
+
+/// Adds a word at a line's end, behind a space of the given tag where the line has text.
+fn push_behind<T: EqualCopy + Drop>(
+    alloc: Global,
+    line: &mut TaggedLine<T>,
+    space: Option<&T>,
+    word: &TaggedLine<T>,
+) -> Result<(), AllocError>
+    ensures { OnOk result (line_items T.seen line.new ≡ line_items T.seen line.old
+        ++ space_behind (line_items T.seen line.old) (option_map T.seen (option_copied space.entry))
+        ++ line_items T.seen word.now) }
+{
+    push_space(alloc, line, space)?;
+    line.push_line(alloc, word)
+}
+
+/// Adds a space of the given tag at a line's end, where the line has text.
+fn push_space<T: EqualCopy + Drop>(
+    alloc: Global,
+    line: &mut TaggedLine<T>,
+    space: Option<&T>,
+) -> Result<(), AllocError>
+    ensures { OnOk result (line_items T.seen line.new ≡ line_items T.seen line.old
+        ++ space_behind (line_items T.seen line.old) (option_map T.seen (option_copied space.entry))) }
+{
+    if line.is_empty() {
+        return Ok(());
+    }
+    match space {
+        Some(tag) => line.push_char(alloc, ' ', tag),
+        None => Ok(()),
     }
 }

@@ -1,7 +1,7 @@
-use Rattle.std.proofs.Common.{rules, ◌≡◌, ◌++◌, true, refl, ap, sym, ◌∙◌, subst, chars, string_bytes}
+use Rattle.std.proofs.Common.{rules, ◌++◌, true, refl, ap, sym, ◌∙◌}
 use Rattle.html2text.specs.PageText.{continued}
 use Rattle.html2text.proofs.TextBridges.{pushed-text, pushed-char, empty_text}
-use Rattle.html2text.proofs.PageTextLemmas.{HasAdded, HasAdded-line, HasAdded-all}
+use Rattle.html2text.proofs.PageTextLemmas.{HasAdded-line, HasAdded-all}
 use Rattle.html2text.proofs.page_text.push_lines.Goals as goal
 
 pub returns : goal.returns

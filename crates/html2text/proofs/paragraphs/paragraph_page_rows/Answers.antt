@@ -1,6 +1,6 @@
-use Rattle.std.proofs.Common.{◌≢◌, ◌≡◌, ℕ, List, [], ◌∷◌, codes, refl, inl, inr, arith}
+use Rattle.std.proofs.Common.{[], ◌∷◌, codes, refl, inl, inr, arith}
 use Rattle.html2text.specs.PageText.{IsCutAt}
-use Rattle.html2text.specs.ParagraphPage.{IsCharacter, IsText, IsParagraphPage}
+use Rattle.html2text.specs.ParagraphPage.{IsCharacter, IsText}
 use Rattle.html2text.proofs.ParagraphPageLemmas.{PageSoFar, PageSoFar-start, PageSoFar-paragraph, no_page-start}
 use Rattle.html2text.proofs.paragraphs.paragraph_page_rows.Goals as goal
 

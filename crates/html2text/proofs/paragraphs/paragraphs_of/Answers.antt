@@ -1,10 +1,9 @@
-use Rattle.std.proofs.Common.{◌≡◌, ◌++◌, [], ◌∷◌, refl, sym, ap, ◌∙◌, chars, string_bytes, map, String, Global, List, ℕ, Result, Err}
+use Rattle.std.proofs.Common.{◌≡◌, ◌++◌, [], ◌∷◌, sym, ap, ◌∙◌, chars, string_bytes, map, String, Global, List, ℕ, Result, Err}
 use Rattle.std.proofs.lemmas.Bool.Decides.{when_true, when_false}
 use Rattle.std.proofs.lemmas.List.{map-append}
 use Rattle.std.proofs.lemmas.Result.{err_from_is_err_and}
-use Rattle.html2text.specs.ParagraphPage.{start_tag}
 use Rattle.html2text.proofs.TextBridges.{empty_text}
-use Rattle.html2text.proofs.ParagraphPageLemmas.{PageSoFar-start, PageSoFar-paragraph, PageSoFar-all, no_page-start, no_page-end, no_page-tag, no_page-text, tags, end_rest}
+use Rattle.html2text.proofs.ParagraphPageLemmas.{PageSoFar-start, PageSoFar-paragraph, PageSoFar-all, no_page-start, no_page-end, no_page-tag, no_page-text, tags}
 use Rattle.html2text.proofs.paragraphs.paragraphs_of.Goals as goal
 
 abbrev view : String Global → List ℕ

@@ -1,4 +1,4 @@
-use Rattle.std.proofs.Common.{length, map, chars, string_bytes, String, Global, List, ℕ}
+use Rattle.std.proofs.Common.{length, map, chars, string_bytes}
 use denote.Text.{Utf8}
 use denote.Shadow.{shadow}
 use Rattle.html2text.proofs.ParagraphPageLemmas.{PageSoFar}

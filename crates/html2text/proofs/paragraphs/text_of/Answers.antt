@@ -1,4 +1,4 @@
-use Rattle.std.proofs.Common.{◌≡◌, ◌++◌, refl, sym, ap, ◌∙◌, chars, string_bytes}
+use Rattle.std.proofs.Common.{◌++◌, refl, sym, ap, ◌∙◌, chars, string_bytes}
 use Rattle.std.proofs.lemmas.Str.{chars-nil}
 use Rattle.html2text.proofs.TextBridges.{pushed-text, pushed-char}
 use Rattle.html2text.proofs.ParagraphLemmas.{TextSoFar-start, TextSoFar-reference, TextSoFar-all, no_text-run, no_text-reference, no_text-rest}

@@ -1,0 +1,39 @@
+-- A block's lines are those of its paragraph.
+use Rattle.std.proofs.Common.{◌≡◌, ℕ, false, List, [], ◌∷◌, ◌++◌, map, refl, sym, ap, subst, ◌∙◌, ◌≤◌, append-nil}
+use Rattle.std.specs.Prelude.{All}
+use Rattle.std.proofs.lemmas.List.Elements.{All-map}
+use Rattle.text_decorators.specs.Tagged.{Item, characters, line_items, line_text, line_columns}
+use Rattle.text_decorators.specs.declared.tagged_line.TaggedLine.{TaggedLine}
+use Rattle.text_block_renderer.specs.Units.{Letter, lettered}
+use Rattle.text_block_renderer.specs.Layout.{AreLinesOf, NeverFits, HasNoLayout, marks}
+use Rattle.text_block_renderer.specs.declared.fault.BlockError.{BlockError}
+use Rattle.text_block_renderer.specs.declared.fault.BlockError.TheVariants as blocks
+use Rattle.html2text.specs.declared.error.Error.TheVariants as errors
+use Rattle.html2text.specs.Errors.{error_of_block}
+use Rattle.html2text.specs.PageLines.{Plain, FitsWidth, AreParagraphLines, IsWiderText}
+use Rattle.html2text.proofs.LayoutLemmas.{characters-line}
+
+-- only a block that is too narrow makes the page so
+pub block_narrow : (b : BlockError) → error_of_block b ≡ errors.TooNarrow → b ≡ blocks.TooNarrow
+block_narrow blocks.TooNarrow e = refl
+block_narrow blocks.Memory e = cc
+block_narrow blocks.Failed e = cc
+
+pub wider_text : (width : ℕ) (text : List ℕ) (tag : Plain) → tag ≡ [] → NeverFits width false ([] ++ lettered text tag) → IsWiderText width text
+wider_text width text tag none never =
+    let P : List (Letter Plain) → Type 0 = λ read. HasNoLayout width false (marks width read) in
+    subst (λ t. P (lettered text t)) none (subst P (append-nil (lettered text tag)) (never [] []))
+
+lines_texts : {T S : Type 0} (seen : T → S) (lines : List (TaggedLine T)) → map line_text lines ≡ map characters (map (line_items seen) lines)
+lines_texts seen [] = refl
+lines_texts seen (line ∷ lines) = ap (λ l. l ∷ map line_text lines) (sym (characters-line seen line)) ∙ ap (λ l. characters (line_items seen line) ∷ l) (lines_texts seen lines)
+
+pub paragraph_laid : {T : Type 0} (seen : T → Plain) (width : ℕ) (text : List ℕ) (tag : Plain) (lines : List (TaggedLine T)) → tag ≡ []
+    → AreLinesOf width false ([] ++ lettered text tag) (map (line_items seen) lines) → AreParagraphLines width text (map line_text lines)
+paragraph_laid seen width text tag lines none laid =
+    (map (line_items seen) lines, subst (λ t. AreLinesOf width false (lettered text t) (map (line_items seen) lines)) none laid, lines_texts seen lines)
+
+pub paragraph_within : {T : Type 0} (seen : T → Plain) (width : ℕ) (lines : List (TaggedLine T)) → All (λ items. line_columns items ≤ width) (map (line_items seen) lines)
+    → All (FitsWidth width) (map line_text lines)
+paragraph_within seen width lines fit =
+    subst (All (FitsWidth width)) (sym (lines_texts seen lines)) (All-map (FitsWidth width) characters (map (line_items seen) lines) fit)

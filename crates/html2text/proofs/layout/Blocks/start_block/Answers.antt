@@ -1,0 +1,11 @@
+use Rattle.std.proofs.lemmas.Result.{on_ok_weaker}
+use Rattle.html2text.proofs.LayoutLemmas.{block_started}
+use Rattle.html2text.proofs.layout.Blocks.start_block.Goals as goal
+
+pub returns : goal.returns
+returns c =
+    record {
+      ok = on_ok_weaker c.add_line.result
+          (λ added. block_started _ c.args.self.now.lines.items c.add_line.new.self.lines.items c.new.result c.args.self.now.has_content c.args.self.now.told c.if-not-self.false c.new.ensures.items added)
+          c.add_line.ensures.ok;
+    }

@@ -1,0 +1,291 @@
+//! Pages from outside, through the public calls. Readers and writers are in memory.
+use crate::{Config, Error, from_read, run};
+use html_lexemes::{Device, ReferenceTable};
+use std::alloc::Global;
+use std::io;
+use std::io::{ErrorKind, Read, Write};
+use std::test::Fail;
+
+/// Gives its bytes a few at a time.
+#[derive(Drop)]
+struct Pieces<'a> {
+    bytes: &'a [u8],
+    most: usize,
+}
+
+impl Read for Pieces<'_> {
+    fn read(&mut self, buf: &mut [u8]) -> io::Result<usize> {
+        let most = buf.len().min(self.most);
+        (&mut self.bytes).read(&mut buf[..most])
+    }
+}
+
+/// Gives its bytes a few at a time, and fails where none is left or the count of reads is used up.
+#[derive(Drop)]
+struct Faltering<'a> {
+    bytes: &'a [u8],
+    most: usize,
+    reads: usize,
+}
+
+impl Read for Faltering<'_> {
+    fn read(&mut self, buf: &mut [u8]) -> io::Result<usize> {
+        if self.bytes.is_empty() || self.reads == 0 {
+            return Err(io::Error::from(ErrorKind::Interrupted));
+        }
+        self.reads -= 1;
+        let most = buf.len().min(self.most);
+        (&mut self.bytes).read(&mut buf[..most])
+    }
+}
+
+/// Takes bytes while the count of writes lasts, and then fails, or takes none.
+#[derive(Drop)]
+struct Full {
+    taken: Vec<u8>,
+    most: usize,
+    writes: usize,
+    takes_none: bool,
+}
+
+impl Write for Full {
+    fn write(&mut self, buf: &[u8]) -> io::Result<usize> {
+        if self.writes == 0 {
+            if self.takes_none {
+                return Ok(0);
+            }
+            return Err(io::Error::from(ErrorKind::WriteZero));
+        }
+        self.writes -= 1;
+        let taken = buf.len().min(self.most);
+        self.taken.extend_from_slice(&buf[..taken])?;
+        Ok(taken)
+    }
+
+    fn flush(&mut self) -> io::Result<()> {
+        Ok(())
+    }
+}
+
+fn plain(alloc: Global) -> Result<Config<text_block_renderer::PlainDecorator>, Error> {
+    Ok(Config::plain(ReferenceTable::basic(alloc)?))
+}
+
+/// The text of a page whose bytes come `most` at a time.
+fn text_of(alloc: Global, bytes: &[u8], most: usize, width: usize) -> Result<String, Error> {
+    let mut input = Device::new(Pieces { bytes, most });
+    from_read(alloc, &mut input, width, ReferenceTable::basic(alloc)?)
+}
+
+const FIRST_PAGE: &[u8] = b"<p>Hello, world.  Superlongwordreally</p>";
+
+const FIRST_TEXT: &str = "Hello,\nworld.\nSuperlon\ngwordrea\nlly\n";
+
+static PAGES: [(usize, &[u8], Result<&str, Error>); 27] = [
+    (8, FIRST_PAGE, Ok(FIRST_TEXT)),
+    (20, b"<p>caf\xC3\xA9</p>", Ok("caf\u{e9}\n")),
+    (20, b"<p>a\xFFb</p>", Ok("a\u{fffd}b\n")),
+    (20, b"<p>a\r\nb</p>", Ok("a b\n")),
+    (20, b"<p>\xF0\x9F\x98</p>", Ok("\u{fffd}\n")),
+    (20, b"<p>\xE0\x80</p>", Ok("\u{fffd}\u{fffd}\n")),
+    (20, b"<p>\xED\xA0\x80</p>", Ok("\u{fffd}\u{fffd}\u{fffd}\n")),
+    (20, b"\xEF\xBB\xBF<p>a</p>", Ok("a\n")),
+    (20, b"<p>a</p><p>b</p>", Ok("a\n\nb\n")),
+    (
+        20,
+        b"<p>&lt;script&gt;x&lt;/script&gt;</p>",
+        Ok("<script>x</script>\n"),
+    ),
+    (20, b"<p>&amp;lt; &quot;</p>", Ok("&lt; \"\n")),
+    (3, b"<p>a&nbsp;b c</p>", Ok("a\u{a0}b\nc\n")),
+    (4, b"<p>aa\xE2\x80\x8Bbb cc</p>", Ok("aabb\ncc\n")),
+    (
+        5,
+        b"<p>ab \xE6\xBC\xA2\xE5\xAD\x97\xE6\xBC\xA2 x</p>",
+        Ok("ab\n\u{6f22}\u{5b57}\n\u{6f22} x\n"),
+    ),
+    (1, b"<p>\xE6\xBC\xA2</p>", Err(Error::TooNarrow)),
+    (1, b"<p>ab</p>", Ok("a\nb\n")),
+    (20, b"", Ok("")),
+    (20, b"Hello", Err(Error::Fail)),
+    (20, b"<p>a", Err(Error::Fail)),
+    (20, b"<p>a</p> ", Err(Error::Fail)),
+    (20, b"<p>a&x;</p>", Err(Error::Fail)),
+    (20, b"<p>a\0</p>", Err(Error::Fail)),
+    (0, b"<p>x</p>", Err(Error::TooNarrow)),
+    (0, b"", Err(Error::TooNarrow)),
+    (0, b"Hello", Err(Error::Fail)),
+    (20, b"<p></p><p>x</p><p></p><p>y</p>", Ok("x\n\n\ny\n")),
+    (20, b"<p>\xCC\x81</p><p>a</p>", Ok("\u{301}\n\na\n")),
+];
+
+#[test]
+fn pages_have_their_lines_however_cut(rt: HostRuntime) -> Result<(), Fail> {
+    for (width, bytes, wanted) in PAGES {
+        for most in [1, 2, 7, 8192] {
+            let found = text_of(rt.alloc(), bytes, most, width);
+            match (found, wanted) {
+                (Ok(text), Ok(wanted)) => {
+                    assert_eq!(rt; text.as_str(), wanted, "width {width}, pieces of {most}");
+                }
+                (Err(error), Err(wanted)) => {
+                    assert_eq!(rt; error, wanted, "width {width}, pieces of {most}");
+                }
+                (found, wanted) => {
+                    assert!(rt;
+                        false,
+                        "width {width}, pieces of {most}: {found:?}, not {wanted:?}"
+                    );
+                }
+            }
+        }
+    }
+    Ok(())
+}
+
+#[test]
+fn two_pieces_are_one_page(rt: HostRuntime) -> Result<(), Fail> {
+    let alloc = rt.alloc();
+    let mut input = Device::new(b"<p>caf\xC3".as_slice().chain(b"\xA9</p>".as_slice()));
+    let text = plain(alloc)?.string_from_read(alloc, &mut input, 20)?;
+    assert_eq!(rt; text.as_str(), "caf\u{e9}\n");
+    let mut input = Device::new(b"<p>a\r".as_slice().chain(b"\nb</p>".as_slice()));
+    let text = plain(alloc)?.string_from_read(alloc, &mut input, 20)?;
+    assert_eq!(rt; text.as_str(), "a b\n");
+    Ok(())
+}
+
+#[test]
+fn a_page_is_as_long_as_allowed(rt: HostRuntime) -> Result<(), Fail> {
+    let alloc = rt.alloc();
+    let rows: [(&[u8], usize, Result<&str, Error>); 4] = [
+        (b"<p>ab</p>", 8, Err(Error::TooLong)),
+        (b"<p>ab</p>", 9, Ok("ab\n")),
+        (b"", 0, Ok("")),
+        (b"<", 0, Err(Error::TooLong)),
+    ];
+    for (bytes, most, wanted) in rows {
+        let mut input = Device::new(bytes);
+        let config = plain(alloc)?.max_bytes(most);
+        match (config.string_from_read(alloc, &mut input, 20), wanted) {
+            (Ok(text), Ok(wanted)) => assert_eq!(rt; text.as_str(), wanted),
+            (Err(error), Err(wanted)) => assert_eq!(rt; error, wanted),
+            (found, wanted) => assert!(rt; false, "{found:?}, not {wanted:?}"),
+        }
+    }
+    Ok(())
+}
+
+#[test]
+fn lines_are_given_one_by_one(rt: HostRuntime) -> Result<(), Fail> {
+    let alloc = rt.alloc();
+    let mut input = Device::new(b"<p>a b</p>".as_slice());
+    let lines = plain(alloc)?.lines_from_read(alloc, &mut input, 1)?;
+    assert_eq!(rt; lines.len(), 2);
+    let first: String = lines[0].chars().collect(alloc)?;
+    assert_eq!(rt; first.as_str(), "a");
+    assert_eq!(rt; lines[1].width(), 1);
+    Ok(())
+}
+
+#[test]
+fn a_page_is_written(rt: HostRuntime) -> Result<(), Fail> {
+    let alloc = rt.alloc();
+    let mut input = Device::new(FIRST_PAGE);
+    let mut output = Device::new(Vec::new(alloc));
+    run(alloc, &mut input, &mut output, plain(alloc)?, 8)?;
+    assert_eq!(rt; output.into_inner().as_slice(), FIRST_TEXT.as_bytes());
+    Ok(())
+}
+
+#[test]
+fn a_reader_that_fails_leaves_nothing_written(rt: HostRuntime) -> Result<(), Fail> {
+    let alloc = rt.alloc();
+    for reads in 0..9 {
+        let mut input = Device::new(Faltering {
+            bytes: b"<p>a",
+            most: 1,
+            reads,
+        });
+        let mut output = Device::new(Vec::new(alloc));
+        let refused = run(alloc, &mut input, &mut output, plain(alloc)?, 20);
+        assert_eq!(rt; refused, Err(Error::IoError), "after {reads} reads");
+        assert!(rt; output.into_inner().is_empty(), "after {reads} reads");
+    }
+    Ok(())
+}
+
+#[test]
+fn a_writer_that_fails_has_a_beginning(rt: HostRuntime) -> Result<(), Fail> {
+    let alloc = rt.alloc();
+    for takes_none in [false, true] {
+        for most in [1, 2, 64] {
+            for writes in 0..9 {
+                let mut input = Device::new(FIRST_PAGE);
+                let mut output = Device::new(Full {
+                    taken: Vec::new(alloc),
+                    most,
+                    writes,
+                    takes_none,
+                });
+                let refused = run(alloc, &mut input, &mut output, plain(alloc)?, 8);
+                assert_eq!(rt;
+                    refused,
+                    Err(Error::IoError),
+                    "after {writes} writes of {most}"
+                );
+                let taken = output.into_inner().taken;
+                assert!(rt;
+                    FIRST_TEXT.as_bytes().starts_with(taken.as_slice()),
+                    "after {writes} writes of {most}"
+                );
+                assert!(rt;
+                    writes == 0 || !taken.is_empty(),
+                    "after {writes} writes of {most}"
+                );
+            }
+        }
+    }
+    Ok(())
+}
+
+/// This one holds also where a request for memory is refused, each in turn: `rt try --test --fail-alloc N`.
+#[test]
+fn a_refused_growth_is_told(rt: HostRuntime) -> Result<(), Fail> {
+    let alloc = rt.alloc();
+    match text_of(alloc, FIRST_PAGE, 8192, 8) {
+        Ok(text) => assert_eq!(rt; text.as_str(), FIRST_TEXT),
+        Err(error) => assert_eq!(rt; error, Error::Memory),
+    }
+    let Ok(config) = plain(alloc) else {
+        return Ok(());
+    };
+    let mut input = Device::new(FIRST_PAGE);
+    let mut buffer = [0; 64];
+    let mut output = Device::new(io::Cursor::new(buffer.as_mut_slice()));
+    let written = run(alloc, &mut input, &mut output, config, 8);
+    let length = output.into_inner().position();
+    match written {
+        Ok(()) => assert_eq!(rt; length, FIRST_TEXT.len() as u64),
+        Err(error) => {
+            assert_eq!(rt; error, Error::Memory);
+            assert_eq!(rt; length, 0);
+        }
+    }
+    Ok(())
+}
+
+#[test]
+fn errors_are_told(rt: HostRuntime) -> Result<(), Fail> {
+    let texts = [
+        (Error::TooNarrow, "output width not wide enough"),
+        (Error::Fail, "nothing to render"),
+        (Error::IoError, "read or write failed"),
+        (Error::TooLong, "page too long"),
+        (Error::Memory, "out of memory"),
+    ];
+    for (error, wanted) in texts {
+        assert_eq!(rt; error.to_string(rt.alloc())?.as_str(), wanted);
+    }
+    Ok(())
+}

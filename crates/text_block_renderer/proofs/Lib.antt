@@ -1,0 +1,12 @@
+pub mod BlockFilling
+pub mod BlockFinal
+pub mod BlockItems
+pub mod BlockPadding
+pub mod BlockReading
+pub mod LayoutFewest
+pub mod LayoutFilling
+pub mod LayoutFullest
+pub mod LayoutSplits
+pub mod UnitsLetters
+pub mod UnitsMarks
+pub mod UnitsReading

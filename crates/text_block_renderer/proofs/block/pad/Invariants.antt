@@ -1,0 +1,6 @@
+use Rattle.std.proofs.Common.{◌≡◌, ◌++◌, replicate}
+use Rattle.text_decorators.specs.Tagged.{line_items, character}
+use Rattle.text_block_renderer.proofs.block.pad.Given as goal
+
+abbrev pub invariant-loop-space : goal.invariant-loop-space
+invariant-loop-space g l = line_items g.T.EqualCopy.seen l.line ≡ line_items g.T.EqualCopy.seen l.initial.line ++ replicate l._space (character 0x20 (g.T.EqualCopy.seen l.tag))

@@ -1,0 +1,21 @@
+use Rattle.std.proofs.Common.{length, ap, refl, arith}
+use Rattle.std.specs.Prelude.{Some}
+use Rattle.text_decorators.specs.Tagged.{line_items}
+use Rattle.text_block_renderer.specs.Block.{padded}
+use Rattle.text_block_renderer.proofs.BlockPadding.{views_more, all_views}
+use Rattle.text_block_renderer.proofs.block.pad_lines.Goals as goal
+
+pub loop-line-init : goal.loop-line-init
+loop-line-init g c = refl
+
+pub loop-line-preserved : goal.loop-line-preserved
+loop-line-preserved g c =
+    let seen = g.T.EqualCopy.seen in
+    views_more (line_items seen) (padded c.args.width (Some (seen c.args.tag.now))) c.deref_mut-line-items.result.now c.loop-line.line-items c.loop-line.line-index c.line-item.result c.pad.new.line (omega arith) c.loop-line.auto.line-items
+    c.loop-line.invariant c.line-item.is c.in_ok-pad.ensures
+
+pub returns : goal.returns
+returns g c =
+    let seen = g.T.EqualCopy.seen in
+    all_views (line_items seen) (padded c.args.width (Some (seen c.args.tag.now))) c.args.lines.items c.deref_mut-line-items.result.now c.loop-line.line-items c.loop-line.line-index c.args.lines.len c.deref_mut-line-items.ensures.value
+    c.loop-line-test.false (omega (arith, c.loop-line.auto.line-items, ap length c.deref_mut-line-items.ensures.value, c.args.lines.ok.0)) c.loop-line.invariant

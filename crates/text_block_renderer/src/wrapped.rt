@@ -1,0 +1,37 @@
+ghost use Rattle.std.specs.Prelude.{◌≡◌, ◌⊎◌, false, map, All, ◌≤◌, IfOk, IfErr};
+ghost use Rattle.text_decorators.specs.Tagged.{line_items, line_columns};
+ghost use Rattle.text_block_renderer.specs.Layout.{AreLinesOf, NeverFits};
+ghost use Rattle.text_block_renderer.specs.Block.{letters_of};
+
+use crate::block::WrappedBlock;
+use crate::fault::BlockError;
+use crate::white_space::WhiteSpace;
+use std::alloc::Global;
+use text_decorators::{EqualCopy, TaggedLine, TaggedString};
+
+/// The lines of some texts, joined: their fullest layout on lines of at most `width` columns. Refused as
+/// `Memory`, or as `TooNarrow` where there is no layout at all.
+pub fn wrapped_lines<T: EqualCopy + Drop>(
+    alloc: Global,
+    pieces: &[TaggedString<T>],
+    width: usize,
+    allow_overflow: bool,
+    default_tag: T,
+) -> Result<Vec<TaggedLine<T>>, BlockError>
+    ensures lines { IfOk result (λ lines. AreLinesOf width allow_overflow (letters_of T.seen pieces.now) (map (line_items T.seen) lines.items)) }
+    ensures within { allow_overflow ≡ false → IfOk result (λ lines. All (λ items. line_columns items ≤ width) (map (line_items T.seen) lines.items)) }
+    ensures narrow { result ≡ Err BlockError.TooNarrow → (allow_overflow ≡ false) × NeverFits width false (letters_of T.seen pieces.now) }
+    ensures kinds { IfErr result (λ e. (e ≡ BlockError.TooNarrow) ⊎ (e ≡ BlockError.Memory)) }
+{
+    let mut block = WrappedBlock::new(alloc, width, false, allow_overflow, default_tag);
+    for piece in pieces {
+        block.add_text(
+            alloc,
+            piece.s.as_str(),
+            WhiteSpace::Normal,
+            &piece.tag,
+            &piece.tag,
+        )?;
+    }
+    block.into_lines(alloc)
+}
