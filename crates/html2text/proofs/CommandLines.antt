@@ -1,17 +1,17 @@
 -- The words that clap takes are the lines of the grammar, and it takes each of these.
-use Rattle.std.proofs.Common.{◌≡◌, ◌∙◌, ◌⊎◌, ◌++◌, ◌∷◌, [], ℕ, Bool, true, false, List, Option, Some, None, refl, sym, ap, subst, inl, inr, codes}
+use Rattle.std.proofs.Common.{◌≡◌, ◌∙◌, ◌++◌, ◌∷◌, [], ℕ, true, false, List, Option, Some, None, refl, sym, ap, subst, inl, inr, codes}
 use Rattle.std.specs.Prelude.{fold, option_map}
 use Rattle.std.specs.Str.Parse.{IsNumeral, without_leading_sign}
-use Rattle.clap.specs.Walk.{Held, Row, Text, Waiting, Walk, has_row, idle, one_of, option, reacted, settled, settled_rows, walked}
+use Rattle.clap.specs.Walk.{Row, Text, Waiting, Walk, has_row, idle, one_of, option, reacted, settled_rows, walked}
 use Rattle.clap.specs.Lexer.{without_minus}
 use Rattle.clap.specs.Simple.{is_simple, matches_of}
-use Rattle.clap.specs.Kinds.{or_else, value_kinds}
+use Rattle.clap.specs.Kinds.{value_kinds}
 use Rattle.clap.specs.Faults.{fault_of, is_simple_and_free, react_fault, repeat_fault, settle_fault, turn_fault, use_fault, walk_fault}
 use Rattle.html2text.specs.CommandRules.{program}
 use Rattle.html2text.specs.CommandWords.{Asks, AsksWidth, IsEnding, IsWritten, Item, Says, apart, joined, value_of, words_of_any}
 use Rattle.html2text.proofs.CommandNumbers.{says_width, takes_width, width_values}
 use Rattle.clap.proofs.OnLiterals.{clap_on_literals}
-use Rattle.html2text.proofs.CommandTurns.{Rests, Waits, both_none, ends, ends_early, gives, held, no_kind, none_past_end, options, past_end, resting, rests, shape, takes, waiting, waits, wanting, wants, width_id, width_option}
+use Rattle.html2text.proofs.CommandTurns.{Rests, Waits, both_none, ends, ends_early, gives, held, helps, no_kind, no_refusal, none_past_end, options, past_end, refuses, refuses_there, rest_fault, resting, rests, shape, takes, wait_fault, waiting, waits, wanting, wants, width_id, width_option}
 
 -- no word from here on is refused, nor what is held at the end
 abbrev Passes : Walk → List Text → Type 0
@@ -32,19 +32,19 @@ after_end rows p x words e =
 
 -- ---- a second use never passes
 
-used_twice : (rows : List Row) (values : List Text) → has_row width_id rows ≡ true → use_fault false width_option values rows ≡ [] → ⊥
+pub used_twice : (rows : List Row) (values : List Text) → has_row width_id rows ≡ true → use_fault false width_option values rows ≡ [] → ⊥
 used_twice rows values has e =
     let repeats : repeat_fault false width_id rows ≡ [] = (both_none (repeat_fault false width_id rows) _ (both_none _ _ e).1).0 in
     no_kind (simp has at repeats)
 
-used_again : (rows : List Row) (p : Option (Text × List Text)) (value : Text) → has_row width_id (settled_rows options p rows) ≡ true
+pub used_again : (rows : List Row) (p : Option (Text × List Text)) (value : Text) → has_row width_id (settled_rows options p rows) ≡ true
     → react_fault options false width_option (value ∷ []) (held rows p) ≡ [] → ⊥
 used_again rows p value has e =
     used_twice (settled_rows options p rows) (value ∷ []) has (both_none (settle_fault options false (held rows p)) _ e).1
 
 never_given_twice : (rows : List Row) (value : Text) (words : List Text) → has_row width_id rows ≡ true → Passes (resting (held rows (Some (width_id, value ∷ [])))) words → ⊥
 never_given_twice rows value [] has e = used_twice rows (value ∷ []) has e.1
-never_given_twice rows value (word ∷ rest) has e = go (rests rows p word now.0)
+never_given_twice rows value (word ∷ rest) has e = go (rests rows p word)
   where
     p : Option (Text × List Text)
     p = Some (width_id, value ∷ [])
@@ -53,20 +53,23 @@ never_given_twice rows value (word ∷ rest) has e = go (rests rows p word now.0
     now = further (resting (held rows p)) word rest e
 
     go : Rests rows p word → ⊥
-    go (ends is next) = used_twice rows (value ∷ []) has (after_end rows p idle rest (subst (λ w. Passes w rest) next now.1)).1
-    go (wants is settles next) = used_twice rows (value ∷ []) has settles
-    go (takes v is reacts next) = used_twice rows (value ∷ []) has (both_none (settle_fault options false (held rows p)) _ reacts).0
+    go (ends is fault next) = used_twice rows (value ∷ []) has (after_end rows p idle rest (subst (λ w. Passes w rest) next now.1)).1
+    go (wants is fault next) = used_twice rows (value ∷ []) has (sym fault ∙ now.0)
+    go (takes v is fault next) = used_twice rows (value ∷ []) has (both_none (settle_fault options false (held rows p)) _ (sym fault ∙ now.0)).0
+    go (helps help fault) = used_twice rows (value ∷ []) has (both_none (settle_fault options false (held rows p)) _ (sym fault ∙ now.0)).0
+    go (refuses refusal) = no_refusal (rest_fault rows p word) refusal now.0
 
 never_asked_twice : (rows : List Row) (words : List Text) → has_row width_id rows ≡ true → Passes (wanting (waiting rows)) words → ⊥
 never_asked_twice rows [] has e = no_kind e.1
-never_asked_twice rows (word ∷ rest) has e = go (waits rows word now.0)
+never_asked_twice rows (word ∷ rest) has e = go (waits rows word)
   where
     now : (turn_fault shape [] (wanting (waiting rows)) word ≡ []) × Passes (walked options [] (wanting (waiting rows)) word) rest
     now = further (wanting (waiting rows)) word rest e
 
     go : Waits rows word → ⊥
-    go (ends_early is next) = no_kind (after_end rows (Some (width_id, [])) (option width_id) rest (subst (λ w. Passes w rest) next now.1)).1
-    go (gives plain next) = never_given_twice rows word rest has (subst (λ w. Passes w rest) next now.1)
+    go (ends_early is fault next) = no_kind (after_end rows (Some (width_id, [])) (option width_id) rest (subst (λ w. Passes w rest) next now.1)).1
+    go (gives plain fault next) = never_given_twice rows word rest has (subst (λ w. Passes w rest) next now.1)
+    go (refuses_there refusal) = no_refusal (wait_fault rows word) refusal now.0
 
 -- ---- the lines
 
@@ -74,18 +77,20 @@ never_asked_twice rows (word ∷ rest) has e = go (waits rows word now.0)
 ended : (rows : List Row) (p : Option (Text × List Text)) (words : List Text) → has_row width_id (settled_rows options p rows) ≡ true → Passes (resting (held rows p)) words
     → IsEnding words × (settle_fault options false (held rows p) ≡ [])
 ended rows p [] has e = (inl refl, e.1)
-ended rows p (word ∷ rest) has e = go (rests rows p word now.0)
+ended rows p (word ∷ rest) has e = go (rests rows p word)
   where
     now : (turn_fault shape [] (resting (held rows p)) word ≡ []) × Passes (walked options [] (resting (held rows p)) word) rest
     now = further (resting (held rows p)) word rest e
 
     go : Rests rows p word → IsEnding (word ∷ rest) × (settle_fault options false (held rows p) ≡ [])
-    go (ends is next) =
+    go (ends is fault next) =
         let end = after_end rows p idle rest (subst (λ w. Passes w rest) next now.1) in
         let same : word ∷ rest ≡ codes "--" ∷ [] = ap (λ w. w ∷ rest) is ∙ ap (λ ws. codes "--" ∷ ws) end.0 in
         (inr same, end.1)
-    go (wants is settles next) = absurd (never_asked_twice (settled_rows options p rows) rest has (subst (λ w. Passes w rest) next now.1))
-    go (takes v is reacts next) = absurd (used_again rows p v has reacts)
+    go (wants is fault next) = absurd (never_asked_twice (settled_rows options p rows) rest has (subst (λ w. Passes w rest) next now.1))
+    go (takes v is fault next) = absurd (used_again rows p v has (sym fault ∙ now.0))
+    go (helps help fault) = absurd (no_kind (both_none (settle_fault options false (held rows p)) _ (sym fault ∙ now.0)).1)
+    go (refuses refusal) = absurd (no_refusal (rest_fault rows p word) refusal now.0)
 
 -- clap takes the value of the item, and where that is a numeral the item is written as the grammar says
 abbrev pub IsTaken : Option Item → Type 0
@@ -99,39 +104,42 @@ pub record Line (words : List Text) : Type 0 where
   pub ends : IsEnding ending
   pub taken : IsTaken item
 
-value_taken : (value : Text) → use_fault false width_option (value ∷ []) [] ≡ [] → value_kinds false width_values value ≡ []
+pub value_taken : (value : Text) → use_fault false width_option (value ∷ []) [] ≡ [] → value_kinds false width_values value ≡ []
 value_taken value e = (both_none _ _ e).0
 
 apart_line : (words : List Text) → Passes (wanting (waiting [])) words → Line (codes "--width" ∷ words)
 apart_line [] e = absurd (no_kind e.1)
-apart_line (word ∷ rest) e = go (waits [] word now.0)
+apart_line (word ∷ rest) e = go (waits [] word)
   where
     now : (turn_fault shape [] (wanting (waiting [])) word ≡ []) × Passes (walked options [] (wanting (waiting [])) word) rest
     now = further (wanting (waiting [])) word rest e
 
     go : Waits [] word → Line (codes "--width" ∷ word ∷ rest)
-    go (ends_early is next) = absurd (no_kind (after_end [] (Some (width_id, [])) (option width_id) rest (subst (λ w. Passes w rest) next now.1)).1)
-    go (gives plain next) =
+    go (ends_early is fault next) = absurd (no_kind (after_end [] (Some (width_id, [])) (option width_id) rest (subst (λ w. Passes w rest) next now.1)).1)
+    go (gives plain fault next) =
         let end = ended [] (Some (width_id, word ∷ [])) rest refl (subst (λ w. Passes w rest) next now.1) in
         record { item = Some (apart word); ending = rest; line = refl; ends = end.0; taken = (value_taken word end.1, plain) }
+    go (refuses_there refusal) = absurd (no_refusal (wait_fault [] word) refusal now.0)
 
 line_passed : (words : List Text) → Passes (resting (held [] None)) words → Line words
 line_passed [] e = record { item = None; ending = []; line = refl; ends = inl refl; taken = tt }
-line_passed (word ∷ rest) e = go (rests [] None word now.0)
+line_passed (word ∷ rest) e = go (rests [] None word)
   where
     now : (turn_fault shape [] (resting (held [] None)) word ≡ []) × Passes (walked options [] (resting (held [] None)) word) rest
     now = further (resting (held [] None)) word rest e
 
     go : Rests [] None word → Line (word ∷ rest)
-    go (ends is next) =
+    go (ends is fault next) =
         let end = after_end [] None idle rest (subst (λ w. Passes w rest) next now.1) in
         let same : word ∷ rest ≡ codes "--" ∷ [] = ap (λ w. w ∷ rest) is ∙ ap (λ ws. codes "--" ∷ ws) end.0 in
         record { item = None; ending = word ∷ rest; line = refl; ends = inr same; taken = tt }
-    go (wants is settles next) = subst (λ w. Line (w ∷ rest)) (sym is) (apart_line rest (subst (λ w. Passes w rest) next now.1))
-    go (takes value is reacts next) =
+    go (wants is fault next) = subst (λ w. Line (w ∷ rest)) (sym is) (apart_line rest (subst (λ w. Passes w rest) next now.1))
+    go (takes value is fault next) =
         let after = reacted options width_option (value ∷ []) (held [] None) in
         let end = ended after.rows None rest refl (subst (λ w. Passes w rest) next now.1) in
-        record { item = Some (joined value); ending = rest; line = ap (λ w. w ∷ rest) is; ends = end.0; taken = (value_taken value reacts, λ digits. tt) }
+        record { item = Some (joined value); ending = rest; line = ap (λ w. w ∷ rest) is; ends = end.0; taken = (value_taken value (sym fault ∙ now.0), λ digits. tt) }
+    go (helps help fault) = absurd (no_kind (sym fault ∙ now.0))
+    go (refuses refusal) = absurd (no_refusal (rest_fault [] None word) refusal now.0)
 
 -- where no kind of error comes, the words are a line
 pub line_taken : (words : List Text) → fault_of program words ≡ [] → Line words
@@ -143,7 +151,7 @@ line_taken words e =
 -- ---- each line is taken
 
 -- clap takes the value of the item, and the item is written as the grammar says
-abbrev IsFine : Option Item → Type 0
+abbrev pub IsFine : Option Item → Type 0
 IsFine None = Unit {0}
 IsFine (Some item) = (value_kinds false width_values (value_of item) ≡ []) × IsWritten item
 

@@ -4,7 +4,7 @@ use Rattle.std.specs.Prelude.{All, Any, false, if◌then◌else◌}
 use Rattle.std.proofs.lemmas.List.Elements.{All-nil, All-cons, All-append}
 use Rattle.std.proofs.lemmas.List.{map-append, length-map, get_or-map}
 use Rattle.std.proofs.lemmas.Str.{chars-nil}
-use Rattle.text_decorators.specs.Tagged.{Item, character, marker, tagged, characters, line_items, line_text, element_items, elements_items, element_text, elements_text}
+use Rattle.text_decorators.specs.Tagged.{Item, tagged, characters, line_items, line_text, elements_items, elements_text}
 use Rattle.text_decorators.specs.declared.tagged_line.TaggedLine.{TaggedLine}
 use Rattle.text_decorators.specs.declared.tagged_string.TaggedLineElement.{TaggedLineElement}
 use Rattle.text_decorators.specs.declared.tagged_string.TaggedLineElement.TheVariants.{Str, FragmentStart}
@@ -58,7 +58,7 @@ pub laying_goes_on : {width : ℕ} {before all rest : List (List ℕ)} (text : L
 laying_goes_on {width} {before} {all} {rest} text own after_lines after l next laid fits same =
     record {
       gives = λ lines h. l.gives lines (rw next (own, laid, subst (λ b. AreLinesBehind width b after lines) same h));
-      within = subst (All (FitsWidth width)) (sym same) (All-append (FitsWidth width) before (block_start before ++ own) l.within (All-append (FitsWidth width) (block_start before) own (start_fits width before) fits))
+      within = subst (All (FitsWidth width)) (sym same) (All-append (FitsWidth width) before (block_start before ++ own) l.within (All-append (FitsWidth width) (block_start before) own (start_fits width before) fits));
     }
 
 pub laying_ends : {width : ℕ} {before all rest : List (List ℕ)} → IsLaying width before all rest → rest ≡ [] → AreLinesBehind width [] all before

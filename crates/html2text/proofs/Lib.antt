@@ -1,3 +1,5 @@
+pub mod CommandFaults
+pub mod CommandHelp
 pub mod CommandLines
 pub mod CommandNumbers
 pub mod CommandTurns

@@ -2,7 +2,7 @@
 use Rattle.std.proofs.Common.{◌≡◌, ℕ, false, List, [], ◌∷◌, ◌++◌, map, refl, sym, ap, subst, ◌∙◌, ◌≤◌, append-nil}
 use Rattle.std.specs.Prelude.{All}
 use Rattle.std.proofs.lemmas.List.Elements.{All-map}
-use Rattle.text_decorators.specs.Tagged.{Item, characters, line_items, line_text, line_columns}
+use Rattle.text_decorators.specs.Tagged.{characters, line_items, line_text, line_columns}
 use Rattle.text_decorators.specs.declared.tagged_line.TaggedLine.{TaggedLine}
 use Rattle.text_block_renderer.specs.Units.{Letter, lettered}
 use Rattle.text_block_renderer.specs.Layout.{AreLinesOf, NeverFits, HasNoLayout, marks}

@@ -1,5 +1,5 @@
 -- What a loop of reads has read so far.
-use Rattle.std.proofs.Common.{◌≡◌, ℕ, ◌+◌, ◌≤◌, Bool, true, false, List, [], ◌++◌, length, Option, None, Some, IfSome, refl, sym, ap, ◌∙◌, append_assoc, append-nil, length-append, subst, arith}
+use Rattle.std.proofs.Common.{◌≡◌, ℕ, ◌+◌, Bool, true, false, List, [], ◌++◌, length, Option, None, Some, IfSome, refl, sym, ap, ◌∙◌, append_assoc, append-nil, length-append, subst, arith}
 use Rattle.std.specs.Io.KnownBytes.{Consumes, IsAtEnd}
 use Rattle.html2text.specs.PageLines.{page_text, IsTooNarrowPage, IsWiderText}
 use Rattle.html2text.specs.ParagraphPage.{IsParagraphPage}

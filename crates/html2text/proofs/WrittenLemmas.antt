@@ -1,11 +1,11 @@
 -- What was written of a page's lines.
-use Rattle.std.proofs.Common.{◌≡◌, ℕ, List, map, Option, None, Some, IfSome}
+use Rattle.std.proofs.Common.{ℕ, List, map, Option, None, Some, IfSome}
 use Rattle.std.specs.Io.KnownBytes.{Appends}
 use Rattle.html_lexemes.specs.KnownPart.{AppendsPart}
 use Rattle.text_decorators.specs.Tagged.{line_text}
 use Rattle.text_decorators.specs.declared.tagged_line.TaggedLine.{TaggedLine}
 use Rattle.html2text.specs.LinesText.{lines_bytes}
-use Rattle.html2text.specs.PageLines.{ArePageLines, HasPageText}
+use Rattle.html2text.specs.PageLines.{ArePageLines}
 use Rattle.html2text.specs.Written.{WritesPage, WritesPart}
 use Rattle.html2text.proofs.LinesTextLemmas.{chars-lines_bytes}
 

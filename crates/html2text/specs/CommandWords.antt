@@ -1,5 +1,6 @@
 -- The command line: `html2text [--width N] [--]`, and what its words ask for. A word is its bytes.
-use Rattle.std.specs.Prelude.{◌≡◌, ℕ, ◌^◌, ◌<◌, false, pos, List, [], ◌∷◌, ◌++◌, ◌⊎◌, Option, Some, None, ⊤, codes}
+use Rattle.std.specs.Prelude.{◌≡◌, ℕ, ◌^◌, ◌<◌, false, pos, List, [], ◌∷◌, ◌++◌, ◌⊎◌, Option, Some, None, ⊤, codes, slice_get}
+use Rattle.std.specs.Str.{chars}
 use Rattle.std.specs.Str.Parse.{IsNumeral, signed_digits_value, starts_with_minus, without_leading_sign}
 
 -- the option with its value, in two words or in one
@@ -20,7 +21,7 @@ abbrev pub IsWritten : Item → Type 0
 IsWritten (apart value) = starts_with_minus value ≡ false
 IsWritten (joined value) = ⊤
 
--- the value is decimal digits, behind a sign or none, and says a number from 0 to the most in 32 bits
+-- the value is decimal digits, behind a sign or none, and says a number from 0 to the most in 32 bits: `+8` says 8, and `-0` says 0
 abbrev pub Says : List ℕ → ℕ → Type 0
 Says value n = IsNumeral 10 (without_leading_sign value) × (signed_digits_value 10 value ≡ pos n) × (n < 2 ^ 32)
 
@@ -44,3 +45,17 @@ pub record Asks (words : List (List ℕ)) (width : ℕ) : Type 0 where
   pub line : words ≡ words_of_any item ++ ending
   pub ends : IsEnding ending
   pub asks : AsksWidth item width
+
+-- `--help`, or a hyphen and then `h` (104), with more characters behind it or none, which are not read
+abbrev pub IsHelpWord : List ℕ → Type 0
+IsHelpWord word = (word ≡ codes "--help") ⊎ ((flags : List ℕ) × (word ≡ codes "-" ++ flags) × (slice_get (chars flags) 0 ≡ Some 104))
+
+-- the words are those of a line without its ending, then one that asks for help, and then any others, which are not read
+pub record AsksHelp (words : List (List ℕ)) : Type 0 where
+  pub item : Option Item
+  pub width : ℕ
+  pub word : List ℕ
+  pub rest : List (List ℕ)
+  pub line : words ≡ words_of_any item ++ word ∷ rest
+  pub asks : AsksWidth item width
+  pub helps : IsHelpWord word

@@ -9,4 +9,5 @@ pub mod PageText
 pub mod ParagraphPage
 pub mod ReplacedText
 pub mod Statuses
+pub mod WordFaults
 pub mod Written

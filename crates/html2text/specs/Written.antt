@@ -1,5 +1,5 @@
 -- What a writer has of a page.
-use Rattle.std.specs.Prelude.{◌≡◌, ℕ, List, Option, chars}
+use Rattle.std.specs.Prelude.{ℕ, List, Option, chars}
 use Rattle.std.specs.Io.KnownBytes.{Appends}
 use Rattle.html_lexemes.specs.KnownPart.{AppendsPart}
 use Rattle.html2text.specs.PageLines.{HasPageText}

@@ -53,11 +53,13 @@ impl Config<PlainDecorator> {
         ensures io { result ≡ Err Error.IoError → R.has_failed input.new ≡ true }
         ensures too_long { result ≡ Err Error.TooLong → R.count input.old + max_bytes_of self < R.count input.new }
         ensures stays { R.has_failed input.old ≡ true → R.has_failed input.new ≡ true }
-        ensures works { OnOk result (R.has_failed input.new ≡ false) }
-        ensures end { OnOk result (IsAtEnd (R.remaining input.new)) }
+        ensures works { IsAnswer result → R.has_failed input.new ≡ false }
+        ensures end { IsAnswer result → IsAtEnd (R.remaining input.new) }
     {
         let page = page_text_of(alloc, input, self.max_bytes)?;
         let paragraphs = paragraphs_of(alloc, page.as_str())?;
+        // The page's text and its lines need not be in memory together.
+        drop(page);
         page_lines(alloc, &paragraphs, width)
     }
 
@@ -77,8 +79,8 @@ impl Config<PlainDecorator> {
         ensures io { result ≡ Err Error.IoError → R.has_failed input.new ≡ true }
         ensures too_long { result ≡ Err Error.TooLong → R.count input.old + max_bytes_of self < R.count input.new }
         ensures stays { R.has_failed input.old ≡ true → R.has_failed input.new ≡ true }
-        ensures works { OnOk result (R.has_failed input.new ≡ false) }
-        ensures end { OnOk result (IsAtEnd (R.remaining input.new)) }
+        ensures works { IsAnswer result → R.has_failed input.new ≡ false }
+        ensures end { IsAnswer result → IsAtEnd (R.remaining input.new) }
     {
         let lines = self.lines_from_read(alloc, input, width)?;
         Ok(text_of_lines(alloc, &lines)?)
@@ -123,8 +125,8 @@ pub fn from_read<R: ByteReader>(
     ensures io { result ≡ Err Error.IoError → R.has_failed input.new ≡ true }
     ensures too_long { result ≡ Err Error.TooLong → R.count input.old + usize.MAX < R.count input.new }
     ensures stays { R.has_failed input.old ≡ true → R.has_failed input.new ≡ true }
-    ensures works { OnOk result (R.has_failed input.new ≡ false) }
-    ensures end { OnOk result (IsAtEnd (R.remaining input.new)) }
+    ensures works { IsAnswer result → R.has_failed input.new ≡ false }
+    ensures end { IsAnswer result → IsAtEnd (R.remaining input.new) }
 {
     Config::plain(table).string_from_read(alloc, input, width)
 }

@@ -97,4 +97,6 @@ fn complain<R: Eprint, T: Display + Drop>(rt: &R, text: T) {
 }
 
 #[cfg(test)]
+mod rows;
+#[cfg(test)]
 mod tests;

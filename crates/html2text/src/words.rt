@@ -1,11 +1,11 @@
 //! What the words of a command line ask for.
 
-ghost use Rattle.std.specs.Prelude.{◌≡◌, ◌≢◌, ℕ, List, Some, None, false, IfErr, IfOk, codes, map, string_bytes};
+ghost use Rattle.std.specs.Prelude.{◌≡◌, ℕ, List, Some, None, false, IfErr, IfOk, IsErrAnd, codes, map, string_bytes};
 ghost use Rattle.clap.specs.Words.{app_of, found_of, kind_of, rule_of, without_minus};
 ghost use Rattle.clap.specs.Matches.{one_text};
-ghost use Rattle.clap.specs.declared.error.kind.ErrorKind.TheVariants as kinds;
 ghost use Rattle.html2text.specs.CommandRules.{program, width_rule};
-ghost use Rattle.html2text.specs.CommandWords.{Asks, Says};
+ghost use Rattle.html2text.specs.CommandWords.{Asks, AsksHelp, Says};
+ghost use Rattle.html2text.specs.WordFaults.{Explains, IsFaultOf, IsHelpOrMemory};
 ghost use Rattle.html2text.specs.Statuses.{status_of};
 ghost use Rattle.html2text.specs.declared.words.WordFault.TheVariants as faults;
 
@@ -53,8 +53,9 @@ const DEFAULT_WIDTH: usize = 80;
 /// Reads the words behind the program's name.
 pub fn read_words(alloc: Global, words: &[String]) -> Result<Request, WordFault>
     ensures asked { IfOk result (λ request. Asks (map string_bytes words.now) request.width) }
-    ensures answered { (width : ℕ) → Asks (map string_bytes words.now) width
-        → IfErr result (λ fault. fault ≡ faults.Memory) }
+    ensures explained { IfErr result (Explains (map string_bytes words.now)) }
+    ensures answered { (width : ℕ) → Asks (map string_bytes words.now) width → IfErr result (λ fault. fault ≡ faults.Memory) }
+    ensures helped { AsksHelp (map string_bytes words.now) → IsErrAnd result IsHelpOrMemory }
 {
     let Ok(command) = command(alloc) else {
         return Err(WordFault::Memory);
@@ -101,7 +102,7 @@ fn command<'a>(alloc: Global) -> Result<Command<'a>, AllocError>
 }
 
 fn word_fault(alloc: Global, error: &clap::Error) -> WordFault
-    ensures memory { kind_of error.now ≡ kinds.OutOfMemory → result ≡ faults.Memory }
+    ensures { IsFaultOf (kind_of error.now) result }
 {
     let Ok(text) = error.to_string(alloc) else {
         return WordFault::Memory;
@@ -140,7 +141,7 @@ mod tests {
         Memory,
     }
 
-    const LINES: [(&str, Answer); 25] = [
+    const LINES: [(&str, Answer); 32] = [
         ("", Answer::Width(80)),
         ("--", Answer::Width(80)),
         ("--width 8", Answer::Width(8)),
@@ -165,7 +166,14 @@ mod tests {
         ("-- x", Answer::Words),
         ("--help", Answer::Help),
         ("-h", Answer::Help),
+        ("-hx", Answer::Help),
+        ("--help x", Answer::Help),
         ("--width 8 --help", Answer::Help),
+        ("--width=8 -h", Answer::Help),
+        ("--width x --help", Answer::Words),
+        ("--width --help", Answer::Words),
+        ("--help=x", Answer::Words),
+        ("-- --help", Answer::Words),
     ];
 
     fn words_of(alloc: Global, line: &str) -> Result<Vec<String>, AllocError> {

@@ -4,7 +4,7 @@ use Rattle.text_decorators.specs.Tagged.{line_text}
 use Rattle.html2text.specs.LinesText.{texts_of}
 use Rattle.html2text.specs.PageLines.{IsWiderText}
 use Rattle.html2text.specs.declared.error.Error.TheVariants.{TooNarrow}
-use Rattle.html2text.proofs.LayoutLemmas.{laying_starts, laying_goes_on, laying_ends, any_text}
+use Rattle.html2text.proofs.LayoutLemmas.{laying_starts, laying_goes_on, any_text}
 use Rattle.html2text.proofs.WritingLemmas.{drop_item}
 use Rattle.html2text.proofs.layout.page_lines.Goals as goal
 

@@ -1,4 +1,4 @@
-use Rattle.std.proofs.Common.{map, drop, []}
+use Rattle.std.proofs.Common.{map, drop}
 use Rattle.text_decorators.specs.Tagged.{line_text}
 use Rattle.html2text.specs.LinesText.{texts_of}
 use Rattle.html2text.proofs.LayoutLemmas.{IsLaying}

@@ -1,4 +1,4 @@
-use Rattle.std.proofs.Common.{chars, ◌∙◌, ap, arith, rules}
+use Rattle.std.proofs.Common.{chars, ◌∙◌, ap, rules}
 use Rattle.html2text.proofs.ReadingLemmas.{reading_ends}
 use Rattle.html2text.proofs.reading.page_text_of.Goals as goal
 

@@ -1,4 +1,4 @@
-use Rattle.std.proofs.Common.{Err, ap, ◌∙◌, subst, inr, List}
+use Rattle.std.proofs.Common.{Err, ap, ◌∙◌, inr}
 use Rattle.std.proofs.lemmas.Result.{err_from_is_err_and}
 use Rattle.html2text.proofs.WritingLemmas.{on_err}
 use Rattle.html2text.proofs.WrittenLemmas.{written_page, written_part}

@@ -1,4 +1,4 @@
-use Rattle.std.proofs.Common.{take, drop, sym, take-append-drop, rules, append-nil}
+use Rattle.std.proofs.Common.{take, sym, take-append-drop, append-nil}
 use Rattle.html2text.proofs.WritingLemmas.{nothing_written, more_written, all_written, part_written, on_err, no_bytes}
 use Rattle.html2text.proofs.writing.write_all.Goals as goal
 

@@ -1,0 +1,17 @@
+"""Writes a page of paragraphs of about so many megabytes to standard output."""
+import random
+import sys
+
+WORDS = ["the", "quick", "brown", "fox", "jumps", "over", "lazy", "dogs", "wrapping", "paragraphs", "&amp;", "naïve", "漢字", "information", "a", "of", "to", "and"]
+
+
+def main():
+    left = int(sys.argv[1]) * 1_000_000
+    chosen = random.Random(1)
+    while left > 0:
+        paragraph = "<p>" + " ".join(chosen.choice(WORDS) for _ in range(60)) + "</p>"
+        sys.stdout.write(paragraph)
+        left -= len(paragraph.encode())
+
+
+main()

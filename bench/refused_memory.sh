@@ -1,0 +1,24 @@
+#!/usr/bin/env bash
+# Runs the built program on its first page with each request for memory refused in turn. A run must write the page's text, or write
+# nothing, say that memory ran out, and end with status 1 (the page) or 2 (the words).
+set -eu
+here=$(cd "$(dirname "$0")" && pwd)
+crate=$here/../crates/html2text
+(cd "$crate" && rt run -- --width 8 <stdin >/dev/null 2>&1)
+room=$(mktemp -d)
+trap 'rm -rf "$room"' EXIT
+cc -shared -fPIC -o "$room/refuse.so" "$here/refuse.c" -ldl
+whole=0 memory=0 other=0
+for number in $(seq 1 400); do
+  status=0
+  REFUSE=$number LD_PRELOAD=$room/refuse.so "$crate/out/html2text" --width 8 <"$crate/stdin" >"$room/out" 2>"$room/err" || status=$?
+  if [ "$status" = 0 ] && cmp -s "$room/out" "$crate/stdout"; then
+    whole=$((whole + 1))
+  elif [ ! -s "$room/out" ] && grep -q 'out of memory' "$room/err"; then
+    memory=$((memory + 1))
+  else
+    other=$((other + 1))
+    echo "request $number: status $status, $(head -c 200 "$room/err")"
+  fi
+done
+echo "$whole runs wrote the page, $memory said that memory ran out and wrote nothing, $other did anything else"

@@ -1,0 +1,24 @@
+//! The definitions of a page's text and lines, computed on worked rows. What is a relation is computed by the program, whose
+//! contract it is, in the tests.
+ghost use Rattle.std.specs.Prelude.{◌≡◌, [], ◌∷◌, true, false};
+ghost use Rattle.html2text.specs.PageLines.{page_text, has_content, block_start, lines_text};
+
+#[tactic(auto, unfolding(crate::specs::ReplacedText::replaced_text, crate::specs::ReplacedText::text_of_parts))]
+fn page_text_of_rows()
+    ensures mark { page_text (0xEF ∷ 0xBB ∷ 0xBF ∷ 97 ∷ []) ≡ 97 ∷ [] }
+    ensures line_ends { page_text (97 ∷ 13 ∷ 10 ∷ 98 ∷ 13 ∷ []) ≡ 97 ∷ 10 ∷ 98 ∷ 10 ∷ [] }
+    ensures replaced { page_text (97 ∷ 0xFF ∷ 98 ∷ []) ≡ 97 ∷ 0xFFFD ∷ 98 ∷ [] }
+{}
+
+fn content_of_rows()
+    ensures no_line { has_content [] ≡ false }
+    ensures empty_line { has_content ([] ∷ []) ≡ false }
+    ensures mark_alone { has_content ([] ∷ (0x301 ∷ []) ∷ []) ≡ true }
+    ensures first_block { block_start [] ≡ [] }
+    ensures later_block { block_start ((97 ∷ []) ∷ []) ≡ [] ∷ [] }
+{}
+
+fn text_of_rows()
+    ensures no_line { lines_text [] ≡ [] }
+    ensures two_blocks { lines_text ((97 ∷ []) ∷ [] ∷ (98 ∷ []) ∷ []) ≡ 97 ∷ 10 ∷ 10 ∷ 98 ∷ 10 ∷ [] }
+{}
