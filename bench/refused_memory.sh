@@ -21,4 +21,12 @@ for number in $(seq 1 400); do
     echo "request $number: status $status, $(head -c 200 "$room/err")"
   fi
 done
+(cd "$crate" && rt test >/dev/null 2>&1)
+for test in tests::a_refused_growth_is_told words::tests::reads_lines_or_refuses decoder::tests::replaces_in_single_bytes_or_refuses; do
+  failed=0
+  for number in $(seq 1 250); do
+    REFUSE=$number LD_PRELOAD=$room/refuse.so "$crate/out/html2text_tests" "$test" >"$room/out" 2>&1 || failed=$((failed + 1))
+  done
+  echo "$test: $failed of 250 failed"
+done
 echo "$whole runs wrote the page, $memory said that memory ran out and wrote nothing, $other did anything else"
