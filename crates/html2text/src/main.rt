@@ -1,6 +1,8 @@
 //! HTML to wrapped text: reads a page on standard input, and writes its lines on standard output.
 #![tactic(auto)]
 
+ghost use Rattle.std.specs.Prelude.{◌≡◌, MatchResult};
+
 mod config;
 mod decoder;
 mod error;
@@ -41,7 +43,9 @@ fn serve<R: Env + Input + Print + Eprint + AllocGlobal>(rt: &R) -> Outcome {
     }
 }
 
-fn outcome_of<R: Eprint>(rt: &R, written: Result<(), Error>) -> Outcome {
+fn outcome_of<R: Eprint>(rt: &R, written: Result<(), Error>) -> Outcome
+    ensures { MatchResult written (λ _. result ≡ Outcome.Done) (λ error. result ≡ Outcome.Page error) }
+{
     match written {
         Ok(()) => Outcome::Done,
         Err(error) => {

@@ -1,16 +1,18 @@
 -- The lines of the code are those of the filling functions.
 use Rattle.std.proofs.Common.{◌≡◌, ℕ, ◌+◌, ◌<◌, ◌≤◌, Bool, true, false, nat_le, List, [], ◌∷◌, ◌++◌, map, fold, length, get_or, take, sym, ap, ◌∙◌, refl, subst, append_assoc, arith}
-use Rattle.std.specs.Prelude.{Option, if◌then◌else◌}
+use Rattle.std.specs.Prelude.{Option, All, if◌then◌else◌}
 use Rattle.std.proofs.lemmas.List.{append-nil, map-append, length_push, take_more, take_all}
+use Rattle.std.proofs.lemmas.List.Elements.{All-push}
 use Rattle.std.proofs.lemmas.List.Sums.{fold-append}
 use Rattle.std.proofs.lemmas.Bool.Decides.{nat_tests}
 use Rattle.text_decorators.specs.Columns.{width_of}
-use Rattle.text_decorators.specs.Tagged.{Item, character, marker, line_items, line_columns, tagged, element_items, elements_items}
+use Rattle.text_decorators.specs.Tagged.{Item, character, marker, line_items, line_columns, tagged, element_items, elements_items, IsJoined}
 use Rattle.text_decorators.specs.declared.tagged_string.TaggedLineElement.{TaggedLineElement}
+use Rattle.text_decorators.specs.declared.tagged_line.TaggedLine.{TaggedLine}
 use Rattle.text_decorators.proofs.Joins.{elements_items-append}
 use Rattle.text_block_renderer.specs.Units.{Letter, letters_columns}
 use Rattle.text_block_renderer.specs.Layout.{Mark, opens, starts, inside, cuttable, marked, gap, columns, following_columns, marks_items}
-use Rattle.text_block_renderer.specs.Filling.{Filled, filled, all_lines, add_marks, add_mark}
+use Rattle.text_block_renderer.specs.Filling.{Filled, filled, ended, all_lines, add_marks, add_mark}
 use Rattle.text_block_renderer.specs.Block.{HoldsLines, Lays, LaysUnit, LaysWhole, LaysCut, Cuts, ShowsAs, AreGapless, letter_items, space_columns, space_behind, with_room}
 use Rattle.text_block_renderer.specs.declared.filling.Filling.{Filling}
 use Rattle.text_block_renderer.proofs.BlockItems.{marks_counted, letters_counted, behind_items, items_behind, columns_behind, unit_columns, unit_items, lone_items, lone_columns, cut_shows}
@@ -82,13 +84,37 @@ add_by_room width done (n ∷ ns) ms more h =
 
 -- what a call holds that added letters to the line
 holds_pushed : {T S : Type 0} (seen : T → S) (width : ℕ) (overflow : Bool) (old new : Filling T) (f : Filled S) (ms : List (Mark S)) → HoldsLines seen width overflow old f → new.width ≡ old.width
-    → new.allow_overflow ≡ old.allow_overflow → new.done.items ≡ old.done.items → line_items seen new.line ≡ line_items seen old.line ++ behind_items f.line ms → HoldsLines seen width overflow new (pushed f ms)
-holds_pushed seen width overflow old new f ms h w o d added =
+    → new.allow_overflow ≡ old.allow_overflow → new.done.items ≡ old.done.items → line_items seen new.line ≡ line_items seen old.line ++ behind_items f.line ms
+    → (IsJoined seen old.line → IsJoined seen new.line) → HoldsLines seen width overflow new (pushed f ms)
+holds_pushed seen width overflow old new f ms h w o d added joins =
     record {
       same_width = w ∙ h.same_width;
       same_overflow = o ∙ h.same_overflow;
       done = ap (map (line_items seen)) d ∙ h.done;
       line = added ∙ ap (λ items. items ++ behind_items f.line ms) h.line ∙ sym (items_behind f.line ms);
+      joined = record { done = subst (All (IsJoined seen)) (sym d) h.joined.done; line = joins h.joined.line };
+    }
+
+-- ---- the line is ended
+
+ended_shows : {S : Type 0} (line : List (Mark S)) (items : List (Item S)) → items ≡ marks_items line → (items ≡ [] → ⊥) → items ∷ [] ≡ map marks_items (ended line)
+ended_shows [] items is some = absurd (some is)
+ended_shows (m ∷ ms) items is some = ap (λ i. i ∷ []) is
+
+pub line_ended : {T S : Type 0} (seen : T → S) (old new : Filling T) (line : TaggedLine T) → line ≡ old.line → new.width ≡ old.width → new.allow_overflow ≡ old.allow_overflow
+    → new.done.items ≡ old.done.items ++ line ∷ [] → (line_items seen old.line ≡ [] → ⊥) → line_items seen new.line ≡ [] → IsJoined seen new.line → Lays seen old new (λ width f. filled (all_lines f) [])
+line_ended seen old new line line_is w o d some none joined =
+    let pushed_is : new.done.items ≡ old.done.items ++ old.line ∷ [] = d ∙ ap (λ l. old.done.items ++ l ∷ []) line_is in
+    record {
+      lays = λ width overflow f h.
+          record {
+            same_width = w ∙ h.same_width;
+            same_overflow = o ∙ h.same_overflow;
+            done = ap (map (line_items seen)) pushed_is ∙ map-append (line_items seen) old.done.items (old.line ∷ []) ∙ ap (λ front. front ++ line_items seen old.line ∷ []) h.done
+                ∙ ap (λ last. map marks_items f.done ++ last) (ended_shows f.line (line_items seen old.line) h.line some) ∙ sym (map-append marks_items f.done (ended f.line));
+            line = none;
+            joined = record { done = subst (All (IsJoined seen)) (sym pushed_is) (All-push (IsJoined seen) old.done.items old.line h.joined.done h.joined.line); line = joined };
+          };
     }
 
 -- ---- a unit that fits a line
@@ -97,8 +123,9 @@ pub unit_pushed : {T S : Type 0} (seen : T → S) (old mid new : Filling T) (spa
     → gap_columns ≡ space_columns space → word_columns ≡ line_columns word → Lays seen old mid (with_room (gap_columns + word_columns))
     → new.width ≡ mid.width → new.allow_overflow ≡ mid.allow_overflow → new.done.items ≡ mid.done.items
     → line_items seen new.line ≡ line_items seen mid.line ++ space_behind (line_items seen mid.line) space ++ word
+    → (IsJoined seen mid.line → IsJoined seen new.line)
     → LaysWhole seen old new space word
-unit_pushed seen old mid new space word gap_columns word_columns gap_is word_is made w o d added =
+unit_pushed seen old mid new space word gap_columns word_columns gap_is word_is made w o d added joins =
     record {
       lays_whole = λ l ls is.
           record {
@@ -112,7 +139,7 @@ unit_pushed seen old mid new space word gap_columns word_columns gap_is word_is 
                 ∙ ap (λ rest. line_items seen mid.line ++ (space_behind (marks_items g.line) space ++ rest)) is
                 ∙ ap (λ rest. line_items seen mid.line ++ rest) (sym (unit_items g.line space l ls)) in
                 subst (HoldsLines seen width overflow new) (sym (add_by_room width f.done f.line ms (gap_columns + word_columns) more))
-                (holds_pushed seen width overflow mid new g ms held w o d items);
+                (holds_pushed seen width overflow mid new g ms held w o d items joins);
           };
     }
 
@@ -175,32 +202,35 @@ cuts_marker seen old name = record { cuts = λ ms shows. absurd (no_marker ms na
 lone : {T S : Type 0} (seen : T → S) (old mid new : Filling T) (m : Mark S) (code : ℕ) (tag : S) (letter_columns : ℕ)
     → gap m.joint ≡ 0 → m.letter.code ≡ code → m.letter.tag ≡ tag → letter_columns ≡ width_of code → Lays seen old mid (with_room (0 + letter_columns))
     → new.width ≡ mid.width → new.allow_overflow ≡ mid.allow_overflow → new.done.items ≡ mid.done.items → line_items seen new.line ≡ line_items seen mid.line ++ character code tag ∷ []
+    → (IsJoined seen mid.line → IsJoined seen new.line)
     → (width : ℕ) (overflow : Bool) (f : Filled S) → HoldsLines seen width overflow old f → HoldsLines seen width overflow new (add_mark width f m)
-lone seen old mid new m code tag letter_columns gapless code_is tag_is columns_are made w o d added width overflow f h =
+lone seen old mid new m code tag letter_columns gapless code_is tag_is columns_are made w o d added joins width overflow f h =
     let more = lone_columns m gapless ∙ ap (λ c. 0 + width_of c) code_is ∙ ap (λ k. 0 + k) (sym columns_are) in
     let g = with_room (0 + letter_columns) width f in
     let items = added ∙ ap (λ c. line_items seen mid.line ++ character c tag ∷ []) (sym code_is) ∙ ap (λ t. line_items seen mid.line ++ character m.letter.code t ∷ []) (sym tag_is)
     ∙ ap (λ rest. line_items seen mid.line ++ rest) (sym (lone_items g.line m gapless)) in
     subst (HoldsLines seen width overflow new) (sym (add_by_room width f.done f.line (m ∷ []) (0 + letter_columns) more))
-    (holds_pushed seen width overflow mid new g (m ∷ []) (made.lays width overflow f h) w o d items)
+    (holds_pushed seen width overflow mid new g (m ∷ []) (made.lays width overflow f h) w o d items joins)
 
 lone_list : {T S : Type 0} (seen : T → S) (old mid new : Filling T) (ms : List (Mark S)) (code : ℕ) (tag : S) (letter_columns : ℕ)
     → AreGapless ms → map (λ (m : Mark S). character m.letter.code m.letter.tag) ms ≡ character code tag ∷ [] → letter_columns ≡ width_of code → Lays seen old mid (with_room (0 + letter_columns))
     → new.width ≡ mid.width → new.allow_overflow ≡ mid.allow_overflow → new.done.items ≡ mid.done.items → line_items seen new.line ≡ line_items seen mid.line ++ character code tag ∷ []
+    → (IsJoined seen mid.line → IsJoined seen new.line)
     → (width : ℕ) (overflow : Bool) (f : Filled S) → HoldsLines seen width overflow old f → HoldsLines seen width overflow new (fold (add_mark width) f ms)
-lone_list seen old mid new [] code tag letter_columns gapless shown columns_are made w o d added width overflow f h = cc
-lone_list seen old mid new (m ∷ n ∷ ms) code tag letter_columns gapless shown columns_are made w o d added width overflow f h = cc
-lone_list seen old mid new (m ∷ []) code tag letter_columns gapless shown columns_are made w o d added width overflow f h =
+lone_list seen old mid new [] code tag letter_columns gapless shown columns_are made w o d added joins width overflow f h = cc
+lone_list seen old mid new (m ∷ n ∷ ms) code tag letter_columns gapless shown columns_are made w o d added joins width overflow f h = cc
+lone_list seen old mid new (m ∷ []) code tag letter_columns gapless shown columns_are made w o d added joins width overflow f h =
     let code_is : m.letter.code ≡ code = cc in
     let tag_is : m.letter.tag ≡ tag = cc in
-    lone seen old mid new m code tag letter_columns gapless.0 code_is tag_is columns_are made w o d added width overflow f h
+    lone seen old mid new m code tag letter_columns gapless.0 code_is tag_is columns_are made w o d added joins width overflow f h
 
 pub cuts_letter : {T S : Type 0} (seen : T → S) (old mid new : Filling T) (code : ℕ) (tag : S) (letter_columns : ℕ)
     → letter_columns ≡ width_of code → Lays seen old mid (with_room (0 + letter_columns))
     → new.width ≡ mid.width → new.allow_overflow ≡ mid.allow_overflow → new.done.items ≡ mid.done.items → line_items seen new.line ≡ line_items seen mid.line ++ tagged (code ∷ []) tag
+    → (IsJoined seen mid.line → IsJoined seen new.line)
     → Cuts seen old new (tagged (code ∷ []) tag)
-cuts_letter seen old mid new code tag letter_columns columns_are made w o d added =
-    record { cuts = λ ms shows. record { lays = lone_list seen old mid new ms code tag letter_columns shows.gapless shows.shown columns_are made w o d added } }
+cuts_letter seen old mid new code tag letter_columns columns_are made w o d added joins =
+    record { cuts = λ ms shows. record { lays = lone_list seen old mid new ms code tag letter_columns shows.gapless shows.shown columns_are made w o d added joins } }
 
 pub cut_laid : {T S : Type 0} (seen : T → S) (old mid new : Filling T) (items : List (Item S)) → Lays seen old mid (λ width f. filled (all_lines f) []) → Cuts seen mid new items → LaysCut seen old new items
 cut_laid seen old mid new items fresh cut =

@@ -1,5 +1,7 @@
 -- A loop that changes each element of a list in turn.
-use Rattle.std.proofs.Common.{◌≡◌, ℕ, ◌+◌, ◌<◌, ◌≤◌, List, [], ◌∷◌, ◌++◌, map, take, drop, set, length, get_or, sym, ap, ◌∙◌, append_assoc, arith}
+use Rattle.std.proofs.Common.{◌≡◌, ℕ, ◌+◌, ◌<◌, ◌≤◌, List, [], ◌∷◌, ◌++◌, map, take, drop, set, length, get_or, sym, ap, ◌∙◌, subst, append_assoc, arith}
+use Rattle.std.specs.Prelude.{All}
+use Rattle.std.proofs.lemmas.List.Elements.{All-set, All-get_or}
 use Rattle.std.proofs.lemmas.List.{map_more, drop_more, get_or_at, set_at, length-map, length-take-le, append-nil, take_all, take_at, drop_all, map-set, get_or-map}
 
 -- the first i elements are changed
@@ -32,3 +34,10 @@ pub all_views : {A X : Type 0} (view : A → X) (change : X → X) (first start 
     → map view (take n (now ++ drop (length now) first)) ≡ map change (map view first)
 all_views view change first start now i n same past long so_far =
     ap (map view) (take_at now (drop (length now) first) n long) ∙ all_changed change (map view start) (map view now) i (omega (arith, past, length-map start view)) so_far ∙ ap (λ xs. map change (map view xs)) same
+
+-- what a change keeps of an element, the loop keeps of all
+pub joined_more : {A : Type 0} (P : A → Type 0) (now : List A) (i : ℕ) (a b : A) → i < length now → a ≡ get_or now i a → All P now → (P (get_or now i a) → P b) → All P (set now i b)
+joined_more P now i a b inside read all keeps = All-set P now i b (keeps (All-get_or P now i a inside all)) all
+
+pub all_joined : {A : Type 0} (P : A → Type 0) (first start now : List A) (n : ℕ) → start ≡ first → length now ≡ n → (All P start → All P now) → All P first → All P (take n (now ++ drop (length now) first))
+all_joined P first start now n same long keeps all = subst (All P) (sym (take_at now (drop (length now) first) n long)) (keeps (subst (All P) (sym same) all))

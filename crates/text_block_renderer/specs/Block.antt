@@ -2,7 +2,7 @@
 use Rattle.std.specs.Prelude.{◌≡◌, ℕ, ◌+◌, ◌-◌, ◌<◌, Bool, false, ◌||◌, nat_le, List, [], ◌∷◌, ◌++◌, Option, None, Some, map, fold, replicate, All, IsTrue, if◌then◌else◌, chars, string_bytes}
 use Rattle.std.specs.Option.{option_map}
 use Rattle.text_decorators.specs.Columns.{width_of}
-use Rattle.text_decorators.specs.Tagged.{Item, character, line_items, line_columns}
+use Rattle.text_decorators.specs.Tagged.{Item, character, line_items, line_columns, IsJoined}
 use Rattle.text_decorators.specs.declared.tagged_string.TaggedString.{TaggedString}
 use Rattle.text_block_renderer.specs.Units.{Letter, piece, lettered, is_break_point, is_white_space, first_of, has_columns, is_filled}
 use Rattle.text_block_renderer.specs.Layout.{Mark, opens, inside, marked, columns, marks_items, gap, AreLinesOf}
@@ -67,12 +67,18 @@ pub record HasWider {S : Type 0} (width : ℕ) (overflow : Bool) (ls : List (Let
   pub stands : is_break_point letter.code ≡ false
   pub wider : width < width_of letter.code
 
+-- no text of the lines is empty, and none stands next to one with an equal tag
+pub record AreAllJoined {T S : Type 0} (seen : T → S) (filling : Filling T) : Type 0 where
+  pub done : All (IsJoined seen) filling.done.items
+  pub line : IsJoined seen filling.line
+
 -- The lines that were laid so far, and the line at hand.
 pub record HoldsLines {T S : Type 0} (seen : T → S) (width : ℕ) (overflow : Bool) (filling : Filling T) (f : Filled S) : Type 0 where
   pub same_width : filling.width ≡ width
   pub same_overflow : filling.allow_overflow ≡ overflow
   pub done : map (line_items seen) filling.done.items ≡ map marks_items f.done
   pub line : line_items seen filling.line ≡ marks_items f.line
+  pub joined : AreAllJoined seen filling
 
 -- What lines hold before a call, the step makes what they hold after it.
 pub record Lays {T S : Type 0} (seen : T → S) (old new : Filling T) (step : ℕ → Filled S → Filled S) : Type 0 where

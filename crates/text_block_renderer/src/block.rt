@@ -1,5 +1,5 @@
 ghost use Rattle.std.specs.Prelude.{◌≡◌, ◌⊎◌, ℕ, Bool, true, false, ◌||◌, nat_le, List, [], ◌∷◌, ◌++◌, map, chars, is_err, IsTrue, All, ◌≤◌, IfOk, IfErr, OnOk, if◌then◌else◌};
-ghost use Rattle.text_decorators.specs.Tagged.{line_items, line_columns};
+ghost use Rattle.text_decorators.specs.Tagged.{line_items, line_columns, IsJoined};
 ghost use Rattle.text_block_renderer.specs.Units.{is_break_point};
 ghost use Rattle.text_block_renderer.specs.Block.{padded};
 
@@ -26,10 +26,10 @@ pub struct WrappedBlock<T> {
 }
 
 impl<T: EqualCopy + Drop> WrappedBlock<T> {
-    ghost use Rattle.text_block_renderer.specs.Units.{Letter, lettered, is_filled};
+    ghost use Rattle.text_block_renderer.specs.Units.{Letter, lettered};
     ghost use Rattle.text_block_renderer.specs.Layout.{marks_items, AreLinesOf, NeverFits};
-    ghost use Rattle.text_block_renderer.specs.Filling.{Reading, read_letters, nothing_read, lines_read};
-    ghost use Rattle.text_block_renderer.specs.Block.{has_failed, padding_of, HasRead, HasWider, ArePaddedLinesOf, HoldsReading, Moves, Reads, MeetsWider, end_read, space_read, word_read, lay_read};
+    ghost use Rattle.text_block_renderer.specs.Filling.{read_letters, nothing_read, lines_read};
+    ghost use Rattle.text_block_renderer.specs.Block.{has_failed, padding_of, HasRead, HasWider, ArePaddedLinesOf, Moves, Reads, MeetsWider, end_read, space_read, word_read, lay_read};
 
     /// An empty block of lines of at most `width` columns. With `pad_blocks` each line is filled to the
     /// width with spaces tagged `default_tag`; with `allow_overflow` a character wider than the width
@@ -196,6 +196,8 @@ impl<T: EqualCopy + Drop> WrappedBlock<T> {
         ensures within { IfOk result (λ lines. (width : ℕ) (read : List (Letter T.Seen))
             → HasRead T.seen width false read self → padding_of T.seen self ≡ None
             → All (λ items. line_columns items ≤ width) (map (line_items T.seen) lines.items)) }
+        ensures joined { IfOk result (λ lines. (width : ℕ) (overflow : Bool) (read : List (Letter T.Seen))
+            → HasRead T.seen width overflow read self → All (IsJoined T.seen) lines.items) }
     {
         if self.failed {
             Err(BlockError::Failed)
@@ -211,6 +213,8 @@ impl<T: EqualCopy + Drop> WrappedBlock<T> {
             → HasRead T.seen width overflow read self
             → map (line_items T.seen) lines.items
             ≡ map (padded width (padding_of T.seen self)) (map marks_items (lines_read width (read_letters width nothing_read read)))) }
+        ensures joined { IfOk result (λ lines. (width : ℕ) (overflow : Bool) (read : List (Letter T.Seen))
+            → HasRead T.seen width overflow read self → All (IsJoined T.seen) lines.items) }
     {
         self.lay_word(alloc)?;
         let WrappedBlock {
@@ -247,8 +251,9 @@ fn pad_lines<T: EqualCopy + Drop>(
     width: usize,
     tag: &T,
 ) -> Result<Vec<TaggedLine<T>>, AllocError>
-    ensures { IfOk result (λ all. map (line_items T.seen) all.items
+    ensures filled_up { IfOk result (λ all. map (line_items T.seen) all.items
         ≡ map (padded width (Some (T.seen tag.now))) (map (line_items T.seen) lines.items)) }
+    ensures joined { All (IsJoined T.seen) lines.items → IfOk result (λ all. All (IsJoined T.seen) all.items) }
 {
     for line in lines.iter_mut() {
         pad(alloc, line, width, tag)?;
@@ -263,8 +268,9 @@ fn pad<T: EqualCopy + Drop>(
     width: usize,
     tag: &T,
 ) -> Result<(), AllocError>
-    ensures { OnOk result (line_items T.seen line.new
+    ensures filled_up { OnOk result (line_items T.seen line.new
         ≡ padded width (Some (T.seen tag.now)) (line_items T.seen line.old)) }
+    ensures joined { IsJoined T.seen line.old → IsJoined T.seen line.new }
 {
     let missing = width.saturating_sub(line.width());
     for _space in 0..missing {

@@ -1,6 +1,6 @@
-ghost use Rattle.std.specs.Prelude.{◌≡◌, ℕ, Bool, ◌+◌, ◌||◌, nat_le, [], ◌∷◌, ◌++◌, map, option_copied, chars, string_bytes, IfOk, IfErr, OnOk};
+ghost use Rattle.std.specs.Prelude.{◌≡◌, ℕ, Bool, ◌+◌, ◌||◌, nat_le, [], ◌∷◌, ◌++◌, map, All, option_copied, chars, string_bytes, IfOk, IfErr, OnOk};
 ghost use Rattle.std.specs.Option.{option_map};
-ghost use Rattle.text_decorators.specs.Tagged.{line_items, element_items, line_columns, tagged};
+ghost use Rattle.text_decorators.specs.Tagged.{line_items, element_items, line_columns, tagged, IsJoined};
 ghost use Rattle.text_block_renderer.specs.Block.{space_behind, space_columns};
 
 use crate::fault::BlockError;
@@ -19,7 +19,7 @@ pub(crate) struct Filling<T> {
 }
 
 impl<T: EqualCopy + Drop> Filling<T> {
-    ghost use Rattle.text_block_renderer.specs.Layout.{Mark, marks_items};
+    ghost use Rattle.text_block_renderer.specs.Layout.{marks_items};
     ghost use Rattle.text_block_renderer.specs.Filling.{Filled, filled, all_lines};
     ghost use Rattle.text_block_renderer.specs.Block.{HoldsLines, Lays, LaysUnit, LaysWhole, LaysCut, Cuts, with_room};
 
@@ -167,6 +167,8 @@ impl<T: EqualCopy + Drop> Filling<T> {
         ensures lines { IfOk result (λ lines. (width : ℕ) (overflow : Bool) (f : Filled T.Seen)
             → HoldsLines T.seen width overflow self f
             → map (line_items T.seen) lines.items ≡ map marks_items (all_lines f)) }
+        ensures joined { IfOk result (λ lines. (width : ℕ) (overflow : Bool) (f : Filled T.Seen)
+            → HoldsLines T.seen width overflow self f → All (IsJoined T.seen) lines.items) }
         ensures kinds { IfErr result (λ e. e ≡ BlockError.Memory) }
     {
         self.end_line(alloc)?;
@@ -192,9 +194,10 @@ fn push_behind<T: EqualCopy + Drop>(
     space: Option<&T>,
     word: &TaggedLine<T>,
 ) -> Result<(), AllocError>
-    ensures { OnOk result (line_items T.seen line.new ≡ line_items T.seen line.old
+    ensures pushed { OnOk result (line_items T.seen line.new ≡ line_items T.seen line.old
         ++ space_behind (line_items T.seen line.old) (option_map T.seen (option_copied space.entry))
         ++ line_items T.seen word.now) }
+    ensures joined { IsJoined T.seen line.old → IsJoined T.seen line.new }
 {
     push_space(alloc, line, space)?;
     line.push_line(alloc, word)
@@ -206,8 +209,9 @@ fn push_space<T: EqualCopy + Drop>(
     line: &mut TaggedLine<T>,
     space: Option<&T>,
 ) -> Result<(), AllocError>
-    ensures { OnOk result (line_items T.seen line.new ≡ line_items T.seen line.old
+    ensures pushed { OnOk result (line_items T.seen line.new ≡ line_items T.seen line.old
         ++ space_behind (line_items T.seen line.old) (option_map T.seen (option_copied space.entry))) }
+    ensures joined { IsJoined T.seen line.old → IsJoined T.seen line.new }
 {
     if line.is_empty() {
         return Ok(());

@@ -1,6 +1,46 @@
-use crate::{BlockError, TaggedLine, TaggedString, WhiteSpace, WrappedBlock, wrapped_lines};
+ghost use Rattle.std.proofs.Common.{rules};
+
+use crate::{
+    BlockError, EqualCopy, TaggedLine, TaggedString, TooNarrow, WhiteSpace, WrappedBlock,
+    wrapped_lines,
+};
 use std::alloc::{AllocError, Global};
 use std::test::Fail;
+
+#[derive(Clone, Copy, Debug, PartialEq, Eq)]
+enum Mark {
+    Plain,
+    Strong,
+}
+
+impl EqualCopy for Mark {
+    ghost use Rattle.text_block_renderer.specs.declared.tests.Mark.{Mark};
+
+    ghost Seen = { Mark };
+
+    ghost seen = { λ mark. mark };
+
+    ghost same = { Prim.search rules };
+
+    ghost apart = { Prim.search rules };
+
+    fn copy(&self, _alloc: Global) -> Result<Mark, AllocError> {
+        Ok(*self)
+    }
+}
+
+/// The lines, each ended by `|`, and each text in them by `/`.
+fn shown_texts<T>(alloc: Global, lines: &[TaggedLine<T>]) -> Result<String, AllocError> {
+    let mut text = String::new(alloc);
+    for line in lines {
+        for element in line.iter() {
+            text.push_str(element.as_str())?;
+            text.push('/')?;
+        }
+        text.push('|')?;
+    }
+    Ok(text)
+}
 
 /// The lines, each ended by `|`.
 fn shown(alloc: Global, lines: &[TaggedLine<()>]) -> Result<String, AllocError> {
@@ -98,5 +138,39 @@ fn refused_for_good(rt: HostRuntime) -> Result<(), Fail> {
     assert!(rt; matches!(second, Err(BlockError::Failed)));
     let lines = block.into_lines(alloc);
     assert!(rt; matches!(lines, Err(BlockError::Failed)));
+    Ok(())
+}
+
+// The gap between two words has the tag of the first white space.
+#[test]
+fn tags_of_gaps(rt: HostRuntime) -> Result<(), Fail> {
+    let alloc = rt.alloc();
+    let mut block = WrappedBlock::new(alloc, 9, false, false, Mark::Plain);
+    block.add_text(alloc, "a ", WhiteSpace::Normal, &Mark::Plain, &Mark::Plain)?;
+    block.add_text(alloc, " b", WhiteSpace::Normal, &Mark::Strong, &Mark::Plain)?;
+    let lines = shown_texts(alloc, &block.into_lines(alloc)?)?;
+    assert_eq!(rt; lines.as_str(), "a /b/|");
+    let mut block = WrappedBlock::new(alloc, 9, false, false, Mark::Plain);
+    block.add_text(alloc, "a", WhiteSpace::Normal, &Mark::Plain, &Mark::Plain)?;
+    block.add_text(alloc, " b", WhiteSpace::Normal, &Mark::Strong, &Mark::Plain)?;
+    let lines = shown_texts(alloc, &block.into_lines(alloc)?)?;
+    assert_eq!(rt; lines.as_str(), "a/ b/|");
+    Ok(())
+}
+
+#[test]
+fn texts_of_errors(rt: HostRuntime) -> Result<(), Fail> {
+    let alloc = rt.alloc();
+    for (error, text) in [
+        (BlockError::TooNarrow, "output width not wide enough"),
+        (BlockError::Memory, "out of memory"),
+        (BlockError::Failed, "refused after an earlier refusal"),
+    ] {
+        assert_eq!(rt; format!(in alloc; "{error}")?.as_str(), text);
+    }
+    assert_eq!(rt;
+        format!(in alloc; "{TooNarrow}")?.as_str(),
+        "output width not wide enough"
+    );
     Ok(())
 }

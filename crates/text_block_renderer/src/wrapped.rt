@@ -1,5 +1,5 @@
 ghost use Rattle.std.specs.Prelude.{◌≡◌, ◌⊎◌, false, map, All, ◌≤◌, IfOk, IfErr};
-ghost use Rattle.text_decorators.specs.Tagged.{line_items, line_columns};
+ghost use Rattle.text_decorators.specs.Tagged.{line_items, line_columns, IsJoined};
 ghost use Rattle.text_block_renderer.specs.Layout.{AreLinesOf, NeverFits};
 ghost use Rattle.text_block_renderer.specs.Block.{letters_of};
 
@@ -20,6 +20,7 @@ pub fn wrapped_lines<T: EqualCopy + Drop>(
 ) -> Result<Vec<TaggedLine<T>>, BlockError>
     ensures lines { IfOk result (λ lines. AreLinesOf width allow_overflow (letters_of T.seen pieces.now) (map (line_items T.seen) lines.items)) }
     ensures within { allow_overflow ≡ false → IfOk result (λ lines. All (λ items. line_columns items ≤ width) (map (line_items T.seen) lines.items)) }
+    ensures joined { IfOk result (λ lines. All (IsJoined T.seen) lines.items) }
     ensures narrow { result ≡ Err BlockError.TooNarrow → (allow_overflow ≡ false) × NeverFits width false (letters_of T.seen pieces.now) }
     ensures kinds { IfErr result (λ e. (e ≡ BlockError.TooNarrow) ⊎ (e ≡ BlockError.Memory)) }
 {

@@ -1,7 +1,9 @@
 -- Texts and markers that are added at the end of a line's elements.
 use Rattle.std.proofs.Common.{◌≡◌, ℕ, ◌+◌, ◌-◌, ◌<◌, subst, List, [], ◌∷◌, ◌++◌, length, get_or, set, take, sym, ap, ◌∙◌, refl, append_assoc, arith}
 use Rattle.std.specs.Prelude.{Option, None, Some, Result, Ok, Err, OnOk, OnErr, chars, string_bytes, IsSomeAnd, slice_get}
-use Rattle.std.proofs.lemmas.Str.{chars-append, chars-nil, IsUtf8-string_bytes}
+use Rattle.std.proofs.lemmas.Str.{chars-append, chars-nil, chars_past_char, IsUtf8-encode, IsUtf8-string_bytes}
+use Rattle.std.specs.Char.{IsScalar}
+use lib.Utf8.{encode}
 use Rattle.std.proofs.lemmas.List.{append-nil, map-append, take_all, take_more, take_more_set, length-set}
 use Rattle.std.proofs.lemmas.List.Sums.{sum_by-append}
 use Rattle.std.proofs.lemmas.Option.{slice_get-get_or}
@@ -116,6 +118,10 @@ last_kept seen es i e f last read extends =
 pub nothing_added : {S : Type 0} (items : List (Item S)) (text : List ℕ) (tag : S) → text ≡ [] → items ≡ items ++ tagged (chars text) tag
 nothing_added items text tag e =
     sym (append-nil items) ∙ ap (λ cs. items ++ tagged cs tag) (sym (ap chars e ∙ chars-nil))
+
+pub chars_of_one : (c : ℕ) → IsScalar c → chars (encode c) ≡ c ∷ []
+chars_of_one c scalar =
+    chars_past_char (encode c) [] c (IsUtf8-encode c scalar) (sym (append-nil (encode c))) ∙ ap (λ cs. c ∷ cs) chars-nil
 
 -- ---- a loop over the elements
 

@@ -1,15 +1,15 @@
 -- A text takes at most as many columns as it has bytes.
-use Rattle.std.proofs.Common.{◌≡◌, ℕ, ◌+◌, ◌<◌, ◌≤◌, Bool, true, false, cond, if◌then◌else◌, List, [], ◌∷◌, ◌++◌, length, get_or, take, ap, ◌∙◌, refl, arith, length-append, ltb, leb, min}
+use Rattle.std.proofs.Common.{◌≡◌, ℕ, zero, suc, ◌+◌, ◌<◌, ◌≤◌, Bool, true, false, cond, if◌then◌else◌, List, [], ◌∷◌, ◌++◌, length, get_or, take, ap, ◌∙◌, refl, arith, length-append, ltb, leb, min, inr, subst}
 use Rattle.std.specs.Prelude.{Option, None, Some, IfSome, unwrap_or}
 use Rattle.std.specs.Option.{option_map}
 use Rattle.std.specs.Char.{len_utf8}
-use Rattle.std.specs.Str.{chars, IsUtf8}
-use Rattle.std.proofs.lemmas.Str.{length-encode, encodes-chars}
+use Rattle.std.specs.Str.{chars, IsUtf8, IsAscii}
+use Rattle.std.proofs.lemmas.Str.{length-encode, encodes-chars, chars-IsAscii}
 use Rattle.std.proofs.lemmas.List.Sums.{sum_by-cons, sum_by_more, sum_by_more_le}
 use Rattle.std.proofs.lemmas.List.{take_all, length_push}
 use Rattle.std.proofs.lemmas.Bool.Decides.{nat_tests}
 use Rattle.unicode_width.specs.Width.{char_width, alone}
-use Rattle.text_decorators.specs.Columns.{columns_of, width_of, text_columns, is_border, columns_of-at_most_two}
+use Rattle.text_decorators.specs.Columns.{columns_of, width_of, text_columns, is_border, columns_of-at_most_two, columns_of-one}
 use lib.Utf8.{encodes, encode}
 
 most_of : (o : Option ℕ) (m : ℕ) → IfSome o (λ n. n ≤ m) → unwrap_or o 0 ≤ m
@@ -69,6 +69,10 @@ width_of-columns_of : (x w : ℕ) (o : Option ℕ) → o ≡ columns_of x → w 
 unfolding width_of
 width_of-columns_of x w o eo ew = ew ∙ ap (λ p. unwrap_or p 0) eo
 
+-- a text of one character
+pub one_counted : (x w : ℕ) (o : Option ℕ) → o ≡ columns_of x → w ≡ unwrap_or o 0 → w ≡ text_columns (x ∷ [])
+one_counted x w o eo ew = let width = width_of-columns_of x w o eo ew in omega (arith, width, sum_by-cons width_of x [])
+
 -- one more character, in a loop that has counted the first n
 pub one_more : (cs seen : List ℕ) (x w columns : ℕ) (o : Option ℕ) → (length seen < length cs) × (x ≡ get_or cs (length seen) x) → columns ≡ text_columns (take (length seen) cs)
     → o ≡ columns_of x → w ≡ unwrap_or o 0 → (columns + w ≡ text_columns (take (length (seen ++ x ∷ [])) cs)) × (columns + w ≤ text_columns cs)
@@ -82,3 +86,26 @@ one_more cs seen x w columns o at so_far eo ew =
 
 pub all_counted : (cs seen : List ℕ) (columns : ℕ) → length seen ≡ length cs → columns ≡ text_columns (take (length seen) cs) → columns ≡ text_columns cs
 all_counted cs seen columns all so_far = so_far ∙ ap text_columns (take_all (length seen) cs (omega (arith, all)))
+
+-- ---- printable ASCII
+
+one_column : (c : ℕ) → (0x20 ≤ c) × (c ≤ 0x7E) → width_of c ≡ 1
+unfolding width_of
+one_column c h = ap (λ o. unwrap_or o 0) (columns_of-one c (inr h))
+
+printable_columns : (bs : List ℕ) → ((k : ℕ) → k < length bs → (0x20 ≤ get_or bs k 0) × (get_or bs k 0 ≤ 0x7E)) → text_columns bs ≡ length bs
+printable_columns [] h = refl
+printable_columns (b ∷ bs) h =
+    let one = one_column b (h 0 (omega arith)) in
+    let rest = printable_columns bs (λ k inside. h (suc k) (omega (arith, inside))) in
+    omega (arith, one, rest, sum_by-cons width_of b bs)
+
+printable_ascii : (bs : List ℕ) → ((k : ℕ) → k < length bs → (0x20 ≤ get_or bs k 0) × (get_or bs k 0 ≤ 0x7E)) → IsAscii bs
+printable_ascii [] h i = omega arith
+printable_ascii (b ∷ bs) h zero = let most = h 0 (omega arith) in omega (arith, most)
+printable_ascii (b ∷ bs) h (suc i) = printable_ascii bs (λ k inside. h (suc k) (omega (arith, inside))) i
+
+pub printable_counted : (bs all : List ℕ) → all ≡ bs → ((k : ℕ) → k < length all → (0x20 ≤ get_or all k 0) × (get_or all k 0 ≤ 0x7E)) → text_columns (chars bs) ≡ length bs
+printable_counted bs all same h =
+    let whole = ap text_columns (chars-IsAscii all (printable_ascii all h)) ∙ printable_columns all h in
+    subst (λ xs. text_columns (chars xs) ≡ length xs) same whole

@@ -30,10 +30,12 @@ impl Columns for UnicodeColumns {
 
     #[tactic(auto, unfolding(crate::specs::Columns::columns_of))]
     fn columns(c: char) -> Option<usize> {
-        if is_border(c) {
-            return Some(1);
+        match c {
+            // printable ASCII, the common case
+            ' '..='~' => Some(1),
+            _ if is_border(c) => Some(1),
+            _ => c.width().map(|n| n.min(2)),
         }
-        c.width().map(|n| n.min(2))
     }
 }
 

@@ -29,6 +29,27 @@ pub(crate) fn push_text<T: EqualCopy + Drop>(
     }
 }
 
+/// Adds a text of one character at the end, as `push_text`.
+pub(crate) fn push_character<T: EqualCopy + Drop>(
+    elements: &mut Vec<TaggedLineElement<T>>,
+    alloc: Global,
+    c: char,
+    tag: &T,
+) -> Result<(), AllocError>
+    ensures ok { OnOk result (elements_items T.seen elements.new.items
+        ≡ elements_items T.seen elements.old.items ++ tagged (c ∷ []) (T.seen tag.now)) }
+    ensures err { OnErr result (elements_items T.seen elements.new.items
+        ≡ elements_items T.seen elements.old.items) }
+    ensures joined { AreJoined T.seen elements.old.items → AreJoined T.seen elements.new.items }
+{
+    if ends_with_tag(elements, tag) {
+        extend_last_by(elements, c)
+    } else {
+        let mut bytes = [0; 4];
+        push_new(elements, alloc, c.encode_utf8(&mut bytes), tag)
+    }
+}
+
 /// Adds a marker at the end.
 pub(crate) fn push_marker<T: EqualCopy + Drop>(
     elements: &mut Vec<TaggedLineElement<T>>,
@@ -70,6 +91,23 @@ fn extend_last<T: EqualCopy + Drop>(
 {
     let last = elements.len() - 1;
     elements[last].push_str(text)
+}
+
+// Adds the character to the text of the last element.
+fn extend_last_by<T: EqualCopy + Drop>(
+    elements: &mut Vec<TaggedLineElement<T>>,
+    c: char,
+) -> Result<(), AllocError>
+    requires { 0 < vec_len elements.old }
+    ensures ok { OnOk result ((tag : T.Seen) → EndsWithTag T.seen tag elements.old.items
+        → elements_items T.seen elements.new.items
+        ≡ elements_items T.seen elements.old.items ++ tagged (c ∷ []) tag) }
+    ensures err { OnErr result (elements_items T.seen elements.new.items
+        ≡ elements_items T.seen elements.old.items) }
+    ensures joined { AreJoined T.seen elements.old.items → AreJoined T.seen elements.new.items }
+{
+    let last = elements.len() - 1;
+    elements[last].push(c)
 }
 
 // Adds the text as an element of its own.

@@ -4,8 +4,9 @@ ghost use Rattle.std.specs.Vec.Iter.{into_iter_items, into_iter_len};
 ghost use Rattle.text_decorators.specs.Columns.{text_columns};
 ghost use Rattle.text_decorators.specs.Elements.{elements_text};
 
+use crate::columns::{Columns, UnicodeColumns};
 use crate::equal_copy::EqualCopy;
-use crate::joining::{push_marker, push_text};
+use crate::joining::{push_character, push_marker, push_text};
 use crate::line_iterators::{LineChars, TaggedStrings};
 use crate::tagged_string::{TaggedLineElement, columns_of};
 use std::alloc::{AllocError, Global};
@@ -20,7 +21,7 @@ pub struct TaggedLine<T> {
 }
 
 impl<T: EqualCopy + Drop> TaggedLine<T> {
-    ghost use Rattle.text_decorators.specs.Tagged.{line_items, element_items, tagged, line_columns, IsJoined};
+    ghost use Rattle.text_decorators.specs.Tagged.{line_items, element_items, element_text, tagged, line_columns, IsJoined};
 
     /// A line without text.
     pub fn new(alloc: Global) -> TaggedLine<T>
@@ -65,14 +66,7 @@ impl<T: EqualCopy + Drop> TaggedLine<T> {
         ensures err { OnErr result (line_items T.seen self.new ≡ line_items T.seen self.old) }
         ensures joined { IsJoined T.seen self.old → IsJoined T.seen self.new }
     {
-        // No memory holds a text of more columns than a `usize` counts.
-        let columns = self
-            .columns
-            .checked_add(columns_of(text))
-            .ok_or(AllocError)?;
-        push_text(&mut self.elements, alloc, text, tag)?;
-        self.columns = columns;
-        Ok(())
+        self.push_counted(alloc, text, columns_of(text), tag)
     }
 
     /// Adds a character at the end. The error is want of memory alone, and leaves the line as it was.
@@ -82,8 +76,13 @@ impl<T: EqualCopy + Drop> TaggedLine<T> {
         ensures err { OnErr result (line_items T.seen self.new ≡ line_items T.seen self.old) }
         ensures joined { IsJoined T.seen self.old → IsJoined T.seen self.new }
     {
-        let mut bytes = [0; 4];
-        self.push_str(alloc, c.encode_utf8(&mut bytes), tag)
+        let wider = self
+            .columns
+            .checked_add(UnicodeColumns::columns(c).unwrap_or(0))
+            .ok_or(AllocError)?;
+        push_character(&mut self.elements, alloc, c, tag)?;
+        self.columns = wider;
+        Ok(())
     }
 
     /// Adds another line at the end. The error is want of memory alone; the line may then have taken a
@@ -93,14 +92,24 @@ impl<T: EqualCopy + Drop> TaggedLine<T> {
             ≡ line_items T.seen self.old ++ line_items T.seen other.now) }
         ensures joined { IsJoined T.seen self.old → IsJoined T.seen self.new }
     {
+        // The common case: a line of one element has that element's columns.
+        if let [element] = other.elements.as_slice() {
+            return self.push_copy(alloc, element, other.columns);
+        }
         for element in &other.elements {
-            self.push_copy(alloc, element)?;
+            self.push_copy(alloc, element, element.width())?;
         }
         Ok(())
     }
 
-    // Adds a copy of the element at the end.
-    fn push_copy(&mut self, alloc: Global, element: &TaggedLineElement<T>) -> Result<(), AllocError>
+    // Adds a copy of the element, which has that many columns, at the end.
+    fn push_copy(
+        &mut self,
+        alloc: Global,
+        element: &TaggedLineElement<T>,
+        columns: usize,
+    ) -> Result<(), AllocError>
+        requires { columns ≡ text_columns (chars (element_text element.now)) }
         ensures ok { OnOk result (line_items T.seen self.new
             ≡ line_items T.seen self.old ++ element_items T.seen element.now) }
         ensures err { OnErr result (line_items T.seen self.new ≡ line_items T.seen self.old) }
@@ -108,12 +117,33 @@ impl<T: EqualCopy + Drop> TaggedLine<T> {
     {
         match element {
             TaggedLineElement::Str(string) => {
-                self.push_str(alloc, string.s.as_str(), &string.tag)
+                self.push_counted(alloc, string.s.as_str(), columns, &string.tag)
             }
             TaggedLineElement::FragmentStart(name) => {
                 push_marker(&mut self.elements, alloc, name.as_str())
             }
         }
+    }
+
+    // Adds a text, which has that many columns, at the end.
+    fn push_counted(
+        &mut self,
+        alloc: Global,
+        text: &str,
+        columns: usize,
+        tag: &T,
+    ) -> Result<(), AllocError>
+        requires { columns ≡ text_columns (chars text.now) }
+        ensures ok { OnOk result (line_items T.seen self.new
+            ≡ line_items T.seen self.old ++ tagged (chars text.now) (T.seen tag.now)) }
+        ensures err { OnErr result (line_items T.seen self.new ≡ line_items T.seen self.old) }
+        ensures joined { IsJoined T.seen self.old → IsJoined T.seen self.new }
+    {
+        // No memory holds a text of more columns than a `usize` counts.
+        let columns = self.columns.checked_add(columns).ok_or(AllocError)?;
+        push_text(&mut self.elements, alloc, text, tag)?;
+        self.columns = columns;
+        Ok(())
     }
 }
 

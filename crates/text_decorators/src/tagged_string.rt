@@ -1,4 +1,4 @@
-ghost use Rattle.std.specs.Prelude.{◌≡◌, ◌↔◌, [], chars, string_bytes, IfOk, OnOk, OnErr, IsTrue};
+ghost use Rattle.std.specs.Prelude.{◌≡◌, ◌≤◌, ◌↔◌, [], length, chars, encode_utf8, string_bytes, IfOk, OnOk, OnErr, IsTrue};
 ghost use Rattle.text_decorators.specs.Columns.{text_columns};
 
 use crate::columns::{Columns, UnicodeColumns};
@@ -96,6 +96,17 @@ impl<T> TaggedLineElement<T> {
         }
     }
 
+    /// Adds a character to the text; a marker stays as it is.
+    pub(crate) fn push(&mut self, c: char) -> Result<(), AllocError>
+        ensures ok { OnOk result (Extends self.old self.new (encode_utf8 c)) }
+        ensures err { OnErr result (Extends self.old self.new []) }
+    {
+        match self {
+            TaggedLineElement::Str(string) => string.s.push(c),
+            TaggedLineElement::FragmentStart(_) => Ok(()),
+        }
+    }
+
     /// The same element, with what `f` makes of a text's tag.
     pub fn map_tag<U, F: Fn(T) -> U>(self, f: &F) -> TaggedLineElement<U>
         requires { F.IsAlwaysCallable f.now }
@@ -143,9 +154,30 @@ impl<T: EqualCopy> TaggedLineElement<T> {
 pub(crate) fn columns_of(text: &str) -> usize
     ensures { result ≡ text_columns (chars text.now) }
 {
+    // The common case: a text of printable ASCII has a column for each byte.
+    if has_only_printable_ascii(text) {
+        return text.len();
+    }
     let mut columns = 0usize;
     for c in text.chars() {
         columns += UnicodeColumns::columns(c).unwrap_or(0);
     }
     columns
+}
+
+fn has_only_printable_ascii(text: &str) -> bool
+    ensures { IsTrue result → text_columns (chars text.now) ≡ length text.now }
+{
+    for byte in text.as_bytes() {
+        if !is_printable_ascii(*byte) {
+            return false;
+        }
+    }
+    true
+}
+
+fn is_printable_ascii(byte: u8) -> bool
+    ensures { IsTrue result ↔ ((0x20 ≤ byte) × (byte ≤ 0x7E)) }
+{
+    matches!(byte, b' '..=b'~')
 }

@@ -71,6 +71,11 @@ fn lines_join(rt: HostRuntime) -> Result<(), Fail> {
     line.push_line(alloc, &other)?;
     assert_eq!(rt; texts_of(alloc, &line)?.as_str(), "abcd|");
     assert!(rt; line != other);
+    let mut longer = other;
+    longer.push_char(alloc, '漢', &Mark::Strong)?;
+    line.push_line(alloc, &longer)?;
+    assert_eq!(rt; texts_of(alloc, &line)?.as_str(), "abcdcd|漢|");
+    assert_eq!(rt; line.width(), 8);
     Ok(())
 }
 
@@ -81,7 +86,7 @@ fn markers_stand_between(rt: HostRuntime) -> Result<(), Fail> {
     let marker: TaggedLineElement<Mark> = TaggedLineElement::FragmentStart(name);
     let mut line = TaggedLine::new(alloc);
     line.push_char(alloc, 'a', &Mark::Plain)?;
-    line.push_copy(alloc, &marker)?;
+    line.push_copy(alloc, &marker, marker.width())?;
     line.push_char(alloc, 'b', &Mark::Plain)?;
     assert_eq!(rt; line.width(), 2);
     assert_eq!(rt; texts_of(alloc, &line)?.as_str(), "a|b|");

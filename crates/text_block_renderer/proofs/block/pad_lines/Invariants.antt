@@ -1,6 +1,6 @@
 use Rattle.std.proofs.Common.{◌≡◌, ◌++◌, map, take, drop}
-use Rattle.std.specs.Prelude.{Some}
-use Rattle.text_decorators.specs.Tagged.{line_items}
+use Rattle.std.specs.Prelude.{Some, All}
+use Rattle.text_decorators.specs.Tagged.{line_items, IsJoined}
 use Rattle.text_block_renderer.specs.Block.{padded}
 use Rattle.text_block_renderer.proofs.block.pad_lines.Given as goal
 
@@ -8,4 +8,7 @@ abbrev pub invariant-loop-line : goal.invariant-loop-line
 invariant-loop-line g l =
     let seen = g.T.EqualCopy.seen in
     let start = map (line_items seen) l.initial.line-items in
-    map (line_items seen) l.line-items ≡ map (padded l.width (Some (seen l.tag))) (take l.line-index start) ++ drop l.line-index start
+    record {
+      views : map (line_items seen) l.line-items ≡ map (padded l.width (Some (seen l.tag))) (take l.line-index start) ++ drop l.line-index start;
+      joined : All (IsJoined seen) l.initial.line-items → All (IsJoined seen) l.line-items;
+    }

@@ -4,7 +4,7 @@ use Rattle.std.proofs.lemmas.Result.{err_from_is_err_and}
 use Rattle.text_block_renderer.specs.Units.{lettered}
 use Rattle.text_block_renderer.specs.Layout.{NeverFits}
 use Rattle.text_block_renderer.specs.Block.{HasRead, letters_of}
-use Rattle.text_block_renderer.proofs.BlockFinal.{letters_more, pieces_never, same_error}
+use Rattle.text_block_renderer.proofs.BlockFinal.{letters_more, pieces_never, same_error, if_ok_map}
 use Rattle.text_block_renderer.proofs.wrapped.wrapped_lines.Goals as goal
 
 pub loop-piece-preserved : goal.loop-piece-preserved
@@ -31,3 +31,8 @@ returns-in_err-add_text-clause-narrow g c = λ e.
       pieces_never seen c.args.width c.args.pieces.now c.loop-piece.piece-index p c.loop-piece-test.true c.piece-item.is
           (subst (λ bytes. NeverFits c.args.width false (so_far ++ lettered (chars bytes) (seen p.tag))) c.as_str.ensures.value never),
     )
+
+pub returns-clause-joined : goal.returns-clause-joined
+returns-clause-joined g c =
+    let so_far = letters_of g.T.EqualCopy.seen (take c.loop-piece.piece-index c.args.pieces.now) in
+    if_ok_map _ _ c.into_lines.result (λ lines all. all c.args.width c.args.allow_overflow so_far c.loop-piece.invariant.read) c.into_lines.ensures.joined

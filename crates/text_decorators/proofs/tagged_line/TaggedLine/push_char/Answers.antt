@@ -1,11 +1,13 @@
-use Rattle.std.proofs.Common.{[], ◌∷◌, ◌++◌, ap, sym, ◌∙◌}
-use Rattle.std.proofs.lemmas.Result.{on_ok_weaker}
-use Rattle.std.proofs.lemmas.Str.{chars_past_char, chars-nil}
-use Rattle.std.proofs.lemmas.List.{append-nil}
-use Rattle.text_decorators.specs.Tagged.{line_items, tagged}
+use Rattle.std.proofs.Common.{◌≡◌, ◌+◌, [], ◌∷◌, arith}
+use Rattle.text_decorators.proofs.Joins.{same_columns, text_added}
+use Rattle.text_decorators.proofs.Widths.{one_counted}
 use Rattle.text_decorators.proofs.tagged_line.TaggedLine.push_char.Goals as goal
 
-pub returns-clause-ok : goal.returns-clause-ok
-returns-clause-ok g c =
-    let one = chars_past_char c.encode_utf8.result.now [] c.args.c c.encode_utf8.utf8 (c.encode_utf8.ensures.value ∙ sym (append-nil _)) ∙ ap (λ cs. c.args.c ∷ cs) chars-nil in
-    on_ok_weaker c.push_str.result (λ h. h ∙ ap (λ cs. line_items g.T.EqualCopy.seen c.args.self.now ++ tagged cs (g.T.EqualCopy.seen c.args.tag.now)) one) c.push_str.ensures.ok
+pub invariant_of-self : goal.invariant_of-self
+invariant_of-self g c =
+    record { counted = same_columns g.T.EqualCopy.seen c.args.self.now.elements.items _ _ c.in_err-push_character.ensures.err c.args.self.now.counted }
+
+pub invariant_of-self-2 : goal.invariant_of-self-2
+invariant_of-self-2 g c =
+    let sum : c.in_ok-wider.wider ≡ c.args.self.now.columns + c.unwrap_or.result = grind arith in
+    record { counted = text_added g.T.EqualCopy.seen c.args.self.now.elements.items _ (c.args.c ∷ []) _ _ _ _ c.in_ok-push_character.ensures.ok c.args.self.now.counted (one_counted c.args.c _ _ c.columns.ensures c.unwrap_or.ensures) sum }
