@@ -83,7 +83,7 @@ or_right : (b c : Bool) → c ≡ true → (b || c) ≡ true
 or_right true c h = refl
 or_right false c h = h
 
-or_skips : (a b c : Bool) → b ≡ false → (a || (b || c)) ≡ (a || c)
+pub or_skips : (a b c : Bool) → b ≡ false → (a || (b || c)) ≡ (a || c)
 or_skips a true c h = cc
 or_skips a false c h = refl
 
@@ -119,14 +119,14 @@ break_read seen old mid new code tag is_break ended kept =
     }
 
 -- a letter that is no break point
-other_same : {S : Type 0} (width : ℕ) (r : Reading S) (l : Letter S) (b : Bool) → is_break_point l.code ≡ false → is_some (columns_of l.code) ≡ b
+pub other_same : {S : Type 0} (width : ℕ) (r : Reading S) (l : Letter S) (b : Bool) → is_break_point l.code ≡ false → is_some (columns_of l.code) ≡ b
     → read_letter width r l ≡ reading r.lines r.space (if b then r.letters ++ l ∷ [] else r.letters)
 other_same width r l b no_break some =
     if_false (is_break_point l.code) (if has_columns r.letters then reading (add_unit width r.lines (piece r.space r.letters)) (space_of l) [] else reading r.lines (first_of r.space (space_of l)) r.letters)
     (reading r.lines r.space (if is_some (columns_of l.code) then r.letters ++ l ∷ [] else r.letters)) no_break
     ∙ ap (λ t. reading r.lines r.space (if t then r.letters ++ l ∷ [] else r.letters)) some
 
-width_read : (code n : ℕ) → columns_of code ≡ Some n → width_of code ≡ n
+pub width_read : (code n : ℕ) → columns_of code ≡ Some n → width_of code ≡ n
 unfolding width_of
 width_read code n h = ap (λ o. unwrap_or o 0) h
 
@@ -188,7 +188,7 @@ reads_more seen old mid new xs ys first second =
           All-append (λ x. IsTrue (has_room width overflow x)) xs ys (first.room width overflow r h) (second.room width overflow (read_letters width r xs) (first.moves.moves width overflow r h));
     }
 
-wider_within : {S : Type 0} (width : ℕ) (overflow : Bool) (before ls after all : List (Letter S)) → all ≡ before ++ (ls ++ after) → HasWider width overflow ls → HasWider width overflow all
+pub wider_within : {S : Type 0} (width : ℕ) (overflow : Bool) (before ls after all : List (Letter S)) → all ≡ before ++ (ls ++ after) → HasWider width overflow ls → HasWider width overflow all
 wider_within width overflow before ls after all all_is w =
     record {
       front = before ++ w.front;

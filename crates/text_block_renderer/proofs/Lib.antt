@@ -3,6 +3,7 @@ pub mod BlockFinal
 pub mod BlockItems
 pub mod BlockPadding
 pub mod BlockReading
+pub mod BlockRuns
 pub mod LayoutFewest
 pub mod LayoutFilling
 pub mod LayoutFullest

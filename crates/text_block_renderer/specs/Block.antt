@@ -1,7 +1,8 @@
 -- What contracts see of a `WrappedBlock`: how its lines, its white space and its word follow from what was read.
-use Rattle.std.specs.Prelude.{◌≡◌, ℕ, ◌+◌, ◌-◌, ◌<◌, Bool, false, ◌||◌, nat_le, List, [], ◌∷◌, ◌++◌, Option, None, Some, map, fold, replicate, All, IsTrue, if◌then◌else◌, chars, string_bytes}
+use Rattle.std.specs.Prelude.{◌≡◌, ℕ, ◌+◌, ◌-◌, ◌<◌, Bool, true, false, ◌||◌, nat_le, List, [], ◌∷◌, ◌++◌, Option, None, Some, map, fold, replicate, is_some, All, IsTrue, if◌then◌else◌, chars, string_bytes}
 use Rattle.std.specs.Option.{option_map}
-use Rattle.text_decorators.specs.Columns.{width_of}
+use Rattle.std.specs.Str.{IsUtf8}
+use Rattle.text_decorators.specs.Columns.{columns_of, width_of}
 use Rattle.text_decorators.specs.Tagged.{Item, character, line_items, line_columns, IsJoined}
 use Rattle.text_decorators.specs.declared.tagged_string.TaggedString.{TaggedString}
 use Rattle.text_block_renderer.specs.Units.{Letter, piece, lettered, is_break_point, is_white_space, first_of, has_columns, is_filled}
@@ -127,6 +128,25 @@ pub record Moves {T S : Type 0} (seen : T → S) (old new : WrappedBlock T) (ste
 pub record Reads {T S : Type 0} (seen : T → S) (old new : WrappedBlock T) (ls : List (Letter S)) : Type 0 where
   pub moves : Moves seen old new (λ width r. read_letters width r ls)
   pub room : (width : ℕ) (overflow : Bool) (r : Reading S) → HoldsReading seen width overflow old r → AllHaveRoom width overflow ls
+
+-- A character of a word that some line can hold.
+pub record JoinsWord {T : Type 0} (block : WrappedBlock T) (code : ℕ) : Type 0 where
+  pub no_break : is_break_point code ≡ false
+  pub has_width : is_some (columns_of code) ≡ true
+  pub room : (block.lines.allow_overflow || nat_le (width_of code) block.lines.width) ≡ true
+
+-- Such characters stand in front of what follows.
+pub record RunsTo {T : Type 0} (block : WrappedBlock T) (text rest : List ℕ) : Type 0 where
+  pub front : List ℕ
+  pub whole : text ≡ front ++ rest
+  pub utf8 : IsUtf8 front
+  pub joins : All (JoinsWord block) (chars front)
+
+-- The block reads what stands in front of the rest of the text.
+pub record ReadsFront {T S : Type 0} (seen : T → S) (old new : WrappedBlock T) (text rest : List ℕ) (tag : S) : Type 0 where
+  pub front : List ℕ
+  pub whole : chars text ≡ front ++ chars rest
+  pub reads : Reads seen old new (lettered front tag)
 
 -- Some of the letters finds no line.
 pub record MeetsWider {T S : Type 0} (seen : T → S) (old : WrappedBlock T) (ls : List (Letter S)) : Type 0 where

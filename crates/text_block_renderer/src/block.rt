@@ -1,4 +1,5 @@
-ghost use Rattle.std.specs.Prelude.{◌≡◌, ◌⊎◌, ℕ, Bool, true, false, ◌||◌, nat_le, List, [], ◌∷◌, ◌++◌, map, chars, is_err, IsTrue, All, ◌≤◌, IfOk, IfErr, OnOk, if◌then◌else◌};
+ghost use Rattle.std.specs.Prelude.{◌≡◌, ◌⊎◌, ℕ, Bool, true, false, ◌||◌, nat_le, List, [], ◌∷◌, ◌++◌, map, chars, is_err, IsTrue, All, length, ◌<◌, ◌≤◌, IfOk, IfErr, IfSome, IsNone, IsUtf8, encode_utf8, OnOk, if◌then◌else◌};
+ghost use Rattle.std.specs.Char.{IsScalar};
 ghost use Rattle.text_decorators.specs.Tagged.{line_items, line_columns, IsJoined};
 ghost use Rattle.text_block_renderer.specs.Units.{is_break_point};
 ghost use Rattle.text_block_renderer.specs.Block.{padded};
@@ -26,10 +27,10 @@ pub struct WrappedBlock<T> {
 }
 
 impl<T: EqualCopy + Drop> WrappedBlock<T> {
-    ghost use Rattle.text_block_renderer.specs.Units.{Letter, lettered};
+    ghost use Rattle.text_block_renderer.specs.Units.{Letter, lettered, is_filled};
     ghost use Rattle.text_block_renderer.specs.Layout.{marks_items, AreLinesOf, NeverFits};
-    ghost use Rattle.text_block_renderer.specs.Filling.{read_letters, nothing_read, lines_read};
-    ghost use Rattle.text_block_renderer.specs.Block.{has_failed, padding_of, HasRead, HasWider, ArePaddedLinesOf, Moves, Reads, MeetsWider, end_read, space_read, word_read, lay_read};
+    ghost use Rattle.text_block_renderer.specs.Filling.{Reading, read_letters, nothing_read, lines_read};
+    ghost use Rattle.text_block_renderer.specs.Block.{has_failed, padding_of, HasRead, HasWider, ArePaddedLinesOf, HoldsReading, Moves, Reads, ReadsFront, JoinsWord, RunsTo, MeetsWider, end_read, space_read, word_read, lay_read};
 
     /// An empty block of lines of at most `width` columns. With `pad_blocks` each line is filled to the
     /// width with spaces tagged `default_tag`; with `allow_overflow` a character wider than the width
@@ -98,10 +99,48 @@ impl<T: EqualCopy + Drop> WrappedBlock<T> {
         ensures read { OnOk result (Reads T.seen self.old self.new (lettered (chars text.now) (T.seen tag.now))) }
         ensures narrow { result ≡ Err BlockError.TooNarrow → MeetsWider T.seen self.old (lettered (chars text.now) (T.seen tag.now)) }
     {
-        for c in text.chars() {
+        let mut rest = self.add_run(alloc, text, tag)?;
+        while let Some((c, after)) = first_char(rest) {
             self.add_char(alloc, c, tag)?;
+            rest = self.add_run(alloc, after, tag)?;
         }
         Ok(())
+    }
+
+    /// Adds the characters in front that join the word at hand, all at once; what follows them is left.
+    fn add_run<'a>(&mut self, alloc: Global, text: &'a str, tag: &T) -> Result<&'a str, AllocError>
+        ensures padding { padding_of T.seen self.new ≡ padding_of T.seen self.old }
+        ensures read { IfOk result (λ rest. ReadsFront T.seen self.old self.new text.now rest.now (T.seen tag.now)) }
+        ensures text { IfOk result (λ rest. IsUtf8 rest.now) }
+        ensures no_longer { IfOk result (λ rest. length rest.now ≤ length text.now) }
+    {
+        let (run, rest) = text.split_at(text.len() - self.after_run(text).len());
+        self.word.push_str(alloc, run, tag)?;
+        Ok(rest)
+    }
+
+    /// What follows the characters in front that join the word at hand.
+    fn after_run<'a>(&self, text: &'a str) -> &'a str
+        ensures { RunsTo self.now text.now result.now }
+    {
+        let mut rest = text;
+        while let Some((c, after)) = first_char(rest) {
+            if !self.joins_word(c) {
+                return rest;
+            }
+            rest = after;
+        }
+        rest
+    }
+
+    /// Whether the character has a width and is no break point, and some line can hold it.
+    fn joins_word(&self, c: char) -> bool
+        ensures { IsTrue result → JoinsWord self.now c }
+    {
+        match UnicodeColumns::columns(c) {
+            Some(columns) => !is_break_point(c) && self.lines.has_room_for(columns),
+            None => false,
+        }
     }
 
     fn add_char(&mut self, alloc: Global, c: char, tag: &T) -> Result<(), BlockError>
@@ -242,6 +281,18 @@ fn is_break_point(c: char) -> bool
     ensures { result ≡ is_break_point c }
 {
     c == ZERO_WIDTH_SPACE || (c.is_whitespace() && c != NO_BREAK_SPACE)
+}
+
+/// The first character of a text, and what stands behind it.
+fn first_char(text: &str) -> Option<(char, &str)>
+    ensures first { IfSome result (λ parts. text.now ≡ encode_utf8 parts.0 ++ parts.1.now) }
+    ensures texts { IfSome result (λ parts. IsScalar parts.0 × IsUtf8 parts.1.now) }
+    ensures shorter { IfSome result (λ parts. length parts.1.now < length text.now) }
+    ensures none { IsNone result → text.now ≡ [] }
+{
+    let mut chars = text.chars();
+    let c = chars.next()?;
+    Some((c, chars.as_str()))
 }
 
 /// Fills each line with spaces up to the width.
