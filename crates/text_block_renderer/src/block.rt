@@ -213,9 +213,10 @@ impl<T: EqualCopy + Drop> WrappedBlock<T> {
         if self.word.is_empty() {
             return Ok(());
         }
-        let word = std::mem::replace(&mut self.word, TaggedLine::new(alloc));
         let space = self.space.take();
-        self.lines.add_word(alloc, space.as_ref(), &word)
+        self.lines.add_word(alloc, space.as_ref(), &self.word)?;
+        self.word.clear();
+        Ok(())
     }
 
     /// The lines of the text. Refused as `Memory`, or as `Failed` after a refusal.

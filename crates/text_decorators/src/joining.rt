@@ -125,6 +125,18 @@ fn push_new<T: EqualCopy + Drop>(
 {
     let s = String::from_str(alloc, text)?;
     let tag = tag.copy(alloc)?;
+    make_room(elements)?;
     elements.push(TaggedLineElement::Str(TaggedString { s, tag }))?;
     Ok(())
+}
+
+// Makes room for the first element alone, since most lines have one.
+fn make_room<T>(elements: &mut Vec<TaggedLineElement<T>>) -> Result<(), AllocError>
+    ensures { elements.new.items ≡ elements.old.items }
+{
+    if elements.is_empty() {
+        elements.reserve_exact(1)
+    } else {
+        Ok(())
+    }
 }

@@ -59,6 +59,15 @@ impl<T: EqualCopy + Drop> TaggedLine<T> {
         self.columns
     }
 
+    /// Takes everything off the line; it takes no memory.
+    pub fn clear(&mut self)
+        ensures items { line_items T.seen self.new ≡ [] }
+        ensures joined { IsJoined T.seen self.new }
+    {
+        self.elements.clear();
+        self.columns = 0;
+    }
+
     /// Adds a text at the end. The error is want of memory alone, and leaves the line as it was.
     pub fn push_str(&mut self, alloc: Global, text: &str, tag: &T) -> Result<(), AllocError>
         ensures ok { OnOk result (line_items T.seen self.new
