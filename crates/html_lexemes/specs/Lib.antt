@@ -1,5 +1,14 @@
+pub mod Counts
 pub mod Device
+pub mod Json
 pub mod KnownPart
 pub mod LineEnds
+pub mod Lookup
+pub mod Queue
+pub mod QueueAnswers
 pub mod References
+pub mod RowWords
 pub mod Table
+pub mod Tags
+pub mod Texts
+pub mod Tokens

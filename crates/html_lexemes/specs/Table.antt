@@ -1,6 +1,9 @@
--- What contracts see of a `ReferenceTable`.
-use Rattle.std.specs.Prelude.{List, map, chars, string_bytes}
+-- What contracts see of a `ReferenceTable`, and of what one is made of.
+use Rattle.std.specs.Prelude.{ℕ, IsTrue, List, map, chars, string_bytes}
+use Rattle.std.specs.Ordering.{nat_cmp}
+use Rattle.std.specs.Cmp.Lexicographic.{slice_cmp}
 use Rattle.std.specs.FinMap as finite
+use denote.Ref.{Bor}
 use Rattle.html_lexemes.specs.declared.table.Reference as stored
 use Rattle.html_lexemes.specs.References.{Reference, References}
 
@@ -12,4 +15,12 @@ abbrev pub references_of : List stored.Reference → List Reference
 references_of rs = map reference_of rs
 
 abbrev pub table_of : List stored.Reference → References
-table_of rs = finite.from_entries (references_of rs)
+table_of rs = finite.from_sorted (references_of rs)
+
+-- each name stands once, in the order of the names
+abbrev pub AreInOrder : List stored.Reference → Type 0
+AreInOrder rs = IsTrue (finite.is_sorted (slice_cmp nat_cmp) (references_of rs))
+
+-- a pair of two texts
+abbrev pub pair_of : Bor (List ℕ) × Bor (List ℕ) → Reference
+pair_of p = (chars p.0.now, chars p.1.now)

@@ -2,13 +2,29 @@
 //! parser, the table of named character references, and the definitions of line ends.
 #![tactic(auto)]
 
+mod attributes;
 mod device;
 mod fault;
+pub mod laws;
+mod names;
+mod queue;
+pub mod states;
 mod table;
+mod table_error;
+mod text;
+mod token;
 
+pub use attributes::Attributes;
 pub use device::{ByteReader, ByteWriter, Device, DeviceFault};
 pub use fault::ParseFault;
-pub use table::ReferenceTable;
+pub use names::{Attribute, LocalName, Namespace, QualName};
+pub use queue::{BufferQueue, SetResult};
+pub use table::{NamedReference, ReferenceTable};
+pub use table_error::TableError;
+pub use text::Text;
+pub use token::{
+    Doctype, ErrorMessage, ProcessResult, Tag, TagKind, Token, TokenSinkResult,
+};
 
 #[cfg(test)]
 mod rows;

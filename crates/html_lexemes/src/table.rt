@@ -1,6 +1,10 @@
-ghost use Rattle.std.specs.Prelude.{◌≡◌, ◌∷◌, [], ◌++◌, IfOk, OnOk, chars};
-ghost use Rattle.html_lexemes.specs.Table.{references_of};
+ghost use Rattle.std.specs.Prelude.{◌≡◌, ◌⊎◌, ◌↔◌, IsTrue, IfOk, IfErr, OnOk, OnErr, Ok, Err, MatchOption, chars, map, option_map};
+ghost use Rattle.std.specs.FinMap as finite;
+ghost use Rattle.html_lexemes.specs.References.{basic, is_name, is_value, table_of_pairs};
+ghost use Rattle.html_lexemes.specs.Lookup.{HasNameBeginning, BeginsWithNoName, IsLongestName};
 
+use crate::table_error::TableError;
+use crate::text::Text;
 use std::alloc::{AllocError, Global};
 use std::marker::Model;
 
@@ -12,9 +16,11 @@ struct Reference {
 }
 
 /// The named character references that a page may use (WHATWG HTML, 13.5), each a name and one or two
-/// characters. Contracts see it as a finite map from names to values, both as lists of code points.
+/// characters other than NUL. A name is ASCII letters and digits, at least one, with a semicolon only
+/// last. Contracts see a finite map from names to values, both as lists of code points.
 #[derive(Drop)]
 pub struct ReferenceTable {
+    // in the order of the names, each once
     references: Vec<Reference>,
 }
 
@@ -25,39 +31,159 @@ impl Model for ReferenceTable {
 
     ghost coded = { references_code };
 
-    ghost use Rattle.html_lexemes.specs.Table.{table_of};
+    ghost use Rattle.html_lexemes.specs.Table.{table_of, AreInOrder};
 
     ghost view = { λ t. table_of t.references.items };
+
+    ghost invariant = { λ t. AreInOrder t.references.items };
+}
+
+/// A name of a table that a text begins with, and what it stands for.
+#[derive(Clone, Copy, Debug, PartialEq, Eq)]
+pub struct NamedReference<'t> {
+    /// The name, without its `&`.
+    pub name: &'t str,
+    /// One or two characters.
+    pub value: &'t str,
 }
 
 impl ReferenceTable {
-    ghost use Rattle.html_lexemes.specs.References.{basic};
+    ghost use Rattle.html_lexemes.specs.Table.{pair_of};
+
+    /// The table of some pairs of a name and a value. Where a name stands twice its last value stays. The
+    /// first faulty pair is answered as `BadName` or else `BadCodePoints`, with its name; or `Memory`.
+    pub fn new(alloc: Global, pairs: &[(&str, &str)]) -> Result<ReferenceTable, TableError>
+        ensures ok { IfOk result (λ table. table_of_pairs (map pair_of pairs.now) ≡ Ok table) }
+        ensures err { IfErr result (λ e. (e ≡ TableError.Memory) ⊎ (table_of_pairs (map pair_of pairs.now) ≡ Err e)) }
+    {
+        let mut table = ReferenceTable::empty(alloc);
+        for (name, value) in pairs {
+            check(alloc, name, value)?;
+            table.insert(name, value)?;
+        }
+        Ok(table)
+    }
 
     /// The table of `amp;`, `lt;`, `gt;`, `quot;` and `nbsp;`. The error is want of memory alone.
     pub fn basic(alloc: Global) -> Result<ReferenceTable, AllocError>
         ensures { IfOk result (λ table. table ≡ basic) }
     {
-        let mut references = Vec::new(alloc);
-        push_reference(alloc, &mut references, "amp;", "&")?;
-        push_reference(alloc, &mut references, "lt;", "<")?;
-        push_reference(alloc, &mut references, "gt;", ">")?;
-        push_reference(alloc, &mut references, "quot;", "\"")?;
-        push_reference(alloc, &mut references, "nbsp;", "\u{a0}")?;
-        Ok(ReferenceTable { references })
+        let mut table = ReferenceTable::empty(alloc);
+        table.insert("amp;", "&")?;
+        table.insert("lt;", "<")?;
+        table.insert("gt;", ">")?;
+        table.insert("quot;", "\"")?;
+        table.insert("nbsp;", "\u{a0}")?;
+        Ok(table)
+    }
+
+    // the table without a name
+    pub(crate) fn empty(alloc: Global) -> ReferenceTable
+        ensures { result ≡ finite.empty }
+    {
+        ReferenceTable {
+            references: Vec::new(alloc),
+        }
+    }
+
+    // Gives a name its value. The error leaves the table as it was.
+    pub(crate) fn insert(&mut self, name: &str, value: &str) -> Result<(), AllocError>
+        ensures ok { OnOk result (self.new ≡ finite.insert self.old (chars name.now) (chars value.now)) }
+        ensures err { OnErr result (self.new ≡ self.old) }
+    {
+        let alloc = *self.references.allocator();
+        match place_of(self.references.as_slice(), name) {
+            Ok(at) => {
+                let value = String::from_str(alloc, value)?;
+                self.references[at].value = value;
+                Ok(())
+            }
+            Err(at) => {
+                let name = String::from_str(alloc, name)?;
+                let value = String::from_str(alloc, value)?;
+                self.references.insert(at, Reference { name, value })?;
+                Ok(())
+            }
+        }
+    }
+
+    /// What a name stands for, and `None` for a text that is no name of the table.
+    pub fn value(&self, name: &str) -> Option<&str>
+        ensures { option_map (λ v. chars v.now) result ≡ finite.get self.now (chars name.now) }
+    {
+        let at = place_of(self.references.as_slice(), name).ok()?;
+        Some(self.references[at].value.as_str())
+    }
+
+    /// Whether some name of the table begins with a text: it is that name, or more characters may make a
+    /// name of it.
+    pub fn has_name_beginning(&self, text: &str) -> bool
+        ensures { IsTrue result ↔ HasNameBeginning self.now (chars text.now) }
+    {
+        let at = match place_of(self.references.as_slice(), text) {
+            Ok(at) | Err(at) => at,
+        };
+        match self.references.get(at) {
+            Some(reference) => reference.name.as_str().starts_with(text),
+            None => false,
+        }
+    }
+
+    /// The longest name of the table that a text begins with (WHATWG HTML, 13.2.5.73). It looks at no more
+    /// of the text than the longest name has, and at one character.
+    pub fn longest_name<'t>(&'t self, text: &'t str) -> Option<NamedReference<'t>>
+        ensures { MatchOption result (BeginsWithNoName self.now (chars text.now))
+            (λ r. IsLongestName self.now (chars text.now) (chars r.name.now) (chars r.value.now)) }
+    {
+        let mut longest = None;
+        let mut length = 0;
+        for c in text.chars() {
+            length += c.len_utf8();
+            let (front, _) = text.split_at(length);
+            if !self.has_name_beginning(front) {
+                break;
+            }
+            if let Some(value) = self.value(front) {
+                longest = Some(NamedReference { name: front, value });
+            }
+        }
+        longest
     }
 }
 
-fn push_reference(
-    alloc: Global,
-    references: &mut Vec<Reference>,
-    name: &str,
-    value: &str,
-) -> Result<(), AllocError>
-    ensures { OnOk result (references_of references.new.items
-        ≡ references_of references.old.items ++ (chars name.now, chars value.now) ∷ []) }
-{
-    let name = String::from_str(alloc, name)?;
-    let value = String::from_str(alloc, value)?;
-    references.push(Reference { name, value })?;
+// where a name stands, or where it would
+fn place_of(references: &[Reference], name: &str) -> Result<usize, usize> {
+    references.binary_search_by(|r| r.name.as_str().cmp(name))
+}
+
+// Answers what is wrong with a name and its value.
+fn check(alloc: Global, name: &str, value: &str) -> Result<(), TableError> {
+    if !is_name(name) {
+        return Err(TableError::BadName(Text::from_str(alloc, name)?));
+    }
+    if !is_value(value) {
+        return Err(TableError::BadCodePoints(Text::from_str(alloc, name)?));
+    }
     Ok(())
+}
+
+/// Whether a text is a name of a reference: ASCII letters and digits, at least one, with a semicolon only
+/// last.
+pub(crate) fn is_name(text: &str) -> bool
+    ensures { result ≡ is_name (chars text.now) }
+{
+    let word = text.strip_suffix(';').unwrap_or(text);
+    !word.is_empty() && word.bytes().all(|b| b.is_ascii_alphanumeric())
+}
+
+/// Whether a text is one or two characters other than NUL.
+pub(crate) fn is_value(text: &str) -> bool
+    ensures { result ≡ is_value (chars text.now) }
+{
+    let mut characters = text.chars();
+    match (characters.next(), characters.next(), characters.next()) {
+        (Some(c), None, None) => c != '\0',
+        (Some(c), Some(d), None) => c != '\0' && d != '\0',
+        _ => false,
+    }
 }

@@ -1,0 +1,3 @@
+pub mod Permutations
+pub mod SameAttributes
+pub mod Utf8Order
