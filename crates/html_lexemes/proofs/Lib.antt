@@ -1,3 +1,15 @@
+pub mod ComparedLemmas
+pub mod JsonLemmas
+pub mod LongestNames
+pub mod NameTests
+pub mod PairsRead
 pub mod Permutations
+pub mod QueueLemmas
+pub mod RunLemmas
 pub mod SameAttributes
+pub mod SortedEntries
+pub mod TableBeginnings
+pub mod TableSearch
+pub mod TextFronts
+pub mod TextOrder
 pub mod Utf8Order

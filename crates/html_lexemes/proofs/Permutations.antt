@@ -66,7 +66,7 @@ module _ {A : Type 0} (equal : A → A → Bool) (decides : (a b : A) → Decide
       let rest = permuted xs (s.front ++ s.back) (λ a. omega (arith, h a, count-cons a x xs, ap (count_of equal a) s.is, count-split x a s.front s.back)) in
       subst (IsPermutation (x ∷ xs)) (sym s.is)
       (IsPermutation-trans (x ∷ xs) (x ∷ (s.front ++ s.back)) (s.front ++ x ∷ s.back) (IsPermutation-cons x xs (s.front ++ s.back) rest)
-          (IsPermutation-sym (s.front ++ x ∷ s.back) (x ∷ (s.front ++ s.back)) (IsPermutation-middle s.front x s.back)))
+      (IsPermutation-sym (s.front ++ x ∷ s.back) (x ∷ (s.front ++ s.back)) (IsPermutation-middle s.front x s.back)))
 
   pub permuted_from_counts : (xs ys : List A) → stand_as_often equal xs ys ≡ true → stand_as_often equal ys xs ≡ true → IsPermutation xs ys
   permuted_from_counts xs ys e f = permuted xs ys (λ a. same_count a xs ys

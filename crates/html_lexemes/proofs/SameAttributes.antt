@@ -39,9 +39,10 @@ make_name n l = record { ns = n; local = l }
 pub name_decides : (a b : QualName) → Decides (names.it a b) (a ≡ b)
 unfolding make_name
 name_decides a b = (
-    (λ e. let p = and_parts (namespaces.it a.ns b.ns) (bytes_eq a.local b.local) e in
-        ap₂ make_name ((namespace_decides a.ns b.ns).0 p.0) ((bytes_eq-Decides a.local b.local).0 p.1)),
-    (λ e. both_true (namespaces.it a.ns b.ns) (bytes_eq a.local b.local) ((namespace_decides a.ns b.ns).1 (ap (λ n. n.ns) e)) ((bytes_eq-Decides a.local b.local).1 (ap (λ n. n.local) e))))
+  (λ e. let p = and_parts (namespaces.it a.ns b.ns) (bytes_eq a.local b.local) e in
+      ap₂ make_name ((namespace_decides a.ns b.ns).0 p.0) ((bytes_eq-Decides a.local b.local).0 p.1)),
+  (λ e. both_true (namespaces.it a.ns b.ns) (bytes_eq a.local b.local) ((namespace_decides a.ns b.ns).1 (ap (λ n. n.ns) e)) ((bytes_eq-Decides a.local b.local).1 (ap (λ n. n.local) e))),
+)
 
 make_attribute : QualName → List ℕ → Attribute
 make_attribute n v = record { name = n; value = v }
@@ -49,6 +50,7 @@ make_attribute n v = record { name = n; value = v }
 pub attribute_decides : (a b : Attribute) → Decides (attributes.it a b) (a ≡ b)
 unfolding make_attribute
 attribute_decides a b = (
-    (λ e. let p = and_parts (names.it a.name b.name) (bytes_eq a.value b.value) e in
-        ap₂ make_attribute ((name_decides a.name b.name).0 p.0) ((bytes_eq-Decides a.value b.value).0 p.1)),
-    (λ e. both_true (names.it a.name b.name) (bytes_eq a.value b.value) ((name_decides a.name b.name).1 (ap (λ n. n.name) e)) ((bytes_eq-Decides a.value b.value).1 (ap (λ n. n.value) e))))
+  (λ e. let p = and_parts (names.it a.name b.name) (bytes_eq a.value b.value) e in
+      ap₂ make_attribute ((name_decides a.name b.name).0 p.0) ((bytes_eq-Decides a.value b.value).0 p.1)),
+  (λ e. both_true (names.it a.name b.name) (bytes_eq a.value b.value) ((name_decides a.name b.name).1 (ap (λ n. n.name) e)) ((bytes_eq-Decides a.value b.value).1 (ap (λ n. n.value) e))),
+)

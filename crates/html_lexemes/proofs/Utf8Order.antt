@@ -60,8 +60,10 @@ three_less c d xs ys lt x y less same =
     let q = quarter d in
     elim (two_parts c d lt) [
       | inl h ↦ two_less (c / 64) (d / 64) (next c ∷ xs) (next d ∷ ys) h x y (λ l. less (omega arith)) (λ e. same (omega arith))
-      | inr h ↦ step x y (next (c / 64) ∷ next c ∷ xs) (next (d / 64) ∷ next d ∷ ys) (inr (same (omega arith),
-          step (next (c / 64)) (next (d / 64)) (next c ∷ xs) (next d ∷ ys) (inr (next_same _ _ h.0, one_less c d xs ys h.1))))
+      | inr h ↦ step x y (next (c / 64) ∷ next c ∷ xs) (next (d / 64) ∷ next d ∷ ys) (inr (
+        same (omega arith),
+        step (next (c / 64)) (next (d / 64)) (next c ∷ xs) (next d ∷ ys) (inr (next_same _ _ h.0, one_less c d xs ys h.1)),
+      ))
     ]
 
 four_less : (c d : ℕ) (xs ys : List ℕ) → c < d → (x y : ℕ) → (c / 262144 < d / 262144 → x < y) → (c / 262144 ≡ d / 262144 → x ≡ y) → by_bytes (x ∷ next (c / 4096) ∷ next (c / 64) ∷ next c ∷ xs) (y ∷ next (d / 4096) ∷ next (d / 64) ∷ next d ∷ ys) ≡ Less
@@ -73,8 +75,10 @@ four_less c d xs ys lt x y less same =
     elim (cases_lt (c / 4096) (d / 4096)) [
       | inl h ↦ two_less (c / 4096) (d / 4096) (next (c / 64) ∷ next c ∷ xs) (next (d / 64) ∷ next d ∷ ys) h x y (λ l. less (omega arith)) (λ e. same (omega arith))
       | inr h ↦ let e : c / 4096 ≡ d / 4096 = omega arith in
-          step x y (next (c / 4096) ∷ next (c / 64) ∷ next c ∷ xs) (next (d / 4096) ∷ next (d / 64) ∷ next d ∷ ys) (inr (same (omega arith),
-          three_less c d xs ys lt (next (c / 4096)) (next (d / 4096)) (λ l. absurd (omega arith)) (λ f. next_same _ _ e)))
+          step x y (next (c / 4096) ∷ next (c / 64) ∷ next c ∷ xs) (next (d / 4096) ∷ next (d / 64) ∷ next d ∷ ys) (inr (
+            same (omega arith),
+            three_less c d xs ys lt (next (c / 4096)) (next (d / 4096)) (λ l. absurd (omega arith)) (λ f. next_same _ _ e),
+          ))
     ]
 
 -- the four forms of a character

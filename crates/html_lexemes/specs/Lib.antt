@@ -6,8 +6,10 @@ pub mod LineEnds
 pub mod Lookup
 pub mod Queue
 pub mod QueueAnswers
+pub mod QueueParts
 pub mod References
 pub mod RowWords
+pub mod Shown
 pub mod Table
 pub mod Tags
 pub mod Texts

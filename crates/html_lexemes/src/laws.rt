@@ -13,13 +13,11 @@ pub fn tags_are_equivalent()
     ensures itself { (a : SeenTag) → IsEquivalent a a }
     ensures back { (a b : SeenTag) → IsEquivalent a b → IsEquivalent b a }
     ensures onward { (a b c : SeenTag) → IsEquivalent a b → IsEquivalent b c → IsEquivalent a c }
-{
-}
+{}
 
 /// Names and attributes are found equal exactly where they are the same.
 pub fn equal_names_are_the_same()
     ensures local_name { (a b : SeenLocalName) → IsTrue (⟦<LocalName as PartialEq>⟧.eq a b) ↔ a ≡ b }
     ensures qualified_name { (a b : SeenQualName) → IsTrue (⟦<QualName as PartialEq>⟧.eq a b) ↔ a ≡ b }
     ensures attribute { (a b : SeenAttribute) → IsTrue (⟦<Attribute as PartialEq>⟧.eq a b) ↔ a ≡ b }
-{
-}
+{}

@@ -1,10 +1,12 @@
-//! The lowest layer of the HTML parser: the devices that bytes come from and go to, the faults of a
-//! parser, the table of named character references, and the definitions of line ends.
+//! The lowest layer of the HTML parser: names, attributes and tokens, the queue that characters wait in, the
+//! table of named character references, the devices that bytes come from and go to, the faults of a
+//! parser, and the definitions of line ends.
 #![tactic(auto)]
 
 mod attributes;
 mod device;
 mod fault;
+mod json;
 pub mod laws;
 mod names;
 mod queue;
@@ -22,11 +24,19 @@ pub use queue::{BufferQueue, SetResult};
 pub use table::{NamedReference, ReferenceTable};
 pub use table_error::TableError;
 pub use text::Text;
-pub use token::{
-    Doctype, ErrorMessage, ProcessResult, Tag, TagKind, Token, TokenSinkResult,
-};
+pub use token::{Doctype, ErrorMessage, ProcessResult, Tag, TagKind, Token, TokenSinkResult};
 
 #[cfg(test)]
+mod json_rows;
+#[cfg(test)]
+mod json_tests;
+#[cfg(test)]
+mod names_tests;
+#[cfg(test)]
+mod queue_tests;
+#[cfg(test)]
 mod rows;
+#[cfg(test)]
+mod table_tests;
 #[cfg(test)]
 mod tests;

@@ -1,5 +1,7 @@
-ghost use Rattle.std.specs.Prelude.{◌≡◌, ◌<◌, ◌↔◌, [], ◌∷◌, ◌++◌, length, chars, string_bytes, slice_get, IsTrue, IfOk, OnOk, OnErr, MatchOption};
+ghost use Rattle.std.specs.Prelude.{◌≡◌, ◌<◌, ◌↔◌, [], ◌∷◌, ◌++◌, length, drop, chars, string_bytes, slice_get, IsTrue, IfOk, OnOk, OnErr, MatchOption};
+ghost use Rattle.std.specs.Str.{IsCharBoundary};
 ghost use Rattle.html_lexemes.specs.Queue.{Takes, Eats};
+ghost use Rattle.html_lexemes.specs.QueueParts.{IsRunOutside, Compares};
 
 use std::alloc::{AllocError, Global};
 use std::marker::Model;
@@ -96,8 +98,7 @@ impl BufferQueue {
         if self.is_empty() {
             return None;
         }
-        // An empty text fits in place of what was taken, so nothing grows.
-        self.text.replace_range(..self.start, "").unwrap();
+        take_out_front(&mut self.text, self.start);
         let alloc = *self.text.allocator();
         let run = mem::replace(&mut self.text, String::new(alloc));
         self.start = 0;
@@ -116,11 +117,7 @@ impl BufferQueue {
             self.start = 0;
             return Ok(());
         }
-        // Let go of what was taken, once it is as long as what has to move for it.
-        if self.text.len() - self.start <= self.start {
-            self.text.replace_range(..self.start, "").unwrap();
-            self.start = 0;
-        }
+        self.start = let_go(&mut self.text, self.start);
         self.text.push_str(text.as_str())
     }
 
@@ -160,7 +157,8 @@ impl BufferQueue {
             self.taken = self.taken.saturating_add(1);
             return Ok(Some(SetResult::FromSet(first)));
         }
-        let run = run_outside(self.rest(), set);
+        let (_, rest) = self.text.as_str().split_at(self.start);
+        let run = run_outside(rest, set);
         let run = String::from_str(*self.text.allocator(), run)?;
         self.start += run.len();
         let count = run.as_str().chars().count();
@@ -175,32 +173,78 @@ impl BufferQueue {
         requires { F.IsAlwaysCallable eq }
         ensures { Eats (λ a b r. F.post eq a b r) self.old (chars text.now) result self.new }
     {
-        let mut length = 0;
-        let mut count = 0u64;
-        let mut rest = self.rest().chars();
-        for wanted in text.chars() {
-            let found = rest.next()?;
-            if !eq(found, wanted) {
-                return Some(false);
+        let (_, rest) = self.text.as_str().split_at(self.start);
+        match compare(rest, text, eq) {
+            Compared::EndsInside => None,
+            Compared::Differs => Some(false),
+            Compared::Begins { length, count } => {
+                self.start += length;
+                self.taken = self.taken.saturating_add(count);
+                Some(true)
             }
-            length += found.len_utf8();
-            count += 1;
         }
-        self.start += length;
-        self.taken = self.taken.saturating_add(count);
-        Some(true)
     }
 }
 
-// the longest beginning of a text without a character of a set
-fn run_outside<'t>(text: &'t str, set: &[char]) -> &'t str {
-    let mut length = 0;
-    for c in text.chars() {
-        if set.contains(&c) {
-            break;
-        }
-        length += c.len_utf8();
+// takes the first bytes out of a text, which takes no memory
+fn take_out_front(text: &mut String, length: usize)
+    requires { IsCharBoundary (string_bytes text.old) length }
+    ensures { string_bytes text.new ≡ drop length (string_bytes text.old) }
+{
+    // An empty text fits in place of what is taken out, so nothing grows.
+    text.replace_range(..length, "").unwrap();
+}
+
+// Lets go of what stands before `start`, once it is as long as what has to move for it. The answer is
+// where the rest then starts.
+fn let_go(text: &mut String, start: usize) -> usize
+    requires { IsCharBoundary (string_bytes text.old) start }
+    ensures rest { drop result (string_bytes text.new) ≡ drop start (string_bytes text.old) }
+    ensures boundary { IsCharBoundary (string_bytes text.new) result }
+{
+    if start < text.len() - start {
+        return start;
     }
-    let (run, _) = text.split_at(length);
+    take_out_front(text, start);
+    0
+}
+
+// the longest beginning of a text without a character of a set
+fn run_outside<'t>(text: &'t str, set: &[char]) -> &'t str
+    ensures { IsRunOutside set.now text.now result.now }
+{
+    let (run, _) = text.split_at(text.find(set).unwrap_or(text.len()));
     run
+}
+
+// Where a comparison of a text with a pattern came to its end.
+#[derive(Clone, Copy)]
+enum Compared {
+    // The text ends, and more of the pattern is to come.
+    EndsInside,
+    // Two characters are not alike.
+    Differs,
+    // The text begins with the pattern: so many bytes, and characters.
+    Begins { length: usize, count: u64 },
+}
+
+// compares a text and a pattern, character by character
+fn compare<F: Fn(char, char) -> bool>(text: &str, pattern: &str, eq: F) -> Compared
+    requires { F.IsAlwaysCallable eq }
+    ensures { Compares (λ a b r. F.post eq a b r) text.now (chars pattern.now) result }
+{
+    let mut length = 0;
+    let mut count = 0;
+    let mut rest = text.chars();
+    'compared: for wanted in pattern.chars() {
+        let Some(found) = rest.next() else {
+            return Compared::EndsInside;
+        };
+        if !eq(found, wanted) {
+            return Compared::Differs;
+        }
+        length += found.len_utf8();
+        count += 1;
+    }
+    Compared::Begins { length, count }
 }

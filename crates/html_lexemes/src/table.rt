@@ -1,6 +1,9 @@
-ghost use Rattle.std.specs.Prelude.{◌≡◌, ◌⊎◌, ◌↔◌, IsTrue, IfOk, IfErr, OnOk, OnErr, Ok, Err, MatchOption, chars, map, option_map};
+ghost use Rattle.std.specs.Prelude.{◌≡◌, ◌⊎◌, ◌↔◌, IsTrue, IfOk, IfErr, OnOk, OnErr, Ok, Err, MatchOption, chars, map, option_map, length, string_bytes};
+ghost use Rattle.std.specs.Ordering.{nat_cmp};
+ghost use Rattle.std.specs.Cmp.Lexicographic.{slice_cmp};
+ghost use Rattle.std.specs.List.Sorted.{IsBinarySearchResult, IsSearchInRange};
 ghost use Rattle.std.specs.FinMap as finite;
-ghost use Rattle.html_lexemes.specs.References.{basic, is_name, is_value, table_of_pairs};
+ghost use Rattle.html_lexemes.specs.References.{basic, checked, is_name, is_value, table_of_pairs};
 ghost use Rattle.html_lexemes.specs.Lookup.{HasNameBeginning, BeginsWithNoName, IsLongestName};
 
 use crate::table_error::TableError;
@@ -111,8 +114,10 @@ impl ReferenceTable {
     pub fn value(&self, name: &str) -> Option<&str>
         ensures { option_map (λ v. chars v.now) result ≡ finite.get self.now (chars name.now) }
     {
-        let at = place_of(self.references.as_slice(), name).ok()?;
-        Some(self.references[at].value.as_str())
+        match place_of(self.references.as_slice(), name) {
+            Ok(at) => Some(self.references[at].value.as_str()),
+            Err(_) => None,
+        }
     }
 
     /// Whether some name of the table begins with a text: it is that name, or more characters may make a
@@ -120,10 +125,11 @@ impl ReferenceTable {
     pub fn has_name_beginning(&self, text: &str) -> bool
         ensures { IsTrue result ↔ HasNameBeginning self.now (chars text.now) }
     {
-        let at = match place_of(self.references.as_slice(), text) {
+        let references = self.references.as_slice();
+        let at = match place_of(references, text) {
             Ok(at) | Err(at) => at,
         };
-        match self.references.get(at) {
+        match references.get(at) {
             Some(reference) => reference.name.as_str().starts_with(text),
             None => false,
         }
@@ -135,7 +141,8 @@ impl ReferenceTable {
         ensures { MatchOption result (BeginsWithNoName self.now (chars text.now))
             (λ r. IsLongestName self.now (chars text.now) (chars r.name.now) (chars r.value.now)) }
     {
-        let mut longest = None;
+        // `insert` takes any name, the empty one too
+        let mut longest = self.named("");
         let mut length = 0;
         for c in text.chars() {
             length += c.len_utf8();
@@ -143,21 +150,34 @@ impl ReferenceTable {
             if !self.has_name_beginning(front) {
                 break;
             }
-            if let Some(value) = self.value(front) {
-                longest = Some(NamedReference { name: front, value });
-            }
+            longest = self.named(front).or(longest);
         }
         longest
+    }
+
+    // the name that a text is, and what it stands for
+    fn named<'t>(&'t self, name: &'t str) -> Option<NamedReference<'t>>
+        ensures { MatchOption result (finite.get self.now (chars name.now) ≡ None)
+            (λ r. (r.name.now ≡ name.now) × (finite.get self.now (chars name.now) ≡ Some (chars r.value.now))) }
+    {
+        let value = self.value(name)?;
+        Some(NamedReference { name, value })
     }
 }
 
 // where a name stands, or where it would
-fn place_of(references: &[Reference], name: &str) -> Result<usize, usize> {
+fn place_of(references: &[Reference], name: &str) -> Result<usize, usize>
+    ensures bound { IsSearchInRange result (length references.now) }
+    ensures position { IsBinarySearchResult (λ r. slice_cmp nat_cmp (chars (string_bytes r.name)) (chars name.now)) references.now result }
+{
     references.binary_search_by(|r| r.name.as_str().cmp(name))
 }
 
 // Answers what is wrong with a name and its value.
-fn check(alloc: Global, name: &str, value: &str) -> Result<(), TableError> {
+fn check(alloc: Global, name: &str, value: &str) -> Result<(), TableError>
+    ensures ok { OnOk result (checked (chars name.now, chars value.now) ≡ Ok (chars name.now, chars value.now)) }
+    ensures err { IfErr result (λ e. (e ≡ TableError.Memory) ⊎ (checked (chars name.now, chars value.now) ≡ Err e)) }
+{
     if !is_name(name) {
         return Err(TableError::BadName(Text::from_str(alloc, name)?));
     }
@@ -173,7 +193,7 @@ pub(crate) fn is_name(text: &str) -> bool
     ensures { result ≡ is_name (chars text.now) }
 {
     let word = text.strip_suffix(';').unwrap_or(text);
-    !word.is_empty() && word.bytes().all(|b| b.is_ascii_alphanumeric())
+    !word.is_empty() && word.chars().all(|c| c.is_ascii_alphanumeric())
 }
 
 /// Whether a text is one or two characters other than NUL.

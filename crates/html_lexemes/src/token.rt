@@ -40,7 +40,8 @@ impl Tag {
         ensures { IsTrue result ↔ IsEquivalent self.now other.now }
     {
         self.is_named_as(other)
-            && (self.attrs == other.attrs || are_reordered(self.attrs.as_slice(), other.attrs.as_slice()))
+            && (self.attrs == other.attrs
+                || are_reordered(self.attrs.as_slice(), other.attrs.as_slice()))
     }
 
     fn is_named_as(&self, other: &Tag) -> bool

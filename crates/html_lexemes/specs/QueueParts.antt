@@ -1,0 +1,25 @@
+-- What the parts of a queue's calls do, on the bytes of a text.
+use Rattle.std.specs.Prelude.{◌≡◌, ℕ, ◌<◌, Bool, false, IsTrue, List, length, take, chars, Some, slice_get}
+use Rattle.std.specs.Str.{IsCharBoundary}
+use Rattle.html_lexemes.specs.Queue.{is_in, is_free_of, IsAlike, EndsInside, Differs}
+use Rattle.html_lexemes.specs.declared.queue.Compared.{Compared}
+use Rattle.html_lexemes.specs.declared.queue.Compared.TheVariants.{EndsInside as Ends, Differs as Differing, Begins}
+
+-- the text begins with a run without a character of the set: not empty, where the first character is not one
+pub record IsRunOutside (set bs run : List ℕ) : Type 0 where
+  pub front : run ≡ take (length run) bs
+  pub boundary : IsCharBoundary bs (length run)
+  pub free : IsTrue (is_free_of set (chars run))
+  pub some : (c : ℕ) → slice_get (chars bs) 0 ≡ Some c → is_in set c ≡ false → 0 < length (chars run)
+
+-- so many bytes at the front of a text are alike to the pattern, which has so many characters
+pub record BeginsAlike (alike : ℕ → ℕ → Bool → Type 0) (bs pattern : List ℕ) (bytes count : ℕ) : Type 0 where
+  pub boundary : IsCharBoundary bs bytes
+  pub same : IsAlike alike (chars (take bytes bs)) pattern
+  pub counts : count ≡ length pattern
+
+-- what a comparison of a text with a pattern answers
+abbrev pub Compares : (ℕ → ℕ → Bool → Type 0) → List ℕ → List ℕ → Compared → Type 0
+Compares alike bs pattern Ends = EndsInside alike (chars bs) pattern
+Compares alike bs pattern Differing = Differs alike (chars bs) pattern
+Compares alike bs pattern (Begins bytes count) = BeginsAlike alike bs pattern bytes count

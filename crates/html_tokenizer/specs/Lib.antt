@@ -1,0 +1,10 @@
+pub mod Characters
+pub mod Comments
+pub mod Doctypes
+pub mod Items
+pub mod Lexemes
+pub mod Modes
+pub mod Reading
+pub mod References
+pub mod Slices
+pub mod Tags

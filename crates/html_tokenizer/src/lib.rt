@@ -1,0 +1,6 @@
+//! The grammar of a page's text, and its reading: what a page tells to a sink of tokens.
+#![tactic(auto)]
+
+mod sink;
+
+pub use sink::{TokenSink, TokenizerOpts};
