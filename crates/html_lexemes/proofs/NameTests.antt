@@ -1,5 +1,5 @@
 -- Names and values of references, from what calls on the bytes of a text say.
-use Rattle.std.proofs.Common.{◌≡◌, ◌≢◌, ℕ, ◌+◌, ◌-◌, ◌<◌, Bool, true, false, not, ◌&&◌, List, [], ◌∷◌, ◌++◌, length, take, drop, eqb, leb, Option, None, Some, MatchOption, IsUtf8, chars, unwrap_or, Bor, inl, inr, length-drop, refl, sym, ap, subst, ◌∙◌, arith, encode_utf8, encode_utf8_all, append-nil}
+use Rattle.std.proofs.Common.{◌≡◌, ◌≢◌, ℕ, ◌-◌, ◌<◌, Bool, true, false, not, ◌&&◌, List, [], ◌∷◌, ◌++◌, length, take, drop, eqb, leb, Option, None, Some, MatchOption, IsUtf8, chars, unwrap_or, Bor, inl, inr, length-drop, refl, sym, ap, subst, ◌∙◌, arith, encode_utf8, encode_utf8_all, append-nil}
 use Rattle.std.proofs.lemmas.Bool.{eqb-false, ne_eqb, lt-leb, lt-ltb, and_parts, cases_lt}
 use Rattle.std.proofs.lemmas.Bool.Decides.{nat_tests}
 use Rattle.std.proofs.lemmas.List.{take-append-drop, nil_from_length}

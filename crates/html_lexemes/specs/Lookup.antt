@@ -1,5 +1,5 @@
 -- What a table of references says of a text.
-use Rattle.std.specs.Prelude.{◌≡◌, ℕ, ◌≤◌, IsTrue, List, ◌++◌, length, Option, Some, None}
+use Rattle.std.specs.Prelude.{◌≡◌, ℕ, ◌≤◌, IsTrue, List, ◌++◌, length, Some, None}
 use Rattle.std.specs.FinMap as finite
 use Rattle.html_lexemes.specs.References.{References}
 

@@ -1,5 +1,5 @@
 -- Texts as lists of code points.
-use Rattle.std.specs.Prelude.{◌≡◌, ℕ, true, IsTrue, List}
+use Rattle.std.specs.Prelude.{◌≡◌, ℕ, IsTrue, List}
 use Rattle.std.specs.Bool.{nat_eq}
 use Rattle.std.specs.Cmp.Lexicographic.{pointwise}
 use Rattle.std.proofs.Common.{rules}

@@ -1,8 +1,7 @@
-use Rattle.std.proofs.Common.{◌≡◌, List, IsPermutation, subst, rules}
+use Rattle.std.proofs.Common.{◌≡◌, List, IsPermutation, subst}
 use Rattle.std.proofs.lemmas.Slice.Eq.{slice_eq-Decides}
 use Rattle.std.proofs.lemmas.List.Sorted.{IsPermutation-refl}
 use Rattle.html_lexemes.specs.declared.names.Attribute.{Attribute}
-use Rattle.html_lexemes.specs.Tags.{IsEquivalent}
 use Rattle.html_lexemes.proofs.SameAttributes.{attribute_decides}
 use Rattle.html_lexemes.proofs.token.Tag.equiv_modulo_attr_order.Goals as goal
 
