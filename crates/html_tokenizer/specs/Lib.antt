@@ -6,5 +6,6 @@ pub mod Lexemes
 pub mod Modes
 pub mod Reading
 pub mod References
+pub mod RowWords
 pub mod Slices
 pub mod Tags

@@ -93,11 +93,11 @@ tag_end table cs = tag_end_from table (suc (length cs)) cs
 
 -- the attributes without those whose name came before
 abbrev has_name : List ℕ → List Attribute → Bool
-has_name name as = list_any (λ a. bytes_eq a.name.local name) as
+has_name name seen = list_any (λ a. bytes_eq a.name.local name) seen
 
 abbrev pub first_of_each : List Attribute → List Attribute → List Attribute
 first_of_each seen [] = seen
-first_of_each seen (a ∷ as) = first_of_each (if has_name a.name.local seen then seen else seen ++ a ∷ []) as
+first_of_each seen (a ∷ others) = first_of_each (if has_name a.name.local seen then seen else seen ++ a ∷ []) others
 
 -- a tag of a name as it is written
 abbrev pub tag_of : TagKind → List ℕ → TagEnd → Tag

@@ -4,3 +4,6 @@
 mod sink;
 
 pub use sink::{TokenSink, TokenizerOpts};
+
+#[cfg(test)]
+mod rows;
