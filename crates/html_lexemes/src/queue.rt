@@ -20,8 +20,8 @@ pub enum SetResult {
 /// its front, one that was put back and taken again counting again, up to 2^64 - 1; no call tells
 /// that number.
 ///
-/// What was taken stays in memory until the next text comes at the latest, or until it is as long as
-/// what is left. Taking is constant time for each character.
+/// What was taken stays in memory until a text comes when it is at least as long as what is left, at
+/// the latest until all is taken and a text comes. Taking is constant time for each character.
 #[derive(Debug, Drop)]
 pub struct BufferQueue {
     // what is left stands from `start` on, in bytes

@@ -1,9 +1,11 @@
 pub mod Characters
+pub mod Classes
 pub mod Comments
 pub mod Doctypes
 pub mod Items
 pub mod Lexemes
 pub mod Modes
+pub mod Read
 pub mod Reading
 pub mod References
 pub mod RowWords

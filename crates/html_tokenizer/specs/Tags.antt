@@ -60,7 +60,7 @@ attribute name value = record { name = record { ns = Other []; local = name }; v
 abbrev pub attribute_at : References → ℕ → List ℕ → Option (Attribute × List ℕ)
 attribute_at table c cs =
     option_map (λ value. (attribute (name_of (c ∷ front_while (λ d. not (ends_attribute_name d)) cs)) (value_of table value.slice), value.rest))
-        (value_behind (rest_while (λ d. not (ends_attribute_name d)) cs))
+    (value_behind (rest_while (λ d. not (ends_attribute_name d)) cs))
 
 -- what stands behind a tag's name: its attributes as they are written, whether `/` stands directly before its `>`, and what follows
 pub record TagEnd : Type 0 where
@@ -106,11 +106,11 @@ tag_of kind name end = record {
   name = name_of name;
   self_closing = end.self_closing;
   attrs = first_of_each [] end.attributes;
-  had_duplicate_attributes = not (length (first_of_each [] end.attributes) == length end.attributes)
+  had_duplicate_attributes = not (length (first_of_each [] end.attributes) == length end.attributes);
 }
 
 -- A tag whose name begins here, and what follows it: none where the text ends in it.
 abbrev pub tag_at : References → TagKind → List ℕ → Option (Tag × List ℕ)
 tag_at table kind cs =
     option_map (λ end. (tag_of kind (front_while (λ c. not (ends_tag_name c)) cs) end, end.rest))
-        (tag_end table (rest_while (λ c. not (ends_tag_name c)) cs))
+    (tag_end table (rest_while (λ c. not (ends_tag_name c)) cs))

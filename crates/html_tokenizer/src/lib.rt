@@ -1,7 +1,12 @@
 //! The grammar of a page's text, and its reading: what a page tells to a sink of tokens.
 #![tactic(auto)]
 
+mod comments;
+mod doctypes;
+mod references;
 mod sink;
+mod slices;
+mod tags;
 
 pub use sink::{TokenSink, TokenizerOpts};
 

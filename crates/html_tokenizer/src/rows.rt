@@ -51,7 +51,7 @@ fn raw_texts_of_rows()
 fn tags_of_rows()
     ensures self_closing { (table : References) → joined (items_from table false 9 ordinary_mode (codes "<br/><p / x>"))
         ≡ tag (record { kind = StartTag; name = codes "br"; self_closing = true; attrs = []; had_duplicate_attributes = false })
-            ∷ start (codes "p") (attribute (codes "x") [] ∷ []) ∷ [] }
+        ∷ start (codes "p") (attribute (codes "x") [] ∷ []) ∷ [] }
     ensures slash_in_a_value { (table : References) → joined (items_from table false 9 ordinary_mode (codes "<p a=/>"))
         ≡ start (codes "p") (attribute (codes "a") (codes "/") ∷ []) ∷ [] }
     ensures sign_in_a_name { (table : References) → joined (items_from table false 9 ordinary_mode (codes "<p =a=b>"))

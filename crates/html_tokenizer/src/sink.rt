@@ -3,8 +3,8 @@ ghost use Rattle.html_lexemes.specs.declared.token.TokenSinkResult.{TokenSinkRes
 ghost use Rattle.html_tokenizer.specs.Items.{Item, item_of};
 ghost use Rattle.html_tokenizer.specs.Reading.{IsLawful};
 
-use html_lexemes::{LocalName, ParseFault, Token, TokenSinkResult};
 use html_lexemes::states::State;
+use html_lexemes::{LocalName, ParseFault, Token, TokenSinkResult};
 
 /// What tokens are told to. Contracts see an abstract state and a step over what was told; nothing
 /// depends on the wording of errors or on lines.

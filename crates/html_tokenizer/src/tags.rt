@@ -1,0 +1,125 @@
+ghost use Rattle.std.specs.Prelude.{◌≡◌, chars, option_map, IfOk, IfSome};
+ghost use Rattle.std.specs.Str.{IsUtf8};
+ghost use Rattle.html_tokenizer.specs.Characters.{name_of};
+ghost use Rattle.html_tokenizer.specs.Tags.{first_of_each, tag_at, tag_end, value_behind, written_value};
+ghost use Rattle.html_tokenizer.specs.Read.{cut_of, tag_and_rest};
+
+use crate::references::value_of;
+use crate::slices::{CharacterClass, behind, cut_at, first_and_rest, skip, split_while};
+use html_lexemes::{
+    Attribute, Attributes, LocalName, Namespace, QualName, ReferenceTable, Tag, TagKind, Text,
+};
+use std::alloc::{AllocError, Global};
+
+/// The tag whose name begins here, and what follows it (WHATWG HTML, 13.2.5.8). `None` is a tag that the
+/// end of the text cuts off. The error is want of memory alone.
+pub fn tag_at<'t>(
+    alloc: Global,
+    table: &ReferenceTable,
+    kind: TagKind,
+    text: &'t str,
+) -> Result<Option<(Tag, &'t str)>, AllocError>
+    ensures value { IfOk result (λ read. option_map tag_and_rest read ≡ tag_at table.now kind (chars text.now)) }
+    ensures utf8 { IfOk result (λ read. IfSome read (λ r. IsUtf8 r.1.now)) }
+{
+    let (name, mut rest) = split_while(text, CharacterClass::TagName);
+    let name = LocalName::from(name_of(alloc, name)?);
+    let mut attrs = Attributes::new(alloc);
+    let mut had_duplicate_attributes = false;
+    'attributes: loop {
+        let (gap, behind_gap) = split_while(rest, CharacterClass::Gap);
+        let Some((c, behind_c)) = first_and_rest(behind_gap) else {
+            return Ok(None);
+        };
+        if c == '>' {
+            let tag = Tag {
+                kind,
+                name,
+                self_closing: gap.ends_with('/'),
+                attrs,
+                had_duplicate_attributes,
+            };
+            return Ok(Some((tag, behind_c)));
+        }
+        let Some((attribute, behind_attribute)) = attribute_at(alloc, table, behind_gap)? else {
+            return Ok(None);
+        };
+        rest = behind_attribute;
+        if has_name(attrs.as_slice(), &attribute) {
+            had_duplicate_attributes = true;
+        } else {
+            attrs.push(attribute)?;
+        }
+    }
+}
+
+// whether an attribute of that name is there
+fn has_name(attributes: &[Attribute], attribute: &Attribute) -> bool {
+    attributes
+        .iter()
+        .any(|a| a.name.local == attribute.name.local)
+}
+
+// the attribute that begins here, with any character, and what follows it
+fn attribute_at<'t>(
+    alloc: Global,
+    table: &ReferenceTable,
+    text: &'t str,
+) -> Result<Option<(Attribute, &'t str)>, AllocError> {
+    let Some((c, behind_c)) = first_and_rest(text) else {
+        return Ok(None);
+    };
+    let (_, rest) = split_while(behind_c, CharacterClass::AttributeName);
+    let (name, _) = text.split_at(text.len() - rest.len());
+    let Some((value, rest)) = value_behind(rest) else {
+        return Ok(None);
+    };
+    let attribute = Attribute {
+        name: QualName::new(
+            Namespace::Other(Text::from(String::new(alloc))),
+            LocalName::from(name_of(alloc, name)?),
+        ),
+        value: value_of(alloc, table, value)?,
+    };
+    Ok(Some((attribute, rest)))
+}
+
+// the value behind an attribute's name as it is written, and what follows it
+fn value_behind(text: &str) -> Option<(&str, &str)>
+    ensures value { option_map cut_of result ≡ value_behind (chars text.now) }
+    ensures slice_utf8 { IfSome result (λ r. IsUtf8 r.0.now) }
+    ensures rest_utf8 { IfSome result (λ r. IsUtf8 r.1.now) }
+{
+    match behind(skip(text, CharacterClass::Space), "=") {
+        Some(rest) => written_value(skip(rest, CharacterClass::Space)),
+        None => Some(("", text)),
+    }
+}
+
+// the value behind `=` as it is written, and what follows it
+fn written_value(text: &str) -> Option<(&str, &str)>
+    ensures value { option_map cut_of result ≡ written_value (chars text.now) }
+    ensures slice_utf8 { IfSome result (λ r. IsUtf8 r.0.now) }
+    ensures rest_utf8 { IfSome result (λ r. IsUtf8 r.1.now) }
+{
+    match first_and_rest(text) {
+        Some(('"', rest)) => cut_at(rest, "\""),
+        Some(('\'', rest)) => cut_at(rest, "'"),
+        _ => Some(split_while(text, CharacterClass::Unquoted)),
+    }
+}
+
+/// A name: ASCII letters in lower case, and each NUL as U+FFFD. The error is want of memory alone.
+pub fn name_of(alloc: Global, text: &str) -> Result<Text, AllocError>
+    ensures { IfOk result (λ name. name ≡ name_of (chars text.now)) }
+{
+    let mut name = String::new(alloc);
+    'name: for c in text.chars() {
+        name.push(if c == '\0' {
+            '\u{fffd}'
+        } else {
+            c.to_ascii_lowercase()
+        })?;
+    }
+    Ok(Text::from(name))
+}
