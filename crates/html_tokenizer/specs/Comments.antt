@@ -9,7 +9,7 @@ abbrev pub comment_mark : List ℕ → Option (List ℕ)
 comment_mark cs = option_or (after (codes "-->") cs) (after (codes "--!>") cs)
 
 -- at the end of input a begun end mark is no part of the comment
-abbrev dropped : ℕ → List ℕ → List ℕ
+abbrev pub dropped : ℕ → List ℕ → List ℕ
 dropped n cs = take (length cs - n) cs
 
 abbrev pub without_begun_mark : List ℕ → List ℕ
@@ -18,14 +18,14 @@ without_begun_mark cs =
     else (if begins (codes "--") (reverse cs) then dropped 2 cs
     else (if begins (codes "-") (reverse cs) then dropped 1 cs else cs))
 
-abbrev ended : List ℕ → Cut
+abbrev pub ended : List ℕ → Cut
 ended cs = record { slice = without_begun_mark cs; rest = [] }
 
-abbrev found_or_ended : Option Cut → List ℕ → Cut
+abbrev pub found_or_ended : Option Cut → List ℕ → Cut
 found_or_ended None cs = ended cs
 found_or_ended (Some cut) cs = cut
 
-abbrev empty_comment : List ℕ → Cut
+abbrev pub empty_comment : List ℕ → Cut
 empty_comment rest = record { slice = []; rest = rest }
 
 -- The comment behind `<!--`: empty before `>` and `->`, else the shortest slice before an end mark.

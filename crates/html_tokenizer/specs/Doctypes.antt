@@ -35,12 +35,12 @@ abbrev pub behind_identifier : ℕ → List ℕ → List ℕ
 behind_identifier quote cs = rest_while (λ c. not (ends_identifier quote c)) cs
 
 -- behind a system identifier: `>`, the end, or what is skipped without setting the flag
-abbrev behind_system : Doctype → List ℕ → DoctypeEnd
+abbrev pub behind_system : Doctype → List ℕ → DoctypeEnd
 behind_system doctype [] = record { doctype = with_quirks doctype; rest = [] }
 behind_system doctype (c ∷ cs) = skipped doctype (c ∷ cs)
 
 -- the identifier was closed by its quote, or `>` or the end cuts it
-abbrev closed_system : ℕ → Doctype → List ℕ → DoctypeEnd
+abbrev pub closed_system : ℕ → Doctype → List ℕ → DoctypeEnd
 closed_system quote doctype cs =
     if begins (quote ∷ []) cs then behind_system doctype (without_spaces (drop 1 cs)) else skipped (with_quirks doctype) cs
 
@@ -59,7 +59,7 @@ abbrev pub system_or : Doctype → (List ℕ → DoctypeEnd) → List ℕ → Do
 system_or doctype otherwise [] = otherwise []
 system_or doctype otherwise (c ∷ cs) = if is_quote c then system_at doctype c cs else otherwise (c ∷ cs)
 
-abbrev closed_public : ℕ → Doctype → List ℕ → DoctypeEnd
+abbrev pub closed_public : ℕ → Doctype → List ℕ → DoctypeEnd
 closed_public quote doctype cs =
     if begins (quote ∷ []) cs then system_or doctype (ends_here doctype) (without_spaces (drop 1 cs)) else skipped (with_quirks doctype) cs
 
@@ -81,7 +81,7 @@ abbrev pub named_doctype : Option (List ℕ) → Doctype
 named_doctype name = record { name = name; public_id = None; system_id = None; force_quirks = false }
 
 -- a name up to a space or `>`, and what follows it over spaces
-abbrev behind_spaces : List ℕ → DoctypeEnd
+abbrev pub behind_spaces : List ℕ → DoctypeEnd
 behind_spaces cs =
     if length (front_while (λ c. not (ends_unquoted c)) cs) == 0
     then skipped (with_quirks (named_doctype None)) cs

@@ -3,29 +3,22 @@ use Rattle.std.specs.Prelude.{◌≡◌, ℕ, Bool, true, false, List, Option, S
 use Rattle.html_lexemes.specs.declared.states.RawKind.{RawKind}
 use Rattle.html_lexemes.specs.declared.states.State.{State}
 use Rattle.html_lexemes.specs.declared.states.State.TheVariants as states
+use Rattle.html_tokenizer.specs.declared.modes.Mode.{Mode}
+use Rattle.html_tokenizer.specs.declared.modes.TextKind.{TextKind}
+use Rattle.html_tokenizer.specs.declared.modes.TextKind.TheVariants.{Ordinary, Plain, Raw}
 use Rattle.html_lexemes.specs.declared.token.Tag.{Tag}
 use Rattle.html_lexemes.specs.declared.token.TagKind.{TagKind}
 use Rattle.html_lexemes.specs.declared.token.TagKind.TheVariants.{StartTag, EndTag}
 use Rattle.html_lexemes.specs.declared.token.TokenSinkResult.{TokenSinkResult}
 use Rattle.html_lexemes.specs.declared.token.TokenSinkResult.TheVariants.{Continue, Script, Plaintext, RawData, EncodingIndicator}
 
-pub data TextKind : Type 0 where
-  ordinary : TextKind
-  plain : TextKind
-  raw : RawKind → TextKind
-
--- the kind of text, and the name of the last start tag
-pub record Mode : Type 0 where
-  pub text : TextKind
-  pub last_start_tag : Option (List ℕ)
-
 -- what a sink asks for by its answer to a tag
 abbrev pub text_behind : {H : Type 0} → TokenSinkResult H → TextKind
-text_behind Continue = ordinary
-text_behind (Script handle) = ordinary
-text_behind Plaintext = plain
-text_behind (RawData kind) = raw kind
-text_behind (EncodingIndicator encoding) = ordinary
+text_behind Continue = Ordinary
+text_behind (Script handle) = Ordinary
+text_behind Plaintext = Plain
+text_behind (RawData kind) = Raw kind
+text_behind (EncodingIndicator encoding) = Ordinary
 
 -- The answer asks for a pause: what follows the tag's `>` is read later.
 abbrev pub is_pause : {H : Type 0} → TokenSinkResult H → Bool
@@ -35,7 +28,7 @@ is_pause Continue = false
 is_pause Plaintext = false
 is_pause (RawData kind) = false
 
-abbrev last_behind : TagKind → List ℕ → Option (List ℕ) → Option (List ℕ)
+abbrev pub last_behind : TagKind → List ℕ → Option (List ℕ) → Option (List ℕ)
 last_behind StartTag name last = Some name
 last_behind EndTag name last = last
 
@@ -45,6 +38,6 @@ mode_behind mode t answer = record { text = text_behind answer; last_start_tag =
 
 -- the mode in which a page begins: a state of markup or of an element's text, else ordinary text
 abbrev pub text_of_state : Option State → TextKind
-text_of_state (Some states.Plaintext) = plain
-text_of_state (Some (states.RawData kind)) = raw kind
-text_of_state _ = ordinary
+text_of_state (Some states.Plaintext) = Plain
+text_of_state (Some (states.RawData kind)) = Raw kind
+text_of_state _ = Ordinary

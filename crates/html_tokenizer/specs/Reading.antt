@@ -5,17 +5,20 @@ use Rattle.html_lexemes.specs.declared.token.TokenSinkResult.{TokenSinkResult}
 use Rattle.html_lexemes.specs.declared.token.TokenSinkResult.TheVariants.{Continue}
 use Rattle.html_tokenizer.specs.Items.{Item, characters, null_character, tag, comment, doctype, error, end_of_file}
 use Rattle.html_tokenizer.specs.Lexemes.{lexeme, nothing, told, tagged}
-use Rattle.html_tokenizer.specs.Modes.{Mode, mode_behind}
+use Rattle.html_tokenizer.specs.Modes.{mode_behind}
+use Rattle.html_tokenizer.specs.declared.modes.Mode.{Mode}
+use Rattle.html_lexemes.specs.declared.token.Tag.{Tag}
 
 -- In a mode and from a state of the sink, a text leaves the sink in a state; the end is told last.
 pub data Reading {A H : Type 0} (table : References) (step : A → Item → A) (reply : A → Item → TokenSinkResult H) (foreign : A → Bool) : Mode → A → List ℕ → A → Type 0 where
-  ends : (mode : Mode) (state : A) (cs : List ℕ) → lexeme table (foreign state) mode cs ≡ nothing →
-      Reading table step reply foreign mode state cs (step state end_of_file)
+  ends : (mode : Mode) (state : A) (cs : List ℕ) (final : A) →
+      lexeme table (foreign state) mode cs ≡ nothing → final ≡ step state end_of_file →
+      Reading table step reply foreign mode state cs final
   goes : (mode : Mode) (state : A) (cs : List ℕ) (items : List Item) (behind : Mode) (rest : List ℕ) (final : A) →
       lexeme table (foreign state) mode cs ≡ told items behind rest →
       Reading table step reply foreign behind (fold step state items) rest final →
       Reading table step reply foreign mode state cs final
-  tags : (mode : Mode) (state : A) (cs : List ℕ) (t : _) (rest : List ℕ) (final : A) →
+  tags : (mode : Mode) (state : A) (cs : List ℕ) (t : Tag) (rest : List ℕ) (final : A) →
       lexeme table (foreign state) mode cs ≡ tagged t rest →
       Reading table step reply foreign (mode_behind mode t (reply state (tag t))) (step state (tag t)) rest final →
       Reading table step reply foreign mode state cs final

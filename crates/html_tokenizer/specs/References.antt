@@ -14,11 +14,11 @@ pub record Found : Type 0 where
   pub closed : Bool
   pub rest : List ℕ
 
-abbrev semicolon : ℕ
+abbrev pub semicolon : ℕ
 semicolon = 59
 
 -- The longest name of the table that a text begins with, of those that begin with a front already read.
-abbrev named_here : References → List ℕ → List ℕ → Option Found
+abbrev pub named_here : References → List ℕ → List ℕ → Option Found
 named_here table front rest =
     option_map (λ value. record { characters = value; closed = list_any (λ c. c == semicolon) front; rest = rest }) (finite.get table front)
 
@@ -49,7 +49,7 @@ abbrev pub number_of : ℕ → List ℕ → ℕ
 number_of base digits = fold (λ n d. n * base + digit_value d) 0 digits
 
 -- behind `#`, or behind `#x`: digits, at least one, and an optional semicolon
-abbrev numeric_of : ℕ → List ℕ → List ℕ → Option Found
+abbrev pub numeric_of : ℕ → List ℕ → List ℕ → Option Found
 numeric_of base digits rest =
     if length digits == 0
     then None
@@ -58,7 +58,7 @@ numeric_of base digits rest =
 abbrev pub numeric : ℕ → List ℕ → Option Found
 numeric base cs = numeric_of base (front_while (is_digit base) cs) (rest_while (is_digit base) cs)
 
-abbrev is_x : ℕ → Bool
+abbrev pub is_x : ℕ → Bool
 is_x c = c == 120 || c == 88
 
 abbrev pub behind_number_sign : List ℕ → Option Found
@@ -69,17 +69,17 @@ abbrev pub reference : References → List ℕ → Option Found
 reference table cs = if begins (35 ∷ []) cs then behind_number_sign (drop 1 cs) else named table cs
 
 -- In an attribute's value a name without its semicolon, before `=` or a letter or digit, is no reference.
-abbrev goes_on : ℕ → Bool
+abbrev pub goes_on : ℕ → Bool
 goes_on c = c == 61 || is_alphanumeric c
 
-abbrev kept_in_value : Found → Option Found
+abbrev pub kept_in_value : Found → Option Found
 kept_in_value found = if not found.closed && first_passes goes_on found.rest then None else Some found
 
 abbrev pub reference_in_value : References → List ℕ → Option Found
 reference_in_value table cs = if begins (35 ∷ []) cs then behind_number_sign (drop 1 cs) else option_and_then kept_in_value (named table cs)
 
 -- An attribute's value: its references read, and NUL shown. The number is at least the text's length.
-abbrev value_step : ℕ → List ℕ → Option Found → (List ℕ → List ℕ) → List ℕ
+abbrev pub value_step : ℕ → List ℕ → Option Found → (List ℕ → List ℕ) → List ℕ
 value_step c cs None further = shown c ∷ further cs
 value_step c cs (Some found) further = found.characters ++ further found.rest
 

@@ -10,13 +10,16 @@ use Rattle.html_lexemes.specs.declared.token.TokenSinkResult.{TokenSinkResult}
 use Rattle.html_lexemes.specs.declared.token.TokenSinkResult.TheVariants.{Continue}
 use Rattle.html_tokenizer.specs.Items.{Item, characters, null_character, tag, comment, doctype, error, end_of_file}
 use Rattle.html_tokenizer.specs.Lexemes.{Lexeme, lexeme, nothing, told, tagged}
-use Rattle.html_tokenizer.specs.Modes.{Mode, TextKind, mode_behind, ordinary}
+use Rattle.html_tokenizer.specs.Modes.{mode_behind}
+use Rattle.html_tokenizer.specs.declared.modes.Mode.{Mode}
+use Rattle.html_tokenizer.specs.declared.modes.TextKind.{TextKind}
+use Rattle.html_tokenizer.specs.declared.modes.TextKind.TheVariants.{Ordinary}
 use Rattle.html_tokenizer.specs.Tags.{attribute}
 
-abbrev going_on : TokenSinkResult ℕ
+abbrev pub going_on : TokenSinkResult ℕ
 going_on = Continue
 
-abbrev items_of_lexeme : (Mode → List ℕ → List Item) → Mode → Lexeme → List Item
+abbrev pub items_of_lexeme : (Mode → List ℕ → List Item) → Mode → Lexeme → List Item
 items_of_lexeme further mode nothing = []
 items_of_lexeme further mode (told items behind rest) = items ++ further behind rest
 items_of_lexeme further mode (tagged t rest) = tag t ∷ further (mode_behind mode t going_on) rest
@@ -26,7 +29,7 @@ abbrev pub items_from : References → Bool → ℕ → Mode → List ℕ → Li
 items_from table foreign zero mode cs = []
 items_from table foreign (suc n) mode cs = items_of_lexeme (items_from table foreign n) mode (lexeme table foreign mode cs)
 
-abbrev with_characters : List ℕ → List Item → List Item
+abbrev pub with_characters : List ℕ → List Item → List Item
 with_characters cs [] = characters cs ∷ []
 with_characters cs (characters ds ∷ items) = characters (cs ++ ds) ∷ items
 with_characters cs (item ∷ items) = characters cs ∷ item ∷ items
@@ -38,7 +41,7 @@ joined (error ∷ items) = joined items
 joined (item ∷ items) = item ∷ joined items
 
 abbrev pub ordinary_mode : Mode
-ordinary_mode = record { text = ordinary; last_start_tag = None }
+ordinary_mode = record { text = Ordinary; last_start_tag = None }
 
 abbrev pub mode_in : TextKind → List ℕ → Mode
 mode_in kind name = record { text = kind; last_start_tag = Some name }

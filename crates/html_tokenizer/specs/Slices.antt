@@ -36,11 +36,11 @@ pub record Cut : Type 0 where
   pub slice : List ℕ
   pub rest : List ℕ
 
-abbrev longer : ℕ → Cut → Cut
+abbrev pub longer : ℕ → Cut → Cut
 longer c cut = record cut { slice = c ∷ cut.slice }
 
 -- The shortest slice before a mark, where there is one; `mark` gives what follows a mark that a text begins with.
-abbrev cut_here : ℕ → Option (List ℕ) → Option Cut → Option Cut
+abbrev pub cut_here : ℕ → Option (List ℕ) → Option Cut → Option Cut
 cut_here c (Some rest) later = Some (record { slice = []; rest = rest })
 cut_here c None later = option_map (longer c) later
 

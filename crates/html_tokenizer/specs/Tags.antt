@@ -11,13 +11,13 @@ use Rattle.html_tokenizer.specs.Characters.{is_space, name_of}
 use Rattle.html_tokenizer.specs.References.{value_of}
 use Rattle.html_tokenizer.specs.Slices.{Cut, after, begins, cut, first_passes, front_while, rest_while}
 
-abbrev slash : ℕ
+abbrev pub slash : ℕ
 slash = 47
 
-abbrev greater : ℕ
+abbrev pub greater : ℕ
 greater = 62
 
-abbrev equals : ℕ
+abbrev pub equals : ℕ
 equals = 61
 
 -- where the name of a tag ends, and where that of an attribute does
@@ -68,7 +68,7 @@ pub record TagEnd : Type 0 where
   pub self_closing : Bool
   pub rest : List ℕ
 
-abbrev with_attribute : Attribute → TagEnd → TagEnd
+abbrev pub with_attribute : Attribute → TagEnd → TagEnd
 with_attribute a end = record end { attributes = a ∷ end.attributes }
 
 -- the last of the gap's characters is a `/`
@@ -77,7 +77,7 @@ ends_with_slash [] = false
 ends_with_slash (c ∷ cs) = if length cs == 0 then c == slash else ends_with_slash cs
 
 -- Over a gap, the end of the tag or an attribute: none where the text ends in the tag. The number is more than the text's length.
-abbrev behind_gap : References → Bool → List ℕ → (List ℕ → Option TagEnd) → Option TagEnd
+abbrev pub behind_gap : References → Bool → List ℕ → (List ℕ → Option TagEnd) → Option TagEnd
 behind_gap table closes [] further = None
 behind_gap table closes (c ∷ cs) further =
     if c == greater
@@ -92,7 +92,7 @@ abbrev pub tag_end : References → List ℕ → Option TagEnd
 tag_end table cs = tag_end_from table (suc (length cs)) cs
 
 -- the attributes without those whose name came before
-abbrev has_name : List ℕ → List Attribute → Bool
+abbrev pub has_name : List ℕ → List Attribute → Bool
 has_name name seen = list_any (λ a. bytes_eq a.name.local name) seen
 
 abbrev pub first_of_each : List Attribute → List Attribute → List Attribute

@@ -3,11 +3,14 @@
 
 mod comments;
 mod doctypes;
+pub mod laws;
+mod modes;
 mod references;
 mod sink;
 mod slices;
 mod tags;
 
+pub use modes::{Mode, TextKind};
 pub use sink::{TokenSink, TokenizerOpts};
 
 #[cfg(test)]

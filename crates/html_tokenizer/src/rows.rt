@@ -4,7 +4,7 @@ ghost use Rattle.html_lexemes.specs.References.{References};
 ghost use Rattle.html_lexemes.specs.declared.states.RawKind.TheVariants.{Rcdata, Rawtext, ScriptData};
 ghost use Rattle.html_lexemes.specs.declared.token.TagKind.TheVariants.{StartTag, EndTag};
 ghost use Rattle.html_tokenizer.specs.Items.{characters, comment, doctype, null_character, tag};
-ghost use Rattle.html_tokenizer.specs.Modes.{plain, raw};
+ghost use Rattle.html_tokenizer.specs.declared.modes.TextKind.TheVariants.{Plain, Raw};
 ghost use Rattle.html_tokenizer.specs.RowWords.{end, items_from, joined, mode_in, ordinary_mode, quirky, start};
 ghost use Rattle.html_tokenizer.specs.Tags.{attribute};
 
@@ -30,21 +30,21 @@ fn texts_of_rows()
         ≡ characters (0xFFFD ∷ 0x20AC ∷ 0xFFFD ∷ 0xFFFD ∷ 65 ∷ []) ∷ [] }
     ensures nul { (table : References) → joined (items_from table false 9 ordinary_mode (97 ∷ 0 ∷ 98 ∷ []))
         ≡ characters (codes "a") ∷ null_character ∷ characters (codes "b") ∷ [] }
-    ensures nul_in_an_element { (table : References) → joined (items_from table false 9 (mode_in (raw Rcdata) (codes "title")) (97 ∷ 0 ∷ 98 ∷ []))
+    ensures nul_in_an_element { (table : References) → joined (items_from table false 9 (mode_in (Raw Rcdata) (codes "title")) (97 ∷ 0 ∷ 98 ∷ []))
         ≡ characters (97 ∷ 0xFFFD ∷ 98 ∷ []) ∷ [] }
     ensures slash_at_the_end { (table : References) → joined (items_from table false 9 ordinary_mode (codes "a</")) ≡ characters (codes "a</") ∷ [] }
     ensures sign_at_the_end { (table : References) → joined (items_from table false 9 ordinary_mode (codes "a<")) ≡ characters (codes "a<") ∷ [] }
 {}
 
 fn raw_texts_of_rows()
-    ensures script { (table : References) → joined (items_from table false 40 (mode_in (raw ScriptData) (codes "script")) (codes "<!--<script></script>--></script>"))
+    ensures script { (table : References) → joined (items_from table false 40 (mode_in (Raw ScriptData) (codes "script")) (codes "<!--<script></script>--></script>"))
         ≡ characters (codes "<!--<script></script>-->") ∷ end (codes "script") ∷ [] }
-    ensures cut_tag { (table : References) → joined (items_from table false 20 (mode_in (raw Rcdata) (codes "title")) (codes "a</title ")) ≡ characters (codes "a") ∷ [] }
-    ensures cut_name { (table : References) → joined (items_from table false 20 (mode_in (raw Rcdata) (codes "title")) (codes "a</title")) ≡ characters (codes "a</title") ∷ [] }
-    ensures other_name { (table : References) → joined (items_from table false 20 (mode_in (raw Rawtext) (codes "style")) (codes "a</b></STYLE>c"))
+    ensures cut_tag { (table : References) → joined (items_from table false 20 (mode_in (Raw Rcdata) (codes "title")) (codes "a</title ")) ≡ characters (codes "a") ∷ [] }
+    ensures cut_name { (table : References) → joined (items_from table false 20 (mode_in (Raw Rcdata) (codes "title")) (codes "a</title")) ≡ characters (codes "a</title") ∷ [] }
+    ensures other_name { (table : References) → joined (items_from table false 20 (mode_in (Raw Rawtext) (codes "style")) (codes "a</b></STYLE>c"))
         ≡ characters (codes "a</b>") ∷ end (codes "style") ∷ characters (codes "c") ∷ [] }
-    ensures to_the_end { (table : References) → joined (items_from table false 20 (mode_in plain (codes "plaintext")) (codes "a</plaintext>")) ≡ characters (codes "a</plaintext>") ∷ [] }
-    ensures empty_comment { (table : References) → joined (items_from table false 20 (mode_in (raw ScriptData) (codes "script")) (codes "<!--></script>a"))
+    ensures to_the_end { (table : References) → joined (items_from table false 20 (mode_in Plain (codes "plaintext")) (codes "a</plaintext>")) ≡ characters (codes "a</plaintext>") ∷ [] }
+    ensures empty_comment { (table : References) → joined (items_from table false 20 (mode_in (Raw ScriptData) (codes "script")) (codes "<!--></script>a"))
         ≡ characters (codes "<!-->") ∷ end (codes "script") ∷ characters (codes "a") ∷ [] }
 {}
 
