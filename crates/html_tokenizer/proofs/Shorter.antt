@@ -84,8 +84,8 @@ pub comment_le : (cs : List ℕ) → length (comment_slice cs).rest ≤ length c
 comment_le cs =
     let P : Cut → Type 0 = λ cut. length cut.rest ≤ length cs in
     both P (begins (codes ">") cs) (empty_comment (drop 1 cs)) (cond (begins (codes "->") cs) (empty_comment (drop 2 cs)) (found_or_ended (cut comment_mark cs) cs))
-        (drop_le 1 cs)
-        (both P (begins (codes "->") cs) (empty_comment (drop 2 cs)) (found_or_ended (cut comment_mark cs) cs) (drop_le 2 cs) (found_le (cut comment_mark cs) cs (cut_le comment_mark mark_le cs)))
+    (drop_le 1 cs)
+    (both P (begins (codes "->") cs) (empty_comment (drop 2 cs)) (found_or_ended (cut comment_mark cs) cs) (drop_le 2 cs) (found_le (cut comment_mark cs) cs (cut_le comment_mark mark_le cs)))
 
 pub bogus_le : (cs : List ℕ) → length (bogus_comment_slice cs).rest ≤ length cs
 bogus_le cs = cut_or_all_le (codes ">") cs
@@ -114,7 +114,7 @@ system_at_le : (n : ℕ) (d : Doctype) (quote : ℕ) (cs : List ℕ) → length 
 system_at_le n d quote cs h =
     let l : length (behind_identifier quote cs) ≤ n = (let k = rest_while_le (λ c. not (ends_identifier quote c)) cs in omega arith) in
     both (Ends n) (begins (quote ∷ []) (behind_identifier quote cs)) (behind_system (with_system d (identifier quote cs)) (without_spaces (drop 1 (behind_identifier quote cs)))) (skipped (with_quirks (with_system d (identifier quote cs))) (behind_identifier quote cs))
-        (behind_system_le n (with_system d (identifier quote cs)) _ (spaces_le n _ (drop_within n 1 _ l))) (skipped_le n (with_quirks (with_system d (identifier quote cs))) _ l)
+    (behind_system_le n (with_system d (identifier quote cs)) _ (spaces_le n _ (drop_within n 1 _ l))) (skipped_le n (with_quirks (with_system d (identifier quote cs))) _ l)
 
 system_or_le : (n : ℕ) (d : Doctype) (otherwise : List ℕ → DoctypeEnd) → ((cs : List ℕ) → length cs ≤ n → Ends n (otherwise cs)) → (cs : List ℕ) → length cs ≤ n → Ends n (system_or d otherwise cs)
 system_or_le n d otherwise f [] h = f [] h
@@ -124,8 +124,8 @@ public_at_le : (n : ℕ) (d : Doctype) (quote : ℕ) (cs : List ℕ) → length 
 public_at_le n d quote cs h =
     let l : length (behind_identifier quote cs) ≤ n = (let k = rest_while_le (λ c. not (ends_identifier quote c)) cs in omega arith) in
     both (Ends n) (begins (quote ∷ []) (behind_identifier quote cs)) (system_or (with_public d (identifier quote cs)) (ends_here (with_public d (identifier quote cs))) (without_spaces (drop 1 (behind_identifier quote cs)))) (skipped (with_quirks (with_public d (identifier quote cs))) (behind_identifier quote cs))
-        (system_or_le n (with_public d (identifier quote cs)) (ends_here (with_public d (identifier quote cs))) (λ ds k. ends_here_le n (with_public d (identifier quote cs)) ds k) _ (spaces_le n _ (drop_within n 1 _ l)))
-        (skipped_le n (with_quirks (with_public d (identifier quote cs))) _ l)
+    (system_or_le n (with_public d (identifier quote cs)) (ends_here (with_public d (identifier quote cs))) (λ ds k. ends_here_le n (with_public d (identifier quote cs)) ds k) _ (spaces_le n _ (drop_within n 1 _ l)))
+    (skipped_le n (with_quirks (with_public d (identifier quote cs))) _ l)
 
 behind_public_le : (n : ℕ) (d : Doctype) (cs : List ℕ) → length cs ≤ n → Ends n (behind_public d cs)
 behind_public_le n d [] h = skipped_le n (with_quirks d) [] h
@@ -134,17 +134,17 @@ behind_public_le n d (c ∷ cs) h = both (Ends n) (is_quote c) (public_at d c cs
 behind_keyword_le : (n : ℕ) (d : Doctype) (cs : List ℕ) → length cs ≤ n → Ends n (behind_keyword d cs)
 behind_keyword_le n d cs h =
     both (Ends n) (begins_word (codes "public") cs) (behind_public d (without_spaces (drop 6 cs))) (cond (begins_word (codes "system") cs) (system_or d (skipped (with_quirks d)) (without_spaces (drop 6 cs))) (ends_here d cs))
-        (behind_public_le n d _ (spaces_le n _ (drop_within n 6 cs h)))
-        (both (Ends n) (begins_word (codes "system") cs) (system_or d (skipped (with_quirks d)) (without_spaces (drop 6 cs))) (ends_here d cs)
-            (system_or_le n d (skipped (with_quirks d)) (λ ds k. skipped_le n (with_quirks d) ds k) _ (spaces_le n _ (drop_within n 6 cs h)))
-            (ends_here_le n d cs h))
+    (behind_public_le n d _ (spaces_le n _ (drop_within n 6 cs h)))
+    (both (Ends n) (begins_word (codes "system") cs) (system_or d (skipped (with_quirks d)) (without_spaces (drop 6 cs))) (ends_here d cs)
+    (system_or_le n d (skipped (with_quirks d)) (λ ds k. skipped_le n (with_quirks d) ds k) _ (spaces_le n _ (drop_within n 6 cs h)))
+    (ends_here_le n d cs h))
 
 behind_spaces_le : (n : ℕ) (cs : List ℕ) → length cs ≤ n → Ends n (behind_spaces cs)
 behind_spaces_le n cs h =
     both (Ends n) (length (front_while (λ c. not (ends_unquoted c)) cs) == 0) (skipped (with_quirks (named_doctype None)) cs)
-        (behind_keyword (named_doctype (Some (name_of (front_while (λ c. not (ends_unquoted c)) cs)))) (without_spaces (rest_while (λ c. not (ends_unquoted c)) cs)))
-        (skipped_le n (with_quirks (named_doctype None)) cs h)
-        (behind_keyword_le n (named_doctype (Some (name_of (front_while (λ c. not (ends_unquoted c)) cs)))) _ (spaces_le n (rest_while (λ c. not (ends_unquoted c)) cs) (let k = rest_while_le (λ c. not (ends_unquoted c)) cs in omega arith)))
+    (behind_keyword (named_doctype (Some (name_of (front_while (λ c. not (ends_unquoted c)) cs)))) (without_spaces (rest_while (λ c. not (ends_unquoted c)) cs)))
+    (skipped_le n (with_quirks (named_doctype None)) cs h)
+    (behind_keyword_le n (named_doctype (Some (name_of (front_while (λ c. not (ends_unquoted c)) cs)))) _ (spaces_le n (rest_while (λ c. not (ends_unquoted c)) cs) (let k = rest_while_le (λ c. not (ends_unquoted c)) cs in omega arith)))
 
 pub doctype_le : (cs : List ℕ) → length (doctype_at cs).rest ≤ length cs
 doctype_le cs = behind_spaces_le (length cs) (without_spaces cs) (spaces_le (length cs) cs (omega arith))
@@ -165,16 +165,16 @@ numeric_le base cs =
     let r : List ℕ = rest_while (is_digit base) cs in
     let l = rest_while_le (is_digit base) cs in
     both (λ o. IfSome o (λ (found : Found). length found.rest ≤ length cs)) (length (front_while (is_digit base) cs) == 0) None _ tt
-        (both (λ (x : List ℕ). length x ≤ length cs) (begins (59 ∷ []) (rest_while (is_digit base) cs)) (drop 1 (rest_while (is_digit base) cs)) (rest_while (is_digit base) cs) (drop_within (length cs) 1 _ l) l)
+    (both (λ (x : List ℕ). length x ≤ length cs) (begins (59 ∷ []) (rest_while (is_digit base) cs)) (drop 1 (rest_while (is_digit base) cs)) (rest_while (is_digit base) cs) (drop_within (length cs) 1 _ l) l)
 
 pub reference_le : (table : References) (cs : List ℕ) → IfSome (reference table cs) (λ found. length found.rest ≤ length cs)
 reference_le table cs =
     let P : Option Found → Type 0 = λ o. IfSome o (λ found. length found.rest ≤ length cs) in
     both P (begins (35 ∷ []) cs) (behind_number_sign (drop 1 cs)) (named table cs)
-        (both P (first_passes is_x (drop 1 cs)) (numeric 16 (drop 1 (drop 1 cs))) (numeric 10 (drop 1 cs))
-            (weaker_if (λ found. length found.rest ≤ length (drop 1 (drop 1 cs))) (λ found. length found.rest ≤ length cs) (λ found h. let k = drop_le 1 (drop 1 cs) in let l = drop_le 1 cs in omega arith) _ (numeric_le 16 (drop 1 (drop 1 cs))))
-            (weaker_if (λ found. length found.rest ≤ length (drop 1 cs)) (λ found. length found.rest ≤ length cs) (λ found h. let l = drop_le 1 cs in omega arith) _ (numeric_le 10 (drop 1 cs))))
-        (named_le table [] cs)
+    (both P (first_passes is_x (drop 1 cs)) (numeric 16 (drop 1 (drop 1 cs))) (numeric 10 (drop 1 cs))
+    (weaker_if (λ found. length found.rest ≤ length (drop 1 (drop 1 cs))) (λ found. length found.rest ≤ length cs) (λ found h. let k = drop_le 1 (drop 1 cs) in let l = drop_le 1 cs in omega arith) _ (numeric_le 16 (drop 1 (drop 1 cs))))
+    (weaker_if (λ found. length found.rest ≤ length (drop 1 cs)) (λ found. length found.rest ≤ length cs) (λ found h. let l = drop_le 1 cs in omega arith) _ (numeric_le 10 (drop 1 cs))))
+    (named_le table [] cs)
 
 -- tags
 abbrev CutWithin : ℕ → Cut → Type 0
@@ -207,7 +207,7 @@ behind_gap_le table n closes further f (c ∷ cs) h = both (λ o. IfSome o (EndW
     (option_and_then (λ read. option_map (with_attribute read.0) (further read.1)) (attribute_at table c cs))
     (let k : length cs ≤ n = omega arith in k)
     (then_if (AttributeWithin n) (EndWithin n) (λ read. option_map (with_attribute read.0) (further read.1)) (λ read k. map_if (EndWithin n) (EndWithin n) (with_attribute read.0) (λ end e. e) (further read.1) (f read.1 k)) (attribute_at table c cs)
-        (attribute_le table n c cs (omega arith)))
+    (attribute_le table n c cs (omega arith)))
 
 tag_end_le : (table : References) (k n : ℕ) (cs : List ℕ) → length cs ≤ n → IfSome (tag_end_from table k cs) (EndWithin n)
 tag_end_le table zero n cs h = tt
@@ -249,36 +249,36 @@ slash_behind table n mode (c ∷ cs) h = both (Behind n) (is_letter c) (tag_lexe
 declaration_behind : (n : ℕ) (foreign : Bool) (mode : Mode) (cs : List ℕ) → length cs < n → Behind n (declaration foreign mode cs)
 declaration_behind n foreign mode cs h =
     both (Behind n) (begins (codes "--") cs) (comment_lexeme mode (comment_slice (drop 2 cs)))
-        (cond (begins_word (codes "doctype") cs) (doctype_lexeme mode (doctype_at (drop 7 cs))) (cond (foreign && begins (codes "[CDATA[") cs) (cdata_lexeme mode (cut_or_all (cut (after (codes "]]>")) (drop 7 cs)) (drop 7 cs))) (comment_lexeme mode (bogus_comment_slice cs))))
-        (let k = comment_le (drop 2 cs) in let l = drop_le 2 cs in omega arith)
-        (both (Behind n) (begins_word (codes "doctype") cs) (doctype_lexeme mode (doctype_at (drop 7 cs))) (cond (foreign && begins (codes "[CDATA[") cs) (cdata_lexeme mode (cut_or_all (cut (after (codes "]]>")) (drop 7 cs)) (drop 7 cs))) (comment_lexeme mode (bogus_comment_slice cs)))
-            (let k = doctype_le (drop 7 cs) in let l = drop_le 7 cs in omega arith)
-            (both (Behind n) (foreign && begins (codes "[CDATA[") cs) (cdata_lexeme mode (cut_or_all (cut (after (codes "]]>")) (drop 7 cs)) (drop 7 cs))) (comment_lexeme mode (bogus_comment_slice cs))
-                (let k = cut_or_all_le (codes "]]>") (drop 7 cs) in let l = drop_le 7 cs in omega arith)
-                (let k = bogus_le cs in omega arith)))
+    (cond (begins_word (codes "doctype") cs) (doctype_lexeme mode (doctype_at (drop 7 cs))) (cond (foreign && begins (codes "[CDATA[") cs) (cdata_lexeme mode (cut_or_all (cut (after (codes "]]>")) (drop 7 cs)) (drop 7 cs))) (comment_lexeme mode (bogus_comment_slice cs))))
+    (let k = comment_le (drop 2 cs) in let l = drop_le 2 cs in omega arith)
+    (both (Behind n) (begins_word (codes "doctype") cs) (doctype_lexeme mode (doctype_at (drop 7 cs))) (cond (foreign && begins (codes "[CDATA[") cs) (cdata_lexeme mode (cut_or_all (cut (after (codes "]]>")) (drop 7 cs)) (drop 7 cs))) (comment_lexeme mode (bogus_comment_slice cs)))
+    (let k = doctype_le (drop 7 cs) in let l = drop_le 7 cs in omega arith)
+    (both (Behind n) (foreign && begins (codes "[CDATA[") cs) (cdata_lexeme mode (cut_or_all (cut (after (codes "]]>")) (drop 7 cs)) (drop 7 cs))) (comment_lexeme mode (bogus_comment_slice cs))
+    (let k = cut_or_all_le (codes "]]>") (drop 7 cs) in let l = drop_le 7 cs in omega arith)
+    (let k = bogus_le cs in omega arith)))
 
 markup_behind : (table : References) (n : ℕ) (foreign : Bool) (mode : Mode) (cs : List ℕ) → length cs < n → Behind n (markup table foreign mode cs)
 markup_behind table n foreign mode [] h = h
 markup_behind table n foreign mode (c ∷ cs) h =
     both (Behind n) (is_letter c) (tag_lexeme (tag_at table StartTag (c ∷ cs))) (cond (c == 47) (behind_slash table mode cs) (cond (c == 33) (declaration foreign mode cs) (cond (c == 63) (comment_lexeme mode (bogus_comment_slice (c ∷ cs))) (one_character mode 60 (c ∷ cs)))))
-        (tag_lexeme_behind table n StartTag (c ∷ cs) h)
-        (both (Behind n) (c == 47) (behind_slash table mode cs) (cond (c == 33) (declaration foreign mode cs) (cond (c == 63) (comment_lexeme mode (bogus_comment_slice (c ∷ cs))) (one_character mode 60 (c ∷ cs))))
-            (slash_behind table n mode cs (omega arith))
-            (both (Behind n) (c == 33) (declaration foreign mode cs) (cond (c == 63) (comment_lexeme mode (bogus_comment_slice (c ∷ cs))) (one_character mode 60 (c ∷ cs)))
-                (declaration_behind n foreign mode cs (omega arith))
-                (both (Behind n) (c == 63) (comment_lexeme mode (bogus_comment_slice (c ∷ cs))) (one_character mode 60 (c ∷ cs)) (let k = bogus_le (c ∷ cs) in omega arith) h)))
+    (tag_lexeme_behind table n StartTag (c ∷ cs) h)
+    (both (Behind n) (c == 47) (behind_slash table mode cs) (cond (c == 33) (declaration foreign mode cs) (cond (c == 63) (comment_lexeme mode (bogus_comment_slice (c ∷ cs))) (one_character mode 60 (c ∷ cs))))
+    (slash_behind table n mode cs (omega arith))
+    (both (Behind n) (c == 33) (declaration foreign mode cs) (cond (c == 63) (comment_lexeme mode (bogus_comment_slice (c ∷ cs))) (one_character mode 60 (c ∷ cs)))
+    (declaration_behind n foreign mode cs (omega arith))
+    (both (Behind n) (c == 63) (comment_lexeme mode (bogus_comment_slice (c ∷ cs))) (one_character mode 60 (c ∷ cs)) (let k = bogus_le (c ∷ cs) in omega arith) h)))
 
 ordinary_behind : (table : References) (n : ℕ) (foreign : Bool) (mode : Mode) (c : ℕ) (cs : List ℕ) → length cs < n → Behind n (ordinary_lexeme table foreign mode c cs)
 ordinary_behind table n foreign mode c cs h =
     both (Behind n) (c == 60) (markup table foreign mode cs) (cond (c == 38) (reference_lexeme mode cs (reference table cs)) (told (ordinary_item c ∷ []) mode cs))
-        (markup_behind table n foreign mode cs h)
-        (both (Behind n) (c == 38) (reference_lexeme mode cs (reference table cs)) (told (ordinary_item c ∷ []) mode cs) (reference_behind n mode cs (reference table cs) h (reference_le table cs)) h)
+    (markup_behind table n foreign mode cs h)
+    (both (Behind n) (c == 38) (reference_lexeme mode cs (reference table cs)) (told (ordinary_item c ∷ []) mode cs) (reference_behind n mode cs (reference table cs) h (reference_le table cs)) h)
 
 raw_behind : (table : References) (n : ℕ) (kind : RawKind) (mode : Mode) (c : ℕ) (cs : List ℕ) → length cs < n → Behind n (raw_lexeme table kind mode c cs)
 raw_behind table n kind mode c cs h =
     both (Behind n) (c == 60 && has_end_tags kind && ends_raw_text mode.last_start_tag cs) (tag_lexeme (tag_at table EndTag (drop 1 cs))) (cond (c == 38 && has_references kind) (reference_lexeme mode cs (reference table cs)) (one_character (in_kind mode (kind_behind kind (c ∷ cs))) (shown c) cs))
-        (tag_lexeme_behind table n EndTag (drop 1 cs) (let k = drop_le 1 cs in omega arith))
-        (both (Behind n) (c == 38 && has_references kind) (reference_lexeme mode cs (reference table cs)) (one_character (in_kind mode (kind_behind kind (c ∷ cs))) (shown c) cs) (reference_behind n mode cs (reference table cs) h (reference_le table cs)) h)
+    (tag_lexeme_behind table n EndTag (drop 1 cs) (let k = drop_le 1 cs in omega arith))
+    (both (Behind n) (c == 38 && has_references kind) (reference_lexeme mode cs (reference table cs)) (one_character (in_kind mode (kind_behind kind (c ∷ cs))) (shown c) cs) (reference_behind n mode cs (reference table cs) h (reference_le table cs)) h)
 
 in_behind : (table : References) (n : ℕ) (foreign : Bool) (kind : TextKind) (mode : Mode) (c : ℕ) (cs : List ℕ) → length cs < n → Behind n (lexeme_in table foreign kind mode c cs)
 in_behind table n foreign Ordinary mode c cs h = ordinary_behind table n foreign mode c cs h

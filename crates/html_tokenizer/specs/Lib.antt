@@ -5,9 +5,12 @@ pub mod Doctypes
 pub mod Items
 pub mod Lexemes
 pub mod Modes
+pub mod PageText
+pub mod PlainRead
 pub mod Read
 pub mod Reading
 pub mod References
 pub mod RowWords
 pub mod Slices
 pub mod Tags
+pub mod Told

@@ -31,6 +31,10 @@ first_passes p (c ∷ cs) = p c
 abbrev pub after : List ℕ → List ℕ → Option (List ℕ)
 after mark cs = if begins mark cs then Some (drop (length mark) cs) else None
 
+-- what follows a word, where a text begins with it, ASCII case aside
+abbrev pub after_word : List ℕ → List ℕ → Option (List ℕ)
+after_word word cs = if begins_word word cs then Some (drop (length word) cs) else None
+
 -- a slice of a text, and what follows the mark behind it
 pub record Cut : Type 0 where
   pub slice : List ℕ

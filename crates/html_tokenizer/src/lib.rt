@@ -4,6 +4,7 @@
 mod comments;
 mod doctypes;
 pub mod laws;
+mod lexemes;
 mod modes;
 mod references;
 mod sink;

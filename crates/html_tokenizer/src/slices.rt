@@ -1,7 +1,7 @@
 ghost use Rattle.std.specs.Prelude.{◌≡◌, ◌∷◌, [], chars, option_map, IfSome, MatchOption, IsTrue};
 ghost use Rattle.std.specs.Str.{IsUtf8};
 ghost use Rattle.std.specs.Char.{IsScalar};
-ghost use Rattle.html_tokenizer.specs.Slices.{after, begins_word, cut, front_while, rest_while};
+ghost use Rattle.html_tokenizer.specs.Slices.{after, after_word, begins_word, cut, front_while, rest_while};
 ghost use Rattle.html_tokenizer.specs.Classes.{is_of};
 ghost use Rattle.html_tokenizer.specs.Read.{cut_of};
 
@@ -104,6 +104,22 @@ pub fn begins_word(text: &str, word: &str) -> bool
         }
     }
     true
+}
+
+/// What follows a word of lower case letters, ASCII case aside, where a text begins with it.
+pub fn behind_word<'t>(text: &'t str, word: &str) -> Option<&'t str>
+    ensures value { option_map (λ rest. chars rest.now) result ≡ after_word (chars word.now) (chars text.now) }
+    ensures utf8 { IfSome result (λ rest. IsUtf8 rest.now) }
+{
+    let mut rest = text;
+    'word: for wanted in word.chars() {
+        let (found, behind_found) = first_and_rest(rest)?;
+        if found.to_ascii_lowercase() != wanted {
+            return None;
+        }
+        rest = behind_found;
+    }
+    Some(rest)
 }
 
 /// The shortest slice of a text before a mark, and what follows the mark. `None` is a text without it.
