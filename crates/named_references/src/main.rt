@@ -4,10 +4,9 @@
 #![tactic(auto)]
 
 use html_lexemes::{ReferenceTable, TableError};
-use std::env;
-use std::io;
 use std::process::ExitCode;
 use std::rt::Env;
+use std::{env, io};
 
 /// Ends with status 0 where the table and the words were read, and else 1 with a text on standard error.
 fn main(rt: HostRuntime) -> ExitCode {
