@@ -1,2 +1,12 @@
+pub mod DoctypeLemmas
+pub mod MarkLemmas
+pub mod NameLemmas
+pub mod NumberLemmas
+pub mod PageTextLemmas
 pub mod Readings
 pub mod Shorter
+pub mod SliceLemmas
+pub mod TagLemmas
+pub mod TagNameLemmas
+pub mod TagValueLemmas
+pub mod ValueLemmas

@@ -2,6 +2,8 @@ pub mod Characters
 pub mod Classes
 pub mod Comments
 pub mod Doctypes
+pub mod Edges
+pub mod FirstMode
 pub mod Items
 pub mod Lexemes
 pub mod Modes
@@ -12,5 +14,6 @@ pub mod Reading
 pub mod References
 pub mod RowWords
 pub mod Slices
+pub mod TagParts
 pub mod Tags
 pub mod Told

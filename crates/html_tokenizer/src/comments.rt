@@ -1,10 +1,12 @@
-ghost use Rattle.std.specs.Prelude.{◌≡◌, chars, IfOk};
+ghost use Rattle.std.specs.Prelude.{◌≡◌, chars, option_map, IfOk, IfSome};
 ghost use Rattle.std.specs.Str.{IsUtf8};
 ghost use Rattle.html_tokenizer.specs.Characters.{shown_text};
-ghost use Rattle.html_tokenizer.specs.Comments.{bogus_comment_slice, comment_slice};
+ghost use Rattle.html_tokenizer.specs.Comments.{bogus_comment_slice, comment_mark, comment_slice, without_begun_mark};
+ghost use Rattle.html_tokenizer.specs.Edges.{before};
 ghost use Rattle.html_tokenizer.specs.Read.{cut_of};
+ghost use Rattle.html_tokenizer.specs.Slices.{cut};
 
-use crate::slices::{behind, cut_at};
+use crate::slices::{behind, cut_at, first_and_rest};
 use html_lexemes::Text;
 use std::alloc::{AllocError, Global};
 
@@ -33,26 +35,44 @@ pub fn bogus_comment_slice(text: &str) -> (&str, &str)
 }
 
 // the shortest slice before an end mark, and what follows the mark
-fn cut_at_mark(text: &str) -> Option<(&str, &str)> {
-    let mut length = 0;
-    'cut: for c in text.chars() {
-        let (slice, marked) = text.split_at(length);
-        if let Some(rest) = behind(marked, "-->").or(behind(marked, "--!>")) {
+fn cut_at_mark(text: &str) -> Option<(&str, &str)>
+    ensures value { option_map cut_of result ≡ cut comment_mark (chars text.now) }
+    ensures slice_utf8 { IfSome result (λ r. IsUtf8 r.0.now) }
+    ensures rest_utf8 { IfSome result (λ r. IsUtf8 r.1.now) }
+{
+    let mut marked = text;
+    'cut: while let Some((_, behind_first)) = first_and_rest(marked) {
+        if let Some(rest) = behind_mark(marked) {
+            let (slice, _) = text.split_at(text.len() - marked.len());
             return Some((slice, rest));
         }
-        length += c.len_utf8();
+        marked = behind_first;
     }
     None
 }
 
+// what follows an end mark, where a text begins with one
+fn behind_mark(text: &str) -> Option<&str>
+    ensures value { option_map (λ rest. chars rest.now) result ≡ comment_mark (chars text.now) }
+    ensures utf8 { IfSome result (λ rest. IsUtf8 rest.now) }
+{
+    behind(text, "-->").or(behind(text, "--!>"))
+}
+
 // a comment that the end cuts off, without an end mark that has begun
-fn without_begun_mark(text: &str) -> &str {
-    for mark in ["--!", "--", "-"] {
-        if let Some(front) = text.strip_suffix(mark) {
-            return front;
-        }
-    }
-    text
+fn without_begun_mark(text: &str) -> &str
+    ensures { chars result.now ≡ without_begun_mark (chars text.now) }
+{
+    let begun = before(text, "--!").or(before(text, "--"));
+    begun.or(before(text, "-")).unwrap_or(text)
+}
+
+// what stands before a mark, where a text ends with it
+fn before<'t>(text: &'t str, mark: &str) -> Option<&'t str>
+    ensures value { option_map (λ front. chars front.now) result ≡ before (chars mark.now) (chars text.now) }
+    ensures utf8 { IfSome result (λ front. IsUtf8 front.now) }
+{
+    text.strip_suffix(mark)
 }
 
 /// A text with each NUL as U+FFFD. The error is want of memory alone.

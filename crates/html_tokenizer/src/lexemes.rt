@@ -80,7 +80,12 @@ fn one_character(
     ensures value { IfOk result (λ l. (mode : SeenMode) → lexeme_of mode l ≡ told (characters (c ∷ []) ∷ []) (record mode { text = text }) (chars rest.now)) }
     ensures utf8 { IfOk result HasRest }
 {
-    told_one(alloc, Token::CharacterTokens(text_of(alloc, c)?), text, rest)
+    told_one(
+        alloc,
+        Token::CharacterTokens(text_of(alloc, c)?),
+        text,
+        rest,
+    )
 }
 
 fn text_of(alloc: Global, c: char) -> Result<Text, AllocError>
@@ -255,8 +260,10 @@ fn tokens_of(alloc: Global, text: &str) -> Result<Vec<Token>, AllocError>
     ensures { IfOk result (λ tokens. items_of tokens.items ≡ map ordinary_item (chars text.now)) }
 {
     let mut tokens = Vec::new(alloc);
-    'characters: for c in text.chars() {
+    let mut rest = text;
+    'characters: while let Some((c, behind_c)) = first_and_rest(rest) {
         tokens.push(ordinary_token(alloc, c)?)?;
+        rest = behind_c;
     }
     Ok(tokens)
 }

@@ -6,12 +6,14 @@ mod doctypes;
 pub mod laws;
 mod lexemes;
 mod modes;
+mod plain;
 mod references;
 mod sink;
 mod slices;
 mod tags;
 
 pub use modes::{Mode, TextKind};
+pub use plain::read_plainly;
 pub use sink::{TokenSink, TokenizerOpts};
 
 #[cfg(test)]

@@ -1,7 +1,12 @@
-ghost use Rattle.std.specs.Prelude.{◌≡◌, chars, option_map, IfOk, IfSome};
+ghost use Rattle.std.specs.Prelude.{◌≡◌, ◌==◌, ◌||◌, ◌≤◌, if◌then◌else◌, chars, not, option_map, IfOk, IfSome, IsTrue};
+ghost use Rattle.std.specs.Char.{IsScalar};
+ghost use Rattle.std.specs.List.{list_all, list_any};
 ghost use Rattle.std.specs.Str.{IsUtf8};
+ghost use Rattle.html_tokenizer.specs.Characters.{is_alphanumeric, is_digit, shown};
+ghost use Rattle.html_tokenizer.specs.Classes.{is_of};
 ghost use Rattle.html_tokenizer.specs.Read.{found_of};
-ghost use Rattle.html_tokenizer.specs.References.{behind_number_sign, named, numbered, reference, reference_in_value, value_of};
+ghost use Rattle.html_tokenizer.specs.References.{behind_number_sign, named, number_of, numbered, numeric, reference, reference_in_value, value_of};
+ghost use Rattle.html_tokenizer.specs.Slices.{first_passes};
 
 use crate::slices::{CharacterClass, behind, first_and_rest, split_while};
 use html_lexemes::{ReferenceTable, Text};
@@ -47,10 +52,21 @@ pub fn reference_in_value<'t>(
     if let Some(rest) = behind(text, "#") {
         return numeric(alloc, rest);
     }
-    match named(alloc, table, text)? {
-        Some(found) if !found.closed && goes_on(found.rest) => Ok(None),
-        found => Ok(found),
+    let Some(found) = named(alloc, table, text)? else {
+        return Ok(None);
+    };
+    if is_kept(&found) {
+        Ok(Some(found))
+    } else {
+        Ok(None)
     }
+}
+
+// whether a name is a reference in a value too
+fn is_kept(found: &Found<'_>) -> bool
+    ensures { result ≡ (found.now.closed || not (first_passes (λ c. c == 61 || is_alphanumeric c) (chars found.now.rest.now))) }
+{
+    found.closed || !goes_on(found.rest)
 }
 
 /// An attribute's value, its references read and each NUL as U+FFFD. The error is want of memory alone.
@@ -60,21 +76,45 @@ pub fn value_of(alloc: Global, table: &ReferenceTable, text: &str) -> Result<Tex
     let mut value = String::new(alloc);
     let mut rest = text;
     'value: while let Some((c, behind_c)) = first_and_rest(rest) {
-        rest = behind_c;
-        if c == '&' {
-            if let Some(found) = reference_in_value(alloc, table, rest)? {
-                value.push_str(found.characters.as_str())?;
-                rest = found.rest;
-                continue;
-            }
+        if let Some(found) = reference_behind(alloc, table, c, behind_c)? {
+            value.push_str(found.characters.as_str())?;
+            rest = found.rest;
+            continue;
         }
-        value.push(if c == '\0' { '\u{fffd}' } else { c })?;
+        value.push(shown(c))?;
+        rest = behind_c;
     }
     Ok(Text::from(value))
 }
 
+// the reference behind a character of an attribute's value, which is one behind `&` alone
+fn reference_behind<'t>(
+    alloc: Global,
+    table: &ReferenceTable,
+    c: char,
+    text: &'t str,
+) -> Result<Option<Found<'t>>, AllocError>
+    ensures value { IfOk result (λ found. option_map found_of found ≡ (if c == 38 then reference_in_value table.now (chars text.now) else None)) }
+    ensures utf8 { IfOk result (λ found. IfSome found (λ f. IsUtf8 f.rest.now)) }
+{
+    if c == '&' {
+        reference_in_value(alloc, table, text)
+    } else {
+        Ok(None)
+    }
+}
+
+// a character of a value, NUL as U+FFFD
+fn shown(c: char) -> char
+    ensures { result ≡ shown c }
+{
+    if c == '\0' { '\u{fffd}' } else { c }
+}
+
 // whether a text begins with `=`, a letter or a digit
-fn goes_on(text: &str) -> bool {
+fn goes_on(text: &str) -> bool
+    ensures { result ≡ first_passes (λ c. c == 61 || is_alphanumeric c) (chars text.now) }
+{
     match first_and_rest(text) {
         Some((c, _)) => c == '=' || c.is_ascii_alphanumeric(),
         None => false,
@@ -98,9 +138,16 @@ fn named<'t>(
     };
     Ok(Some(Found {
         characters: Text::from_str(alloc, longest.value)?,
-        closed: longest.name.contains(';'),
+        closed: is_closed(longest.name),
         rest,
     }))
+}
+
+// whether a name has a semicolon
+fn is_closed(name: &str) -> bool
+    ensures { result ≡ list_any (λ c. c == 59) (chars name.now) }
+{
+    name.contains(';')
 }
 
 // the number behind `#`
@@ -120,7 +167,13 @@ fn number(
     text: &str,
     base: u32,
     class: CharacterClass,
-) -> Result<Option<Found<'_>>, AllocError> {
+) -> Result<Option<Found<'_>>, AllocError>
+    requires least { 2 ≤ base }
+    requires most { base ≤ 36 }
+    requires digits { is_of class ≡ is_digit base }
+    ensures value { IfOk result (λ found. option_map found_of found ≡ numeric base (chars text.now)) }
+    ensures utf8 { IfOk result (λ found. IfSome found (λ f. IsUtf8 f.rest.now)) }
+{
     let (digits, rest) = split_while(text, class);
     if digits.is_empty() {
         return Ok(None);
@@ -135,10 +188,15 @@ fn number(
     }))
 }
 
-// the number that digits spell, and some number above 0x10FFFF in place of a greater one
-fn number_of(base: u32, digits: &str) -> u32 {
+// the number that digits spell, or one that stands for the same character: both are above 0x10FFFF
+fn number_of(base: u32, digits: &str) -> u32
+    requires least { 2 ≤ base }
+    requires most { base ≤ 36 }
+    requires digits { IsTrue (list_all (is_digit base) (chars digits.now)) }
+    ensures { numbered result ≡ numbered (number_of base (chars digits.now)) }
+{
     let mut number = 0u32;
-    for digit in digits.chars() {
+    'digits: for digit in digits.chars() {
         number = number
             .saturating_mul(base)
             .saturating_add(digit.to_digit(base).unwrap_or(0));
@@ -148,7 +206,8 @@ fn number_of(base: u32, digits: &str) -> u32 {
 
 // the character of a number (WHATWG HTML, 13.2.5.80)
 fn numbered(number: u32) -> char
-    ensures { result ≡ numbered number }
+    ensures value { result ≡ numbered number }
+    ensures scalar { IsScalar result }
 {
     match number {
         0 => '\u{fffd}',

@@ -1,7 +1,7 @@
 ghost use Rattle.std.specs.Prelude.{◌≡◌, ◌∷◌, [], chars, option_map, IfSome, MatchOption, IsTrue};
 ghost use Rattle.std.specs.Str.{IsUtf8};
 ghost use Rattle.std.specs.Char.{IsScalar};
-ghost use Rattle.html_tokenizer.specs.Slices.{after, after_word, begins_word, cut, front_while, rest_while};
+ghost use Rattle.html_tokenizer.specs.Slices.{after, after_word, cut, front_while, rest_while};
 ghost use Rattle.html_tokenizer.specs.Classes.{is_of};
 ghost use Rattle.html_tokenizer.specs.Read.{cut_of};
 
@@ -90,20 +90,6 @@ pub fn behind<'t>(text: &'t str, mark: &str) -> Option<&'t str>
     ensures utf8 { IfSome result (λ rest. IsUtf8 rest.now) }
 {
     text.strip_prefix(mark)
-}
-
-/// Whether a text begins with a word of lower case letters, ASCII case aside.
-pub fn begins_word(text: &str, word: &str) -> bool
-    ensures { result ≡ begins_word (chars word.now) (chars text.now) }
-{
-    let mut rest = text.chars();
-    'word: for wanted in word.chars() {
-        match rest.next() {
-            Some(found) if found.to_ascii_lowercase() == wanted => {}
-            _ => return false,
-        }
-    }
-    true
 }
 
 /// What follows a word of lower case letters, ASCII case aside, where a text begins with it.

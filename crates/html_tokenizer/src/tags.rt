@@ -1,7 +1,9 @@
-ghost use Rattle.std.specs.Prelude.{◌≡◌, chars, option_map, IfOk, IfSome};
+ghost use Rattle.std.specs.Prelude.{◌≡◌, ◌∷◌, ◌++◌, chars, option_map, IfOk, IfSome, OnOk, string_bytes};
+ghost use Rattle.std.specs.Char.{to_ascii_lowercase};
 ghost use Rattle.std.specs.Str.{IsUtf8};
-ghost use Rattle.html_tokenizer.specs.Characters.{name_of};
-ghost use Rattle.html_tokenizer.specs.Tags.{first_of_each, tag_at, tag_end, value_behind, written_value};
+ghost use Rattle.html_tokenizer.specs.Characters.{name_of, shown};
+ghost use Rattle.html_tokenizer.specs.Tags.{attribute_at, ends_with_slash, tag_at, value_behind, written_value};
+ghost use Rattle.html_tokenizer.specs.TagParts.{attribute_and_rest, is_named, with_new};
 ghost use Rattle.html_tokenizer.specs.Read.{cut_of, tag_and_rest};
 
 use crate::references::value_of;
@@ -35,49 +37,67 @@ pub fn tag_at<'t>(
             let tag = Tag {
                 kind,
                 name,
-                self_closing: gap.ends_with('/'),
+                self_closing: ends_with_slash(gap),
                 attrs,
                 had_duplicate_attributes,
             };
             return Ok(Some((tag, behind_c)));
         }
-        let Some((attribute, behind_attribute)) = attribute_at(alloc, table, behind_gap)? else {
+        let Some((attribute, behind_attribute)) = attribute_at(alloc, table, c, behind_c)? else {
             return Ok(None);
         };
         rest = behind_attribute;
-        if has_name(attrs.as_slice(), &attribute) {
-            had_duplicate_attributes = true;
-        } else {
-            attrs.push(attribute)?;
-        }
+        let is_dropped = add_new(&mut attrs, attribute)?;
+        had_duplicate_attributes |= is_dropped;
     }
 }
 
+// whether the last character of a text is `/`
+fn ends_with_slash(text: &str) -> bool
+    ensures { result ≡ ends_with_slash (chars text.now) }
+{
+    text.ends_with('/')
+}
+
+// adds an attribute, unless its name is there; whether it is
+fn add_new(attributes: &mut Attributes, attribute: Attribute) -> Result<bool, AllocError>
+    ensures dropped { IfOk result (λ dropped. dropped ≡ is_named attribute.name.local attributes.old) }
+    ensures attributes { OnOk result (attributes.new ≡ with_new attributes.old attribute) }
+{
+    if has_name(attributes.as_slice(), &attribute) {
+        return Ok(true);
+    }
+    attributes.push(attribute)?;
+    Ok(false)
+}
+
 // whether an attribute of that name is there
-fn has_name(attributes: &[Attribute], attribute: &Attribute) -> bool {
+fn has_name(attributes: &[Attribute], attribute: &Attribute) -> bool
+    ensures { result ≡ is_named attribute.now.name.local attributes.now }
+{
     attributes
         .iter()
         .any(|a| a.name.local == attribute.name.local)
 }
 
-// the attribute that begins here, with any character, and what follows it
+// the attribute that begins with a character and goes on with a text, and what follows it
 fn attribute_at<'t>(
     alloc: Global,
     table: &ReferenceTable,
+    first: char,
     text: &'t str,
-) -> Result<Option<(Attribute, &'t str)>, AllocError> {
-    let Some((c, behind_c)) = first_and_rest(text) else {
-        return Ok(None);
-    };
-    let (_, rest) = split_while(behind_c, CharacterClass::AttributeName);
-    let (name, _) = text.split_at(text.len() - rest.len());
+) -> Result<Option<(Attribute, &'t str)>, AllocError>
+    ensures value { IfOk result (λ read. option_map attribute_and_rest read ≡ attribute_at table.now first (chars text.now)) }
+    ensures utf8 { IfOk result (λ read. IfSome read (λ r. IsUtf8 r.1.now)) }
+{
+    let (name, rest) = split_while(text, CharacterClass::AttributeName);
     let Some((value, rest)) = value_behind(rest) else {
         return Ok(None);
     };
     let attribute = Attribute {
         name: QualName::new(
             Namespace::Other(Text::from(String::new(alloc))),
-            LocalName::from(name_of(alloc, name)?),
+            LocalName::from(name_from(alloc, first, name)?),
         ),
         value: value_of(alloc, table, value)?,
     };
@@ -114,12 +134,37 @@ pub fn name_of(alloc: Global, text: &str) -> Result<Text, AllocError>
     ensures { IfOk result (λ name. name ≡ name_of (chars text.now)) }
 {
     let mut name = String::new(alloc);
-    'name: for c in text.chars() {
-        name.push(if c == '\0' {
-            '\u{fffd}'
-        } else {
-            c.to_ascii_lowercase()
-        })?;
-    }
+    push_name(&mut name, text)?;
     Ok(Text::from(name))
+}
+
+// the same of a character and the text behind it
+fn name_from(alloc: Global, first: char, text: &str) -> Result<Text, AllocError>
+    ensures { IfOk result (λ name. name ≡ name_of (first ∷ chars text.now)) }
+{
+    let mut name = String::new(alloc);
+    name.push(name_character(first))?;
+    push_name(&mut name, text)?;
+    Ok(Text::from(name))
+}
+
+// adds the name that a text is
+fn push_name(name: &mut String, text: &str) -> Result<(), AllocError>
+    ensures { OnOk result (chars (string_bytes name.new) ≡ chars (string_bytes name.old) ++ name_of (chars text.now)) }
+{
+    'characters: for c in text.chars() {
+        name.push(name_character(c))?;
+    }
+    Ok(())
+}
+
+// a name's character as a page's is read
+fn name_character(c: char) -> char
+    ensures { result ≡ to_ascii_lowercase (shown c) }
+{
+    if c == '\0' {
+        '\u{fffd}'
+    } else {
+        c.to_ascii_lowercase()
+    }
 }
