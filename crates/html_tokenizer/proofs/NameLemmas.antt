@@ -1,7 +1,7 @@
 -- The longest name of a table that a text begins with.
-use Rattle.std.proofs.Common.{◌≡◌, ℕ, ◌+◌, ◌<◌, ◌≤◌, Bool, true, false, ◌||◌, IsTrue, List, [], ◌∷◌, ◌++◌, length, take, drop, eqb, Option, Some, None, MatchBool, MatchOption, is_some, option_map, Bor, IsUtf8, chars, refl, sym, ap, subst, ◌∙◌, arith, append_assoc, append-nil, length-drop, encode_utf8}
+use Rattle.std.proofs.Common.{◌≡◌, ℕ, ◌+◌, ◌<◌, ◌≤◌, Bool, true, false, IsTrue, List, [], ◌∷◌, ◌++◌, length, take, drop, eqb, Option, Some, None, MatchBool, is_some, option_map, IsUtf8, chars, refl, sym, ap, subst, ◌∙◌, arith, append_assoc, append-nil, length-drop}
 use Rattle.std.proofs.lemmas.Bool.{or_left, or_right, or_from, eq-eqb}
-use Rattle.std.proofs.lemmas.List.{append_cancel_left, take-append-drop}
+use Rattle.std.proofs.lemmas.List.{take-append-drop}
 use Rattle.std.proofs.lemmas.Option.{none-some, same_Some}
 use Rattle.std.proofs.lemmas.Str.{chars-append, chars_past_char, chars_from_encodes, IsUtf8-take, IsUtf8-drop, IsCharBoundary-before_ascii}
 use Rattle.std.proofs.lemmas.Str.Pattern.{drop_at_char}
@@ -34,8 +34,8 @@ contains_any mark bs true u low h =
     let inside : h.0 < length bs = omega (arith, ap length rest, length-drop h.0 bs) in
     let edge = IsCharBoundary-before_ascii bs h.0 inside (omega (arith, h.2.1.byte low)) in
     let whole : chars bs ≡ chars (take h.0 bs) ++ mark ∷ chars (drop h.1 bs) =
-        ap chars (sym (take-append-drop h.0 bs)) ∙ chars-append (take h.0 bs) (drop h.0 bs) (IsUtf8-take bs h.0 u edge)
-        ∙ ap (λ l. chars (take h.0 bs) ++ l) (chars_past_char (drop h.0 bs) (drop h.1 bs) mark (IsUtf8-drop bs h.0 u edge) h.2.1.split) in
+    ap chars (sym (take-append-drop h.0 bs)) ∙ chars-append (take h.0 bs) (drop h.0 bs) (IsUtf8-take bs h.0 u edge)
+    ∙ ap (λ l. chars (take h.0 bs) ++ l) (chars_past_char (drop h.0 bs) (drop h.1 bs) mark (IsUtf8-drop bs h.0 u edge) h.2.1.split) in
     sym (ap (list_any (λ d. eqb d mark)) whole ∙ any_at mark (chars (take h.0 bs)) (chars (drop h.1 bs)))
 contains_any mark bs false u low h = sym (ap (list_any (λ d. eqb d mark)) (sym (chars_from_encodes h.0 bs u h.1)) ∙ none_pass mark h.0 h.2)
 

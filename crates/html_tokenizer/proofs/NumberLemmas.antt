@@ -1,6 +1,6 @@
 -- Numbers behind a number sign.
 use Rattle.std.proofs.Common.{◌≡◌, ◌⊎◌, ℕ, ◌+◌, ◌*◌, ◌<◌, ◌≤◌, min, Bool, true, false, ◌&&◌, ◌||◌, cond, IsTrue, List, [], ◌∷◌, ◌++◌, length, drop, eqb, ltb, fold, Option, Some, None, MatchOption, is_some, unwrap_or, option_map, Bor, IsUtf8, inl, inr, refl, sym, ap, subst, ◌∙◌, arith, mul-le-mul_left, encode_utf8}
-use Rattle.std.proofs.lemmas.Bool.{both_ways, cases_Bool, cases_lt, cond-true, or_right, lt-ltb, and_parts, and_from, cond-false, cond_both, eq-eqb, eqb-true, eqb-false, ne_eqb, ltb-true}
+use Rattle.std.proofs.lemmas.Bool.{cases_lt, cond-true, or_right, lt-ltb, and_parts, and_from, cond-false, cond_both, eq-eqb, eqb-true, eqb-false, ne_eqb, ltb-true}
 use Rattle.std.proofs.lemmas.List.{nil_from_length}
 use Rattle.std.proofs.lemmas.Option.{none-some, same_Some}
 use Rattle.std.proofs.lemmas.Str.{chars_past_char, IsUtf8-past_char}
@@ -11,7 +11,7 @@ use Rattle.std.specs.Str.{chars}
 use Rattle.html_lexemes.proofs.QueueLemmas.{no_characters}
 use Rattle.html_tokenizer.specs.Characters.{is_digit}
 use Rattle.html_tokenizer.specs.References.{Found, behind_number_sign, number_of, numbered, numeric}
-use Rattle.html_tokenizer.specs.Slices.{after, begins, first_passes, front_while, rest_while}
+use Rattle.html_tokenizer.specs.Slices.{after, begins, front_while, rest_while}
 use Rattle.html_tokenizer.proofs.SliceLemmas.{no_bytes}
 
 -- ---- the number that digits spell
@@ -129,13 +129,13 @@ module _ (base : ℕ) (p : ℕ → Bool) (text digits : List ℕ) (same : p ≡ 
       → Some (record { characters = value; closed = closed; rest = chars left.now }) ≡ numeric base (chars text)
   some_digits b closed rest left end value pushed c n u e fails behind ends is_closed is_left is_value is_pushed one numbers same_number =
       let some : length (front_while (is_digit base) (chars text)) ≡ 0 → ⊥ =
-          λ none. eqb-false (length digits) 0 (sym e ∙ fails) (ap length (no_characters digits u (digits_are ∙ nil_from_length _ none))) in
+      λ none. eqb-false (length digits) 0 (sym e ∙ fails) (ap length (no_characters digits u (digits_are ∙ nil_from_length _ none))) in
       let rest_is : chars rest.now ≡ rest_while (is_digit base) (chars text) = subst (λ (q : ℕ → Bool). chars rest.now ≡ rest_while q (chars text)) same behind in
       let cs : List ℕ = rest_while (is_digit base) (chars text) in
       let ended : Ended (begins (59 ∷ []) cs) (drop 1 cs) cs end rest =
-          ended_by (begins (59 ∷ []) cs) (drop 1 cs) cs end rest (ends ∙ ap (λ m. after m (chars rest.now)) chars-semicolon ∙ ap (after (59 ∷ [])) rest_is) rest_is in
+      ended_by (begins (59 ∷ []) cs) (drop 1 cs) cs end rest (ends ∙ ap (λ m. after m (chars rest.now)) chars-semicolon ∙ ap (after (59 ∷ [])) rest_is) rest_is in
       let made : value ≡ numbered (number_of base (front_while (is_digit base) (chars text))) ∷ [] =
-          is_value ∙ ap chars is_pushed ∙ one ∙ ap (λ k. k ∷ []) (numbers ∙ same_number ∙ ap (λ l. numbered (number_of base l)) digits_are) in
+      is_value ∙ ap chars is_pushed ∙ one ∙ ap (λ k. k ∷ []) (numbers ∙ same_number ∙ ap (λ l. numbered (number_of base l)) digits_are) in
       found_same made (is_closed ∙ ended.0) (ap (λ (r : Bor (List ℕ)). chars r.now) is_left ∙ ended.1)
       ∙ sym (cond-false _ _ _ (ne_eqb _ 0 some))
 

@@ -1,5 +1,5 @@
 -- Slices of a text that is read one character more.
-use Rattle.std.proofs.Common.{◌≡◌, ◌≢◌, ℕ, ◌+◌, ◌≤◌, Bool, true, false, cond, List, [], ◌∷◌, ◌++◌, length, take, drop, Option, Some, None, MatchOption, option_map, Bor, IsUtf8, chars, refl, sym, ap, subst, ◌∙◌, arith, append_assoc, append-nil, encode_utf8, encode_utf8_all}
+use Rattle.std.proofs.Common.{◌≡◌, ◌≢◌, ℕ, ◌+◌, ◌≤◌, Bool, true, false, List, [], ◌∷◌, ◌++◌, length, take, drop, Option, Some, None, MatchOption, option_map, Bor, IsUtf8, chars, refl, sym, ap, subst, ◌∙◌, arith, append_assoc, append-nil, encode_utf8, encode_utf8_all}
 use Rattle.std.proofs.lemmas.Bool.{false≢true, and_parts, and_from, eqb-true, eq-eqb, ne_eqb, false_from_ne_true}
 use Rattle.std.proofs.lemmas.List.{drop_at, nil_from_length}
 use Rattle.std.proofs.lemmas.Str.{chars-append, chars-nil, chars_past_char, encodes-chars, encodes-append, IsUtf8-drop, IsUtf8-nil, IsUtf8-past_char, IsCharBoundary-from_take}

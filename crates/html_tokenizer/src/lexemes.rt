@@ -2,15 +2,15 @@ ghost use Rattle.std.specs.Prelude.{◌≡◌, ◌∷◌, [], chars, IfOk};
 ghost use Rattle.std.specs.Str.{IsUtf8};
 ghost use Rattle.html_tokenizer.specs.Characters.{is_letter, shown};
 ghost use Rattle.html_tokenizer.specs.Items.{characters, item_of};
-ghost use Rattle.html_tokenizer.specs.Lexemes.{begins_tag, behind_slash, cdata_lexeme, comment_lexeme, declaration, has_end_tags, is_last, kind_behind, lexeme, markup, named_end_tag, ordinary_item, ordinary_lexeme, raw_lexeme, reference_lexeme, tag_lexeme, told};
+ghost use Rattle.html_tokenizer.specs.Lexemes.{begins_tag, behind_slash, cdata_lexeme, comment_lexeme, declaration, ends_raw_text, has_end_tags, has_references, is_last, kind_behind, lexeme, markup, named_end_tag, ordinary_item, ordinary_lexeme, raw_lexeme, reference_lexeme, tag_lexeme, told};
 ghost use Rattle.html_tokenizer.specs.PlainRead.{items_of, lexeme_of};
-ghost use Rattle.html_tokenizer.specs.Slices.{after, cut, cut_or_all, first_passes, front_while, rest_while};
+ghost use Rattle.html_tokenizer.specs.Slices.{after, begins, cut, cut_or_all, first_passes, front_while, rest_while};
 ghost use Rattle.html_tokenizer.specs.Tags.{ends_tag_name};
 ghost use Rattle.html_tokenizer.specs.Read.{cut_of, tag_and_rest};
 ghost use Rattle.html_tokenizer.specs.References.{reference};
 ghost use Rattle.html_tokenizer.specs.Told.{HasRest};
 ghost use Rattle.html_tokenizer.specs.declared.modes.Mode.{Mode as SeenMode};
-ghost use Rattle.std.specs.Prelude.{option_map, map, codes, IfSome};
+ghost use Rattle.std.specs.Prelude.{option_map, map, codes, drop, IfSome, Some, None, if◌then◌else◌, ◌&&◌, ◌==◌};
 
 use crate::comments::{bogus_comment_slice, comment_slice, shown};
 use crate::doctypes::doctype_at;
@@ -240,10 +240,21 @@ fn declaration<'t>(
         let (doctype, rest) = doctype_at(alloc, rest)?;
         return told_one(alloc, Token::DoctypeToken(doctype), mode.text, rest);
     }
-    match behind(text, "[CDATA[") {
-        Some(rest) if foreign => section(alloc, mode, rest),
-        _ => comment(alloc, mode, bogus_comment_slice(text)),
+    match section_text(foreign, text) {
+        Some(rest) => section(alloc, mode, rest),
+        None => comment(alloc, mode, bogus_comment_slice(text)),
     }
+}
+
+// what follows the opening of a CDATA section, where one may stand
+fn section_text(foreign: bool, text: &str) -> Option<&str>
+    ensures value { option_map (λ rest. chars rest.now) result ≡ (if foreign && begins (codes "[CDATA[") (chars text.now) then Some (drop 7 (chars text.now)) else None) }
+    ensures utf8 { IfSome result (λ rest. IsUtf8 rest.now) }
+{
+    if !foreign {
+        return None;
+    }
+    behind(text, "[CDATA[")
 }
 
 // the text of a CDATA section, and what follows it (WHATWG HTML, 13.2.5.69)
@@ -291,14 +302,10 @@ fn raw<'t>(
     ensures value { IfOk result (λ l. lexeme_of mode.now l ≡ raw_lexeme table.now kind mode.now c (chars rest.now)) }
     ensures utf8 { IfOk result HasRest }
 {
-    if c == '<' && has_end_tags(kind) {
-        if let Some(name) = behind(rest, "/") {
-            if begins_with_last(alloc, &mode.last_start_tag, name)? {
-                return Ok(tag_or_nothing(tag_at(alloc, table, TagKind::EndTag, name)?));
-            }
-        }
+    if let Some(name) = end_tag_name(alloc, kind, mode, c, rest)? {
+        return Ok(tag_or_nothing(tag_at(alloc, table, TagKind::EndTag, name)?));
     }
-    if c == '&' && kind == RawKind::Rcdata {
+    if may_be_reference(kind, c) {
         return reference_or_sign(alloc, table, mode, rest);
     }
     one_character(
@@ -307,6 +314,36 @@ fn raw<'t>(
         shown_character(c),
         rest,
     )
+}
+
+// from the name on, the end tag that ends the text of an element here
+fn end_tag_name<'t>(
+    alloc: Global,
+    kind: RawKind,
+    mode: &Mode,
+    c: char,
+    rest: &'t str,
+) -> Result<Option<&'t str>, AllocError>
+    ensures value { IfOk result (λ name. option_map (λ text. chars text.now) name
+        ≡ (if c == 60 && has_end_tags kind && ends_raw_text mode.now.last_start_tag (chars rest.now) then Some (drop 1 (chars rest.now)) else None)) }
+    ensures utf8 { IfOk result (λ name. IfSome name (λ text. IsUtf8 text.now)) }
+{
+    if c != '<' || !has_end_tags(kind) {
+        return Ok(None);
+    }
+    let Some(name) = behind(rest, "/") else {
+        return Ok(None);
+    };
+    if begins_with_last(alloc, &mode.last_start_tag, name)? {
+        return Ok(Some(name));
+    }
+    Ok(None)
+}
+
+fn may_be_reference(kind: RawKind, c: char) -> bool
+    ensures { result ≡ (c == 38 && has_references kind) }
+{
+    c == '&' && matches!(kind, RawKind::Rcdata)
 }
 
 fn has_end_tags(kind: RawKind) -> bool
@@ -323,8 +360,11 @@ fn begins_with_last(alloc: Global, last: &Option<LocalName>, text: &str) -> Resu
     ensures { IfOk result (λ b. b ≡ named_end_tag last.now (front_while is_letter (chars text.now)) (rest_while is_letter (chars text.now))) }
 {
     let (letters, rest) = split_while(text, CharacterClass::Letter);
+    if first_and_rest(letters).is_none() || !ends_name(rest) {
+        return Ok(false);
+    }
     let name = LocalName::from(name_of(alloc, letters)?);
-    Ok(!letters.is_empty() && is_last(last, &name) && ends_name(rest))
+    Ok(is_last(last, &name))
 }
 
 fn is_last(last: &Option<LocalName>, name: &LocalName) -> bool
@@ -351,19 +391,47 @@ fn kind_behind(kind: RawKind, text: &str) -> RawKind
     ensures { result ≡ kind_behind kind (chars text.now) }
 {
     match kind {
-        RawKind::ScriptData if behind(text, "<!--").is_some() => RawKind::ScriptDataEscaped(
-            ScriptEscapeKind::Escaped,
-        ),
-        RawKind::ScriptDataEscaped(_) if behind(text, "-->").is_some() => RawKind::ScriptData,
-        RawKind::ScriptDataEscaped(ScriptEscapeKind::Escaped) if begins_tag(text, "<script") => {
-            RawKind::ScriptDataEscaped(ScriptEscapeKind::DoubleEscaped)
+        RawKind::Rcdata | RawKind::Rawtext => kind,
+        RawKind::ScriptData => {
+            if begins(text, "<!--") {
+                RawKind::ScriptDataEscaped(ScriptEscapeKind::Escaped)
+            } else {
+                RawKind::ScriptData
+            }
         }
-        RawKind::ScriptDataEscaped(ScriptEscapeKind::DoubleEscaped)
-            if begins_tag(text, "</script") => {
-            RawKind::ScriptDataEscaped(ScriptEscapeKind::Escaped)
-        }
-        other => other,
+        RawKind::ScriptDataEscaped(escape) => escaped_kind_behind(escape, text),
     }
+}
+
+// the same in an escaped part
+fn escaped_kind_behind(escape: ScriptEscapeKind, text: &str) -> RawKind
+    ensures { result ≡ kind_behind (RawKind.ScriptDataEscaped escape) (chars text.now) }
+{
+    if begins(text, "-->") {
+        return RawKind::ScriptData;
+    }
+    match escape {
+        ScriptEscapeKind::Escaped => {
+            if begins_tag(text, "<script") {
+                RawKind::ScriptDataEscaped(ScriptEscapeKind::DoubleEscaped)
+            } else {
+                RawKind::ScriptDataEscaped(escape)
+            }
+        }
+        ScriptEscapeKind::DoubleEscaped => {
+            if begins_tag(text, "</script") {
+                RawKind::ScriptDataEscaped(ScriptEscapeKind::Escaped)
+            } else {
+                RawKind::ScriptDataEscaped(escape)
+            }
+        }
+    }
+}
+
+fn begins(text: &str, mark: &str) -> bool
+    ensures { result ≡ begins (chars mark.now) (chars text.now) }
+{
+    behind(text, mark).is_some()
 }
 
 // whether a text begins with a word, ASCII case aside, and a tag's name ends behind it

@@ -9,6 +9,7 @@ mod modes;
 mod plain;
 mod references;
 mod sink;
+pub mod slice_laws;
 mod slices;
 mod tags;
 

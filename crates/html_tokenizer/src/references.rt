@@ -188,7 +188,7 @@ fn number(
     }))
 }
 
-// the number that digits spell, or one that stands for the same character: both are above 0x10FFFF
+// the number that digits spell, and some number above 0x10FFFF in place of a greater one
 fn number_of(base: u32, digits: &str) -> u32
     requires least { 2 ≤ base }
     requires most { base ≤ 36 }

@@ -10,7 +10,7 @@ invariant-lexemes g l = record {
   text : shadow (Utf8 l.rest);
   ready : g.S.TokenSink.ready (g.S.TokenSink.state l.sink);
   leads : (final : _) → Reading l.table g.S.TokenSink.step g.S.TokenSink.reply g.S.TokenSink.foreign l.mode (g.S.TokenSink.state l.sink) (chars l.rest) final →
-      Reading l.table g.S.TokenSink.step g.S.TokenSink.reply g.S.TokenSink.foreign l.fn.mode (g.S.TokenSink.state l.fn.sink) (chars l.fn.text) final
+      Reading l.table g.S.TokenSink.step g.S.TokenSink.reply g.S.TokenSink.foreign l.fn.mode (g.S.TokenSink.state l.fn.sink) (chars l.fn.text) final;
 }
 
 abbrev pub decreases-lexemes : goal.decreases-lexemes

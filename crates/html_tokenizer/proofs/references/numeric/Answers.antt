@@ -1,4 +1,4 @@
-use Rattle.std.proofs.Common.{◌≡◌, chars, option_map, IfOk, subst, sym, ◌∙◌}
+use Rattle.std.proofs.Common.{◌≡◌, chars, option_map, IfOk, subst}
 use Rattle.std.proofs.lemmas.Option.{MatchOption-at_some, MatchOption-at_none}
 use Rattle.html_tokenizer.specs.Read.{found_of}
 use Rattle.html_tokenizer.specs.References.{behind_number_sign, numeric}

@@ -1,4 +1,4 @@
-use Rattle.std.proofs.Common.{◌≡◌, List, ℕ, ◌++◌, chars, string_bytes, IfSome, IsUtf8, option_map, ap, sym, ◌∙◌, subst, arith}
+use Rattle.std.proofs.Common.{List, ℕ, ◌++◌, chars, string_bytes, IfSome, IsUtf8, option_map, ap, sym, ◌∙◌, subst}
 use Rattle.std.proofs.lemmas.Str.{chars-nil}
 use Rattle.html_tokenizer.specs.Read.{found_of}
 use Rattle.html_tokenizer.proofs.ValueLemmas.{valuing_start, valuing_ends, valuing_character, valuing_found, shorter_found, pushed_text, pushed_shown}

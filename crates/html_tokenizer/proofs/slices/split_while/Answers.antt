@@ -1,7 +1,7 @@
 use Rattle.std.proofs.Common.{ap, sym, ◌∙◌, chars}
 use Rattle.std.specs.Str.Iter.{chars_rest}
 use Rattle.html_tokenizer.specs.Classes.{is_of}
-use Rattle.html_tokenizer.proofs.SliceLemmas.{IsSplit, split_start, split_more, split_stops, split_ends}
+use Rattle.html_tokenizer.proofs.SliceLemmas.{split_start, split_more, split_stops, split_ends}
 use Rattle.html_tokenizer.proofs.slices.split_while.Goals as goal
 use Rattle.html_tokenizer.proofs.slices.split_while.Goals.{in-None, in-Some+then-not-has}
 

@@ -1,0 +1,34 @@
+use Rattle.std.proofs.Common.{◌≡◌, chars, sym, ap, ◌∙◌}
+use Rattle.html_tokenizer.specs.Comments.{bogus_comment_slice, comment_slice}
+use Rattle.html_tokenizer.specs.Doctypes.{doctype_at}
+use Rattle.html_tokenizer.specs.Lexemes.{comment_lexeme, declaration, doctype_lexeme}
+use Rattle.html_tokenizer.specs.PlainRead.{lexeme_of}
+use Rattle.html_tokenizer.specs.Read.{cut_of, doctype_and_rest}
+use Rattle.html_tokenizer.specs.Slices.{after, after_word}
+use Rattle.html_tokenizer.proofs.LexemeLemmas.{dashes, declared_comment, declared_doctype, declared_section, declared_other, doctype_word, ok_weaker}
+use Rattle.html_tokenizer.proofs.lexemes.declaration.Goals as goal
+
+pub returns-in-Some-clause-value : goal.returns-in-Some-clause-value
+returns-in-Some-clause-value c =
+    let cs = chars c.args.text.now in
+    let m = c.args.mode.now in
+    let e : comment_lexeme m (cut_of c.comment_slice.result) ≡ declaration c.args.foreign m cs =
+    ap (comment_lexeme m) c.comment_slice.ensures.value ∙ declared_comment c.args.foreign m cs (chars c.in-Some.rest.now) (c.in-Some.ensures.value ∙ ap (λ w. after w cs) dashes) in
+    ok_weaker (λ l. lexeme_of m l ≡ comment_lexeme m (cut_of c.comment_slice.result)) (λ l. lexeme_of m l ≡ declaration c.args.foreign m cs) (λ l h. h ∙ e) c.comment.result c.comment.ensures.value
+
+pub returns-in-Some-behind_word-clause-value : goal.returns-in-Some-behind_word-clause-value
+returns-in-Some-behind_word-clause-value c =
+    let cs = chars c.args.text.now in
+    let m = c.args.mode.now in
+    let d = c.in_ok-doctype.ensures.value in
+    let e : doctype_lexeme m (doctype_and_rest (c.in_ok-doctype.doctype, c.in_ok-doctype.rest)) ≡ declaration c.args.foreign m cs =
+    ap (doctype_lexeme m) d ∙ declared_doctype c.args.foreign m cs (chars c.in-Some-behind_word.rest.now) (c.in_default.ensures.value ∙ ap (λ w. after w cs) dashes) (c.in-Some-behind_word.ensures.value ∙ ap (λ w. after_word w cs) doctype_word) in
+    ok_weaker _ (λ l. lexeme_of m l ≡ declaration c.args.foreign m cs) (λ l h. h m ∙ e) c.told_one.result c.told_one.ensures.value
+
+pub returns-in-None-clause-value : goal.returns-in-None-clause-value
+returns-in-None-clause-value c =
+    let cs = chars c.args.text.now in
+    let m = c.args.mode.now in
+    let e : comment_lexeme m (cut_of c.bogus_comment_slice.result) ≡ declaration c.args.foreign m cs =
+    ap (comment_lexeme m) c.bogus_comment_slice.ensures.value ∙ declared_other c.args.foreign m cs (c.in_default.ensures.value ∙ ap (λ w. after w cs) dashes) (c.in_default-behind_word.ensures.value ∙ ap (λ w. after_word w cs) doctype_word) c.in-None.ensures.value in
+    ok_weaker (λ l. lexeme_of m l ≡ comment_lexeme m (cut_of c.bogus_comment_slice.result)) (λ l. lexeme_of m l ≡ declaration c.args.foreign m cs) (λ l h. h ∙ e) c.comment-in-None.result c.comment-in-None.ensures.value
