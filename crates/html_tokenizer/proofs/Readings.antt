@@ -62,3 +62,23 @@ module _ {A H : Type 0} (table : References) (step : A → Item → A) (reply : 
 
   pub some : (mode : Mode) (state : A) (cs : List ℕ) → HasReading mode state cs
   some mode state cs = some_below (suc (length cs)) mode state cs (omega arith)
+
+  -- a step of a reader from what it found, in place of the state that it told to
+  pub told_on : (mode : Mode) (state next : A) (cs : List ℕ) (items : List Item) (behind : Mode) (rest : List ℕ) (final : A) → lexeme table (foreign state) mode cs ≡ told items behind rest →
+      next ≡ fold step state items → Reads behind next rest final → Reads mode state cs final
+  told_on mode state next cs items behind rest final e n r = goes mode state cs items behind rest final e (subst (λ s. Reads behind s rest final) n r)
+
+  pub tagged_on : (mode : Mode) (state next : A) (cs : List ℕ) (t : Tag) (behind : Mode) (rest : List ℕ) (final : A) → lexeme table (foreign state) mode cs ≡ tagged t rest →
+      next ≡ step state (tag t) → behind ≡ mode_behind mode t (reply state (tag t)) → Reads behind next rest final → Reads mode state cs final
+  tagged_on mode state next cs t behind rest final e n b r =
+      tags mode state cs t rest final e (subst (λ m. Reads m (step state (tag t)) rest final) b (subst (λ s. Reads behind s rest final) n r))
+
+pub shrinks_told : (table : References) (foreign : Bool) (mode : Mode) (cs : List ℕ) (items : List Item) (behind : Mode) (rest : List ℕ) → lexeme table foreign mode cs ≡ told items behind rest → length rest < length cs
+shrinks_told table foreign mode cs items behind rest e = subst (Behind (length cs)) e (shorter table foreign mode cs)
+
+pub shrinks_tagged : (table : References) (foreign : Bool) (mode : Mode) (cs : List ℕ) (t : Tag) (rest : List ℕ) → lexeme table foreign mode cs ≡ tagged t rest → length rest < length cs
+shrinks_tagged table foreign mode cs t rest e = subst (Behind (length cs)) e (shorter table foreign mode cs)
+
+-- the lexeme of a text, from what a reader found there
+pub found_lexeme : (table : References) (asked foreign : Bool) (mode : Mode) (cs : List ℕ) (l k : Lexeme) → asked ≡ foreign → l ≡ lexeme table asked mode cs → l ≡ k → lexeme table foreign mode cs ≡ k
+found_lexeme table asked foreign mode cs l k a e i = ap (λ f. lexeme table f mode cs) (sym a) ∙ (sym e ∙ i)
