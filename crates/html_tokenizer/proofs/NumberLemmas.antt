@@ -1,5 +1,5 @@
 -- Numbers behind a number sign.
-use Rattle.std.proofs.Common.{◌≡◌, ◌⊎◌, ℕ, ◌+◌, ◌*◌, ◌<◌, ◌≤◌, min, Bool, true, false, ◌&&◌, ◌||◌, cond, IsTrue, List, [], ◌∷◌, ◌++◌, length, drop, eqb, ltb, fold, Option, Some, None, MatchOption, is_some, unwrap_or, option_map, Bor, IsUtf8, inl, inr, refl, sym, ap, subst, ◌∙◌, arith, mul-le-mul_left, encode_utf8}
+use Rattle.std.proofs.Common.{◌≡◌, ◌⊎◌, ℕ, ◌+◌, ◌*◌, ◌<◌, ◌≤◌, min, Bool, true, false, ◌&&◌, ◌||◌, cond, IsTrue, List, [], ◌∷◌, ◌++◌, length, drop, eqb, fold, Option, Some, None, MatchOption, is_some, unwrap_or, option_map, Bor, IsUtf8, inl, inr, refl, sym, ap, subst, ◌∙◌, arith, mul-le-mul_left, encode_utf8}
 use Rattle.std.proofs.lemmas.Bool.{cases_lt, cond-true, or_right, lt-ltb, and_parts, and_from, cond-false, cond_both, eq-eqb, eqb-true, eqb-false, ne_eqb, ltb-true}
 use Rattle.std.proofs.lemmas.List.{nil_from_length}
 use Rattle.std.proofs.lemmas.Option.{none-some, same_Some}

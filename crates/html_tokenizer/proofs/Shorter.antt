@@ -1,5 +1,5 @@
 -- What follows a lexeme is shorter than the text.
-use Rattle.std.proofs.Common.{◌≡◌, ℕ, zero, suc, ◌+◌, ◌-◌, ◌<◌, ◌≤◌, Bool, true, false, cond, not, ◌==◌, ◌&&◌, ◌||◌, List, [], ◌∷◌, ◌++◌, length, drop, codes, Option, Some, None, refl, sym, ap, ◌∙◌, subst, arith, length-drop}
+use Rattle.std.proofs.Common.{ℕ, zero, suc, ◌<◌, ◌≤◌, Bool, true, false, cond, not, ◌==◌, ◌&&◌, ◌||◌, List, [], ◌∷◌, ◌++◌, length, drop, codes, Option, Some, None, arith, length-drop}
 use Rattle.std.specs.Prelude.{IfSome, option_map, option_and_then}
 use Rattle.std.specs.Option.{option_or}
 use Rattle.html_lexemes.specs.References.{References}
@@ -14,7 +14,7 @@ use Rattle.std.specs.List.{list_any}
 use Rattle.html_tokenizer.specs.Characters.{is_digit, is_letter, is_space, name_of, shown}
 use Rattle.html_tokenizer.specs.Comments.{bogus_comment_slice, comment_mark, comment_slice, empty_comment, found_or_ended}
 use Rattle.html_tokenizer.specs.Doctypes.{DoctypeEnd, behind_identifier, behind_keyword, behind_public, behind_spaces, behind_system, doctype_at, ends_identifier, ends_here, identifier, is_quote, named_doctype, public_at, skipped, system_at, system_or, with_public, with_quirks, with_system}
-use Rattle.html_tokenizer.specs.Items.{Item, error}
+use Rattle.html_tokenizer.specs.Items.{error}
 use Rattle.html_tokenizer.specs.Lexemes.{Lexeme, behind_slash, cdata_lexeme, comment_lexeme, declaration, doctype_lexeme, ends_raw_text, has_end_tags, has_references, in_kind, kind_behind, lexeme, lexeme_in, markup, nothing, one_character, ordinary_item, ordinary_lexeme, raw_lexeme, reference_lexeme, tag_lexeme, told, tagged}
 use Rattle.html_tokenizer.specs.References.{Found, behind_number_sign, is_x, named, named_from, named_here, numeric, reference}
 use Rattle.html_tokenizer.specs.Slices.{Cut, after, begins, begins_word, cut, cut_here, cut_or_all, first_passes, front_while, longer, rest_while}

@@ -1,5 +1,5 @@
 -- A cut is the shortest slice before a mark.
-use Rattle.std.proofs.Common.{◌≡◌, ℕ, suc, ◌+◌, ◌<◌, List, [], ◌∷◌, ◌++◌, length, Option, Some, None, option_map, refl, sym, ap, subst, ◌∙◌, arith}
+use Rattle.std.proofs.Common.{◌≡◌, ℕ, suc, ◌<◌, List, [], ◌∷◌, ◌++◌, length, Option, Some, None, option_map, refl, sym, ap, subst, ◌∙◌, arith}
 use Rattle.std.proofs.lemmas.Option.{none-some, same_Some}
 use Rattle.html_tokenizer.specs.Slices.{Cut, HasNoMark, IsShortest, cut}
 use Rattle.html_tokenizer.proofs.SliceLemmas.{cut_with, behind_front, cut_on, cut_off}

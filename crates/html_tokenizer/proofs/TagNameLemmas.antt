@@ -1,5 +1,5 @@
 -- The characters of a name, and the last of a text.
-use Rattle.std.proofs.Common.{◌≡◌, ℕ, suc, ◌+◌, ◌-◌, Bool, true, false, ◌==◌, List, [], ◌∷◌, ◌++◌, length, take, drop, None, MatchBool, IsUtf8, chars, String, string_bytes, refl, sym, ap, subst, ◌∙◌, arith, append_assoc, append-nil, encode_utf8, encode_utf8_all}
+use Rattle.std.proofs.Common.{◌≡◌, ℕ, suc, ◌-◌, Bool, true, false, ◌==◌, List, [], ◌∷◌, ◌++◌, length, take, drop, None, MatchBool, IsUtf8, chars, String, string_bytes, refl, sym, ap, subst, ◌∙◌, arith, append_assoc, append-nil, encode_utf8, encode_utf8_all}
 use Rattle.std.proofs.lemmas.Bool.{ne_eqb, eqb-true, and_parts}
 use Rattle.std.proofs.lemmas.Bool.Decides.{nat_tests}
 use Rattle.std.proofs.lemmas.List.{take-append-drop, drop_all, nil_from_length}

@@ -1,7 +1,6 @@
 -- Comments (WHATWG HTML, 13.2.5.41 and 13.2.5.43 to 13.2.5.52).
-use Rattle.std.specs.Prelude.{ℕ, Bool, if◌then◌else◌, List, [], ◌∷◌, length, ◌-◌, take, drop, reverse, codes, Option, Some, None, option_map}
+use Rattle.std.specs.Prelude.{ℕ, if◌then◌else◌, List, [], length, ◌-◌, take, drop, reverse, codes, Option, Some, None}
 use Rattle.std.specs.Option.{option_or}
-use Rattle.html_tokenizer.specs.Characters.{shown_text}
 use Rattle.html_tokenizer.specs.Slices.{Cut, after, begins, cut, cut_or_all}
 
 -- the end of a comment

@@ -1,8 +1,8 @@
 -- Doctypes (WHATWG HTML, 13.2.5.53 to 13.2.5.68).
 use Rattle.std.specs.Prelude.{ℕ, Bool, true, false, ◌==◌, ◌||◌, not, if◌then◌else◌, List, [], ◌∷◌, length, drop, codes, Option, Some, None}
 use Rattle.html_lexemes.specs.declared.token.Doctype.{Doctype}
-use Rattle.html_tokenizer.specs.Characters.{is_space, name_of, shown_text}
-use Rattle.html_tokenizer.specs.Slices.{after, begins, begins_word, cut, cut_or_all, first_passes, front_while, rest_while}
+use Rattle.html_tokenizer.specs.Characters.{name_of, shown_text}
+use Rattle.html_tokenizer.specs.Slices.{after, begins, begins_word, cut, cut_or_all, front_while, rest_while}
 use Rattle.html_tokenizer.specs.Tags.{ends_unquoted, without_spaces}
 
 -- a doctype, and what follows it

@@ -1,5 +1,5 @@
 -- What stands before a mark at a text's end.
-use Rattle.std.specs.Prelude.{ℕ, if◌then◌else◌, List, length, ◌-◌, take, drop, reverse, Option, Some, None}
+use Rattle.std.specs.Prelude.{ℕ, if◌then◌else◌, List, length, ◌-◌, take, reverse, Option, Some, None}
 use Rattle.html_tokenizer.specs.Slices.{begins}
 
 abbrev pub before : List ℕ → List ℕ → Option (List ℕ)

@@ -1,6 +1,5 @@
 -- How the text of a page is read: as markup, as text to its end, or as the text of an element (WHATWG HTML, 13.2.5.1 to 13.2.5.5).
-use Rattle.std.specs.Prelude.{◌≡◌, ℕ, Bool, true, false, List, Option, Some, None}
-use Rattle.html_lexemes.specs.declared.states.RawKind.{RawKind}
+use Rattle.std.specs.Prelude.{ℕ, Bool, true, false, List, Option, Some}
 use Rattle.html_lexemes.specs.declared.states.State.{State}
 use Rattle.html_lexemes.specs.declared.states.State.TheVariants as states
 use Rattle.html_tokenizer.specs.declared.modes.Mode.{Mode}

@@ -1,5 +1,5 @@
 -- What the plain reader's lexemes mean.
-use Rattle.std.specs.Prelude.{ℕ, List, map, chars, Option}
+use Rattle.std.specs.Prelude.{List, map, chars}
 use Rattle.html_lexemes.specs.declared.token.Token.{Token}
 use Rattle.html_tokenizer.specs.Items.{Item, item_of}
 use Rattle.html_tokenizer.specs.Lexemes as grammar

@@ -1,7 +1,6 @@
 -- What the plain reader's values mean: slices, references, tags and lexemes as the grammar has them.
-use Rattle.std.specs.Prelude.{ℕ, Bool, List, map, chars, Option}
+use Rattle.std.specs.Prelude.{ℕ, List, chars}
 use denote.Ref.{Bor}
-use Rattle.html_lexemes.specs.declared.names.Attribute.{Attribute}
 use Rattle.html_lexemes.specs.declared.token.Doctype.{Doctype}
 use Rattle.html_lexemes.specs.declared.token.Tag.{Tag}
 use Rattle.html_tokenizer.specs.Doctypes.{DoctypeEnd}

@@ -2,19 +2,15 @@
 use Rattle.std.specs.Prelude.{ℕ, zero, suc, Bool, true, false, List, [], ◌∷◌, ◌++◌, Option, Some, None}
 use Rattle.html_lexemes.specs.References.{References}
 use Rattle.html_lexemes.specs.declared.names.Attribute.{Attribute}
-use Rattle.html_lexemes.specs.declared.token.Doctype.{Doctype}
-use Rattle.html_lexemes.specs.declared.token.Tag.{Tag}
-use Rattle.html_lexemes.specs.declared.token.TagKind.{TagKind}
 use Rattle.html_lexemes.specs.declared.token.TagKind.TheVariants.{StartTag, EndTag}
 use Rattle.html_lexemes.specs.declared.token.TokenSinkResult.{TokenSinkResult}
 use Rattle.html_lexemes.specs.declared.token.TokenSinkResult.TheVariants.{Continue}
-use Rattle.html_tokenizer.specs.Items.{Item, characters, null_character, tag, comment, doctype, error, end_of_file}
+use Rattle.html_tokenizer.specs.Items.{Item, characters, tag, doctype, error}
 use Rattle.html_tokenizer.specs.Lexemes.{Lexeme, lexeme, nothing, told, tagged}
 use Rattle.html_tokenizer.specs.Modes.{mode_behind}
 use Rattle.html_tokenizer.specs.declared.modes.Mode.{Mode}
 use Rattle.html_tokenizer.specs.declared.modes.TextKind.{TextKind}
 use Rattle.html_tokenizer.specs.declared.modes.TextKind.TheVariants.{Ordinary}
-use Rattle.html_tokenizer.specs.Tags.{attribute}
 
 abbrev pub going_on : TokenSinkResult ℕ
 going_on = Continue

@@ -1,5 +1,5 @@
 -- Tags and their attributes (WHATWG HTML, 13.2.5.8 and 13.2.5.32 to 13.2.5.40).
-use Rattle.std.specs.Prelude.{◌≡◌, ℕ, zero, suc, Bool, true, false, ◌==◌, ◌&&◌, ◌||◌, not, if◌then◌else◌, List, [], ◌∷◌, ◌++◌, length, drop, Option, Some, None, option_map, option_and_then}
+use Rattle.std.specs.Prelude.{ℕ, zero, suc, Bool, false, ◌==◌, ◌||◌, not, if◌then◌else◌, List, [], ◌∷◌, ◌++◌, length, drop, Option, Some, None, option_map, option_and_then}
 use Rattle.std.specs.List.{list_any}
 use Rattle.std.specs.Str.{bytes_eq}
 use Rattle.html_lexemes.specs.References.{References}
@@ -9,7 +9,7 @@ use Rattle.html_lexemes.specs.declared.token.Tag.{Tag}
 use Rattle.html_lexemes.specs.declared.token.TagKind.{TagKind}
 use Rattle.html_tokenizer.specs.Characters.{is_space, name_of}
 use Rattle.html_tokenizer.specs.References.{value_of}
-use Rattle.html_tokenizer.specs.Slices.{Cut, after, begins, cut, first_passes, front_while, rest_while}
+use Rattle.html_tokenizer.specs.Slices.{Cut, after, begins, cut, front_while, rest_while}
 
 abbrev pub slash : ℕ
 slash = 47

@@ -1,4 +1,4 @@
-use Rattle.std.proofs.Common.{◌≡◌, true, length, sym, ◌∙◌}
+use Rattle.std.proofs.Common.{◌≡◌, length, sym, ◌∙◌}
 use Rattle.std.proofs.lemmas.Bool.{eqb-true, eq-eqb, both_ways}
 use Rattle.html_tokenizer.proofs.DoctypeLemmas.{behind_system-end, behind_system-more}
 use Rattle.html_tokenizer.proofs.doctypes.behind_system.Goals as goal

@@ -1,11 +1,9 @@
-use Rattle.std.proofs.Common.{◌≡◌, chars, sym, ap, ◌∙◌}
-use Rattle.html_tokenizer.specs.Comments.{bogus_comment_slice, comment_slice}
-use Rattle.html_tokenizer.specs.Doctypes.{doctype_at}
+use Rattle.std.proofs.Common.{◌≡◌, chars, ap, ◌∙◌}
 use Rattle.html_tokenizer.specs.Lexemes.{comment_lexeme, declaration, doctype_lexeme}
 use Rattle.html_tokenizer.specs.PlainRead.{lexeme_of}
 use Rattle.html_tokenizer.specs.Read.{cut_of, doctype_and_rest}
 use Rattle.html_tokenizer.specs.Slices.{after, after_word}
-use Rattle.html_tokenizer.proofs.LexemeLemmas.{dashes, declared_comment, declared_doctype, declared_section, declared_other, doctype_word, ok_weaker}
+use Rattle.html_tokenizer.proofs.LexemeLemmas.{dashes, declared_comment, declared_doctype, declared_other, doctype_word, ok_weaker}
 use Rattle.html_tokenizer.proofs.lexemes.declaration.Goals as goal
 
 pub returns-in-Some-clause-value : goal.returns-in-Some-clause-value

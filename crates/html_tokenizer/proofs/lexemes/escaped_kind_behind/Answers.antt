@@ -1,4 +1,4 @@
-use Rattle.std.proofs.Common.{◌≡◌, Bool, true, false, ◌∙◌, sym, ap}
+use Rattle.std.proofs.Common.{true, false, ◌∙◌, sym, ap}
 use Rattle.std.specs.Str.{chars}
 use Rattle.html_lexemes.specs.declared.states.RawKind.TheVariants.{ScriptDataEscaped}
 use Rattle.html_tokenizer.specs.Lexemes.{begins_tag, kind_behind}

@@ -4,7 +4,7 @@ use Rattle.html_tokenizer.specs.Items.{characters}
 use Rattle.html_tokenizer.specs.Lexemes.{kind_behind, raw_lexeme, tag_lexeme, told}
 use Rattle.html_tokenizer.specs.PlainRead.{lexeme_of}
 use Rattle.html_tokenizer.specs.declared.modes.TextKind.TheVariants.{Raw}
-use Rattle.html_tokenizer.proofs.LexemeLemmas.{ok_weaker, raw_end, raw_reference, raw_character}
+use Rattle.html_tokenizer.proofs.LexemeLemmas.{ok_weaker, raw_end, raw_character}
 use Rattle.html_tokenizer.proofs.lexemes.raw.Goals as goal
 
 pub returns-in-Some-clause-value : goal.returns-in-Some-clause-value

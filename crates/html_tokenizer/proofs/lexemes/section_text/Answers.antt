@@ -1,4 +1,4 @@
-use Rattle.std.proofs.Common.{chars, sym, ap, ◌∙◌}
+use Rattle.std.proofs.Common.{chars, ap, ◌∙◌}
 use Rattle.html_tokenizer.specs.Slices.{after}
 use Rattle.html_tokenizer.proofs.LexemeLemmas.{section_mark, section_if}
 use Rattle.html_tokenizer.proofs.lexemes.section_text.Goals as goal
