@@ -1,14 +1,13 @@
 -- Numbers behind a number sign.
-use Rattle.std.proofs.Common.{◌≡◌, ◌⊎◌, ℕ, ◌+◌, ◌*◌, ◌<◌, ◌≤◌, min, Bool, true, false, ◌&&◌, ◌||◌, cond, IsTrue, List, [], ◌∷◌, ◌++◌, length, drop, eqb, fold, Option, Some, None, MatchOption, is_some, unwrap_or, option_map, Bor, IsUtf8, inl, inr, refl, sym, ap, subst, ◌∙◌, arith, mul-le-mul_left, encode_utf8}
+use Rattle.std.proofs.Common.{◌≡◌, ◌⊎◌, ℕ, ◌+◌, ◌*◌, ◌<◌, ◌≤◌, min, Bool, true, false, ◌&&◌, ◌||◌, cond, IsTrue, List, [], ◌∷◌, ◌++◌, length, drop, eqb, fold, Option, Some, None, MatchOption, is_some, unwrap_or, option_map, Bor, IsUtf8, inl, inr, refl, sym, ap, subst, ◌∙◌, arith, mul-le-mul_left, encode_utf8, encode_utf8_all}
 use Rattle.std.proofs.lemmas.Bool.{cases_lt, cond-true, or_right, lt-ltb, and_parts, and_from, cond-false, cond_both, eq-eqb, eqb-true, eqb-false, ne_eqb, ltb-true}
 use Rattle.std.proofs.lemmas.List.{nil_from_length}
 use Rattle.std.proofs.lemmas.Option.{none-some, same_Some}
-use Rattle.std.proofs.lemmas.Str.{chars_past_char, IsUtf8-past_char}
+use Rattle.std.proofs.lemmas.Str.{chars_past_char, encodes-chars, IsUtf8-past_char}
 use Rattle.std.specs.Char.{digit_value}
 use Rattle.std.specs.List.{list_all}
 use Rattle.std.specs.Option.{option_or, SomeIff}
 use Rattle.std.specs.Str.{chars}
-use Rattle.html_lexemes.proofs.QueueLemmas.{no_characters}
 use Rattle.html_tokenizer.specs.Characters.{is_digit}
 use Rattle.html_tokenizer.specs.References.{Found, behind_number_sign, number_of, numbered, numeric}
 use Rattle.html_tokenizer.specs.Slices.{after, begins, front_while, rest_while}
@@ -35,6 +34,9 @@ same_step base d x y most some e = elim (same_or_large x y most e) [
 same_spelled : (base x y most : ℕ) (ds : List ℕ) → 1 ≤ base → min x most ≡ min y most → min (fold (spelled base) x ds) most ≡ min (fold (spelled base) y ds) most
 same_spelled base x y most [] some e = e
 same_spelled base x y most (d ∷ ds) some e = same_spelled base (spelled base x d) (spelled base y d) most ds some (same_step base (digit_value d) x y most some e)
+
+no_characters : (bs : List ℕ) → IsUtf8 bs → chars bs ≡ [] → bs ≡ []
+no_characters bs u none = sym (encodes-chars bs u) ∙ ap encode_utf8_all none
 
 too_large : (n : ℕ) → 0x10FFFF < n → numbered n ≡ 0xFFFD
 too_large n h = cond-true _ _ _ (or_right _ _ (lt-ltb 0x10FFFF n h))

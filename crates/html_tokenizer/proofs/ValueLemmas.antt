@@ -7,7 +7,7 @@ use Rattle.std.specs.Char.{IsScalar}
 use Rattle.std.specs.Option.{option_or}
 use Rattle.std.specs.FinMap as finite
 use Rattle.html_lexemes.specs.References.{References}
-use Rattle.html_lexemes.proofs.TextFronts.{chars-encode}
+use Rattle.html_tokenizer.proofs.MarkLemmas.{chars-encode}
 use Rattle.html_tokenizer.specs.Characters.{is_alphanumeric, is_digit, shown}
 use Rattle.html_tokenizer.specs.References.{Found, behind_number_sign, named, named_from, numeric, reference, reference_in_value, value_from, value_of}
 use Rattle.html_tokenizer.specs.Slices.{after, begins, first_passes, front_while, rest_while}

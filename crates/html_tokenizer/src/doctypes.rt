@@ -46,7 +46,7 @@ fn behind_keyword(
         return Ok(ends_here(doctype, text));
     };
     let rest = skip(rest, CharacterClass::Space);
-    match behind_quote(rest) {
+    match behind_opening_quote(rest) {
         Some((quote, identifier)) => system_at(alloc, doctype, quote, identifier),
         None => Ok(cut_short(doctype, rest)),
     }
@@ -57,7 +57,7 @@ fn behind_public(alloc: Global, doctype: Doctype, text: &str) -> Result<(Doctype
     ensures value { IfOk result (λ read. doctype_and_rest read ≡ behind_public doctype (chars text.now)) }
     ensures utf8 { IfOk result (λ read. IsUtf8 read.1.now) }
 {
-    match behind_quote(text) {
+    match behind_opening_quote(text) {
         Some((quote, identifier)) => public_at(alloc, doctype, quote, identifier),
         None => Ok(cut_short(doctype, text)),
     }
@@ -75,11 +75,11 @@ fn public_at(
 {
     let (identifier, rest) = split_while(text, CharacterClass::Identifier(quote));
     doctype.public_id = Some(shown(alloc, identifier)?);
-    let Some(rest) = behind_that(rest, quote) else {
+    let Some(rest) = behind_closing_quote(rest, quote) else {
         return Ok(cut_short(doctype, rest));
     };
     let rest = skip(rest, CharacterClass::Space);
-    match behind_quote(rest) {
+    match behind_opening_quote(rest) {
         Some((quote, identifier)) => system_at(alloc, doctype, quote, identifier),
         None => Ok(ends_here(doctype, rest)),
     }
@@ -97,14 +97,14 @@ fn system_at(
 {
     let (identifier, rest) = split_while(text, CharacterClass::Identifier(quote));
     doctype.system_id = Some(shown(alloc, identifier)?);
-    match behind_that(rest, quote) {
+    match behind_closing_quote(rest, quote) {
         Some(rest) => Ok(behind_system(doctype, skip(rest, CharacterClass::Space))),
         None => Ok(cut_short(doctype, rest)),
     }
 }
 
 // the quote that a text begins with, and what follows it
-fn behind_quote(text: &str) -> Option<(char, &str)>
+fn behind_opening_quote(text: &str) -> Option<(char, &str)>
     ensures value { MatchOption result (first_passes is_quote (chars text.now) ≡ false) (λ r. (chars text.now ≡ r.0 ∷ chars r.1.now) × (is_quote r.0 ≡ true)) }
     ensures utf8 { IfSome result (λ r. IsUtf8 r.1.now) }
 {
@@ -117,7 +117,7 @@ fn behind_quote(text: &str) -> Option<(char, &str)>
 }
 
 // what follows a quote, where a text begins with it
-fn behind_that(text: &str, quote: char) -> Option<&str>
+fn behind_closing_quote(text: &str, quote: char) -> Option<&str>
     ensures value { option_map (λ rest. chars rest.now) result ≡ after (quote ∷ []) (chars text.now) }
     ensures utf8 { IfSome result (λ rest. IsUtf8 rest.now) }
 {

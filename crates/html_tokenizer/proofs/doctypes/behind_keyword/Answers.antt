@@ -20,13 +20,13 @@ returns-in_default-behind_word-clause-value c =
     let system = c.in_default-behind_word.ensures.value ∙ ap (λ w. after_word w cs) system_codes in
     c.ends_here.ensures.value ∙ behind_keyword-none d cs public system
 
-pub returns-in-Some-behind_quote-clause-value : goal.returns-in-Some-behind_quote-clause-value
-returns-in-Some-behind_quote-clause-value c =
+pub returns-in-Some-behind_opening_quote-clause-value : goal.returns-in-Some-behind_opening_quote-clause-value
+returns-in-Some-behind_opening_quote-clause-value c =
     let d = c.args.doctype in
     let cs = chars c.args.text.now in
     let public = c.in_default.ensures.value ∙ ap (λ w. after_word w cs) public_codes in
     let system = c.in-Some-behind_word.ensures.value ∙ ap (λ w. after_word w cs) system_codes in
-    let quoted = c.in-Some-behind_quote.ensures.value in
+    let quoted = c.in-Some-behind_opening_quote.ensures.value in
     IfOk-weaker c.system_at.result _ _
     (λ x p.
     p ∙ system_or-quote d (skipped (with_quirks d)) _ _ _ quoted.0 quoted.1 ∙ ap (system_or d (skipped (with_quirks d))) c.skip-rest.ensures

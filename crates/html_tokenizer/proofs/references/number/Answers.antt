@@ -1,6 +1,6 @@
 use Rattle.std.proofs.Common.{ℕ, List, ◌++◌, encode_utf8, ap, ◌∙◌}
 use Rattle.html_tokenizer.specs.Classes.{is_of}
-use Rattle.html_lexemes.proofs.TextFronts.{chars-encode}
+use Rattle.html_tokenizer.proofs.MarkLemmas.{chars-encode}
 use Rattle.html_tokenizer.proofs.NumberLemmas.{digits_pass, no_digits, some_digits}
 use Rattle.html_tokenizer.proofs.references.number.Goals as goal
 
