@@ -1,0 +1,92 @@
+use crate::error::Error;
+use crate::escapes::{NO_TEXT, unescaped};
+use crate::tables::TableName;
+use html_lexemes::states::{RawKind, State};
+use html_lexemes::{LocalName, Text};
+use html_tokenizer::TokenizerOpts;
+use std::alloc::Global;
+
+/// A page, and how it is read.
+#[derive(Drop)]
+pub(crate) struct Case {
+    /// How its text is read.
+    pub(crate) options: TokenizerOpts,
+    /// Whether the adjusted current node is foreign.
+    pub(crate) foreign: bool,
+    /// The references that it is read with.
+    pub(crate) table: TableName,
+    /// Its text.
+    pub(crate) text: String,
+}
+
+impl Case {
+    /// The case of a line: five fields with tabs between them.
+    pub(crate) fn from_line(alloc: Global, line: &str) -> Result<Case, Error> {
+        let (state, behind) = first_field(line)?;
+        let (name, behind) = first_field(behind)?;
+        let (foreign, behind) = first_field(behind)?;
+        let (table, text) = first_field(behind)?;
+        if text.contains('\t') {
+            return Err(Error::Case("more than five fields"));
+        }
+        Ok(Case {
+            options: options_of(state_of(state)?, name_of(alloc, name)?),
+            foreign: is_foreign(foreign)?,
+            table: table_of(table)?,
+            text: unescaped(alloc, text)?,
+        })
+    }
+}
+
+/// What stands before the first tab, and what behind it.
+fn first_field(fields: &str) -> Result<(&str, &str), Error> {
+    fields
+        .split_once('\t')
+        .ok_or(Error::Case("fewer than five fields"))
+}
+
+fn options_of(state: State, name: Option<LocalName>) -> TokenizerOpts {
+    TokenizerOpts {
+        exact_errors: false,
+        discard_bom: true,
+        initial_state: Some(state),
+        last_start_tag_name: name,
+    }
+}
+
+/// The state to begin in.
+fn state_of(field: &str) -> Result<State, Error> {
+    match field {
+        "data" => Ok(State::Data),
+        "plaintext" => Ok(State::Plaintext),
+        "rcdata" => Ok(State::RawData(RawKind::Rcdata)),
+        "rawtext" => Ok(State::RawData(RawKind::Rawtext)),
+        "script" => Ok(State::RawData(RawKind::ScriptData)),
+        _ => Err(Error::Case("no kind of text")),
+    }
+}
+
+/// The name of the last start tag, if there was one.
+fn name_of(alloc: Global, field: &str) -> Result<Option<LocalName>, Error> {
+    if field == NO_TEXT {
+        return Ok(None);
+    }
+    let name = Text::from(unescaped(alloc, field)?);
+    Ok(Some(LocalName::from(name)))
+}
+
+fn is_foreign(field: &str) -> Result<bool, Error> {
+    match field {
+        "foreign" => Ok(true),
+        "-" => Ok(false),
+        _ => Err(Error::Case("neither foreign nor -")),
+    }
+}
+
+fn table_of(field: &str) -> Result<TableName, Error> {
+    match field {
+        "basic" => Ok(TableName::Basic),
+        "not" => Ok(TableName::Not),
+        _ => Err(Error::Case("no table of references")),
+    }
+}

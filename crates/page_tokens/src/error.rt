@@ -1,0 +1,23 @@
+use html_lexemes::{ParseFault, TableError};
+use std::alloc::AllocError;
+use std::io;
+
+/// Why nothing, or not all, was told.
+#[derive(Debug, Drop, thiserror::Error)]
+pub(crate) enum Error {
+    /// A line of standard input.
+    #[error("a line is no case: {0}")]
+    Case(&'static str),
+    /// A growth was refused for want of memory.
+    #[error("out of memory")]
+    Memory(#[from] AllocError),
+    /// A table of references.
+    #[error("no reference table: {0}")]
+    Table(#[from] TableError),
+    /// The reading of a page.
+    #[error("reading failed: {0}")]
+    Page(#[from] ParseFault),
+    /// Standard input or output, or want of memory for it.
+    #[error("read or write failed")]
+    Device(#[from] io::Error),
+}
