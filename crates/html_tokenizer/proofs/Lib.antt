@@ -1,15 +1,1 @@
-pub mod DoctypeLemmas
-pub mod LexemeLemmas
-pub mod LongestNames
-pub mod MarkLemmas
-pub mod NameLemmas
-pub mod NumberLemmas
-pub mod PageTextLemmas
-pub mod Readings
-pub mod ShortestCuts
-pub mod Shorter
-pub mod SliceLemmas
-pub mod TagLemmas
-pub mod TagNameLemmas
-pub mod TagValueLemmas
-pub mod ValueLemmas
+

@@ -1,25 +1,7 @@
-//! The grammar of a page's text, and its reading: what a page tells to a sink of tokens.
+//! The tokenizer: resumable, and equal to the reading of the grammar however the text is cut.
 #![tactic(auto)]
 
-mod comments;
-mod doctypes;
-pub mod laws;
-mod lexemes;
-mod modes;
-mod plain;
-mod references;
-mod sink;
-pub mod slice_laws;
-mod slices;
-mod tags;
-
-pub use modes::{Mode, TextKind};
-pub use plain::read_plainly;
-pub use sink::{TokenSink, TokenizerOpts};
-
-#[cfg(test)]
-mod rows;
-#[cfg(test)]
-mod test_sink;
-#[cfg(test)]
-mod tests;
+mod place;
+mod raw_turn;
+mod tag_places;
+mod turn;

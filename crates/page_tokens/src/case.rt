@@ -3,7 +3,7 @@ use crate::escapes::{NO_TEXT, unescaped};
 use crate::tables::TableName;
 use html_lexemes::states::{RawKind, State};
 use html_lexemes::{LocalName, Text};
-use html_tokenizer::TokenizerOpts;
+use html_grammar::TokenizerOpts;
 use std::alloc::Global;
 
 /// A page, and how it is read.

@@ -12,7 +12,7 @@ mod tables;
 use case::Case;
 use error::Error;
 use html_lexemes::ReferenceTable;
-use html_tokenizer::read_plainly;
+use html_grammar::read_plainly;
 use listing::lines_of;
 use sink::KeepingSink;
 use std::alloc::Global;

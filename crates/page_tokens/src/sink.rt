@@ -1,5 +1,5 @@
 use html_lexemes::{ParseFault, Token, TokenSinkResult};
-use html_tokenizer::TokenSink;
+use html_grammar::TokenSink;
 use std::alloc::Global;
 
 /// A sink that keeps what it is told. Contracts see whether its current node is foreign.

@@ -1,0 +1,19 @@
+//! Laws of the reading of a page: each is the contract of a function that does nothing.
+ghost use Rattle.std.specs.Prelude.{◌≡◌, ℕ, List};
+ghost use Rattle.html_lexemes.specs.References.{References};
+ghost use Rattle.html_grammar.specs.Reading.{Reading};
+ghost use Rattle.html_grammar.specs.declared.modes.Mode.{Mode as SeenMode};
+
+use crate::sink::TokenSink;
+
+/// A text has at most one reading, whatever the sink.
+pub fn one_reading<S: TokenSink>()
+    ensures { (table : References) (mode : SeenMode) (state : S.Abstract) (text : List ℕ) (final other : S.Abstract) →
+        Reading table S.step S.reply S.foreign mode state text final → Reading table S.step S.reply S.foreign mode state text other → final ≡ other }
+{}
+
+/// Every text has a reading, whatever the sink.
+pub fn some_reading<S: TokenSink>()
+    ensures { (table : References) (mode : SeenMode) (state : S.Abstract) (text : List ℕ) →
+        (final : S.Abstract) × Reading table S.step S.reply S.foreign mode state text final }
+{}

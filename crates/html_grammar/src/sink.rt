@@ -1,0 +1,72 @@
+ghost use Rattle.std.specs.Prelude.{◌≡◌, Bool, IfOk};
+ghost use Rattle.html_lexemes.specs.declared.token.TokenSinkResult.{TokenSinkResult as Answer};
+ghost use Rattle.html_grammar.specs.Items.{Item, item_of};
+ghost use Rattle.html_grammar.specs.Reading.{IsLawful};
+
+use html_lexemes::states::State;
+use html_lexemes::{LocalName, ParseFault, Token, TokenSinkResult};
+
+/// What tokens are told to. Contracts see an abstract state and a step over what was told; nothing
+/// depends on the wording of errors or on lines.
+pub trait TokenSink {
+    /// What stands for an element in an answer.
+    type Handle: Copy;
+
+    ghost Abstract: { Type 0 };
+
+    ghost state: { Self → Abstract };
+
+    ghost step: { Abstract → Item → Abstract };
+
+    ghost reply: { Abstract → Item → Answer Self.Handle };
+
+    ghost foreign: { Abstract → Bool };
+
+    ghost ready: { Abstract → Type 0 };
+
+    /// Takes a token that stands at a line, and says how the text behind it is to be read. After a
+    /// refusal nothing is known of the sink.
+    fn process_token(
+        &mut self,
+        token: Token,
+        line: u64,
+    ) -> Result<TokenSinkResult<Self::Handle>, ParseFault>
+        requires { ready (state self.old) }
+        ensures state { IfOk result (λ _. state self.new ≡ step (state self.old) (item_of token)) }
+        ensures reply { IfOk result (λ answer. answer ≡ reply (state self.old) (item_of token)) };
+
+    /// Says that nothing more is told.
+    fn end(&mut self) -> Result<(), ParseFault>
+        ensures { IfOk result (λ _. state self.new ≡ state self.old) };
+
+    /// Whether there is an adjusted current node, and it is foreign (WHATWG HTML, 13.2.4.2): then
+    /// `<![CDATA[` opens text.
+    fn adjusted_current_node_present_but_not_in_html_namespace(&self) -> bool
+        ensures { result ≡ foreign (state self.now) };
+
+    ghost lawful: { IsLawful step reply ready };
+}
+
+/// How a page's text is read.
+#[derive(Debug, Drop)]
+pub struct TokenizerOpts {
+    /// Whether errors are told with what stood there.
+    pub exact_errors: bool,
+    /// Whether a first U+FEFF is dropped.
+    pub discard_bom: bool,
+    /// The state to begin in; another than `Data`, `Plaintext` and `RawData` counts as none.
+    pub initial_state: Option<State>,
+    /// The name of the last start tag, which ends text that begins as an element's.
+    pub last_start_tag_name: Option<LocalName>,
+}
+
+impl Default for TokenizerOpts {
+    fn default() -> TokenizerOpts {
+        TokenizerOpts {
+            exact_errors: false,
+            discard_bom: true,
+            initial_state: None,
+            last_start_tag_name: None,
+        }
+    }
+}

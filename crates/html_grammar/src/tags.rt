@@ -1,0 +1,170 @@
+ghost use Rattle.std.specs.Prelude.{◌≡◌, ◌∷◌, ◌++◌, chars, option_map, IfOk, IfSome, OnOk, string_bytes};
+ghost use Rattle.std.specs.Char.{to_ascii_lowercase};
+ghost use Rattle.std.specs.Str.{IsUtf8};
+ghost use Rattle.html_grammar.specs.Characters.{name_of, shown};
+ghost use Rattle.html_grammar.specs.Tags.{attribute_at, ends_with_slash, tag_at, value_behind, written_value};
+ghost use Rattle.html_grammar.specs.TagParts.{attribute_and_rest, is_named, with_new};
+ghost use Rattle.html_grammar.specs.Read.{cut_of, tag_and_rest};
+
+use crate::references::value_of;
+use crate::slices::{CharacterClass, behind, cut_at, first_and_rest, skip, split_while};
+use html_lexemes::{
+    Attribute, Attributes, LocalName, Namespace, QualName, ReferenceTable, Tag, TagKind, Text,
+};
+use std::alloc::{AllocError, Global};
+
+/// The tag whose name begins here, and what follows it (WHATWG HTML, 13.2.5.8). `None` is a tag that the
+/// end of the text cuts off. The error is want of memory alone.
+pub fn tag_at<'t>(
+    alloc: Global,
+    table: &ReferenceTable,
+    kind: TagKind,
+    text: &'t str,
+) -> Result<Option<(Tag, &'t str)>, AllocError>
+    ensures value { IfOk result (λ read. option_map tag_and_rest read ≡ tag_at table.now kind (chars text.now)) }
+    ensures utf8 { IfOk result (λ read. IfSome read (λ r. IsUtf8 r.1.now)) }
+{
+    let (name, mut rest) = split_while(text, CharacterClass::TagName);
+    let name = LocalName::from(name_of(alloc, name)?);
+    let mut attrs = Attributes::new(alloc);
+    let mut had_duplicate_attributes = false;
+    'attributes: loop {
+        let (gap, behind_gap) = split_while(rest, CharacterClass::Gap);
+        let Some((c, behind_c)) = first_and_rest(behind_gap) else {
+            return Ok(None);
+        };
+        if c == '>' {
+            let tag = Tag {
+                kind,
+                name,
+                self_closing: ends_with_slash(gap),
+                attrs,
+                had_duplicate_attributes,
+            };
+            return Ok(Some((tag, behind_c)));
+        }
+        let Some((attribute, behind_attribute)) = attribute_at(alloc, table, c, behind_c)? else {
+            return Ok(None);
+        };
+        rest = behind_attribute;
+        let is_dropped = add_new(&mut attrs, attribute)?;
+        had_duplicate_attributes |= is_dropped;
+    }
+}
+
+// whether the last character of a text is `/`
+fn ends_with_slash(text: &str) -> bool
+    ensures { result ≡ ends_with_slash (chars text.now) }
+{
+    text.ends_with('/')
+}
+
+// adds an attribute, unless its name is there; whether it is
+fn add_new(attributes: &mut Attributes, attribute: Attribute) -> Result<bool, AllocError>
+    ensures dropped { IfOk result (λ dropped. dropped ≡ is_named attribute.name.local attributes.old) }
+    ensures attributes { OnOk result (attributes.new ≡ with_new attributes.old attribute) }
+{
+    if has_name(attributes.as_slice(), &attribute) {
+        return Ok(true);
+    }
+    attributes.push(attribute)?;
+    Ok(false)
+}
+
+// whether an attribute of that name is there
+fn has_name(attributes: &[Attribute], attribute: &Attribute) -> bool
+    ensures { result ≡ is_named attribute.now.name.local attributes.now }
+{
+    attributes
+        .iter()
+        .any(|a| a.name.local == attribute.name.local)
+}
+
+// the attribute that begins with a character and goes on with a text, and what follows it
+fn attribute_at<'t>(
+    alloc: Global,
+    table: &ReferenceTable,
+    first: char,
+    text: &'t str,
+) -> Result<Option<(Attribute, &'t str)>, AllocError>
+    ensures value { IfOk result (λ read. option_map attribute_and_rest read ≡ attribute_at table.now first (chars text.now)) }
+    ensures utf8 { IfOk result (λ read. IfSome read (λ r. IsUtf8 r.1.now)) }
+{
+    let (name, rest) = split_while(text, CharacterClass::AttributeName);
+    let Some((value, rest)) = value_behind(rest) else {
+        return Ok(None);
+    };
+    let attribute = Attribute {
+        name: QualName::new(
+            Namespace::Other(Text::from(String::new(alloc))),
+            LocalName::from(name_from(alloc, first, name)?),
+        ),
+        value: value_of(alloc, table, value)?,
+    };
+    Ok(Some((attribute, rest)))
+}
+
+// the value behind an attribute's name as it is written, and what follows it
+fn value_behind(text: &str) -> Option<(&str, &str)>
+    ensures value { option_map cut_of result ≡ value_behind (chars text.now) }
+    ensures slice_utf8 { IfSome result (λ r. IsUtf8 r.0.now) }
+    ensures rest_utf8 { IfSome result (λ r. IsUtf8 r.1.now) }
+{
+    match behind(skip(text, CharacterClass::Space), "=") {
+        Some(rest) => written_value(skip(rest, CharacterClass::Space)),
+        None => Some(("", text)),
+    }
+}
+
+// the value behind `=` as it is written, and what follows it
+fn written_value(text: &str) -> Option<(&str, &str)>
+    ensures value { option_map cut_of result ≡ written_value (chars text.now) }
+    ensures slice_utf8 { IfSome result (λ r. IsUtf8 r.0.now) }
+    ensures rest_utf8 { IfSome result (λ r. IsUtf8 r.1.now) }
+{
+    match first_and_rest(text) {
+        Some(('"', rest)) => cut_at(rest, "\""),
+        Some(('\'', rest)) => cut_at(rest, "'"),
+        _ => Some(split_while(text, CharacterClass::Unquoted)),
+    }
+}
+
+/// A name: ASCII letters in lower case, and each NUL as U+FFFD. The error is want of memory alone.
+pub fn name_of(alloc: Global, text: &str) -> Result<Text, AllocError>
+    ensures { IfOk result (λ name. name ≡ name_of (chars text.now)) }
+{
+    let mut name = String::new(alloc);
+    push_name(&mut name, text)?;
+    Ok(Text::from(name))
+}
+
+// the same of a character and the text behind it
+fn name_from(alloc: Global, first: char, text: &str) -> Result<Text, AllocError>
+    ensures { IfOk result (λ name. name ≡ name_of (first ∷ chars text.now)) }
+{
+    let mut name = String::new(alloc);
+    name.push(name_character(first))?;
+    push_name(&mut name, text)?;
+    Ok(Text::from(name))
+}
+
+// adds the name that a text is
+fn push_name(name: &mut String, text: &str) -> Result<(), AllocError>
+    ensures { OnOk result (chars (string_bytes name.new) ≡ chars (string_bytes name.old) ++ name_of (chars text.now)) }
+{
+    'characters: for c in text.chars() {
+        name.push(name_character(c))?;
+    }
+    Ok(())
+}
+
+// a name's character as a page's is read
+fn name_character(c: char) -> char
+    ensures { result ≡ to_ascii_lowercase (shown c) }
+{
+    if c == '\0' {
+        '\u{fffd}'
+    } else {
+        c.to_ascii_lowercase()
+    }
+}

@@ -1,5 +1,0 @@
-use Rattle.html_tokenizer.proofs.Readings.{one}
-use Rattle.html_tokenizer.proofs.laws.one_reading.Goals as goal
-
-pub returns : goal.returns
-returns g c = λ table mode state text final other r q. one table g.S.TokenSink.step g.S.TokenSink.reply g.S.TokenSink.foreign mode state text final other r q

@@ -1,5 +1,0 @@
-use Rattle.html_tokenizer.proofs.Readings.{some}
-use Rattle.html_tokenizer.proofs.laws.some_reading.Goals as goal
-
-pub returns : goal.returns
-returns g c = λ table mode state text. some table g.S.TokenSink.step g.S.TokenSink.reply g.S.TokenSink.foreign mode state text
