@@ -1,1 +1,2 @@
-
+pub mod FirstLemmas
+pub mod ReadsLemmas

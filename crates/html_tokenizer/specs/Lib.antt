@@ -1,8 +1,12 @@
+pub mod Firsts
 pub mod MarkupSound
+pub mod PageRest
 pub mod Places
 pub mod RawSound
 pub mod RawTurns
+pub mod Reads
 pub mod ReferenceSound
 pub mod Sound
+pub mod SoundProp
 pub mod TagPlaces
 pub mod Turns

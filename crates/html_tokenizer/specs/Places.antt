@@ -1,21 +1,15 @@
 -- What stands at a place: the lexeme of the characters held back and those that follow, by the grammar.
-use Rattle.std.specs.Prelude.{ℕ, Bool, List, [], ◌∷◌, codes}
+use Rattle.std.specs.Prelude.{ℕ, Bool, List, codes}
 use Rattle.html_lexemes.specs.References.{References}
-use Rattle.html_lexemes.specs.declared.states.RawKind.{RawKind}
 use Rattle.html_grammar.specs.Comments.{bogus_comment_slice, comment_slice}
 use Rattle.html_grammar.specs.Doctypes.{doctype_at}
-use Rattle.html_grammar.specs.Lexemes.{Lexeme, behind_slash, cdata_lexeme, comment_lexeme, declaration, doctype_lexeme, lexeme, markup, nothing, raw_lexeme, reference_lexeme, tag_lexeme}
+use Rattle.html_grammar.specs.Lexemes.{Lexeme, behind_slash, cdata_lexeme, comment_lexeme, declaration, doctype_lexeme, in_kind, lexeme, markup, reference_lexeme, tag_lexeme}
 use Rattle.html_grammar.specs.References.{reference}
 use Rattle.html_grammar.specs.Slices.{after, cut, cut_or_all}
 use Rattle.html_grammar.specs.Tags.{tag_at}
 use Rattle.html_grammar.specs.declared.modes.Mode.{Mode}
 use Rattle.html_tokenizer.specs.declared.place.Place.{Place}
 use Rattle.html_tokenizer.specs.declared.place.Place.TheVariants.{Text, CharacterReference, TagOpen, EndTagOpen, Tag, MarkupDeclarationOpen, BogusComment, Comment, Doctype, CdataSection, RawText}
-
--- the text of an element, at its first character
-abbrev pub raw_at : References → RawKind → Mode → List ℕ → Lexeme
-raw_at table kind mode [] = nothing
-raw_at table kind mode (c ∷ cs) = raw_lexeme table kind mode c cs
 
 abbrev pub place_lexeme : References → Bool → Mode → Place → List ℕ → Lexeme
 place_lexeme table foreign mode Text cs = lexeme table foreign mode cs
@@ -28,4 +22,4 @@ place_lexeme table foreign mode BogusComment cs = comment_lexeme mode (bogus_com
 place_lexeme table foreign mode Comment cs = comment_lexeme mode (comment_slice cs)
 place_lexeme table foreign mode Doctype cs = doctype_lexeme mode (doctype_at cs)
 place_lexeme table foreign mode CdataSection cs = cdata_lexeme mode (cut_or_all (cut (after (codes "]]>")) cs) cs)
-place_lexeme table foreign mode (RawText kind place) cs = raw_at table kind mode cs
+place_lexeme table foreign mode (RawText kind place) cs = lexeme table foreign (in_kind mode kind) cs

@@ -15,19 +15,19 @@ use Rattle.html_tokenizer.specs.declared.raw_turn.RawTurn.{RawTurn}
 use Rattle.html_tokenizer.specs.declared.raw_turn.RawTurn.TheVariants.{Goes, Before, Shifts, EndTag}
 
 -- The characters are text, each by itself, before what follows them, and leave a mode.
-abbrev pub IsText : References → Bool → Mode → List ℕ → Mode → List ℕ → Type 0
-IsText table foreign mode [] behind cs = mode ≡ behind
-IsText table foreign mode (c ∷ text) behind cs =
-    (next : Mode) × (lexeme table foreign mode (c ∷ (text ++ cs)) ≡ told (characters (c ∷ []) ∷ []) next (text ++ cs)) × IsText table foreign next text behind cs
+abbrev pub IsText : References → Mode → List ℕ → Mode → List ℕ → Type 0
+IsText table mode [] behind cs = mode ≡ behind
+IsText table mode (c ∷ text) behind cs =
+    (next : Mode) × ((foreign : Bool) → lexeme table foreign mode (c ∷ (text ++ cs)) ≡ told (characters (c ∷ []) ∷ []) next (text ++ cs)) × IsText table next text behind cs
 
 -- what is held is text before a character and any rest
-abbrev pub IsTextBefore : References → Bool → Mode → RawKind → List ℕ → RawKind → ℕ → Type 0
-IsTextBefore table foreign mode kind held behind c = (rest : List ℕ) → IsText table foreign (in_kind mode kind) held (in_kind mode behind) (c ∷ rest)
+abbrev pub IsTextBefore : References → Mode → RawKind → List ℕ → RawKind → ℕ → Type 0
+IsTextBefore table mode kind held behind c = (rest : List ℕ) → IsText table (in_kind mode kind) held (in_kind mode behind) (c ∷ rest)
 
 -- a front of what is held is text, before what is held then and any rest
-pub record IsShifted (table : References) (foreign : Bool) (mode : Mode) (kind : RawKind) (held text : List ℕ) (behind : RawKind) (now : List ℕ) : Type 0 where
+pub record IsShifted (table : References) (mode : Mode) (kind : RawKind) (held text : List ℕ) (behind : RawKind) (now : List ℕ) : Type 0 where
   pub parts : held ≡ text ++ now
-  pub is_text : (rest : List ℕ) → IsText table foreign (in_kind mode kind) text (in_kind mode behind) (now ++ rest)
+  pub is_text : (rest : List ℕ) → IsText table (in_kind mode kind) text (in_kind mode behind) (now ++ rest)
 
 -- what is held is `</` and the last start tag's name, before a character that ends it
 pub record IsEndTag (table : References) (foreign : Bool) (mode : Mode) (kind : RawKind) (held : List ℕ) (c : ℕ) (now : List ℕ) : Type 0 where
@@ -36,6 +36,6 @@ pub record IsEndTag (table : References) (foreign : Bool) (mode : Mode) (kind : 
 
 abbrev pub RawTurns : References → Bool → Mode → RawKind → List ℕ → ℕ → RawTurn → List ℕ → Type 0
 RawTurns table foreign mode kind held c (Goes next) now = (now ≡ held ++ c ∷ []) × IsTrue (is_raw_held kind next now)
-RawTurns table foreign mode kind held c (Before behind) now = (now ≡ held) × IsTextBefore table foreign mode kind held behind c
-RawTurns table foreign mode kind held c (Shifts text behind next) now = IsShifted table foreign mode kind (held ++ c ∷ []) (chars text.now) behind now × IsTrue (is_raw_held behind next now)
+RawTurns table foreign mode kind held c (Before behind) now = (now ≡ held) × IsTextBefore table mode kind held behind c
+RawTurns table foreign mode kind held c (Shifts text behind next) now = IsShifted table mode kind (held ++ c ∷ []) (chars text.now) behind now × IsTrue (is_raw_held behind next now)
 RawTurns table foreign mode kind held c EndTag now = IsEndTag table foreign mode kind held c now

@@ -1,7 +1,11 @@
 //! The tokenizer: resumable, and equal to the reading of the grammar however the text is cut.
 #![tactic(auto)]
 
+mod first;
+mod last;
+mod line_ends;
+mod pending;
 mod place;
 mod raw_turn;
-mod tag_places;
+mod reader;
 mod turn;

@@ -1,0 +1,32 @@
+use Rattle.std.proofs.Common.{refl, ap, sym, ◌∙◌, ◌∷◌, [], ◌++◌, string_bytes, subst}
+use Rattle.std.proofs.lemmas.Str.{IsUtf8-string_bytes, chars-nil}
+use Rattle.std.specs.Str.{chars}
+use Rattle.html_grammar.specs.Items.{characters}
+use Rattle.html_grammar.specs.Lexemes.{in_kind, lexeme}
+use Rattle.html_tokenizer.proofs.ReadsLemmas.{held_none, null_read, pushed_one, raw_opened, text_read}
+use Rattle.html_tokenizer.proofs.reader.Reader.begin.Goals as goal
+
+pub returns-in_ok-push-in-Text-clause-reads : goal.returns-in_ok-push-in-Text-clause-reads
+returns-in_ok-push-in-Text-clause-reads g c = λ table rest final l.
+    let r = c.args.self.now in
+    text_read table g.S.TokenSink.step g.S.TokenSink.reply g.S.TokenSink.foreign r.mode r.pending.place (chars (string_bytes r.pending.held)) (chars (string_bytes r.run)) (chars (string_bytes c.push.new.self)) c.args.c c.in-Text.shown rest (g.S.TokenSink.state c.args.sink.now) final
+    g.met.S.TokenSink.lawful.joins c.requires.place (held_none r.pending c.requires.place)
+    (pushed_one (string_bytes r.run) (string_bytes c.push.new.self) c.in-Text.shown (IsUtf8-string_bytes r.run) c.in-Text.ensures.0 c.in_ok-push-in-Text.ensures.bytes)
+    (λ f. c.in-Text.ensures.1 table f r.mode rest refl) l
+
+pub returns-in_ok-tell_null-in-Null-clause-reads : goal.returns-in_ok-tell_null-in-Null-clause-reads
+returns-in_ok-tell_null-in-Null-clause-reads g c = λ table rest final l.
+    let r = c.args.self.now in
+    let e = c.tell_null.ensures in
+    null_read table g.S.TokenSink.step g.S.TokenSink.reply g.S.TokenSink.foreign r.mode r.pending.place (chars (string_bytes r.pending.held)) c.args.c rest (chars (string_bytes c.tell_null.new.self.run))
+    (g.S.TokenSink.step (g.S.TokenSink.state c.args.sink.now) (characters (chars (string_bytes r.run)))) (g.S.TokenSink.state c.tell_null.new.sink) final
+    g.met.S.TokenSink.lawful.skips c.requires.place (held_none r.pending c.requires.place) (ap chars c.in_ok-tell_null-in-Null.ensures.run ∙ chars-nil)
+    (λ f. c.in-Null.ensures table f r.mode rest refl) c.in_ok-tell_null-in-Null.ensures.told
+    (rw (e.mode, e.pending) at l)
+
+pub returns-in_ok-open_raw-in-OpensRaw-clause-reads : goal.returns-in_ok-open_raw-in-OpensRaw-clause-reads
+returns-in_ok-open_raw-in-OpensRaw-clause-reads g c = λ table rest final l.
+    let r = c.args.self.now in
+    raw_opened table g.S.TokenSink.step g.S.TokenSink.reply g.S.TokenSink.foreign r.mode c.in-OpensRaw.kind c.in-OpensRaw.place r.pending.place c.open_raw.new.self.place (chars (string_bytes r.pending.held)) (chars (string_bytes c.open_raw.new.self.held)) c.args.c rest
+    (g.S.TokenSink.step (g.S.TokenSink.state c.args.sink.now) (characters (chars (string_bytes r.run)))) final c.in-OpensRaw.ensures.0 c.requires.place (held_none r.pending c.requires.place)
+    c.in_ok-open_raw-in-OpensRaw.ensures.place c.in_ok-open_raw-in-OpensRaw.ensures.held l

@@ -1,0 +1,12 @@
+use Rattle.std.proofs.Common.{◌≡◌, [], ap, sym, ◌∙◌, length, string_bytes}
+use Rattle.std.proofs.lemmas.Str.{chars-nil}
+use Rattle.std.specs.Str.{chars}
+use Rattle.html_grammar.specs.Items.{characters}
+use Rattle.html_tokenizer.proofs.ReadsLemmas.{empty_bytes}
+use Rattle.html_tokenizer.proofs.reader.Reader.tell_run.Goals as goal
+
+pub returns-then-is_empty-clause-told : goal.returns-then-is_empty-clause-told
+returns-then-is_empty-clause-told g c =
+    let s = g.S.TokenSink.state c.args.sink.now in
+    let n : string_bytes c.args.self.now.run ≡ [] = empty_bytes c.args.self.now.run c.is_empty.result c.is_empty.ensures c.if-is_empty.true in
+    sym (g.met.S.TokenSink.lawful.skips s) ∙ ap (λ l. g.S.TokenSink.step s (characters l)) (sym (ap chars n ∙ chars-nil))

@@ -1,0 +1,79 @@
+ghost use Rattle.std.specs.Prelude.{◌≡◌, ◌==◌, ◌&&◌};
+ghost use Rattle.std.specs.Char.{IsScalar};
+ghost use Rattle.html_grammar.specs.Characters.{shown};
+ghost use Rattle.html_grammar.specs.declared.modes.TextKind.TheVariants.{Raw};
+ghost use Rattle.html_grammar.specs.Lexemes.{has_references};
+ghost use Rattle.html_tokenizer.specs.Firsts.{IsFirst};
+ghost use Rattle.html_tokenizer.specs.RawSound.{is_escaped};
+
+use crate::place::{Place, RawPlace, ReferencePlace};
+use html_grammar::TextKind;
+use html_lexemes::states::RawKind;
+
+/// What the first character of a lexeme is, before what follows it is known.
+#[derive(Clone, Copy, Debug, PartialEq, Eq)]
+pub(crate) enum First {
+    /// Text, as this character.
+    Text(char),
+    /// A NUL of ordinary text.
+    Null,
+    /// The opening that this place names.
+    Opens(Place),
+    /// A character of an element's text that more may follow that matters.
+    OpensRaw(RawKind, RawPlace),
+}
+
+/// What a character is where it stands first in text of a kind (WHATWG HTML, 13.2.5.1 to 13.2.5.5, 13.2.5.20 and
+/// 13.2.5.27).
+pub(crate) fn first_of(text: TextKind, c: char) -> First
+    requires { IsScalar c }
+    ensures { IsFirst text c result }
+{
+    match text {
+        TextKind::Ordinary => match c {
+            '\0' => First::Null,
+            '<' => First::Opens(Place::TagOpen),
+            '&' => First::Opens(Place::CharacterReference(ReferencePlace::Named)),
+            _ => First::Text(c),
+        },
+        TextKind::Plain => First::Text(shown(c)),
+        TextKind::Raw(kind) => first_of_raw(kind, c),
+    }
+}
+
+// NUL is shown as U+FFFD
+fn shown(c: char) -> char
+    requires { IsScalar c }
+    ensures value { result ≡ shown c }
+    ensures scalar { IsScalar result }
+{
+    if c == '\0' { '\u{fffd}' } else { c }
+}
+
+fn first_of_raw(kind: RawKind, c: char) -> First
+    requires { IsScalar c }
+    ensures { IsFirst (Raw kind) c result }
+{
+    if c == '<' {
+        return First::OpensRaw(kind, RawPlace::LessThanSign);
+    }
+    if may_be_reference(kind, c) {
+        return First::Opens(Place::CharacterReference(ReferencePlace::Named));
+    }
+    if may_end_escape(kind, c) {
+        return First::OpensRaw(kind, RawPlace::Dashes);
+    }
+    First::Text(shown(c))
+}
+
+fn may_be_reference(kind: RawKind, c: char) -> bool
+    ensures { result ≡ (c == 38 && has_references kind) }
+{
+    c == '&' && matches!(kind, RawKind::Rcdata)
+}
+
+fn may_end_escape(kind: RawKind, c: char) -> bool
+    ensures { result ≡ (c == 45 && is_escaped kind) }
+{
+    c == '-' && matches!(kind, RawKind::ScriptDataEscaped(_))
+}

@@ -1,0 +1,54 @@
+ghost use Rattle.std.specs.Prelude.{◌≡◌, ℕ, ◌∷◌, List, Bool, MatchOption};
+ghost use Rattle.std.specs.Char.{IsScalar};
+ghost use Rattle.html_grammar.specs.PageText.{page_text};
+
+/// How the characters of a page become those of its text: a first U+FEFF may be dropped, and each CR LF, CR and LF is
+/// one LF (WHATWG HTML, 13.2.3.5), also where a CR LF is cut in two.
+#[derive(Clone, Copy, Debug, PartialEq, Eq)]
+pub(crate) enum LineEnds {
+    /// Before the first character, where a U+FEFF is dropped.
+    AtMark,
+    /// Behind a CR, which was given as a LF.
+    AfterReturn,
+    /// Anywhere else.
+    Within,
+}
+
+impl LineEnds {
+    ghost use Rattle.html_tokenizer.specs.PageRest.{page_rest, rest_behind};
+
+    /// Before the first character.
+    pub(crate) fn new(discard_mark: bool) -> LineEnds
+        ensures { (rest : List ℕ) → page_rest result rest ≡ page_text discard_mark rest }
+    {
+        if discard_mark {
+            LineEnds::AtMark
+        } else {
+            LineEnds::Within
+        }
+    }
+
+    /// Behind a character.
+    pub(crate) fn behind(c: char) -> LineEnds
+        ensures { (rest : List ℕ) → page_rest result rest ≡ rest_behind c rest }
+    {
+        if c == '\r' {
+            LineEnds::AfterReturn
+        } else {
+            LineEnds::Within
+        }
+    }
+
+    /// What a further character of the page is in its text. `None` is nothing: a first U+FEFF, or the LF of a CR LF.
+    pub(crate) fn ended(self, c: char) -> Option<char>
+        requires { IsScalar c }
+        ensures { MatchOption result ((rest : List ℕ) → page_rest self (c ∷ rest) ≡ rest_behind c rest)
+            (λ d. IsScalar d × ((rest : List ℕ) → page_rest self (c ∷ rest) ≡ d ∷ rest_behind c rest)) }
+    {
+        match (self, c) {
+            (LineEnds::AtMark, '\u{feff}') | (LineEnds::AfterReturn, '\n') => None,
+            (_, '\r') => Some('\n'),
+            _ => Some(c),
+        }
+    }
+}

@@ -1,0 +1,152 @@
+ghost use Rattle.std.specs.Prelude.{◌≡◌, [], ◌∷◌, ◌++◌, ℕ, Bool, List, chars, string_bytes, IfOk, OnOk};
+ghost use Rattle.std.specs.Char.{IsScalar};
+ghost use Rattle.html_lexemes.specs.References.{References};
+ghost use Rattle.html_grammar.specs.Items.{characters, end_of_file, null_character, tag as tag_item};
+ghost use Rattle.html_grammar.specs.Modes.{mode_behind};
+ghost use Rattle.html_tokenizer.specs.declared.place.Place.TheVariants.{Text as TextPlace};
+
+use crate::first::{First, first_of};
+use crate::last::lexeme_from;
+use crate::pending::{Advance, Pending};
+use crate::place::Place;
+use html_grammar::lexemes::Lexeme;
+use html_grammar::plain::{last_behind, tell_lexemes, tell_tokens, text_behind};
+use html_grammar::{Mode, TextKind, TokenSink};
+use html_lexemes::{ParseFault, ReferenceTable, Tag, Text, Token, TokenSinkResult};
+use std::alloc::Global;
+use std::mem;
+
+/// How far a text was read: the mode, the text that was read and is not told yet, and the lexeme that is not over.
+#[derive(Debug, Drop)]
+pub(crate) struct Reader {
+    mode: Mode,
+    run: String,
+    pending: Pending,
+    line: u64,
+}
+
+/// What the tokenizer pauses for.
+#[derive(Debug, Drop, PartialEq, Eq)]
+pub(crate) enum Pause<H> {
+    /// A script element.
+    Script(H),
+    /// An encoding that the page names.
+    EncodingIndicator(Text),
+}
+
+impl Reader {
+    ghost use Rattle.html_tokenizer.specs.Reads.{Follows, Leaves, Reads, state_of};
+    ghost use Rattle.html_tokenizer.specs.Turns.{IsOver};
+
+    // tells the text that was read
+    fn tell_run<S: TokenSink>(&mut self, sink: &mut S) -> Result<(), ParseFault>
+        requires { S.ready (S.state sink.old) }
+        ensures ready { OnOk result (S.ready (S.state sink.new)) }
+        ensures told { OnOk result (S.state sink.new ≡ state_of S.step self.old (S.state sink.old)) }
+        ensures run { OnOk result (string_bytes self.new.run ≡ []) }
+        ensures mode { self.new.mode ≡ self.old.mode }
+        ensures pending { self.new.pending ≡ self.old.pending }
+    {
+        if self.run.is_empty() {
+            return Ok(());
+        }
+        let alloc = *self.run.allocator();
+        let run = mem::replace(&mut self.run, String::new(alloc));
+        sink.process_token(Token::CharacterTokens(Text::from(run)), self.line)?;
+        Ok(())
+    }
+
+    // tells a tag, and says what the sink pauses for
+    fn tell_tag<S: TokenSink>(
+        &mut self,
+        sink: &mut S,
+        tag: Tag,
+    ) -> Result<Option<Pause<S::Handle>>, ParseFault>
+        requires { S.ready (S.state sink.old) }
+        ensures ready { OnOk result (S.ready (S.state sink.new)) }
+        ensures told { OnOk result (S.state sink.new ≡ S.step (S.state sink.old) (tag_item tag)) }
+        ensures mode { OnOk result (self.new.mode ≡ mode_behind self.old.mode tag (S.reply (S.state sink.old) (tag_item tag))) }
+        ensures run { self.new.run ≡ self.old.run }
+        ensures pending { self.new.pending ≡ self.old.pending }
+    {
+        let last = self.mode.last_start_tag.take();
+        self.mode.last_start_tag = last_behind(last, &tag)?;
+        let answer = sink.process_token(Token::TagToken(tag), self.line)?;
+        self.mode.text = text_behind(&answer);
+        Ok(pause_of(answer))
+    }
+
+    // takes the first character of a lexeme
+    fn begin<S: TokenSink>(&mut self, sink: &mut S, c: char) -> Result<(), ParseFault>
+        requires ready { S.ready (S.state sink.old) }
+        requires place { self.old.pending.place ≡ TextPlace }
+        requires scalar { IsScalar c }
+        ensures ready { OnOk result (S.ready (S.state sink.new)) }
+        ensures reads { OnOk result ((table : References) (rest : List ℕ) (final : S.Abstract) →
+            Reads table S.step S.reply S.foreign self.new (S.state sink.new) rest final →
+            Reads table S.step S.reply S.foreign self.old (S.state sink.old) (c ∷ rest) final) }
+    {
+        match first_of(self.mode.text, c) {
+            First::Text(shown) => self.run.push(shown)?,
+            First::Null => self.tell_null(sink)?,
+            First::Opens(place) => self.pending.open(place),
+            First::OpensRaw(kind, place) => self.pending.open_raw(kind, place, c)?,
+        }
+        Ok(())
+    }
+
+    // tells a NUL of ordinary text
+    fn tell_null<S: TokenSink>(&mut self, sink: &mut S) -> Result<(), ParseFault>
+        requires { S.ready (S.state sink.old) }
+        ensures ready { OnOk result (S.ready (S.state sink.new)) }
+        ensures told { OnOk result (S.state sink.new ≡ S.step (state_of S.step self.old (S.state sink.old)) null_character) }
+        ensures run { OnOk result (string_bytes self.new.run ≡ []) }
+        ensures mode { self.new.mode ≡ self.old.mode }
+        ensures pending { self.new.pending ≡ self.old.pending }
+    {
+        self.tell_run(sink)?;
+        sink.process_token(Token::NullCharacterToken, self.line)?;
+        Ok(())
+    }
+
+    // tells a lexeme that is over: what was held at a place
+    fn tell_lexeme<S: TokenSink>(
+        &mut self,
+        table: &ReferenceTable,
+        sink: &mut S,
+        place: Place,
+        held: String,
+    ) -> Result<Option<Pause<S::Handle>>, ParseFault>
+        requires ready { S.ready (S.state sink.old) }
+        requires place { self.old.pending.place ≡ TextPlace }
+        ensures ready { OnOk result (S.ready (S.state sink.new)) }
+        ensures place { OnOk result (self.new.pending.place ≡ TextPlace) }
+        ensures reads { OnOk result ((follow rest : List ℕ) (final : S.Abstract) →
+            IsOver table.now (S.foreign (state_of S.step self.old (S.state sink.old))) self.old.mode place (chars (string_bytes held)) follow →
+            Reads table.now S.step S.reply S.foreign self.new (S.state sink.new) (follow ++ rest) final →
+            Leaves table.now S.step S.reply S.foreign self.old.mode place (chars (string_bytes held) ++ (follow ++ rest)) (state_of S.step self.old (S.state sink.old)) final) }
+    {
+        self.tell_run(sink)?;
+        let foreign = sink.adjusted_current_node_present_but_not_in_html_namespace();
+        let alloc = *self.run.allocator();
+        match lexeme_from(alloc, table, foreign, &self.mode, place, held.as_str())? {
+            Lexeme::Nothing => Ok(None),
+            Lexeme::Told(tokens, text, left) => {
+                tell_tokens(sink, tokens, self.line)?;
+                self.mode.text = text;
+                self.run.push_str(left)?;
+                Ok(None)
+            }
+            Lexeme::Tagged(tag, _) => self.tell_tag(sink, tag),
+        }
+    }
+}
+
+// what a sink's answer asks to pause for
+fn pause_of<H: Drop>(answer: TokenSinkResult<H>) -> Option<Pause<H>> {
+    match answer {
+        TokenSinkResult::Script(handle) => Some(Pause::Script(handle)),
+        TokenSinkResult::EncodingIndicator(encoding) => Some(Pause::EncodingIndicator(encoding)),
+        _ => None,
+    }
+}
