@@ -24,10 +24,10 @@ front_on p c cs e = rw e refl
 front_off : (p : ℕ → Bool) (c : ℕ) (cs : List ℕ) → p c ≡ false → front_while p (c ∷ cs) ≡ []
 front_off p c cs e = rw e refl
 
-rest_on : (p : ℕ → Bool) (c : ℕ) (cs : List ℕ) → p c ≡ true → rest_while p (c ∷ cs) ≡ rest_while p cs
+pub rest_on : (p : ℕ → Bool) (c : ℕ) (cs : List ℕ) → p c ≡ true → rest_while p (c ∷ cs) ≡ rest_while p cs
 rest_on p c cs e = rw e refl
 
-rest_off : (p : ℕ → Bool) (c : ℕ) (cs : List ℕ) → p c ≡ false → rest_while p (c ∷ cs) ≡ c ∷ cs
+pub rest_off : (p : ℕ → Bool) (c : ℕ) (cs : List ℕ) → p c ≡ false → rest_while p (c ∷ cs) ≡ c ∷ cs
 rest_off p c cs e = rw e refl
 
 -- the first n bytes passed, and `left` is to come

@@ -115,7 +115,7 @@ enough table (suc n) (suc m) cs h k =
     (λ ds le. enough table n m ds (omega (arith, rest_while-shorter is_gap cs)) (omega (arith, rest_while-shorter is_gap cs)))
 
 -- the end of a tag, by that of what follows its first attribute
-tag_end-step : (table : References) (cs : List ℕ) → tag_end table cs ≡ behind_gap table (ends_with_slash (front_while is_gap cs)) (rest_while is_gap cs) (tag_end table)
+pub tag_end-step : (table : References) (cs : List ℕ) → tag_end table cs ≡ behind_gap table (ends_with_slash (front_while is_gap cs)) (rest_while is_gap cs) (tag_end table)
 tag_end-step table cs =
     same_behind table (ends_with_slash (front_while is_gap cs)) (rest_while is_gap cs) (tag_end_from table (length cs)) (tag_end table)
     (λ ds le. enough table (length cs) (suc (length ds)) ds (omega (arith, rest_while-shorter is_gap cs)) (omega arith))

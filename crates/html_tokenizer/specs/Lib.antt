@@ -1,3 +1,4 @@
+pub mod Advances
 pub mod Firsts
 pub mod MarkupSound
 pub mod PageRest

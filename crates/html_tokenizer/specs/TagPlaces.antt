@@ -1,5 +1,5 @@
 -- What follows a tag, from a place in it on.
-use Rattle.std.specs.Prelude.{◌≡◌, ℕ, not, List, [], ◌∷◌, ◌++◌, Option, Some, None, option_map, option_and_then}
+use Rattle.std.specs.Prelude.{◌≡◌, ℕ, not, List, [], ◌∷◌, ◌++◌, Option, option_map, option_and_then}
 use Rattle.html_lexemes.specs.References.{References}
 use Rattle.html_lexemes.specs.declared.states.AttrValueKind.TheVariants.{Unquoted, SingleQuoted, DoubleQuoted}
 use Rattle.html_lexemes.specs.declared.token.TagKind.{TagKind}

@@ -4,8 +4,11 @@
 mod first;
 mod last;
 mod line_ends;
+mod markup_turn;
 mod pending;
 mod place;
 mod raw_turn;
 mod reader;
+mod tag_places;
+mod tag_turns;
 mod turn;

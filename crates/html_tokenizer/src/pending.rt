@@ -1,13 +1,12 @@
-ghost use Rattle.std.specs.Prelude.{◌≡◌, [], ◌∷◌, ◌++◌, ℕ, Bool, List, chars, string_bytes, IfOk, OnOk};
+ghost use Rattle.std.specs.Prelude.{◌≡◌, [], ◌∷◌, ◌++◌, ℕ, Bool, List, chars, string_bytes, IfOk, OnOk, MatchOption};
 ghost use Rattle.html_tokenizer.specs.declared.place.Place.TheVariants.{MarkupDeclarationOpen as DeclarationPlace, RawText as RawPlaceOf, Text as TextPlace};
 ghost use Rattle.std.specs.Char.{IsScalar};
 ghost use Rattle.html_tokenizer.specs.Sound.{IsSound};
 ghost use Rattle.html_tokenizer.specs.SoundProp.{IsSound-prop};
 
+use crate::markup_turn::markup_turn;
 use crate::place::{Place, RawPlace};
-use crate::raw_turn::RawTurn;
 use crate::turn::Turn;
-use html_grammar::Mode;
 use html_lexemes::ReferenceTable;
 use html_lexemes::states::RawKind;
 use std::alloc::{AllocError, Global};
@@ -22,22 +21,34 @@ pub(crate) struct Pending {
     ghost sound: { IsSound place (chars (string_bytes held)) } by { IsSound-prop place (chars (string_bytes held)) },
 }
 
-/// What became of a further character.
+/// What became of a further character of markup.
 #[derive(Debug, Drop)]
 pub(crate) enum Advance {
     /// It belongs to the lexeme, which goes on.
     Goes,
     /// It belongs to the lexeme, which is over: its place, and what was held.
     Ends(Place, String),
-    /// The lexeme was over before it.
+    /// The lexeme was over before it: its place, and what was held.
     EndsBefore(Place, String),
-    /// What was held is text before it, behind which the text of the element is of this kind.
-    TextBefore(String, RawKind),
-    /// It is held. This text, which was, is text, behind which the text of the element is of this kind.
-    Text(&'static str, RawKind),
+}
+
+/// What became of a further character of the text of an element.
+#[derive(Debug, Drop)]
+pub(crate) enum RawAdvance {
+    /// It is held.
+    Goes,
+    /// What was held is text before it, behind which the text is of this kind.
+    Before(String, RawKind),
+    /// It is held, and this text, which was, is text, behind which the text is of this kind.
+    Shifts(&'static str, RawKind),
+    /// What was held is the name of an end tag before it.
+    EndTag,
 }
 
 impl Pending {
+    ghost use Rattle.html_grammar.specs.declared.modes.Mode.{Mode as SeenMode};
+    ghost use Rattle.html_tokenizer.specs.Advances.{Advances, IsNoMarkup};
+
     /// Before a lexeme.
     pub(crate) fn new(alloc: Global) -> Pending
         ensures place { result.place ≡ TextPlace }
@@ -83,4 +94,52 @@ impl Pending {
         self.place = Place::RawText(kind, place);
         Ok(())
     }
+
+    /// Takes a further character of markup; `foreign` says that the adjusted current node is foreign, which matters behind
+    /// `<!` alone. `None` is a place in text, where nothing is done. After a refusal nothing is held.
+    pub(crate) fn take(
+        &mut self,
+        table: &ReferenceTable,
+        foreign: bool,
+        c: char,
+    ) -> Result<Option<Advance>, AllocError>
+        ensures { IfOk result (λ done. MatchOption done (IsNoMarkup self.old.place × (self.new ≡ self.old))
+            (λ advance. (asked : Bool) (mode : SeenMode) → (self.old.place ≡ DeclarationPlace → asked ≡ foreign) →
+                Advances table.now asked mode self.old.place (chars (string_bytes self.old.held)) c advance self.new.place (chars (string_bytes self.new.held)))) }
+    {
+        let done = match markup_turn(table, foreign, self.place, &mut self.held, c) {
+            Ok(done) => done,
+            Err(error) => {
+                self.place = Place::Text;
+                self.held.clear();
+                return Err(error);
+            }
+        };
+        let Some(turn) = done else {
+            return Ok(None);
+        };
+        match turn {
+            Turn::Goes(next) => {
+                self.place = next;
+                Ok(Some(Advance::Goes))
+            }
+            Turn::Ends(last) => {
+                self.place = Place::Text;
+                Ok(Some(Advance::Ends(last, take_out(&mut self.held))))
+            }
+            Turn::EndsBefore => {
+                let last = mem::replace(&mut self.place, Place::Text);
+                Ok(Some(Advance::EndsBefore(last, take_out(&mut self.held))))
+            }
+        }
+    }
+}
+
+// takes out a text, and leaves an empty one
+fn take_out(text: &mut String) -> String
+    ensures taken { result ≡ text.old }
+    ensures left { string_bytes text.new ≡ [] }
+{
+    let alloc = *text.allocator();
+    mem::replace(text, String::new(alloc))
 }

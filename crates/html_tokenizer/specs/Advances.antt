@@ -1,0 +1,50 @@
+-- What becomes of a further character of a lexeme that is not over.
+use Rattle.std.specs.Prelude.{◌≡◌, ℕ, Bool, List, [], ◌∷◌, ◌++◌, IsTrue, chars, string_bytes}
+use Rattle.html_lexemes.specs.References.{References}
+use Rattle.html_lexemes.specs.declared.states.RawKind.{RawKind}
+use Rattle.html_grammar.specs.declared.modes.Mode.{Mode}
+use Rattle.html_tokenizer.specs.RawTurns.{IsEndTag, IsShifted, IsTextBefore}
+use Rattle.html_tokenizer.specs.Turns.{IsOver, IsTaken}
+use Rattle.html_lexemes.specs.declared.token.TagKind.TheVariants.{EndTag as EndTagKind}
+use Rattle.html_tokenizer.specs.declared.pending.Advance.{Advance}
+use Rattle.html_tokenizer.specs.declared.pending.Advance.TheVariants.{Goes, Ends, EndsBefore}
+use Rattle.html_tokenizer.specs.declared.pending.RawAdvance.{RawAdvance}
+use Rattle.html_tokenizer.specs.declared.pending.RawAdvance.TheVariants.{Goes as RawGoes, Before, Shifts, EndTag}
+use Rattle.html_tokenizer.specs.declared.place.Place.{Place}
+use Rattle.html_tokenizer.specs.declared.place.Place.TheVariants.{Text, CharacterReference, TagOpen, EndTagOpen, Tag, MarkupDeclarationOpen, BogusComment, Comment, Doctype, CdataSection, RawText}
+use Rattle.html_tokenizer.specs.declared.place.TagPlace.TheVariants.{TagName}
+
+-- a place in text, in a section or in the text of an element
+abbrev pub IsNoMarkup : Place → Type 0
+IsNoMarkup Text = Unit {0}
+IsNoMarkup CdataSection = Unit {0}
+IsNoMarkup (RawText kind place) = Unit {0}
+IsNoMarkup (CharacterReference place) = ⊥
+IsNoMarkup TagOpen = ⊥
+IsNoMarkup EndTagOpen = ⊥
+IsNoMarkup (Tag kind place) = ⊥
+IsNoMarkup MarkupDeclarationOpen = ⊥
+IsNoMarkup BogusComment = ⊥
+IsNoMarkup Comment = ⊥
+IsNoMarkup Doctype = ⊥
+
+abbrev pub Advances : References → Bool → Mode → Place → List ℕ → ℕ → Advance → Place → List ℕ → Type 0
+Advances table foreign mode place held c Goes next now = IsTaken table foreign mode place held c next now
+Advances table foreign mode place held c (Ends last text) next now =
+    (next ≡ Text) × (IsTaken table foreign mode place held c last (chars (string_bytes text)) × IsOver table foreign mode last (chars (string_bytes text)) [])
+Advances table foreign mode place held c (EndsBefore last text) next now =
+    (next ≡ Text) × ((last ≡ place) × ((chars (string_bytes text) ≡ held) × IsOver table foreign mode place held (c ∷ [])))
+
+-- a place in an element's text of a kind
+abbrev pub IsRawPlace : RawKind → Place → Type 0
+IsRawPlace kind (RawText k place) = k ≡ kind
+IsRawPlace kind _ = ⊥
+
+-- the same in the text of an element, where the last start tag is that of the mode
+abbrev pub RawAdvances : References → Bool → Mode → RawKind → List ℕ → ℕ → RawAdvance → Place → List ℕ → Type 0
+RawAdvances table foreign mode kind held c RawGoes next now = (now ≡ held ++ c ∷ []) × IsRawPlace kind next
+RawAdvances table foreign mode kind held c (Before text behind) next now =
+    (next ≡ Text) × ((chars (string_bytes text) ≡ held) × IsTextBefore table mode kind held behind c)
+RawAdvances table foreign mode kind held c (Shifts text behind) next now =
+    IsShifted table mode kind (held ++ c ∷ []) (chars text.now) behind now × IsRawPlace behind next
+RawAdvances table foreign mode kind held c EndTag next now = IsEndTag table foreign mode kind held c now × (next ≡ Tag EndTagKind TagName)

@@ -1,0 +1,34 @@
+ghost use Rattle.std.specs.Prelude.{◌≡◌, Bool, chars, string_bytes, IfOk, MatchOption};
+ghost use Rattle.html_grammar.specs.declared.modes.Mode.{Mode as SeenMode};
+ghost use Rattle.html_tokenizer.specs.Advances.{IsNoMarkup};
+ghost use Rattle.html_tokenizer.specs.Sound.{IsSound};
+ghost use Rattle.html_tokenizer.specs.Turns.{Turns};
+ghost use Rattle.html_tokenizer.specs.declared.place.Place.TheVariants.{MarkupDeclarationOpen};
+
+use crate::place::Place;
+use crate::tag_turns::tag_turn;
+use crate::turn::Turn;
+use html_lexemes::ReferenceTable;
+use std::alloc::AllocError;
+
+/// What a further character does at a place in markup or in a character reference; `foreign` says that the adjusted
+/// current node is foreign, which matters behind `<!` alone. `None` is a place in text, where nothing is done.
+pub(crate) fn markup_turn(
+    table: &ReferenceTable,
+    foreign: bool,
+    place: Place,
+    held: &mut String,
+    c: char,
+) -> Result<Option<Turn>, AllocError>
+    requires { IsSound place (chars (string_bytes held.old)) }
+    ensures { IfOk result (λ done. MatchOption done (IsNoMarkup place × (held.new ≡ held.old))
+        (λ turn. (asked : Bool) (mode : SeenMode) → (place ≡ MarkupDeclarationOpen → asked ≡ foreign) →
+            Turns table.now asked mode place (chars (string_bytes held.old)) c turn (chars (string_bytes held.new)))) }
+{
+    let turn = match place {
+        Place::Tag(kind, place) => tag_turn(kind, place, held, c)?,
+        Place::Text | Place::CdataSection | Place::RawText(..) => return Ok(None),
+        _ => return Err(AllocError),
+    };
+    Ok(Some(turn))
+}
