@@ -7,6 +7,7 @@ pub mod RawSound
 pub mod RawTurns
 pub mod Reads
 pub mod ReferenceSound
+pub mod SectionTurns
 pub mod Sound
 pub mod SoundProp
 pub mod TagPlaces

@@ -9,6 +9,7 @@ mod pending;
 mod place;
 mod raw_turn;
 mod reader;
+mod section_turn;
 mod tag_places;
 mod tag_turns;
 mod turn;
