@@ -1,4 +1,4 @@
-ghost use Rattle.std.specs.Prelude.{◌≡◌, [], ◌∷◌, ◌++◌, ℕ, Bool, List, chars, string_bytes, IfOk, OnOk, MatchOption};
+ghost use Rattle.std.specs.Prelude.{◌≡◌, [], ◌∷◌, ◌++◌, ℕ, Bool, List, chars, string_bytes, IfOk, OnOk, MatchBool, MatchOption, ◌≢◌};
 ghost use Rattle.html_tokenizer.specs.declared.place.Place.TheVariants.{MarkupDeclarationOpen as DeclarationPlace, RawText as RawPlaceOf, Text as TextPlace};
 ghost use Rattle.std.specs.Char.{IsScalar};
 ghost use Rattle.html_tokenizer.specs.Sound.{IsSound};
@@ -65,6 +65,13 @@ impl Pending {
         ensures { result ≡ self.now.place }
     {
         self.place
+    }
+
+    /// Whether no lexeme has begun.
+    pub(crate) fn is_text(&self) -> bool
+        ensures { MatchBool result (self.now.place ≡ TextPlace) (self.now.place ≢ TextPlace) }
+    {
+        self.place == Place::Text
     }
 
     /// Goes to a place behind an opening.

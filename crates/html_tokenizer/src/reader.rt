@@ -3,7 +3,8 @@ ghost use Rattle.std.specs.Char.{IsScalar};
 ghost use Rattle.html_lexemes.specs.References.{References};
 ghost use Rattle.html_grammar.specs.Items.{characters, end_of_file, null_character, tag as tag_item};
 ghost use Rattle.html_grammar.specs.Modes.{mode_behind};
-ghost use Rattle.html_tokenizer.specs.declared.place.Place.TheVariants.{Text as TextPlace};
+ghost use Rattle.html_tokenizer.specs.declared.place.Place.{Place as SeenPlace};
+ghost use Rattle.html_tokenizer.specs.declared.place.Place.TheVariants.{MarkupDeclarationOpen as DeclarationPlace, Text as TextPlace};
 
 use crate::first::{First, first_of};
 use crate::last::lexeme_from;
@@ -37,6 +38,7 @@ pub(crate) enum Pause<H> {
 impl Reader {
     ghost use Rattle.html_tokenizer.specs.Reads.{Follows, Leaves, Reads, state_of};
     ghost use Rattle.html_tokenizer.specs.Turns.{IsOver};
+    ghost use Rattle.html_tokenizer.specs.Advances.{Advances};
 
     // tells the text that was read
     fn tell_run<S: TokenSink>(&mut self, sink: &mut S) -> Result<(), ParseFault>
@@ -74,6 +76,76 @@ impl Reader {
         let answer = sink.process_token(Token::TagToken(tag), self.line)?;
         self.mode.text = text_behind(&answer);
         Ok(pause_of(answer))
+    }
+
+    /// Takes a further character of the text, and says what the sink pauses for. After a refusal nothing is known of the
+    /// sink.
+    pub(crate) fn take<S: TokenSink>(
+        &mut self,
+        table: &ReferenceTable,
+        sink: &mut S,
+        c: char,
+    ) -> Result<Option<Pause<S::Handle>>, ParseFault>
+        requires ready { S.ready (S.state sink.old) }
+        requires scalar { IsScalar c }
+        ensures ready { OnOk result (S.ready (S.state sink.new)) }
+        ensures reads { OnOk result ((rest : List ℕ) (final : S.Abstract) →
+            Reads table.now S.step S.reply S.foreign self.new (S.state sink.new) rest final →
+            Reads table.now S.step S.reply S.foreign self.old (S.state sink.old) (c ∷ rest) final) }
+    {
+        if self.pending.is_text() {
+            self.begin(sink, c)?;
+            return Ok(None);
+        }
+        let foreign = self.is_foreign(sink)?;
+        match self.pending.take(table, foreign, c)? {
+            Some(advance) => self.advance(table, sink, advance, c),
+            None => Ok(None),
+        }
+    }
+
+    // goes on behind a further character of markup
+    fn advance<S: TokenSink>(
+        &mut self,
+        table: &ReferenceTable,
+        sink: &mut S,
+        advance: Advance,
+        c: char,
+    ) -> Result<Option<Pause<S::Handle>>, ParseFault>
+        requires ready { S.ready (S.state sink.old) }
+        requires scalar { IsScalar c }
+        ensures ready { OnOk result (S.ready (S.state sink.new)) }
+        ensures reads { OnOk result ((place : SeenPlace) (held : List ℕ) →
+            Advances table.now (S.foreign (state_of S.step self.old (S.state sink.old))) self.old.mode place held c advance self.old.pending.place (chars (string_bytes self.old.pending.held)) →
+            (rest : List ℕ) (final : S.Abstract) →
+            Reads table.now S.step S.reply S.foreign self.new (S.state sink.new) rest final →
+            Leaves table.now S.step S.reply S.foreign self.old.mode place (held ++ c ∷ rest) (state_of S.step self.old (S.state sink.old)) final) }
+    {
+        match advance {
+            Advance::Goes => Ok(None),
+            Advance::Ends(place, held) => self.tell_lexeme(table, sink, place, held),
+            Advance::EndsBefore(place, held) => {
+                self.tell_lexeme(table, sink, place, held)?;
+                self.begin(sink, c)?;
+                Ok(None)
+            }
+        }
+    }
+
+    // whether the adjusted current node is foreign, where that matters: behind `<!`, once the text before it is told
+    fn is_foreign<S: TokenSink>(&mut self, sink: &mut S) -> Result<bool, ParseFault>
+        requires { S.ready (S.state sink.old) }
+        ensures ready { OnOk result (S.ready (S.state sink.new)) }
+        ensures state { OnOk result (state_of S.step self.new (S.state sink.new) ≡ state_of S.step self.old (S.state sink.old)) }
+        ensures foreign { IfOk result (λ f. self.old.pending.place ≡ DeclarationPlace → S.foreign (state_of S.step self.old (S.state sink.old)) ≡ f) }
+        ensures mode { self.new.mode ≡ self.old.mode }
+        ensures pending { self.new.pending ≡ self.old.pending }
+    {
+        if self.pending.place() != Place::MarkupDeclarationOpen {
+            return Ok(false);
+        }
+        self.tell_run(sink)?;
+        Ok(sink.adjusted_current_node_present_but_not_in_html_namespace())
     }
 
     // takes the first character of a lexeme
