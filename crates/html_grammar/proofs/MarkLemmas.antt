@@ -117,7 +117,7 @@ before_none mark cs h =
     h (reverse r.0) (sym (reverse-reverse cs) ∙ ap reverse r.1 ∙ reverse-append (reverse mark) r.0 ∙ ap (λ l. reverse r.0 ++ l) (reverse-reverse mark)))
 
 -- a text before a text at its end
-front_text : (text front mark : List ℕ) → IsUtf8 text → IsUtf8 mark → text ≡ front ++ mark → IsUtf8 front
+pub front_text : (text front mark : List ℕ) → IsUtf8 text → IsUtf8 mark → text ≡ front ++ mark → IsUtf8 front
 front_text text front mark u v e =
     subst IsUtf8 (ap (λ n. take n text) (let long : length front ≡ length text - length mark = omega (arith, ap length e, length-append front mark) in long) ∙ front_is text front mark e) (IsUtf8-take text (length front) u (IsCharBoundary-at_seam text front mark e v))
 

@@ -1,4 +1,9 @@
+pub mod CommentLemmas
+pub mod DeclarationLemmas
+pub mod DoctypeEnds
 pub mod FirstLemmas
+pub mod MarkupHeld
+pub mod OpenLemmas
 pub mod PendingLemmas
 pub mod ReadsLemmas
 pub mod SlicesGoOn

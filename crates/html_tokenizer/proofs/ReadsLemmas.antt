@@ -25,7 +25,7 @@ use Rattle.html_tokenizer.specs.Places.{place_lexeme}
 use Rattle.html_tokenizer.specs.RawSound.{is_escaped}
 use Rattle.html_tokenizer.specs.Reads.{Follows, Leaves}
 use Rattle.html_tokenizer.specs.Sound.{IsSound}
-use Rattle.html_tokenizer.specs.Turns.{IsOver, LeavesText, is_raw_text, is_text, with_more}
+use Rattle.html_tokenizer.specs.Turns.{IsOver, IsTaken, LeavesText, is_raw_text, is_text, with_more}
 use Rattle.html_tokenizer.specs.declared.pending.Pending.{Pending}
 use Rattle.html_tokenizer.specs.declared.place.Place.{Place}
 use Rattle.html_tokenizer.specs.declared.place.Place.TheVariants.{Text, RawText}
@@ -199,3 +199,7 @@ module _ {A H : Type 0} (table : References) (step : A → Item → A) (reply : 
 
   pub never_nothing : (mode : Mode) (place : Place) (held follow : List ℕ) (f : Bool) → IsOver table f mode place held follow → place_lexeme table f mode place held ≡ nothing → ⊥
   never_nothing mode place held follow f over e = subst LeavesText e over.left
+
+  -- a character was taken at another place
+  pub taken_on : (mode : Mode) (place now : Place) (held after : List ℕ) (c : ℕ) (rest : List ℕ) (s final : A) → IsTaken table (foreign s) mode place held c now after → Stays mode now (after ++ rest) s final → Stays mode place (held ++ c ∷ rest) s final
+  taken_on mode place now held after c rest s final t l = subst (λ x. Follows table step reply foreign mode x s final) (t rest) l

@@ -28,12 +28,18 @@ IsNoMarkup BogusComment = ⊥
 IsNoMarkup Comment = ⊥
 IsNoMarkup Doctype = ⊥
 
+-- a lexeme that is over is no longer pending
+abbrev pub IsLeft : Advance → Place → Type 0
+IsLeft Goes next = Unit {0}
+IsLeft (Ends last text) next = next ≡ Text
+IsLeft (EndsBefore last text) next = next ≡ Text
+
 abbrev pub Advances : References → Bool → Mode → Place → List ℕ → ℕ → Advance → Place → List ℕ → Type 0
 Advances table foreign mode place held c Goes next now = IsTaken table foreign mode place held c next now
 Advances table foreign mode place held c (Ends last text) next now =
-    (next ≡ Text) × (IsTaken table foreign mode place held c last (chars (string_bytes text)) × IsOver table foreign mode last (chars (string_bytes text)) [])
+    IsTaken table foreign mode place held c last (chars (string_bytes text)) × IsOver table foreign mode last (chars (string_bytes text)) []
 Advances table foreign mode place held c (EndsBefore last text) next now =
-    (next ≡ Text) × ((last ≡ place) × ((chars (string_bytes text) ≡ held) × IsOver table foreign mode place held (c ∷ [])))
+    (last ≡ place) × ((chars (string_bytes text) ≡ held) × IsOver table foreign mode place held (c ∷ []))
 
 -- a place in an element's text of a kind
 abbrev pub IsRawPlace : RawKind → Place → Type 0

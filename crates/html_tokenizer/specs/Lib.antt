@@ -1,6 +1,8 @@
 pub mod Advances
+pub mod CommentEnds
 pub mod Firsts
 pub mod MarkupSound
+pub mod Openings
 pub mod PageRest
 pub mod Places
 pub mod RawSound
@@ -10,5 +12,6 @@ pub mod ReferenceSound
 pub mod SectionTurns
 pub mod Sound
 pub mod SoundProp
+pub mod Spellings
 pub mod TagPlaces
 pub mod Turns

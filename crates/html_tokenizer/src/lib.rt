@@ -1,10 +1,14 @@
 //! The tokenizer: resumable, and equal to the reading of the grammar however the text is cut.
 #![tactic(auto)]
 
+mod comment_turns;
+mod declarations;
+mod doctype_turns;
 mod first;
 mod last;
 mod line_ends;
 mod markup_turn;
+mod open_turns;
 mod pending;
 mod place;
 mod raw_turn;

@@ -5,6 +5,9 @@ ghost use Rattle.html_tokenizer.specs.Sound.{IsSound};
 ghost use Rattle.html_tokenizer.specs.Turns.{Turns};
 ghost use Rattle.html_tokenizer.specs.declared.place.Place.TheVariants.{MarkupDeclarationOpen};
 
+use crate::comment_turns::{bogus_comment_turn, comment_turn};
+use crate::doctype_turns::doctype_turn;
+use crate::open_turns::{declaration_turn, end_tag_open_turn, tag_open_turn};
 use crate::place::Place;
 use crate::tag_turns::tag_turn;
 use crate::turn::Turn;
@@ -26,9 +29,15 @@ pub(crate) fn markup_turn(
             Turns table.now asked mode place (chars (string_bytes held.old)) c turn (chars (string_bytes held.new)))) }
 {
     let turn = match place {
+        Place::CharacterReference(_) => return Err(AllocError),
+        Place::TagOpen => tag_open_turn(held, c)?,
+        Place::EndTagOpen => end_tag_open_turn(held, c)?,
         Place::Tag(kind, place) => tag_turn(kind, place, held, c)?,
+        Place::MarkupDeclarationOpen => declaration_turn(foreign, held, c)?,
+        Place::BogusComment => bogus_comment_turn(held, c)?,
+        Place::Comment => comment_turn(held, c)?,
+        Place::Doctype => doctype_turn(held, c)?,
         Place::Text | Place::CdataSection | Place::RawText(..) => return Ok(None),
-        _ => return Err(AllocError),
     };
     Ok(Some(turn))
 }

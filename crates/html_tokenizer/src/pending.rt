@@ -1,4 +1,4 @@
-ghost use Rattle.std.specs.Prelude.{◌≡◌, [], ◌∷◌, ◌++◌, ℕ, Bool, List, chars, string_bytes, IfOk, OnOk, MatchBool, MatchOption, ◌≢◌};
+ghost use Rattle.std.specs.Prelude.{◌≡◌, [], ◌∷◌, ◌++◌, ℕ, Bool, List, chars, string_bytes, IfOk, IfSome, OnOk, MatchBool, MatchOption, ◌≢◌};
 ghost use Rattle.html_tokenizer.specs.declared.place.Place.TheVariants.{MarkupDeclarationOpen as DeclarationPlace, RawText as RawPlaceOf, Text as TextPlace};
 ghost use Rattle.std.specs.Char.{IsScalar};
 ghost use Rattle.html_tokenizer.specs.Sound.{IsSound};
@@ -47,7 +47,7 @@ pub(crate) enum RawAdvance {
 
 impl Pending {
     ghost use Rattle.html_grammar.specs.declared.modes.Mode.{Mode as SeenMode};
-    ghost use Rattle.html_tokenizer.specs.Advances.{Advances, IsNoMarkup};
+    ghost use Rattle.html_tokenizer.specs.Advances.{Advances, IsLeft, IsNoMarkup};
 
     /// Before a lexeme.
     pub(crate) fn new(alloc: Global) -> Pending
@@ -110,7 +110,8 @@ impl Pending {
         foreign: bool,
         c: char,
     ) -> Result<Option<Advance>, AllocError>
-        ensures { IfOk result (λ done. MatchOption done (IsNoMarkup self.old.place × (self.new ≡ self.old))
+        ensures left { IfOk result (λ done. IfSome done (λ advance. IsLeft advance self.new.place)) }
+        ensures advance { IfOk result (λ done. MatchOption done (IsNoMarkup self.old.place × (self.new ≡ self.old))
             (λ advance. (asked : Bool) (mode : SeenMode) → (self.old.place ≡ DeclarationPlace → asked ≡ foreign) →
                 Advances table.now asked mode self.old.place (chars (string_bytes self.old.held)) c advance self.new.place (chars (string_bytes self.new.held)))) }
     {

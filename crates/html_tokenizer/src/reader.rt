@@ -38,7 +38,7 @@ pub(crate) enum Pause<H> {
 impl Reader {
     ghost use Rattle.html_tokenizer.specs.Reads.{Follows, Leaves, Reads, state_of};
     ghost use Rattle.html_tokenizer.specs.Turns.{IsOver};
-    ghost use Rattle.html_tokenizer.specs.Advances.{Advances};
+    ghost use Rattle.html_tokenizer.specs.Advances.{Advances, IsLeft, IsNoMarkup};
 
     // tells the text that was read
     fn tell_run<S: TokenSink>(&mut self, sink: &mut S) -> Result<(), ParseFault>
@@ -100,8 +100,26 @@ impl Reader {
         let foreign = self.is_foreign(sink)?;
         match self.pending.take(table, foreign, c)? {
             Some(advance) => self.advance(table, sink, advance, c),
-            None => Ok(None),
+            None => self.take_in_text(table, sink, c),
         }
+    }
+
+    // takes a further character where no markup is pending
+    fn take_in_text<S: TokenSink>(
+        &mut self,
+        table: &ReferenceTable,
+        sink: &mut S,
+        c: char,
+    ) -> Result<Option<Pause<S::Handle>>, ParseFault>
+        requires ready { S.ready (S.state sink.old) }
+        requires scalar { IsScalar c }
+        requires place { IsNoMarkup self.old.pending.place }
+        ensures ready { OnOk result (S.ready (S.state sink.new)) }
+        ensures reads { OnOk result ((rest : List ℕ) (final : S.Abstract) →
+            Reads table.now S.step S.reply S.foreign self.new (S.state sink.new) rest final →
+            Reads table.now S.step S.reply S.foreign self.old (S.state sink.old) (c ∷ rest) final) }
+    {
+        Err(ParseFault::Failed)
     }
 
     // goes on behind a further character of markup
@@ -114,6 +132,7 @@ impl Reader {
     ) -> Result<Option<Pause<S::Handle>>, ParseFault>
         requires ready { S.ready (S.state sink.old) }
         requires scalar { IsScalar c }
+        requires left { IsLeft advance self.old.pending.place }
         ensures ready { OnOk result (S.ready (S.state sink.new)) }
         ensures reads { OnOk result ((place : SeenPlace) (held : List ℕ) →
             Advances table.now (S.foreign (state_of S.step self.old (S.state sink.old))) self.old.mode place held c advance self.old.pending.place (chars (string_bytes self.old.pending.held)) →

@@ -23,24 +23,24 @@ invariant_of-self-in-Ends c = record { sound = ap chars c.take_out.ensures.left 
 pub invariant_of-self-in-EndsBefore : goal.invariant_of-self-in-EndsBefore
 invariant_of-self-in-EndsBefore c = record { sound = subst (λ x. IsSound x (chars (string_bytes c.take_out-in-EndsBefore.new.text))) (sym c.replace-last.ensures.after) (ap chars c.take_out-in-EndsBefore.ensures.left ∙ chars-nil) }
 
-pub returns-in-Goes : goal.returns-in-Goes
-returns-in-Goes c =
+pub returns-in-Goes-clause-advance : goal.returns-in-Goes-clause-advance
+returns-in-Goes-clause-advance c =
     let p = c.args.self.now in
     let t = turned c.args.table.now c.args.foreign p.place (chars (string_bytes p.held)) c.args.c (chars (string_bytes c.markup_turn.new.held)) _ c.in-Ok.done c.in-Some.turn (Goes c.in-Goes.next) c.in-Ok.ensures c.in-Some.is c.in-Goes.is in
     λ asked mode e. (t asked mode e).0
 
-pub returns-in-Ends : goal.returns-in-Ends
-returns-in-Ends c =
+pub returns-in-Ends-clause-advance : goal.returns-in-Ends-clause-advance
+returns-in-Ends-clause-advance c =
     let p = c.args.self.now in
     let held = chars (string_bytes p.held) in
     let t = turned c.args.table.now c.args.foreign p.place held c.args.c (chars (string_bytes c.markup_turn.new.held)) _ c.in-Ok.done c.in-Some.turn (Ends c.in-Ends.last) c.in-Ok.ensures c.in-Some.is c.in-Ends.is in
     let same = ap (λ x. chars (string_bytes x)) c.take_out.ensures.taken in
-    λ asked mode e. (refl, (subst (λ x. IsTaken c.args.table.now asked mode p.place held c.args.c c.in-Ends.last x) (sym same) (t asked mode e).0, subst (λ x. IsOver c.args.table.now asked mode c.in-Ends.last x []) (sym same) (t asked mode e).1))
+    λ asked mode e. (subst (λ x. IsTaken c.args.table.now asked mode p.place held c.args.c c.in-Ends.last x) (sym same) (t asked mode e).0, subst (λ x. IsOver c.args.table.now asked mode c.in-Ends.last x []) (sym same) (t asked mode e).1)
 
-pub returns-in-EndsBefore : goal.returns-in-EndsBefore
-returns-in-EndsBefore c =
+pub returns-in-EndsBefore-clause-advance : goal.returns-in-EndsBefore-clause-advance
+returns-in-EndsBefore-clause-advance c =
     let p = c.args.self.now in
     let held = chars (string_bytes p.held) in
     let t = turned c.args.table.now c.args.foreign p.place held c.args.c (chars (string_bytes c.markup_turn.new.held)) _ c.in-Ok.done c.in-Some.turn EndsBefore c.in-Ok.ensures c.in-Some.is c.in-EndsBefore.is in
     let same = ap (λ x. chars (string_bytes x)) c.take_out-in-EndsBefore.ensures.taken in
-    λ asked mode e. (c.replace-last.ensures.after, (c.replace-last.ensures.value, (same ∙ (t asked mode e).0, (t asked mode e).1)))
+    λ asked mode e. (c.replace-last.ensures.value, (same ∙ (t asked mode e).0, (t asked mode e).1))

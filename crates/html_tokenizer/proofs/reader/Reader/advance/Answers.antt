@@ -1,0 +1,28 @@
+use Rattle.std.proofs.Common.{◌≡◌, List, refl, ap, sym, ◌∙◌, ◌∷◌, [], ◌++◌, string_bytes, subst}
+use Rattle.std.specs.Str.{chars}
+use Rattle.html_grammar.specs.Items.{characters}
+use Rattle.html_tokenizer.specs.Turns.{IsOver}
+use Rattle.html_tokenizer.specs.Reads.{Leaves}
+use Rattle.html_tokenizer.specs.Advances.{Advances, IsLeft}
+use Rattle.html_tokenizer.specs.declared.pending.Advance.TheVariants.{EndsBefore}
+use Rattle.html_tokenizer.proofs.reader.Reader.advance.Goals as goal
+
+pub tell_lexeme-requires-clause-place : goal.tell_lexeme-requires-clause-place
+tell_lexeme-requires-clause-place g c = subst (λ a. IsLeft a c.args.self.now.pending.place) c.in-Ends.is c.requires.left
+
+pub tell_lexeme-requires-in-EndsBefore-clause-place : goal.tell_lexeme-requires-in-EndsBefore-clause-place
+tell_lexeme-requires-in-EndsBefore-clause-place g c = subst (λ a. IsLeft a c.args.self.now.pending.place) c.in-EndsBefore.is c.requires.left
+
+pub returns-in_ok-begin-in-EndsBefore-clause-reads : goal.returns-in_ok-begin-in-EndsBefore-clause-reads
+returns-in_ok-begin-in-EndsBefore-clause-reads g c = λ place held a rest final l.
+    let r = c.args.self.now in
+    let table = c.args.table.now in
+    let s = g.S.TokenSink.step (g.S.TokenSink.state c.args.sink.now) (characters (chars (string_bytes r.run))) in
+    let f = g.S.TokenSink.foreign s in
+    let text = chars (string_bytes c.in-EndsBefore.held) in
+    let known = subst (λ x. Advances table f r.mode place held c.args.c x r.pending.place (chars (string_bytes r.pending.held))) c.in-EndsBefore.is a in
+    let over : IsOver table f r.mode c.in-EndsBefore.place text (c.args.c ∷ []) =
+    subst (λ x. IsOver table f r.mode x text (c.args.c ∷ [])) (sym known.0) (subst (λ x. IsOver table f r.mode place x (c.args.c ∷ [])) (sym known.1.0) known.1.1) in
+    let further = c.in_ok-tell_lexeme-in-EndsBefore.ensures.reads (c.args.c ∷ []) rest final over (c.in_ok-begin-in-EndsBefore.ensures.reads table rest final l) in
+    subst (λ x. Leaves table g.S.TokenSink.step g.S.TokenSink.reply g.S.TokenSink.foreign r.mode place (x ++ c.args.c ∷ rest) s final) known.1.0
+    (subst (λ x. Leaves table g.S.TokenSink.step g.S.TokenSink.reply g.S.TokenSink.foreign r.mode x (text ++ c.args.c ∷ rest) s final) known.0 further)
