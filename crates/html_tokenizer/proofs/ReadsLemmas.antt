@@ -104,6 +104,10 @@ pub on_ok_two : {X E : Type 0} {P Q R : Type 0} (r : Result X E) → OnOk r P �
 on_ok_two (Ok x) p q f = f p q
 on_ok_two (Err e) p q f = tt
 
+pub on_ok_map : {X E : Type 0} {P Q : Type 0} (r : Result X E) → OnOk r P → (P → Q) → OnOk r Q
+on_ok_map (Ok x) p f = f p
+on_ok_map (Err e) p f = tt
+
 -- the lexeme of a place, from what was found there
 pub found_from : (table : References) (asked f : Bool) (mode now : Mode) (place : Place) (text held : List ℕ) (l k : Lexeme) → asked ≡ f → now ≡ mode → text ≡ held → l ≡ place_lexeme table asked now place text → l ≡ k → place_lexeme table f mode place held ≡ k
 found_from table asked f mode now place text held l k a m t e i =
@@ -203,3 +207,8 @@ module _ {A H : Type 0} (table : References) (step : A → Item → A) (reply : 
   -- a character was taken at another place
   pub taken_on : (mode : Mode) (place now : Place) (held after : List ℕ) (c : ℕ) (rest : List ℕ) (s final : A) → IsTaken table (foreign s) mode place held c now after → Stays mode now (after ++ rest) s final → Stays mode place (held ++ c ∷ rest) s final
   taken_on mode place now held after c rest s final t l = subst (λ x. Follows table step reply foreign mode x s final) (t rest) l
+
+  -- the same, where parts are equal
+  pub leaves_same : (mode now : Mode) (p q : Pending) (cs : List ℕ) (s t final : A) → now ≡ mode → q ≡ p → t ≡ s → Stays now q.place (chars (string_bytes q.held) ++ cs) t final → Stays mode p.place (chars (string_bytes p.held) ++ cs) s final
+  leaves_same mode now p q cs s t final m e k l =
+      subst (λ x. Stays x p.place (chars (string_bytes p.held) ++ cs) s final) m (subst (λ x. Stays now x.place (chars (string_bytes x.held) ++ cs) s final) e (subst (λ x. Stays now q.place (chars (string_bytes q.held) ++ cs) x final) k l))

@@ -5,6 +5,7 @@ pub mod MarkupSound
 pub mod Openings
 pub mod PageRest
 pub mod Places
+pub mod RawHeld
 pub mod RawSound
 pub mod RawTurns
 pub mod Reads

@@ -1,0 +1,16 @@
+use Rattle.std.proofs.Common.{refl, chars, sym, ap, ◌∙◌}
+use Rattle.html_tokenizer.specs.RawHeld.{is_at}
+use Rattle.std.specs.Char.{to_ascii_lowercase}
+use Rattle.std.proofs.Common.{length}
+use Rattle.html_tokenizer.proofs.EndTagLemmas.{letters_bytes, no_last, other_last}
+use Rattle.html_tokenizer.proofs.raw_text_turns.at_letter.Goals as goal
+
+pub returns-in_default : goal.returns-in_default
+returns-in_default c = λ table foreign mode e. (refl, no_last table mode c.args.kind (chars c.args.letters.now) c.args.c c.requires.kind c.requires.letters c.requires.letter (e ∙ c.in_default.is))
+
+pub returns : goal.returns
+returns c = λ table foreign mode e. (
+  refl,
+  other_last table mode c.args.kind (chars c.args.letters.now) c.as_str.result.now c.in-Some.name c.args.c c.requires.kind c.requires.letters c.requires.letter (e ∙ c.in-Some.is) c.as_str.utf8 c.as_str.ensures
+      (ap (λ l. is_at (to_ascii_lowercase c.args.c) c.as_str.result.now (length l)) (sym (letters_bytes c.args.letters.now c.utf8.letters c.requires.letters)) ∙ sym c.goes_on.ensures ∙ c.if-goes_on.false),
+)

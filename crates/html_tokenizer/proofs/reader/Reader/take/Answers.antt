@@ -1,0 +1,25 @@
+use Rattle.std.proofs.Common.{◌≡◌, Bool, List, ℕ, MatchOption, refl, ap, sym, ◌∙◌, ◌∷◌, [], ◌++◌, string_bytes, subst}
+use Rattle.std.specs.Str.{chars}
+use Rattle.html_grammar.specs.Items.{characters}
+use Rattle.html_grammar.specs.declared.modes.Mode.{Mode}
+use Rattle.html_tokenizer.specs.Advances.{Advances, IsNoMarkup}
+use Rattle.html_tokenizer.specs.declared.pending.Pending.{Pending}
+use Rattle.html_tokenizer.specs.declared.place.Place.TheVariants.{MarkupDeclarationOpen}
+use Rattle.html_tokenizer.proofs.ReadsLemmas.{leaves_same, on_ok_map}
+use Rattle.html_tokenizer.proofs.reader.Reader.take.Goals as goal
+
+pub returns-in-Some-clause-reads : goal.returns-in-Some-clause-reads
+returns-in-Some-clause-reads g c =
+    let r = c.args.self.now in
+    let now = c.is_foreign.new.self in
+    let after = c.take.new.self in
+    let table = c.args.table.now in
+    let s = g.S.TokenSink.step (g.S.TokenSink.state c.args.sink.now) (characters (chars (string_bytes r.run))) in
+    let t = g.S.TokenSink.step (g.S.TokenSink.state c.is_foreign.new.sink) (characters (chars (string_bytes now.run))) in
+    let same = c.in_ok-foreign.ensures.state in
+    let known = subst (λ o. MatchOption o (IsNoMarkup now.pending.place × (after ≡ now.pending)) (λ advance. (asked : Bool) (mode : Mode) → (now.pending.place ≡ MarkupDeclarationOpen → asked ≡ c.in_ok-foreign.foreign) →
+        Advances table asked mode now.pending.place (chars (string_bytes now.pending.held)) c.args.c advance after.place (chars (string_bytes after.held)))) c.in-Some.is c.in_ok-advance.ensures.advance in
+    let asked_for = λ (e : now.pending.place ≡ MarkupDeclarationOpen). ap g.S.TokenSink.foreign same ∙ c.in_ok-foreign.ensures.foreign (sym (ap (λ (p : Pending). p.place) c.is_foreign.ensures.pending) ∙ e) in
+    on_ok_map c.advance.result c.advance.ensures.reads (λ f rest final l.
+        leaves_same table g.S.TokenSink.step g.S.TokenSink.reply g.S.TokenSink.foreign r.mode now.mode r.pending now.pending (c.args.c ∷ rest) s t final c.is_foreign.ensures.mode c.is_foreign.ensures.pending same
+        (f now.pending.place (chars (string_bytes now.pending.held)) (known (g.S.TokenSink.foreign t) now.mode asked_for) rest final l))

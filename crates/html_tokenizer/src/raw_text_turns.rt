@@ -1,0 +1,168 @@
+ghost use Rattle.std.specs.Prelude.{ℕ, ◌≡◌, Bool, ◌&&◌, nat_lt, ◌∷◌, [], length, drop, chars, string_bytes, IfOk, OnOk, IsTrue};
+ghost use Rattle.std.specs.List.{list_all};
+ghost use Rattle.html_lexemes.specs.References.{References};
+ghost use Rattle.html_grammar.specs.Characters.{is_letter, name_of};
+ghost use Rattle.html_grammar.specs.Lexemes.{has_end_tags, is_last};
+ghost use Rattle.html_grammar.specs.declared.modes.Mode.{Mode as SeenMode};
+ghost use Rattle.html_tokenizer.specs.RawHeld.{held_behind};
+ghost use Rattle.html_tokenizer.specs.RawSound.{is_raw_held};
+ghost use Rattle.html_tokenizer.specs.RawTurns.{RawTurns};
+ghost use Rattle.html_tokenizer.specs.declared.place.RawPlace.TheVariants.{EndTagName};
+
+use crate::place::RawPlace;
+use crate::raw_turn::RawTurn;
+use crate::script_turns::{at_dashes, at_escape_start, at_escape_word, goes_on};
+use html_grammar::slices::{CharacterClass, behind};
+use html_grammar::tags::name_of;
+use html_lexemes::LocalName;
+use html_lexemes::states::{RawKind, ScriptEscapeKind};
+use std::alloc::{AllocError, Global};
+
+/// What a further character does to what is held of the text of an element, of a kind, at a place; `last` is the name of
+/// the last start tag. What is held is then what it is behind that turn. The error is want of memory alone.
+pub(crate) fn raw_turn(
+    alloc: Global,
+    last: &Option<LocalName>,
+    kind: RawKind,
+    place: RawPlace,
+    held: &mut String,
+    c: char,
+) -> Result<RawTurn, AllocError>
+    requires { IsTrue (is_raw_held kind place (chars (string_bytes held.old))) }
+    ensures { IfOk result (λ turn. (table : References) (foreign : Bool) (mode : SeenMode) → mode.last_start_tag ≡ last.now → RawTurns table foreign mode kind (chars (string_bytes held.old)) c turn (chars (string_bytes held.new))) }
+{
+    let turn = turn_at(alloc, last, kind, place, held.as_str(), c)?;
+    take(turn, held, c)?;
+    Ok(turn)
+}
+
+// the turn, before what is held changes
+fn turn_at(
+    alloc: Global,
+    last: &Option<LocalName>,
+    kind: RawKind,
+    place: RawPlace,
+    held: &str,
+    c: char,
+) -> Result<RawTurn, AllocError>
+    requires { IsTrue (is_raw_held kind place (chars held.now)) }
+    ensures { IfOk result (λ turn. (table : References) (foreign : Bool) (mode : SeenMode) → mode.last_start_tag ≡ last.now → RawTurns table foreign mode kind (chars held.now) c turn (held_behind turn (chars held.now) c)) }
+{
+    match place {
+        RawPlace::LessThanSign => Ok(at_less_than_sign(kind, c)),
+        RawPlace::EndTagName => at_end_tag_name(alloc, last, kind, held, c),
+        RawPlace::EscapeStart => Ok(at_escape_start(kind, held, c)),
+        RawPlace::EscapeWord => Ok(at_escape_word(kind, held, c)),
+        RawPlace::Dashes => Ok(at_dashes(kind, held, c)),
+    }
+}
+
+// changes what is held to what it is behind a turn
+fn take(turn: RawTurn, held: &mut String, c: char) -> Result<(), AllocError>
+    ensures { OnOk result (chars (string_bytes held.new) ≡ held_behind turn (chars (string_bytes held.old)) c) }
+{
+    match turn {
+        RawTurn::Goes(_) => held.push(c),
+        RawTurn::Before(_) => Ok(()),
+        RawTurn::Shifts(..) => {
+            held.clear();
+            held.push_str("--")
+        }
+        RawTurn::EndTag => {
+            drop_first(held);
+            drop_first(held);
+            Ok(())
+        }
+    }
+}
+
+fn drop_first(held: &mut String)
+    ensures { chars (string_bytes held.new) ≡ drop 1 (chars (string_bytes held.old)) }
+{
+    if held.is_empty() {
+        return;
+    }
+    held.remove(0);
+}
+
+// at `<`
+fn at_less_than_sign(kind: RawKind, c: char) -> RawTurn
+    ensures { (table : References) (foreign : Bool) (mode : SeenMode) → RawTurns table foreign mode kind (60 ∷ []) c result (held_behind result (60 ∷ []) c) }
+{
+    match kind {
+        RawKind::Rcdata | RawKind::Rawtext => match c {
+            '/' => RawTurn::Goes(RawPlace::EndTagName),
+            _ => RawTurn::Before(kind),
+        },
+        RawKind::ScriptData => match c {
+            '/' => RawTurn::Goes(RawPlace::EndTagName),
+            '!' => RawTurn::Goes(RawPlace::EscapeStart),
+            _ => RawTurn::Before(kind),
+        },
+        RawKind::ScriptDataEscaped(ScriptEscapeKind::Escaped) => match c {
+            '/' => RawTurn::Goes(RawPlace::EndTagName),
+            's' | 'S' => RawTurn::Goes(RawPlace::EscapeWord),
+            _ => RawTurn::Before(kind),
+        },
+        RawKind::ScriptDataEscaped(ScriptEscapeKind::DoubleEscaped) => match c {
+            '/' => RawTurn::Goes(RawPlace::EscapeWord),
+            _ => RawTurn::Before(kind),
+        },
+    }
+}
+
+// at `</` and letters
+fn at_end_tag_name(
+    alloc: Global,
+    last: &Option<LocalName>,
+    kind: RawKind,
+    held: &str,
+    c: char,
+) -> Result<RawTurn, AllocError>
+    requires { IsTrue (is_raw_held kind EndTagName (chars held.now)) }
+    ensures { IfOk result (λ turn. (table : References) (foreign : Bool) (mode : SeenMode) → mode.last_start_tag ≡ last.now → RawTurns table foreign mode kind (chars held.now) c turn (held_behind turn (chars held.now) c)) }
+{
+    let Some(letters) = behind(held, "</") else {
+        return Ok(RawTurn::Before(kind));
+    };
+    if c.is_ascii_alphabetic() {
+        return Ok(at_letter(last, kind, letters, c));
+    }
+    if CharacterClass::TagName.has(c) {
+        return Ok(RawTurn::Before(kind));
+    }
+    if is_last_name(alloc, last, letters)? {
+        return Ok(RawTurn::EndTag);
+    }
+    Ok(RawTurn::Before(kind))
+}
+
+// at `</` and letters, before another letter
+fn at_letter(last: &Option<LocalName>, kind: RawKind, letters: &str, c: char) -> RawTurn
+    requires kind { IsTrue (has_end_tags kind) }
+    requires letters { IsTrue (list_all is_letter (chars letters.now)) }
+    requires letter { IsTrue (is_letter c) }
+    ensures { (table : References) (foreign : Bool) (mode : SeenMode) → mode.last_start_tag ≡ last.now → RawTurns table foreign mode kind (60 ∷ 47 ∷ chars letters.now) c result (held_behind result (60 ∷ 47 ∷ chars letters.now) c) }
+{
+    let Some(name) = last else {
+        return RawTurn::Before(kind);
+    };
+    if goes_on(name.as_str(), letters.len(), c) {
+        return RawTurn::Goes(RawPlace::EndTagName);
+    }
+    RawTurn::Before(kind)
+}
+
+// whether letters are the last start tag's name
+fn is_last_name(alloc: Global, last: &Option<LocalName>, letters: &str) -> Result<bool, AllocError>
+    ensures { IfOk result (λ b. b ≡ (nat_lt 0 (length (chars letters.now)) && is_last last.now (name_of (chars letters.now)))) }
+{
+    let Some(last) = last else {
+        return Ok(false);
+    };
+    if letters.is_empty() {
+        return Ok(false);
+    }
+    let name = LocalName::from(name_of(alloc, letters)?);
+    Ok(*last == name)
+}
