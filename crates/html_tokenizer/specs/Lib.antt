@@ -1,5 +1,6 @@
 pub mod Advances
 pub mod CommentEnds
+pub mod Completes
 pub mod Firsts
 pub mod MarkupSound
 pub mod Openings

@@ -18,4 +18,7 @@ mod script_turns;
 mod section_turn;
 mod tag_places;
 mod tag_turns;
+mod tokenizer;
 mod turn;
+
+pub use tokenizer::{Tokenizer, TokenizerResult};

@@ -74,6 +74,15 @@ impl Pending {
         self.place == Place::Text
     }
 
+    /// Takes out the place and what is held; nothing is pending then.
+    pub(crate) fn take_all(&mut self) -> (Place, String)
+        ensures place { result.0 ≡ self.old.place }
+        ensures held { result.1 ≡ self.old.held }
+    {
+        let place = mem::replace(&mut self.place, Place::Text);
+        (place, take_out(&mut self.held))
+    }
+
     /// Goes to a place behind an opening.
     pub(crate) fn open(&mut self, place: Place)
         requires at { self.old.place ≡ TextPlace }

@@ -3,8 +3,9 @@ ghost use Rattle.std.specs.Char.{IsScalar};
 ghost use Rattle.html_lexemes.specs.References.{References};
 ghost use Rattle.html_grammar.specs.Items.{characters, end_of_file, null_character, tag as tag_item};
 ghost use Rattle.html_grammar.specs.Modes.{mode_behind};
+ghost use Rattle.html_grammar.specs.Reading.{Reading};
 ghost use Rattle.html_tokenizer.specs.declared.place.Place.{Place as SeenPlace};
-ghost use Rattle.html_tokenizer.specs.declared.place.Place.TheVariants.{MarkupDeclarationOpen as DeclarationPlace, Text as TextPlace};
+ghost use Rattle.html_tokenizer.specs.declared.place.Place.TheVariants.{CdataSection as SectionPlace, MarkupDeclarationOpen as DeclarationPlace, Text as TextPlace};
 
 use crate::first::{First, first_of};
 use crate::last::lexeme_from;
@@ -40,8 +41,33 @@ impl Reader {
     ghost use Rattle.html_tokenizer.specs.Turns.{IsOver};
     ghost use Rattle.html_tokenizer.specs.Advances.{Advances, IsLeft, IsNoMarkup};
 
-    // tells the text that was read
-    fn tell_run<S: TokenSink>(&mut self, sink: &mut S) -> Result<(), ParseFault>
+    /// Before the first character of a text that is read in a mode.
+    pub(crate) fn new(alloc: Global, mode: Mode) -> Reader
+        ensures mode { result.mode ≡ mode }
+        ensures run { string_bytes result.run ≡ [] }
+        ensures place { result.pending.place ≡ TextPlace }
+    {
+        Reader {
+            mode,
+            run: String::new(alloc),
+            pending: Pending::new(alloc),
+            line: 1,
+        }
+    }
+
+    /// Counts a line behind a LF.
+    pub(crate) fn count_line(&mut self, c: char)
+        ensures mode { self.new.mode ≡ self.old.mode }
+        ensures run { self.new.run ≡ self.old.run }
+        ensures pending { self.new.pending ≡ self.old.pending }
+    {
+        if c == '\n' {
+            self.line = self.line.saturating_add(1);
+        }
+    }
+
+    /// Tells the text that was read.
+    pub(crate) fn tell_run<S: TokenSink>(&mut self, sink: &mut S) -> Result<(), ParseFault>
         requires { S.ready (S.state sink.old) }
         ensures ready { OnOk result (S.ready (S.state sink.new)) }
         ensures told { OnOk result (S.state sink.new ≡ state_of S.step self.old (S.state sink.old)) }
@@ -119,7 +145,111 @@ impl Reader {
             Reads table.now S.step S.reply S.foreign self.new (S.state sink.new) rest final →
             Reads table.now S.step S.reply S.foreign self.old (S.state sink.old) (c ∷ rest) final) }
     {
+        match self.pending.place() {
+            Place::CdataSection => {
+                self.take_in_section(sink, c)?;
+                Ok(None)
+            }
+            Place::RawText(..) => self.take_in_raw_text(table, sink, c),
+            _ => {
+                self.begin(sink, c)?;
+                Ok(None)
+            }
+        }
+    }
+
+    // takes a further character of the text of an element, where some of it is held back
+    fn take_in_raw_text<S: TokenSink>(
+        &mut self,
+        table: &ReferenceTable,
+        sink: &mut S,
+        c: char,
+    ) -> Result<Option<Pause<S::Handle>>, ParseFault>
+        requires ready { S.ready (S.state sink.old) }
+        requires scalar { IsScalar c }
+        ensures ready { OnOk result (S.ready (S.state sink.new)) }
+        ensures reads { OnOk result ((rest : List ℕ) (final : S.Abstract) →
+            Reads table.now S.step S.reply S.foreign self.new (S.state sink.new) rest final →
+            Reads table.now S.step S.reply S.foreign self.old (S.state sink.old) (c ∷ rest) final) }
+    {
         Err(ParseFault::Failed)
+    }
+
+    // takes a further character of a CDATA section
+    fn take_in_section<S: TokenSink>(&mut self, sink: &mut S, c: char) -> Result<(), ParseFault>
+        requires ready { S.ready (S.state sink.old) }
+        requires scalar { IsScalar c }
+        requires place { self.old.pending.place ≡ SectionPlace }
+        ensures ready { OnOk result (S.ready (S.state sink.new)) }
+        ensures reads { OnOk result ((table : References) (rest : List ℕ) (final : S.Abstract) →
+            Reads table S.step S.reply S.foreign self.new (S.state sink.new) rest final →
+            Reads table S.step S.reply S.foreign self.old (S.state sink.old) (c ∷ rest) final) }
+    {
+        Err(ParseFault::Failed)
+    }
+
+    /// Tells what the end of the text makes of what is held back, and that it ends.
+    pub(crate) fn finish<S: TokenSink>(
+        &mut self,
+        table: &ReferenceTable,
+        sink: &mut S,
+    ) -> Result<(), ParseFault>
+        requires ready { S.ready (S.state sink.old) }
+        ensures reads { OnOk result (Reads table.now S.step S.reply S.foreign self.old (S.state sink.old) [] (S.state sink.new)) }
+    {
+        self.tell_run(sink)?;
+        self.tell_held(table, sink)?;
+        sink.process_token(Token::EOFToken, self.line)?;
+        sink.end()
+    }
+
+    // tells what stands in what is held back before the end
+    fn tell_held<S: TokenSink>(
+        &mut self,
+        table: &ReferenceTable,
+        sink: &mut S,
+    ) -> Result<(), ParseFault>
+        requires ready { S.ready (S.state sink.old) }
+        ensures ready { OnOk result (S.ready (S.state sink.new)) }
+        ensures told { OnOk result (Leaves table.now S.step S.reply S.foreign self.old.mode self.old.pending.place (chars (string_bytes self.old.pending.held)) (S.state sink.old) (S.step (S.state sink.new) end_of_file)) }
+    {
+        let foreign = sink.adjusted_current_node_present_but_not_in_html_namespace();
+        let alloc = *self.run.allocator();
+        let (place, held) = self.pending.take_all();
+        match lexeme_from(alloc, table, foreign, &self.mode, place, held.as_str())? {
+            Lexeme::Nothing => Ok(()),
+            Lexeme::Told(tokens, text, rest) => {
+                tell_tokens(sink, tokens, self.line)?;
+                self.mode.text = text;
+                self.tell_rest(table, sink, rest)
+            }
+            Lexeme::Tagged(tag, rest) => {
+                self.tell_tag(sink, tag)?;
+                self.tell_rest(table, sink, rest)
+            }
+        }
+    }
+
+    // tells what stands in a text before its end
+    fn tell_rest<S: TokenSink>(
+        &mut self,
+        table: &ReferenceTable,
+        sink: &mut S,
+        rest: &str,
+    ) -> Result<(), ParseFault>
+        requires ready { S.ready (S.state sink.old) }
+        ensures ready { OnOk result (S.ready (S.state sink.new)) }
+        ensures told { OnOk result (Reading table.now S.step S.reply S.foreign self.old.mode (S.state sink.old) (chars rest.now) (S.step (S.state sink.new) end_of_file)) }
+    {
+        let alloc = *self.run.allocator();
+        let mode = mem::replace(
+            &mut self.mode,
+            Mode {
+                text: TextKind::Ordinary,
+                last_start_tag: None,
+            },
+        );
+        tell_lexemes(alloc, sink, table, mode, rest, self.line)
     }
 
     // goes on behind a further character of markup
