@@ -49,7 +49,7 @@ none_since None h = refl
 none_since (Some a) h = absurd (h refl)
 
 -- no text that begins with the front and goes on in the text is a name
-none_from : (table : References) (front cs : List ℕ) → ((k more : List ℕ) → cs ≡ k ++ more → finite.get table (front ++ k) ≡ None) → named_from table front cs ≡ None
+pub none_from : (table : References) (front cs : List ℕ) → ((k more : List ℕ) → cs ≡ k ++ more → finite.get table (front ++ k) ≡ None) → named_from table front cs ≡ None
 none_from table front [] h = ap (option_map (named_as front [])) (subst (λ l. finite.get table l ≡ None) (append-nil front) (h [] [] refl))
 none_from table front (c ∷ cs) h =
     ap (λ o. option_or o (option_map (named_as front (c ∷ cs)) (finite.get table front)))

@@ -1,5 +1,6 @@
 pub mod ComparedLemmas
 pub mod JsonLemmas
+pub mod LongerNames
 pub mod LongestNames
 pub mod NameTests
 pub mod PairsRead
@@ -8,6 +9,7 @@ pub mod QueueLemmas
 pub mod RunLemmas
 pub mod SameAttributes
 pub mod SortedEntries
+pub mod SoundReferences
 pub mod TableBeginnings
 pub mod TableSearch
 pub mod TextFronts

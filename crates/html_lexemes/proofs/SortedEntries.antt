@@ -1,5 +1,5 @@
 -- Lists in the strict order of their keys: what a search finds in one, and what an edit at that place makes of it.
-use Rattle.std.proofs.Common.{◌≡◌, ◌≢◌, ℕ, zero, suc, ◌<◌, ◌≤◌, Bool, true, false, cond, T, List, [], ◌∷◌, map, length, set, get_or, None, Some, Result, Ok, Err, Ordering, inl, inr, refl, sym, ap, subst, ◌∙◌, arith}
+use Rattle.std.proofs.Common.{◌≡◌, ◌≢◌, ℕ, zero, suc, ◌+◌, ◌<◌, ◌≤◌, Bool, true, false, cond, T, List, [], ◌∷◌, map, length, set, get_or, None, Some, Result, Ok, Err, Ordering, inl, inr, refl, sym, ap, subst, ◌∙◌, arith}
 use Rattle.std.specs.declared.cmp.Ordering.TheVariants.{Less, Equal, Greater}
 use Rattle.std.proofs.lemmas.Bool.{and_parts, cases_lt}
 use Rattle.std.specs.List.{insert}
@@ -61,6 +61,11 @@ module _ {K : Type 0} {R : K → K → Ordering} (o : IsTotalOrder R) where
     pub record IsPlaceOf (ss : List S) (q : K) (i : ℕ) : Type 0 where
       pub before : (k : ℕ) (d : S) → k < i → R (key ss k d) q ≡ Less
       pub behind : (k : ℕ) (d : S) → i ≤ k → k < length ss → R (key ss k d) q ≢ Less
+
+    -- the keys before a place are not above q, and those from it on are
+    pub record IsPlaceBehind (ss : List S) (q : K) (i : ℕ) : Type 0 where
+      pub before : (k : ℕ) (d : S) → k < i → R (key ss k d) q ≢ Greater
+      pub behind : (k : ℕ) (d : S) → i ≤ k → k < length ss → R (key ss k d) q ≡ Greater
 
     below_at : (x : K) (ss : List S) (i : ℕ) (d : S) → below_all R x (map f ss) ≡ true → i < length ss → R x (key ss i d) ≡ Less
     below_at x [] i d b lt = absurd (omega arith)
@@ -160,6 +165,29 @@ module _ {K : Type 0} {R : K → K → Ordering} (o : IsTotalOrder R) where
     pub placed : (ss : List S) (q : K) (r : Result ℕ ℕ) → Rises ss → IsSearchInRange r (length ss) → IsBinarySearchResult (λ s. R (f s).0 q) ss r → IsPlaceOf ss q (place_in r)
     placed ss q (Ok i) h lt found = placed_found ss q i h lt found
     placed ss q (Err i) h le parted = placed_missed ss q i h parted
+
+    -- the place behind the one that a search answers
+    behind_found : (ss : List S) (q : K) (i : ℕ) → Rises ss → i < length ss → ((d : S) → R (key ss i d) q ≡ Equal) → IsPlaceBehind ss q (i + 1)
+    behind_found ss q i h lt found = record {
+      before = λ k d below is. let up = indexes_rise ss q h k i d (omega arith) lt in let one : ordering_index (R (key ss i d) q) ≡ 1 = ap ordering_index (found d) in let two : ordering_index (R (key ss k d) q) ≡ 2 = ap ordering_index is in absurd (omega arith);
+      behind = λ k d from within. greater_back q (key ss k d) (sym (o.congr (key ss i d) q (key ss k d) (found d)) ∙ sorted_at ss i k d h (omega arith) within);
+    }
+
+    behind_missed : (ss : List S) (q : K) (i : ℕ) → Rises ss → IsBinarySearchResult (λ s. R (f s).0 q) ss (Err i) → IsPlaceBehind ss q i
+    behind_missed ss q i h parted =
+        let sides = parted (indexes_rise ss q h) in
+        record {
+          before = λ k d below is. let g = sides.0 k d (omega arith) below in let e : Less ≡ Greater = sym g ∙ is in cc;
+          behind = λ k d from within. sides.1 k d from within;
+        }
+
+    abbrev pub place_behind : Result ℕ ℕ → ℕ
+    place_behind (Ok i) = i + 1
+    place_behind (Err i) = i
+
+    pub placed_behind : (ss : List S) (q : K) (r : Result ℕ ℕ) → Rises ss → IsSearchInRange r (length ss) → IsBinarySearchResult (λ s. R (f s).0 q) ss r → IsPlaceBehind ss q (place_behind r)
+    placed_behind ss q (Ok i) h lt found = behind_found ss q i h lt found
+    placed_behind ss q (Err i) h le parted = behind_missed ss q i h parted
 
   -- the map of a list whose keys rise
   pub get_sorted : {X : Type 0} (es : List (K × X)) (q : K) → finite.is_sorted R es ≡ true → finite.get (finite.from_sorted {R = R} es) q ≡ finite.find R q es

@@ -27,7 +27,7 @@ at_place r at i e (inl is) = e ∙ ap (place_in nat_list_cmp_total reference_of)
 at_place r at i e (inr is) = e ∙ ap (place_in nat_list_cmp_total reference_of) (sym is)
 
 module _ (l items : List stored.Reference) (table : References) (q : List ℕ) (same : l ≡ items) (is : table_of items ≡ table) (order : AreInOrder items) where
-  got : (k : List ℕ) → finite.get table k ≡ finite.find (slice_cmp nat_cmp) k (references_of items)
+  pub got : (k : List ℕ) → finite.get table k ≡ finite.find (slice_cmp nat_cmp) k (references_of items)
   got k = ap (λ t. finite.get t k) (sym is) ∙ get_sorted nat_list_cmp_total (references_of items) k order
 
   -- each stored name is a name of the table

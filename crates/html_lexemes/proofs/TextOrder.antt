@@ -1,13 +1,13 @@
 -- Beginnings of texts in the order of texts.
-use Rattle.std.proofs.Common.{◌≡◌, ◌≢◌, ℕ, zero, suc, ◌<◌, Bool, true, false, cond, List, [], ◌∷◌, ◌++◌, map, length, Some, IsSome, Ordering, refl, sym, ap, subst, ◌∙◌, arith}
+use Rattle.std.proofs.Common.{◌≡◌, ◌≢◌, ℕ, zero, suc, ◌<◌, Bool, true, false, cond, List, [], ◌∷◌, ◌++◌, map, length, Some, IsSome, Ordering, refl, sym, ap, subst, ◌∙◌, arith, append-nil}
 use Rattle.std.specs.declared.cmp.Ordering.TheVariants.{Less, Equal, Greater}
 use Rattle.std.proofs.lemmas.Bool.{and_parts}
 use Rattle.std.specs.Ordering.{is_eq, nat_cmp, ordering_then, ordering_reverse}
-use Rattle.std.specs.Cmp.{nat_cmp_total}
+use Rattle.std.specs.Cmp.{nat_cmp_total, tied_itself}
 use Rattle.std.specs.Cmp.Lexicographic.{slice_cmp, nat_list_cmp_total}
 use Rattle.std.specs.FinMap as finite
 use Rattle.std.specs.FinMap.Entries.{below_all}
-use Rattle.html_lexemes.proofs.SortedEntries.{IsPlaceOf, Rises, key, equal, less, less_back, greater_back}
+use Rattle.html_lexemes.proofs.SortedEntries.{IsPlaceOf, IsPlaceBehind, Rises, key, equal, less, less_back, greater_back}
 
 abbrev pub order : List ℕ → List ℕ → Ordering
 order = slice_cmp nat_cmp
@@ -73,4 +73,39 @@ module _ {S : Type 0} (f : S → List ℕ × List ℕ) where
       let past = greater_back nat_list_cmp_total (f s).0 (text ++ more) below in
       let later = subst (λ r. IsSome (cond (is_eq r) (Some (f s).1) (finite.find order (text ++ more) (map f ss)))) past found in
       let rest = place_begins ss text more i (and_parts _ _ h).1 (record { before = λ k d lt. place.before (suc k) d (omega arith); behind = λ k d from lt. place.behind (suc k) d (omega arith) (omega arith) }) later in
+      (more_below (length ss) i rest.0, rest.1)
+
+-- what is not above a text is below a longer one
+below_itself : (t : List ℕ) (c : ℕ) (more : List ℕ) → order t (t ++ c ∷ more) ≡ Less
+below_itself [] c more = refl
+below_itself (d ∷ t) c more = ap (λ r. ordering_then r (order t (t ++ c ∷ more))) (tied_itself nat_cmp_total d) ∙ below_itself t c more
+
+below_further : (m t : List ℕ) (c : ℕ) (more : List ℕ) (r : Ordering) → order m t ≡ r → r ≢ Greater → order m (t ++ c ∷ more) ≡ Less
+below_further m t c more Less e low = below_longer m t (c ∷ more) e
+below_further m t c more Equal e low =
+    let same : m ≡ t = finite.slice_cmp-IsAntisymmetric finite.nat_cmp-IsAntisymmetric m t e in
+    ap (λ l. order l (t ++ c ∷ more)) same ∙ below_itself t c more
+below_further m t c more Greater e low = absurd (low refl)
+
+-- a longer text that is above begins with a further character
+pub longer_than : (t m : List ℕ) (rest : List ℕ) → order m t ≡ Greater → m ≡ t ++ rest → (c : ℕ) × (more : List ℕ) × (rest ≡ c ∷ more)
+longer_than t m [] above e =
+    let same : m ≡ t = e ∙ append-nil t in
+    let wrong : Greater ≡ Equal = sym above ∙ ap (order m) (sym same) ∙ tied_itself nat_list_cmp_total m in
+    cc
+longer_than t m (c ∷ more) above e = (c, more, refl)
+
+-- The first key above a text begins with it, if any longer key does.
+module _ {S : Type 0} (f : S → List ℕ × List ℕ) where
+  pub place_longer : (ss : List S) (text : List ℕ) (c : ℕ) (more : List ℕ) (i : ℕ) → Rises nat_list_cmp_total f ss → IsPlaceBehind nat_list_cmp_total f ss text i → IsSome (finite.find order (text ++ c ∷ more) (map f ss))
+      → (i < length ss) × ((d : S) → (rest : List ℕ) × (key nat_list_cmp_total f ss i d ≡ text ++ rest))
+  place_longer [] text c more i h place found = cc
+  place_longer (s ∷ ss) text c more zero h place found =
+      let above = place.behind 0 s (omega arith) (omega arith) in
+      (omega arith, λ d. first_begins f s ss text (c ∷ more) (is_eq (order (text ++ c ∷ more) (f s).0)) refl (and_parts _ _ h).0 (λ low. let wrong : Less ≡ Greater = sym low ∙ above in cc) found)
+  place_longer (s ∷ ss) text c more (suc i) h place found =
+      let below = below_further (f s).0 text c more _ refl (place.before 0 s (omega arith)) in
+      let past = greater_back nat_list_cmp_total (f s).0 (text ++ c ∷ more) below in
+      let later = subst (λ r. IsSome (cond (is_eq r) (Some (f s).1) (finite.find order (text ++ c ∷ more) (map f ss)))) past found in
+      let rest = place_longer ss text c more i (and_parts _ _ h).1 (record { before = λ k d lt. place.before (suc k) d (omega arith); behind = λ k d from lt. place.behind (suc k) d (omega arith) (omega arith) }) later in
       (more_below (length ss) i rest.0, rest.1)

@@ -1,11 +1,15 @@
 -- What a table of references says of a text.
-use Rattle.std.specs.Prelude.{◌≡◌, ℕ, ◌≤◌, IsTrue, List, ◌++◌, length, Some, None}
+use Rattle.std.specs.Prelude.{◌≡◌, ℕ, ◌≤◌, IsTrue, List, ◌∷◌, ◌++◌, length, Some, None}
 use Rattle.std.specs.FinMap as finite
 use Rattle.html_lexemes.specs.References.{References}
 
 -- some name begins with the text: more characters may make a name of it
 abbrev pub HasNameBeginning : References → List ℕ → Type 0
 HasNameBeginning table text = (more : List ℕ) × IsTrue (finite.contains_key table (text ++ more))
+
+-- and is longer
+abbrev pub HasLongerName : References → List ℕ → Type 0
+HasLongerName table text = (c : ℕ) × (more : List ℕ) × IsTrue (finite.contains_key table (text ++ c ∷ more))
 
 -- no name is a beginning of the text
 abbrev pub BeginsWithNoName : References → List ℕ → Type 0

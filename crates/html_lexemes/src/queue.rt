@@ -1,4 +1,5 @@
-ghost use Rattle.std.specs.Prelude.{◌≡◌, ◌<◌, ◌↔◌, [], ◌∷◌, ◌++◌, length, drop, chars, string_bytes, slice_get, IsTrue, IfOk, OnOk, OnErr, MatchOption};
+ghost use Rattle.std.specs.Prelude.{◌≡◌, ◌<◌, ◌↔◌, [], ◌∷◌, ◌++◌, length, drop, chars, string_bytes, slice_get, IsTrue, IfOk, IfSome, OnOk, OnErr, MatchOption};
+ghost use Rattle.std.specs.Char.{IsScalar};
 ghost use Rattle.std.specs.Str.{IsCharBoundary};
 ghost use Rattle.html_lexemes.specs.Queue.{Takes, Eats};
 ghost use Rattle.html_lexemes.specs.QueueParts.{IsRunOutside, Compares};
@@ -82,7 +83,8 @@ impl BufferQueue {
 
     /// Takes the first character. `None` is an empty queue.
     pub fn next(&mut self) -> Option<char>
-        ensures { MatchOption result ((self.old.text ≡ []) × (self.new ≡ self.old)) (λ c. Takes self.old (c ∷ []) self.new) }
+        ensures takes { MatchOption result ((self.old.text ≡ []) × (self.new ≡ self.old)) (λ c. Takes self.old (c ∷ []) self.new) }
+        ensures scalar { IfSome result IsScalar }
     {
         let c = self.peek()?;
         self.start += c.len_utf8();

@@ -1,10 +1,10 @@
-ghost use Rattle.std.specs.Prelude.{◌≡◌, ◌⊎◌, ◌↔◌, IsTrue, IfOk, IfErr, OnOk, OnErr, Ok, Err, MatchOption, chars, map, option_map, length, string_bytes};
+ghost use Rattle.std.specs.Prelude.{◌≡◌, ◌⊎◌, ◌↔◌, ℕ, List, Some, IsTrue, IfOk, IfErr, OnOk, OnErr, Ok, Err, MatchOption, chars, map, option_map, length, string_bytes};
 ghost use Rattle.std.specs.Ordering.{nat_cmp};
 ghost use Rattle.std.specs.Cmp.Lexicographic.{slice_cmp};
 ghost use Rattle.std.specs.List.Sorted.{IsBinarySearchResult, IsSearchInRange};
 ghost use Rattle.std.specs.FinMap as finite;
 ghost use Rattle.html_lexemes.specs.References.{basic, checked, is_name, is_value, table_of_pairs};
-ghost use Rattle.html_lexemes.specs.Lookup.{HasNameBeginning, BeginsWithNoName, IsLongestName};
+ghost use Rattle.html_lexemes.specs.Lookup.{HasNameBeginning, HasLongerName, BeginsWithNoName, IsLongestName};
 
 use crate::table_error::TableError;
 use crate::text::Text;
@@ -34,11 +34,11 @@ impl Model for ReferenceTable {
 
     ghost coded = { references_code };
 
-    ghost use Rattle.html_lexemes.specs.Table.{table_of, AreInOrder};
+    ghost use Rattle.html_lexemes.specs.Table.{table_of, AreTable};
 
     ghost view = { λ t. table_of t.references.items };
 
-    ghost invariant = { λ t. AreInOrder t.references.items };
+    ghost invariant = { λ t. AreTable t.references.items };
 }
 
 /// A name of a table that a text begins with, and what it stands for.
@@ -91,6 +91,8 @@ impl ReferenceTable {
 
     // Gives a name its value. The error leaves the table as it was.
     pub(crate) fn insert(&mut self, name: &str, value: &str) -> Result<(), AllocError>
+        requires name { IsTrue (is_name (chars name.now)) }
+        requires value { IsTrue (is_value (chars value.now)) }
         ensures ok { OnOk result (self.new ≡ finite.insert self.old (chars name.now) (chars value.now)) }
         ensures err { OnErr result (self.new ≡ self.old) }
     {
@@ -135,14 +137,39 @@ impl ReferenceTable {
         }
     }
 
+    /// Whether some name of the table begins with a text and is longer.
+    pub fn has_longer_name(&self, text: &str) -> bool
+        ensures { IsTrue result ↔ HasLongerName self.now (chars text.now) }
+    {
+        let references = self.references.as_slice();
+        let behind = match place_of(references, text) {
+            Ok(at) => at + 1,
+            Err(at) => at,
+        };
+        let Some(longer) = references.get(behind) else {
+            return false;
+        };
+        longer.name.as_str().starts_with(text)
+    }
+
+    /// A law, and no code: each name of a table is ASCII letters and digits, at least one, with a semicolon
+    /// only last, and stands for one or two characters other than NUL.
+    pub fn names_are_names(&self)
+        ensures { (name value : List ℕ) → finite.get self.now name ≡ Some value
+            → IsTrue (is_name name) × IsTrue (is_value value) }
+    {
+        let _ = &self.references;
+    }
+
     /// The longest name of the table that a text begins with (WHATWG HTML, 13.2.5.73). It looks at no more
     /// of the text than the longest name has, and at one character.
     pub fn longest_name<'t>(&'t self, text: &'t str) -> Option<NamedReference<'t>>
         ensures { MatchOption result (BeginsWithNoName self.now (chars text.now))
             (λ r. IsLongestName self.now (chars text.now) (chars r.name.now) (chars r.value.now)) }
     {
-        // `insert` takes any name, the empty one too
-        let mut longest = self.named("");
+        // no name is empty
+        self.names_are_names();
+        let mut longest = None;
         let mut length = 0;
         for c in text.chars() {
             length += c.len_utf8();

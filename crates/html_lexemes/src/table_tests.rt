@@ -48,6 +48,19 @@ fn a_beginning_of_a_name_is_told(rt: HostRuntime) {
 }
 
 #[test]
+fn a_longer_name_is_told(rt: HostRuntime) {
+    let Ok(table) = two_names(rt.alloc()) else {
+        return assert!(rt; false);
+    };
+    for text in ["", "n", "not", "noti", "notin"] {
+        assert!(rt; table.has_longer_name(text), "at {text}");
+    }
+    for text in ["notin;", "notix", "notin;x", "a", "z", "\u{ac}"] {
+        assert!(rt; !table.has_longer_name(text), "at {text}");
+    }
+}
+
+#[test]
 fn the_longest_name_is_found(rt: HostRuntime) {
     let Ok(table) = two_names(rt.alloc()) else {
         return assert!(rt; false);
@@ -121,35 +134,9 @@ fn the_basic_table_has_the_five(rt: HostRuntime) -> Result<(), Fail> {
 }
 
 #[test]
-fn an_empty_table_grows(rt: HostRuntime) -> Result<(), Fail> {
-    let mut table = ReferenceTable::empty(rt.alloc());
+fn an_empty_table_has_no_name(rt: HostRuntime) {
+    let table = ReferenceTable::empty(rt.alloc());
     assert!(rt; !table.has_name_beginning(""));
+    assert!(rt; !table.has_longer_name(""));
     assert_eq!(rt; table.longest_name("a"), None);
-    table.insert("a", "1")?;
-    table.insert("", "2")?;
-    table.insert("a", "3")?;
-    assert_eq!(rt; table.value("a"), Some("3"));
-    // The empty name, which `new` refuses, stands before each text.
-    let none = NamedReference {
-        name: "",
-        value: "2",
-    };
-    assert_eq!(rt; table.longest_name("b"), Some(none));
-    Ok(())
-}
-
-#[test]
-fn names_and_values_are_told(rt: HostRuntime) {
-    for text in ["a", "Z9", "frac12", "not;", "0"] {
-        assert!(rt; is_name(text), "at {text}");
-    }
-    for text in ["", ";", "a;b", "a;;", "a-b", "\u{e9}", "\u{661}"] {
-        assert!(rt; !is_name(text), "at {text}");
-    }
-    for text in ["a", "\u{ac}", "\u{1d504}", "\u{2266}\u{338}"] {
-        assert!(rt; is_value(text), "at {text}");
-    }
-    for text in ["", "\0", "a\0", "\0a", "abc"] {
-        assert!(rt; !is_value(text));
-    }
 }

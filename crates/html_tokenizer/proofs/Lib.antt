@@ -12,6 +12,10 @@ pub mod OpenLemmas
 pub mod PendingLemmas
 pub mod RawTextLemmas
 pub mod ReadsLemmas
+pub mod ReferenceLexemes
+pub mod ReferenceNames
+pub mod ReferencePlaces
+pub mod SectionLemmas
 pub mod SlicesGoOn
 pub mod TagSteps
 pub mod TagTurnLemmas

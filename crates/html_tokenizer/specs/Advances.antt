@@ -28,6 +28,20 @@ IsNoMarkup BogusComment = ⊥
 IsNoMarkup Comment = ⊥
 IsNoMarkup Doctype = ⊥
 
+-- a place in markup or in a section
+abbrev pub IsWithinMarkup : Place → Type 0
+IsWithinMarkup Text = ⊥
+IsWithinMarkup (RawText kind place) = ⊥
+IsWithinMarkup CdataSection = Unit {0}
+IsWithinMarkup (CharacterReference place) = Unit {0}
+IsWithinMarkup TagOpen = Unit {0}
+IsWithinMarkup EndTagOpen = Unit {0}
+IsWithinMarkup (Tag kind place) = Unit {0}
+IsWithinMarkup MarkupDeclarationOpen = Unit {0}
+IsWithinMarkup BogusComment = Unit {0}
+IsWithinMarkup Comment = Unit {0}
+IsWithinMarkup Doctype = Unit {0}
+
 -- a lexeme that is over is no longer pending
 abbrev pub IsLeft : Advance → Place → Type 0
 IsLeft Goes next = Unit {0}
@@ -50,7 +64,7 @@ IsRawPlace kind _ = ⊥
 abbrev pub RawAdvances : References → Bool → Mode → RawKind → List ℕ → ℕ → RawAdvance → Place → List ℕ → Type 0
 RawAdvances table foreign mode kind held c RawGoes next now = (now ≡ held ++ c ∷ []) × IsRawPlace kind next
 RawAdvances table foreign mode kind held c (Before text behind) next now =
-    (next ≡ Text) × ((chars (string_bytes text) ≡ held) × IsTextBefore table mode kind held behind c)
+    (next ≡ Text) × ((now ≡ []) × ((chars (string_bytes text) ≡ held) × IsTextBefore table mode kind held behind c))
 RawAdvances table foreign mode kind held c (Shifts text behind) next now =
     IsShifted table mode kind (held ++ c ∷ []) (chars text.now) behind now × IsRawPlace behind next
 RawAdvances table foreign mode kind held c EndTag next now = IsEndTag table foreign mode kind held c now × (next ≡ Tag EndTagKind TagName)

@@ -11,6 +11,7 @@ pub mod RawSound
 pub mod RawTurns
 pub mod Reads
 pub mod ReferenceSound
+pub mod ReferenceTurns
 pub mod SectionTurns
 pub mod Sound
 pub mod SoundProp

@@ -14,6 +14,7 @@ mod place;
 mod raw_text_turns;
 mod raw_turn;
 mod reader;
+mod reference_places;
 mod script_turns;
 mod section_turn;
 mod tag_places;

@@ -9,6 +9,7 @@ use crate::comment_turns::{bogus_comment_turn, comment_turn};
 use crate::doctype_turns::doctype_turn;
 use crate::open_turns::{declaration_turn, end_tag_open_turn, tag_open_turn};
 use crate::place::Place;
+use crate::reference_places::reference_turn;
 use crate::tag_turns::tag_turn;
 use crate::turn::Turn;
 use html_lexemes::ReferenceTable;
@@ -29,7 +30,7 @@ pub(crate) fn markup_turn(
             Turns table.now asked mode place (chars (string_bytes held.old)) c turn (chars (string_bytes held.new)))) }
 {
     let turn = match place {
-        Place::CharacterReference(_) => return Err(AllocError),
+        Place::CharacterReference(place) => reference_turn(table, place, held, c)?,
         Place::TagOpen => tag_open_turn(held, c)?,
         Place::EndTagOpen => end_tag_open_turn(held, c)?,
         Place::Tag(kind, place) => tag_turn(kind, place, held, c)?,

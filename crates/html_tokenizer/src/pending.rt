@@ -1,13 +1,16 @@
 ghost use Rattle.std.specs.Prelude.{◌≡◌, [], ◌∷◌, ◌++◌, ℕ, Bool, List, chars, string_bytes, IfOk, IfSome, OnOk, MatchBool, MatchOption, ◌≢◌};
-ghost use Rattle.html_tokenizer.specs.declared.place.Place.TheVariants.{MarkupDeclarationOpen as DeclarationPlace, RawText as RawPlaceOf, Text as TextPlace};
+ghost use Rattle.html_tokenizer.specs.declared.place.Place.TheVariants.{CdataSection as SectionPlace, MarkupDeclarationOpen as DeclarationPlace, RawText as RawPlaceOf, Text as TextPlace};
 ghost use Rattle.std.specs.Char.{IsScalar};
 ghost use Rattle.html_tokenizer.specs.Sound.{IsSound};
 ghost use Rattle.html_tokenizer.specs.SoundProp.{IsSound-prop};
 
 use crate::markup_turn::markup_turn;
-use crate::place::{Place, RawPlace};
+use crate::place::{Place, RawPlace, TagPlace};
+use crate::raw_text_turns::raw_turn;
+use crate::raw_turn::RawTurn;
+use crate::section_turn::{SectionTurn, section_turn};
 use crate::turn::Turn;
-use html_lexemes::ReferenceTable;
+use html_lexemes::{LocalName, ReferenceTable, TagKind};
 use html_lexemes::states::RawKind;
 use std::alloc::{AllocError, Global};
 use std::mem;
@@ -149,6 +152,83 @@ impl Pending {
                 Ok(Some(Advance::EndsBefore(last, take_out(&mut self.held))))
             }
         }
+    }
+}
+
+impl Pending {
+    ghost use Rattle.html_grammar.specs.declared.modes.Mode.{Mode as SeenMode};
+    ghost use Rattle.html_lexemes.specs.References.{References};
+    ghost use Rattle.html_tokenizer.specs.Advances.{RawAdvances};
+    ghost use Rattle.html_tokenizer.specs.SectionTurns.{SectionTurns};
+
+    /// Takes a further character of the text of an element, some of which is held at this place; `last` is the last start
+    /// tag's name. After a refusal nothing is held.
+    pub(crate) fn take_raw(
+        &mut self,
+        last: &Option<LocalName>,
+        kind: RawKind,
+        place: RawPlace,
+        c: char,
+    ) -> Result<RawAdvance, AllocError>
+        requires { self.old.place ≡ RawPlaceOf kind place }
+        ensures { IfOk result (λ advance. (table : References) (foreign : Bool) (mode : SeenMode) → mode.last_start_tag ≡ last.now →
+            RawAdvances table foreign mode kind (chars (string_bytes self.old.held)) c advance self.new.place (chars (string_bytes self.new.held))) }
+    {
+        let alloc = *self.held.allocator();
+        let turn = match raw_turn(alloc, last, kind, place, &mut self.held, c) {
+            Ok(turn) => turn,
+            Err(error) => {
+                self.place = Place::Text;
+                self.held.clear();
+                return Err(error);
+            }
+        };
+        match turn {
+            RawTurn::Goes(next) => {
+                self.place = Place::RawText(kind, next);
+                Ok(RawAdvance::Goes)
+            }
+            RawTurn::Before(behind) => {
+                self.place = Place::Text;
+                Ok(RawAdvance::Before(take_out(&mut self.held), behind))
+            }
+            RawTurn::Shifts(text, behind, next) => {
+                self.place = Place::RawText(behind, next);
+                Ok(RawAdvance::Shifts(text, behind))
+            }
+            RawTurn::EndTag => {
+                self.place = Place::Tag(TagKind::EndTag, TagPlace::TagName);
+                Ok(RawAdvance::EndTag)
+            }
+        }
+    }
+}
+
+impl Pending {
+    /// Takes a further character of a CDATA section. Where it is text, so is what is held.
+    pub(crate) fn take_in_section(&mut self, c: char) -> Result<SectionTurn, AllocError>
+        requires { self.old.place ≡ SectionPlace }
+    {
+        let turn = match section_turn(&mut self.held, c) {
+            Ok(turn) => turn,
+            Err(error) => {
+                self.place = Place::Text;
+                self.held.clear();
+                return Err(error);
+            }
+        };
+        if turn == SectionTurn::Ends {
+            self.place = Place::Text;
+            self.held.clear();
+        }
+        Ok(turn)
+    }
+
+    /// Takes out what is held of a CDATA section.
+    pub(crate) fn take_held(&mut self) -> String
+        requires { self.old.place ≡ SectionPlace }
+    {
+        take_out(&mut self.held)
     }
 }
 

@@ -1,4 +1,4 @@
-ghost use Rattle.std.specs.Prelude.{◌≡◌, [], ◌∷◌, ◌++◌, ℕ, Bool, List, chars, string_bytes, IfOk, OnOk};
+ghost use Rattle.std.specs.Prelude.{◌≡◌, [], ◌∷◌, ◌++◌, ℕ, Bool, List, chars, string_bytes, IfOk, OnOk, Ok, false, ◌≢◌, if◌then◌else◌};
 ghost use Rattle.std.specs.Char.{IsScalar};
 ghost use Rattle.html_lexemes.specs.References.{References};
 ghost use Rattle.html_grammar.specs.Items.{characters, end_of_file, null_character, tag as tag_item};
@@ -9,8 +9,9 @@ ghost use Rattle.html_tokenizer.specs.declared.place.Place.TheVariants.{CdataSec
 
 use crate::first::{First, first_of};
 use crate::last::lexeme_from;
-use crate::pending::{Advance, Pending};
+use crate::pending::{Advance, Pending, RawAdvance};
 use crate::place::Place;
+use crate::section_turn::SectionTurn;
 use html_grammar::lexemes::Lexeme;
 use html_grammar::plain::{last_behind, tell_lexemes, tell_tokens, text_behind};
 use html_grammar::{Mode, TextKind, TokenSink};
@@ -39,7 +40,7 @@ pub(crate) enum Pause<H> {
 impl Reader {
     ghost use Rattle.html_tokenizer.specs.Reads.{Follows, Leaves, Reads, state_of};
     ghost use Rattle.html_tokenizer.specs.Turns.{IsOver};
-    ghost use Rattle.html_tokenizer.specs.Advances.{Advances, IsLeft, IsNoMarkup};
+    ghost use Rattle.html_tokenizer.specs.Advances.{Advances, IsLeft, IsWithinMarkup};
 
     /// Before the first character of a text that is read in a mode.
     pub(crate) fn new(alloc: Global, mode: Mode) -> Reader
@@ -123,56 +124,68 @@ impl Reader {
             self.begin(sink, c)?;
             return Ok(None);
         }
+        if self.take_in_raw_text(sink, c)? {
+            return Ok(None);
+        }
+        self.take_in_markup(table, sink, c)
+    }
+
+    // takes a further character of markup, or of a CDATA section
+    fn take_in_markup<S: TokenSink>(
+        &mut self,
+        table: &ReferenceTable,
+        sink: &mut S,
+        c: char,
+    ) -> Result<Option<Pause<S::Handle>>, ParseFault>
+        requires ready { S.ready (S.state sink.old) }
+        requires scalar { IsScalar c }
+        requires place { IsWithinMarkup self.old.pending.place }
+        ensures ready { OnOk result (S.ready (S.state sink.new)) }
+        ensures reads { OnOk result ((rest : List ℕ) (final : S.Abstract) →
+            Reads table.now S.step S.reply S.foreign self.new (S.state sink.new) rest final →
+            Reads table.now S.step S.reply S.foreign self.old (S.state sink.old) (c ∷ rest) final) }
+    {
         let foreign = self.is_foreign(sink)?;
         match self.pending.take(table, foreign, c)? {
             Some(advance) => self.advance(table, sink, advance, c),
-            None => self.take_in_text(table, sink, c),
-        }
-    }
-
-    // takes a further character where no markup is pending
-    fn take_in_text<S: TokenSink>(
-        &mut self,
-        table: &ReferenceTable,
-        sink: &mut S,
-        c: char,
-    ) -> Result<Option<Pause<S::Handle>>, ParseFault>
-        requires ready { S.ready (S.state sink.old) }
-        requires scalar { IsScalar c }
-        requires place { IsNoMarkup self.old.pending.place }
-        ensures ready { OnOk result (S.ready (S.state sink.new)) }
-        ensures reads { OnOk result ((rest : List ℕ) (final : S.Abstract) →
-            Reads table.now S.step S.reply S.foreign self.new (S.state sink.new) rest final →
-            Reads table.now S.step S.reply S.foreign self.old (S.state sink.old) (c ∷ rest) final) }
-    {
-        match self.pending.place() {
-            Place::CdataSection => {
+            None => {
                 self.take_in_section(sink, c)?;
                 Ok(None)
             }
-            Place::RawText(..) => self.take_in_raw_text(table, sink, c),
-            _ => {
-                self.begin(sink, c)?;
-                Ok(None)
-            }
         }
     }
 
-    // takes a further character of the text of an element, where some of it is held back
-    fn take_in_raw_text<S: TokenSink>(
-        &mut self,
-        table: &ReferenceTable,
-        sink: &mut S,
-        c: char,
-    ) -> Result<Option<Pause<S::Handle>>, ParseFault>
+    // Takes a further character of the text of an element, where some of it is held back. The answer is whether it was taken:
+    // it is not elsewhere, nor behind the name of an end tag, which is markup then.
+    fn take_in_raw_text<S: TokenSink>(&mut self, sink: &mut S, c: char) -> Result<bool, ParseFault>
         requires ready { S.ready (S.state sink.old) }
         requires scalar { IsScalar c }
+        requires place { self.old.pending.place ≢ TextPlace }
         ensures ready { OnOk result (S.ready (S.state sink.new)) }
-        ensures reads { OnOk result ((rest : List ℕ) (final : S.Abstract) →
-            Reads table.now S.step S.reply S.foreign self.new (S.state sink.new) rest final →
-            Reads table.now S.step S.reply S.foreign self.old (S.state sink.old) (c ∷ rest) final) }
+        ensures place { result ≡ Ok false → IsWithinMarkup self.new.pending.place }
+        ensures reads { IfOk result (λ taken. (table : References) (rest : List ℕ) (final : S.Abstract) →
+            Reads table S.step S.reply S.foreign self.new (S.state sink.new) (if taken then rest else c ∷ rest) final →
+            Reads table S.step S.reply S.foreign self.old (S.state sink.old) (c ∷ rest) final) }
     {
-        Err(ParseFault::Failed)
+        let Place::RawText(kind, place) = self.pending.place() else {
+            return Ok(false);
+        };
+        let last = &self.mode.last_start_tag;
+        match self.pending.take_raw(last, kind, place, c)? {
+            RawAdvance::Goes => Ok(true),
+            RawAdvance::Before(text, behind) => {
+                self.run.push_str(text.as_str())?;
+                self.mode.text = TextKind::Raw(behind);
+                self.begin(sink, c)?;
+                Ok(true)
+            }
+            RawAdvance::Shifts(text, behind) => {
+                self.run.push_str(text)?;
+                self.mode.text = TextKind::Raw(behind);
+                Ok(true)
+            }
+            RawAdvance::EndTag => Ok(false),
+        }
     }
 
     // takes a further character of a CDATA section
@@ -185,7 +198,25 @@ impl Reader {
             Reads table S.step S.reply S.foreign self.new (S.state sink.new) rest final →
             Reads table S.step S.reply S.foreign self.old (S.state sink.old) (c ∷ rest) final) }
     {
-        Err(ParseFault::Failed)
+        match self.pending.take_in_section(c)? {
+            SectionTurn::Goes | SectionTurn::Ends => Ok(()),
+            SectionTurn::Shifts => {
+                self.run.push(']')?;
+                Ok(())
+            }
+            SectionTurn::Text => self.read_section_text(sink, c),
+        }
+    }
+
+    // reads what is held of a section, and a character, as text
+    fn read_section_text<S: TokenSink>(&mut self, sink: &mut S, c: char) -> Result<(), ParseFault> {
+        let held = self.pending.take_held();
+        self.run.push_str(held.as_str())?;
+        if c == '\0' {
+            return self.tell_null(sink);
+        }
+        self.run.push(c)?;
+        Ok(())
     }
 
     /// Tells what the end of the text makes of what is held back, and that it ends.

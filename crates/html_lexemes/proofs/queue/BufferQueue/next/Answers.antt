@@ -10,8 +10,8 @@ invariant_of-self c =
     let first = ap (λ l. slice_get l 0) text ∙ sym c.peek.ensures ∙ c.in_ok-c.was in
     (past_first _ c.self.inside.start c.in_ok-c.c c.len_utf8.result (IsUtf8-string_bytes c.self.inside.text) c.self.invariant first c.len_utf8.ensures.value).boundary
 
-pub returns : goal.returns
-returns c =
+pub returns-clause-takes : goal.returns-clause-takes
+returns-clause-takes c =
     let text = ap (λ (q : Queue). q.text) c.self.view_is in
     let first = ap (λ l. slice_get l 0) text ∙ sym c.peek.ensures ∙ c.in_ok-c.was in
     let past = past_first _ c.self.inside.start c.in_ok-c.c c.len_utf8.result (IsUtf8-string_bytes c.self.inside.text) c.self.invariant first c.len_utf8.ensures.value in

@@ -1,4 +1,4 @@
-use Rattle.std.proofs.Common.{◌≡◌, ℕ, List, ap, ◌∙◌}
+use Rattle.std.proofs.Common.{◌≡◌, ℕ, List, refl, ap, ◌∙◌}
 use Rattle.std.specs.Str.{chars}
 use Rattle.std.specs.FinMap as finite
 use Rattle.html_lexemes.specs.References.{References}
@@ -19,3 +19,43 @@ returns c =
     c.in_ok-insert-3.ensures.ok)
     c.in_ok-insert-4.ensures.ok)
     c.in_ok-insert-5.ensures.ok
+
+pub insert-requires-clause-name : goal.insert-requires-clause-name
+unfolding chars
+insert-requires-clause-name c = refl
+
+pub insert-requires-clause-value : goal.insert-requires-clause-value
+unfolding chars
+insert-requires-clause-value c = refl
+
+pub insert-requires-2-clause-name : goal.insert-requires-2-clause-name
+unfolding chars
+insert-requires-2-clause-name c = refl
+
+pub insert-requires-2-clause-value : goal.insert-requires-2-clause-value
+unfolding chars
+insert-requires-2-clause-value c = refl
+
+pub insert-requires-3-clause-name : goal.insert-requires-3-clause-name
+unfolding chars
+insert-requires-3-clause-name c = refl
+
+pub insert-requires-3-clause-value : goal.insert-requires-3-clause-value
+unfolding chars
+insert-requires-3-clause-value c = refl
+
+pub insert-requires-4-clause-name : goal.insert-requires-4-clause-name
+unfolding chars
+insert-requires-4-clause-name c = refl
+
+pub insert-requires-4-clause-value : goal.insert-requires-4-clause-value
+unfolding chars
+insert-requires-4-clause-value c = refl
+
+pub insert-requires-5-clause-name : goal.insert-requires-5-clause-name
+unfolding chars
+insert-requires-5-clause-name c = refl
+
+pub insert-requires-5-clause-value : goal.insert-requires-5-clause-value
+unfolding chars
+insert-requires-5-clause-value c = refl

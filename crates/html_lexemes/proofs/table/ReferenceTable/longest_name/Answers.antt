@@ -1,8 +1,9 @@
-use Rattle.std.proofs.Common.{◌≡◌, ◌+◌, [], true, false, take, chars, sym, ap, subst, ◌∙◌, arith}
+use Rattle.std.proofs.Common.{◌≡◌, ◌+◌, None, true, false, take, chars, sym, ap, subst, ◌∙◌, arith}
 use Rattle.std.proofs.lemmas.Str.{IsUtf8-nil, chars-nil}
 use Rattle.std.specs.Option.{option_or}
 use Rattle.html_lexemes.specs.Lookup.{HasNameBeginning}
 use Rattle.html_lexemes.proofs.LongestNames.{Longest, none_longest, grown_longest, stopped_longest, named_text}
+use Rattle.html_lexemes.proofs.SoundReferences.{none_empty}
 use Rattle.html_lexemes.proofs.TextFronts.{read_on}
 use Rattle.html_lexemes.proofs.table.ReferenceTable.longest_name.Goals as goal
 
@@ -11,8 +12,8 @@ loop-c-init c = record {
   fits = omega arith;
   left = ap (λ i. i.rest.now) c.into_iter-c-iterator.ensures.into_iter_gives ∙ c.chars-c-items.ensures.rest;
   read = IsUtf8-nil;
-  found = subst (λ read. Longest c.args.self.now read c.named-longest.result) (sym chars-nil)
-      (none_longest c.args.self.now c.named-longest.result (named_text c.args.self.now [] [] c.named-longest.result chars-nil c.named-longest.ensures));
+  found = subst (λ read. Longest c.args.self.now read None) (sym chars-nil)
+      (none_longest c.args.self.now None (none_empty c.args.self.now c.names_are_names.ensures));
   can_next = tt;
   is_finite = tt;
 }
