@@ -1,11 +1,19 @@
 -- What a turn says, once it is known which it is.
-use Rattle.std.proofs.Common.{◌≡◌, ℕ, Bool, List, [], ◌∷◌, ◌++◌, Option, Some, None, MatchOption, refl, sym, ap, ◌∙◌, subst}
+use Rattle.std.proofs.Common.{◌≡◌, ℕ, Bool, List, [], ◌∷◌, ◌++◌, Option, Some, None, MatchOption, IsTrue, refl, sym, ap, ◌∙◌, subst}
+use Rattle.std.specs.FinMap as finite
 use Rattle.html_lexemes.specs.References.{References}
+use Rattle.html_lexemes.specs.declared.states.RawKind.{RawKind}
 use Rattle.html_grammar.specs.declared.modes.Mode.{Mode}
 use Rattle.html_grammar.specs.declared.modes.TextKind.TheVariants.{Ordinary}
+use Rattle.html_tokenizer.specs.RawTurns.{RawTurns}
+use Rattle.html_tokenizer.specs.MarkupSound.{is_begun_section_end}
+use Rattle.html_tokenizer.specs.SectionTurns.{SectionAdvances, SectionTurns}
 use Rattle.html_tokenizer.specs.Turns.{Turns}
 use Rattle.html_tokenizer.specs.declared.place.Place.{Place}
-use Rattle.html_tokenizer.specs.declared.place.Place.TheVariants.{MarkupDeclarationOpen}
+use Rattle.html_tokenizer.specs.declared.place.Place.TheVariants.{CdataSection, MarkupDeclarationOpen, Text as NoLexeme}
+use Rattle.html_tokenizer.specs.declared.section_turn.SectionTurn.{SectionTurn}
+use Rattle.html_tokenizer.specs.declared.section_turn.SectionTurn.TheVariants.{Goes as SectionGoes, Ends as SectionEnds, Shifts as SectionShifts, Text as SectionText}
+use Rattle.html_tokenizer.specs.declared.raw_turn.RawTurn.{RawTurn}
 use Rattle.html_tokenizer.specs.declared.turn.Turn.{Turn}
 
 abbrev pub TurnsTo : References → Bool → Place → List ℕ → ℕ → List ℕ → Turn → Type 0
@@ -16,3 +24,29 @@ turned table foreign place held c now A done turn known m d t = subst (TurnsTo t
 
 abbrev pub some_mode : Mode
 some_mode = record { text = Ordinary; last_start_tag = None }
+
+abbrev pub RawTurnsTo : Option (List ℕ) → RawKind → List ℕ → ℕ → List ℕ → RawTurn → Type 0
+RawTurnsTo last kind held c now turn = (table : References) (foreign : Bool) (mode : Mode) → mode.last_start_tag ≡ last → RawTurns table foreign mode kind held c turn now
+
+abbrev pub mode_with : Option (List ℕ) → Mode
+mode_with last = record { text = Ordinary; last_start_tag = last }
+
+abbrev pub some_table : References
+some_table = finite.empty
+
+-- a section that goes on
+pub section_stays : (mode : Mode) (held : List ℕ) (c : ℕ) (turn : SectionTurn) (place : Place) (now : List ℕ) → place ≡ CdataSection → (turn ≡ SectionEnds → ⊥) → SectionTurns mode held c turn now → SectionAdvances mode held c turn place now
+section_stays mode held c SectionGoes place now p n t = (p, t.0)
+section_stays mode held c SectionEnds place now p n t = absurd (n refl)
+section_stays mode held c SectionShifts place now p n t = (p, (t.0, t.1))
+section_stays mode held c SectionText place now p n t = (p, (t.0, t.1))
+
+pub section_sound : (mode : Mode) (held : List ℕ) (c : ℕ) (turn : SectionTurn) (now : List ℕ) → (turn ≡ SectionEnds → ⊥) → IsTrue (is_begun_section_end held) → SectionTurns mode held c turn now → IsTrue (is_begun_section_end now)
+section_sound mode held c SectionGoes now n h t = t.1
+section_sound mode held c SectionEnds now n h t = absurd (n refl)
+section_sound mode held c SectionShifts now n h t = subst (λ x. IsTrue (is_begun_section_end x)) (sym t.0) h
+section_sound mode held c SectionText now n h t = subst (λ x. IsTrue (is_begun_section_end x)) (sym t.0) h
+
+pub section_ended : (mode : Mode) (held : List ℕ) (c : ℕ) (turn : SectionTurn) (after now : List ℕ) → turn ≡ SectionEnds → now ≡ [] → SectionTurns mode held c turn after → SectionAdvances mode held c turn NoLexeme now
+section_ended mode held c turn after now e n t =
+    subst (λ x. SectionAdvances mode held c x NoLexeme now) (sym e) (refl, (n, (subst (λ x. SectionTurns mode held c x after) e t).1))

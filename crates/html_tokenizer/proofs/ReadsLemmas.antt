@@ -126,7 +126,7 @@ module _ {A H : Type 0} (table : References) (step : A → Item → A) (reply : 
   abbrev Skips : Type 0
   Skips = (state : A) → step state (characters []) ≡ state
 
-  of_lexeme : (mode : Mode) (cs : List ℕ) (s final : A) (l : Lexeme) → lexeme table (foreign s) mode cs ≡ l → Follows table step reply foreign mode l s final → Reads mode s cs final
+  pub of_lexeme : (mode : Mode) (cs : List ℕ) (s final : A) (l : Lexeme) → lexeme table (foreign s) mode cs ≡ l → Follows table step reply foreign mode l s final → Reads mode s cs final
   of_lexeme mode cs s final nothing e p = ends mode s cs final e p
   of_lexeme mode cs s final (told items behind rest) e r = goes mode s cs items behind rest final e r
   of_lexeme mode cs s final (tagged t rest) e r = tags mode s cs t rest final e r

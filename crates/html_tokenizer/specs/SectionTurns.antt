@@ -5,6 +5,8 @@ use Rattle.html_grammar.specs.Lexemes.{Lexeme, cdata_lexeme, nothing, ordinary_i
 use Rattle.html_grammar.specs.Slices.{after, cut, cut_or_all}
 use Rattle.html_grammar.specs.declared.modes.Mode.{Mode}
 use Rattle.html_tokenizer.specs.MarkupSound.{is_begun_section_end}
+use Rattle.html_tokenizer.specs.declared.place.Place.{Place}
+use Rattle.html_tokenizer.specs.declared.place.Place.TheVariants.{CdataSection, Text as NoLexeme}
 use Rattle.html_tokenizer.specs.declared.section_turn.SectionTurn.{SectionTurn}
 use Rattle.html_tokenizer.specs.declared.section_turn.SectionTurn.TheVariants.{Goes, Ends, Shifts, Text}
 
@@ -23,3 +25,12 @@ SectionTurns mode held c Goes now = (now ≡ held ++ c ∷ []) × IsTrue (is_beg
 SectionTurns mode held c Ends now = (now ≡ held) × ((rest : List ℕ) → section_lexeme mode (held ++ c ∷ rest) ≡ told [] mode rest)
 SectionTurns mode held c Shifts now = (now ≡ held) × ((rest : List ℕ) → section_lexeme mode (held ++ c ∷ rest) ≡ with_items (characters (93 ∷ []) ∷ []) (section_lexeme mode (held ++ rest)))
 SectionTurns mode held c Text now = (now ≡ held) × ((rest : List ℕ) → section_lexeme mode (held ++ c ∷ rest) ≡ with_items (map ordinary_item (held ++ c ∷ [])) (section_lexeme mode rest))
+
+-- the same of what is pending
+abbrev pub SectionAdvances : Mode → List ℕ → ℕ → SectionTurn → Place → List ℕ → Type 0
+SectionAdvances mode held c Goes at now = (at ≡ CdataSection) × (now ≡ held ++ c ∷ [])
+SectionAdvances mode held c Ends at now = (at ≡ NoLexeme) × ((now ≡ []) × ((rest : List ℕ) → section_lexeme mode (held ++ c ∷ rest) ≡ told [] mode rest))
+SectionAdvances mode held c Shifts at now =
+    (at ≡ CdataSection) × ((now ≡ held) × ((rest : List ℕ) → section_lexeme mode (held ++ c ∷ rest) ≡ with_items (characters (93 ∷ []) ∷ []) (section_lexeme mode (held ++ rest))))
+SectionAdvances mode held c Text at now =
+    (at ≡ CdataSection) × ((now ≡ held) × ((rest : List ℕ) → section_lexeme mode (held ++ c ∷ rest) ≡ with_items (map ordinary_item (held ++ c ∷ [])) (section_lexeme mode rest)))

@@ -50,7 +50,9 @@ pub(crate) enum RawAdvance {
 
 impl Pending {
     ghost use Rattle.html_grammar.specs.declared.modes.Mode.{Mode as SeenMode};
-    ghost use Rattle.html_tokenizer.specs.Advances.{Advances, IsLeft, IsNoMarkup};
+    ghost use Rattle.html_lexemes.specs.References.{References};
+    ghost use Rattle.html_tokenizer.specs.Advances.{Advances, IsLeft, IsNoMarkup, RawAdvances};
+    ghost use Rattle.html_tokenizer.specs.SectionTurns.{SectionAdvances};
 
     /// Before a lexeme.
     pub(crate) fn new(alloc: Global) -> Pending
@@ -153,13 +155,6 @@ impl Pending {
             }
         }
     }
-}
-
-impl Pending {
-    ghost use Rattle.html_grammar.specs.declared.modes.Mode.{Mode as SeenMode};
-    ghost use Rattle.html_lexemes.specs.References.{References};
-    ghost use Rattle.html_tokenizer.specs.Advances.{RawAdvances};
-    ghost use Rattle.html_tokenizer.specs.SectionTurns.{SectionTurns};
 
     /// Takes a further character of the text of an element, some of which is held at this place; `last` is the last start
     /// tag's name. After a refusal nothing is held.
@@ -202,12 +197,12 @@ impl Pending {
             }
         }
     }
-}
 
-impl Pending {
-    /// Takes a further character of a CDATA section. Where it is text, so is what is held.
+    /// Takes a further character of a CDATA section. Where it is text, so is what is held. After a refusal nothing is held.
     pub(crate) fn take_in_section(&mut self, c: char) -> Result<SectionTurn, AllocError>
         requires { self.old.place ≡ SectionPlace }
+        ensures { IfOk result (λ turn. (mode : SeenMode) →
+            SectionAdvances mode (chars (string_bytes self.old.held)) c turn self.new.place (chars (string_bytes self.new.held))) }
     {
         let turn = match section_turn(&mut self.held, c) {
             Ok(turn) => turn,
@@ -217,16 +212,19 @@ impl Pending {
                 return Err(error);
             }
         };
-        if turn == SectionTurn::Ends {
+        if let SectionTurn::Ends = turn {
             self.place = Place::Text;
             self.held.clear();
         }
         Ok(turn)
     }
 
-    /// Takes out what is held of a CDATA section.
+    /// Takes out what is held of a CDATA section, which goes on.
     pub(crate) fn take_held(&mut self) -> String
         requires { self.old.place ≡ SectionPlace }
+        ensures taken { result ≡ self.old.held }
+        ensures place { self.new.place ≡ SectionPlace }
+        ensures held { chars (string_bytes self.new.held) ≡ [] }
     {
         take_out(&mut self.held)
     }

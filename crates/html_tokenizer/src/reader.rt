@@ -1,7 +1,8 @@
-ghost use Rattle.std.specs.Prelude.{◌≡◌, [], ◌∷◌, ◌++◌, ℕ, Bool, List, chars, string_bytes, IfOk, OnOk, Ok, false, ◌≢◌, if◌then◌else◌};
+ghost use Rattle.std.specs.Prelude.{◌≡◌, [], ◌∷◌, ◌++◌, ℕ, Bool, List, chars, string_bytes, IfOk, OnOk, Ok, false, fold, map, ◌≢◌, if◌then◌else◌};
 ghost use Rattle.std.specs.Char.{IsScalar};
 ghost use Rattle.html_lexemes.specs.References.{References};
 ghost use Rattle.html_grammar.specs.Items.{characters, end_of_file, null_character, tag as tag_item};
+ghost use Rattle.html_grammar.specs.Lexemes.{ordinary_item};
 ghost use Rattle.html_grammar.specs.Modes.{mode_behind};
 ghost use Rattle.html_grammar.specs.Reading.{Reading};
 ghost use Rattle.html_tokenizer.specs.declared.place.Place.{Place as SeenPlace};
@@ -209,7 +210,16 @@ impl Reader {
     }
 
     // reads what is held of a section, and a character, as text
-    fn read_section_text<S: TokenSink>(&mut self, sink: &mut S, c: char) -> Result<(), ParseFault> {
+    fn read_section_text<S: TokenSink>(&mut self, sink: &mut S, c: char) -> Result<(), ParseFault>
+        requires ready { S.ready (S.state sink.old) }
+        requires scalar { IsScalar c }
+        requires place { self.old.pending.place ≡ SectionPlace }
+        ensures ready { OnOk result (S.ready (S.state sink.new)) }
+        ensures told { OnOk result (state_of S.step self.new (S.state sink.new) ≡ fold S.step (state_of S.step self.old (S.state sink.old)) (map ordinary_item (chars (string_bytes self.old.pending.held) ++ c ∷ []))) }
+        ensures mode { OnOk result (self.new.mode ≡ self.old.mode) }
+        ensures place { OnOk result (self.new.pending.place ≡ SectionPlace) }
+        ensures held { OnOk result (chars (string_bytes self.new.pending.held) ≡ []) }
+    {
         let held = self.pending.take_held();
         self.run.push_str(held.as_str())?;
         if c == '\0' {
