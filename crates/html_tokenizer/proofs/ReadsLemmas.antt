@@ -104,6 +104,10 @@ pub on_ok_two : {X E : Type 0} {P Q R : Type 0} (r : Result X E) → OnOk r P �
 on_ok_two (Ok x) p q f = f p q
 on_ok_two (Err e) p q f = tt
 
+pub on_ok_four : {X E : Type 0} {P Q R S T : Type 0} (r : Result X E) → OnOk r P → OnOk r Q → OnOk r R → OnOk r S → (P → Q → R → S → T) → OnOk r T
+on_ok_four (Ok x) p q a b f = f p q a b
+on_ok_four (Err e) p q a b f = tt
+
 pub on_ok_map : {X E : Type 0} {P Q : Type 0} (r : Result X E) → OnOk r P → (P → Q) → OnOk r Q
 on_ok_map (Ok x) p f = f p
 on_ok_map (Err e) p f = tt

@@ -1,20 +1,47 @@
-use Rattle.std.proofs.Common.{rules, ◌≡◌, [], ◌∷◌, ◌++◌, ℕ, Bool, List, chars, string_bytes, IfOk, OnOk, Ok, false, fold, map, ◌≢◌, if◌then◌else◌, ◌+◌, ◌-◌, ◌*◌, ◌<◌, ◌≤◌, length, ◌/◌, ◌%◌, true, nat_eq, nat_lt, slice_index_or, slice_set, bit_and, bit_or, Fits, w8, w32, w64, Bor, MutBor}
-use Rattle.std.specs.Char.{IsScalar}
-use Rattle.html_lexemes.specs.References.{References}
-use Rattle.html_grammar.specs.Items.{characters, end_of_file, null_character}
-use Rattle.html_grammar.specs.Items.{tag as tag_item}
-use Rattle.html_grammar.specs.Lexemes.{ordinary_item}
-use Rattle.html_grammar.specs.Modes.{mode_behind}
-use Rattle.html_grammar.specs.Reading.{Reading}
-use Rattle.html_tokenizer.specs.declared.place.Place.{Place as SeenPlace}
-use Rattle.html_tokenizer.specs.declared.place.Place.TheVariants.{CdataSection as SectionPlace}
-use Rattle.html_tokenizer.specs.declared.place.Place.TheVariants.{MarkupDeclarationOpen as DeclarationPlace}
-use Rattle.html_tokenizer.specs.declared.place.Place.TheVariants.{Text as TextPlace}
-use Rattle.html_tokenizer.specs.Reads.{Follows, Leaves, Reads, state_of}
-use Rattle.html_tokenizer.specs.Turns.{IsOver}
-use Rattle.html_tokenizer.specs.Advances.{Advances, IsLeft, IsWithinMarkup}
+use Rattle.std.proofs.Common.{◌≡◌, Bool, List, ℕ, MatchOption, refl, ap, sym, ◌∙◌, ◌∷◌, [], ◌++◌, string_bytes, subst}
+use Rattle.std.specs.Str.{chars}
+use Rattle.html_grammar.specs.Items.{characters}
+use Rattle.html_grammar.specs.declared.modes.Mode.{Mode}
+use Rattle.html_tokenizer.specs.Advances.{Advances, IsNoMarkup, IsWithinMarkup}
+use Rattle.html_tokenizer.specs.declared.pending.Pending.{Pending}
+use Rattle.html_tokenizer.specs.declared.place.Place.TheVariants.{MarkupDeclarationOpen}
+use Rattle.html_tokenizer.proofs.RawReads.{in_section}
+use Rattle.html_tokenizer.proofs.ReadsLemmas.{leaves_same, on_ok_map}
 use Rattle.html_tokenizer.proofs.reader.Reader.take_in_markup.Goals as goal
 
--- src/reader.rt:135:5
 pub returns-in-Some-clause-reads : goal.returns-in-Some-clause-reads
-returns-in-Some-clause-reads g c = ?
+returns-in-Some-clause-reads g c =
+    let r = c.args.self.now in
+    let now = c.is_foreign.new.self in
+    let after = c.take.new.self in
+    let table = c.args.table.now in
+    let s = g.S.TokenSink.step (g.S.TokenSink.state c.args.sink.now) (characters (chars (string_bytes r.run))) in
+    let t = g.S.TokenSink.step (g.S.TokenSink.state c.is_foreign.new.sink) (characters (chars (string_bytes now.run))) in
+    let same = c.in_ok-foreign.ensures.state in
+    let known = subst (λ o. MatchOption o (IsNoMarkup now.pending.place × (after ≡ now.pending)) (λ advance. (asked : Bool) (mode : Mode) → (now.pending.place ≡ MarkupDeclarationOpen → asked ≡ c.in_ok-foreign.foreign) →
+        Advances table asked mode now.pending.place (chars (string_bytes now.pending.held)) c.args.c advance after.place (chars (string_bytes after.held)))) c.in-Some.is c.in_ok-advance.ensures.advance in
+    let asked_for = λ (e : now.pending.place ≡ MarkupDeclarationOpen). ap g.S.TokenSink.foreign same ∙ c.in_ok-foreign.ensures.foreign (sym (ap (λ (p : Pending). p.place) c.is_foreign.ensures.pending) ∙ e) in
+    on_ok_map c.advance.result c.advance.ensures.reads (λ f rest final l.
+        leaves_same table g.S.TokenSink.step g.S.TokenSink.reply g.S.TokenSink.foreign r.mode now.mode r.pending now.pending (c.args.c ∷ rest) s t final c.is_foreign.ensures.mode c.is_foreign.ensures.pending same
+        (f now.pending.place (chars (string_bytes now.pending.held)) (known (g.S.TokenSink.foreign t) now.mode asked_for) rest final l))
+
+pub take_in_section-requires-clause-place : goal.take_in_section-requires-clause-place
+take_in_section-requires-clause-place g c =
+    let now = c.is_foreign.new.self in
+    let after = c.take.new.self in
+    let known = subst (λ o. MatchOption o (IsNoMarkup now.pending.place × (after ≡ now.pending)) (λ advance. (asked : Bool) (mode : Mode) → (now.pending.place ≡ MarkupDeclarationOpen → asked ≡ c.in_ok-foreign.foreign) →
+        Advances c.args.table.now asked mode now.pending.place (chars (string_bytes now.pending.held)) c.args.c advance after.place (chars (string_bytes after.held)))) c.in-None.is c.in_ok-advance.ensures.advance in
+    ap (λ (p : Pending). p.place) known.1 ∙ in_section now.pending.place (subst (λ (p : Pending). IsWithinMarkup p.place) (sym c.is_foreign.ensures.pending) c.requires.place) known.0
+
+pub returns-in_ok-take_in_section-in-None-clause-reads : goal.returns-in_ok-take_in_section-in-None-clause-reads
+returns-in_ok-take_in_section-in-None-clause-reads g c = λ rest final l.
+    let r = c.args.self.now in
+    let now = c.is_foreign.new.self in
+    let after = c.take.new.self in
+    let table = c.args.table.now in
+    let s = g.S.TokenSink.step (g.S.TokenSink.state c.args.sink.now) (characters (chars (string_bytes r.run))) in
+    let t = g.S.TokenSink.step (g.S.TokenSink.state c.is_foreign.new.sink) (characters (chars (string_bytes now.run))) in
+    let known = subst (λ o. MatchOption o (IsNoMarkup now.pending.place × (after ≡ now.pending)) (λ advance. (asked : Bool) (mode : Mode) → (now.pending.place ≡ MarkupDeclarationOpen → asked ≡ c.in_ok-foreign.foreign) →
+        Advances table asked mode now.pending.place (chars (string_bytes now.pending.held)) c.args.c advance after.place (chars (string_bytes after.held)))) c.in-None.is c.in_ok-advance.ensures.advance in
+    leaves_same table g.S.TokenSink.step g.S.TokenSink.reply g.S.TokenSink.foreign r.mode now.mode r.pending after (c.args.c ∷ rest) s t final c.is_foreign.ensures.mode (known.1 ∙ c.is_foreign.ensures.pending) c.in_ok-foreign.ensures.state
+    (c.in_ok-take_in_section-in-None.ensures.reads table rest final l)

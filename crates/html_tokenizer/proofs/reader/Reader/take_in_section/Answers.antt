@@ -1,32 +1,52 @@
-use Rattle.std.proofs.Common.{rules, ◌≡◌, [], ◌∷◌, ◌++◌, ℕ, Bool, List, chars, string_bytes, IfOk, OnOk, Ok, false, fold, map, ◌≢◌, if◌then◌else◌, ◌+◌, ◌-◌, ◌*◌, ◌<◌, ◌≤◌, length, ◌/◌, ◌%◌, true, nat_eq, nat_lt, slice_index_or, slice_set, bit_and, bit_or, Fits, w8, w32, w64, Bor, MutBor}
-use Rattle.std.specs.Char.{IsScalar}
-use Rattle.html_lexemes.specs.References.{References}
-use Rattle.html_grammar.specs.Items.{characters, end_of_file, null_character}
-use Rattle.html_grammar.specs.Items.{tag as tag_item}
+use Rattle.std.proofs.Common.{◌≡◌, refl, ap, sym, ◌∙◌, ◌∷◌, [], ◌++◌, map, string_bytes, subst}
+use Rattle.std.proofs.lemmas.Str.{IsUtf8-string_bytes}
+use Rattle.std.specs.Str.{chars}
+use Rattle.html_grammar.specs.Items.{characters}
 use Rattle.html_grammar.specs.Lexemes.{ordinary_item}
-use Rattle.html_grammar.specs.Modes.{mode_behind}
-use Rattle.html_grammar.specs.Reading.{Reading}
-use Rattle.html_tokenizer.specs.declared.place.Place.{Place as SeenPlace}
-use Rattle.html_tokenizer.specs.declared.place.Place.TheVariants.{CdataSection as SectionPlace}
-use Rattle.html_tokenizer.specs.declared.place.Place.TheVariants.{MarkupDeclarationOpen as DeclarationPlace}
-use Rattle.html_tokenizer.specs.declared.place.Place.TheVariants.{Text as TextPlace}
-use Rattle.html_tokenizer.specs.Reads.{Follows, Leaves, Reads, state_of}
-use Rattle.html_tokenizer.specs.Turns.{IsOver}
-use Rattle.html_tokenizer.specs.Advances.{Advances, IsLeft, IsWithinMarkup}
+use Rattle.std.specs.List.{fold}
+use Rattle.html_tokenizer.specs.Reads.{Leaves}
+use Rattle.html_tokenizer.specs.SectionTurns.{SectionAdvances}
+use Rattle.html_tokenizer.specs.declared.section_turn.SectionTurn.TheVariants.{Goes, Ends, Shifts, Text}
+use Rattle.html_tokenizer.proofs.PendingLemmas.{some_mode}
+use Rattle.html_tokenizer.proofs.RawReads.{section_more, section_on}
+use Rattle.html_tokenizer.proofs.ReadsLemmas.{on_ok_four, pushed_one}
 use Rattle.html_tokenizer.proofs.reader.Reader.take_in_section.Goals as goal
 
--- src/reader.rt:208:34
 pub read_section_text-requires-clause-place : goal.read_section_text-requires-clause-place
-read_section_text-requires-clause-place g c = ?
+read_section_text-requires-clause-place g c =
+    let r = c.args.self.now in
+    let now = c.take_in_section.new.self in
+    (subst (λ x. SectionAdvances some_mode (chars (string_bytes r.pending.held)) c.args.c x now.place (chars (string_bytes now.held))) c.in-Text.is (c.in_ok-take_in_section.ensures some_mode)).0
 
--- src/reader.rt:193:5
 pub returns-in-Goes-clause-reads : goal.returns-in-Goes-clause-reads
-returns-in-Goes-clause-reads g c = ?
+returns-in-Goes-clause-reads g c = λ table rest final l.
+    let r = c.args.self.now in
+    let now = c.take_in_section.new.self in
+    section_on table g.S.TokenSink.step g.S.TokenSink.reply g.S.TokenSink.foreign r.mode r.pending.place now.place (chars (string_bytes r.pending.held)) (chars (string_bytes now.held)) c.args.c rest
+    (g.S.TokenSink.step (g.S.TokenSink.state c.args.sink.now) (characters (chars (string_bytes r.run)))) final c.in_ok-take_in_section.field-0 c.in-Goes.is c.requires.place (c.in_ok-take_in_section.ensures r.mode) l
 
--- src/reader.rt:193:5
 pub returns-in_ok-push-in-Shifts-clause-reads : goal.returns-in_ok-push-in-Shifts-clause-reads
-returns-in_ok-push-in-Shifts-clause-reads g c = ?
+returns-in_ok-push-in-Shifts-clause-reads g c = λ table rest final l.
+    let r = c.args.self.now in
+    let now = c.take_in_section.new.self in
+    let held = chars (string_bytes r.pending.held) in
+    let s0 = g.S.TokenSink.state c.args.sink.now in
+    let a = subst (λ x. SectionAdvances r.mode held c.args.c x now.place (chars (string_bytes now.held))) c.in-Shifts.is (c.in_ok-take_in_section.ensures r.mode) in
+    section_more table g.S.TokenSink.step g.S.TokenSink.reply g.S.TokenSink.foreign r.mode r.pending.place now.place held (chars (string_bytes now.held)) held c.args.c rest (characters (93 ∷ []) ∷ [])
+    (g.S.TokenSink.step s0 (characters (chars (string_bytes r.run)))) (g.S.TokenSink.step s0 (characters (chars (string_bytes c.push.new.self)))) final c.requires.place a.0 a.1.0 (a.1.1 rest)
+    (ap (λ x. g.S.TokenSink.step s0 (characters x)) (pushed_one (string_bytes r.run) (string_bytes c.push.new.self) 93 (IsUtf8-string_bytes r.run) refl c.in_ok-push-in-Shifts.ensures.bytes) ∙ sym (g.met.S.TokenSink.lawful.joins s0 (chars (string_bytes r.run)) (93 ∷ []))) l
 
--- src/reader.rt:193:5
 pub returns-in-Text-clause-reads : goal.returns-in-Text-clause-reads
-returns-in-Text-clause-reads g c = ?
+returns-in-Text-clause-reads g c =
+    let r = c.args.self.now in
+    let now = c.take_in_section.new.self in
+    let after = c.read_section_text.new.self in
+    let held = chars (string_bytes r.pending.held) in
+    let s0 = g.S.TokenSink.state c.args.sink.now in
+    let a = subst (λ x. SectionAdvances r.mode held c.args.c x now.place (chars (string_bytes now.held))) c.in-Text.is (c.in_ok-take_in_section.ensures r.mode) in
+    let s = g.S.TokenSink.step s0 (characters (chars (string_bytes r.run))) in
+    on_ok_four c.read_section_text.result c.read_section_text.ensures.told c.read_section_text.ensures.mode c.read_section_text.ensures.place c.read_section_text.ensures.held (λ t m p h table rest final l.
+        section_more table g.S.TokenSink.step g.S.TokenSink.reply g.S.TokenSink.foreign r.mode r.pending.place after.pending.place held (chars (string_bytes after.pending.held)) [] c.args.c rest (map ordinary_item (held ++ c.args.c ∷ []))
+        s (g.S.TokenSink.step (g.S.TokenSink.state c.read_section_text.new.sink) (characters (chars (string_bytes after.run)))) final c.requires.place p h (a.1.1 rest)
+        (t ∙ ap (λ x. fold g.S.TokenSink.step s (map ordinary_item (x ++ c.args.c ∷ []))) a.1.0)
+        (subst (λ x. Leaves table g.S.TokenSink.step g.S.TokenSink.reply g.S.TokenSink.foreign x after.pending.place (chars (string_bytes after.pending.held) ++ rest) (g.S.TokenSink.step (g.S.TokenSink.state c.read_section_text.new.sink) (characters (chars (string_bytes after.run)))) final) m l))
