@@ -10,6 +10,7 @@ pub mod HeldLemmas
 pub mod MarkupHeld
 pub mod OpenLemmas
 pub mod PendingLemmas
+pub mod QueueTaken
 pub mod RawReads
 pub mod RawTextLemmas
 pub mod ReadsLemmas

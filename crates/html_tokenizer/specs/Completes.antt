@@ -1,5 +1,5 @@
 -- What contracts say of a tokenizer.
-use Rattle.std.specs.Prelude.{◌≡◌, ℕ, Bool, List, [], string_bytes}
+use Rattle.std.specs.Prelude.{◌≡◌, ℕ, Bool, List, [], ◌∷◌, string_bytes}
 use Rattle.html_lexemes.specs.Queue.{Queue, Takes}
 use Rattle.html_lexemes.specs.declared.token.TokenSinkResult.{TokenSinkResult}
 use Rattle.html_grammar.specs.Items.{Item}
@@ -20,7 +20,11 @@ Completes state step reply foreign tokenizer rest final =
 abbrev pub HasTold : {S : Type 0} → Tokenizer S → Type 0
 HasTold tokenizer = string_bytes tokenizer.reader.run ≡ []
 
--- some characters were taken from the front, and each was counted once
+-- each of the characters was taken from the front, once
+abbrev pub TakesEach : Queue → List ℕ → Queue → Type 0
+TakesEach old [] new = new ≡ old
+TakesEach old (c ∷ cs) new = (next : Queue) × (Takes old (c ∷ []) next × TakesEach next cs new)
+
 pub record TakesSome (old new : Queue) : Type 0 where
   pub taken : List ℕ
-  pub takes : Takes old taken new
+  pub takes : TakesEach old taken new
