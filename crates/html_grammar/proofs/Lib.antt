@@ -1,4 +1,5 @@
 pub mod DoctypeLemmas
+pub mod LaterNames
 pub mod LexemeLemmas
 pub mod LongestNames
 pub mod MarkLemmas

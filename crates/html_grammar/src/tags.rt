@@ -1,9 +1,13 @@
-ghost use Rattle.std.specs.Prelude.{◌≡◌, ◌∷◌, ◌++◌, chars, option_map, IfOk, IfSome, OnOk, string_bytes};
+ghost use Rattle.std.specs.Prelude.{◌≡◌, ℕ, List, ◌∷◌, ◌++◌, ◌||◌, ◌&&◌, take, chars, option_map, IfOk, IfSome, OnOk, string_bytes};
 ghost use Rattle.std.specs.Char.{to_ascii_lowercase};
-ghost use Rattle.std.specs.Str.{IsUtf8};
+ghost use Rattle.std.specs.Str.{IsUtf8, bytes_eq};
+ghost use Rattle.std.specs.Bool.{nat_le};
+ghost use Rattle.std.specs.BTreeSet.{contains};
+ghost use Rattle.std.specs.Cmp.Lexicographic.{slice_cmp};
+ghost use Rattle.std.specs.Ordering.{nat_cmp};
 ghost use Rattle.html_grammar.specs.Characters.{name_of, shown};
 ghost use Rattle.html_grammar.specs.Tags.{attribute_at, ends_with_slash, tag_at, value_behind, written_value};
-ghost use Rattle.html_grammar.specs.TagParts.{attribute_and_rest, is_named, with_new};
+ghost use Rattle.html_grammar.specs.TagParts.{HasLaterNames, attribute_and_rest, is_named, with_new};
 ghost use Rattle.html_grammar.specs.Read.{cut_of, tag_and_rest};
 
 use crate::references::value_of;
@@ -12,6 +16,10 @@ use html_lexemes::{
     Attribute, Attributes, LocalName, Namespace, QualName, ReferenceTable, Tag, TagKind, Text,
 };
 use std::alloc::{AllocError, Global};
+use std::collections::BTreeSet;
+
+// how many attributes are looked through for a name, before a set has the names of the others
+const SEARCHED: usize = 16;
 
 /// The tag whose name begins here, and what follows it (WHATWG HTML, 13.2.5.8). `None` is a tag that the
 /// end of the text cuts off. The error is want of memory alone.
@@ -27,6 +35,7 @@ pub fn tag_at<'t>(
     let (name, mut rest) = split_while(text, CharacterClass::TagName);
     let name = LocalName::from(name_of(alloc, name)?);
     let mut attrs = Attributes::new(alloc);
+    let mut later = BTreeSet::new(alloc);
     let mut had_duplicate_attributes = false;
     'attributes: loop {
         let (gap, behind_gap) = split_while(rest, CharacterClass::Gap);
@@ -47,7 +56,7 @@ pub fn tag_at<'t>(
             return Ok(None);
         };
         rest = behind_attribute;
-        let is_dropped = add_new(&mut attrs, attribute)?;
+        let is_dropped = add_new(&mut attrs, &mut later, attribute)?;
         had_duplicate_attributes |= is_dropped;
     }
 }
@@ -60,24 +69,56 @@ fn ends_with_slash(text: &str) -> bool
 }
 
 // adds an attribute, unless its name is there; whether it is
-fn add_new(attributes: &mut Attributes, attribute: Attribute) -> Result<bool, AllocError>
+fn add_new(
+    attributes: &mut Attributes,
+    later: &mut BTreeSet<LocalName>,
+    attribute: Attribute,
+) -> Result<bool, AllocError>
+    requires { HasLaterNames later.old attributes.old }
     ensures dropped { IfOk result (λ dropped. dropped ≡ is_named attribute.name.local attributes.old) }
     ensures attributes { OnOk result (attributes.new ≡ with_new attributes.old attribute) }
+    ensures later { OnOk result (HasLaterNames later.new attributes.new) }
 {
-    if has_name(attributes.as_slice(), &attribute) {
+    let name = &attribute.name.local;
+    if has_name(attributes.as_slice(), later, name) {
         return Ok(true);
     }
+    add_later(later, attributes.as_slice().len(), name)?;
     attributes.push(attribute)?;
     Ok(false)
 }
 
 // whether an attribute of that name is there
-fn has_name(attributes: &[Attribute], attribute: &Attribute) -> bool
-    ensures { result ≡ is_named attribute.now.name.local attributes.now }
+fn has_name(attributes: &[Attribute], later: &BTreeSet<LocalName>, name: &LocalName) -> bool
+    requires { HasLaterNames later.now attributes.now }
+    ensures { result ≡ is_named name.now attributes.now }
+{
+    is_first(attributes, name) || later.contains(name)
+}
+
+// whether one of the first attributes has that name
+fn is_first(attributes: &[Attribute], name: &LocalName) -> bool
+    ensures { result ≡ is_named name.now (take SEARCHED attributes.now) }
 {
     attributes
         .iter()
-        .any(|a| a.name.local == attribute.name.local)
+        .take(SEARCHED)
+        .any(|a| a.name.local == *name)
+}
+
+// adds the name of an attribute that stands behind so many others, unless it is one of the first
+fn add_later(
+    later: &mut BTreeSet<LocalName>,
+    before: usize,
+    name: &LocalName,
+) -> Result<(), AllocError>
+    ensures { OnOk result ((other : List ℕ) → contains (slice_cmp nat_cmp) later.new other ≡ (contains (slice_cmp nat_cmp) later.old other || (nat_le SEARCHED before && bytes_eq name.now other))) }
+{
+    if before < SEARCHED {
+        return Ok(());
+    }
+    later.insert(name.try_clone()?)?;
+    Ok(())
 }
 
 // the attribute that begins with a character and goes on with a text, and what follows it

@@ -89,7 +89,7 @@ const SCRIPT: Start = Start {
     discard_bom: false,
 };
 
-static ROWS: [(Start, &str, &str); 102] = [
+static ROWS: [(Start, &str, &str); 103] = [
     // tags, comments, sections and references together
     (
         HTML,
@@ -192,6 +192,15 @@ static ROWS: [(Start, &str, &str); 102] = [
         HTML,
         "</a b=c c b=d/>",
         "end\ta\t-\tduplicates\nattribute\tb\tc\nattribute\tc\t",
+    ),
+    (
+        HTML,
+        "<p a b c d e f g h i j k l m n o p q r s t q=1 T=2 a=3 u r=4 u=5>",
+        "start\tp\t-\tduplicates\nattribute\ta\t\nattribute\tb\t\nattribute\tc\t\
+         \nattribute\td\t\nattribute\te\t\nattribute\tf\t\nattribute\tg\t\nattribute\th\t\
+         \nattribute\ti\t\nattribute\tj\t\nattribute\tk\t\nattribute\tl\t\nattribute\tm\t\
+         \nattribute\tn\t\nattribute\to\t\nattribute\tp\t\nattribute\tq\t\nattribute\tr\t\
+         \nattribute\ts\t\nattribute\tt\t\nattribute\tu\t",
     ),
     (
         HTML,

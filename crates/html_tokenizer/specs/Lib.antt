@@ -5,6 +5,7 @@ pub mod Firsts
 pub mod MarkupSound
 pub mod Openings
 pub mod PageRest
+pub mod Pieces
 pub mod Places
 pub mod RawHeld
 pub mod RawSound

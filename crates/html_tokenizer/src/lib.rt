@@ -10,6 +10,7 @@ mod line_ends;
 mod markup_turn;
 mod open_turns;
 mod pending;
+mod pieces;
 mod place;
 mod raw_text_turns;
 mod raw_turn;
@@ -22,4 +23,5 @@ mod tag_turns;
 mod tokenizer;
 mod turn;
 
+pub use pieces::read_pieces;
 pub use tokenizer::{Tokenizer, TokenizerResult};

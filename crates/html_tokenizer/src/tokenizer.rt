@@ -1,4 +1,4 @@
-ghost use Rattle.std.specs.Prelude.{◌≡◌, ◌++◌, ◌∷◌, ℕ, List, [], OnOk, true, false, Ok, Err, is_err};
+ghost use Rattle.std.specs.Prelude.{◌≡◌, ◌++◌, ◌∷◌, ℕ, List, [], IfOk, OnOk, true, false, length, ◌<◌, Ok, Err, is_err};
 ghost use Rattle.std.specs.Char.{IsScalar};
 ghost use Rattle.html_lexemes.specs.declared.fault.ParseFault.TheVariants.{Failed};
 ghost use Rattle.html_grammar.specs.FirstMode.{first_mode};
@@ -83,6 +83,7 @@ impl<Sink: TokenSink> Tokenizer<Sink> {
         ensures works { has_failed self.new ≡ is_err result }
         ensures takes { OnOk result (TakesSome queue.old queue.new) }
         ensures done { result ≡ Ok TokenizerResult.Done → (queue.new.text ≡ []) × HasTold self.new }
+        ensures pauses { IfOk result (λ r. (r ≡ TokenizerResult.Done → ⊥) → length queue.new.text < length queue.old.text) }
         ensures reads { OnOk result ((rest : List ℕ) (final : Sink.Abstract) →
             Completes Sink.state Sink.step Sink.reply Sink.foreign self.new (queue.new.text ++ rest) final →
             Completes Sink.state Sink.step Sink.reply Sink.foreign self.old (queue.old.text ++ rest) final) }
@@ -95,6 +96,22 @@ impl<Sink: TokenSink> Tokenizer<Sink> {
         result
     }
 
+    /// Feeds on, over pauses, until the queue is empty. The errors are those of `feed`.
+    pub fn feed_on(&mut self, queue: &mut BufferQueue) -> Result<(), ParseFault>
+        requires { Sink.ready (Sink.state self.old.sink) }
+        ensures ready { OnOk result (Sink.ready (Sink.state self.new.sink)) }
+        ensures done { OnOk result (queue.new.text ≡ []) }
+        ensures reads { OnOk result ((rest : List ℕ) (final : Sink.Abstract) →
+            Completes Sink.state Sink.step Sink.reply Sink.foreign self.new rest final →
+            Completes Sink.state Sink.step Sink.reply Sink.foreign self.old (queue.old.text ++ rest) final) }
+    {
+        'feeds: loop {
+            if let TokenizerResult::Done = self.feed(queue)? {
+                return Ok(());
+            }
+        }
+    }
+
     // reads on, where no call was refused
     fn read(
         &mut self,
@@ -104,6 +121,7 @@ impl<Sink: TokenSink> Tokenizer<Sink> {
         ensures ready { OnOk result (Sink.ready (Sink.state self.new.sink)) }
         ensures takes { OnOk result (TakesSome queue.old queue.new) }
         ensures done { result ≡ Ok TokenizerResult.Done → (queue.new.text ≡ []) × HasTold self.new }
+        ensures pauses { IfOk result (λ r. (r ≡ TokenizerResult.Done → ⊥) → length queue.new.text < length queue.old.text) }
         ensures reads { OnOk result ((rest : List ℕ) (final : Sink.Abstract) →
             Completes Sink.state Sink.step Sink.reply Sink.foreign self.new (queue.new.text ++ rest) final →
             Completes Sink.state Sink.step Sink.reply Sink.foreign self.old (queue.old.text ++ rest) final) }

@@ -1,4 +1,4 @@
-use Rattle.std.proofs.Common.{◌≡◌, List, MatchOption, refl, ap, sym, ◌∙◌, [], ◌∷◌, ◌++◌, string_bytes, subst}
+use Rattle.std.proofs.Common.{arith, length, ◌≤◌, ◌≡◌, List, MatchOption, refl, ap, sym, ◌∙◌, [], ◌∷◌, ◌++◌, string_bytes, subst}
 use Rattle.std.proofs.lemmas.Str.{chars-nil}
 use Rattle.std.specs.Str.{chars}
 use Rattle.html_grammar.specs.Items.{characters}
@@ -15,6 +15,7 @@ returns-in-Some-2-clause-takes g c = taken_more c.args.queue.now c.characters.qu
 pub characters-preserved : goal.characters-preserved
 characters-preserved g c = record {
   ready = c.in_ok-pause.ensures.ready;
+  shorter = omega (arith, ap length c.in-Some.ensures.takes.text, c.characters.invariant.shorter);
   takes = taken_more c.args.queue.now c.characters.queue c.next.new.self c.in-Some.c c.characters.invariant.takes c.in-Some.ensures.takes;
   reads = λ rest final l. c.characters.invariant.reads rest final
       (subst (λ x. Completes g.Sink.TokenSink.state g.Sink.TokenSink.step g.Sink.TokenSink.reply g.Sink.TokenSink.foreign c.characters.self (x ++ rest) final) (sym c.in-Some.ensures.takes.text) (c.in_ok-pause.ensures.reads (c.next.new.self.text ++ rest) final l));

@@ -1,10 +1,11 @@
-use Rattle.std.proofs.Common.{length, ◌++◌}
+use Rattle.std.proofs.Common.{length, ◌++◌, ◌≤◌}
 use Rattle.html_tokenizer.specs.Completes.{Completes, TakesSome}
 use Rattle.html_tokenizer.proofs.tokenizer.Tokenizer.read.Given as goal
 
 abbrev pub invariant-characters : goal.invariant-characters
 invariant-characters g l = record {
   ready : g.Sink.TokenSink.ready (g.Sink.TokenSink.state l.self.sink);
+  shorter : length l.queue.text ≤ length l.fn.queue.text;
   takes : TakesSome l.fn.queue l.queue;
   reads : (rest : _) (final : _) → Completes g.Sink.TokenSink.state g.Sink.TokenSink.step g.Sink.TokenSink.reply g.Sink.TokenSink.foreign l.self (l.queue.text ++ rest) final →
       Completes g.Sink.TokenSink.state g.Sink.TokenSink.step g.Sink.TokenSink.reply g.Sink.TokenSink.foreign l.fn.self (l.fn.queue.text ++ rest) final;

@@ -1,0 +1,18 @@
+use Rattle.std.specs.Vec.Iter.{into_iter_items}
+use Rattle.html_grammar.specs.FirstMode.{first_mode}
+use Rattle.html_grammar.specs.PageText.{page_text}
+use Rattle.html_grammar.specs.Reading.{Reading}
+use Rattle.html_tokenizer.specs.Completes.{Completes}
+use Rattle.html_tokenizer.specs.Pieces.{joined}
+use Rattle.html_tokenizer.proofs.pieces.read_pieces.Given as goal
+
+abbrev pub invariant-pieces : goal.invariant-pieces
+invariant-pieces g l =
+    let s = g.Sink.TokenSink.state in
+    let step = g.Sink.TokenSink.step in
+    let reply = g.Sink.TokenSink.reply in
+    let foreign = g.Sink.TokenSink.foreign in
+    record {
+      ready : g.Sink.TokenSink.ready (s l.tokenizer.sink);
+      reads : (final : _) → Completes s step reply foreign l.tokenizer (joined (into_iter_items l.piece-iterator)) final → Reading l.fn.table step reply foreign (first_mode l.fn.opts) (s l.fn.sink) (page_text l.fn.opts.discard_bom (joined l.fn.pieces.items)) final;
+    }
