@@ -16,5 +16,4 @@ pub mod RowWords
 pub mod Slices
 pub mod TagParts
 pub mod Tags
-pub mod TestReply
 pub mod Told

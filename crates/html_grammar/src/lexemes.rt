@@ -249,11 +249,7 @@ pub fn declaration<'t>(
 }
 
 /// What a `<!doctype` begins, from behind it on (WHATWG HTML, 13.2.5.53). The error is want of memory alone.
-pub fn doctype<'t>(
-    alloc: Global,
-    mode: &Mode,
-    text: &'t str,
-) -> Result<Lexeme<'t>, AllocError>
+pub fn doctype<'t>(alloc: Global, mode: &Mode, text: &'t str) -> Result<Lexeme<'t>, AllocError>
     ensures value { IfOk result (λ l. lexeme_of mode.now l ≡ doctype_lexeme mode.now (doctype_at (chars text.now))) }
     ensures utf8 { IfOk result HasRest }
 {

@@ -19,7 +19,3 @@ pub use sink::{TokenSink, TokenizerOpts};
 
 #[cfg(test)]
 mod rows;
-#[cfg(test)]
-mod test_sink;
-#[cfg(test)]
-mod tests;

@@ -90,7 +90,11 @@ pub fn tell_lexemes<S: TokenSink>(
 }
 
 /// Tells some tokens, none of which is a tag, at a line. The error is what the sink refused with.
-pub fn tell_tokens<S: TokenSink>(sink: &mut S, tokens: Vec<Token>, line: u64) -> Result<(), ParseFault>
+pub fn tell_tokens<S: TokenSink>(
+    sink: &mut S,
+    tokens: Vec<Token>,
+    line: u64,
+) -> Result<(), ParseFault>
     requires { S.ready (S.state sink.old) }
     ensures ready { OnOk result (S.ready (S.state sink.new)) }
     ensures told { OnOk result (S.state sink.new ≡ fold S.step (S.state sink.old) (items_of tokens.items)) }

@@ -12,8 +12,8 @@ use html_grammar::lexemes::{
 };
 use html_grammar::tags::tag_at;
 use html_grammar::{Mode, TextKind};
-use html_lexemes::{LocalName, ReferenceTable};
 use html_lexemes::states::RawKind;
+use html_lexemes::{LocalName, ReferenceTable};
 use std::alloc::{AllocError, Global};
 
 /// The lexeme that a whole text is from a place on, and what it leaves of the text. The error is want of memory alone.

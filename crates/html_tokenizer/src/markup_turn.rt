@@ -27,7 +27,7 @@ pub(crate) fn markup_turn(
     requires { IsSound place (chars (string_bytes held.old)) }
     ensures { IfOk result (λ done. MatchOption done (IsNoMarkup place × (held.new ≡ held.old))
         (λ turn. (asked : Bool) (mode : SeenMode) → (place ≡ MarkupDeclarationOpen → asked ≡ foreign) →
-            Turns table.now asked mode place (chars (string_bytes held.old)) c turn (chars (string_bytes held.new)))) }
+        Turns table.now asked mode place (chars (string_bytes held.old)) c turn (chars (string_bytes held.new)))) }
 {
     let turn = match place {
         Place::CharacterReference(place) => reference_turn(table, place, held, c)?,

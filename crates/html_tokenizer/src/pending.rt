@@ -10,8 +10,8 @@ use crate::raw_text_turns::raw_turn;
 use crate::raw_turn::RawTurn;
 use crate::section_turn::{SectionTurn, section_turn};
 use crate::turn::Turn;
-use html_lexemes::{LocalName, ReferenceTable, TagKind};
 use html_lexemes::states::RawKind;
+use html_lexemes::{LocalName, ReferenceTable, TagKind};
 use std::alloc::{AllocError, Global};
 use std::mem;
 
@@ -127,7 +127,7 @@ impl Pending {
         ensures left { IfOk result (λ done. IfSome done (λ advance. IsLeft advance self.new.place)) }
         ensures advance { IfOk result (λ done. MatchOption done (IsNoMarkup self.old.place × (self.new ≡ self.old))
             (λ advance. (asked : Bool) (mode : SeenMode) → (self.old.place ≡ DeclarationPlace → asked ≡ foreign) →
-                Advances table.now asked mode self.old.place (chars (string_bytes self.old.held)) c advance self.new.place (chars (string_bytes self.new.held)))) }
+            Advances table.now asked mode self.old.place (chars (string_bytes self.old.held)) c advance self.new.place (chars (string_bytes self.new.held)))) }
     {
         let done = match markup_turn(table, foreign, self.place, &mut self.held, c) {
             Ok(done) => done,

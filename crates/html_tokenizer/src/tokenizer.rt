@@ -113,10 +113,7 @@ impl<Sink: TokenSink> Tokenizer<Sink> {
     }
 
     // reads on, where no call was refused
-    fn read(
-        &mut self,
-        queue: &mut BufferQueue,
-    ) -> Result<TokenizerResult<Sink::Handle>, ParseFault>
+    fn read(&mut self, queue: &mut BufferQueue) -> Result<TokenizerResult<Sink::Handle>, ParseFault>
         requires { Sink.ready (Sink.state self.old.sink) }
         ensures ready { OnOk result (Sink.ready (Sink.state self.new.sink)) }
         ensures takes { OnOk result (TakesSome queue.old queue.new) }

@@ -1,16 +1,17 @@
 use crate::error::Error;
 use crate::escapes::{NO_TEXT, unescaped};
 use crate::tables::TableName;
+use html_grammar::TokenizerOpts;
 use html_lexemes::states::{RawKind, State};
 use html_lexemes::{LocalName, Text};
-use html_grammar::TokenizerOpts;
-use std::alloc::Global;
+use std::alloc::{AllocError, Global};
 
 /// A page, and how it is read.
 #[derive(Drop)]
 pub(crate) struct Case {
-    /// How its text is read.
-    pub(crate) options: TokenizerOpts,
+    state: State,
+    // the name of the last start tag
+    last: Option<LocalName>,
     /// Whether the adjusted current node is foreign.
     pub(crate) foreign: bool,
     /// The references that it is read with.
@@ -30,10 +31,25 @@ impl Case {
             return Err(Error::Case("more than five fields"));
         }
         Ok(Case {
-            options: options_of(state_of(state)?, name_of(alloc, name)?),
+            state: state_of(state)?,
+            last: name_of(alloc, name)?,
             foreign: is_foreign(foreign)?,
             table: table_of(table)?,
             text: unescaped(alloc, text)?,
+        })
+    }
+
+    /// How its text is read.
+    pub(crate) fn options(&self) -> Result<TokenizerOpts, AllocError> {
+        let last_start_tag_name = match &self.last {
+            Some(name) => Some(name.try_clone()?),
+            None => None,
+        };
+        Ok(TokenizerOpts {
+            exact_errors: false,
+            discard_bom: true,
+            initial_state: Some(self.state),
+            last_start_tag_name,
         })
     }
 }
@@ -43,15 +59,6 @@ fn first_field(fields: &str) -> Result<(&str, &str), Error> {
     fields
         .split_once('\t')
         .ok_or(Error::Case("fewer than five fields"))
-}
-
-fn options_of(state: State, name: Option<LocalName>) -> TokenizerOpts {
-    TokenizerOpts {
-        exact_errors: false,
-        discard_bom: true,
-        initial_state: Some(state),
-        last_start_tag_name: name,
-    }
 }
 
 /// The state to begin in.

@@ -17,6 +17,9 @@ pub(crate) enum Error {
     /// The reading of a page.
     #[error("reading failed: {0}")]
     Page(#[from] ParseFault),
+    /// What the tokenizer tells, fed in some pieces, isn't what the plain reader tells.
+    #[error("the tokenizer, fed {0}, tells other tokens than the plain reader")]
+    Differs(&'static str),
     /// Standard input or output, or want of memory for it.
     #[error("read or write failed")]
     Device(#[from] io::Error),

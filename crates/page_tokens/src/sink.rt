@@ -1,5 +1,5 @@
-use html_lexemes::{ParseFault, Token, TokenSinkResult};
 use html_grammar::TokenSink;
+use html_lexemes::{ParseFault, Token, TokenSinkResult};
 use std::alloc::Global;
 
 /// A sink that keeps what it is told. Contracts see whether its current node is foreign.

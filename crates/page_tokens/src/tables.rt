@@ -10,25 +10,12 @@ pub(crate) enum TableName {
     Not,
 }
 
-/// The tables of references.
-#[derive(Drop)]
-pub(crate) struct Tables {
-    basic: ReferenceTable,
-    not: ReferenceTable,
-}
-
-impl Tables {
-    pub(crate) fn new(alloc: Global) -> Result<Tables, TableError> {
-        Ok(Tables {
-            basic: ReferenceTable::basic(alloc)?,
-            not: table_with_not(alloc)?,
-        })
-    }
-
-    pub(crate) fn named(&self, name: TableName) -> &ReferenceTable {
-        match name {
-            TableName::Basic => &self.basic,
-            TableName::Not => &self.not,
+impl TableName {
+    /// A table of that name.
+    pub(crate) fn table(self, alloc: Global) -> Result<ReferenceTable, TableError> {
+        match self {
+            TableName::Basic => Ok(ReferenceTable::basic(alloc)?),
+            TableName::Not => table_with_not(alloc),
         }
     }
 }

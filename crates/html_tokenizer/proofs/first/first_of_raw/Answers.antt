@@ -11,5 +11,8 @@ pub returns-then-may_end_escape : goal.returns-then-may_end_escape
 returns-then-may_end_escape c = (refl, dash_first c.args.kind c.args.c (sym c.may_end_escape.ensures ∙ c.if-may_end_escape.true))
 
 pub returns : goal.returns
-returns c = (c.shown.ensures.scalar, λ table foreign mode rest m. raw_first_in table foreign c.args.kind mode c.args.c c.shown.result rest c.shown.ensures.value (ne_eqb c.args.c 60 c.if-c-eq60.false)
-    (sym c.may_be_reference.ensures ∙ c.if-may_be_reference.false) (sym c.may_end_escape.ensures ∙ c.if-may_end_escape.false) m)
+returns c = (
+  c.shown.ensures.scalar,
+  λ table foreign mode rest m. raw_first_in table foreign c.args.kind mode c.args.c c.shown.result rest c.shown.ensures.value (ne_eqb c.args.c 60 c.if-c-eq60.false)
+      (sym c.may_be_reference.ensures ∙ c.if-may_be_reference.false) (sym c.may_end_escape.ensures ∙ c.if-may_end_escape.false) m,
+)

@@ -46,7 +46,7 @@ returns-in-Text-clause-reads g c =
     let a = subst (λ x. SectionAdvances r.mode held c.args.c x now.place (chars (string_bytes now.held))) c.in-Text.is (c.in_ok-take_in_section.ensures r.mode) in
     let s = g.S.TokenSink.step s0 (characters (chars (string_bytes r.run))) in
     on_ok_four c.read_section_text.result c.read_section_text.ensures.told c.read_section_text.ensures.mode c.read_section_text.ensures.place c.read_section_text.ensures.held (λ t m p h table rest final l.
-        section_more table g.S.TokenSink.step g.S.TokenSink.reply g.S.TokenSink.foreign r.mode r.pending.place after.pending.place held (chars (string_bytes after.pending.held)) [] c.args.c rest (map ordinary_item (held ++ c.args.c ∷ []))
-        s (g.S.TokenSink.step (g.S.TokenSink.state c.read_section_text.new.sink) (characters (chars (string_bytes after.run)))) final c.requires.place p h (a.1.1 rest)
-        (t ∙ ap (λ x. fold g.S.TokenSink.step s (map ordinary_item (x ++ c.args.c ∷ []))) a.1.0)
-        (subst (λ x. Leaves table g.S.TokenSink.step g.S.TokenSink.reply g.S.TokenSink.foreign x after.pending.place (chars (string_bytes after.pending.held) ++ rest) (g.S.TokenSink.step (g.S.TokenSink.state c.read_section_text.new.sink) (characters (chars (string_bytes after.run)))) final) m l))
+    section_more table g.S.TokenSink.step g.S.TokenSink.reply g.S.TokenSink.foreign r.mode r.pending.place after.pending.place held (chars (string_bytes after.pending.held)) [] c.args.c rest (map ordinary_item (held ++ c.args.c ∷ []))
+    s (g.S.TokenSink.step (g.S.TokenSink.state c.read_section_text.new.sink) (characters (chars (string_bytes after.run)))) final c.requires.place p h (a.1.1 rest)
+    (t ∙ ap (λ x. fold g.S.TokenSink.step s (map ordinary_item (x ++ c.args.c ∷ []))) a.1.0)
+    (subst (λ x. Leaves table g.S.TokenSink.step g.S.TokenSink.reply g.S.TokenSink.foreign x after.pending.place (chars (string_bytes after.pending.held) ++ rest) (g.S.TokenSink.step (g.S.TokenSink.state c.read_section_text.new.sink) (characters (chars (string_bytes after.run)))) final) m l))

@@ -18,7 +18,7 @@ returns-in-Nothing-clause-reads g c = λ follow rest final over l.
     let m = c.tell_run.new.self.mode in
     let s = g.S.TokenSink.step (g.S.TokenSink.state c.args.sink.now) (characters (chars (string_bytes r.run))) in
     let e = found_from c.args.table.now c.adjusted_current_node_present_but_not_in_html_namespace-foreign.result (g.S.TokenSink.foreign s) r.mode m c.args.place (chars c.as_str.result.now) (chars (string_bytes c.args.held)) (lexeme_of m c.in_ok-lexeme_from.field-0) nothing
-        (c.adjusted_current_node_present_but_not_in_html_namespace-foreign.ensures ∙ ap g.S.TokenSink.foreign c.in_ok-tell_run.ensures.told) c.tell_run.ensures.mode (ap chars c.as_str.ensures.value) c.in_ok-lexeme_from.ensures.value (ap (lexeme_of m) c.in-Nothing.is) in
+    (c.adjusted_current_node_present_but_not_in_html_namespace-foreign.ensures ∙ ap g.S.TokenSink.foreign c.in_ok-tell_run.ensures.told) c.tell_run.ensures.mode (ap chars c.as_str.ensures.value) c.in_ok-lexeme_from.ensures.value (ap (lexeme_of m) c.in-Nothing.is) in
     absurd (never_nothing c.args.table.now g.S.TokenSink.step g.S.TokenSink.reply g.S.TokenSink.foreign r.mode c.args.place (chars (string_bytes c.args.held)) follow (g.S.TokenSink.foreign s) over e)
 
 pub returns-in-Told-clause-reads : goal.returns-in-Told-clause-reads
@@ -31,7 +31,7 @@ returns-in-Told-clause-reads g c = λ follow rest final over l.
     let behind : Mode = record m { text = c.in-Told.text } in
     let left = chars c.in-Told.left.now in
     let e = found_from c.args.table.now c.adjusted_current_node_present_but_not_in_html_namespace-foreign.result (g.S.TokenSink.foreign s) r.mode m c.args.place (chars c.as_str.result.now) (chars (string_bytes c.args.held)) (lexeme_of m c.in_ok-lexeme_from.field-0) (told items behind left)
-        (c.adjusted_current_node_present_but_not_in_html_namespace-foreign.ensures ∙ ap g.S.TokenSink.foreign c.in_ok-tell_run.ensures.told) c.tell_run.ensures.mode (ap chars c.as_str.ensures.value) c.in_ok-lexeme_from.ensures.value (ap (lexeme_of m) c.in-Told.is) in
+    (c.adjusted_current_node_present_but_not_in_html_namespace-foreign.ensures ∙ ap g.S.TokenSink.foreign c.in_ok-tell_run.ensures.told) c.tell_run.ensures.mode (ap chars c.as_str.ensures.value) c.in_ok-lexeme_from.ensures.value (ap (lexeme_of m) c.in-Told.is) in
     let at = ap (λ (p : Pending). p.place) c.tell_run.ensures.pending ∙ c.requires.place in
     told_over c.args.table.now g.S.TokenSink.step g.S.TokenSink.reply g.S.TokenSink.foreign r.mode behind c.args.place now.pending.place (chars (string_bytes c.args.held)) (chars (string_bytes now.pending.held)) follow rest left (chars (string_bytes c.push_str.new.self)) items s (g.S.TokenSink.state c.tell_tokens.new.sink) final
     g.met.S.TokenSink.lawful.joins g.met.S.TokenSink.lawful.skips over e (c.in_ok-tell_tokens-in-Told.ensures.told ∙ ap (λ x. fold g.S.TokenSink.step x items) c.in_ok-tell_run.ensures.told) at (held_none now.pending at)
@@ -45,14 +45,14 @@ returns-clause-reads g c =
     let s = g.S.TokenSink.step (g.S.TokenSink.state c.args.sink.now) (characters (chars (string_bytes r.run))) in
     let left = chars c.in-Tagged.field-1.now in
     let e = found_from c.args.table.now c.adjusted_current_node_present_but_not_in_html_namespace-foreign.result (g.S.TokenSink.foreign s) r.mode m c.args.place (chars c.as_str.result.now) (chars (string_bytes c.args.held)) (lexeme_of m c.in_ok-lexeme_from.field-0) (tagged c.in-Tagged.tag left)
-        (c.adjusted_current_node_present_but_not_in_html_namespace-foreign.ensures ∙ ap g.S.TokenSink.foreign c.in_ok-tell_run.ensures.told) c.tell_run.ensures.mode (ap chars c.as_str.ensures.value) c.in_ok-lexeme_from.ensures.value (ap (lexeme_of m) c.in-Tagged.is) in
+    (c.adjusted_current_node_present_but_not_in_html_namespace-foreign.ensures ∙ ap g.S.TokenSink.foreign c.in_ok-tell_run.ensures.told) c.tell_run.ensures.mode (ap chars c.as_str.ensures.value) c.in_ok-lexeme_from.ensures.value (ap (lexeme_of m) c.in-Tagged.is) in
     let after = c.tell_tag.new.self in
     let kept = c.tell_tag.ensures.pending ∙ c.tell_run.ensures.pending in
     let at = ap (λ (p : Pending). p.place) kept ∙ c.requires.place in
     let tag_is = c.in-Tagged.tag in
     let told_is = c.in_ok-tell_run.ensures.told in
     on_ok_two c.tell_tag.result c.tell_tag.ensures.told c.tell_tag.ensures.mode (λ t b follow rest final over l.
-        tagged_over c.args.table.now g.S.TokenSink.step g.S.TokenSink.reply g.S.TokenSink.foreign r.mode after.mode c.args.place after.pending.place (chars (string_bytes c.args.held)) (chars (string_bytes after.pending.held)) follow rest left (chars (string_bytes after.run)) tag_is s (g.S.TokenSink.state c.tell_tag.new.sink) final
-        g.met.S.TokenSink.lawful.skips over e (t ∙ ap (λ x. g.S.TokenSink.step x (tag tag_is)) told_is)
-        (b ∙ (ap (λ x. mode_behind x tag_is (g.S.TokenSink.reply (g.S.TokenSink.state c.tell_run.new.sink) (tag tag_is))) c.tell_run.ensures.mode ∙ ap (λ x. mode_behind r.mode tag_is (g.S.TokenSink.reply x (tag tag_is))) told_is))
-        at (held_none after.pending at) (ap (λ x. chars (string_bytes x)) c.tell_tag.ensures.run ∙ (ap chars c.in_ok-tell_run.ensures.run ∙ chars-nil)) l)
+    tagged_over c.args.table.now g.S.TokenSink.step g.S.TokenSink.reply g.S.TokenSink.foreign r.mode after.mode c.args.place after.pending.place (chars (string_bytes c.args.held)) (chars (string_bytes after.pending.held)) follow rest left (chars (string_bytes after.run)) tag_is s (g.S.TokenSink.state c.tell_tag.new.sink) final
+    g.met.S.TokenSink.lawful.skips over e (t ∙ ap (λ x. g.S.TokenSink.step x (tag tag_is)) told_is)
+    (b ∙ (ap (λ x. mode_behind x tag_is (g.S.TokenSink.reply (g.S.TokenSink.state c.tell_run.new.sink) (tag tag_is))) c.tell_run.ensures.mode ∙ ap (λ x. mode_behind r.mode tag_is (g.S.TokenSink.reply x (tag tag_is))) told_is))
+    at (held_none after.pending at) (ap (λ x. chars (string_bytes x)) c.tell_tag.ensures.run ∙ (ap chars c.in_ok-tell_run.ensures.run ∙ chars-nil)) l)

@@ -1,6 +1,5 @@
 //! Pages from outside, and what is told of them (WHATWG HTML, 13.2.5).
-use crate::test_sink::{Collected, Switching};
-use crate::{TokenizerOpts, read_plainly};
+use html_grammar::TokenizerOpts;
 use html_lexemes::states::{RawKind, State};
 use html_lexemes::{LocalName, ReferenceTable};
 use std::alloc::Global;
@@ -8,16 +7,18 @@ use std::test::Fail;
 
 /// How a row's text is read.
 #[derive(Clone, Copy)]
-struct Start {
+pub(crate) struct Start {
     state: State,
     last: Option<&'static str>,
-    foreign: bool,
-    /// The table of `not` and `notin;`, and else the basic one.
+    /// Whether the adjusted current node is foreign.
+    pub(crate) foreign: bool,
+    // the table of `not` and `notin;`, and else the basic one
     has_not: bool,
     discard_bom: bool,
 }
 
-const HTML: Start = Start {
+/// Ordinary text, of which nothing is dropped.
+pub(crate) const HTML: Start = Start {
     state: State::Data,
     last: None,
     foreign: false,
@@ -41,7 +42,8 @@ const NAMES: Start = Start {
     discard_bom: false,
 };
 
-const WITHOUT_MARK: Start = Start {
+/// Ordinary text without its first U+FEFF.
+pub(crate) const WITHOUT_MARK: Start = Start {
     state: State::Data,
     last: None,
     foreign: false,
@@ -89,7 +91,8 @@ const SCRIPT: Start = Start {
     discard_bom: false,
 };
 
-static ROWS: [(Start, &str, &str); 103] = [
+/// A text, how it is read, and the log of a `Collected` behind it.
+pub(crate) static ROWS: [(Start, &str, &str); 104] = [
     // tags, comments, sections and references together
     (
         HTML,
@@ -473,60 +476,31 @@ static ROWS: [(Start, &str, &str); 103] = [
     ),
     (WITHOUT_MARK, "\u{feff}\u{feff}a", "text\t\\u{FEFF}a"),
     (HTML, "\u{feff}a", "text\t\\u{FEFF}a"),
+    (WITHOUT_MARK, "a\u{feff}", "text\ta\\u{FEFF}"),
+    (WITHOUT_MARK, "\u{feff}", ""),
 ];
 
-fn table_of(alloc: Global, has_not: bool) -> Result<ReferenceTable, Fail> {
-    if has_not {
-        let names = [("not", "\u{ac}"), ("notin;", "\u{2209}")];
-        return Ok(ReferenceTable::new(alloc, &names)?);
+impl Start {
+    /// The references that a text is read with.
+    pub(crate) fn table(&self, alloc: Global) -> Result<ReferenceTable, Fail> {
+        if self.has_not {
+            let names = [("not", "\u{ac}"), ("notin;", "\u{2209}")];
+            return Ok(ReferenceTable::new(alloc, &names)?);
+        }
+        Ok(ReferenceTable::basic(alloc)?)
     }
-    Ok(ReferenceTable::basic(alloc)?)
-}
 
-fn opts_of(alloc: Global, start: Start) -> Result<TokenizerOpts, Fail> {
-    let last_start_tag_name = match start.last {
-        Some(name) => Some(LocalName::from_str(alloc, name)?),
-        None => None,
-    };
-    Ok(TokenizerOpts {
-        exact_errors: false,
-        discard_bom: start.discard_bom,
-        initial_state: Some(start.state),
-        last_start_tag_name,
-    })
-}
-
-#[test]
-fn rows_are_read(rt: HostRuntime) -> Result<(), Fail> {
-    let alloc = rt.alloc();
-    for (start, text, expected) in &ROWS {
-        let mut sink = Collected::new(alloc, start.foreign);
-        let table = table_of(alloc, start.has_not)?;
-        read_plainly(alloc, &mut sink, opts_of(alloc, *start)?, &table, text)?;
-        assert_eq!(rt; sink.log.as_str(), *expected, "at {text}");
+    /// What a reader is told of it.
+    pub(crate) fn options(&self, alloc: Global) -> Result<TokenizerOpts, Fail> {
+        let last_start_tag_name = match self.last {
+            Some(name) => Some(LocalName::from_str(alloc, name)?),
+            None => None,
+        };
+        Ok(TokenizerOpts {
+            exact_errors: false,
+            discard_bom: self.discard_bom,
+            initial_state: Some(self.state),
+            last_start_tag_name,
+        })
     }
-    Ok(())
-}
-
-#[test]
-fn a_sink_chooses_the_kind_of_text(rt: HostRuntime) -> Result<(), Fail> {
-    let alloc = rt.alloc();
-    let mut sink = Switching::new(alloc)?;
-    let table = ReferenceTable::basic(alloc)?;
-    let page = "<p><title a>&lt;<b></p></title><script><!--&lt;<p></title></SCRIPT>\
-        &lt;<plaintext></plaintext>&lt;<p>";
-    let expected = "start\tp\t-\t-\n\
-        start\ttitle\t-\t-\n\
-        attribute\ta\t\n\
-        text\t<<b></p>\n\
-        end\ttitle\t-\t-\n\
-        start\tscript\t-\t-\n\
-        text\t<!--&lt;<p></title>\n\
-        end\tscript\t-\t-\n\
-        text\t<\n\
-        start\tplaintext\t-\t-\n\
-        text\t</plaintext>&lt;<p>";
-    read_plainly(alloc, &mut sink, opts_of(alloc, HTML)?, &table, page)?;
-    assert_eq!(rt; sink.told.log.as_str(), expected);
-    Ok(())
 }

@@ -1,9 +1,9 @@
 //! Sinks for tests.
-ghost use Rattle.std.specs.Prelude.{◌≡◌, Bool, false, refl};
+ghost use Rattle.std.specs.Prelude.{◌≡◌, Bool, IfOk, false, refl};
 ghost use Rattle.html_lexemes.specs.declared.token.TokenSinkResult.TheVariants.{Continue};
-ghost use Rattle.html_grammar.specs.TestReply.{Names, asked, asked_by, asked-answers};
+ghost use Rattle.token_rows.specs.TestReply.{Names, asked, asked_by, asked-answers};
 
-use crate::TokenSink;
+use html_grammar::TokenSink;
 use html_lexemes::states::RawKind;
 use html_lexemes::{Doctype, LocalName, ParseFault, Tag, TagKind, Text, Token, TokenSinkResult};
 use std::alloc::{AllocError, Global};
@@ -11,9 +11,9 @@ use std::alloc::{AllocError, Global};
 /// Writes what it is told into a log, a token a line and each attribute on a line of its own, with tabs
 /// between the fields. Neighbouring texts are one line; errors and the end are left out.
 #[derive(Drop)]
-pub struct Collected {
+pub(crate) struct Collected {
     /// The lines, joined.
-    pub log: String,
+    pub(crate) log: String,
     foreign: bool,
     // the last line is a text, which the next text goes on
     is_in_text: bool,
@@ -21,7 +21,7 @@ pub struct Collected {
 
 impl Collected {
     /// An empty log.
-    pub fn new(alloc: Global, foreign: bool) -> Collected {
+    pub(crate) fn new(alloc: Global, foreign: bool) -> Collected {
         Collected {
             log: String::new(alloc),
             foreign,
@@ -65,31 +65,40 @@ impl TokenSink for Collected {
     }
 }
 
-/// Writes a log, and has the text behind the start tags of three names read as text of a kind.
+/// The handle of each script element.
+pub(crate) const SCRIPT_HANDLE: u32 = 7;
+
+/// Writes a log; has the text behind the start tags of three names read as text of a kind; and asks for a pause at the end tag
+/// of a script element, and at a tag that names an encoding.
 #[derive(Drop)]
-pub struct Switching {
+pub(crate) struct Switching {
     /// What was told.
-    pub told: Collected,
+    pub(crate) told: Collected,
     rcdata: LocalName,
     script: LocalName,
     plaintext: LocalName,
+    meta: LocalName,
+    encoding: Text,
 }
 
 impl Switching {
-    /// An empty log, and the names `title`, `script` and `plaintext`.
-    pub fn new(alloc: Global) -> Result<Switching, AllocError> {
+    /// An empty log, the names `title`, `script`, `plaintext` and `meta`, and an encoding.
+    pub(crate) fn new(alloc: Global, encoding: &str) -> Result<Switching, AllocError> {
         Ok(Switching {
             told: Collected::new(alloc, false),
             rcdata: LocalName::from_str(alloc, "title")?,
             script: LocalName::from_str(alloc, "script")?,
             plaintext: LocalName::from_str(alloc, "plaintext")?,
+            meta: LocalName::from_str(alloc, "meta")?,
+            encoding: Text::from_str(alloc, encoding)?,
         })
     }
 
-    fn asked_by(&self, tag: &Tag) -> TokenSinkResult<u32>
-        ensures { result ≡ asked_by (record { rcdata = self.now.rcdata; script = self.now.script; plaintext = self.now.plaintext }) tag.now.kind tag.now.name }
+    fn asked_by(&self, tag: &Tag) -> Result<TokenSinkResult<u32>, AllocError>
+        ensures { IfOk result (λ answer. answer ≡ asked_by (record { rcdata = self.now.rcdata; script = self.now.script; plaintext = self.now.plaintext; meta = self.now.meta; encoding = self.now.encoding }) tag.now.kind tag.now.name) }
     {
-        match tag.kind {
+        Ok(match tag.kind {
+            TagKind::EndTag if tag.name == self.script => TokenSinkResult::Script(SCRIPT_HANDLE),
             TagKind::EndTag => TokenSinkResult::Continue,
             TagKind::StartTag if tag.name == self.rcdata => {
                 TokenSinkResult::RawData(RawKind::Rcdata)
@@ -98,8 +107,11 @@ impl Switching {
                 TokenSinkResult::RawData(RawKind::ScriptData)
             }
             TagKind::StartTag if tag.name == self.plaintext => TokenSinkResult::Plaintext,
+            TagKind::StartTag if tag.name == self.meta => {
+                TokenSinkResult::EncodingIndicator(self.encoding.try_clone()?)
+            }
             TagKind::StartTag => TokenSinkResult::Continue,
-        }
+        })
     }
 }
 
@@ -108,7 +120,7 @@ impl TokenSink for Switching {
 
     ghost Abstract = { Names };
 
-    ghost state = { λ s. record { rcdata = s.rcdata; script = s.script; plaintext = s.plaintext } };
+    ghost state = { λ s. record { rcdata = s.rcdata; script = s.script; plaintext = s.plaintext; meta = s.meta; encoding = s.encoding } };
 
     ghost step = { λ s _. s };
 
@@ -126,7 +138,7 @@ impl TokenSink for Switching {
         line: u64,
     ) -> Result<TokenSinkResult<u32>, ParseFault> {
         let answer = match &token {
-            Token::TagToken(tag) => self.asked_by(tag),
+            Token::TagToken(tag) => self.asked_by(tag)?,
             _ => TokenSinkResult::Continue,
         };
         self.told.process_token(token, line)?;
@@ -135,6 +147,62 @@ impl TokenSink for Switching {
 
     fn end(&mut self) -> Result<(), ParseFault> {
         self.told.end()
+    }
+
+    fn adjusted_current_node_present_but_not_in_html_namespace(&self) -> bool {
+        false
+    }
+}
+
+/// Takes a number of tokens, and refuses the next. It keeps the line of the last tag.
+#[derive(Drop)]
+pub(crate) struct Counting {
+    /// The line of the last tag, and 0 before the first.
+    pub(crate) tag_line: u64,
+    left: u64,
+}
+
+impl Counting {
+    /// Takes so many tokens.
+    pub(crate) fn new(left: u64) -> Counting {
+        Counting { tag_line: 0, left }
+    }
+}
+
+impl TokenSink for Counting {
+    type Handle = u32;
+
+    ghost Abstract = { Unit {0} };
+
+    ghost state = { λ _. tt };
+
+    ghost step = { λ s _. s };
+
+    ghost reply = { λ _ _. Continue };
+
+    ghost foreign = { λ _. false };
+
+    ghost ready = { λ _. Unit {0} };
+
+    ghost lawful = { record { joins = λ _ _ _. refl; skips = λ _. refl; answers = λ _ _ _. refl; keeps = λ _ _ r. r; forgets = λ _ _ _. refl } };
+
+    fn process_token(
+        &mut self,
+        token: Token,
+        line: u64,
+    ) -> Result<TokenSinkResult<u32>, ParseFault> {
+        let Some(left) = self.left.checked_sub(1) else {
+            return Err(ParseFault::Memory);
+        };
+        self.left = left;
+        if let Token::TagToken(_) = token {
+            self.tag_line = line;
+        }
+        Ok(TokenSinkResult::Continue)
+    }
+
+    fn end(&mut self) -> Result<(), ParseFault> {
+        Ok(())
     }
 
     fn adjusted_current_node_present_but_not_in_html_namespace(&self) -> bool {

@@ -1,11 +1,11 @@
--- What a sink of tests asks for: text of a kind behind the start tags of three names.
+-- What a sink of tests asks for: text of a kind behind the start tags of three names, and a pause at two tags.
 use Rattle.std.specs.Prelude.{◌≡◌, ℕ, List, if◌then◌else◌, refl}
 use Rattle.std.specs.Str.{bytes_eq}
 use Rattle.html_lexemes.specs.declared.states.RawKind.TheVariants.{Rcdata, ScriptData}
 use Rattle.html_lexemes.specs.declared.token.TagKind.{TagKind}
 use Rattle.html_lexemes.specs.declared.token.TagKind.TheVariants.{StartTag, EndTag}
 use Rattle.html_lexemes.specs.declared.token.TokenSinkResult.{TokenSinkResult}
-use Rattle.html_lexemes.specs.declared.token.TokenSinkResult.TheVariants.{Continue, Plaintext, RawData}
+use Rattle.html_lexemes.specs.declared.token.TokenSinkResult.TheVariants.{Continue, EncodingIndicator, Plaintext, RawData, Script}
 use Rattle.html_grammar.specs.Items.{Item, characters, null_character, tag, comment, doctype, error, end_of_file}
 use Rattle.html_grammar.specs.Reading.{IsAnswered}
 
@@ -13,15 +13,18 @@ pub record Names : Type 0 where
   pub rcdata : List ℕ
   pub script : List ℕ
   pub plaintext : List ℕ
+  pub meta : List ℕ
+  pub encoding : List ℕ
 
-abbrev pub asked_by : {H : Type 0} → Names → TagKind → List ℕ → TokenSinkResult H
-asked_by names EndTag name = Continue
+abbrev pub asked_by : Names → TagKind → List ℕ → TokenSinkResult ℕ
+asked_by names EndTag name = if bytes_eq name names.script then Script 7 else Continue
 asked_by names StartTag name =
     if bytes_eq name names.rcdata then RawData Rcdata
     else (if bytes_eq name names.script then RawData ScriptData
-    else (if bytes_eq name names.plaintext then Plaintext else Continue))
+    else (if bytes_eq name names.plaintext then Plaintext
+    else (if bytes_eq name names.meta then EncodingIndicator names.encoding else Continue)))
 
-abbrev pub asked : {H : Type 0} → Names → Item → TokenSinkResult H
+abbrev pub asked : Names → Item → TokenSinkResult ℕ
 asked names (tag t) = asked_by names t.kind t.name
 asked names (characters cs) = Continue
 asked names null_character = Continue
@@ -31,7 +34,7 @@ asked names error = Continue
 asked names end_of_file = Continue
 
 -- Only a tag is answered.
-pub asked-answers : {H : Type 0} (names : Names) (item : Item) → ¬ (IsAnswered item) → asked {H = H} names item ≡ Continue
+pub asked-answers : (names : Names) (item : Item) → ¬ (IsAnswered item) → asked names item ≡ Continue
 asked-answers names (tag t) not_answered = absurd (not_answered tt)
 asked-answers names (characters cs) not_answered = refl
 asked-answers names null_character not_answered = refl

@@ -1,0 +1,74 @@
+//! Pages fed to a tokenizer, in pieces.
+ghost use Rattle.std.specs.Prelude.{OnOk};
+
+use html_grammar::{TokenSink, TokenizerOpts};
+use html_lexemes::{BufferQueue, ParseFault, ReferenceTable};
+use html_tokenizer::{Tokenizer, TokenizerResult};
+use std::alloc::{AllocError, Global};
+
+/// The sink behind the end of a page that was fed in pieces. Pauses that it asks for are passed over.
+pub(crate) fn fed<S: TokenSink + Drop>(
+    alloc: Global,
+    sink: S,
+    options: TokenizerOpts,
+    table: ReferenceTable,
+    pieces: Vec<String>,
+) -> Result<S, ParseFault>
+    requires { S.ready (S.state sink) }
+{
+    let mut tokenizer = Tokenizer::new(alloc, sink, options, table);
+    let mut queue = BufferQueue::new(alloc);
+    'pieces: for piece in pieces {
+        queue.push_back(piece)?;
+        feed_on(&mut tokenizer, &mut queue)?;
+    }
+    tokenizer.end()?;
+    Ok(tokenizer.sink)
+}
+
+// feeds what is in a queue, over each pause
+fn feed_on<S: TokenSink>(
+    tokenizer: &mut Tokenizer<S>,
+    queue: &mut BufferQueue,
+) -> Result<(), ParseFault>
+    requires { S.ready (S.state tokenizer.old.sink) }
+    ensures { OnOk result (S.ready (S.state tokenizer.new.sink)) }
+{
+    'pauses: for _ in 0..u64::MAX {
+        if let TokenizerResult::Done = tokenizer.feed(queue)? {
+            return Ok(());
+        }
+    }
+    Ok(())
+}
+
+/// A text as one piece.
+pub(crate) fn whole(alloc: Global, text: &str) -> Result<Vec<String>, AllocError> {
+    let text = String::from_str(alloc, text)?;
+    Ok(vec![in alloc; text]?)
+}
+
+/// A piece for each character of a text.
+pub(crate) fn characters(alloc: Global, text: &str) -> Result<Vec<String>, AllocError> {
+    let mut pieces = Vec::new(alloc);
+    for c in text.chars() {
+        let mut piece = String::new(alloc);
+        piece.push(c)?;
+        pieces.push(piece)?;
+    }
+    Ok(pieces)
+}
+
+/// Two pieces of a text: the first characters, so many, and the others.
+pub(crate) fn halves(alloc: Global, text: &str, count: usize) -> Result<Vec<String>, AllocError> {
+    let mut front = String::new(alloc);
+    let mut back = String::new(alloc);
+    for (index, c) in text.chars().enumerate() {
+        if index < count {
+            front.push(c)?;
+        } else {
+            back.push(c)?;
+        }
+    }
+    Ok(vec![in alloc; front, back]?)
+}
