@@ -92,7 +92,7 @@ const SCRIPT: Start = Start {
 };
 
 /// A text, how it is read, and the log of a `Collected` behind it.
-pub(crate) static ROWS: [(Start, &str, &str); 104] = [
+pub(crate) static ROWS: [(Start, &str, &str); 105] = [
     // tags, comments, sections and references together
     (
         HTML,
