@@ -26,6 +26,24 @@ pub(crate) fn fed<S: TokenSink + Drop>(
     Ok(tokenizer.sink)
 }
 
+/// What the first feed of a page answers, and what it leaves in the queue.
+pub(crate) fn first_answer<S: TokenSink + Drop>(
+    alloc: Global,
+    sink: S,
+    options: TokenizerOpts,
+    table: ReferenceTable,
+    page: &str,
+) -> Result<(TokenizerResult<S::Handle>, String), ParseFault>
+    requires { S.ready (S.state sink) }
+{
+    let mut tokenizer = Tokenizer::new(alloc, sink, options, table);
+    let mut queue = BufferQueue::new(alloc);
+    queue.push_back(String::from_str(alloc, page)?)?;
+    let result = tokenizer.feed(&mut queue)?;
+    let rest = queue.pop_front().unwrap_or(String::new(alloc));
+    Ok((result, rest))
+}
+
 // feeds what is in a queue, over each pause
 fn feed_on<S: TokenSink>(
     tokenizer: &mut Tokenizer<S>,
