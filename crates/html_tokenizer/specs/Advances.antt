@@ -44,15 +44,15 @@ IsWithinMarkup Doctype = Unit {0}
 
 -- a lexeme that is over is no longer pending
 abbrev pub IsLeft : Advance → Place → Type 0
-IsLeft Goes next = Unit {0}
-IsLeft (Ends last text) next = next ≡ Text
-IsLeft (EndsBefore last text) next = next ≡ Text
+IsLeft Goes at = Unit {0}
+IsLeft (Ends last text) at = at ≡ Text
+IsLeft (EndsBefore last text) at = at ≡ Text
 
 abbrev pub Advances : References → Bool → Mode → Place → List ℕ → ℕ → Advance → Place → List ℕ → Type 0
-Advances table foreign mode place held c Goes next now = IsTaken table foreign mode place held c next now
-Advances table foreign mode place held c (Ends last text) next now =
+Advances table foreign mode place held c Goes at now = IsTaken table foreign mode place held c at now
+Advances table foreign mode place held c (Ends last text) at now =
     IsTaken table foreign mode place held c last (chars (string_bytes text)) × IsOver table foreign mode last (chars (string_bytes text)) []
-Advances table foreign mode place held c (EndsBefore last text) next now =
+Advances table foreign mode place held c (EndsBefore last text) at now =
     (last ≡ place) × ((chars (string_bytes text) ≡ held) × IsOver table foreign mode place held (c ∷ []))
 
 -- a place in an element's text of a kind
@@ -62,9 +62,9 @@ IsRawPlace kind _ = ⊥
 
 -- the same in the text of an element, where the last start tag is that of the mode
 abbrev pub RawAdvances : References → Bool → Mode → RawKind → List ℕ → ℕ → RawAdvance → Place → List ℕ → Type 0
-RawAdvances table foreign mode kind held c RawGoes next now = (now ≡ held ++ c ∷ []) × IsRawPlace kind next
-RawAdvances table foreign mode kind held c (Before text behind) next now =
-    (next ≡ Text) × ((now ≡ []) × ((chars (string_bytes text) ≡ held) × IsTextBefore table mode kind held behind c))
-RawAdvances table foreign mode kind held c (Shifts text behind) next now =
-    IsShifted table mode kind (held ++ c ∷ []) (chars text.now) behind now × IsRawPlace behind next
-RawAdvances table foreign mode kind held c EndTag next now = IsEndTag table foreign mode kind held c now × (next ≡ Tag EndTagKind TagName)
+RawAdvances table foreign mode kind held c RawGoes at now = (now ≡ held ++ c ∷ []) × IsRawPlace kind at
+RawAdvances table foreign mode kind held c (Before text behind) at now =
+    (at ≡ Text) × ((now ≡ []) × ((chars (string_bytes text) ≡ held) × IsTextBefore table mode kind held behind c))
+RawAdvances table foreign mode kind held c (Shifts text behind) at now =
+    IsShifted table mode kind (held ++ c ∷ []) (chars text.now) behind now × IsRawPlace behind at
+RawAdvances table foreign mode kind held c EndTag at now = IsEndTag table foreign mode kind held c now × (at ≡ Tag EndTagKind TagName)
