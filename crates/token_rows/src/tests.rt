@@ -57,24 +57,21 @@ static SWITCHED_LOG: &str = "start\tp\t-\t-\n\
     start\tplaintext\t-\t-\n\
     text\t</plaintext>&lt;<p>";
 
+// the log of a sink that chooses kinds of text, fed with a page that is cut behind so many characters
+fn log_switched(alloc: Global, count: usize) -> Result<String, Fail> {
+    let sink = Switching::new(alloc, "x")?;
+    let pieces = halves(alloc, SWITCHED, count)?;
+    let options = HTML.options(alloc)?;
+    let sink = fed(alloc, sink, options, HTML.table(alloc)?, pieces)?;
+    Ok(sink.told.log)
+}
+
 #[test]
 fn a_sink_chooses_the_kind_of_text(rt: HostRuntime) -> Result<(), Fail> {
     let alloc = rt.alloc();
-    let mut sink = Switching::new(alloc, "x")?;
-    let table = HTML.table(alloc)?;
-    read_plainly(alloc, &mut sink, HTML.options(alloc)?, &table, SWITCHED)?;
-    assert_eq!(rt; sink.told.log.as_str(), SWITCHED_LOG);
     for count in 0..=SWITCHED.chars().count() {
-        let pieces = halves(alloc, SWITCHED, count)?;
-        let sink = Switching::new(alloc, "x")?;
-        let sink = fed(
-            alloc,
-            sink,
-            HTML.options(alloc)?,
-            HTML.table(alloc)?,
-            pieces,
-        )?;
-        assert_eq!(rt; sink.told.log.as_str(), SWITCHED_LOG, "cut at {count}");
+        let log = log_switched(alloc, count)?;
+        assert_eq!(rt; log.as_str(), SWITCHED_LOG, "cut at {count}");
     }
     Ok(())
 }
