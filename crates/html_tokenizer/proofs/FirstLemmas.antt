@@ -1,20 +1,17 @@
 -- The first character of raw text.
-use Rattle.std.proofs.Common.{◌≡◌, ℕ, Bool, true, false, not, ◌==◌, ◌&&◌, ◌||◌, cond, if◌then◌else◌, drop, List, [], ◌∷◌, codes, refl, sym, ap, ◌∙◌, subst, arith}
+use Rattle.std.proofs.Common.{◌≡◌, ℕ, Bool, true, false, ◌==◌, ◌&&◌, if◌then◌else◌, drop, List, [], ◌∷◌, refl, sym, ap, ◌∙◌, arith}
 use Rattle.std.specs.Char.{to_ascii_lowercase}
 use Rattle.std.proofs.lemmas.Bool.Decides.{nat_tests}
-use Rattle.std.proofs.lemmas.Grind.{common_steps}
 use Rattle.html_lexemes.specs.References.{References}
 use Rattle.html_lexemes.specs.declared.states.RawKind.{RawKind}
 use Rattle.html_lexemes.specs.declared.states.RawKind.TheVariants.{Rcdata, Rawtext, ScriptData, ScriptDataEscaped}
 use Rattle.html_lexemes.specs.declared.states.ScriptEscapeKind.TheVariants.{Escaped, DoubleEscaped}
 use Rattle.html_grammar.specs.Characters.{shown}
 use Rattle.html_grammar.specs.Items.{characters}
-use Rattle.html_grammar.specs.Lexemes.{begins_tag, ends_raw_text, has_end_tags, has_references, in_kind, kind_behind, lexeme, lexeme_in, one_character, raw_lexeme, reference_lexeme, tag_lexeme, told}
+use Rattle.html_grammar.specs.Lexemes.{ends_raw_text, has_end_tags, has_references, in_kind, kind_behind, lexeme, lexeme_in, one_character, raw_lexeme, reference_lexeme, tag_lexeme, told}
 use Rattle.html_grammar.specs.References.{reference}
-use Rattle.html_grammar.specs.Slices.{begins, begins_word}
 use Rattle.html_grammar.specs.Tags.{tag_at}
 use Rattle.html_grammar.specs.declared.modes.Mode.{Mode}
-use Rattle.html_grammar.specs.declared.modes.TextKind.{TextKind}
 use Rattle.html_grammar.specs.declared.modes.TextKind.TheVariants.{Raw}
 use Rattle.html_lexemes.specs.declared.token.TagKind.TheVariants.{EndTag}
 use Rattle.html_tokenizer.specs.RawSound.{is_escaped}

@@ -1,5 +1,5 @@
 -- Characters that were taken from a queue.
-use Rattle.std.proofs.Common.{◌≡◌, ℕ, List, [], ◌∷◌, ◌++◌, refl, sym, subst}
+use Rattle.std.proofs.Common.{ℕ, List, [], ◌∷◌, ◌++◌, refl, subst}
 use Rattle.html_lexemes.specs.Queue.{Queue, Takes}
 use Rattle.html_tokenizer.specs.Completes.{TakesEach, TakesSome}
 

@@ -6,23 +6,20 @@ use Rattle.std.proofs.lemmas.List.{map-append}
 use Rattle.std.specs.List.{fold, list_all}
 use Rattle.html_lexemes.specs.References.{References}
 use Rattle.html_lexemes.specs.declared.states.RawKind.{RawKind}
-use Rattle.html_lexemes.specs.declared.token.Tag.{Tag}
 use Rattle.html_lexemes.specs.declared.token.TagKind.TheVariants.{EndTag}
 use Rattle.html_lexemes.specs.declared.token.TokenSinkResult.{TokenSinkResult}
-use Rattle.html_grammar.specs.Items.{Item, characters, end_of_file, null_character, tag}
+use Rattle.html_grammar.specs.Items.{Item, characters, null_character}
 use Rattle.html_grammar.specs.Lexemes.{Lexeme, cdata_lexeme, in_kind, lexeme, nothing, ordinary_item, told, tagged}
-use Rattle.html_grammar.specs.Modes.{mode_behind}
 use Rattle.html_grammar.specs.Reading.{Reading, ends, goes, tags}
 use Rattle.html_grammar.specs.Slices.{Cut, after, cut, cut_or_all}
 use Rattle.html_grammar.specs.declared.modes.Mode.{Mode}
 use Rattle.html_tokenizer.specs.Advances.{IsNoMarkup, IsRawPlace, IsWithinMarkup}
 use Rattle.html_tokenizer.specs.MarkupSound.{is_begun}
-use Rattle.html_tokenizer.specs.Places.{place_lexeme}
 use Rattle.html_tokenizer.specs.RawTurns.{IsEndTag, IsShifted, IsText, IsTextBefore}
 use Rattle.html_tokenizer.specs.Reads.{Follows, Leaves}
 use Rattle.html_tokenizer.specs.SectionTurns.{SectionAdvances, section_lexeme, with_items}
 use Rattle.html_tokenizer.specs.declared.section_turn.SectionTurn.{SectionTurn}
-use Rattle.html_tokenizer.specs.declared.section_turn.SectionTurn.TheVariants.{Goes as SectionGoes, Ends as SectionEnds, Shifts as SectionShifts, Text as SectionText}
+use Rattle.html_tokenizer.specs.declared.section_turn.SectionTurn.TheVariants.{Goes as SectionGoes, Ends as SectionEnds}
 use Rattle.html_tokenizer.specs.declared.place.Place.{Place}
 use Rattle.html_tokenizer.specs.declared.place.Place.TheVariants.{Text, CharacterReference, TagOpen, EndTagOpen, Tag as TagPlace, MarkupDeclarationOpen, BogusComment, Comment, Doctype, CdataSection, RawText}
 use Rattle.html_tokenizer.specs.declared.place.RawPlace.{RawPlace}

@@ -1,7 +1,7 @@
 -- What a text that goes on does to a sink.
-use Rattle.std.proofs.Common.{◌≡◌, ℕ, zero, suc, Bool, true, false, not, ◌==◌, ◌&&◌, ◌||◌, List, [], ◌∷◌, ◌++◌, length, refl, sym, ap, ◌∙◌, subst, append_assoc, string_bytes, String, IsTrue, IsUtf8, arith, encode_utf8, if◌then◌else◌, Result, Ok, Err, OnOk}
+use Rattle.std.proofs.Common.{◌≡◌, ℕ, Bool, true, false, not, ◌==◌, ◌&&◌, ◌||◌, List, [], ◌∷◌, ◌++◌, length, refl, sym, ap, ◌∙◌, subst, string_bytes, String, IsTrue, IsUtf8, arith, encode_utf8, if◌then◌else◌, Result, Ok, Err, OnOk}
 use Rattle.std.proofs.lemmas.Bool.Decides.{nat_tests}
-use Rattle.std.proofs.lemmas.Str.{chars-nil, chars-append, IsUtf8-string_bytes}
+use Rattle.std.proofs.lemmas.Str.{chars-append}
 use Rattle.std.specs.Char.{IsScalar}
 use Rattle.std.specs.List.{fold, list_all}
 use Rattle.std.specs.Str.{chars}
@@ -12,11 +12,11 @@ use Rattle.html_lexemes.specs.declared.states.RawKind.TheVariants.{Rcdata, Rawte
 use Rattle.html_lexemes.specs.declared.token.Tag.{Tag}
 use Rattle.html_lexemes.specs.declared.token.TokenSinkResult.{TokenSinkResult}
 use Rattle.html_grammar.specs.Characters.{shown}
-use Rattle.html_grammar.specs.Items.{Item, characters, end_of_file, null_character, tag}
+use Rattle.html_grammar.specs.Items.{Item, characters, null_character, tag}
 use Rattle.html_grammar.specs.Lexemes.{Lexeme, in_kind, lexeme, lexeme_in, has_references, markup, nothing, ordinary_item, reference_lexeme, told, tagged}
 use Rattle.html_grammar.specs.Modes.{mode_behind}
 use Rattle.html_grammar.specs.References.{reference}
-use Rattle.html_grammar.specs.Reading.{Reading, ends, goes, tags, IsLawful}
+use Rattle.html_grammar.specs.Reading.{Reading, ends, goes, tags}
 use Rattle.html_grammar.specs.declared.modes.Mode.{Mode}
 use Rattle.html_grammar.specs.declared.modes.TextKind.{TextKind}
 use Rattle.html_grammar.specs.declared.modes.TextKind.TheVariants.{Ordinary, Plain, Raw}
@@ -25,7 +25,7 @@ use Rattle.html_tokenizer.specs.Places.{place_lexeme}
 use Rattle.html_tokenizer.specs.RawSound.{is_escaped}
 use Rattle.html_tokenizer.specs.Reads.{Follows, Leaves}
 use Rattle.html_tokenizer.specs.Sound.{IsSound}
-use Rattle.html_tokenizer.specs.Turns.{IsOver, IsTaken, LeavesText, is_raw_text, is_text, with_more}
+use Rattle.html_tokenizer.specs.Turns.{IsOver, LeavesText, is_raw_text, is_text, with_more}
 use Rattle.html_tokenizer.specs.declared.pending.Pending.{Pending}
 use Rattle.html_tokenizer.specs.declared.place.Place.{Place}
 use Rattle.html_tokenizer.specs.declared.place.Place.TheVariants.{Text, RawText}
@@ -209,8 +209,6 @@ module _ {A H : Type 0} (table : References) (step : A → Item → A) (reply : 
   never_nothing mode place held follow f over e = subst LeavesText e over.left
 
   -- a character was taken at another place
-  pub taken_on : (mode : Mode) (place now : Place) (held after : List ℕ) (c : ℕ) (rest : List ℕ) (s final : A) → IsTaken table (foreign s) mode place held c now after → Stays mode now (after ++ rest) s final → Stays mode place (held ++ c ∷ rest) s final
-  taken_on mode place now held after c rest s final t l = subst (λ x. Follows table step reply foreign mode x s final) (t rest) l
 
   -- the same, where parts are equal
   pub leaves_same : (mode now : Mode) (p q : Pending) (cs : List ℕ) (s t final : A) → now ≡ mode → q ≡ p → t ≡ s → Stays now q.place (chars (string_bytes q.held) ++ cs) t final → Stays mode p.place (chars (string_bytes p.held) ++ cs) s final

@@ -1,5 +1,5 @@
 -- A further character of a tag.
-use Rattle.std.proofs.Common.{◌≡◌, ◌≢◌, ℕ, Bool, true, false, ◌==◌, not, List, [], ◌∷◌, ◌++◌, Option, Some, None, option_map, IsUtf8, refl, sym, ap, subst, ◌∙◌, append_assoc}
+use Rattle.std.proofs.Common.{◌≡◌, ◌≢◌, ℕ, Bool, true, false, ◌==◌, not, List, [], ◌∷◌, ◌++◌, Option, Some, None, option_map, IsUtf8, refl, sym, ap, ◌∙◌, append_assoc}
 use Rattle.std.specs.Str.{chars}
 use Rattle.std.specs.Char.{IsScalar}
 use Rattle.std.proofs.lemmas.Bool.{false≢true, ne_eqb}
@@ -14,10 +14,8 @@ use Rattle.html_grammar.specs.Slices.{front_while, rest_while}
 use Rattle.html_grammar.specs.Tags.{TagEnd, ends_tag_name, tag_at, tag_end, tag_of}
 use Rattle.html_grammar.specs.declared.modes.Mode.{Mode}
 use Rattle.html_grammar.proofs.MarkLemmas.{chars-encode}
-use Rattle.html_tokenizer.specs.Places.{place_lexeme}
 use Rattle.html_tokenizer.specs.TagPlaces.{IsInTag, rest_in, tag_rest}
 use Rattle.html_tokenizer.specs.Turns.{LeavesText, Turns, with_more}
-use Rattle.html_tokenizer.specs.declared.place.Place.{Place}
 use Rattle.html_tokenizer.specs.declared.place.Place.TheVariants.{Tag}
 use Rattle.html_tokenizer.specs.declared.place.TagPlace.{TagPlace}
 use Rattle.html_tokenizer.specs.declared.place.TagPlace.TheVariants.{TagName}
@@ -83,12 +81,3 @@ pub letter-in_tag : (kind : TagKind) (c : ℕ) → is_letter c ≡ true → IsIn
 letter-in_tag kind c letter table rest =
     let p : ℕ → Bool = λ d. not (ends_tag_name d) in
     rest_of_tag kind (front_while p (c ∷ rest)) (tag_end table (rest_while p (c ∷ rest))) ∙ ap (tag_rest table) (rest_on p c rest (letter_in_name c letter))
-
-pub letter-goes : (kind : TagKind) (held now : List ℕ) (c : ℕ) → is_letter c ≡ true → held ≡ [] → now ≡ held ++ c ∷ []
-    → (table : References) (foreign : Bool) (mode : Mode) (place : Place) → ((rest : List ℕ) → place_lexeme table foreign mode place (c ∷ rest) ≡ tag_lexeme (tag_at table kind (c ∷ rest)))
-    → Turns table foreign mode place held c (Goes (Tag kind TagName)) now
-letter-goes kind held now c letter none pushed table foreign mode place opens =
-    let one : now ≡ c ∷ [] = pushed ∙ ap (λ l. l ++ c ∷ []) none in (
-      λ rest. ap (λ l. tag_lexeme (tag_at table kind (l ++ rest))) one ∙ sym (opens rest) ∙ ap (λ l. place_lexeme table foreign mode place (l ++ c ∷ rest)) (sym none),
-      subst (IsInTag kind TagName) (sym one) (letter-in_tag kind c letter),
-    )

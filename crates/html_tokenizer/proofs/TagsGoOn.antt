@@ -198,6 +198,3 @@ pub tag-grows : (table : References) (kind : TagKind) (cs more : List ℕ) → T
 tag-grows table kind cs more =
     let p : ℕ → Bool = λ c. not (ends_tag_name c) in
     whole_grows table kind (front_while p cs) (rest_while p cs) (front_while p (cs ++ more)) (rest_while p (cs ++ more)) more (front-same p cs more) (rest-grows p cs more)
-
-pub tag_goes_on : (table : References) (kind : TagKind) (cs r more : List ℕ) (t : Tag) → tag_at table kind cs ≡ Some (t, r) → tag_at table kind (cs ++ more) ≡ Some (t, r ++ more)
-tag_goes_on table kind cs r more t e = subst (λ o. TagGrows more o (tag_at table kind (cs ++ more))) e (tag-grows table kind cs more)

@@ -9,7 +9,6 @@ use Rattle.html_grammar.specs.Tags.{tag_at}
 use Rattle.html_grammar.specs.declared.modes.Mode.{Mode}
 use Rattle.html_tokenizer.specs.RawSound.{is_raw_held}
 use Rattle.html_tokenizer.specs.TagPlaces.{IsInTag}
-use Rattle.html_tokenizer.specs.declared.place.RawPlace.{RawPlace}
 use Rattle.html_tokenizer.specs.declared.place.TagPlace.TheVariants.{TagName}
 use Rattle.html_tokenizer.specs.declared.raw_turn.RawTurn.{RawTurn}
 use Rattle.html_tokenizer.specs.declared.raw_turn.RawTurn.TheVariants.{Goes, Before, Shifts, EndTag}

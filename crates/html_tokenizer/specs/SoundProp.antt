@@ -1,9 +1,7 @@
 -- What is held at a place is a fact: it holds in one way.
-use Rattle.std.specs.Prelude.{ℕ, List, Option}
+use Rattle.std.specs.Prelude.{ℕ, List}
 use Rattle.std.proofs.Props.{props}
-use Rattle.html_tokenizer.specs.MarkupSound.{IsOpenComment}
 use Rattle.html_tokenizer.specs.Sound.{IsSound}
-use Rattle.html_tokenizer.specs.TagPlaces.{IsInTag}
 use Rattle.html_tokenizer.specs.declared.place.Place.{Place}
 use Rattle.html_tokenizer.specs.declared.place.Place.TheVariants.{Text, CharacterReference, TagOpen, EndTagOpen, Tag, MarkupDeclarationOpen, BogusComment, Comment, Doctype, CdataSection, RawText}
 

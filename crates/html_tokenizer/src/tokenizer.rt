@@ -24,7 +24,7 @@ pub enum TokenizerResult<H> {
 }
 
 /// Reads the text of a page, in any pieces, and tells its tokens to a sink (WHATWG HTML, 13.2.5). What it tells is what
-/// the reading of the whole text by the grammar tells, however the text is cut; only a lexeme that is not over is held back.
+/// the reading of the whole text by the grammar tells, however the text is cut. Of errors it tells those that the grammar has.
 #[derive(Drop)]
 pub struct Tokenizer<Sink> {
     /// What the tokens are told to. Nobody else is to change its state before the end.
@@ -71,7 +71,7 @@ impl<Sink: TokenSink> Tokenizer<Sink> {
     }
 
     /// Reads what is in the queue, up to its end or to a pause that the sink asks for, after which the same queue is fed on.
-    /// At `Done` all is told but a lexeme that is not over. The error is want of memory, or what the sink refused with; after
+    /// At `Done` all text that was read is told; what is held back is characters of one lexeme, or of what may become one. The error is want of memory, or what the sink refused with; after
     /// it, and after the end, every call is refused as `Failed`.
     pub fn feed(
         &mut self,

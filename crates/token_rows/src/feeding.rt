@@ -1,9 +1,7 @@
 //! Pages fed to a tokenizer, in pieces.
-ghost use Rattle.std.specs.Prelude.{OnOk};
-
 use html_grammar::{TokenSink, TokenizerOpts};
 use html_lexemes::{BufferQueue, ParseFault, ReferenceTable};
-use html_tokenizer::{Tokenizer, TokenizerResult};
+use html_tokenizer::{Tokenizer, TokenizerResult, read_pieces};
 use std::alloc::{AllocError, Global};
 
 /// The sink behind the end of a page that was fed in pieces. Pauses that it asks for are passed over.
@@ -16,14 +14,7 @@ pub(crate) fn fed<S: TokenSink + Drop>(
 ) -> Result<S, ParseFault>
     requires { S.ready (S.state sink) }
 {
-    let mut tokenizer = Tokenizer::new(alloc, sink, options, table);
-    let mut queue = BufferQueue::new(alloc);
-    'pieces: for piece in pieces {
-        queue.push_back(piece)?;
-        feed_on(&mut tokenizer, &mut queue)?;
-    }
-    tokenizer.end()?;
-    Ok(tokenizer.sink)
+    read_pieces(alloc, sink, options, table, pieces)
 }
 
 /// What the first feed of a page answers, and what it leaves in the queue.
@@ -42,22 +33,6 @@ pub(crate) fn first_answer<S: TokenSink + Drop>(
     let result = tokenizer.feed(&mut queue)?;
     let rest = queue.pop_front().unwrap_or(String::new(alloc));
     Ok((result, rest))
-}
-
-// feeds what is in a queue, over each pause
-fn feed_on<S: TokenSink>(
-    tokenizer: &mut Tokenizer<S>,
-    queue: &mut BufferQueue,
-) -> Result<(), ParseFault>
-    requires { S.ready (S.state tokenizer.old.sink) }
-    ensures { OnOk result (S.ready (S.state tokenizer.new.sink)) }
-{
-    'pauses: for _ in 0..u64::MAX {
-        if let TokenizerResult::Done = tokenizer.feed(queue)? {
-            return Ok(());
-        }
-    }
-    Ok(())
 }
 
 /// A text as one piece.

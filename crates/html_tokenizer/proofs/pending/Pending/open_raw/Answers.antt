@@ -1,6 +1,5 @@
-use Rattle.std.proofs.Common.{◌≡◌, ◌∷◌, ◌++◌, [], ap, sym, ◌∙◌, string_bytes, subst}
+use Rattle.std.proofs.Common.{◌∷◌, ◌++◌, [], ap, sym, ◌∙◌, string_bytes, subst}
 use Rattle.std.proofs.lemmas.Str.{IsUtf8-string_bytes}
-use Rattle.std.specs.Str.{chars}
 use Rattle.html_tokenizer.specs.Sound.{IsSound}
 use Rattle.html_tokenizer.specs.declared.place.Place.TheVariants.{RawText}
 use Rattle.html_tokenizer.proofs.ReadsLemmas.{held_none, pushed_one}

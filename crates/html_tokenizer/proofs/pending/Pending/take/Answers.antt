@@ -1,7 +1,6 @@
-use Rattle.std.proofs.Common.{◌≡◌, Bool, List, ℕ, [], ◌∷◌, ◌++◌, refl, sym, ap, ◌∙◌, subst, string_bytes}
+use Rattle.std.proofs.Common.{[], refl, sym, ap, ◌∙◌, subst, string_bytes}
 use Rattle.std.proofs.lemmas.Str.{chars-nil}
 use Rattle.std.specs.Str.{chars}
-use Rattle.html_tokenizer.specs.Places.{place_lexeme}
 use Rattle.html_tokenizer.specs.Sound.{IsSound}
 use Rattle.html_tokenizer.specs.Turns.{IsOver, IsTaken}
 use Rattle.html_tokenizer.specs.declared.turn.Turn.TheVariants.{Goes, Ends, EndsBefore}

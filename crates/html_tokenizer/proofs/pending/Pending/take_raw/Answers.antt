@@ -1,8 +1,6 @@
-use Rattle.std.proofs.Common.{◌≡◌, Bool, true, false, List, ℕ, [], ◌∷◌, ◌++◌, refl, sym, ap, ◌∙◌, subst, string_bytes}
+use Rattle.std.proofs.Common.{false, refl, ap, ◌∙◌, subst, string_bytes}
 use Rattle.std.proofs.lemmas.Str.{chars-nil}
 use Rattle.std.specs.Str.{chars}
-use Rattle.html_tokenizer.specs.declared.raw_turn.RawTurn.{RawTurn}
-use Rattle.html_tokenizer.specs.declared.raw_turn.RawTurn.TheVariants.{Goes, Before, Shifts, EndTag}
 use Rattle.html_tokenizer.proofs.PendingLemmas.{RawTurnsTo, mode_with, some_table}
 use Rattle.html_tokenizer.proofs.pending.Pending.take_raw.Goals as goal
 

@@ -1,10 +1,9 @@
-use Rattle.std.proofs.Common.{◌≡◌, List, refl, ap, sym, ◌∙◌, ◌∷◌, [], ◌++◌, string_bytes, subst}
+use Rattle.std.proofs.Common.{sym, ◌∷◌, [], ◌++◌, string_bytes, subst}
 use Rattle.std.specs.Str.{chars}
 use Rattle.html_grammar.specs.Items.{characters}
 use Rattle.html_tokenizer.specs.Turns.{IsOver}
 use Rattle.html_tokenizer.specs.Reads.{Leaves}
 use Rattle.html_tokenizer.specs.Advances.{Advances, IsLeft}
-use Rattle.html_tokenizer.specs.declared.pending.Advance.TheVariants.{EndsBefore}
 use Rattle.html_tokenizer.proofs.reader.Reader.advance.Goals as goal
 
 pub tell_lexeme-requires-clause-place : goal.tell_lexeme-requires-clause-place

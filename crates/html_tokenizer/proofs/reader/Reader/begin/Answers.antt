@@ -1,8 +1,7 @@
-use Rattle.std.proofs.Common.{refl, ap, sym, ◌∙◌, ◌∷◌, [], ◌++◌, string_bytes, subst}
+use Rattle.std.proofs.Common.{refl, ap, ◌∙◌, string_bytes}
 use Rattle.std.proofs.lemmas.Str.{IsUtf8-string_bytes, chars-nil}
 use Rattle.std.specs.Str.{chars}
 use Rattle.html_grammar.specs.Items.{characters}
-use Rattle.html_grammar.specs.Lexemes.{in_kind, lexeme}
 use Rattle.html_tokenizer.proofs.ReadsLemmas.{held_none, null_read, pushed_one, raw_opened, text_read}
 use Rattle.html_tokenizer.proofs.reader.Reader.begin.Goals as goal
 

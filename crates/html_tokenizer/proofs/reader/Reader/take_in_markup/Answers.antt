@@ -1,4 +1,4 @@
-use Rattle.std.proofs.Common.{◌≡◌, Bool, List, ℕ, MatchOption, refl, ap, sym, ◌∙◌, ◌∷◌, [], ◌++◌, string_bytes, subst}
+use Rattle.std.proofs.Common.{◌≡◌, Bool, MatchOption, ap, sym, ◌∙◌, ◌∷◌, string_bytes, subst}
 use Rattle.std.specs.Str.{chars}
 use Rattle.html_grammar.specs.Items.{characters}
 use Rattle.html_grammar.specs.declared.modes.Mode.{Mode}

@@ -1,9 +1,8 @@
-use Rattle.std.proofs.Common.{◌≡◌, Bool, true, false, List, refl, ap, sym, ◌∙◌, ◌∷◌, [], ◌++◌, string_bytes, subst}
+use Rattle.std.proofs.Common.{false, refl, ap, sym, ◌∙◌, ◌++◌, string_bytes, subst}
 use Rattle.std.proofs.lemmas.Str.{chars-append, IsUtf8-string_bytes}
 use Rattle.std.specs.Str.{chars}
 use Rattle.html_grammar.specs.Items.{characters}
 use Rattle.html_tokenizer.specs.Advances.{IsWithinMarkup, RawAdvances}
-use Rattle.html_tokenizer.specs.declared.pending.RawAdvance.TheVariants.{Goes, Before, Shifts, EndTag}
 use Rattle.html_tokenizer.proofs.PendingLemmas.{some_table}
 use Rattle.html_tokenizer.proofs.RawReads.{raw_before, raw_end_tag, raw_goes, raw_shifts}
 use Rattle.html_tokenizer.proofs.reader.Reader.take_in_raw_text.Goals as goal

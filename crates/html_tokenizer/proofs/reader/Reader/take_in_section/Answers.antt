@@ -1,4 +1,4 @@
-use Rattle.std.proofs.Common.{◌≡◌, refl, ap, sym, ◌∙◌, ◌∷◌, [], ◌++◌, map, string_bytes, subst}
+use Rattle.std.proofs.Common.{refl, ap, sym, ◌∙◌, ◌∷◌, [], ◌++◌, map, string_bytes, subst}
 use Rattle.std.proofs.lemmas.Str.{IsUtf8-string_bytes}
 use Rattle.std.specs.Str.{chars}
 use Rattle.html_grammar.specs.Items.{characters}
@@ -6,7 +6,6 @@ use Rattle.html_grammar.specs.Lexemes.{ordinary_item}
 use Rattle.std.specs.List.{fold}
 use Rattle.html_tokenizer.specs.Reads.{Leaves}
 use Rattle.html_tokenizer.specs.SectionTurns.{SectionAdvances}
-use Rattle.html_tokenizer.specs.declared.section_turn.SectionTurn.TheVariants.{Goes, Ends, Shifts, Text}
 use Rattle.html_tokenizer.proofs.PendingLemmas.{some_mode}
 use Rattle.html_tokenizer.proofs.RawReads.{section_more, section_on}
 use Rattle.html_tokenizer.proofs.ReadsLemmas.{on_ok_four, pushed_one}

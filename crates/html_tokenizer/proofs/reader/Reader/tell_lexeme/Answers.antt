@@ -1,5 +1,5 @@
-use Rattle.std.proofs.Common.{◌≡◌, Bool, List, refl, ap, sym, ◌∙◌, ◌∷◌, [], ◌++◌, string_bytes, subst}
-use Rattle.std.proofs.lemmas.Str.{IsUtf8-string_bytes, chars-nil}
+use Rattle.std.proofs.Common.{ap, ◌∙◌, ◌++◌, string_bytes}
+use Rattle.std.proofs.lemmas.Str.{chars-nil}
 use Rattle.std.specs.Str.{chars}
 use Rattle.std.specs.List.{fold}
 use Rattle.html_grammar.specs.Items.{characters, tag}
@@ -7,7 +7,6 @@ use Rattle.html_grammar.specs.Modes.{mode_behind}
 use Rattle.html_grammar.specs.Lexemes.{nothing, told, tagged}
 use Rattle.html_grammar.specs.PlainRead.{items_of, lexeme_of}
 use Rattle.html_grammar.specs.declared.modes.Mode.{Mode}
-use Rattle.html_tokenizer.specs.Places.{place_lexeme}
 use Rattle.html_tokenizer.specs.declared.pending.Pending.{Pending}
 use Rattle.html_tokenizer.proofs.ReadsLemmas.{found_from, held_none, never_nothing, on_ok_two, tagged_over, told_over}
 use Rattle.html_tokenizer.proofs.reader.Reader.tell_lexeme.Goals as goal

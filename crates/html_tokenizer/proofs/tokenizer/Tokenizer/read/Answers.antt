@@ -1,8 +1,8 @@
-use Rattle.std.proofs.Common.{arith, length, ◌≤◌, ◌≡◌, List, MatchOption, refl, ap, sym, ◌∙◌, [], ◌∷◌, ◌++◌, string_bytes, subst}
+use Rattle.std.proofs.Common.{arith, length, ap, sym, ◌∙◌, ◌++◌, string_bytes, subst}
 use Rattle.std.proofs.lemmas.Str.{chars-nil}
 use Rattle.std.specs.Str.{chars}
 use Rattle.html_grammar.specs.Items.{characters}
-use Rattle.html_lexemes.specs.Queue.{Queue, Takes}
+use Rattle.html_lexemes.specs.Queue.{Queue}
 use Rattle.html_tokenizer.specs.Completes.{Completes}
 use Rattle.html_tokenizer.specs.PageRest.{page_rest}
 use Rattle.html_tokenizer.proofs.QueueTaken.{taken_more}
