@@ -45,9 +45,15 @@ IsAnswered end_of_file = ⊥
 
 -- What a sink keeps to: texts that follow each other are as one, an empty text changes nothing, a tag alone is answered, what a sink asks for
 -- stays, and an error changes at most how a LF right behind it is taken.
-pub record IsLawful {A H : Type 0} (step : A → Item → A) (reply : A → Item → TokenSinkResult H) (ready : A → Type 0) : Type 0 where
+pub record IsLawful {A H : Type 0} (step : A → Item → A) (reply : A → Item → TokenSinkResult H) (foreign : A → Bool) (ready : A → Type 0) : Type 0 where
   pub joins : (state : A) (cs ds : List ℕ) → step (step state (characters cs)) (characters ds) ≡ step state (characters (cs ++ ds))
   pub skips : (state : A) → step state (characters []) ≡ state
   pub answers : (state : A) (item : Item) → ¬ (IsAnswered item) → reply state item ≡ Continue
   pub keeps : (state : A) (item : Item) → ready state → ready (step state item)
   pub forgets : (state : A) (item : Item) → IsAfterError item → step (step state error) item ≡ step state item
+  pub still_answers : (state : A) (item : Item) → reply (step state error) item ≡ reply state item
+  pub still_foreign : (state : A) → foreign (step state error) ≡ foreign state
+
+-- A sink that was told all is told that it is over, once.
+abbrev pub IsClosed : {A : Type 0} → (A → A) → (A → Type 0) → A → Type 0
+IsClosed {A} close reads closed = (final : A) × (reads final × (closed ≡ close final))

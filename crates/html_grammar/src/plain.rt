@@ -5,7 +5,7 @@ ghost use Rattle.html_grammar.specs.Items.{end_of_file, item_of, tag as tag_item
 ghost use Rattle.html_grammar.specs.Modes.{last_behind, mode_behind, text_behind, text_of_state};
 ghost use Rattle.html_grammar.specs.PageText.{page_text};
 ghost use Rattle.html_grammar.specs.PlainRead.{items_of};
-ghost use Rattle.html_grammar.specs.Reading.{Reading};
+ghost use Rattle.html_grammar.specs.Reading.{IsClosed, Reading};
 
 use crate::lexemes::{Lexeme, lexeme_at};
 use crate::modes::{Mode, TextKind};
@@ -28,7 +28,7 @@ pub fn read_plainly<S: TokenSink>(
     text: &str,
 ) -> Result<(), ParseFault>
     requires { S.ready (S.state sink.old) }
-    ensures { OnOk result (Reading table.now S.step S.reply S.foreign (first_mode opts) (S.state sink.old) (page_text opts.discard_bom (chars text.now)) (S.state sink.new)) }
+    ensures { OnOk result (IsClosed S.close (Reading table.now S.step S.reply S.foreign (first_mode opts) (S.state sink.old) (page_text opts.discard_bom (chars text.now))) (S.state sink.new)) }
 {
     let TokenizerOpts {
         exact_errors: _,

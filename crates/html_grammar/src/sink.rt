@@ -24,6 +24,8 @@ pub trait TokenSink {
 
     ghost ready: { Abstract → Type 0 };
 
+    ghost close: { Abstract → Abstract };
+
     /// Takes a token that stands at a line, and says how the text behind it is to be read. After a
     /// refusal nothing is known of the sink.
     fn process_token(
@@ -35,16 +37,16 @@ pub trait TokenSink {
         ensures state { IfOk result (λ _. state self.new ≡ step (state self.old) (item_of token)) }
         ensures reply { IfOk result (λ answer. answer ≡ reply (state self.old) (item_of token)) };
 
-    /// Says that nothing more is told.
+    /// Says that nothing more is told. It is called once, behind the end of the page.
     fn end(&mut self) -> Result<(), ParseFault>
-        ensures { IfOk result (λ _. state self.new ≡ state self.old) };
+        ensures { IfOk result (λ _. state self.new ≡ close (state self.old)) };
 
     /// Whether there is an adjusted current node, and it is foreign (WHATWG HTML, 13.2.4.2): then
     /// `<![CDATA[` opens text.
     fn adjusted_current_node_present_but_not_in_html_namespace(&self) -> bool
         ensures { result ≡ foreign (state self.now) };
 
-    ghost lawful: { IsLawful step reply ready };
+    ghost lawful: { IsLawful step reply foreign ready };
 }
 
 /// How a page's text is read.

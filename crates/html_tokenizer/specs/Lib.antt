@@ -2,7 +2,9 @@ pub mod Advances
 pub mod CommentEnds
 pub mod Completes
 pub mod Firsts
+pub mod Goings
 pub mod MarkupSound
+pub mod OpenEnds
 pub mod Openings
 pub mod PageRest
 pub mod Pieces
@@ -18,4 +20,5 @@ pub mod Sound
 pub mod SoundProp
 pub mod Spellings
 pub mod TagPlaces
+pub mod Tells
 pub mod Turns

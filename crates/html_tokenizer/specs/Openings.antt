@@ -1,12 +1,12 @@
 -- What a text behind `<!` opens.
-use Rattle.std.specs.Prelude.{◌≡◌, ℕ, Bool, List, [], ◌∷◌, ◌++◌, IsTrue}
+use Rattle.std.specs.Prelude.{◌≡◌, ℕ, Bool, List, [], ◌∷◌, ◌++◌, IsTrue, Option}
 use Rattle.html_lexemes.specs.References.{References}
 use Rattle.html_grammar.specs.Comments.{bogus_comment_slice}
 use Rattle.html_grammar.specs.Lexemes.{comment_lexeme, declaration}
 use Rattle.html_grammar.specs.declared.modes.Mode.{Mode}
 use Rattle.html_tokenizer.specs.MarkupSound.{is_begun_declaration}
 use Rattle.html_tokenizer.specs.Places.{place_lexeme}
-use Rattle.html_tokenizer.specs.Sound.{IsSound}
+use Rattle.html_tokenizer.specs.Goings.{IsGoing}
 use Rattle.html_tokenizer.specs.declared.declarations.Opening.{Opening}
 use Rattle.html_tokenizer.specs.declared.declarations.Opening.TheVariants.{Begun, Opens, Other}
 use Rattle.html_tokenizer.specs.declared.place.Place.{Place}
@@ -23,5 +23,5 @@ IsBogus foreign cs =
 
 abbrev pub IsOpening : Bool → List ℕ → Opening → Type 0
 IsOpening foreign cs Begun = IsTrue (is_begun_declaration cs)
-IsOpening foreign cs (Opens place) = IsOpened foreign cs place × IsSound place []
+IsOpening foreign cs (Opens place) = IsOpened foreign cs place × ((table : References) (last : Option (List ℕ)) → IsGoing table last place [])
 IsOpening foreign cs Other = IsBogus foreign cs

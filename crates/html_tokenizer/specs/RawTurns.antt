@@ -7,7 +7,7 @@ use Rattle.html_grammar.specs.Items.{characters}
 use Rattle.html_grammar.specs.Lexemes.{in_kind, lexeme, tag_lexeme, told}
 use Rattle.html_grammar.specs.Tags.{tag_at}
 use Rattle.html_grammar.specs.declared.modes.Mode.{Mode}
-use Rattle.html_tokenizer.specs.RawSound.{is_raw_held}
+use Rattle.html_tokenizer.specs.Goings.{is_raw_going}
 use Rattle.html_tokenizer.specs.TagPlaces.{IsInTag}
 use Rattle.html_tokenizer.specs.declared.place.TagPlace.TheVariants.{TagName}
 use Rattle.html_tokenizer.specs.declared.raw_turn.RawTurn.{RawTurn}
@@ -34,7 +34,7 @@ pub record IsEndTag (table : References) (foreign : Bool) (mode : Mode) (kind : 
   pub in_name : IsInTag EndTagKind TagName now
 
 abbrev pub RawTurns : References → Bool → Mode → RawKind → List ℕ → ℕ → RawTurn → List ℕ → Type 0
-RawTurns table foreign mode kind held c (Goes next) now = (now ≡ held ++ c ∷ []) × IsTrue (is_raw_held kind next now)
+RawTurns table foreign mode kind held c (Goes at) now = (now ≡ held ++ c ∷ []) × IsTrue (is_raw_going mode.last_start_tag kind at now)
 RawTurns table foreign mode kind held c (Before behind) now = (now ≡ held) × IsTextBefore table mode kind held behind c
-RawTurns table foreign mode kind held c (Shifts text behind next) now = IsShifted table mode kind (held ++ c ∷ []) (chars text.now) behind now × IsTrue (is_raw_held behind next now)
+RawTurns table foreign mode kind held c (Shifts text behind at) now = IsShifted table mode kind (held ++ c ∷ []) (chars text.now) behind now × IsTrue (is_raw_going mode.last_start_tag behind at now)
 RawTurns table foreign mode kind held c EndTag now = IsEndTag table foreign mode kind held c now

@@ -9,7 +9,7 @@ use Rattle.html_grammar.specs.declared.modes.Mode.{Mode}
 use Rattle.html_grammar.specs.declared.modes.TextKind.{TextKind}
 use Rattle.html_grammar.specs.declared.modes.TextKind.TheVariants.{Raw}
 use Rattle.html_tokenizer.specs.Places.{place_lexeme}
-use Rattle.html_tokenizer.specs.Sound.{IsSound}
+use Rattle.html_tokenizer.specs.Goings.{IsGoing}
 use Rattle.html_tokenizer.specs.declared.place.Place.{Place}
 use Rattle.html_tokenizer.specs.declared.turn.Turn.{Turn}
 use Rattle.html_tokenizer.specs.declared.turn.Turn.TheVariants.{Goes, Ends, EndsBefore}
@@ -46,6 +46,6 @@ IsTaken table foreign mode place held c next now =
     (rest : List ℕ) → place_lexeme table foreign mode next (now ++ rest) ≡ place_lexeme table foreign mode place (held ++ c ∷ rest)
 
 abbrev pub Turns : References → Bool → Mode → Place → List ℕ → ℕ → Turn → List ℕ → Type 0
-Turns table foreign mode place held c (Goes next) now = IsTaken table foreign mode place held c next now × IsSound next now
-Turns table foreign mode place held c (Ends next) now = IsTaken table foreign mode place held c next now × IsOver table foreign mode next now []
+Turns table foreign mode place held c (Goes at) now = IsTaken table foreign mode place held c at now × IsGoing table mode.last_start_tag at now
+Turns table foreign mode place held c (Ends at) now = IsTaken table foreign mode place held c at now × IsOver table foreign mode at now []
 Turns table foreign mode place held c EndsBefore now = (now ≡ held) × IsOver table foreign mode place held (c ∷ [])

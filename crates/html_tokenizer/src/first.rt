@@ -1,13 +1,15 @@
-ghost use Rattle.std.specs.Prelude.{◌≡◌, ◌==◌, ◌&&◌};
+ghost use Rattle.std.specs.Prelude.{◌≡◌, ◌==◌, ◌&&◌, chars};
 ghost use Rattle.std.specs.Char.{IsScalar};
 ghost use Rattle.html_grammar.specs.Characters.{shown};
 ghost use Rattle.html_grammar.specs.declared.modes.TextKind.TheVariants.{Raw};
 ghost use Rattle.html_grammar.specs.Lexemes.{has_references};
 ghost use Rattle.html_tokenizer.specs.Firsts.{IsFirst};
+ghost use Rattle.html_tokenizer.specs.Goings.{has_end_tag, is_name_of_letters, may_begin};
 ghost use Rattle.html_tokenizer.specs.RawSound.{is_escaped};
 
 use crate::place::{Place, RawPlace, ReferencePlace};
 use html_grammar::TextKind;
+use html_lexemes::LocalName;
 use html_lexemes::states::RawKind;
 
 /// What the first character of a lexeme is, before what follows it is known.
@@ -24,10 +26,10 @@ pub(crate) enum First {
 }
 
 /// What a character is where it stands first in text of a kind (WHATWG HTML, 13.2.5.1 to 13.2.5.5, 13.2.5.20 and
-/// 13.2.5.27).
-pub(crate) fn first_of(text: TextKind, c: char) -> First
+/// 13.2.5.27); `last` is the name of the last start tag, without which `<` begins no end tag.
+pub(crate) fn first_of(last: &Option<LocalName>, text: TextKind, c: char) -> First
     requires { IsScalar c }
-    ensures { IsFirst text c result }
+    ensures { IsFirst last.now text c result }
 {
     match text {
         TextKind::Ordinary => match c {
@@ -37,7 +39,7 @@ pub(crate) fn first_of(text: TextKind, c: char) -> First
             _ => First::Text(c),
         },
         TextKind::Plain => First::Text(shown(c)),
-        TextKind::Raw(kind) => first_of_raw(kind, c),
+        TextKind::Raw(kind) => first_of_raw(last, kind, c),
     }
 }
 
@@ -50,11 +52,11 @@ fn shown(c: char) -> char
     if c == '\0' { '\u{fffd}' } else { c }
 }
 
-fn first_of_raw(kind: RawKind, c: char) -> First
+fn first_of_raw(last: &Option<LocalName>, kind: RawKind, c: char) -> First
     requires { IsScalar c }
-    ensures { IsFirst (Raw kind) c result }
+    ensures { IsFirst last.now (Raw kind) c result }
 {
-    if c == '<' {
+    if c == '<' && may_begin(last, kind) {
         return First::OpensRaw(kind, RawPlace::LessThanSign);
     }
     if may_be_reference(kind, c) {
@@ -64,6 +66,33 @@ fn first_of_raw(kind: RawKind, c: char) -> First
         return First::OpensRaw(kind, RawPlace::Dashes);
     }
     First::Text(shown(c))
+}
+
+// whether `<` may begin an end tag, or another part of script data
+fn may_begin(last: &Option<LocalName>, kind: RawKind) -> bool
+    ensures { result ≡ may_begin last.now kind }
+{
+    match kind {
+        RawKind::Rcdata | RawKind::Rawtext => has_end_tag(last),
+        RawKind::ScriptData | RawKind::ScriptDataEscaped(_) => true,
+    }
+}
+
+/// Whether an end tag can have the name of the last start tag where it ends the text of an element: its letters alone
+/// are compared.
+pub(crate) fn has_end_tag(last: &Option<LocalName>) -> bool
+    ensures { result ≡ has_end_tag last.now }
+{
+    match last {
+        Some(name) => is_name_of_letters(name.as_str()),
+        None => false,
+    }
+}
+
+fn is_name_of_letters(name: &str) -> bool
+    ensures { result ≡ is_name_of_letters (chars name.now) }
+{
+    !name.is_empty() && name.chars().all(|c| c.is_ascii_lowercase())
 }
 
 fn may_be_reference(kind: RawKind, c: char) -> bool

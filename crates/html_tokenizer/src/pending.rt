@@ -1,4 +1,4 @@
-ghost use Rattle.std.specs.Prelude.{◌≡◌, [], ◌∷◌, ◌++◌, ℕ, Bool, List, chars, string_bytes, IfOk, IfSome, OnOk, MatchBool, MatchOption, ◌≢◌};
+ghost use Rattle.std.specs.Prelude.{◌≡◌, [], ◌∷◌, ◌++◌, ℕ, Bool, List, chars, string_bytes, IfOk, IsTrue, IfSome, OnOk, MatchBool, MatchOption, ◌≢◌};
 ghost use Rattle.html_tokenizer.specs.declared.place.Place.TheVariants.{CdataSection as SectionPlace, MarkupDeclarationOpen as DeclarationPlace, RawText as RawPlaceOf, Text as TextPlace};
 ghost use Rattle.std.specs.Char.{IsScalar};
 ghost use Rattle.html_tokenizer.specs.Sound.{IsSound};
@@ -52,6 +52,7 @@ impl Pending {
     ghost use Rattle.html_grammar.specs.declared.modes.Mode.{Mode as SeenMode};
     ghost use Rattle.html_lexemes.specs.References.{References};
     ghost use Rattle.html_tokenizer.specs.Advances.{Advances, IsLeft, IsNoMarkup, RawAdvances};
+    ghost use Rattle.html_tokenizer.specs.Goings.{is_raw_going};
     ghost use Rattle.html_tokenizer.specs.SectionTurns.{SectionAdvances};
 
     /// Before a lexeme.
@@ -165,7 +166,8 @@ impl Pending {
         place: RawPlace,
         c: char,
     ) -> Result<RawAdvance, AllocError>
-        requires { self.old.place ≡ RawPlaceOf kind place }
+        requires place { self.old.place ≡ RawPlaceOf kind place }
+        requires going { IsTrue (is_raw_going last.now kind place (chars (string_bytes self.old.held))) }
         ensures { IfOk result (λ advance. (table : References) (foreign : Bool) (mode : SeenMode) → mode.last_start_tag ≡ last.now →
             RawAdvances table foreign mode kind (chars (string_bytes self.old.held)) c advance self.new.place (chars (string_bytes self.new.held))) }
     {

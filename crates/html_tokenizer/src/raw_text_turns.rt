@@ -4,11 +4,12 @@ ghost use Rattle.html_lexemes.specs.References.{References};
 ghost use Rattle.html_grammar.specs.Characters.{is_letter, name_of};
 ghost use Rattle.html_grammar.specs.Lexemes.{has_end_tags, is_last};
 ghost use Rattle.html_grammar.specs.declared.modes.Mode.{Mode as SeenMode};
+ghost use Rattle.html_tokenizer.specs.Goings.{is_end_tag_front, is_raw_going};
 ghost use Rattle.html_tokenizer.specs.RawHeld.{held_behind};
-ghost use Rattle.html_tokenizer.specs.RawSound.{is_raw_held};
 ghost use Rattle.html_tokenizer.specs.RawTurns.{RawTurns};
 ghost use Rattle.html_tokenizer.specs.declared.place.RawPlace.TheVariants.{EndTagName};
 
+use crate::first::has_end_tag;
 use crate::place::RawPlace;
 use crate::raw_turn::RawTurn;
 use crate::script_turns::{at_dashes, at_escape_start, at_escape_word, goes_on};
@@ -28,7 +29,7 @@ pub(crate) fn raw_turn(
     held: &mut String,
     c: char,
 ) -> Result<RawTurn, AllocError>
-    requires { IsTrue (is_raw_held kind place (chars (string_bytes held.old))) }
+    requires { IsTrue (is_raw_going last.now kind place (chars (string_bytes held.old))) }
     ensures { IfOk result (λ turn. (table : References) (foreign : Bool) (mode : SeenMode) → mode.last_start_tag ≡ last.now → RawTurns table foreign mode kind (chars (string_bytes held.old)) c turn (chars (string_bytes held.new))) }
 {
     let turn = turn_at(alloc, last, kind, place, held.as_str(), c)?;
@@ -45,11 +46,11 @@ fn turn_at(
     held: &str,
     c: char,
 ) -> Result<RawTurn, AllocError>
-    requires { IsTrue (is_raw_held kind place (chars held.now)) }
+    requires { IsTrue (is_raw_going last.now kind place (chars held.now)) }
     ensures { IfOk result (λ turn. (table : References) (foreign : Bool) (mode : SeenMode) → mode.last_start_tag ≡ last.now → RawTurns table foreign mode kind (chars held.now) c turn (held_behind turn (chars held.now) c)) }
 {
     match place {
-        RawPlace::LessThanSign => Ok(at_less_than_sign(kind, c)),
+        RawPlace::LessThanSign => Ok(at_less_than_sign(last, kind, c)),
         RawPlace::EndTagName => at_end_tag_name(alloc, last, kind, held, c),
         RawPlace::EscapeStart => Ok(at_escape_start(kind, held, c)),
         RawPlace::EscapeWord => Ok(at_escape_word(kind, held, c)),
@@ -86,21 +87,21 @@ fn drop_first(held: &mut String)
 }
 
 // at `<`
-fn at_less_than_sign(kind: RawKind, c: char) -> RawTurn
-    ensures { (table : References) (foreign : Bool) (mode : SeenMode) → RawTurns table foreign mode kind (60 ∷ []) c result (held_behind result (60 ∷ []) c) }
+fn at_less_than_sign(last: &Option<LocalName>, kind: RawKind, c: char) -> RawTurn
+    ensures { (table : References) (foreign : Bool) (mode : SeenMode) → mode.last_start_tag ≡ last.now → RawTurns table foreign mode kind (60 ∷ []) c result (held_behind result (60 ∷ []) c) }
 {
     match kind {
         RawKind::Rcdata | RawKind::Rawtext => match c {
-            '/' => RawTurn::Goes(RawPlace::EndTagName),
+            '/' => at_slash(last, kind),
             _ => RawTurn::Before(kind),
         },
         RawKind::ScriptData => match c {
-            '/' => RawTurn::Goes(RawPlace::EndTagName),
+            '/' => at_slash(last, kind),
             '!' => RawTurn::Goes(RawPlace::EscapeStart),
             _ => RawTurn::Before(kind),
         },
         RawKind::ScriptDataEscaped(ScriptEscapeKind::Escaped) => match c {
-            '/' => RawTurn::Goes(RawPlace::EndTagName),
+            '/' => at_slash(last, kind),
             's' | 'S' => RawTurn::Goes(RawPlace::EscapeWord),
             _ => RawTurn::Before(kind),
         },
@@ -108,6 +109,18 @@ fn at_less_than_sign(kind: RawKind, c: char) -> RawTurn
             '/' => RawTurn::Goes(RawPlace::EscapeWord),
             _ => RawTurn::Before(kind),
         },
+    }
+}
+
+// at `<`, before `/`
+fn at_slash(last: &Option<LocalName>, kind: RawKind) -> RawTurn
+    requires { IsTrue (has_end_tags kind) }
+    ensures { (table : References) (foreign : Bool) (mode : SeenMode) → mode.last_start_tag ≡ last.now → RawTurns table foreign mode kind (60 ∷ []) 47 result (held_behind result (60 ∷ []) 47) }
+{
+    if has_end_tag(last) {
+        RawTurn::Goes(RawPlace::EndTagName)
+    } else {
+        RawTurn::Before(kind)
     }
 }
 
@@ -119,7 +132,7 @@ fn at_end_tag_name(
     held: &str,
     c: char,
 ) -> Result<RawTurn, AllocError>
-    requires { IsTrue (is_raw_held kind EndTagName (chars held.now)) }
+    requires { IsTrue (is_raw_going last.now kind EndTagName (chars held.now)) }
     ensures { IfOk result (λ turn. (table : References) (foreign : Bool) (mode : SeenMode) → mode.last_start_tag ≡ last.now → RawTurns table foreign mode kind (chars held.now) c turn (held_behind turn (chars held.now) c)) }
 {
     let Some(letters) = behind(held, "</") else {
@@ -141,6 +154,7 @@ fn at_end_tag_name(
 fn at_letter(last: &Option<LocalName>, kind: RawKind, letters: &str, c: char) -> RawTurn
     requires kind { IsTrue (has_end_tags kind) }
     requires letters { IsTrue (list_all is_letter (chars letters.now)) }
+    requires front { IsTrue (is_end_tag_front last.now (chars letters.now)) }
     requires letter { IsTrue (is_letter c) }
     ensures { (table : References) (foreign : Bool) (mode : SeenMode) → mode.last_start_tag ≡ last.now → RawTurns table foreign mode kind (60 ∷ 47 ∷ chars letters.now) c result (held_behind result (60 ∷ 47 ∷ chars letters.now) c) }
 {

@@ -348,7 +348,7 @@ impl Reader {
             Reads table S.step S.reply S.foreign self.new (S.state sink.new) rest final →
             Reads table S.step S.reply S.foreign self.old (S.state sink.old) (c ∷ rest) final) }
     {
-        match first_of(self.mode.text, c) {
+        match first_of(&self.mode.last_start_tag, self.mode.text, c) {
             First::Text(shown) => self.run.push(shown)?,
             First::Null => self.tell_null(sink)?,
             First::Opens(place) => self.pending.open(place),

@@ -42,7 +42,9 @@ impl TokenSink for KeepingSink {
 
     ghost ready = { λ _. Unit {0} };
 
-    ghost lawful = { record { joins = λ _ _ _. refl; skips = λ _. refl; answers = λ _ _ _. refl; keeps = λ _ _ r. r; forgets = λ _ _ _. refl } };
+    ghost close = { λ s. s };
+
+    ghost lawful = { record { joins = λ _ _ _. refl; skips = λ _. refl; answers = λ _ _ _. refl; keeps = λ _ _ r. r; forgets = λ _ _ _. refl; still_answers = λ _ _. refl; still_foreign = λ _. refl } };
 
     fn process_token(
         &mut self,

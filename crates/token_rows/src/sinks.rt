@@ -45,7 +45,9 @@ impl TokenSink for Collected {
 
     ghost ready = { λ _. Unit {0} };
 
-    ghost lawful = { record { joins = λ _ _ _. refl; skips = λ _. refl; answers = λ _ _ _. refl; keeps = λ _ _ r. r; forgets = λ _ _ _. refl } };
+    ghost close = { λ s. s };
+
+    ghost lawful = { record { joins = λ _ _ _. refl; skips = λ _. refl; answers = λ _ _ _. refl; keeps = λ _ _ r. r; forgets = λ _ _ _. refl; still_answers = λ _ _. refl; still_foreign = λ _. refl } };
 
     fn process_token(
         &mut self,
@@ -130,7 +132,9 @@ impl TokenSink for Switching {
 
     ghost ready = { λ _. Unit {0} };
 
-    ghost lawful = { record { joins = λ _ _ _. refl; skips = λ _. refl; answers = λ s item other. asked-answers s item other; keeps = λ _ _ r. r; forgets = λ _ _ _. refl } };
+    ghost close = { λ s. s };
+
+    ghost lawful = { record { joins = λ _ _ _. refl; skips = λ _. refl; answers = λ s item other. asked-answers s item other; keeps = λ _ _ r. r; forgets = λ _ _ _. refl; still_answers = λ _ _. refl; still_foreign = λ _. refl } };
 
     fn process_token(
         &mut self,
@@ -184,7 +188,9 @@ impl TokenSink for Counting {
 
     ghost ready = { λ _. Unit {0} };
 
-    ghost lawful = { record { joins = λ _ _ _. refl; skips = λ _. refl; answers = λ _ _ _. refl; keeps = λ _ _ r. r; forgets = λ _ _ _. refl } };
+    ghost close = { λ s. s };
+
+    ghost lawful = { record { joins = λ _ _ _. refl; skips = λ _. refl; answers = λ _ _ _. refl; keeps = λ _ _ r. r; forgets = λ _ _ _. refl; still_answers = λ _ _. refl; still_foreign = λ _. refl } };
 
     fn process_token(
         &mut self,
