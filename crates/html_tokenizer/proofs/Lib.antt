@@ -6,6 +6,7 @@ pub mod EndTagLemmas
 pub mod EscapeStartLemmas
 pub mod EscapeWordLemmas
 pub mod FirstLemmas
+pub mod GoingLemmas
 pub mod HeldLemmas
 pub mod MarkupHeld
 pub mod OpenLemmas
@@ -22,4 +23,5 @@ pub mod SlicesGoOn
 pub mod TagSteps
 pub mod TagTurnLemmas
 pub mod TagsGoOn
+pub mod TellsLemmas
 pub mod WordLemmas

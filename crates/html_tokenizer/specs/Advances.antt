@@ -5,7 +5,8 @@ use Rattle.html_lexemes.specs.declared.states.RawKind.{RawKind}
 use Rattle.html_grammar.specs.declared.modes.Mode.{Mode}
 use Rattle.html_tokenizer.specs.Goings.{IsGoing}
 use Rattle.html_tokenizer.specs.RawTurns.{IsEndTag, IsShifted, IsTextBefore}
-use Rattle.html_tokenizer.specs.Turns.{IsOver, IsTaken}
+use Rattle.html_tokenizer.specs.Places.{place_lexeme}
+use Rattle.html_tokenizer.specs.Turns.{IsOver, IsTaken, IsUntagged}
 use Rattle.html_lexemes.specs.declared.token.TagKind.TheVariants.{EndTag as EndTagKind}
 use Rattle.html_tokenizer.specs.declared.pending.Advance.{Advance}
 use Rattle.html_tokenizer.specs.declared.pending.Advance.TheVariants.{Goes, Ends, EndsBefore}
@@ -54,7 +55,7 @@ Advances table foreign mode place held c Goes at now = IsTaken table foreign mod
 Advances table foreign mode place held c (Ends last text) at now =
     IsTaken table foreign mode place held c last (chars (string_bytes text)) × IsOver table foreign mode last (chars (string_bytes text)) []
 Advances table foreign mode place held c (EndsBefore last text) at now =
-    (last ≡ place) × ((chars (string_bytes text) ≡ held) × IsOver table foreign mode place held (c ∷ []))
+    (last ≡ place) × ((chars (string_bytes text) ≡ held) × (IsOver table foreign mode place held (c ∷ []) × IsUntagged (place_lexeme table foreign mode place held)))
 
 -- a place in an element's text of a kind
 abbrev pub IsRawPlace : RawKind → Place → Type 0

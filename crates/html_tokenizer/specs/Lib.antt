@@ -3,6 +3,7 @@ pub mod CommentEnds
 pub mod Completes
 pub mod Firsts
 pub mod Goings
+pub mod Holdings
 pub mod MarkupSound
 pub mod OpenEnds
 pub mod Openings

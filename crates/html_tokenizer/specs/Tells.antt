@@ -1,10 +1,13 @@
 -- What was told between two states of a sink.
-use Rattle.std.specs.Prelude.{◌≡◌, Bool, false, List, [], ◌∷◌}
+use Rattle.std.specs.Prelude.{◌≡◌, Bool, false, List, [], ◌∷◌, Option, Some, None}
 use Rattle.html_lexemes.specs.declared.token.Tag.{Tag}
 use Rattle.html_lexemes.specs.declared.token.TokenSinkResult.{TokenSinkResult}
+use Rattle.html_lexemes.specs.declared.token.TokenSinkResult.TheVariants.{Script as AskedScript, EncodingIndicator as AskedEncoding}
 use Rattle.html_grammar.specs.Items.{Item, tag}
 use Rattle.html_grammar.specs.Modes.{is_pause}
-use Rattle.html_grammar.specs.Reading.{IsAnswered}
+use Rattle.html_grammar.specs.Reading.{IsAfterError, IsAnswered}
+use Rattle.html_tokenizer.specs.declared.reader.Pause.{Pause}
+use Rattle.html_tokenizer.specs.declared.reader.Pause.TheVariants.{Script, EncodingIndicator}
 
 -- Items in order, none of which is answered by asking for a pause.
 pub data TellsOn {A H : Type 0} (step : A → Item → A) (reply : A → Item → TokenSinkResult H) : A → A → Type 0 where
@@ -19,7 +22,32 @@ pub record TellsUpTo {A H : Type 0} (step : A → Item → A) (reply : A → Ite
   pub asked : reply before (tag asking) ≡ answer
   pub told : new ≡ step before (tag asking)
 
+-- what a pause is asked for by
+abbrev pub answer_of : {H : Type 0} → Pause H → TokenSinkResult H
+answer_of (Script handle) = AskedScript handle
+answer_of (EncodingIndicator encoding) = AskedEncoding encoding
+
+abbrev pub IsPauseOf : {H : Type 0} → TokenSinkResult H → Option (Pause H) → Type 0
+IsPauseOf answer None = is_pause answer ≡ false
+IsPauseOf answer (Some pause) = answer ≡ answer_of pause
+
+-- No pause is asked for, or this one, by what is told last.
+abbrev pub Asks : {A H : Type 0} → (A → Item → A) → (A → Item → TokenSinkResult H) → Option (Pause H) → A → A → Type 0
+Asks step reply None old new = TellsOn step reply old new
+Asks step reply (Some pause) old new = TellsUpTo step reply (answer_of pause) old new
+
 -- no tag
 abbrev pub AreUnanswered : List Item → Type 0
 AreUnanswered [] = Unit {0}
 AreUnanswered (item ∷ items) = (¬ (IsAnswered item)) × AreUnanswered items
+
+-- an error right before the first of some items changes nothing
+abbrev pub IsFirstAfterError : List Item → Type 0
+IsFirstAfterError [] = ⊥
+IsFirstAfterError (item ∷ items) = IsAfterError item
+
+-- Errors alone were told: what may follow them does the same to the sink.
+pub record IsAlike {A H : Type 0} (step : A → Item → A) (reply : A → Item → TokenSinkResult H) (foreign : A → Bool) (old new : A) : Type 0 where
+  pub steps : (item : Item) → IsAfterError item → step new item ≡ step old item
+  pub replies : (item : Item) → reply new item ≡ reply old item
+  pub foreigns : foreign new ≡ foreign old

@@ -11,6 +11,7 @@ use Rattle.html_grammar.specs.declared.modes.TextKind.TheVariants.{Raw}
 use Rattle.html_tokenizer.specs.Places.{place_lexeme}
 use Rattle.html_tokenizer.specs.Goings.{IsGoing}
 use Rattle.html_tokenizer.specs.declared.place.Place.{Place}
+use Rattle.html_tokenizer.specs.declared.place.Place.TheVariants.{CharacterReference, TagOpen}
 use Rattle.html_tokenizer.specs.declared.turn.Turn.{Turn}
 use Rattle.html_tokenizer.specs.declared.turn.Turn.TheVariants.{Goes, Ends, EndsBefore}
 
@@ -29,6 +30,12 @@ abbrev pub is_text : TextKind → ℕ → Bool
 is_text (Raw kind) c = is_raw_text kind c
 is_text kind c = not (c == 0 || c == 60 || c == 38)
 
+-- no tag
+abbrev pub IsUntagged : Lexeme → Type 0
+IsUntagged nothing = Unit {0}
+IsUntagged (told items behind rest) = Unit {0}
+IsUntagged (tagged t rest) = ⊥
+
 -- what a lexeme leaves of the characters held back is text, each character by itself
 abbrev pub LeavesText : Lexeme → Type 0
 LeavesText nothing = ⊥
@@ -45,7 +52,13 @@ abbrev pub IsTaken : References → Bool → Mode → Place → List ℕ → ℕ
 IsTaken table foreign mode place held c next now =
     (rest : List ℕ) → place_lexeme table foreign mode next (now ++ rest) ≡ place_lexeme table foreign mode place (held ++ c ∷ rest)
 
+-- What is held was over before the character: a character reference, or a `<` that is text.
+abbrev pub EndsBeforeAt : References → Bool → Mode → Place → List ℕ → ℕ → List ℕ → Type 0
+EndsBeforeAt table foreign mode (CharacterReference place) held c now = (now ≡ held) × IsOver table foreign mode (CharacterReference place) held (c ∷ [])
+EndsBeforeAt table foreign mode TagOpen held c now = (now ≡ held) × IsOver table foreign mode TagOpen held (c ∷ [])
+EndsBeforeAt table foreign mode place held c now = ⊥
+
 abbrev pub Turns : References → Bool → Mode → Place → List ℕ → ℕ → Turn → List ℕ → Type 0
 Turns table foreign mode place held c (Goes at) now = IsTaken table foreign mode place held c at now × IsGoing table mode.last_start_tag at now
 Turns table foreign mode place held c (Ends at) now = IsTaken table foreign mode place held c at now × IsOver table foreign mode at now []
-Turns table foreign mode place held c EndsBefore now = (now ≡ held) × IsOver table foreign mode place held (c ∷ [])
+Turns table foreign mode place held c EndsBefore now = EndsBeforeAt table foreign mode place held c now

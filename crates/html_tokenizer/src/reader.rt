@@ -1,10 +1,13 @@
-ghost use Rattle.std.specs.Prelude.{◌≡◌, [], ◌∷◌, ◌++◌, ℕ, Bool, List, chars, string_bytes, IfOk, OnOk, Ok, false, fold, map, ◌≢◌, if◌then◌else◌};
+ghost use Rattle.std.specs.Prelude.{◌≡◌, [], ◌∷◌, ◌++◌, ℕ, Bool, List, chars, string_bytes, IfOk, IfSome, IsTrue, OnOk, Ok, None, false, true, fold, map, ◌≢◌, if◌then◌else◌};
 ghost use Rattle.std.specs.Char.{IsScalar};
 ghost use Rattle.html_lexemes.specs.References.{References};
 ghost use Rattle.html_grammar.specs.Items.{characters, end_of_file, null_character, tag as tag_item};
 ghost use Rattle.html_grammar.specs.Lexemes.{ordinary_item};
 ghost use Rattle.html_grammar.specs.Modes.{mode_behind};
-ghost use Rattle.html_grammar.specs.Reading.{Reading};
+ghost use Rattle.html_grammar.specs.PlainRead.{items_of};
+ghost use Rattle.html_grammar.specs.Reading.{IsAfterError, IsClosed, Reading};
+ghost use Rattle.html_tokenizer.specs.Places.{place_lexeme};
+ghost use Rattle.html_tokenizer.specs.Tells.{IsFirstAfterError, IsPauseOf};
 ghost use Rattle.html_tokenizer.specs.declared.place.Place.{Place as SeenPlace};
 ghost use Rattle.html_tokenizer.specs.declared.place.Place.TheVariants.{CdataSection as SectionPlace, MarkupDeclarationOpen as DeclarationPlace, Text as TextPlace};
 
@@ -14,10 +17,13 @@ use crate::pending::{Advance, Pending, RawAdvance};
 use crate::place::Place;
 use crate::section_turn::SectionTurn;
 use html_grammar::lexemes::Lexeme;
+use html_grammar::slices::first_and_rest;
 use html_grammar::plain::{last_behind, tell_lexemes, tell_tokens, text_behind};
 use html_grammar::{Mode, TextKind, TokenSink};
+use html_lexemes::states::State;
 use html_lexemes::{ParseFault, ReferenceTable, Tag, Text, Token, TokenSinkResult};
-use std::alloc::Global;
+use parse_errors::ParseErrors;
+use std::alloc::{AllocError, Global};
 use std::mem;
 
 /// How far a text was read: the mode, the text that was read and is not told yet, and the lexeme that is not over.
@@ -26,6 +32,8 @@ pub(crate) struct Reader {
     mode: Mode,
     run: String,
     pending: Pending,
+    // those that were found and are not told yet
+    errors: ParseErrors,
     line: u64,
 }
 
@@ -39,12 +47,14 @@ pub(crate) enum Pause<H> {
 }
 
 impl Reader {
+    ghost use Rattle.html_tokenizer.specs.Holdings.{Holds, HoldsNothing, HoldsRaw};
     ghost use Rattle.html_tokenizer.specs.Reads.{Follows, Leaves, Reads, state_of};
-    ghost use Rattle.html_tokenizer.specs.Turns.{IsOver};
+    ghost use Rattle.html_tokenizer.specs.Tells.{AreUnanswered, Asks, IsAlike, TellsOn};
+    ghost use Rattle.html_tokenizer.specs.Turns.{IsOver, IsUntagged};
     ghost use Rattle.html_tokenizer.specs.Advances.{Advances, IsLeft, IsWithinMarkup};
 
     /// Before the first character of a text that is read in a mode.
-    pub(crate) fn new(alloc: Global, mode: Mode) -> Reader
+    pub(crate) fn new(alloc: Global, mode: Mode, exact_errors: bool) -> Reader
         ensures mode { result.mode ≡ mode }
         ensures run { string_bytes result.run ≡ [] }
         ensures place { result.pending.place ≡ TextPlace }
@@ -53,6 +63,7 @@ impl Reader {
             mode,
             run: String::new(alloc),
             pending: Pending::new(alloc),
+            errors: ParseErrors::new(alloc, exact_errors),
             line: 1,
         }
     }
@@ -73,6 +84,7 @@ impl Reader {
         requires { S.ready (S.state sink.old) }
         ensures ready { OnOk result (S.ready (S.state sink.new)) }
         ensures told { OnOk result (S.state sink.new ≡ state_of S.step self.old (S.state sink.old)) }
+        ensures tells { OnOk result (TellsOn S.step S.reply (S.state sink.old) (S.state sink.new)) }
         ensures run { OnOk result (string_bytes self.new.run ≡ []) }
         ensures mode { self.new.mode ≡ self.old.mode }
         ensures pending { self.new.pending ≡ self.old.pending }
@@ -86,6 +98,42 @@ impl Reader {
         Ok(())
     }
 
+    // Tells the errors that were found, behind the text that was read.
+    fn tell_errors<S: TokenSink>(&mut self, sink: &mut S) -> Result<(), ParseFault>
+        requires { S.ready (S.state sink.old) }
+        ensures ready { OnOk result (S.ready (S.state sink.new)) }
+        ensures alike { OnOk result (IsAlike S.step S.reply S.foreign (state_of S.step self.old (S.state sink.old)) (S.state sink.new)) }
+        ensures tells { OnOk result (TellsOn S.step S.reply (S.state sink.old) (S.state sink.new)) }
+        ensures run { OnOk result (string_bytes self.new.run ≡ []) }
+        ensures mode { self.new.mode ≡ self.old.mode }
+        ensures pending { self.new.pending ≡ self.old.pending }
+    {
+        self.tell_run(sink)?;
+        'errors: for error in self.errors.take() {
+            sink.process_token(Token::ParseError(error.message), error.line)?;
+        }
+        Ok(())
+    }
+
+    // Tells some tokens, none of which is a tag, behind the errors that were found where they change nothing.
+    fn tell_items<S: TokenSink>(&mut self, sink: &mut S, tokens: Vec<Token>) -> Result<(), ParseFault>
+        requires ready { S.ready (S.state sink.old) }
+        requires run { string_bytes self.old.run ≡ [] }
+        requires untagged { AreUnanswered (items_of tokens.items) }
+        ensures ready { OnOk result (S.ready (S.state sink.new)) }
+        ensures told { OnOk result (S.state sink.new ≡ fold S.step (S.state sink.old) (items_of tokens.items)) }
+        ensures tells { OnOk result (TellsOn S.step S.reply (S.state sink.old) (S.state sink.new)) }
+        ensures run { OnOk result (string_bytes self.new.run ≡ []) }
+        ensures mode { self.new.mode ≡ self.old.mode }
+        ensures pending { self.new.pending ≡ self.old.pending }
+    {
+        if !may_follow_error(tokens.as_slice()) {
+            return tell_tokens(sink, tokens, self.line);
+        }
+        self.tell_errors(sink)?;
+        tell_tokens(sink, tokens, self.line)
+    }
+
     // tells a tag, and says what the sink pauses for
     fn tell_tag<S: TokenSink>(
         &mut self,
@@ -96,6 +144,7 @@ impl Reader {
         ensures ready { OnOk result (S.ready (S.state sink.new)) }
         ensures told { OnOk result (S.state sink.new ≡ S.step (S.state sink.old) (tag_item tag)) }
         ensures mode { OnOk result (self.new.mode ≡ mode_behind self.old.mode tag (S.reply (S.state sink.old) (tag_item tag))) }
+        ensures pause { IfOk result (IsPauseOf (S.reply (S.state sink.old) (tag_item tag))) }
         ensures run { self.new.run ≡ self.old.run }
         ensures pending { self.new.pending ≡ self.old.pending }
     {
@@ -115,8 +164,12 @@ impl Reader {
         c: char,
     ) -> Result<Option<Pause<S::Handle>>, ParseFault>
         requires ready { S.ready (S.state sink.old) }
+        requires holds { Holds table.now self.old }
         requires scalar { IsScalar c }
         ensures ready { OnOk result (S.ready (S.state sink.new)) }
+        ensures holds { OnOk result (Holds table.now self.new) }
+        ensures asks { IfOk result (λ pause. Asks S.step S.reply pause (S.state sink.old) (S.state sink.new)) }
+        ensures paused { IfOk result (λ pause. IfSome pause (λ _. HoldsNothing self.new)) }
         ensures reads { OnOk result ((rest : List ℕ) (final : S.Abstract) →
             Reads table.now S.step S.reply S.foreign self.new (S.state sink.new) rest final →
             Reads table.now S.step S.reply S.foreign self.old (S.state sink.old) (c ∷ rest) final) }
@@ -142,6 +195,9 @@ impl Reader {
         requires scalar { IsScalar c }
         requires place { IsWithinMarkup self.old.pending.place }
         ensures ready { OnOk result (S.ready (S.state sink.new)) }
+        ensures holds { OnOk result (Holds table.now self.new) }
+        ensures asks { IfOk result (λ pause. Asks S.step S.reply pause (S.state sink.old) (S.state sink.new)) }
+        ensures paused { IfOk result (λ pause. IfSome pause (λ _. HoldsNothing self.new)) }
         ensures reads { OnOk result ((rest : List ℕ) (final : S.Abstract) →
             Reads table.now S.step S.reply S.foreign self.new (S.state sink.new) rest final →
             Reads table.now S.step S.reply S.foreign self.old (S.state sink.old) (c ∷ rest) final) }
@@ -162,7 +218,10 @@ impl Reader {
         requires ready { S.ready (S.state sink.old) }
         requires scalar { IsScalar c }
         requires place { self.old.pending.place ≢ TextPlace }
+        requires holds { HoldsRaw self.old }
         ensures ready { OnOk result (S.ready (S.state sink.new)) }
+        ensures holds { (table : References) → result ≡ Ok true → Holds table self.new }
+        ensures tells { OnOk result (TellsOn S.step S.reply (S.state sink.old) (S.state sink.new)) }
         ensures place { result ≡ Ok false → IsWithinMarkup self.new.pending.place }
         ensures reads { IfOk result (λ taken. (table : References) (rest : List ℕ) (final : S.Abstract) →
             Reads table S.step S.reply S.foreign self.new (S.state sink.new) (if taken then rest else c ∷ rest) final →
@@ -195,6 +254,8 @@ impl Reader {
         requires scalar { IsScalar c }
         requires place { self.old.pending.place ≡ SectionPlace }
         ensures ready { OnOk result (S.ready (S.state sink.new)) }
+        ensures holds { OnOk result ((table : References) → Holds table self.new) }
+        ensures tells { OnOk result (TellsOn S.step S.reply (S.state sink.old) (S.state sink.new)) }
         ensures reads { OnOk result ((table : References) (rest : List ℕ) (final : S.Abstract) →
             Reads table S.step S.reply S.foreign self.new (S.state sink.new) rest final →
             Reads table S.step S.reply S.foreign self.old (S.state sink.old) (c ∷ rest) final) }
@@ -215,6 +276,7 @@ impl Reader {
         requires scalar { IsScalar c }
         requires place { self.old.pending.place ≡ SectionPlace }
         ensures ready { OnOk result (S.ready (S.state sink.new)) }
+        ensures tells { OnOk result (TellsOn S.step S.reply (S.state sink.old) (S.state sink.new)) }
         ensures told { OnOk result (state_of S.step self.new (S.state sink.new) ≡ fold S.step (state_of S.step self.old (S.state sink.old)) (map ordinary_item (chars (string_bytes self.old.pending.held) ++ c ∷ []))) }
         ensures mode { OnOk result (self.new.mode ≡ self.old.mode) }
         ensures place { OnOk result (self.new.pending.place ≡ SectionPlace) }
@@ -225,8 +287,7 @@ impl Reader {
         if c == '\0' {
             return self.tell_null(sink);
         }
-        self.run.push(c)?;
-        Ok(())
+        self.read_text(sink, c)
     }
 
     /// Tells what the end of the text makes of what is held back, and that it ends.
@@ -236,10 +297,11 @@ impl Reader {
         sink: &mut S,
     ) -> Result<(), ParseFault>
         requires ready { S.ready (S.state sink.old) }
-        ensures reads { OnOk result (Reads table.now S.step S.reply S.foreign self.old (S.state sink.old) [] (S.state sink.new)) }
+        ensures reads { OnOk result (IsClosed S.close (Reads table.now S.step S.reply S.foreign self.old (S.state sink.old) []) (S.state sink.new)) }
     {
         self.tell_run(sink)?;
         self.tell_held(table, sink)?;
+        self.tell_errors(sink)?;
         sink.process_token(Token::EOFToken, self.line)?;
         sink.end()
     }
@@ -251,7 +313,9 @@ impl Reader {
         sink: &mut S,
     ) -> Result<(), ParseFault>
         requires ready { S.ready (S.state sink.old) }
+        requires run { string_bytes self.old.run ≡ [] }
         ensures ready { OnOk result (S.ready (S.state sink.new)) }
+        ensures run { OnOk result (string_bytes self.new.run ≡ []) }
         ensures told { OnOk result (Leaves table.now S.step S.reply S.foreign self.old.mode self.old.pending.place (chars (string_bytes self.old.pending.held)) (S.state sink.old) (S.step (S.state sink.new) end_of_file)) }
     {
         let foreign = sink.adjusted_current_node_present_but_not_in_html_namespace();
@@ -260,11 +324,12 @@ impl Reader {
         match lexeme_from(alloc, table, foreign, &self.mode, place, held.as_str())? {
             Lexeme::Nothing => Ok(()),
             Lexeme::Told(tokens, text, rest) => {
-                tell_tokens(sink, tokens, self.line)?;
+                self.tell_items(sink, tokens)?;
                 self.mode.text = text;
                 self.tell_rest(table, sink, rest)
             }
             Lexeme::Tagged(tag, rest) => {
+                self.tell_errors(sink)?;
                 self.tell_tag(sink, tag)?;
                 self.tell_rest(table, sink, rest)
             }
@@ -280,6 +345,7 @@ impl Reader {
     ) -> Result<(), ParseFault>
         requires ready { S.ready (S.state sink.old) }
         ensures ready { OnOk result (S.ready (S.state sink.new)) }
+        ensures run { self.new.run ≡ self.old.run }
         ensures told { OnOk result (Reading table.now S.step S.reply S.foreign self.old.mode (S.state sink.old) (chars rest.now) (S.step (S.state sink.new) end_of_file)) }
     {
         let alloc = *self.run.allocator();
@@ -305,6 +371,12 @@ impl Reader {
         requires scalar { IsScalar c }
         requires left { IsLeft advance self.old.pending.place }
         ensures ready { OnOk result (S.ready (S.state sink.new)) }
+        ensures holds { OnOk result ((foreign : Bool) (place : SeenPlace) (held : List ℕ) →
+            Advances table.now foreign self.old.mode place held c advance self.old.pending.place (chars (string_bytes self.old.pending.held)) → Holds table.now self.new) }
+        ensures asks { IfOk result (λ pause. (place : SeenPlace) (held : List ℕ) →
+            Advances table.now (S.foreign (state_of S.step self.old (S.state sink.old))) self.old.mode place held c advance self.old.pending.place (chars (string_bytes self.old.pending.held)) →
+            Asks S.step S.reply pause (S.state sink.old) (S.state sink.new)) }
+        ensures paused { IfOk result (λ pause. IfSome pause (λ _. HoldsNothing self.new)) }
         ensures reads { OnOk result ((place : SeenPlace) (held : List ℕ) →
             Advances table.now (S.foreign (state_of S.step self.old (S.state sink.old))) self.old.mode place held c advance self.old.pending.place (chars (string_bytes self.old.pending.held)) →
             (rest : List ℕ) (final : S.Abstract) →
@@ -327,6 +399,7 @@ impl Reader {
         requires { S.ready (S.state sink.old) }
         ensures ready { OnOk result (S.ready (S.state sink.new)) }
         ensures state { OnOk result (state_of S.step self.new (S.state sink.new) ≡ state_of S.step self.old (S.state sink.old)) }
+        ensures tells { OnOk result (TellsOn S.step S.reply (S.state sink.old) (S.state sink.new)) }
         ensures foreign { IfOk result (λ f. self.old.pending.place ≡ DeclarationPlace → S.foreign (state_of S.step self.old (S.state sink.old)) ≡ f) }
         ensures mode { self.new.mode ≡ self.old.mode }
         ensures pending { self.new.pending ≡ self.old.pending }
@@ -344,12 +417,15 @@ impl Reader {
         requires place { self.old.pending.place ≡ TextPlace }
         requires scalar { IsScalar c }
         ensures ready { OnOk result (S.ready (S.state sink.new)) }
+        ensures holds { OnOk result ((table : References) → Holds table self.new) }
+        ensures tells { OnOk result (TellsOn S.step S.reply (S.state sink.old) (S.state sink.new)) }
         ensures reads { OnOk result ((table : References) (rest : List ℕ) (final : S.Abstract) →
             Reads table S.step S.reply S.foreign self.new (S.state sink.new) rest final →
             Reads table S.step S.reply S.foreign self.old (S.state sink.old) (c ∷ rest) final) }
     {
+        self.heed(c)?;
         match first_of(&self.mode.last_start_tag, self.mode.text, c) {
-            First::Text(shown) => self.run.push(shown)?,
+            First::Text(shown) => self.read_text(sink, shown)?,
             First::Null => self.tell_null(sink)?,
             First::Opens(place) => self.pending.open(place),
             First::OpensRaw(kind, place) => self.pending.open_raw(kind, place, c)?,
@@ -357,16 +433,45 @@ impl Reader {
         Ok(())
     }
 
+    // finds the errors at a character of text
+    fn heed(&mut self, c: char) -> Result<(), AllocError>
+        ensures mode { self.new.mode ≡ self.old.mode }
+        ensures run { self.new.run ≡ self.old.run }
+        ensures pending { self.new.pending ≡ self.old.pending }
+    {
+        self.errors.at_text(state_of(self.mode.text), c, self.line)
+    }
+
+    // Reads a character as text. Errors are told before it; before a LF, which they could change, they are not.
+    fn read_text<S: TokenSink>(&mut self, sink: &mut S, c: char) -> Result<(), ParseFault>
+        requires ready { S.ready (S.state sink.old) }
+        requires scalar { IsScalar c }
+        ensures ready { OnOk result (S.ready (S.state sink.new)) }
+        ensures tells { OnOk result (TellsOn S.step S.reply (S.state sink.old) (S.state sink.new)) }
+        ensures told { OnOk result (state_of S.step self.new (S.state sink.new) ≡ S.step (state_of S.step self.old (S.state sink.old)) (characters (c ∷ []))) }
+        ensures mode { self.new.mode ≡ self.old.mode }
+        ensures pending { self.new.pending ≡ self.old.pending }
+    {
+        if c == '\n' || self.errors.is_empty() {
+            self.run.push(c)?;
+            return Ok(());
+        }
+        self.tell_errors(sink)?;
+        self.run.push(c)?;
+        Ok(())
+    }
+
     // tells a NUL of ordinary text
     fn tell_null<S: TokenSink>(&mut self, sink: &mut S) -> Result<(), ParseFault>
         requires { S.ready (S.state sink.old) }
         ensures ready { OnOk result (S.ready (S.state sink.new)) }
+        ensures tells { OnOk result (TellsOn S.step S.reply (S.state sink.old) (S.state sink.new)) }
         ensures told { OnOk result (S.state sink.new ≡ S.step (state_of S.step self.old (S.state sink.old)) null_character) }
         ensures run { OnOk result (string_bytes self.new.run ≡ []) }
         ensures mode { self.new.mode ≡ self.old.mode }
         ensures pending { self.new.pending ≡ self.old.pending }
     {
-        self.tell_run(sink)?;
+        self.tell_errors(sink)?;
         sink.process_token(Token::NullCharacterToken, self.line)?;
         Ok(())
     }
@@ -383,6 +488,9 @@ impl Reader {
         requires place { self.old.pending.place ≡ TextPlace }
         ensures ready { OnOk result (S.ready (S.state sink.new)) }
         ensures place { OnOk result (self.new.pending.place ≡ TextPlace) }
+        ensures asks { IfOk result (λ pause. Asks S.step S.reply pause (S.state sink.old) (S.state sink.new)) }
+        ensures untagged { IfOk result (λ pause. IsUntagged (place_lexeme table.now (S.foreign (state_of S.step self.old (S.state sink.old))) self.old.mode place (chars (string_bytes held))) → pause ≡ None) }
+        ensures paused { IfOk result (λ pause. IfSome pause (λ _. HoldsNothing self.new)) }
         ensures reads { OnOk result ((follow rest : List ℕ) (final : S.Abstract) →
             IsOver table.now (S.foreign (state_of S.step self.old (S.state sink.old))) self.old.mode place (chars (string_bytes held)) follow →
             Reads table.now S.step S.reply S.foreign self.new (S.state sink.new) (follow ++ rest) final →
@@ -394,18 +502,53 @@ impl Reader {
         match lexeme_from(alloc, table, foreign, &self.mode, place, held.as_str())? {
             Lexeme::Nothing => Ok(None),
             Lexeme::Told(tokens, text, left) => {
-                tell_tokens(sink, tokens, self.line)?;
+                self.tell_items(sink, tokens)?;
                 self.mode.text = text;
                 self.run.push_str(left)?;
                 Ok(None)
             }
-            Lexeme::Tagged(tag, _) => self.tell_tag(sink, tag),
+            Lexeme::Tagged(tag, _) => {
+                self.tell_errors(sink)?;
+                self.tell_tag(sink, tag)
+            }
         }
     }
 }
 
+// the state of text of a kind
+fn state_of(text: TextKind) -> State {
+    match text {
+        TextKind::Ordinary => State::Data,
+        TextKind::Plain => State::Plaintext,
+        TextKind::Raw(kind) => State::RawData(kind),
+    }
+}
+
+// whether an error right before the first of some tokens changes nothing
+fn may_follow_error(tokens: &[Token]) -> bool
+    ensures { IsTrue result → IsFirstAfterError (items_of tokens.now) }
+{
+    match tokens.first() {
+        Some(Token::CharacterTokens(text)) => is_other_than_line_feed(text.as_str()),
+        Some(_) => true,
+        None => false,
+    }
+}
+
+// whether a text begins with another character than LF
+fn is_other_than_line_feed(text: &str) -> bool
+    ensures { IsTrue result → IsAfterError (characters (chars text.now)) }
+{
+    match first_and_rest(text) {
+        Some((c, _)) => c != '\n',
+        None => false,
+    }
+}
+
 // what a sink's answer asks to pause for
-fn pause_of<H: Drop>(answer: TokenSinkResult<H>) -> Option<Pause<H>> {
+fn pause_of<H: Drop>(answer: TokenSinkResult<H>) -> Option<Pause<H>>
+    ensures { IsPauseOf answer result }
+{
     match answer {
         TokenSinkResult::Script(handle) => Some(Pause::Script(handle)),
         TokenSinkResult::EncodingIndicator(encoding) => Some(Pause::EncodingIndicator(encoding)),

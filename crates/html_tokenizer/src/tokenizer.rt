@@ -52,7 +52,7 @@ impl<Sink: TokenSink> Tokenizer<Sink> {
             Reading table Sink.step Sink.reply Sink.foreign (first_mode opts) (Sink.state sink) (page_text opts.discard_bom page) final }
     {
         let TokenizerOpts {
-            exact_errors: _,
+            exact_errors,
             discard_bom,
             initial_state,
             last_start_tag_name,
@@ -64,7 +64,7 @@ impl<Sink: TokenSink> Tokenizer<Sink> {
         Tokenizer {
             sink,
             table,
-            reader: Reader::new(alloc, mode),
+            reader: Reader::new(alloc, mode, exact_errors),
             line_ends: LineEnds::new(discard_bom),
             is_over: false,
         }

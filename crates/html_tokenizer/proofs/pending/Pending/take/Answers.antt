@@ -4,6 +4,7 @@ use Rattle.std.specs.Str.{chars}
 use Rattle.html_tokenizer.specs.Sound.{IsSound}
 use Rattle.html_tokenizer.specs.Turns.{IsOver, IsTaken}
 use Rattle.html_tokenizer.specs.declared.turn.Turn.TheVariants.{Goes, Ends, EndsBefore}
+use Rattle.html_tokenizer.proofs.GoingLemmas.{going_sound}
 use Rattle.html_tokenizer.proofs.PendingLemmas.{some_mode, turned}
 use Rattle.html_tokenizer.proofs.pending.Pending.take.Goals as goal
 
@@ -14,7 +15,7 @@ pub invariant_of-self-in-Goes : goal.invariant_of-self-in-Goes
 invariant_of-self-in-Goes c =
     let p = c.args.self.now in
     let t = turned c.args.table.now c.args.foreign p.place (chars (string_bytes p.held)) c.args.c (chars (string_bytes c.markup_turn.new.held)) _ c.in-Ok.done c.in-Some.turn (Goes c.in-Goes.next) c.in-Ok.ensures c.in-Some.is c.in-Goes.is in
-    record { sound = (t c.args.foreign some_mode (λ _. refl)).1 }
+    record { sound = going_sound c.args.table.now some_mode.last_start_tag c.in-Goes.next _ (t c.args.foreign some_mode (λ _. refl)).1 }
 
 pub invariant_of-self-in-Ends : goal.invariant_of-self-in-Ends
 invariant_of-self-in-Ends c = record { sound = ap chars c.take_out.ensures.left ∙ chars-nil }
@@ -26,7 +27,7 @@ pub returns-in-Goes-clause-advance : goal.returns-in-Goes-clause-advance
 returns-in-Goes-clause-advance c =
     let p = c.args.self.now in
     let t = turned c.args.table.now c.args.foreign p.place (chars (string_bytes p.held)) c.args.c (chars (string_bytes c.markup_turn.new.held)) _ c.in-Ok.done c.in-Some.turn (Goes c.in-Goes.next) c.in-Ok.ensures c.in-Some.is c.in-Goes.is in
-    λ asked mode e. (t asked mode e).0
+    t
 
 pub returns-in-Ends-clause-advance : goal.returns-in-Ends-clause-advance
 returns-in-Ends-clause-advance c =

@@ -1,6 +1,7 @@
 use Rattle.std.proofs.Common.{false, refl, ap, ◌∙◌, subst, string_bytes}
 use Rattle.std.proofs.lemmas.Str.{chars-nil}
 use Rattle.std.specs.Str.{chars}
+use Rattle.html_tokenizer.proofs.GoingLemmas.{raw_going_held}
 use Rattle.html_tokenizer.proofs.PendingLemmas.{RawTurnsTo, mode_with, some_table}
 use Rattle.html_tokenizer.proofs.pending.Pending.take_raw.Goals as goal
 
@@ -10,7 +11,7 @@ invariant_of-self c = record { sound = ap chars c.clear.ensures.bytes ∙ chars-
 pub invariant_of-self-in-Goes : goal.invariant_of-self-in-Goes
 invariant_of-self-in-Goes c =
     let t = subst (λ x. RawTurnsTo c.args.last.now c.args.kind (chars (string_bytes c.args.self.now.held)) c.args.c (chars (string_bytes c.raw_turn.new.held)) x) c.in-Goes.is c.in-Ok.ensures in
-    record { sound = (t some_table false (mode_with c.args.last.now) refl).1 }
+    record { sound = raw_going_held c.args.last.now _ _ _ (t some_table false (mode_with c.args.last.now) refl).1 }
 
 pub invariant_of-self-in-Before : goal.invariant_of-self-in-Before
 invariant_of-self-in-Before c = record { sound = ap chars c.take_out.ensures.left ∙ chars-nil }
@@ -18,7 +19,7 @@ invariant_of-self-in-Before c = record { sound = ap chars c.take_out.ensures.lef
 pub invariant_of-self-in-Shifts : goal.invariant_of-self-in-Shifts
 invariant_of-self-in-Shifts c =
     let t = subst (λ x. RawTurnsTo c.args.last.now c.args.kind (chars (string_bytes c.args.self.now.held)) c.args.c (chars (string_bytes c.raw_turn.new.held)) x) c.in-Shifts.is c.in-Ok.ensures in
-    record { sound = (t some_table false (mode_with c.args.last.now) refl).1 }
+    record { sound = raw_going_held c.args.last.now _ _ _ (t some_table false (mode_with c.args.last.now) refl).1 }
 
 pub invariant_of-self-in-EndTag : goal.invariant_of-self-in-EndTag
 invariant_of-self-in-EndTag c =
@@ -28,7 +29,7 @@ invariant_of-self-in-EndTag c =
 pub returns-in-Goes : goal.returns-in-Goes
 returns-in-Goes c =
     let t = subst (λ x. RawTurnsTo c.args.last.now c.args.kind (chars (string_bytes c.args.self.now.held)) c.args.c (chars (string_bytes c.raw_turn.new.held)) x) c.in-Goes.is c.in-Ok.ensures in
-    λ table foreign mode e. ((t table foreign mode e).0, refl)
+    λ table foreign mode e. ((t table foreign mode e).0, (refl, (t table foreign mode e).1))
 
 pub returns-in-Before : goal.returns-in-Before
 returns-in-Before c =
@@ -38,7 +39,7 @@ returns-in-Before c =
 pub returns-in-Shifts : goal.returns-in-Shifts
 returns-in-Shifts c =
     let t = subst (λ x. RawTurnsTo c.args.last.now c.args.kind (chars (string_bytes c.args.self.now.held)) c.args.c (chars (string_bytes c.raw_turn.new.held)) x) c.in-Shifts.is c.in-Ok.ensures in
-    λ table foreign mode e. ((t table foreign mode e).0, refl)
+    λ table foreign mode e. ((t table foreign mode e).0, (refl, (t table foreign mode e).1))
 
 pub returns-in-EndTag : goal.returns-in-EndTag
 returns-in-EndTag c =

@@ -1,0 +1,24 @@
+-- What a reader holds.
+use Rattle.std.specs.Prelude.{◌≡◌, List, ℕ, [], chars, string_bytes, IsTrue}
+use Rattle.html_lexemes.specs.References.{References}
+use Rattle.html_lexemes.specs.declared.states.RawKind.{RawKind}
+use Rattle.html_tokenizer.specs.Goings.{IsGoing, is_raw_going}
+use Rattle.html_tokenizer.specs.declared.place.Place.TheVariants.{RawText, Text}
+use Rattle.html_tokenizer.specs.declared.place.RawPlace.{RawPlace}
+use Rattle.html_tokenizer.specs.declared.reader.Reader.{Reader}
+
+abbrev pub held_of : Reader → List ℕ
+held_of reader = chars (string_bytes reader.pending.held)
+
+-- It is of a lexeme that goes on; in the text of an element too.
+abbrev pub Holds : References → Reader → Type 0
+Holds table reader = IsGoing table reader.mode.last_start_tag reader.pending.place (held_of reader)
+
+abbrev pub HoldsRaw : Reader → Type 0
+HoldsRaw reader = (kind : RawKind) (place : RawPlace) → reader.pending.place ≡ RawText kind place → IsTrue (is_raw_going reader.mode.last_start_tag kind place (held_of reader))
+
+-- Nothing is held, and no text is untold.
+pub record HoldsNothing (reader : Reader) : Type 0 where
+  pub place : reader.pending.place ≡ Text
+  pub held : held_of reader ≡ []
+  pub run : string_bytes reader.run ≡ []
