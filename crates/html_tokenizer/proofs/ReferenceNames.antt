@@ -14,6 +14,7 @@ use Rattle.html_lexemes.specs.References.{References, is_name, without_semicolon
 use Rattle.html_grammar.specs.Characters.{is_alphanumeric, is_between}
 use Rattle.html_grammar.specs.References.{Found, named, reference}
 use Rattle.html_grammar.specs.Slices.{begins}
+use Rattle.html_tokenizer.specs.Goings.{IsNamed}
 use Rattle.html_tokenizer.specs.ReferenceSound.{is_reference_held}
 use Rattle.html_tokenizer.specs.ReferenceTurns.{ReferenceTurns, goes}
 use Rattle.html_tokenizer.specs.declared.place.Place.TheVariants.{CharacterReference}
@@ -120,14 +121,19 @@ settled_named table held follow sign alone none plain = record {
   left = subst (λ o. IfSome o (λ (found : Found). list_all is_plain found.rest ≡ true)) (sym (by_name table held alone)) (named_left table [] held plain);
 }
 
+named_longer : (table : References) (text : List ℕ) → HasLongerName table text → IsNamed table Named text
+named_longer table [] longer = tt
+named_longer table (c ∷ cs) longer = λ none. none longer
+
 module _ (table : References) (text held : List ℕ) (c : ℕ) (is : text ≡ held ++ c ∷ []) where
   pub sign_turns : text ≡ 35 ∷ [] → ReferenceTurns table Named held c (goes Numeric)
-  sign_turns e = goes_on table Named Numeric held c (subst (λ l. IsTrue (is_reference_held Numeric l)) (sym e ∙ is) refl)
+  sign_turns e = goes_on table Named Numeric held c (subst (λ l. IsTrue (is_reference_held Numeric l)) (sym e ∙ is) refl) tt
 
   pub longer_turns : AreNames table → HasLongerName table text → ReferenceTurns table Named held c (goes Named)
   longer_turns law longer =
       let stands = there _ longer.2 in
       goes_on table Named Named held c (subst (λ l. IsTrue (is_reference_held Named l)) is (begun_of text longer.0 longer.1 (law _ _ stands.1).0))
+      (subst (IsNamed table Named) is (named_longer table text longer))
 
   beginning_of : HasNameBeginning table text → (HasLongerName table text → ⊥) → IsTrue (finite.contains_key table text)
   beginning_of begun none = by begun.0 begun.1
