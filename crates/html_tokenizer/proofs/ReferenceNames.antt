@@ -26,7 +26,7 @@ use Rattle.html_tokenizer.proofs.ReferencePlaces.{ends_before, ends_with, goes_o
 -- ---- the characters of names
 
 -- a letter or digit, or a semicolon
-abbrev is_of_name : ℕ → Bool
+abbrev pub is_of_name : ℕ → Bool
 is_of_name c = is_alphanumeric c || eqb c 59
 
 either_way : (a b c : Bool) → (a || b || c) ≡ (a || (b || c))
@@ -50,7 +50,7 @@ name_letters (c ∷ cs) h = by (eqb (length cs) 0 && eqb c 59) refl h (name_lett
         let parts = and_parts (is_name_letter c) (list_all is_name_letter (without_semicolon cs)) k in
         both_true (is_of_name c) _ (or_left (is_alphanumeric c) (eqb c 59) (sym (same_letters c) ∙ parts.0)) (later parts.1)
 
-letters_of : (cs : List ℕ) → IsTrue (is_name cs) → list_all is_of_name cs ≡ true
+pub letters_of : (cs : List ℕ) → IsTrue (is_name cs) → list_all is_of_name cs ≡ true
 letters_of cs h = name_letters cs (and_parts _ (list_all is_name_letter (without_semicolon cs)) h).1
 
 -- before its last character a name has letters and digits alone
@@ -95,18 +95,18 @@ denied b h e p = let wrong : true ≡ false = sym (h.1 p) ∙ e in cc
 -- ---- references by name
 
 -- a text that doesn't begin with `#`
-no_sign : (p : ℕ → Bool) → p 35 ≡ false → (text rest : List ℕ) → list_all p text ≡ true → text ≢ [] → begins (35 ∷ []) (text ++ rest) ≡ false
+pub no_sign : (p : ℕ → Bool) → p 35 ≡ false → (text rest : List ℕ) → list_all p text ≡ true → text ≢ [] → begins (35 ∷ []) (text ++ rest) ≡ false
 no_sign p none [] rest h some = absurd (some refl)
 no_sign p none (c ∷ text) rest h some = ap (λ b. b && true) (other_code p 35 c none (and_parts (p c) (list_all p text) h).0)
 
-by_name : (table : References) (cs : List ℕ) → begins (35 ∷ []) cs ≡ false → reference table cs ≡ named table cs
+pub by_name : (table : References) (cs : List ℕ) → begins (35 ∷ []) cs ≡ false → reference table cs ≡ named table cs
 by_name table cs e = rw e refl
 
 missing : {A : Type 0} (o : Option A) → (IsTrue (is_some o) → ⊥) → o ≡ None
 missing None h = refl
 missing (Some a) h = absurd (h refl)
 
-there : {A : Type 0} (o : Option A) → IsTrue (is_some o) → (a : A) × (o ≡ Some a)
+pub there : {A : Type 0} (o : Option A) → IsTrue (is_some o) → (a : A) × (o ≡ Some a)
 there None h = cc
 there (Some a) h = (a, refl)
 

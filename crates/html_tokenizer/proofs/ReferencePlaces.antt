@@ -106,12 +106,12 @@ module _ (table : lexemes.References) (base : ℕ) (held ds : List ℕ) (at : (r
       (λ is. digits_end place c other is)
 
 -- behind `#`, or behind `#x`
-decimal_at : (table : lexemes.References) (d : ℕ) (ds rest : List ℕ) → list_all (is_digit 10) (d ∷ ds) ≡ true → first_passes (is_digit 10) rest ≡ false → reference table (35 ∷ d ∷ (ds ++ rest)) ≡ numeric_of 10 (d ∷ ds) rest
+pub decimal_at : (table : lexemes.References) (d : ℕ) (ds rest : List ℕ) → list_all (is_digit 10) (d ∷ ds) ≡ true → first_passes (is_digit 10) rest ≡ false → reference table (35 ∷ d ∷ (ds ++ rest)) ≡ numeric_of 10 (d ∷ ds) rest
 decimal_at table d ds rest h e =
     let digit = (and_parts (is_digit 10 d) (list_all (is_digit 10) ds) h).0 in
     rw (other_code (is_digit 10) 120 d refl digit, other_code (is_digit 10) 88 d refl digit) (numeric_at 10 (d ∷ ds) rest h e)
 
-hexadecimal_at : (table : lexemes.References) (x : ℕ) (ds rest : List ℕ) → is_x x ≡ true → list_all (is_digit 16) ds ≡ true → first_passes (is_digit 16) rest ≡ false → reference table (35 ∷ x ∷ (ds ++ rest)) ≡ numeric_of 16 ds rest
+pub hexadecimal_at : (table : lexemes.References) (x : ℕ) (ds rest : List ℕ) → is_x x ≡ true → list_all (is_digit 16) ds ≡ true → first_passes (is_digit 16) rest ≡ false → reference table (35 ∷ x ∷ (ds ++ rest)) ≡ numeric_of 16 ds rest
 hexadecimal_at table x ds rest e h f = cond-true (is_x x) (numeric 16 (ds ++ rest)) (numeric 10 (x ∷ (ds ++ rest))) e ∙ numeric_at 16 ds rest h f
 
 more_digits : (base : ℕ) (ds : List ℕ) (c : ℕ) → are_digits base ds ≡ true → is_digit base c ≡ true → are_digits base (ds ++ c ∷ []) ≡ true
@@ -142,7 +142,7 @@ hexadecimal_turns table (n ∷ x ∷ ds) c h =
     (both_true (is_plain x) _ (x_plain x front.1) (all_pass (is_digit 16) is_plain digits_plain ds digits))
     Hexadecimal c refl (λ e. both_true (is_x x) _ front.1 (more_digits 16 ds c parts.1 e)) tt)
 
-one_sign : (held : List ℕ) → IsTrue (is_reference_held Numeric held) → held ≡ 35 ∷ []
+pub one_sign : (held : List ℕ) → IsTrue (is_reference_held Numeric held) → held ≡ 35 ∷ []
 one_sign [] h = cc
 one_sign (n ∷ []) h = ap (λ m. m ∷ []) (eqb-true n 35 (and_parts (eqb n 35) true h).0)
 one_sign (n ∷ m ∷ held) h = let wrong = (and_parts (eqb (length (n ∷ m ∷ held)) 1) _ h).0 in absurd (let no = eqb-true (length (n ∷ m ∷ held)) 1 wrong in omega arith)
