@@ -17,6 +17,7 @@ pub mod RawTextLemmas
 pub mod ReadsLemmas
 pub mod ReferenceLexemes
 pub mod ReferenceNames
+pub mod ReferenceOpenEnds
 pub mod ReferencePlaces
 pub mod SectionLemmas
 pub mod SlicesGoOn

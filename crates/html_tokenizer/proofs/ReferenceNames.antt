@@ -14,6 +14,7 @@ use Rattle.html_lexemes.specs.References.{References, is_name, without_semicolon
 use Rattle.html_grammar.specs.Characters.{is_alphanumeric, is_between}
 use Rattle.html_grammar.specs.References.{Found, named, reference}
 use Rattle.html_grammar.specs.Slices.{begins}
+use Rattle.html_tokenizer.specs.Goings.{IsNamed}
 use Rattle.html_tokenizer.specs.ReferenceSound.{is_reference_held}
 use Rattle.html_tokenizer.specs.ReferenceTurns.{ReferenceTurns, goes}
 use Rattle.html_tokenizer.specs.declared.place.Place.TheVariants.{CharacterReference}
@@ -25,7 +26,7 @@ use Rattle.html_tokenizer.proofs.ReferencePlaces.{ends_before, ends_with, goes_o
 -- ---- the characters of names
 
 -- a letter or digit, or a semicolon
-abbrev is_of_name : ℕ → Bool
+abbrev pub is_of_name : ℕ → Bool
 is_of_name c = is_alphanumeric c || eqb c 59
 
 either_way : (a b c : Bool) → (a || b || c) ≡ (a || (b || c))
@@ -49,7 +50,7 @@ name_letters (c ∷ cs) h = by (eqb (length cs) 0 && eqb c 59) refl h (name_lett
         let parts = and_parts (is_name_letter c) (list_all is_name_letter (without_semicolon cs)) k in
         both_true (is_of_name c) _ (or_left (is_alphanumeric c) (eqb c 59) (sym (same_letters c) ∙ parts.0)) (later parts.1)
 
-letters_of : (cs : List ℕ) → IsTrue (is_name cs) → list_all is_of_name cs ≡ true
+pub letters_of : (cs : List ℕ) → IsTrue (is_name cs) → list_all is_of_name cs ≡ true
 letters_of cs h = name_letters cs (and_parts _ (list_all is_name_letter (without_semicolon cs)) h).1
 
 -- before its last character a name has letters and digits alone
@@ -94,18 +95,18 @@ denied b h e p = let wrong : true ≡ false = sym (h.1 p) ∙ e in cc
 -- ---- references by name
 
 -- a text that doesn't begin with `#`
-no_sign : (p : ℕ → Bool) → p 35 ≡ false → (text rest : List ℕ) → list_all p text ≡ true → text ≢ [] → begins (35 ∷ []) (text ++ rest) ≡ false
+pub no_sign : (p : ℕ → Bool) → p 35 ≡ false → (text rest : List ℕ) → list_all p text ≡ true → text ≢ [] → begins (35 ∷ []) (text ++ rest) ≡ false
 no_sign p none [] rest h some = absurd (some refl)
 no_sign p none (c ∷ text) rest h some = ap (λ b. b && true) (other_code p 35 c none (and_parts (p c) (list_all p text) h).0)
 
-by_name : (table : References) (cs : List ℕ) → begins (35 ∷ []) cs ≡ false → reference table cs ≡ named table cs
+pub by_name : (table : References) (cs : List ℕ) → begins (35 ∷ []) cs ≡ false → reference table cs ≡ named table cs
 by_name table cs e = rw e refl
 
 missing : {A : Type 0} (o : Option A) → (IsTrue (is_some o) → ⊥) → o ≡ None
 missing None h = refl
 missing (Some a) h = absurd (h refl)
 
-there : {A : Type 0} (o : Option A) → IsTrue (is_some o) → (a : A) × (o ≡ Some a)
+pub there : {A : Type 0} (o : Option A) → IsTrue (is_some o) → (a : A) × (o ≡ Some a)
 there None h = cc
 there (Some a) h = (a, refl)
 
@@ -120,14 +121,19 @@ settled_named table held follow sign alone none plain = record {
   left = subst (λ o. IfSome o (λ (found : Found). list_all is_plain found.rest ≡ true)) (sym (by_name table held alone)) (named_left table [] held plain);
 }
 
+named_longer : (table : References) (text : List ℕ) → HasLongerName table text → IsNamed table Named text
+named_longer table [] longer = tt
+named_longer table (c ∷ cs) longer = λ none. none longer
+
 module _ (table : References) (text held : List ℕ) (c : ℕ) (is : text ≡ held ++ c ∷ []) where
   pub sign_turns : text ≡ 35 ∷ [] → ReferenceTurns table Named held c (goes Numeric)
-  sign_turns e = goes_on table Named Numeric held c (subst (λ l. IsTrue (is_reference_held Numeric l)) (sym e ∙ is) refl)
+  sign_turns e = goes_on table Named Numeric held c (subst (λ l. IsTrue (is_reference_held Numeric l)) (sym e ∙ is) refl) tt
 
   pub longer_turns : AreNames table → HasLongerName table text → ReferenceTurns table Named held c (goes Named)
   longer_turns law longer =
       let stands = there _ longer.2 in
       goes_on table Named Named held c (subst (λ l. IsTrue (is_reference_held Named l)) is (begun_of text longer.0 longer.1 (law _ _ stands.1).0))
+      (subst (IsNamed table Named) is (named_longer table text longer))
 
   beginning_of : HasNameBeginning table text → (HasLongerName table text → ⊥) → IsTrue (finite.contains_key table text)
   beginning_of begun none = by begun.0 begun.1

@@ -11,6 +11,7 @@ use Rattle.html_lexemes.specs.References as lexemes
 use Rattle.html_grammar.specs.Characters.{is_digit}
 use Rattle.html_grammar.specs.References.{Found, is_x, numbered, number_of, numeric, numeric_of, reference}
 use Rattle.html_grammar.specs.Slices.{first_passes, front_while, rest_while}
+use Rattle.html_tokenizer.specs.Goings.{IsNamed}
 use Rattle.html_tokenizer.specs.ReferenceSound.{are_digits, is_reference_held}
 use Rattle.html_tokenizer.specs.ReferenceTurns.{ReferenceTurns, digit_turn, goes, hexadecimal_turn, number_turn}
 use Rattle.html_grammar.specs.declared.modes.Mode.{Mode}
@@ -25,8 +26,8 @@ use Rattle.html_tokenizer.proofs.ReferenceLexemes.{IsSettled, all_append, all_pa
 
 -- ---- what is held goes on, or is over
 
-pub goes_on : (table : lexemes.References) (place next : ReferencePlace) (held : List ℕ) (c : ℕ) → IsTrue (is_reference_held next (held ++ c ∷ [])) → ReferenceTurns table place held c (goes next)
-goes_on table place next held c sound = λ foreign mode. (taken table foreign mode place next held c, sound)
+pub goes_on : (table : lexemes.References) (place next : ReferencePlace) (held : List ℕ) (c : ℕ) → IsTrue (is_reference_held next (held ++ c ∷ [])) → IsNamed table next (held ++ c ∷ []) → ReferenceTurns table place held c (goes next)
+goes_on table place next held c sound longer = λ foreign mode. (taken table foreign mode place next held c, (sound, longer))
 
 pub ends_with : (table : lexemes.References) (place : ReferencePlace) (held : List ℕ) (c : ℕ) → IsSettled table (held ++ c ∷ []) [] → ReferenceTurns table place held c (Ends (CharacterReference place))
 ends_with table place held c h = λ foreign mode. (taken table foreign mode place place held c, over table foreign mode place (held ++ c ∷ []) [] h)
@@ -99,18 +100,18 @@ module _ (table : lexemes.References) (base : ℕ) (held ds : List ℕ) (at : (r
       (λ is. subst (λ d. ReferenceTurns table place held d (Ends (CharacterReference place))) (sym (eqb-true c 59 is)) (ends_with table place held 59 (number_closed other)))
       (λ is. ends_before table place held c (number_before c none is))
 
-  pub digit_turns : (place : ReferencePlace) (c : ℕ) → is_digit base 59 ≡ false → (is_digit base c ≡ true → IsTrue (is_reference_held place (held ++ c ∷ []))) → ReferenceTurns table place held c (digit_turn place base c)
-  digit_turns place c other more = cond_both (is_digit base c) (goes place) (cond (eqb c 59) (Ends (CharacterReference place)) EndsBefore) (ReferenceTurns table place held c)
-      (λ is. goes_on table place place held c (more is))
+  pub digit_turns : (place : ReferencePlace) (c : ℕ) → is_digit base 59 ≡ false → (is_digit base c ≡ true → IsTrue (is_reference_held place (held ++ c ∷ []))) → IsNamed table place (held ++ c ∷ []) → ReferenceTurns table place held c (digit_turn place base c)
+  digit_turns place c other more longer = cond_both (is_digit base c) (goes place) (cond (eqb c 59) (Ends (CharacterReference place)) EndsBefore) (ReferenceTurns table place held c)
+      (λ is. goes_on table place place held c (more is) longer)
       (λ is. digits_end place c other is)
 
 -- behind `#`, or behind `#x`
-decimal_at : (table : lexemes.References) (d : ℕ) (ds rest : List ℕ) → list_all (is_digit 10) (d ∷ ds) ≡ true → first_passes (is_digit 10) rest ≡ false → reference table (35 ∷ d ∷ (ds ++ rest)) ≡ numeric_of 10 (d ∷ ds) rest
+pub decimal_at : (table : lexemes.References) (d : ℕ) (ds rest : List ℕ) → list_all (is_digit 10) (d ∷ ds) ≡ true → first_passes (is_digit 10) rest ≡ false → reference table (35 ∷ d ∷ (ds ++ rest)) ≡ numeric_of 10 (d ∷ ds) rest
 decimal_at table d ds rest h e =
     let digit = (and_parts (is_digit 10 d) (list_all (is_digit 10) ds) h).0 in
     rw (other_code (is_digit 10) 120 d refl digit, other_code (is_digit 10) 88 d refl digit) (numeric_at 10 (d ∷ ds) rest h e)
 
-hexadecimal_at : (table : lexemes.References) (x : ℕ) (ds rest : List ℕ) → is_x x ≡ true → list_all (is_digit 16) ds ≡ true → first_passes (is_digit 16) rest ≡ false → reference table (35 ∷ x ∷ (ds ++ rest)) ≡ numeric_of 16 ds rest
+pub hexadecimal_at : (table : lexemes.References) (x : ℕ) (ds rest : List ℕ) → is_x x ≡ true → list_all (is_digit 16) ds ≡ true → first_passes (is_digit 16) rest ≡ false → reference table (35 ∷ x ∷ (ds ++ rest)) ≡ numeric_of 16 ds rest
 hexadecimal_at table x ds rest e h f = cond-true (is_x x) (numeric 16 (ds ++ rest)) (numeric 10 (x ∷ (ds ++ rest))) e ∙ numeric_at 16 ds rest h f
 
 more_digits : (base : ℕ) (ds : List ℕ) (c : ℕ) → are_digits base ds ≡ true → is_digit base c ≡ true → are_digits base (ds ++ c ∷ []) ≡ true
@@ -127,7 +128,7 @@ decimal_turns table (n ∷ d ∷ ds) c h =
     subst (λ m. ReferenceTurns table Decimal (m ∷ d ∷ ds) c (digit_turn Decimal 10 c)) (sym (eqb-true n 35 parts.0))
     (digit_turns table 10 (35 ∷ d ∷ ds) (d ∷ ds) (λ rest e. decimal_at table d ds rest digits e)
     (all_pass (is_digit 10) is_plain decimals_plain (d ∷ ds) digits)
-    Decimal c refl (λ e. more_digits 10 (d ∷ ds) c parts.1 e))
+    Decimal c refl (λ e. more_digits 10 (d ∷ ds) c parts.1 e) tt)
 
 pub hexadecimal_turns : (table : lexemes.References) (held : List ℕ) (c : ℕ) → IsTrue (is_reference_held Hexadecimal held) → ReferenceTurns table Hexadecimal held c (digit_turn Hexadecimal 16 c)
 hexadecimal_turns table [] c h = cc
@@ -139,9 +140,9 @@ hexadecimal_turns table (n ∷ x ∷ ds) c h =
     subst (λ m. ReferenceTurns table Hexadecimal (m ∷ x ∷ ds) c (digit_turn Hexadecimal 16 c)) (sym (eqb-true n 35 front.0))
     (digit_turns table 16 (35 ∷ x ∷ ds) ds (λ rest e. hexadecimal_at table x ds rest front.1 digits e)
     (both_true (is_plain x) _ (x_plain x front.1) (all_pass (is_digit 16) is_plain digits_plain ds digits))
-    Hexadecimal c refl (λ e. both_true (is_x x) _ front.1 (more_digits 16 ds c parts.1 e)))
+    Hexadecimal c refl (λ e. both_true (is_x x) _ front.1 (more_digits 16 ds c parts.1 e)) tt)
 
-one_sign : (held : List ℕ) → IsTrue (is_reference_held Numeric held) → held ≡ 35 ∷ []
+pub one_sign : (held : List ℕ) → IsTrue (is_reference_held Numeric held) → held ≡ 35 ∷ []
 one_sign [] h = cc
 one_sign (n ∷ []) h = ap (λ m. m ∷ []) (eqb-true n 35 (and_parts (eqb n 35) true h).0)
 one_sign (n ∷ m ∷ held) h = let wrong = (and_parts (eqb (length (n ∷ m ∷ held)) 1) _ h).0 in absurd (let no = eqb-true (length (n ∷ m ∷ held)) 1 wrong in omega arith)
@@ -153,9 +154,9 @@ pub number_turns : (table : lexemes.References) (held : List ℕ) (c : ℕ) → 
 number_turns table held c h =
     subst (λ l. ReferenceTurns table Numeric l c (number_turn c)) (sym (one_sign held h))
     (cond_both (is_x c) (goes HexadecimalStart) (cond (is_digit 10 c) (goes Decimal) EndsBefore) (ReferenceTurns table Numeric (35 ∷ []) c)
-    (λ x. goes_on table Numeric HexadecimalStart (35 ∷ []) c x)
+    (λ x. goes_on table Numeric HexadecimalStart (35 ∷ []) c x tt)
     (λ x. cond_both (is_digit 10 c) (goes Decimal) EndsBefore (ReferenceTurns table Numeric (35 ∷ []) c)
-    (λ e. goes_on table Numeric Decimal (35 ∷ []) c (both_true (is_digit 10 c) true e refl))
+    (λ e. goes_on table Numeric Decimal (35 ∷ []) c (both_true (is_digit 10 c) true e refl) tt)
     (λ e. ends_before table Numeric (35 ∷ []) c
     (settled_none table (35 ∷ []) c (λ rest. cond-false (is_x c) (numeric 16 rest) (numeric 10 (c ∷ rest)) x ∙ no_number 10 c rest e) refl refl))))
 
@@ -167,7 +168,7 @@ start_turns table (n ∷ x ∷ []) c h =
     let parts = and_parts (eqb n 35) (is_x x) h in
     subst (λ m. ReferenceTurns table HexadecimalStart (m ∷ x ∷ []) c (hexadecimal_turn c)) (sym (eqb-true n 35 parts.0))
     (cond_both (is_digit 16 c) (goes Hexadecimal) EndsBefore (ReferenceTurns table HexadecimalStart (35 ∷ x ∷ []) c)
-    (λ e. goes_on table HexadecimalStart Hexadecimal (35 ∷ x ∷ []) c (both_true (is_x x) _ parts.1 (both_true (is_digit 16 c) true e refl)))
+    (λ e. goes_on table HexadecimalStart Hexadecimal (35 ∷ x ∷ []) c (both_true (is_x x) _ parts.1 (both_true (is_digit 16 c) true e refl)) tt)
     (λ e. ends_before table HexadecimalStart (35 ∷ x ∷ []) c
     (settled_none table (35 ∷ x ∷ []) c (λ rest. hexadecimal_at table x [] (c ∷ rest) parts.1 refl e)
     (hexadecimal_at table x [] [] parts.1 refl refl) (both_true (is_plain x) true (x_plain x parts.1) refl))))

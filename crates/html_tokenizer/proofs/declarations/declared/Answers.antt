@@ -8,7 +8,7 @@ use Rattle.html_tokenizer.proofs.declarations.declared.Goals as goal
 pub returns-in-Whole : goal.returns-in-Whole
 returns-in-Whole c =
     let cs = chars c.args.text.now in
-    (opens_comment c.args.foreign cs (at_mark (folded false) (codes "--") cs _ _ dashes c.compared.ensures c.in-Whole.is), record { no_greater = refl; no_arrow = refl; no_mark = refl })
+    (opens_comment c.args.foreign cs (at_mark (folded false) (codes "--") cs _ _ dashes c.compared.ensures c.in-Whole.is), λ table last. record { no_greater = refl; no_arrow = refl; no_mark = refl })
 
 pub returns-in-Front : goal.returns-in-Front
 returns-in-Front c =
@@ -18,7 +18,7 @@ returns-in-Front c =
 pub returns-in-Whole-compared : goal.returns-in-Whole-compared
 returns-in-Whole-compared c =
     let cs = chars c.args.text.now in
-    (opens_doctype c.args.foreign cs (at_mark (folded true) (codes "doctype") cs _ _ doctype_word c.compared-2.ensures c.in-Whole-compared.is), refl)
+    (opens_doctype c.args.foreign cs (at_mark (folded true) (codes "doctype") cs _ _ doctype_word c.compared-2.ensures c.in-Whole-compared.is), λ table last. refl)
 
 pub returns-in-Front-compared : goal.returns-in-Front-compared
 returns-in-Front-compared c =
@@ -36,7 +36,7 @@ returns-then-not-foreign c =
 pub returns-in-Whole-compared-2 : goal.returns-in-Whole-compared-2
 returns-in-Whole-compared-2 c =
     let cs = chars c.args.text.now in
-    (opens_section c.args.foreign cs c.if-not-foreign.false (at_mark (folded false) (codes "[CDATA[") cs _ _ section_mark c.compared-3.ensures c.in-Whole-compared-2.is), refl)
+    (opens_section c.args.foreign cs c.if-not-foreign.false (at_mark (folded false) (codes "[CDATA[") cs _ _ section_mark c.compared-3.ensures c.in-Whole-compared-2.is), λ table last. refl)
 
 pub returns-in-Front-compared-2 : goal.returns-in-Front-compared-2
 returns-in-Front-compared-2 c =

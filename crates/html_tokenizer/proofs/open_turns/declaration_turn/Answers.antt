@@ -1,7 +1,7 @@
 use Rattle.std.proofs.Common.{◌≡◌, ◌∷◌, ◌++◌, [], IsTrue, chars, string_bytes, sym, ap, subst, ◌∙◌}
 use Rattle.std.proofs.lemmas.Str.{chars-nil}
+use Rattle.html_tokenizer.specs.Goings.{IsGoing}
 use Rattle.html_tokenizer.specs.MarkupSound.{is_begun_declaration}
-use Rattle.html_tokenizer.specs.Sound.{IsSound}
 use Rattle.html_tokenizer.specs.declared.place.Place.TheVariants.{MarkupDeclarationOpen}
 use Rattle.html_tokenizer.proofs.DeclarationLemmas.{bogus_taken, no_greater_begun, opened_taken}
 use Rattle.html_tokenizer.proofs.MarkupHeld.{bogus_over, pushed, still_no_greater, taken}
@@ -23,7 +23,7 @@ returns-in-Opens c =
     let e = pushed c.args.held.now c.push.new.self c.args.c c.ranges.c.0 c.in_ok-push.ensures.bytes in
     let none : cleared ≡ [] = ap chars c.clear.ensures.bytes ∙ chars-nil in
     let opens = c.in-Opens.ensures in
-    λ table mode. (opened_taken table c.args.foreign mode hs now (chars c.deref.result.now) cleared c.args.c c.in-Opens.place e (ap chars c.deref.ensures) none opens.0, subst (IsSound c.in-Opens.place) (sym none) opens.1)
+    λ table mode. (opened_taken table c.args.foreign mode hs now (chars c.deref.result.now) cleared c.args.c c.in-Opens.place e (ap chars c.deref.ensures) none opens.0, subst (IsGoing table mode.last_start_tag c.in-Opens.place) (sym none) (opens.1 table mode.last_start_tag))
 
 pub returns-in-Other : goal.returns-in-Other
 returns-in-Other c =
