@@ -1,0 +1,59 @@
+use crate::ParseErrors;
+use crate::characters::{line_behind, state_at_end};
+use html_lexemes::states::State;
+use std::alloc::AllocError;
+
+impl ParseErrors {
+    /// Finds the errors of a comment: the text behind `<!--`, up to and with its `>`, or up to the end of the page. The error
+    /// is want of memory alone.
+    pub fn in_comment(&mut self, text: &str, mut line: u64) -> Result<(), AllocError> {
+        self.leave_name();
+        let mut state = State::CommentStart;
+        for c in text.chars() {
+            line = line_behind(line, c);
+            let reading = self.read(state, c, line)?;
+            let Some(next) = comment_state(reading, c) else {
+                return Ok(());
+            };
+            state = next;
+        }
+        self.saw_end(state_at_end(state), line)
+    }
+}
+
+// The state behind a character that is read in a state. `None` is the end of the comment.
+fn comment_state(state: State, c: char) -> Option<State> {
+    match state {
+        State::CommentStart => start_state(c, State::CommentStartDash),
+        State::CommentStartDash => start_state(c, State::CommentEnd),
+        State::CommentLessThanSign if c == '!' => Some(State::CommentLessThanSignBang),
+        State::CommentLessThanSign => Some(State::CommentLessThanSign),
+        State::CommentLessThanSignBang => Some(State::CommentLessThanSignBangDash),
+        State::CommentLessThanSignBangDash => Some(State::CommentLessThanSignBangDashDash),
+        State::CommentEndDash if c == '-' => Some(State::CommentEnd),
+        State::CommentEnd => end_state(c),
+        State::CommentEndBang => start_state(c, State::CommentEndDash),
+        State::Comment if c == '<' => Some(State::CommentLessThanSign),
+        State::Comment if c == '-' => Some(State::CommentEndDash),
+        _ => Some(State::Comment),
+    }
+}
+
+// The same where `>` ends the comment and a dash leads to a state.
+fn start_state(c: char, behind_dash: State) -> Option<State> {
+    match c {
+        '-' => Some(behind_dash),
+        '>' => None,
+        _ => Some(State::Comment),
+    }
+}
+
+// The same behind two dashes.
+fn end_state(c: char) -> Option<State> {
+    match c {
+        '>' => None,
+        '!' => Some(State::CommentEndBang),
+        '-' => Some(State::CommentEnd),
+        _ => Some(State::Comment),
+    }
+}

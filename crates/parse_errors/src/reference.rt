@@ -1,0 +1,87 @@
+use crate::ParseErrors;
+use crate::number::Number;
+use html_lexemes::{NamedReference, ReferenceTable};
+use std::alloc::AllocError;
+
+impl ParseErrors {
+    /// Finds the errors of a character reference in text: the text behind `&` that the reference is made of, perhaps with the
+    /// character that ended it. Of a name that the table lacks it is told only once its `;` is read; `at_text` then
+    /// goes on with the character behind the text. The error is want of memory alone.
+    pub fn in_reference(
+        &mut self,
+        table: &ReferenceTable,
+        text: &str,
+        line: u64,
+    ) -> Result<(), AllocError> {
+        self.leave_name();
+        if let Some(number) = text.strip_prefix('#') {
+            return self.in_number(number, line);
+        }
+        match table.longest_name(text) {
+            Some(reference) if reference.name.ends_with(';') => Ok(()),
+            Some(_) => self.lacks_semicolon(line),
+            None => self.in_unknown_name(text, line),
+        }
+    }
+
+    // Finds the errors of a character reference in a value: the text from its `&` on, and more.
+    pub(crate) fn in_value(
+        &mut self,
+        table: &ReferenceTable,
+        text: &str,
+        line: u64,
+    ) -> Result<(), AllocError> {
+        let text = text.strip_prefix('&').unwrap_or(text);
+        if let Some(number) = text.strip_prefix('#') {
+            return self.in_number(number, line);
+        }
+        match table.longest_name(text) {
+            Some(reference) if reference.name.ends_with(';') => Ok(()),
+            Some(reference) => match character_behind(reference, text) {
+                Some('=') => self.tell("Equals sign after character reference in attribute", line),
+                Some(c) if c.is_ascii_alphanumeric() => Ok(()),
+                _ => self.lacks_semicolon(line),
+            },
+            None => {
+                self.in_unknown_name(text, line)?;
+                self.leave_name();
+                Ok(())
+            }
+        }
+    }
+
+    fn lacks_semicolon(&mut self, line: u64) -> Result<(), AllocError> {
+        self.tell("Character reference does not end with semicolon", line)
+    }
+
+    // Reads a name that the table lacks, as far as it goes.
+    fn in_unknown_name(&mut self, text: &str, line: u64) -> Result<(), AllocError> {
+        self.begin_name();
+        for c in text.chars() {
+            if !self.is_in_name() {
+                break;
+            }
+            self.name_goes_on(c, line)?;
+        }
+        Ok(())
+    }
+
+    fn in_number(&mut self, text: &str, line: u64) -> Result<(), AllocError> {
+        let number = Number::read(text);
+        if !number.has_digits {
+            return self.tell("Numeric character reference without digits", line);
+        }
+        if !number.has_semicolon {
+            self.tell("Semicolon missing after numeric character reference", line)?;
+        }
+        if !number.is_valid() {
+            self.tell_number(number.code, line)?;
+        }
+        Ok(())
+    }
+}
+
+// The character behind a name that a text begins with.
+fn character_behind(reference: NamedReference<'_>, text: &str) -> Option<char> {
+    text.strip_prefix(reference.name)?.chars().next()
+}

@@ -1,0 +1,125 @@
+use crate::ParseErrors;
+use crate::characters::{is_space, line_behind, state_at_end};
+use crate::names::AttributeNames;
+use html_lexemes::states::{AttrValueKind, State};
+use html_lexemes::{ReferenceTable, TagKind};
+use std::alloc::AllocError;
+
+impl ParseErrors {
+    /// Finds the errors of a tag: the text from its name on, up to and with its `>`, or up to the end of the page. The error
+    /// is want of memory alone.
+    pub fn in_tag(
+        &mut self,
+        table: &ReferenceTable,
+        kind: TagKind,
+        text: &str,
+        mut line: u64,
+    ) -> Result<(), AllocError> {
+        self.leave_name();
+        let mut names = AttributeNames::new(self.alloc());
+        let mut state = State::TagName;
+        for (at, c) in text.char_indices() {
+            line = line_behind(line, c);
+            let reading = self.read(state, c, line)?;
+            if c == '&' && matches!(reading, State::AttributeValue(_)) {
+                self.in_value(table, text.get(at..).unwrap_or(""), line)?;
+            }
+            let Some(next) = tag_state(reading, c) else {
+                let is_self_closing = reading == State::SelfClosingStartTag;
+                return self.at_tag_end(kind, &mut names, is_self_closing, line);
+            };
+            if next == State::AttributeName {
+                self.in_attribute_name(&mut names, reading, c, line)?;
+            }
+            state = next;
+        }
+        self.saw_end(state_at_end(state), line)
+    }
+
+    // Takes a character of an attribute's name that is read in a state; in all but one it is the first.
+    fn in_attribute_name(
+        &mut self,
+        names: &mut AttributeNames,
+        state: State,
+        c: char,
+        line: u64,
+    ) -> Result<(), AllocError> {
+        if state != State::AttributeName {
+            self.finish_attribute(names, line)?;
+        }
+        names.push(c)
+    }
+
+    fn finish_attribute(
+        &mut self,
+        names: &mut AttributeNames,
+        line: u64,
+    ) -> Result<(), AllocError> {
+        if names.finish()? {
+            self.tell("Duplicate attribute", line)?;
+        }
+        Ok(())
+    }
+
+    fn at_tag_end(
+        &mut self,
+        kind: TagKind,
+        names: &mut AttributeNames,
+        is_self_closing: bool,
+        line: u64,
+    ) -> Result<(), AllocError> {
+        self.finish_attribute(names, line)?;
+        if kind == TagKind::StartTag {
+            return Ok(());
+        }
+        if !names.is_empty() {
+            self.tell("Attributes on an end tag", line)?;
+        }
+        if is_self_closing {
+            self.tell("Self-closing end tag", line)?;
+        }
+        Ok(())
+    }
+}
+
+// The state behind a character that is read in a state. `None` is the end of the tag.
+fn tag_state(state: State, c: char) -> Option<State> {
+    match state {
+        State::AttributeValue(kind) => value_state(kind, c),
+        State::BeforeAttributeValue => match c {
+            '"' => Some(State::AttributeValue(AttrValueKind::DoubleQuoted)),
+            '\'' => Some(State::AttributeValue(AttrValueKind::SingleQuoted)),
+            '>' => None,
+            _ => Some(State::BeforeAttributeValue),
+        },
+        _ => match c {
+            '>' => None,
+            '/' => Some(State::SelfClosingStartTag),
+            '=' if matches!(state, State::AttributeName | State::AfterAttributeName) => {
+                Some(State::BeforeAttributeValue)
+            }
+            _ if is_space(c) => Some(state_behind_space(state)),
+            _ if state == State::TagName => Some(State::TagName),
+            _ => Some(State::AttributeName),
+        },
+    }
+}
+
+// The same behind white space that is in no value and before none.
+fn state_behind_space(state: State) -> State {
+    match state {
+        State::AttributeName | State::AfterAttributeName => State::AfterAttributeName,
+        _ => State::BeforeAttributeName,
+    }
+}
+
+// The same in a value.
+fn value_state(kind: AttrValueKind, c: char) -> Option<State> {
+    match kind {
+        AttrValueKind::Unquoted if c == '>' => None,
+        AttrValueKind::Unquoted if is_space(c) => Some(State::BeforeAttributeName),
+        AttrValueKind::SingleQuoted if c == '\'' => Some(State::AfterAttributeValueQuoted),
+        AttrValueKind::DoubleQuoted if c == '"' => Some(State::AfterAttributeValueQuoted),
+        _ => Some(State::AttributeValue(kind)),
+    }
+}
