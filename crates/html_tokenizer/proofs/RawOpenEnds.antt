@@ -282,9 +282,9 @@ module _ (table : References) (foreign : Bool) (mode : Mode) where
       let left = left_of word held in
       let front = (and_parts (nat_lt 1 (length held)) (is_word_front word held) b).1 in
       let here : IsOne table foreign mode kind 60 kind (t.text ++ []) = one table foreign mode kind kind 60 (t.text ++ []) (t.no_end mode.last_start_tag []) refl refl
-          (stays kind (60 ∷ (t.text ++ [])) e refl (ap (λ cs. begins_tag word (cs ++ [])) (sym t.is) ∙ no_tag_yet word held front)) in
+      (stays kind (60 ∷ (t.text ++ [])) e refl (ap (λ cs. begins_tag word (cs ++ [])) (sym t.is) ∙ no_tag_yet word held front)) in
       let there : IsOne table foreign mode kind 60 (other_part kind) (t.text ++ left) = one table foreign mode kind (other_part kind) 60 (t.text ++ left) (t.no_end mode.last_start_tag left) refl refl
-          (changes kind (60 ∷ (t.text ++ left)) e refl (ap (λ cs. begins_tag word (cs ++ left)) (sym t.is) ∙ tag_then word held (word_lower kind) front)) in
+      (changes kind (60 ∷ (t.text ++ left)) e refl (ap (λ cs. begins_tag word (cs ++ left)) (sym t.is) ∙ tag_then word held (word_lower kind) front)) in
       subst (IsOpen kind EscapeWord) (sym t.is) (by_kind table foreign mode kind EscapeWord 60 t.text left (steady_left word held (word_steady kind)) here (other_part kind) there (parts_differ kind e))
 
   dash_open : (escape : ScriptEscapeKind) → IsOpen (ScriptDataEscaped escape) Dashes (45 ∷ [])
