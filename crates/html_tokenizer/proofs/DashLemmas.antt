@@ -26,7 +26,7 @@ escaped Rawtext e = absurd cc
 escaped ScriptData e = absurd cc
 escaped (ScriptDataEscaped escape) e = record { escape = escape; is = refl }
 
-dash_or_dashes : (held : List ℕ) → is_one_dash_or_two held ≡ true → (held ≡ 45 ∷ []) ⊎ (held ≡ 45 ∷ 45 ∷ [])
+pub dash_or_dashes : (held : List ℕ) → is_one_dash_or_two held ≡ true → (held ≡ 45 ∷ []) ⊎ (held ≡ 45 ∷ 45 ∷ [])
 dash_or_dashes [] h = absurd cc
 dash_or_dashes (d ∷ []) h = inl (ap (λ x. x ∷ []) (eqb-true d 45 h))
 dash_or_dashes (d ∷ e ∷ []) h =

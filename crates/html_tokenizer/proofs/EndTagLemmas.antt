@@ -37,7 +37,7 @@ front_on p (c ∷ letters) cs h =
     let e = and_parts (p c) (list_all p letters) h in
     sym (chosen_true (p c) (c ∷ front_while p (letters ++ cs)) [] e.0) ∙ ap (λ l. c ∷ l) (front_on p letters cs e.1)
 
-rest_on : (p : ℕ → Bool) (letters cs : List ℕ) → list_all p letters ≡ true → rest_while p (letters ++ cs) ≡ rest_while p cs
+pub rest_on : (p : ℕ → Bool) (letters cs : List ℕ) → list_all p letters ≡ true → rest_while p (letters ++ cs) ≡ rest_while p cs
 rest_on p [] cs h = refl
 rest_on p (c ∷ letters) cs h =
     let e = and_parts (p c) (list_all p letters) h in
@@ -56,7 +56,7 @@ front_off p c cs e = ap (λ b. if b then c ∷ front_while p cs else []) e
 rest_off : (p : ℕ → Bool) (c : ℕ) (cs : List ℕ) → p c ≡ false → rest_while p (c ∷ cs) ≡ c ∷ cs
 rest_off p c cs e = ap (λ b. if b then rest_while p cs else c ∷ cs) e
 
-all_pass : (p q : ℕ → Bool) (cs : List ℕ) → ((c : ℕ) → p c ≡ true → q c ≡ true) → list_all p cs ≡ true → list_all q cs ≡ true
+pub all_pass : (p q : ℕ → Bool) (cs : List ℕ) → ((c : ℕ) → p c ≡ true → q c ≡ true) → list_all p cs ≡ true → list_all q cs ≡ true
 all_pass p q [] f h = refl
 all_pass p q (c ∷ cs) f h =
     let e = and_parts (p c) (list_all p cs) h in
@@ -74,7 +74,7 @@ slash_plain Rawtext = refl
 slash_plain ScriptData = refl
 slash_plain (ScriptDataEscaped _) = refl
 
-slash_same : (kind : RawKind) (cs : List ℕ) → has_end_tags kind ≡ true → kind_behind kind (60 ∷ 47 ∷ cs) ≡ kind
+pub slash_same : (kind : RawKind) (cs : List ℕ) → has_end_tags kind ≡ true → kind_behind kind (60 ∷ 47 ∷ cs) ≡ kind
 slash_same Rcdata cs h = refl
 slash_same Rawtext cs h = refl
 slash_same ScriptData cs h = refl
@@ -94,7 +94,7 @@ tag_text table mode kind letters c k h n = λ rest.
 letter_ascii : (c : ℕ) → is_letter c ≡ true → is_ascii (to_ascii_lowercase (shown c)) ≡ true
 letter_ascii c h = grind (arith, nat_tests)
 
-letter_shown : (c : ℕ) → is_letter c ≡ true → to_ascii_lowercase c ≡ to_ascii_lowercase (shown c)
+pub letter_shown : (c : ℕ) → is_letter c ≡ true → to_ascii_lowercase c ≡ to_ascii_lowercase (shown c)
 letter_shown c h = grind (arith, nat_tests)
 
 name_ascii : (letters : List ℕ) → list_all is_letter letters ≡ true → list_all is_ascii (name_of letters) ≡ true

@@ -21,7 +21,7 @@ script_data Rawtext e = absurd cc
 script_data ScriptData e = refl
 script_data (ScriptDataEscaped part) e = absurd cc
 
-begun : (held : List ℕ) → is_escape_begun held ≡ true → (held ≡ 60 ∷ 33 ∷ []) ⊎ (held ≡ 60 ∷ 33 ∷ 45 ∷ [])
+pub begun : (held : List ℕ) → is_escape_begun held ≡ true → (held ≡ 60 ∷ 33 ∷ []) ⊎ (held ≡ 60 ∷ 33 ∷ 45 ∷ [])
 begun [] h = absurd cc
 begun (l ∷ []) h = absurd cc
 begun (l ∷ b ∷ []) h =

@@ -43,11 +43,11 @@ front_plain part (w ∷ ws) (c ∷ cs) a h =
     and_from (is_raw_text part c) (list_all (is_raw_text part) cs) (plain_in part c (lower_plain w c q.0 p.0)) (front_plain part ws cs q.1 p.1)
 
 -- what is held is `<` and text, which is no end tag
-record IsSignAndText (kind : RawKind) (held : List ℕ) : Type 0 where
-  text : List ℕ
-  is : held ≡ 60 ∷ text
-  no_end : (last : Option (List ℕ)) (rest : List ℕ) → (has_end_tags kind && ends_raw_text last (text ++ rest)) ≡ false
-  plain : (part : RawKind) → list_all (is_raw_text part) text ≡ true
+pub record IsSignAndText (kind : RawKind) (held : List ℕ) : Type 0 where
+  pub text : List ℕ
+  pub is : held ≡ 60 ∷ text
+  pub no_end : (last : Option (List ℕ)) (rest : List ℕ) → (has_end_tags kind && ends_raw_text last (text ++ rest)) ≡ false
+  pub plain : (part : RawKind) → list_all (is_raw_text part) text ≡ true
 
 sign : (x : ℕ) → (to_ascii_lowercase x == 60) ≡ true → x ≡ 60
 sign x h = grind (arith, nat_tests)
@@ -55,7 +55,7 @@ sign x h = grind (arith, nat_tests)
 no_slash : (d : ℕ) → (to_ascii_lowercase d == 115) ≡ true → (d == 47) ≡ false
 no_slash d h = grind (arith, nat_tests)
 
-sign_and_text : (kind : RawKind) (held : List ℕ) → is_escaped kind ≡ true → is_word_begun (word_of kind) held ≡ true → IsSignAndText kind held
+pub sign_and_text : (kind : RawKind) (held : List ℕ) → is_escaped kind ≡ true → is_word_begun (word_of kind) held ≡ true → IsSignAndText kind held
 sign_and_text Rcdata held e h = absurd cc
 sign_and_text Rawtext held e h = absurd cc
 sign_and_text ScriptData held e h = absurd cc
@@ -88,14 +88,14 @@ word_ascii ScriptData = refl
 word_ascii (ScriptDataEscaped Escaped) = refl
 word_ascii (ScriptDataEscaped DoubleEscaped) = refl
 
-stays : (kind : RawKind) (cs : List ℕ) → is_escaped kind ≡ true → begins (codes "-->") cs ≡ false → begins_tag (word_of kind) cs ≡ false → kind_behind kind cs ≡ kind
+pub stays : (kind : RawKind) (cs : List ℕ) → is_escaped kind ≡ true → begins (codes "-->") cs ≡ false → begins_tag (word_of kind) cs ≡ false → kind_behind kind cs ≡ kind
 stays Rcdata cs e a b = absurd cc
 stays Rawtext cs e a b = absurd cc
 stays ScriptData cs e a b = absurd cc
 stays (ScriptDataEscaped Escaped) cs e a b = sym (doubled cs false a b)
 stays (ScriptDataEscaped DoubleEscaped) cs e a b = sym (undoubled cs false a b)
 
-changes : (kind : RawKind) (cs : List ℕ) → is_escaped kind ≡ true → begins (codes "-->") cs ≡ false → begins_tag (word_of kind) cs ≡ true → kind_behind kind cs ≡ other_part kind
+pub changes : (kind : RawKind) (cs : List ℕ) → is_escaped kind ≡ true → begins (codes "-->") cs ≡ false → begins_tag (word_of kind) cs ≡ true → kind_behind kind cs ≡ other_part kind
 changes Rcdata cs e a b = absurd cc
 changes Rawtext cs e a b = absurd cc
 changes ScriptData cs e a b = absurd cc

@@ -12,6 +12,7 @@ pub mod MarkupHeld
 pub mod OpenLemmas
 pub mod PendingLemmas
 pub mod QueueTaken
+pub mod RawOpenEnds
 pub mod RawReads
 pub mod RawTextLemmas
 pub mod ReadsLemmas
