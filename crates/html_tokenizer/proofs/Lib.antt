@@ -22,4 +22,5 @@ pub mod SlicesGoOn
 pub mod TagSteps
 pub mod TagTurnLemmas
 pub mod TagsGoOn
+pub mod Unanswered
 pub mod WordLemmas
