@@ -8,6 +8,7 @@ pub mod EscapeWordLemmas
 pub mod FirstLemmas
 pub mod HeldLemmas
 pub mod MarkupHeld
+pub mod MarkupOpenEnds
 pub mod OpenLemmas
 pub mod PendingLemmas
 pub mod QueueTaken
