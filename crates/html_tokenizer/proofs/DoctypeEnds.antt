@@ -34,11 +34,11 @@ either_none : (b : Bool) (xs ys : List ℕ) → HasNoGreater xs → HasNoGreater
 either_none true xs ys n m = n
 either_none false xs ys n m = m
 
-rest_none : (p : ℕ → Bool) (hs : List ℕ) → HasNoGreater hs → HasNoGreater (rest_while p hs)
+pub rest_none : (p : ℕ → Bool) (hs : List ℕ) → HasNoGreater hs → HasNoGreater (rest_while p hs)
 rest_none p [] n = refl
 rest_none p (h ∷ hs) n = either_none (p h) (rest_while p hs) (h ∷ hs) (rest_none p hs (first_of h hs n).1) n
 
-drop_none : (k : ℕ) (hs : List ℕ) → HasNoGreater hs → HasNoGreater (drop k hs)
+pub drop_none : (k : ℕ) (hs : List ℕ) → HasNoGreater hs → HasNoGreater (drop k hs)
 drop_none zero hs n = n
 drop_none (suc k) [] n = refl
 drop_none (suc k) (h ∷ hs) n = drop_none k hs (first_of h hs n).1

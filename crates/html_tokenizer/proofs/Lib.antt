@@ -9,6 +9,7 @@ pub mod FirstLemmas
 pub mod GoingLemmas
 pub mod HeldLemmas
 pub mod MarkupHeld
+pub mod MarkupOpenEnds
 pub mod OpenLemmas
 pub mod PendingLemmas
 pub mod QueueTaken
@@ -26,4 +27,5 @@ pub mod TagSteps
 pub mod TagTurnLemmas
 pub mod TagsGoOn
 pub mod TellsLemmas
+pub mod Unanswered
 pub mod WordLemmas

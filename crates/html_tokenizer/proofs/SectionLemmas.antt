@@ -58,10 +58,10 @@ shifts mode c e = (refl, λ rest. ap (λ d. section_lexeme mode (93 ∷ 93 ∷ d
 
 -- ---- what is held, short of two brackets
 
-is_one : (b : ℕ) → IsTrue (is_begun_section_end (b ∷ [])) → b ≡ 93
+pub is_one : (b : ℕ) → IsTrue (is_begun_section_end (b ∷ [])) → b ≡ 93
 is_one b begun = eqb-true b 93 (and_parts _ _ begun).0
 
-are_two : (b d : ℕ) → IsTrue (is_begun_section_end (b ∷ d ∷ [])) → b ∷ d ∷ [] ≡ 93 ∷ 93 ∷ []
+pub are_two : (b d : ℕ) → IsTrue (is_begun_section_end (b ∷ d ∷ [])) → b ∷ d ∷ [] ≡ 93 ∷ 93 ∷ []
 are_two b d begun =
     let parts = and_parts (b == 93) _ begun in
     let first : b ≡ 93 = eqb-true b 93 parts.0 in
