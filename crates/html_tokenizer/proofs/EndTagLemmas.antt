@@ -153,10 +153,6 @@ no_end_tag last cs e = and_right (begins (codes "/") cs) _ (no_end_name last (fr
 pub slash_before : (table : References) (mode : Mode) (kind : RawKind) → has_end_tags kind ≡ true → has_end_tag mode.last_start_tag ≡ false → IsTextBefore table mode kind (60 ∷ []) kind 47
 slash_before table mode kind k e = λ rest. sign_text table mode kind kind [] (47 ∷ rest) (and_right (has_end_tags kind) (ends_raw_text mode.last_start_tag (47 ∷ rest)) (no_end_tag mode.last_start_tag (47 ∷ rest) e)) (slash_same kind rest k) refl
 
-pub slash_goes : (last : Option (List ℕ)) (kind : RawKind) → has_end_tags kind ≡ true → has_end_tag last ≡ true → is_raw_going last kind EndTagName (60 ∷ 47 ∷ []) ≡ true
-slash_goes None kind k e = absurd cc
-slash_goes (Some name) kind k e = and_from (is_raw_held kind EndTagName (60 ∷ 47 ∷ [])) (is_end_tag_front (Some name) []) (and_from (has_end_tags kind) true k refl) (and_from (is_name_of_letters name) true e refl)
-
 -- one more letter of the last start tag's name, which is given by its bytes
 pub letter_goes : (last : Option (List ℕ)) (kind : RawKind) (letters name : List ℕ) (c : ℕ) → has_end_tags kind ≡ true → list_all is_letter letters ≡ true → is_letter c ≡ true → is_end_tag_front last letters ≡ true → last ≡ Some (chars name) → IsUtf8 name → is_at (to_ascii_lowercase c) name (length letters) ≡ true → is_raw_going last kind EndTagName (60 ∷ 47 ∷ (letters ++ c ∷ [])) ≡ true
 letter_goes last kind letters name c k h l f s u a =
@@ -204,6 +200,12 @@ tag_begun (l ∷ s ∷ cs) name h e =
     let q = and_parts (l == 60) (s == 47) p.0 in
     let n = (mark_found (codes "</") (l ∷ s ∷ cs) name e).1 in
     (ap (λ x. x ∷ s ∷ cs) (eqb-true l 60 q.0) ∙ ap (λ x. 60 ∷ x ∷ cs) (eqb-true s 47 q.1) ∙ ap (λ x. 60 ∷ 47 ∷ x) (sym n), ap (list_all is_letter) n ∙ p.1)
+
+pub end_tag_held : (last : Option (List ℕ)) (kind : RawKind) (held : List ℕ) → is_raw_going last kind EndTagName held ≡ true → (has_end_tags kind ≡ true) × (is_end_tag_begun held ≡ true) × (is_end_tag_front last (drop 2 held) ≡ true)
+end_tag_held last kind held h =
+    let p = and_parts (is_raw_held kind EndTagName held) (is_end_tag_front last (drop 2 held)) h in
+    let q = and_parts (has_end_tags kind) (is_end_tag_begun held) p.0 in
+    (q.0, q.1, p.1)
 
 pub tag_not_begun : (held : List ℕ) → is_end_tag_begun held ≡ true → None ≡ after (codes "</") held → ⊥
 tag_not_begun [] h e = cc
