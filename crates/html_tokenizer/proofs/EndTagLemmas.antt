@@ -172,9 +172,6 @@ letter_before table mode kind letters c k h l d = tag_text table mode kind lette
     not_named mode.last_start_tag (front_while is_letter (letters ++ c ∷ rest)) (rest_while is_letter (letters ++ c ∷ rest))
     (ap (λ n. is_last mode.last_start_tag (name_of n)) front ∙ d more (all_append is_letter letters (c ∷ more) h (and_from (is_letter c) (list_all is_letter more) l (front_passes is_letter rest)))))
 
-pub no_last : (table : References) (mode : Mode) (kind : RawKind) (letters : List ℕ) (c : ℕ) → has_end_tags kind ≡ true → list_all is_letter letters ≡ true → is_letter c ≡ true → mode.last_start_tag ≡ None → IsTextBefore table mode kind (60 ∷ 47 ∷ letters) kind c
-no_last table mode kind letters c k h l e = letter_before table mode kind letters c k h l (subst (λ last. last_differs last letters c) (sym e) (λ more a. refl))
-
 pub other_last : (table : References) (mode : Mode) (kind : RawKind) (letters name last : List ℕ) (c : ℕ) → has_end_tags kind ≡ true → list_all is_letter letters ≡ true → is_letter c ≡ true → mode.last_start_tag ≡ Some last → IsUtf8 name → chars name ≡ last → is_at (to_ascii_lowercase c) name (length letters) ≡ false → IsTextBefore table mode kind (60 ∷ 47 ∷ letters) kind c
 other_last table mode kind letters name last c k h l e u s n = letter_before table mode kind letters c k h l (subst (λ o. last_differs o letters c) (ap (λ t. Some t) s ∙ sym e) (λ more a. other_letters name letters more c u a l n))
 
