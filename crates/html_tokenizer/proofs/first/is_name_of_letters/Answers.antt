@@ -1,4 +1,4 @@
-use Rattle.std.proofs.Common.{rules, ◌&&◌, nat_lt, length, chars, not, sym, ap, ◌∙◌}
+use Rattle.std.proofs.Common.{rules, length, chars, not, sym, ap, ◌∙◌}
 use borrow.Author.Tests.{tests}
 use Rattle.std.proofs.lemmas.Bool.{eqb-true}
 use Rattle.std.proofs.lemmas.Iterator.{YieldsList-from_chars}
