@@ -1,12 +1,12 @@
 -- The turn at `</` and letters.
-use Rattle.std.proofs.Common.{◌≡◌, ℕ, Bool, true, false, not, ◌==◌, ◌&&◌, nat_lt, List, [], ◌∷◌, ◌++◌, length, codes, Option, Some, None, option_map, append-nil, IsUtf8, refl, sym, ap, subst, ◌∙◌, arith}
+use Rattle.std.proofs.Common.{◌≡◌, ℕ, Bool, true, false, not, ◌==◌, ◌&&◌, nat_lt, List, [], ◌∷◌, ◌++◌, length, drop, codes, Option, Some, None, option_map, append-nil, IsUtf8, refl, sym, ap, subst, ◌∙◌, arith}
 use Rattle.std.proofs.lemmas.Bool.{and_from, and_parts, and_left, and_right, eqb-true, eq-eqb, both_ways, false_from_ne_true, lt-ltb}
 use Rattle.std.proofs.lemmas.Bool.Decides.{nat_tests}
 use Rattle.std.specs.Char.{is_ascii_alphabetic, to_ascii_lowercase}
 use Rattle.std.specs.List.{list_all}
 use Rattle.std.specs.Prelude.{if◌then◌else◌}
 use Rattle.std.specs.Str.{bytes_eq, chars}
-use Rattle.html_lexemes.specs.References.{References}
+use Rattle.html_lexemes.specs.References.{References, is_between}
 use Rattle.html_lexemes.specs.Texts.{same_texts}
 use Rattle.html_lexemes.specs.declared.states.RawKind.{RawKind}
 use Rattle.html_lexemes.specs.declared.states.RawKind.TheVariants.{Rcdata, Rawtext, ScriptData, ScriptDataEscaped}
@@ -22,13 +22,15 @@ use Rattle.html_grammar.proofs.LexemeLemmas.{chosen_true, mark_found, no_mark}
 use Rattle.html_grammar.proofs.SliceLemmas.{no_bytes}
 use Rattle.html_lexemes.proofs.NameTests.{some_chars}
 use Rattle.html_tokenizer.specs.RawHeld.{is_at}
-use Rattle.html_tokenizer.specs.RawSound.{is_end_tag_begun}
+use Rattle.html_tokenizer.specs.Goings.{has_end_tag, is_end_tag_front, is_name_of_letters, is_raw_going}
+use Rattle.html_tokenizer.specs.RawSound.{is_end_tag_begun, is_raw_held, is_word_front}
 use Rattle.html_tokenizer.specs.RawTurns.{IsEndTag, IsTextBefore}
 use Rattle.html_tokenizer.specs.TagPlaces.{IsInTag, tag_rest}
 use Rattle.html_tokenizer.specs.Turns.{is_raw_text}
+use Rattle.html_tokenizer.specs.declared.place.RawPlace.TheVariants.{EndTagName}
 use Rattle.html_tokenizer.specs.declared.place.TagPlace.TheVariants.{TagName}
 use Rattle.html_tokenizer.proofs.RawTextLemmas.{sign_text}
-use Rattle.html_tokenizer.proofs.WordLemmas.{ascii_text, is_ascii}
+use Rattle.html_tokenizer.proofs.WordLemmas.{ascii_text, front_more, is_ascii}
 
 -- fronts of characters that pass
 front_on : (p : ℕ → Bool) (letters cs : List ℕ) → list_all p letters ≡ true → front_while p (letters ++ cs) ≡ letters ++ front_while p cs
@@ -91,17 +93,23 @@ tag_text table mode kind letters c k h n = λ rest.
     (and_from (is_raw_text kind 47) (list_all (is_raw_text kind) letters) (slash_plain kind) (all_pass is_letter (is_raw_text kind) letters (letter_plain kind) h))
 
 -- names
-letter_ascii : (c : ℕ) → is_letter c ≡ true → is_ascii (to_ascii_lowercase (shown c)) ≡ true
-letter_ascii c h = grind (arith, nat_tests)
+letter_lower : (c : ℕ) → is_letter c ≡ true → is_between 97 122 (to_ascii_lowercase (shown c)) ≡ true
+letter_lower c h = grind (arith, nat_tests)
+
+lower_ascii : (c : ℕ) → is_between 97 122 c ≡ true → is_ascii c ≡ true
+lower_ascii c h = grind (arith, nat_tests)
 
 pub letter_shown : (c : ℕ) → is_letter c ≡ true → to_ascii_lowercase c ≡ to_ascii_lowercase (shown c)
 letter_shown c h = grind (arith, nat_tests)
 
-name_ascii : (letters : List ℕ) → list_all is_letter letters ≡ true → list_all is_ascii (name_of letters) ≡ true
-name_ascii [] h = refl
-name_ascii (c ∷ letters) h =
+name_lower : (letters : List ℕ) → list_all is_letter letters ≡ true → list_all (is_between 97 122) (name_of letters) ≡ true
+name_lower [] h = refl
+name_lower (c ∷ letters) h =
     let e = and_parts (is_letter c) (list_all is_letter letters) h in
-    and_from (is_ascii (to_ascii_lowercase (shown c))) (list_all is_ascii (name_of letters)) (letter_ascii c e.0) (name_ascii letters e.1)
+    and_from (is_between 97 122 (to_ascii_lowercase (shown c))) (list_all (is_between 97 122) (name_of letters)) (letter_lower c e.0) (name_lower letters e.1)
+
+name_ascii : (letters : List ℕ) → list_all is_letter letters ≡ true → list_all is_ascii (name_of letters) ≡ true
+name_ascii letters h = all_pass (is_between 97 122) is_ascii (name_of letters) lower_ascii (name_lower letters h)
 
 at_named : (letters more : List ℕ) (c : ℕ) → is_letter c ≡ true → is_at (to_ascii_lowercase c) (name_of (letters ++ c ∷ more)) (length letters) ≡ true
 at_named [] more c h = eq-eqb (to_ascii_lowercase c) (to_ascii_lowercase (shown c)) (letter_shown c h)
@@ -129,15 +137,40 @@ last_differs last letters c = (more : List ℕ) → list_all is_letter (letters 
 not_named : (last : Option (List ℕ)) (name rest : List ℕ) → is_last last (name_of name) ≡ false → named_end_tag last name rest ≡ false
 not_named last name rest e = and_left (nat_lt 0 (length name) && is_last last (name_of name)) (first_passes ends_tag_name rest) (and_right (nat_lt 0 (length name)) (is_last last (name_of name)) e)
 
+lower_name : (c : ℕ) (letters : List ℕ) → list_all is_letter (c ∷ letters) ≡ true → is_name_of_letters (name_of (c ∷ letters)) ≡ true
+lower_name c letters h = and_from (nat_lt 0 (length (name_of (c ∷ letters)))) (list_all (is_between 97 122) (name_of (c ∷ letters))) (lt-ltb 0 (length (name_of (c ∷ letters))) (omega arith)) (name_lower (c ∷ letters) h)
+
+-- without an end tag that the last start tag's name can have
+no_end_name : (last : Option (List ℕ)) (name rest : List ℕ) → has_end_tag last ≡ false → list_all is_letter name ≡ true → named_end_tag last name rest ≡ false
+no_end_name None name rest e h = not_named None name rest refl
+no_end_name (Some last) [] rest e h = refl
+no_end_name (Some last) (c ∷ name) rest e h = not_named (Some last) (c ∷ name) rest (false_from_ne_true (bytes_eq last (name_of (c ∷ name))) (λ t.
+    both_ways (is_name_of_letters last) e (ap is_name_of_letters (same_texts last (name_of (c ∷ name)) t) ∙ lower_name c name h)))
+
+pub no_end_tag : (last : Option (List ℕ)) (cs : List ℕ) → has_end_tag last ≡ false → ends_raw_text last cs ≡ false
+no_end_tag last cs e = and_right (begins (codes "/") cs) _ (no_end_name last (front_while is_letter (drop 1 cs)) (rest_while is_letter (drop 1 cs)) e (front_passes is_letter (drop 1 cs)))
+
+pub slash_before : (table : References) (mode : Mode) (kind : RawKind) → has_end_tags kind ≡ true → has_end_tag mode.last_start_tag ≡ false → IsTextBefore table mode kind (60 ∷ []) kind 47
+slash_before table mode kind k e = λ rest. sign_text table mode kind kind [] (47 ∷ rest) (and_right (has_end_tags kind) (ends_raw_text mode.last_start_tag (47 ∷ rest)) (no_end_tag mode.last_start_tag (47 ∷ rest) e)) (slash_same kind rest k) refl
+
+-- one more letter of the last start tag's name, which is given by its bytes
+pub letter_goes : (last : Option (List ℕ)) (kind : RawKind) (letters name : List ℕ) (c : ℕ) → has_end_tags kind ≡ true → list_all is_letter letters ≡ true → is_letter c ≡ true → is_end_tag_front last letters ≡ true → last ≡ Some (chars name) → IsUtf8 name → is_at (to_ascii_lowercase c) name (length letters) ≡ true → is_raw_going last kind EndTagName (60 ∷ 47 ∷ (letters ++ c ∷ [])) ≡ true
+letter_goes last kind letters name c k h l f s u a =
+    let p = and_parts (is_name_of_letters (chars name)) (is_word_front (chars name) letters) (ap (λ o. is_end_tag_front o letters) (sym s) ∙ f) in
+    let q = and_parts (nat_lt 0 (length (chars name))) (list_all (is_between 97 122) (chars name)) p.0 in
+    let bytes : name ≡ chars name = ascii_text name u (all_pass (is_between 97 122) is_ascii (chars name) lower_ascii q.1) in
+    let front : is_end_tag_front (Some (chars name)) (letters ++ c ∷ []) ≡ true =
+    and_from (is_name_of_letters (chars name)) (is_word_front (chars name) (letters ++ c ∷ [])) p.0 (front_more (chars name) letters c p.1 (ap (λ n. is_at (to_ascii_lowercase c) n (length letters)) (sym bytes) ∙ a)) in
+    and_from (is_raw_held kind EndTagName (60 ∷ 47 ∷ (letters ++ c ∷ []))) (is_end_tag_front last (letters ++ c ∷ []))
+    (and_from (has_end_tags kind) (list_all is_letter (letters ++ c ∷ [])) k (all_append is_letter letters (c ∷ []) h (and_from (is_letter c) true l refl)))
+    (ap (λ o. is_end_tag_front o (letters ++ c ∷ [])) s ∙ front)
+
 letter_before : (table : References) (mode : Mode) (kind : RawKind) (letters : List ℕ) (c : ℕ) → has_end_tags kind ≡ true → list_all is_letter letters ≡ true → is_letter c ≡ true → last_differs mode.last_start_tag letters c → IsTextBefore table mode kind (60 ∷ 47 ∷ letters) kind c
 letter_before table mode kind letters c k h l d = tag_text table mode kind letters c k h (λ rest.
     let more : List ℕ = front_while is_letter rest in
     let front : front_while is_letter (letters ++ c ∷ rest) ≡ letters ++ c ∷ more = letters_on letters rest c h l in
     not_named mode.last_start_tag (front_while is_letter (letters ++ c ∷ rest)) (rest_while is_letter (letters ++ c ∷ rest))
     (ap (λ n. is_last mode.last_start_tag (name_of n)) front ∙ d more (all_append is_letter letters (c ∷ more) h (and_from (is_letter c) (list_all is_letter more) l (front_passes is_letter rest)))))
-
-pub no_last : (table : References) (mode : Mode) (kind : RawKind) (letters : List ℕ) (c : ℕ) → has_end_tags kind ≡ true → list_all is_letter letters ≡ true → is_letter c ≡ true → mode.last_start_tag ≡ None → IsTextBefore table mode kind (60 ∷ 47 ∷ letters) kind c
-no_last table mode kind letters c k h l e = letter_before table mode kind letters c k h l (subst (λ last. last_differs last letters c) (sym e) (λ more a. refl))
 
 pub other_last : (table : References) (mode : Mode) (kind : RawKind) (letters name last : List ℕ) (c : ℕ) → has_end_tags kind ≡ true → list_all is_letter letters ≡ true → is_letter c ≡ true → mode.last_start_tag ≡ Some last → IsUtf8 name → chars name ≡ last → is_at (to_ascii_lowercase c) name (length letters) ≡ false → IsTextBefore table mode kind (60 ∷ 47 ∷ letters) kind c
 other_last table mode kind letters name last c k h l e u s n = letter_before table mode kind letters c k h l (subst (λ o. last_differs o letters c) (ap (λ t. Some t) s ∙ sym e) (λ more a. other_letters name letters more c u a l n))
@@ -164,6 +197,12 @@ tag_begun (l ∷ s ∷ cs) name h e =
     let q = and_parts (l == 60) (s == 47) p.0 in
     let n = (mark_found (codes "</") (l ∷ s ∷ cs) name e).1 in
     (ap (λ x. x ∷ s ∷ cs) (eqb-true l 60 q.0) ∙ ap (λ x. 60 ∷ x ∷ cs) (eqb-true s 47 q.1) ∙ ap (λ x. 60 ∷ 47 ∷ x) (sym n), ap (list_all is_letter) n ∙ p.1)
+
+pub end_tag_held : (last : Option (List ℕ)) (kind : RawKind) (held : List ℕ) → is_raw_going last kind EndTagName held ≡ true → (has_end_tags kind ≡ true) × (is_end_tag_begun held ≡ true) × (is_end_tag_front last (drop 2 held) ≡ true)
+end_tag_held last kind held h =
+    let p = and_parts (is_raw_held kind EndTagName held) (is_end_tag_front last (drop 2 held)) h in
+    let q = and_parts (has_end_tags kind) (is_end_tag_begun held) p.0 in
+    (q.0, q.1, p.1)
 
 pub tag_not_begun : (held : List ℕ) → is_end_tag_begun held ≡ true → None ≡ after (codes "</") held → ⊥
 tag_not_begun [] h e = cc

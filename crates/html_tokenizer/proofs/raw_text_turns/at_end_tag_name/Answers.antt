@@ -1,31 +1,37 @@
 use Rattle.std.proofs.Common.{◌&&◌, nat_lt, length, drop, chars, refl, sym, ap, subst, ◌∙◌}
-use Rattle.std.proofs.lemmas.Bool.{and_parts, not-false, not-true}
+use Rattle.std.proofs.lemmas.Bool.{not-false, not-true}
 use Rattle.html_grammar.specs.Characters.{name_of}
-use Rattle.html_grammar.specs.Lexemes.{has_end_tags, is_last}
+use Rattle.html_grammar.specs.Lexemes.{is_last}
 use Rattle.html_grammar.specs.Slices.{after}
 use Rattle.html_grammar.specs.Tags.{ends_tag_name}
+use Rattle.html_tokenizer.specs.Goings.{is_end_tag_front}
 use Rattle.html_tokenizer.specs.RawHeld.{held_behind}
-use Rattle.html_tokenizer.specs.RawSound.{is_end_tag_begun}
 use Rattle.html_tokenizer.specs.RawTurns.{IsEndTag, IsTextBefore, RawTurns}
-use Rattle.html_tokenizer.proofs.EndTagLemmas.{end_mark, last_name, name_goes_on, no_letter, other_name, tag_begun, tag_not_begun}
+use Rattle.html_tokenizer.proofs.EndTagLemmas.{end_mark, end_tag_held, last_name, name_goes_on, no_letter, other_name, tag_begun, tag_not_begun}
 use Rattle.html_tokenizer.proofs.raw_text_turns.at_end_tag_name.Goals as goal
 
 pub returns-in_default : goal.returns-in_default
 returns-in_default c =
     let held = chars c.args.held.now in
-    let p = and_parts (has_end_tags c.args.kind) (is_end_tag_begun held) c.requires in
+    let p = end_tag_held c.args.last.now c.args.kind held c.requires in
     absurd (tag_not_begun held p.1 (c.in_default.ensures.value ∙ ap (λ m. after m held) end_mark))
 
 pub at_letter-requires-clause-letters : goal.at_letter-requires-clause-letters
 at_letter-requires-clause-letters c =
     let held = chars c.args.held.now in
-    let p = and_parts (has_end_tags c.args.kind) (is_end_tag_begun held) c.requires in
+    let p = end_tag_held c.args.last.now c.args.kind held c.requires in
     (tag_begun held (chars c.in-Some.letters.now) p.1 (c.in-Some.ensures.value ∙ ap (λ m. after m held) end_mark)).1
+
+pub at_letter-requires-clause-front : goal.at_letter-requires-clause-front
+at_letter-requires-clause-front c =
+    let held = chars c.args.held.now in
+    let p = end_tag_held c.args.last.now c.args.kind held c.requires in
+    ap (λ l. is_end_tag_front c.args.last.now (drop 2 l)) (sym (tag_begun held (chars c.in-Some.letters.now) p.1 (c.in-Some.ensures.value ∙ ap (λ m. after m held) end_mark)).0) ∙ p.2
 
 pub returns-then-is_ascii_alphabetic : goal.returns-then-is_ascii_alphabetic
 returns-then-is_ascii_alphabetic c =
     let held = chars c.args.held.now in
-    let p = and_parts (has_end_tags c.args.kind) (is_end_tag_begun held) c.requires in
+    let p = end_tag_held c.args.last.now c.args.kind held c.requires in
     let t = tag_begun held (chars c.in-Some.letters.now) p.1 (c.in-Some.ensures.value ∙ ap (λ m. after m held) end_mark) in
     λ table foreign mode e. subst (λ l. RawTurns table foreign mode c.args.kind l c.args.c c.at_letter.result (held_behind c.at_letter.result l c.args.c)) (sym t.0) (c.at_letter.ensures table foreign mode e)
 
@@ -33,7 +39,7 @@ pub returns-then-has : goal.returns-then-has
 returns-then-has c =
     let held = chars c.args.held.now in
     let letters = chars c.in-Some.letters.now in
-    let p = and_parts (has_end_tags c.args.kind) (is_end_tag_begun held) c.requires in
+    let p = end_tag_held c.args.last.now c.args.kind held c.requires in
     let t = tag_begun held letters p.1 (c.in-Some.ensures.value ∙ ap (λ m. after m held) end_mark) in
     let other = no_letter c.args.c (sym c.is_ascii_alphabetic.ensures.value ∙ c.if-is_ascii_alphabetic.false) in
     λ table foreign mode e. (
@@ -46,7 +52,7 @@ pub returns-then-branch : goal.returns-then-branch
 returns-then-branch c =
     let held = chars c.args.held.now in
     let letters = chars c.in-Some.letters.now in
-    let p = and_parts (has_end_tags c.args.kind) (is_end_tag_begun held) c.requires in
+    let p = end_tag_held c.args.last.now c.args.kind held c.requires in
     let t = tag_begun held letters p.1 (c.in-Some.ensures.value ∙ ap (λ m. after m held) end_mark) in
     let other = no_letter c.args.c (sym c.is_ascii_alphabetic.ensures.value ∙ c.if-is_ascii_alphabetic.false) in
     λ table foreign mode e. subst (λ l. IsEndTag table foreign mode c.args.kind l c.args.c (drop 2 l)) (sym t.0)
@@ -57,7 +63,7 @@ pub returns : goal.returns
 returns c =
     let held = chars c.args.held.now in
     let letters = chars c.in-Some.letters.now in
-    let p = and_parts (has_end_tags c.args.kind) (is_end_tag_begun held) c.requires in
+    let p = end_tag_held c.args.last.now c.args.kind held c.requires in
     let t = tag_begun held letters p.1 (c.in-Some.ensures.value ∙ ap (λ m. after m held) end_mark) in
     let other = no_letter c.args.c (sym c.is_ascii_alphabetic.ensures.value ∙ c.if-is_ascii_alphabetic.false) in
     λ table foreign mode e. (
