@@ -184,12 +184,12 @@ module _ {A H : Type 0} (table : References) (step : A → Item → A) (reply : 
       let whole : step s (characters pushed) ≡ fold step s1 (map ordinary_item held) = ap (λ x. step s (characters x)) p ∙ (sym (j s run held) ∙ plain_items held s1 j k h) in
       ap (λ x. step told_to (characters x)) n ∙ (k told_to ∙ (t ∙ (ap (λ x. step x null_character) whole ∙ (ap (λ x. step (fold step s1 (map ordinary_item held)) (ordinary_item x)) (sym z) ∙ sym (items_behind held c s1)))))
 
-  pub section_character : (held run pushed now : List ℕ) (c : ℕ) (s : A) → Joins → Skips → IsTrue (list_all (λ d. not (d == 0)) held) → pushed ≡ run ++ held → now ≡ pushed ++ c ∷ [] → IsTrue (not (c == 0)) →
-      step s (characters now) ≡ fold step (step s (characters run)) (map ordinary_item (held ++ c ∷ []))
-  section_character held run pushed now c s j k h p n z =
+  pub section_character : (held run pushed : List ℕ) (c : ℕ) (s now : A) → Joins → Skips → IsTrue (list_all (λ d. not (d == 0)) held) → pushed ≡ run ++ held → now ≡ step (step s (characters pushed)) (characters (c ∷ [])) → IsTrue (not (c == 0)) →
+      now ≡ fold step (step s (characters run)) (map ordinary_item (held ++ c ∷ []))
+  section_character held run pushed c s now j k h p n z =
       let s1 = step s (characters run) in
       let whole : step s (characters pushed) ≡ fold step s1 (map ordinary_item held) = ap (λ x. step s (characters x)) p ∙ (sym (j s run held) ∙ plain_items held s1 j k h) in
-      ap (λ x. step s (characters x)) n ∙ (sym (j s pushed (c ∷ [])) ∙ (ap (λ x. step x (characters (c ∷ []))) whole ∙ (ap (λ x. step (fold step s1 (map ordinary_item held)) x) (sym (ordinary_plain c z)) ∙ sym (items_behind held c s1))))
+      n ∙ (ap (λ x. step x (characters (c ∷ []))) whole ∙ (ap (λ x. step (fold step s1 (map ordinary_item held)) x) (sym (ordinary_plain c z)) ∙ sym (items_behind held c s1)))
 
   pub section_goes : (mode : Mode) (place next : Place) (held now : List ℕ) (c : ℕ) (rest : List ℕ) (s final : A) → place ≡ CdataSection → next ≡ CdataSection → now ≡ held ++ c ∷ [] → Stays mode next (now ++ rest) s final → Stays mode place (held ++ c ∷ rest) s final
   section_goes mode place next held now c rest s final e n h l =

@@ -21,6 +21,7 @@ use Rattle.html_grammar.specs.declared.modes.Mode.{Mode}
 use Rattle.html_grammar.specs.declared.modes.TextKind.{TextKind}
 use Rattle.html_grammar.specs.declared.modes.TextKind.TheVariants.{Ordinary, Plain, Raw}
 use Rattle.html_grammar.proofs.MarkLemmas.{chars-encode}
+use Rattle.html_tokenizer.specs.Goings.{may_begin}
 use Rattle.html_tokenizer.specs.Places.{place_lexeme}
 use Rattle.html_tokenizer.specs.RawSound.{is_escaped}
 use Rattle.html_tokenizer.specs.Reads.{Follows, Leaves}
@@ -91,7 +92,7 @@ text_character_of table foreign Plain mode c rest m h =
     ap (λ t. lexeme_in table foreign t mode c rest) m ∙ ap (λ x. told (characters (x ∷ []) ∷ []) mode rest) (sym (shown_same c n.0))
 text_character_of table foreign (Raw kind) mode c rest m h =
     let n = raw_text_is kind c h in
-    raw_first_in table foreign kind mode c c rest (shown_same c n.0) n.1.0 (and_false (c == 38) (has_references kind) n.1.1.0) n.1.1.1 m
+    raw_first_in table foreign mode.last_start_tag kind mode c c rest (shown_same c n.0) (and_false (c == 60) (may_begin mode.last_start_tag kind) n.1.0) (and_false (c == 38) (has_references kind) n.1.1.0) n.1.1.1 m refl
 
 text_character : (table : References) (foreign : Bool) (mode : Mode) (c : ℕ) (rest : List ℕ) → IsTrue (is_text mode.text c) → lexeme table foreign mode (c ∷ rest) ≡ told (characters (c ∷ []) ∷ []) mode rest
 text_character table foreign mode c rest h = text_character_of table foreign mode.text mode c rest refl h
@@ -149,14 +150,12 @@ module _ {A H : Type 0} (table : References) (step : A → Item → A) (reply : 
       (subst (λ x. Follows table step reply foreign mode (place_lexeme table (foreign s) mode Text (x ++ cs)) s final) (sym h)
       (subst (λ x. Follows table step reply foreign mode x s final) (sym k) r))
 
-  pub text_read : (mode : Mode) (place : Place) (held run now : List ℕ) (c d : ℕ) (rest : List ℕ) (s final : A) → Joins → place ≡ Text → held ≡ [] → now ≡ run ++ d ∷ [] →
+  pub text_read : (mode : Mode) (place : Place) (held : List ℕ) (c d : ℕ) (rest : List ℕ) (s1 s2 final : A) → place ≡ Text → held ≡ [] → s2 ≡ step s1 (characters (d ∷ [])) →
       ((f : Bool) → lexeme table f mode (c ∷ rest) ≡ told (characters (d ∷ []) ∷ []) mode rest) →
-      Stays mode place (held ++ rest) (step s (characters now)) final → Stays mode place (held ++ c ∷ rest) (step s (characters run)) final
-  text_read mode place held run now c d rest s final j e h n k l =
-      let s1 = step s (characters run) in
-      let same : step s (characters now) ≡ step s1 (characters (d ∷ [])) = ap (λ x. step s (characters x)) n ∙ sym (j s run (d ∷ [])) in
+      Stays mode place (held ++ rest) s2 final → Stays mode place (held ++ c ∷ rest) s1 final
+  text_read mode place held c d rest s1 s2 final e h t k l =
       leaves_of mode place held (c ∷ rest) s1 final (told (characters (d ∷ []) ∷ []) mode rest) e h (k (foreign s1))
-      (subst (λ x. Reads mode x rest final) same (reading_of mode place held rest (step s (characters now)) final e h l))
+      (subst (λ x. Reads mode x rest final) t (reading_of mode place held rest s2 final e h l))
 
   pub null_read : (mode : Mode) (place : Place) (held : List ℕ) (c : ℕ) (rest run : List ℕ) (s1 s2 final : A) → Skips → place ≡ Text → held ≡ [] → run ≡ [] →
       ((f : Bool) → lexeme table f mode (c ∷ rest) ≡ told (null_character ∷ []) mode rest) → s2 ≡ step s1 null_character →

@@ -423,7 +423,8 @@ impl Reader {
             Reads table S.step S.reply S.foreign self.new (S.state sink.new) rest final →
             Reads table S.step S.reply S.foreign self.old (S.state sink.old) (c ∷ rest) final) }
     {
-        self.heed(c)?;
+        self.errors
+            .at_text(state_of(self.mode.text), c, self.line)?;
         match first_of(&self.mode.last_start_tag, self.mode.text, c) {
             First::Text(shown) => self.read_text(sink, shown)?,
             First::Null => self.tell_null(sink)?,
@@ -431,15 +432,6 @@ impl Reader {
             First::OpensRaw(kind, place) => self.pending.open_raw(kind, place, c)?,
         }
         Ok(())
-    }
-
-    // finds the errors at a character of text
-    fn heed(&mut self, c: char) -> Result<(), AllocError>
-        ensures mode { self.new.mode ≡ self.old.mode }
-        ensures run { self.new.run ≡ self.old.run }
-        ensures pending { self.new.pending ≡ self.old.pending }
-    {
-        self.errors.at_text(state_of(self.mode.text), c, self.line)
     }
 
     // Reads a character as text. Errors are told before it; before a LF, which they could change, they are not.

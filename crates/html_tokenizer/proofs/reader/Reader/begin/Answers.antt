@@ -1,17 +1,20 @@
 use Rattle.std.proofs.Common.{refl, ap, ◌∙◌, string_bytes}
-use Rattle.std.proofs.lemmas.Str.{IsUtf8-string_bytes, chars-nil}
+use Rattle.std.proofs.lemmas.Str.{chars-nil}
 use Rattle.std.specs.Str.{chars}
 use Rattle.html_grammar.specs.Items.{characters}
-use Rattle.html_tokenizer.proofs.ReadsLemmas.{held_none, null_read, pushed_one, raw_opened, text_read}
+use Rattle.html_tokenizer.proofs.ReadsLemmas.{held_none, null_read, raw_opened, text_read}
 use Rattle.html_tokenizer.proofs.reader.Reader.begin.Goals as goal
 
-pub returns-in_ok-push-in-Text-clause-reads : goal.returns-in_ok-push-in-Text-clause-reads
-returns-in_ok-push-in-Text-clause-reads g c = λ table rest final l.
+pub returns-in_ok-read_text-in-Text-clause-reads : goal.returns-in_ok-read_text-in-Text-clause-reads
+returns-in_ok-read_text-in-Text-clause-reads g c = λ table rest final l.
     let r = c.args.self.now in
-    text_read table g.S.TokenSink.step g.S.TokenSink.reply g.S.TokenSink.foreign r.mode r.pending.place (chars (string_bytes r.pending.held)) (chars (string_bytes r.run)) (chars (string_bytes c.push.new.self)) c.args.c c.in-Text.shown rest (g.S.TokenSink.state c.args.sink.now) final
-    g.met.S.TokenSink.lawful.joins c.requires.place (held_none r.pending c.requires.place)
-    (pushed_one (string_bytes r.run) (string_bytes c.push.new.self) c.in-Text.shown (IsUtf8-string_bytes r.run) c.in-Text.ensures.0 c.in_ok-push-in-Text.ensures.bytes)
-    (λ f. c.in-Text.ensures.1 table f r.mode rest refl) l
+    let e = c.read_text.ensures in
+    text_read table g.S.TokenSink.step g.S.TokenSink.reply g.S.TokenSink.foreign r.mode r.pending.place (chars (string_bytes r.pending.held)) c.args.c c.in-Text.shown rest
+    (g.S.TokenSink.step (g.S.TokenSink.state c.args.sink.now) (characters (chars (string_bytes r.run))))
+    (g.S.TokenSink.step (g.S.TokenSink.state c.read_text.new.sink) (characters (chars (string_bytes c.read_text.new.self.run)))) final
+    c.requires.place (held_none r.pending c.requires.place) c.in_ok-read_text-in-Text.ensures.told
+    (λ f. c.in-Text.ensures.1 table f r.mode rest refl refl)
+    (rw (e.mode, e.pending) at l)
 
 pub returns-in_ok-tell_null-in-Null-clause-reads : goal.returns-in_ok-tell_null-in-Null-clause-reads
 returns-in_ok-tell_null-in-Null-clause-reads g c = λ table rest final l.
@@ -20,7 +23,7 @@ returns-in_ok-tell_null-in-Null-clause-reads g c = λ table rest final l.
     null_read table g.S.TokenSink.step g.S.TokenSink.reply g.S.TokenSink.foreign r.mode r.pending.place (chars (string_bytes r.pending.held)) c.args.c rest (chars (string_bytes c.tell_null.new.self.run))
     (g.S.TokenSink.step (g.S.TokenSink.state c.args.sink.now) (characters (chars (string_bytes r.run)))) (g.S.TokenSink.state c.tell_null.new.sink) final
     g.met.S.TokenSink.lawful.skips c.requires.place (held_none r.pending c.requires.place) (ap chars c.in_ok-tell_null-in-Null.ensures.run ∙ chars-nil)
-    (λ f. c.in-Null.ensures table f r.mode rest refl) c.in_ok-tell_null-in-Null.ensures.told
+    (λ f. c.in-Null.ensures table f r.mode rest refl refl) c.in_ok-tell_null-in-Null.ensures.told
     (rw (e.mode, e.pending) at l)
 
 pub returns-in_ok-open_raw-in-OpensRaw-clause-reads : goal.returns-in_ok-open_raw-in-OpensRaw-clause-reads
