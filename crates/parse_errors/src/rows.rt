@@ -12,9 +12,11 @@ pub(crate) enum Lexeme {
     Doctype,
     // behind `&` in text
     Reference,
+    // the same at the end of the page
+    LastReference,
 }
 
-use Lexeme::{Bogus, Comment, Doctype, EndTag, Reference, StartTag};
+use Lexeme::{Bogus, Comment, Doctype, EndTag, LastReference, Reference, StartTag};
 
 /// In the plain wording.
 pub(crate) static PLAIN: [(Lexeme, &str, &str); 12] = [
@@ -161,7 +163,7 @@ pub(crate) static TAGS: [(Lexeme, &str, &str); 34] = [
 ];
 
 /// References in text and in values, with a table of `amp;`, `not` and `notin;`, in the exact wording.
-pub(crate) static REFERENCES: [(Lexeme, &str, &str); 36] = [
+pub(crate) static REFERENCES: [(Lexeme, &str, &str); 44] = [
     (Reference, "amp;", ""),
     (Reference, "notin;", ""),
     (
@@ -249,6 +251,39 @@ pub(crate) static REFERENCES: [(Lexeme, &str, &str); 36] = [
         Reference,
         "#x100000041;",
         "1 Invalid numeric character reference value 0x000041\n",
+    ),
+    (LastReference, "xy", ""),
+    (
+        LastReference,
+        "not",
+        "1 Character reference does not end with semicolon\n",
+    ),
+    (
+        LastReference,
+        "#",
+        "1 EOF after '#' in character reference\n",
+    ),
+    (
+        LastReference,
+        "#x",
+        "1 Numeric character reference without digits\n",
+    ),
+    (
+        LastReference,
+        "#128",
+        "1 EOF in numeric character reference\n\
+         1 Invalid numeric character reference value 0x000080\n",
+    ),
+    (LastReference, "#65;", ""),
+    (
+        StartTag,
+        "a b=&#",
+        "1 EOF after '#' in character reference\n1 Saw EOF in state AttributeValue(Unquoted)\n",
+    ),
+    (
+        StartTag,
+        "a\nb='&#65",
+        "2 EOF in numeric character reference\n2 Saw EOF in state AttributeValue(SingleQuoted)\n",
     ),
     (StartTag, "a b=&amp;&notin;&;&>", ""),
     (

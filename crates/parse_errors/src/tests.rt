@@ -35,6 +35,7 @@ fn find(
         Lexeme::Bogus(opening) => errors.in_bogus_comment(opening, text, 1),
         Lexeme::Doctype => errors.in_doctype(text, 1),
         Lexeme::Reference => errors.in_reference(table, text, 1),
+        Lexeme::LastReference => errors.in_last_reference(table, text, 1),
     }
 }
 
