@@ -185,7 +185,7 @@ fn other_lexemes_end_an_unknown_name(rt: HostRuntime) -> Result<(), Fail> {
 }
 
 #[test]
-fn errors_of_signs_and_ends_are_found(rt: HostRuntime) -> Result<(), Fail> {
+fn errors_of_signs_are_found(rt: HostRuntime) -> Result<(), Fail> {
     let alloc = rt.alloc();
     let mut errors = ParseErrors::new(alloc, true);
     errors.at_tag_open(Some('1'), 1)?;
@@ -206,6 +206,13 @@ fn errors_of_signs_and_ends_are_found(rt: HostRuntime) -> Result<(), Fail> {
         7 Saw \0 in state TagOpen\n7 Saw \0 in state Data\n";
     assert_eq!(rt; told(alloc, &mut errors)?.as_str(), expected);
     assert!(rt; errors.is_empty());
+    Ok(())
+}
+
+#[test]
+fn ends_within_text_are_found(rt: HostRuntime) -> Result<(), Fail> {
+    let alloc = rt.alloc();
+    let mut errors = ParseErrors::new(alloc, true);
     let states = [
         State::Data,
         State::Plaintext,
