@@ -15,3 +15,8 @@ mod tag;
 mod text;
 
 pub use errors::{FoundError, ParseErrors};
+
+#[cfg(test)]
+mod rows;
+#[cfg(test)]
+mod tests;

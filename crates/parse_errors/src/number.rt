@@ -8,8 +8,8 @@ pub(crate) struct Number {
     is_too_large: bool,
     /// Whether there is a digit.
     pub(crate) has_digits: bool,
-    /// Whether a semicolon follows them.
-    pub(crate) has_semicolon: bool,
+    /// The character behind them, or `None` at the end of the text.
+    pub(crate) behind: Option<char>,
 }
 
 impl Number {
@@ -26,13 +26,13 @@ impl Number {
             code: 0,
             is_too_large: false,
             has_digits: false,
-            has_semicolon: false,
+            behind: None,
         };
         for c in text.chars() {
             match c.to_digit(16) {
                 Some(digit) if digit < radix => number.push(radix, digit),
                 _ => {
-                    number.has_semicolon = c == ';';
+                    number.behind = Some(c);
                     break;
                 }
             }

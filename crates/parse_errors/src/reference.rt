@@ -5,7 +5,7 @@ use std::alloc::AllocError;
 
 impl ParseErrors {
     /// Finds the errors of a character reference in text: the text behind `&` that the reference is made of, perhaps with the
-    /// character that ended it. Of a name that the table lacks it is told only once its `;` is read; `at_text` then
+    /// character that ended it. A name that the table lacks is an error only once its `;` is read; `at_text` then
     /// goes on with the character behind the text. The error is want of memory alone.
     pub fn in_reference(
         &mut self,
@@ -13,9 +13,29 @@ impl ParseErrors {
         text: &str,
         line: u64,
     ) -> Result<(), AllocError> {
+        self.in_text_reference(table, text, false, line)
+    }
+
+    /// The same where the page ends behind the text.
+    pub fn in_last_reference(
+        &mut self,
+        table: &ReferenceTable,
+        text: &str,
+        line: u64,
+    ) -> Result<(), AllocError> {
+        self.in_text_reference(table, text, true, line)
+    }
+
+    fn in_text_reference(
+        &mut self,
+        table: &ReferenceTable,
+        text: &str,
+        is_last: bool,
+        line: u64,
+    ) -> Result<(), AllocError> {
         self.leave_name();
         if let Some(number) = text.strip_prefix('#') {
-            return self.in_number(number, line);
+            return self.in_number(number, is_last, line);
         }
         match table.longest_name(text) {
             Some(reference) if reference.name.ends_with(';') => Ok(()),
@@ -24,7 +44,7 @@ impl ParseErrors {
         }
     }
 
-    // Finds the errors of a character reference in a value: the text from its `&` on, and more.
+    // Finds the errors of a character reference in a value: the text from its `&` up to the end of the tag or of the page.
     pub(crate) fn in_value(
         &mut self,
         table: &ReferenceTable,
@@ -33,7 +53,7 @@ impl ParseErrors {
     ) -> Result<(), AllocError> {
         let text = text.strip_prefix('&').unwrap_or(text);
         if let Some(number) = text.strip_prefix('#') {
-            return self.in_number(number, line);
+            return self.in_number(number, true, line);
         }
         match table.longest_name(text) {
             Some(reference) if reference.name.ends_with(';') => Ok(()),
@@ -66,13 +86,19 @@ impl ParseErrors {
         Ok(())
     }
 
-    fn in_number(&mut self, text: &str, line: u64) -> Result<(), AllocError> {
+    // Finds the errors of a number behind `#`; `is_last` says that the page ends with the text.
+    fn in_number(&mut self, text: &str, is_last: bool, line: u64) -> Result<(), AllocError> {
+        if is_last && text.is_empty() {
+            return self.tell("EOF after '#' in character reference", line);
+        }
         let number = Number::read(text);
         if !number.has_digits {
             return self.tell("Numeric character reference without digits", line);
         }
-        if !number.has_semicolon {
-            self.tell("Semicolon missing after numeric character reference", line)?;
+        match number.behind {
+            Some(';') => {}
+            None if is_last => self.tell("EOF in numeric character reference", line)?,
+            _ => self.tell("Semicolon missing after numeric character reference", line)?,
         }
         if !number.is_valid() {
             self.tell_number(number.code, line)?;
