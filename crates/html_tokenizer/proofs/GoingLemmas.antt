@@ -1,13 +1,22 @@
 -- What is held of a lexeme that goes on.
-use Rattle.std.proofs.Common.{◌≡◌, ℕ, Bool, ◌&&◌, List, [], Option, IsTrue, refl, sym, subst}
+use Rattle.std.proofs.Common.{◌≡◌, ◌≢◌, ℕ, Bool, ◌&&◌, List, [], ◌∷◌, Option, Some, None, IsTrue, refl, sym, subst}
 use Rattle.std.proofs.lemmas.Bool.{and_parts}
 use Rattle.html_lexemes.specs.References.{References}
 use Rattle.html_lexemes.specs.declared.states.RawKind.{RawKind}
 use Rattle.html_tokenizer.specs.Goings.{IsGoing, is_end_tag_front, is_raw_going, may_begin}
 use Rattle.html_tokenizer.specs.RawSound.{is_raw_held}
 use Rattle.html_tokenizer.specs.Sound.{IsSound}
+use Rattle.html_grammar.specs.declared.modes.Mode.{Mode}
+use Rattle.html_tokenizer.specs.SectionTurns.{SectionAdvances}
+use Rattle.html_grammar.specs.Lexemes.{markup, reference_lexeme}
+use Rattle.html_grammar.specs.References.{Found, reference}
+use Rattle.html_tokenizer.specs.Advances.{IsWithinMarkup}
+use Rattle.html_tokenizer.specs.Places.{place_lexeme}
+use Rattle.html_tokenizer.specs.Turns.{EndsBeforeAt, IsOver, IsUntagged}
 use Rattle.html_tokenizer.specs.declared.place.Place.{Place}
-use Rattle.html_tokenizer.specs.declared.place.Place.TheVariants.{Text, CharacterReference, TagOpen, EndTagOpen, Tag, MarkupDeclarationOpen, BogusComment, Comment, Doctype, CdataSection, RawText}
+use Rattle.html_tokenizer.specs.declared.place.Place.TheVariants.{Text as NoLexeme, CharacterReference, TagOpen, EndTagOpen, Tag, MarkupDeclarationOpen, BogusComment, Comment, Doctype, CdataSection, RawText}
+use Rattle.html_tokenizer.specs.declared.section_turn.SectionTurn.{SectionTurn}
+use Rattle.html_tokenizer.specs.declared.section_turn.SectionTurn.TheVariants.{Goes, Ends, Shifts, Text}
 use Rattle.html_tokenizer.specs.declared.place.RawPlace.{RawPlace}
 use Rattle.html_tokenizer.specs.declared.place.RawPlace.TheVariants.{LessThanSign, EndTagName, EscapeStart, EscapeWord, Dashes}
 
@@ -20,7 +29,7 @@ raw_going_held last kind Dashes held h = h
 
 -- it is sound
 pub going_sound : (table : References) (last : Option (List ℕ)) (place : Place) (held : List ℕ) → IsGoing table last place held → IsSound place held
-going_sound table last Text held h = h
+going_sound table last NoLexeme held h = h
 going_sound table last (CharacterReference place) held h = h.0
 going_sound table last TagOpen held h = h
 going_sound table last EndTagOpen held h = h
@@ -37,9 +46,65 @@ pub raw_going : (table : References) (last : Option (List ℕ)) (kind : RawKind)
 raw_going table last kind place at held e h = subst (λ x. IsGoing table last x held) e h
 
 -- nothing is held before a lexeme
-pub none_going : (table : References) (last : Option (List ℕ)) (at : Place) (held : List ℕ) → at ≡ Text → held ≡ [] → IsGoing table last at held
+pub none_going : (table : References) (last : Option (List ℕ)) (at : Place) (held : List ℕ) → at ≡ NoLexeme → held ≡ [] → IsGoing table last at held
 none_going table last at held e n = subst (λ x. IsGoing table last x held) (sym e) n
+
+-- of a section, which goes on or is over
+in_section : (table : References) (last : Option (List ℕ)) (at : Place) (now : List ℕ) → at ≡ CdataSection → IsSound at now → IsGoing table last at now
+in_section table last at now e sound = subst (λ x. IsGoing table last x now) (sym e) (subst (λ x. IsSound x now) e sound)
+
+pub section_going : (table : References) (last : Option (List ℕ)) (mode : Mode) (held : List ℕ) (c : ℕ) (turn : SectionTurn) (at : Place) (now : List ℕ) → SectionAdvances mode held c turn at now → IsSound at now → IsGoing table last at now
+section_going table last mode held c Goes at now a sound = in_section table last at now a.0 sound
+section_going table last mode held c Ends at now a sound = none_going table last at now a.0 a.1.0
+section_going table last mode held c Shifts at now a sound = in_section table last at now a.0 sound
+section_going table last mode held c Text at now a sound = in_section table last at now a.0 sound
 
 -- of what was opened
 pub opened_going : (table : References) (last : Option (List ℕ)) (place at : Place) (held : List ℕ) → IsGoing table last place [] → at ≡ place → held ≡ [] → IsGoing table last at held
 opened_going table last place at held h e n = subst (λ x. IsGoing table last x held) (sym e) (subst (IsGoing table last place) (sym n) h)
+
+-- a place that is neither in text nor in the text of an element
+pub within_markup : (at : Place) → at ≢ NoLexeme → ((kind : RawKind) (place : RawPlace) → at ≡ RawText kind place → ⊥) → IsWithinMarkup at
+within_markup NoLexeme n r = n refl
+within_markup (CharacterReference place) n r = tt
+within_markup TagOpen n r = tt
+within_markup EndTagOpen n r = tt
+within_markup (Tag kind place) n r = tt
+within_markup MarkupDeclarationOpen n r = tt
+within_markup BogusComment n r = tt
+within_markup Comment n r = tt
+within_markup Doctype n r = tt
+within_markup CdataSection n r = tt
+within_markup (RawText kind place) n r = r kind place refl
+
+-- what was over before a character is no tag
+pub ended_untagged : (table : References) (foreign : Bool) (mode : Mode) (place : Place) (held : List ℕ) (c : ℕ) (now : List ℕ) → IsSound place held → EndsBeforeAt table foreign mode place held c now → IsUntagged (place_lexeme table foreign mode place held)
+ended_untagged table foreign mode (CharacterReference place) held c now sound e = by (reference table held)
+  where
+    by : (found : Option Found) → IsUntagged (reference_lexeme mode held found)
+    by None = tt
+    by (Some found) = tt
+ended_untagged table foreign mode TagOpen held c now sound e = subst (λ x. IsUntagged (markup table foreign mode x)) (sym sound) tt
+ended_untagged table foreign mode NoLexeme held c now sound e = absurd e
+ended_untagged table foreign mode EndTagOpen held c now sound e = absurd e
+ended_untagged table foreign mode (Tag kind at) held c now sound e = absurd e
+ended_untagged table foreign mode MarkupDeclarationOpen held c now sound e = absurd e
+ended_untagged table foreign mode BogusComment held c now sound e = absurd e
+ended_untagged table foreign mode Comment held c now sound e = absurd e
+ended_untagged table foreign mode Doctype held c now sound e = absurd e
+ended_untagged table foreign mode CdataSection held c now sound e = absurd e
+ended_untagged table foreign mode (RawText kind at) held c now sound e = absurd e
+
+-- and is as it was said
+pub ended_before : (table : References) (foreign : Bool) (mode : Mode) (place : Place) (held : List ℕ) (c : ℕ) (now : List ℕ) → EndsBeforeAt table foreign mode place held c now → (now ≡ held) × IsOver table foreign mode place held (c ∷ [])
+ended_before table foreign mode (CharacterReference place) held c now e = e
+ended_before table foreign mode TagOpen held c now e = e
+ended_before table foreign mode NoLexeme held c now e = absurd e
+ended_before table foreign mode EndTagOpen held c now e = absurd e
+ended_before table foreign mode (Tag kind at) held c now e = absurd e
+ended_before table foreign mode MarkupDeclarationOpen held c now e = absurd e
+ended_before table foreign mode BogusComment held c now e = absurd e
+ended_before table foreign mode Comment held c now e = absurd e
+ended_before table foreign mode Doctype held c now e = absurd e
+ended_before table foreign mode CdataSection held c now e = absurd e
+ended_before table foreign mode (RawText kind at) held c now e = absurd e

@@ -182,6 +182,15 @@ module _ {A H : Type 0} (table : References) (step : A → Item → A) (reply : 
       (subst (λ x. Follows table step reply foreign mode (place_lexeme table (foreign s) mode (RawText kind at) (x ++ rest)) s final) a
       (subst (λ p. Follows table step reply foreign mode (place_lexeme table (foreign s) mode p (after ++ rest)) s final) n l))
 
+  -- what stands behind an opening
+  pub opened_read : (mode : Mode) (at place now : Place) (held after : List ℕ) (c : ℕ) (rest : List ℕ) (s final : A) → place ≡ Text → held ≡ [] → now ≡ at → after ≡ [] →
+      ((f : Bool) → lexeme table f mode (c ∷ rest) ≡ place_lexeme table f mode at rest) →
+      Stays mode now (after ++ rest) s final → Stays mode place (held ++ c ∷ rest) s final
+  opened_read mode at place now held after c rest s final e h n a k l =
+      leaves_of mode place held (c ∷ rest) s final (place_lexeme table (foreign s) mode at rest) e h (k (foreign s))
+      (subst (λ x. Follows table step reply foreign mode (place_lexeme table (foreign s) mode at (x ++ rest)) s final) a
+      (subst (λ p. Follows table step reply foreign mode (place_lexeme table (foreign s) mode p (after ++ rest)) s final) n l))
+
   -- a lexeme that is over was told, with the text that it left
   pub told_over : (mode behind : Mode) (place now : Place) (held after follow rest left run : List ℕ) (items : List Item) (s told_to final : A) → Joins → Skips →
       IsOver table (foreign s) mode place held follow → place_lexeme table (foreign s) mode place held ≡ told items behind left → told_to ≡ fold step s items → now ≡ Text → after ≡ [] → run ≡ left →

@@ -1,5 +1,5 @@
 -- What was told between two states of a sink.
-use Rattle.std.proofs.Common.{◌≡◌, ℕ, Bool, true, false, List, [], ◌∷◌, Option, Some, None, MatchBool, refl, sym, ap, ◌∙◌, subst}
+use Rattle.std.proofs.Common.{◌≡◌, ℕ, Bool, true, false, List, [], ◌∷◌, Option, Some, None, Result, Ok, Err, IfOk, OnOk, refl, sym, ap, ◌∙◌, subst}
 use Rattle.std.specs.List.{fold}
 use Rattle.html_lexemes.specs.declared.token.Tag.{Tag}
 use Rattle.html_lexemes.specs.declared.token.TokenSinkResult.{TokenSinkResult}
@@ -66,3 +66,13 @@ pub alike_items : {A H : Type 0} (step : A → Item → A) (reply : A → Item �
     → IsAlike step reply foreign old new → IsFirstAfterError items → fold step new items ≡ fold step old items
 alike_items step reply foreign old new [] alike h = absurd h
 alike_items step reply foreign old new (item ∷ items) alike h = ap (λ s. fold step s items) (alike.steps item h)
+
+-- ---- what is known of a call that is not refused
+
+pub if_ok_with : {X E : Type 0} {P R : X → Type 0} {Q : Type 0} (r : Result X E) → IfOk r P → OnOk r Q → ((x : X) → P x → Q → R x) → IfOk r R
+if_ok_with (Ok x) p q f = f x p q
+if_ok_with (Err e) p q f = tt
+
+pub if_ok_map : {X E : Type 0} {P R : X → Type 0} (r : Result X E) → IfOk r P → ((x : X) → P x → R x) → IfOk r R
+if_ok_map (Ok x) p f = f x p
+if_ok_map (Err e) p f = tt

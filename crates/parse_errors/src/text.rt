@@ -5,9 +5,12 @@ use std::alloc::AllocError;
 
 impl ParseErrors {
     /// Finds the errors at a character that is read in a state of text, on its line: `Data`, `Plaintext`, `RawData`, a state
-    /// behind dashes of a script, or `CdataSection`. Where `heeds` says so, a `<` or `&` is such a character too. The error
-    /// is want of memory alone.
+    /// behind dashes of a script, or `CdataSection`. A `<` or `&`, which may begin markup, is such a character too. The
+    /// error is want of memory alone.
     pub fn at_text(&mut self, state: State, c: char, line: u64) -> Result<(), AllocError> {
+        if !self.heeds(c) {
+            return Ok(());
+        }
         if has_references(state) {
             self.name_goes_on(c, line)?;
         } else {

@@ -4,7 +4,7 @@ use Rattle.std.specs.Str.{chars}
 use Rattle.html_tokenizer.specs.Sound.{IsSound}
 use Rattle.html_tokenizer.specs.Turns.{IsOver, IsTaken}
 use Rattle.html_tokenizer.specs.declared.turn.Turn.TheVariants.{Goes, Ends, EndsBefore}
-use Rattle.html_tokenizer.proofs.GoingLemmas.{going_sound}
+use Rattle.html_tokenizer.proofs.GoingLemmas.{ended_before, ended_untagged, going_sound}
 use Rattle.html_tokenizer.proofs.PendingLemmas.{some_mode, turned}
 use Rattle.html_tokenizer.proofs.pending.Pending.take.Goals as goal
 
@@ -43,4 +43,6 @@ returns-in-EndsBefore-clause-advance c =
     let held = chars (string_bytes p.held) in
     let t = turned c.args.table.now c.args.foreign p.place held c.args.c (chars (string_bytes c.markup_turn.new.held)) _ c.in-Ok.done c.in-Some.turn EndsBefore c.in-Ok.ensures c.in-Some.is c.in-EndsBefore.is in
     let same = ap (λ x. chars (string_bytes x)) c.take_out-in-EndsBefore.ensures.taken in
-    λ asked mode e. (c.replace-last.ensures.value, (same ∙ (t asked mode e).0, (t asked mode e).1))
+    λ asked mode e.
+    let over = ended_before c.args.table.now asked mode p.place held c.args.c (chars (string_bytes c.markup_turn.new.held)) (t asked mode e) in
+    (c.replace-last.ensures.value, (same ∙ over.0, (over.1, ended_untagged c.args.table.now asked mode p.place held c.args.c (chars (string_bytes c.markup_turn.new.held)) p.sound (t asked mode e))))

@@ -11,7 +11,7 @@ invariant_of-self c = record { sound = ap chars c.clear.ensures.bytes ∙ chars-
 pub invariant_of-self-in-Goes : goal.invariant_of-self-in-Goes
 invariant_of-self-in-Goes c =
     let t = subst (λ x. RawTurnsTo c.args.last.now c.args.kind (chars (string_bytes c.args.self.now.held)) c.args.c (chars (string_bytes c.raw_turn.new.held)) x) c.in-Goes.is c.in-Ok.ensures in
-    record { sound = raw_going_held c.args.last.now _ _ _ (t some_table false (mode_with c.args.last.now) refl).1 }
+    record { sound = raw_going_held c.args.last.now c.args.kind c.in-Goes.next (chars (string_bytes c.raw_turn.new.held)) (t some_table false (mode_with c.args.last.now) refl).1 }
 
 pub invariant_of-self-in-Before : goal.invariant_of-self-in-Before
 invariant_of-self-in-Before c = record { sound = ap chars c.take_out.ensures.left ∙ chars-nil }
@@ -19,7 +19,7 @@ invariant_of-self-in-Before c = record { sound = ap chars c.take_out.ensures.lef
 pub invariant_of-self-in-Shifts : goal.invariant_of-self-in-Shifts
 invariant_of-self-in-Shifts c =
     let t = subst (λ x. RawTurnsTo c.args.last.now c.args.kind (chars (string_bytes c.args.self.now.held)) c.args.c (chars (string_bytes c.raw_turn.new.held)) x) c.in-Shifts.is c.in-Ok.ensures in
-    record { sound = raw_going_held c.args.last.now _ _ _ (t some_table false (mode_with c.args.last.now) refl).1 }
+    record { sound = raw_going_held c.args.last.now c.in-Shifts.behind c.in-Shifts.next (chars (string_bytes c.raw_turn.new.held)) (t some_table false (mode_with c.args.last.now) refl).1 }
 
 pub invariant_of-self-in-EndTag : goal.invariant_of-self-in-EndTag
 invariant_of-self-in-EndTag c =

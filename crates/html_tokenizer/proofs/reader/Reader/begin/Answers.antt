@@ -1,8 +1,11 @@
-use Rattle.std.proofs.Common.{refl, ap, ◌∙◌, string_bytes}
+use Rattle.std.proofs.Common.{[], refl, ap, ◌∙◌, string_bytes}
 use Rattle.std.proofs.lemmas.Str.{chars-nil}
 use Rattle.std.specs.Str.{chars}
 use Rattle.html_grammar.specs.Items.{characters}
-use Rattle.html_tokenizer.proofs.ReadsLemmas.{held_none, null_read, raw_opened, text_read}
+use Rattle.html_tokenizer.proofs.GoingLemmas.{going_sound}
+use Rattle.html_tokenizer.proofs.PendingLemmas.{some_table}
+use Rattle.html_tokenizer.proofs.ReadsLemmas.{held_none, null_read, opened_read, raw_opened, text_read}
+use Rattle.html_tokenizer.proofs.TellsLemmas.{tells_same}
 use Rattle.html_tokenizer.proofs.reader.Reader.begin.Goals as goal
 
 pub returns-in_ok-read_text-in-Text-clause-reads : goal.returns-in_ok-read_text-in-Text-clause-reads
@@ -32,3 +35,19 @@ returns-in_ok-open_raw-in-OpensRaw-clause-reads g c = λ table rest final l.
     raw_opened table g.S.TokenSink.step g.S.TokenSink.reply g.S.TokenSink.foreign r.mode c.in-OpensRaw.kind c.in-OpensRaw.place r.pending.place c.open_raw.new.self.place (chars (string_bytes r.pending.held)) (chars (string_bytes c.open_raw.new.self.held)) c.args.c rest
     (g.S.TokenSink.step (g.S.TokenSink.state c.args.sink.now) (characters (chars (string_bytes r.run)))) final c.in-OpensRaw.ensures.0 c.requires.place (held_none r.pending c.requires.place)
     c.in_ok-open_raw-in-OpensRaw.ensures.place c.in_ok-open_raw-in-OpensRaw.ensures.held l
+
+pub open-requires-clause-sound : goal.open-requires-clause-sound
+open-requires-clause-sound g c = going_sound some_table c.args.self.now.mode.last_start_tag c.in-Opens.place [] (c.in-Opens.ensures.1 some_table)
+
+pub returns-in-Opens-clause-tells : goal.returns-in-Opens-clause-tells
+returns-in-Opens-clause-tells g c = tells_same g.S.TokenSink.step g.S.TokenSink.reply (g.S.TokenSink.state c.args.sink.now) (g.S.TokenSink.state c.args.sink.now) refl
+
+pub returns-in-Opens-clause-reads : goal.returns-in-Opens-clause-reads
+returns-in-Opens-clause-reads g c = λ table rest final l.
+    let r = c.args.self.now in
+    opened_read table g.S.TokenSink.step g.S.TokenSink.reply g.S.TokenSink.foreign r.mode c.in-Opens.place r.pending.place c.open.new.self.place (chars (string_bytes r.pending.held)) (chars (string_bytes c.open.new.self.held)) c.args.c rest
+    (g.S.TokenSink.step (g.S.TokenSink.state c.args.sink.now) (characters (chars (string_bytes r.run)))) final c.requires.place (held_none r.pending c.requires.place) c.open.ensures.place c.open.ensures.held
+    (λ f. c.in-Opens.ensures.0 table f r.mode rest refl) l
+
+pub returns-in_ok-open_raw-in-OpensRaw-clause-tells : goal.returns-in_ok-open_raw-in-OpensRaw-clause-tells
+returns-in_ok-open_raw-in-OpensRaw-clause-tells g c = tells_same g.S.TokenSink.step g.S.TokenSink.reply (g.S.TokenSink.state c.args.sink.now) (g.S.TokenSink.state c.args.sink.now) refl

@@ -6,9 +6,11 @@ use Rattle.html_grammar.specs.Lexemes.{ordinary_item}
 use Rattle.std.specs.List.{fold}
 use Rattle.html_tokenizer.specs.Reads.{Leaves}
 use Rattle.html_tokenizer.specs.SectionTurns.{SectionAdvances}
+use Rattle.html_tokenizer.proofs.GoingLemmas.{section_going}
 use Rattle.html_tokenizer.proofs.PendingLemmas.{some_mode}
 use Rattle.html_tokenizer.proofs.RawReads.{section_more, section_on}
 use Rattle.html_tokenizer.proofs.ReadsLemmas.{on_ok_four, pushed_one}
+use Rattle.html_tokenizer.proofs.TellsLemmas.{tells_same}
 use Rattle.html_tokenizer.proofs.reader.Reader.take_in_section.Goals as goal
 
 pub read_section_text-requires-clause-place : goal.read_section_text-requires-clause-place
@@ -49,3 +51,21 @@ returns-in-Text-clause-reads g c =
     s (g.S.TokenSink.step (g.S.TokenSink.state c.read_section_text.new.sink) (characters (chars (string_bytes after.run)))) final c.requires.place p h (a.1.1 rest)
     (t ∙ ap (λ x. fold g.S.TokenSink.step s (map ordinary_item (x ++ c.args.c ∷ []))) a.1.0)
     (subst (λ x. Leaves table g.S.TokenSink.step g.S.TokenSink.reply g.S.TokenSink.foreign x after.pending.place (chars (string_bytes after.pending.held) ++ rest) (g.S.TokenSink.step (g.S.TokenSink.state c.read_section_text.new.sink) (characters (chars (string_bytes after.run)))) final) m l))
+
+pub returns-in-Goes-clause-holds : goal.returns-in-Goes-clause-holds
+returns-in-Goes-clause-holds g c = λ table.
+    let r = c.args.self.now in
+    let now = c.take_in_section.new.self in
+    section_going table r.mode.last_start_tag r.mode (chars (string_bytes r.pending.held)) c.args.c c.in_ok-take_in_section.field-0 now.place (chars (string_bytes now.held)) (c.in_ok-take_in_section.ensures r.mode) now.sound
+
+pub returns-in-Goes-clause-tells : goal.returns-in-Goes-clause-tells
+returns-in-Goes-clause-tells g c = tells_same g.S.TokenSink.step g.S.TokenSink.reply (g.S.TokenSink.state c.args.sink.now) (g.S.TokenSink.state c.args.sink.now) refl
+
+pub returns-in_ok-push-in-Shifts-clause-holds : goal.returns-in_ok-push-in-Shifts-clause-holds
+returns-in_ok-push-in-Shifts-clause-holds g c = λ table.
+    let r = c.args.self.now in
+    let now = c.take_in_section.new.self in
+    section_going table r.mode.last_start_tag r.mode (chars (string_bytes r.pending.held)) c.args.c c.in_ok-take_in_section.field-0 now.place (chars (string_bytes now.held)) (c.in_ok-take_in_section.ensures r.mode) now.sound
+
+pub returns-in_ok-push-in-Shifts-clause-tells : goal.returns-in_ok-push-in-Shifts-clause-tells
+returns-in_ok-push-in-Shifts-clause-tells g c = tells_same g.S.TokenSink.step g.S.TokenSink.reply (g.S.TokenSink.state c.args.sink.now) (g.S.TokenSink.state c.args.sink.now) refl
