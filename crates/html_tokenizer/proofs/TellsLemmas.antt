@@ -6,7 +6,7 @@ use Rattle.html_lexemes.specs.declared.token.TokenSinkResult.{TokenSinkResult}
 use Rattle.html_lexemes.specs.declared.token.TokenSinkResult.TheVariants.{Continue}
 use Rattle.html_grammar.specs.Items.{Item, characters, null_character, error, tag}
 use Rattle.html_grammar.specs.Modes.{is_pause}
-use Rattle.html_grammar.specs.Reading.{IsAfterError, IsAnswered, IsLawful}
+use Rattle.html_grammar.specs.Reading.{IsAfterError, IsAnswered, IsClosed, IsLawful}
 use Rattle.html_tokenizer.specs.Tells.{AreUnanswered, Asks, IsAlike, IsFirstAfterError, IsPauseOf, TellsOn, TellsUpTo, answer_of, told_none, told_one}
 use Rattle.html_tokenizer.specs.declared.reader.Pause.{Pause}
 
@@ -76,3 +76,8 @@ if_ok_with (Err e) p q f = tt
 pub if_ok_map : {X E : Type 0} {P R : X → Type 0} (r : Result X E) → IfOk r P → ((x : X) → P x → R x) → IfOk r R
 if_ok_map (Ok x) p f = f x p
 if_ok_map (Err e) p f = tt
+
+-- a sink that was told that it is over
+pub closed_by : {A X E : Type 0} (close : A → A) (reads : A → Type 0) (r : Result X E) (final closed : A) → reads final → IfOk r (λ _. closed ≡ close final) → OnOk r (IsClosed close reads closed)
+closed_by close reads (Ok x) final closed h e = (final, (h, e))
+closed_by close reads (Err x) final closed h e = tt

@@ -1,7 +1,10 @@
-use Rattle.std.proofs.Common.{sym, ◌∷◌, [], ◌++◌, string_bytes, subst}
+use Rattle.std.proofs.Common.{refl, sym, ◌∷◌, [], ◌++◌, string_bytes, subst}
 use Rattle.std.specs.Str.{chars}
 use Rattle.html_grammar.specs.Items.{characters}
-use Rattle.html_tokenizer.specs.Turns.{IsOver}
+use Rattle.html_tokenizer.specs.Places.{place_lexeme}
+use Rattle.html_tokenizer.specs.Tells.{Asks}
+use Rattle.html_tokenizer.specs.Turns.{IsOver, IsUntagged}
+use Rattle.html_tokenizer.proofs.TellsLemmas.{tells_same, tells_then}
 use Rattle.html_tokenizer.specs.Reads.{Leaves}
 use Rattle.html_tokenizer.specs.Advances.{Advances, IsLeft}
 use Rattle.html_tokenizer.proofs.reader.Reader.advance.Goals as goal
@@ -21,7 +24,27 @@ returns-in_ok-begin-in-EndsBefore-clause-reads g c = λ place held a rest final 
     let text = chars (string_bytes c.in-EndsBefore.held) in
     let known = subst (λ x. Advances table f r.mode place held c.args.c x r.pending.place (chars (string_bytes r.pending.held))) c.in-EndsBefore.is a in
     let over : IsOver table f r.mode c.in-EndsBefore.place text (c.args.c ∷ []) =
-    subst (λ x. IsOver table f r.mode x text (c.args.c ∷ [])) (sym known.0) (subst (λ x. IsOver table f r.mode place x (c.args.c ∷ [])) (sym known.1.0) known.1.1) in
+    subst (λ x. IsOver table f r.mode x text (c.args.c ∷ [])) (sym known.0) (subst (λ x. IsOver table f r.mode place x (c.args.c ∷ [])) (sym known.1.0) known.1.1.0) in
     let further = c.in_ok-tell_lexeme-in-EndsBefore.ensures.reads (c.args.c ∷ []) rest final over (c.in_ok-begin-in-EndsBefore.ensures.reads table rest final l) in
     subst (λ x. Leaves table g.S.TokenSink.step g.S.TokenSink.reply g.S.TokenSink.foreign r.mode place (x ++ c.args.c ∷ rest) s final) known.1.0
     (subst (λ x. Leaves table g.S.TokenSink.step g.S.TokenSink.reply g.S.TokenSink.foreign r.mode x (text ++ c.args.c ∷ rest) s final) known.0 further)
+
+pub returns-in-Goes-clause-asks : goal.returns-in-Goes-clause-asks
+returns-in-Goes-clause-asks g c = λ place held a.
+    tells_same g.S.TokenSink.step g.S.TokenSink.reply (g.S.TokenSink.state c.args.sink.now) (g.S.TokenSink.state c.args.sink.now) refl
+
+pub returns-in_ok-begin-in-EndsBefore-clause-asks : goal.returns-in_ok-begin-in-EndsBefore-clause-asks
+returns-in_ok-begin-in-EndsBefore-clause-asks g c = λ place held a.
+    let r = c.args.self.now in
+    let table = c.args.table.now in
+    let step = g.S.TokenSink.step in
+    let reply = g.S.TokenSink.reply in
+    let s0 = g.S.TokenSink.state c.args.sink.now in
+    let s1 = g.S.TokenSink.state c.tell_lexeme-in-EndsBefore.new.sink in
+    let s2 = g.S.TokenSink.state c.begin.new.sink in
+    let f = g.S.TokenSink.foreign (step s0 (characters (chars (string_bytes r.run)))) in
+    let text = chars (string_bytes c.in-EndsBefore.held) in
+    let known = subst (λ x. Advances table f r.mode place held c.args.c x r.pending.place (chars (string_bytes r.pending.held))) c.in-EndsBefore.is a in
+    let untagged = subst (λ x. IsUntagged (place_lexeme table f r.mode x text)) (sym known.0) (subst (λ x. IsUntagged (place_lexeme table f r.mode place x)) (sym known.1.0) known.1.1.1) in
+    tells_then step reply s0 s1 s2 (subst (λ x. Asks step reply x s0 s1) (c.in_ok-tell_lexeme-in-EndsBefore.ensures.untagged untagged) c.in_ok-tell_lexeme-in-EndsBefore.ensures.asks)
+    c.in_ok-begin-in-EndsBefore.ensures.tells

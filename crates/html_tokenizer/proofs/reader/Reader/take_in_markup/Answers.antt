@@ -7,6 +7,7 @@ use Rattle.html_tokenizer.specs.declared.pending.Pending.{Pending}
 use Rattle.html_tokenizer.specs.declared.place.Place.TheVariants.{MarkupDeclarationOpen}
 use Rattle.html_tokenizer.proofs.RawReads.{in_section}
 use Rattle.html_tokenizer.proofs.ReadsLemmas.{leaves_same, on_ok_map}
+use Rattle.html_tokenizer.proofs.TellsLemmas.{asks_behind, if_ok_map, tells_then}
 use Rattle.html_tokenizer.proofs.reader.Reader.take_in_markup.Goals as goal
 
 pub returns-in-Some-clause-reads : goal.returns-in-Some-clause-reads
@@ -45,3 +46,30 @@ returns-in_ok-take_in_section-in-None-clause-reads g c = λ rest final l.
     Advances table asked mode now.pending.place (chars (string_bytes now.pending.held)) c.args.c advance after.place (chars (string_bytes after.held)))) c.in-None.is c.in_ok-advance.ensures.advance in
     leaves_same table g.S.TokenSink.step g.S.TokenSink.reply g.S.TokenSink.foreign r.mode now.mode r.pending after (c.args.c ∷ rest) s t final c.is_foreign.ensures.mode (known.1 ∙ c.is_foreign.ensures.pending) c.in_ok-foreign.ensures.state
     (c.in_ok-take_in_section-in-None.ensures.reads table rest final l)
+
+pub returns-in-Some-clause-holds : goal.returns-in-Some-clause-holds
+returns-in-Some-clause-holds g c =
+    let now = c.is_foreign.new.self in
+    let after = c.take.new.self in
+    let t = g.S.TokenSink.step (g.S.TokenSink.state c.is_foreign.new.sink) (characters (chars (string_bytes now.run))) in
+    let known = subst (λ o. MatchOption o (IsNoMarkup now.pending.place × (after ≡ now.pending)) (λ advance. (asked : Bool) (mode : Mode) → (now.pending.place ≡ MarkupDeclarationOpen → asked ≡ c.in_ok-foreign.foreign) →
+    Advances c.args.table.now asked mode now.pending.place (chars (string_bytes now.pending.held)) c.args.c advance after.place (chars (string_bytes after.held)))) c.in-Some.is c.in_ok-advance.ensures.advance in
+    let asked_for = λ (e : now.pending.place ≡ MarkupDeclarationOpen). ap g.S.TokenSink.foreign c.in_ok-foreign.ensures.state ∙ c.in_ok-foreign.ensures.foreign (sym (ap (λ (p : Pending). p.place) c.is_foreign.ensures.pending) ∙ e) in
+    on_ok_map c.advance.result c.advance.ensures.holds (λ f. f (g.S.TokenSink.foreign t) now.pending.place (chars (string_bytes now.pending.held)) (known (g.S.TokenSink.foreign t) now.mode asked_for))
+
+pub returns-in-Some-clause-asks : goal.returns-in-Some-clause-asks
+returns-in-Some-clause-asks g c =
+    let now = c.is_foreign.new.self in
+    let after = c.take.new.self in
+    let t = g.S.TokenSink.step (g.S.TokenSink.state c.is_foreign.new.sink) (characters (chars (string_bytes now.run))) in
+    let known = subst (λ o. MatchOption o (IsNoMarkup now.pending.place × (after ≡ now.pending)) (λ advance. (asked : Bool) (mode : Mode) → (now.pending.place ≡ MarkupDeclarationOpen → asked ≡ c.in_ok-foreign.foreign) →
+    Advances c.args.table.now asked mode now.pending.place (chars (string_bytes now.pending.held)) c.args.c advance after.place (chars (string_bytes after.held)))) c.in-Some.is c.in_ok-advance.ensures.advance in
+    let asked_for = λ (e : now.pending.place ≡ MarkupDeclarationOpen). ap g.S.TokenSink.foreign c.in_ok-foreign.ensures.state ∙ c.in_ok-foreign.ensures.foreign (sym (ap (λ (p : Pending). p.place) c.is_foreign.ensures.pending) ∙ e) in
+    if_ok_map c.advance.result c.advance.ensures.asks (λ pause f.
+    asks_behind g.S.TokenSink.step g.S.TokenSink.reply pause (g.S.TokenSink.state c.args.sink.now) (g.S.TokenSink.state c.is_foreign.new.sink) (g.S.TokenSink.state c.advance.new.sink) c.in_ok-foreign.ensures.tells
+    (f now.pending.place (chars (string_bytes now.pending.held)) (known (g.S.TokenSink.foreign t) now.mode asked_for)))
+
+pub returns-in_ok-take_in_section-in-None-clause-asks : goal.returns-in_ok-take_in_section-in-None-clause-asks
+returns-in_ok-take_in_section-in-None-clause-asks g c =
+    tells_then g.S.TokenSink.step g.S.TokenSink.reply (g.S.TokenSink.state c.args.sink.now) (g.S.TokenSink.state c.is_foreign.new.sink) (g.S.TokenSink.state c.take_in_section.new.sink)
+    c.in_ok-foreign.ensures.tells c.in_ok-take_in_section-in-None.ensures.tells
