@@ -28,6 +28,7 @@ for kind in markup text references comment attributes script; do
   if [ "$kind" = script ]; then state=script; fi
   for size in 1 2 4 8; do
     python3 "$here/make_tokens.py" "$kind" "$size" >"$folder/page"
+    rm -f "$folder/times.new"
     # the program takes the time itself, and tells the best of its readings in microseconds
     for _ in 1 2 3 4; do
       /usr/bin/time -f %M -o "$folder/memory" "$crate/out/count_tokens" "$piece" "$state" 8 <"$folder/page" >>"$folder/times.new"
