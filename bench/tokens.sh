@@ -1,0 +1,41 @@
+#!/usr/bin/env bash
+# Times the tokenizer, with a sink that only counts, on pages of six kinds and four sizes, fed in pieces of so many kilobytes (64
+# without a word). The program is no crate of the repository, so it is proved and built in a copy of the crates that it
+# stands on, in the folder BENCH, which is kept: the first time that takes minutes.
+set -eu
+here=$(cd "$(dirname "$0")" && pwd)
+piece=${1:-64}
+folder=${BENCH:-${TMPDIR:-/tmp}/count_tokens_bench}
+crate=$folder/crates/count_tokens
+mkdir -p "$crate/src"
+for name in html_lexemes html_grammar html_tokenizer; do
+  mkdir -p "$folder/crates/$name"
+  # what was proved of the copy is kept
+  find "$folder/crates/$name" -mindepth 1 -maxdepth 1 ! -name out -exec rm -r {} +
+  find "$here/../crates/$name" -mindepth 1 -maxdepth 1 ! -name out -exec cp -r {} "$folder/crates/$name" \;
+done
+cp "$here/../HANDLES" "$folder"
+{
+  grep -E '^html_(lexemes|grammar|tokenizer):' "$here/../crates.txt"
+  echo 'count_tokens: html_lexemes html_grammar html_tokenizer thiserror'
+} >"$folder/crates.txt"
+cp "$here/count_tokens/main.rt.txt" "$crate/src/main.rt"
+echo '<p>' >"$crate/stdin"
+(cd "$crate" && rt run -- "$piece" data 1 >"$folder/log" 2>&1) || { tail -n 20 "$folder/log"; exit 1; }
+
+for kind in markup text references comment attributes script; do
+  state=data
+  if [ "$kind" = script ]; then state=script; fi
+  for size in 1 2 4 8; do
+    python3 "$here/make_tokens.py" "$kind" "$size" >"$folder/page"
+    rm -f "$folder/times.new"
+    # the program takes the time itself, and tells the best of its readings in microseconds
+    for _ in 1 2 3 4; do
+      /usr/bin/time -f %M -o "$folder/memory" "$crate/out/count_tokens" "$piece" "$state" 8 <"$folder/page" >>"$folder/times.new"
+    done
+    mv "$folder/times.new" "$folder/times"
+    read -r tokens microseconds < <(sort -n -k 2 "$folder/times")
+    read -r kilobytes <"$folder/memory"
+    python3 -c "print(f'{\"$kind\":10} {$size} MB: {$tokens:8} tokens, {$microseconds / 1000:6.1f} ms, {$size * 1e6 / $microseconds:4.0f} MB/s, peak {$kilobytes / 1000:5.1f} MB')"
+  done
+done
