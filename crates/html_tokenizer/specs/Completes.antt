@@ -1,10 +1,25 @@
 -- What contracts say of a tokenizer.
-use Rattle.std.specs.Prelude.{◌≡◌, ℕ, Bool, List, [], ◌∷◌, string_bytes}
+use Rattle.std.specs.Prelude.{◌≡◌, ℕ, Bool, ◌&&◌, ◌==◌, List, [], ◌∷◌, ◌++◌, length, IsTrue, string_bytes}
 use Rattle.html_lexemes.specs.Queue.{Queue, Takes}
 use Rattle.html_lexemes.specs.declared.token.TokenSinkResult.{TokenSinkResult}
 use Rattle.html_grammar.specs.Items.{Item}
+use Rattle.html_lexemes.specs.declared.token.TokenSinkResult.TheVariants.{Script as AskedScript, EncodingIndicator as AskedEncoding}
+use Rattle.html_grammar.specs.Lexemes.{Lexeme}
+use Rattle.html_grammar.specs.declared.modes.Mode.{Mode}
+use Rattle.html_grammar.specs.declared.modes.TextKind.TheVariants.{Plain}
+use Rattle.html_tokenizer.specs.Holdings.{HoldsNothing, held_of}
+use Rattle.html_tokenizer.specs.MarkupSound.{is_begun_section_end}
 use Rattle.html_tokenizer.specs.PageRest.{page_rest}
+use Rattle.html_tokenizer.specs.PlaceKinds.{is_of_text, is_open}
+use Rattle.html_tokenizer.specs.Places.{place_lexeme}
 use Rattle.html_tokenizer.specs.Reads.{Reads}
+use Rattle.html_tokenizer.specs.Tells.{TellsOn, TellsUpTo}
+use Rattle.html_tokenizer.specs.Turns.{with_more}
+use Rattle.html_tokenizer.specs.declared.place.Place.TheVariants.{CdataSection}
+use Rattle.html_tokenizer.specs.declared.reader.Pause.{Pause}
+use Rattle.html_tokenizer.specs.declared.reader.Pause.TheVariants.{Script as PauseScript, EncodingIndicator as PauseEncoding}
+use Rattle.html_tokenizer.specs.declared.results.TokenizerResult.{TokenizerResult}
+use Rattle.html_tokenizer.specs.declared.results.TokenizerResult.TheVariants.{Done, Script, EncodingIndicator}
 use Rattle.html_tokenizer.specs.declared.tokenizer.Tokenizer.{Tokenizer}
 
 -- it has come to the end, or a call was refused
@@ -19,6 +34,42 @@ Completes state step reply foreign tokenizer rest final =
 -- the text that was read is told
 abbrev pub HasTold : {S : Type 0} → Tokenizer S → Type 0
 HasTold tokenizer = string_bytes tokenizer.reader.run ≡ []
+
+-- nothing is held back either
+abbrev pub IsEmptied : {S : Type 0} → Tokenizer S → Type 0
+IsEmptied tokenizer = HoldsNothing tokenizer.reader
+
+-- what stands where the tokenizer is, before what is left of a page
+abbrev pub awaited : {S : Type 0} → Tokenizer S → Bool → List ℕ → Lexeme
+awaited tokenizer foreign page =
+    place_lexeme tokenizer.table foreign tokenizer.reader.mode tokenizer.reader.pending.place (held_of tokenizer.reader ++ page_rest tokenizer.line_ends page)
+
+-- No lexeme stands there whatever follows; of a CDATA section at most a beginning of `]]>` is held back.
+pub record IsUndecided {S : Type 0} (tokenizer : Tokenizer S) : Type 0 where
+  pub lexeme : (foreign : Bool) (l : Lexeme) → ((page : List ℕ) → awaited tokenizer foreign page ≡ with_more (page_rest tokenizer.line_ends page) l) → ⊥
+  pub section : tokenizer.reader.pending.place ≡ CdataSection → IsTrue (is_begun_section_end (held_of tokenizer.reader))
+
+-- What a result says of what was told: no pause was asked for, or this one, by what was told last.
+abbrev pub Answers : {A H : Type 0} → (A → Item → A) → (A → Item → TokenSinkResult H) → TokenizerResult H → A → A → Type 0
+Answers step reply Done old new = TellsOn step reply old new
+Answers step reply (Script handle) old new = TellsUpTo step reply (AskedScript handle) old new
+Answers step reply (EncodingIndicator encoding) old new = TellsUpTo step reply (AskedEncoding encoding) old new
+
+abbrev pub result_of : {H : Type 0} → Pause H → TokenizerResult H
+result_of (PauseScript handle) = Script handle
+result_of (PauseEncoding encoding) = EncodingIndicator encoding
+
+-- the state is one of text
+abbrev pub is_text_state : {S : Type 0} → Tokenizer S → Bool
+is_text_state tokenizer = is_of_text tokenizer.reader.pending.place
+
+-- no character is held back, and no text is untold
+abbrev pub nothing_pending : {S : Type 0} → Tokenizer S → Bool
+nothing_pending tokenizer = is_open tokenizer.reader.pending.place && length (string_bytes tokenizer.reader.pending.held) == 0 && length (string_bytes tokenizer.reader.run) == 0
+
+-- the mode, but for plain text
+abbrev pub plain_mode : {S : Type 0} → Tokenizer S → Mode
+plain_mode tokenizer = record tokenizer.reader.mode { text = Plain }
 
 -- each of the characters was taken from the front, once
 abbrev pub TakesEach : Queue → List ℕ → Queue → Type 0

@@ -1,5 +1,5 @@
 -- What a reader holds.
-use Rattle.std.specs.Prelude.{◌≡◌, List, ℕ, [], chars, string_bytes, IsTrue}
+use Rattle.std.specs.Prelude.{◌≡◌, Bool, true, false, List, ℕ, [], chars, string_bytes, IsTrue}
 use Rattle.html_lexemes.specs.References.{References}
 use Rattle.html_lexemes.specs.declared.states.RawKind.{RawKind}
 use Rattle.html_tokenizer.specs.Goings.{IsGoing, is_raw_going}
@@ -16,6 +16,11 @@ Holds table reader = IsGoing table reader.mode.last_start_tag reader.pending.pla
 
 abbrev pub HoldsRaw : Reader → Type 0
 HoldsRaw reader = (kind : RawKind) (place : RawPlace) → reader.pending.place ≡ RawText kind place → IsTrue (is_raw_going reader.mode.last_start_tag kind place (held_of reader))
+
+-- where it has not come to the end, and no call was refused
+abbrev pub HoldsUnless : Bool → References → Reader → Type 0
+HoldsUnless true table reader = Unit {0}
+HoldsUnless false table reader = Holds table reader
 
 -- Nothing is held, and no text is untold.
 pub record HoldsNothing (reader : Reader) : Type 0 where

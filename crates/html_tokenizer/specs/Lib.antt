@@ -2,6 +2,7 @@ pub mod Advances
 pub mod CommentEnds
 pub mod Completes
 pub mod Firsts
+pub mod GoingProp
 pub mod Goings
 pub mod Holdings
 pub mod MarkupSound
@@ -9,6 +10,7 @@ pub mod OpenEnds
 pub mod Openings
 pub mod PageRest
 pub mod Pieces
+pub mod PlaceKinds
 pub mod Places
 pub mod RawHeld
 pub mod RawSound

@@ -4,6 +4,7 @@
 mod comment_turns;
 mod declarations;
 mod doctype_turns;
+mod errors;
 mod first;
 mod last;
 mod line_ends;
@@ -16,6 +17,7 @@ mod raw_text_turns;
 mod raw_turn;
 mod reader;
 mod reference_places;
+mod results;
 mod script_turns;
 mod section_turn;
 mod tag_places;
@@ -24,4 +26,5 @@ mod tokenizer;
 mod turn;
 
 pub use pieces::read_pieces;
-pub use tokenizer::{Tokenizer, TokenizerResult};
+pub use results::TokenizerResult;
+pub use tokenizer::Tokenizer;

@@ -1,4 +1,4 @@
-ghost use Rattle.std.specs.Prelude.{◌≡◌, [], ◌∷◌, ◌++◌, ℕ, Bool, List, chars, string_bytes, IfOk, IsTrue, IfSome, OnOk, MatchBool, MatchOption, ◌≢◌};
+ghost use Rattle.std.specs.Prelude.{◌≡◌, [], ◌∷◌, ◌++◌, ℕ, Bool, List, chars, string_bytes, IfOk, IsTrue, IfSome, OnOk, MatchBool, MatchOption, length, ◌==◌, ◌≢◌};
 ghost use Rattle.html_tokenizer.specs.declared.place.Place.TheVariants.{CdataSection as SectionPlace, MarkupDeclarationOpen as DeclarationPlace, RawText as RawPlaceOf, Text as TextPlace};
 ghost use Rattle.std.specs.Char.{IsScalar};
 ghost use Rattle.html_tokenizer.specs.Sound.{IsSound};
@@ -78,6 +78,13 @@ impl Pending {
         ensures { MatchBool result (self.now.place ≡ TextPlace) (self.now.place ≢ TextPlace) }
     {
         self.place == Place::Text
+    }
+
+    /// Whether no character is held behind the opening that the place names.
+    pub(crate) fn is_empty(&self) -> bool
+        ensures { result ≡ (length (string_bytes self.now.held) == 0) }
+    {
+        self.held.is_empty()
     }
 
     /// Takes out the place and what is held; nothing is pending then.

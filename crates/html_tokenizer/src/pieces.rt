@@ -1,7 +1,7 @@
 ghost use Rattle.std.specs.Prelude.{◌≡◌, IfOk};
 ghost use Rattle.html_grammar.specs.FirstMode.{first_mode};
 ghost use Rattle.html_grammar.specs.PageText.{page_text};
-ghost use Rattle.html_grammar.specs.Reading.{Reading};
+ghost use Rattle.html_grammar.specs.Reading.{IsClosed, Reading};
 ghost use Rattle.html_tokenizer.specs.Pieces.{joined};
 
 use crate::tokenizer::Tokenizer;
@@ -19,7 +19,7 @@ pub fn read_pieces<Sink: TokenSink + Drop>(
     pieces: Vec<String>,
 ) -> Result<Sink, ParseFault>
     requires { Sink.ready (Sink.state sink) }
-    ensures { IfOk result (λ told. Reading table Sink.step Sink.reply Sink.foreign (first_mode opts) (Sink.state sink) (page_text opts.discard_bom (joined pieces.items)) (Sink.state told)) }
+    ensures { IfOk result (λ told. IsClosed Sink.close (Reading table Sink.step Sink.reply Sink.foreign (first_mode opts) (Sink.state sink) (page_text opts.discard_bom (joined pieces.items))) (Sink.state told)) }
 {
     let mut tokenizer = Tokenizer::new(alloc, sink, opts, table);
     'pieces: for piece in pieces {

@@ -1,4 +1,4 @@
-ghost use Rattle.std.specs.Prelude.{◌≡◌, [], ◌∷◌, ◌++◌, ℕ, Bool, List, chars, string_bytes, IfOk, IfSome, IsTrue, OnOk, Ok, None, false, true, fold, map, ◌≢◌, if◌then◌else◌};
+ghost use Rattle.std.specs.Prelude.{◌≡◌, [], ◌∷◌, ◌++◌, ℕ, Bool, List, chars, string_bytes, IfOk, IfSome, IsTrue, OnOk, Ok, None, false, true, fold, map, length, ◌==◌, ◌&&◌, ◌≢◌, if◌then◌else◌};
 ghost use Rattle.std.specs.Char.{IsScalar};
 ghost use Rattle.html_lexemes.specs.References.{References};
 ghost use Rattle.html_grammar.specs.Items.{characters, end_of_file, null_character, tag as tag_item};
@@ -7,10 +7,13 @@ ghost use Rattle.html_grammar.specs.Modes.{mode_behind};
 ghost use Rattle.html_grammar.specs.PlainRead.{items_of};
 ghost use Rattle.html_grammar.specs.Reading.{IsAfterError, IsClosed, Reading};
 ghost use Rattle.html_tokenizer.specs.Places.{place_lexeme};
+ghost use Rattle.html_grammar.specs.declared.modes.TextKind.TheVariants.{Plain as PlainText};
+ghost use Rattle.html_tokenizer.specs.PlaceKinds.{is_of_text, is_open};
 ghost use Rattle.html_tokenizer.specs.Tells.{IsFirstAfterError, IsPauseOf};
 ghost use Rattle.html_tokenizer.specs.declared.place.Place.{Place as SeenPlace};
 ghost use Rattle.html_tokenizer.specs.declared.place.Place.TheVariants.{CdataSection as SectionPlace, MarkupDeclarationOpen as DeclarationPlace, Text as TextPlace};
 
+use crate::errors::{find_errors, find_errors_before, find_last_errors, last_state, state_of};
 use crate::first::{First, first_of};
 use crate::last::lexeme_from;
 use crate::pending::{Advance, Pending, RawAdvance};
@@ -20,10 +23,9 @@ use html_grammar::lexemes::Lexeme;
 use html_grammar::slices::first_and_rest;
 use html_grammar::plain::{last_behind, tell_lexemes, tell_tokens, text_behind};
 use html_grammar::{Mode, TextKind, TokenSink};
-use html_lexemes::states::State;
 use html_lexemes::{ParseFault, ReferenceTable, Tag, Text, Token, TokenSinkResult};
 use parse_errors::ParseErrors;
-use std::alloc::{AllocError, Global};
+use std::alloc::Global;
 use std::mem;
 
 /// How far a text was read: the mode, the text that was read and is not told yet, and the lexeme that is not over.
@@ -79,6 +81,30 @@ impl Reader {
         }
     }
 
+    /// Whether it stands in text, also in a character reference there.
+    pub(crate) fn is_in_text(&self) -> bool
+        ensures { result ≡ is_of_text self.now.pending.place }
+    {
+        matches!(self.pending.place(), Place::Text | Place::CharacterReference(_))
+    }
+
+    /// Whether no character is held back, and no text is untold.
+    pub(crate) fn has_nothing_pending(&self) -> bool
+        ensures { result ≡ (is_open self.now.pending.place && length (string_bytes self.now.pending.held) == 0 && length (string_bytes self.now.run) == 0) }
+    {
+        let is_open = matches!(self.pending.place(), Place::Text | Place::CdataSection);
+        is_open && self.pending.is_empty() && self.run.is_empty()
+    }
+
+    /// Reads all that follows as text.
+    pub(crate) fn set_plaintext(&mut self)
+        ensures mode { self.new.mode ≡ record self.old.mode { text = PlainText } }
+        ensures run { self.new.run ≡ self.old.run }
+        ensures pending { self.new.pending ≡ self.old.pending }
+    {
+        self.mode.text = TextKind::Plain;
+    }
+
     /// Tells the text that was read.
     pub(crate) fn tell_run<S: TokenSink>(&mut self, sink: &mut S) -> Result<(), ParseFault>
         requires { S.ready (S.state sink.old) }
@@ -93,8 +119,10 @@ impl Reader {
             return Ok(());
         }
         let alloc = *self.run.allocator();
-        let run = mem::replace(&mut self.run, String::new(alloc));
-        sink.process_token(Token::CharacterTokens(Text::from(run)), self.line)?;
+        // a text of just its length, so that the run's room is taken once and not for each text
+        let run = Text::from_str(alloc, self.run.as_str())?;
+        self.run.clear();
+        sink.process_token(Token::CharacterTokens(run), self.line)?;
         Ok(())
     }
 
@@ -299,8 +327,10 @@ impl Reader {
         requires ready { S.ready (S.state sink.old) }
         ensures reads { OnOk result (IsClosed S.close (Reads table.now S.step S.reply S.foreign self.old (S.state sink.old) []) (S.state sink.new)) }
     {
+        let state = last_state(self.mode.text, self.pending.place());
         self.tell_run(sink)?;
         self.tell_held(table, sink)?;
+        self.errors.at_end(state, self.line)?;
         self.tell_errors(sink)?;
         sink.process_token(Token::EOFToken, self.line)?;
         sink.end()
@@ -321,6 +351,7 @@ impl Reader {
         let foreign = sink.adjusted_current_node_present_but_not_in_html_namespace();
         let alloc = *self.run.allocator();
         let (place, held) = self.pending.take_all();
+        find_last_errors(&mut self.errors, table, place, held.as_str(), self.line)?;
         match lexeme_from(alloc, table, foreign, &self.mode, place, held.as_str())? {
             Lexeme::Nothing => Ok(()),
             Lexeme::Told(tokens, text, rest) => {
@@ -387,6 +418,7 @@ impl Reader {
             Advance::Goes => Ok(None),
             Advance::Ends(place, held) => self.tell_lexeme(table, sink, place, held),
             Advance::EndsBefore(place, held) => {
+                find_errors_before(&mut self.errors, place, c, self.line)?;
                 self.tell_lexeme(table, sink, place, held)?;
                 self.begin(sink, c)?;
                 Ok(None)
@@ -489,6 +521,7 @@ impl Reader {
             Leaves table.now S.step S.reply S.foreign self.old.mode place (chars (string_bytes held) ++ (follow ++ rest)) (state_of S.step self.old (S.state sink.old)) final) }
     {
         self.tell_run(sink)?;
+        find_errors(&mut self.errors, table, place, held.as_str(), self.line)?;
         let foreign = sink.adjusted_current_node_present_but_not_in_html_namespace();
         let alloc = *self.run.allocator();
         match lexeme_from(alloc, table, foreign, &self.mode, place, held.as_str())? {
@@ -504,15 +537,6 @@ impl Reader {
                 self.tell_tag(sink, tag)
             }
         }
-    }
-}
-
-// the state of text of a kind
-fn state_of(text: TextKind) -> State {
-    match text {
-        TextKind::Ordinary => State::Data,
-        TextKind::Plain => State::Plaintext,
-        TextKind::Raw(kind) => State::RawData(kind),
     }
 }
 

@@ -16,7 +16,7 @@ use Rattle.html_tokenizer.proofs.reader.Reader.tell_held.Goals as goal
 pub tell_items-requires-clause-untagged : goal.tell_items-requires-clause-untagged
 tell_items-requires-clause-untagged g c =
     let m = c.args.self.now.mode in
-    untagged c.args.table.now c.adjusted_current_node_present_but_not_in_html_namespace-foreign.result m c.take_all-place.result.0 (chars c.as_str.result.now) (items_of c.in-Told.tokens.items) (record m { text = c.in-Told.text }) (chars c.in-Told.rest.now)
+    untagged c.args.table.now c.adjusted_current_node_present_but_not_in_html_namespace-foreign.result m c.take_all-place.result.0 (chars c.as_str-2.result.now) (items_of c.in-Told.tokens.items) (record m { text = c.in-Told.text }) (chars c.in-Told.rest.now)
     (sym c.in_ok-lexeme_from.ensures.value ∙ ap (lexeme_of m) c.in-Told.is)
 
 pub returns-clause-told : goal.returns-clause-told
@@ -31,9 +31,9 @@ returns-clause-told g c =
     let rest = chars c.in-Tagged.rest.now in
     let t = c.in-Tagged.tag in
     let e = sym c.in_ok-lexeme_from.ensures.value ∙ ap (lexeme_of r.mode) c.in-Tagged.is in
-    let placed = subst (λ x. place_lexeme table x c.args.self.now.mode c.take_all-place.result.0 (chars c.as_str.result.now) ≡ tagged t rest) c.adjusted_current_node_present_but_not_in_html_namespace-foreign.ensures e in
-    let held = ap chars (c.as_str.ensures.value ∙ ap string_bytes c.take_all-place.ensures.held) in
-    let whole = subst (λ x. place_lexeme table (foreign s) r.mode r.pending.place x ≡ tagged t rest) held (subst (λ x. place_lexeme table (foreign s) r.mode x (chars c.as_str.result.now) ≡ tagged t rest) c.take_all-place.ensures.place placed) in
+    let placed = subst (λ x. place_lexeme table x c.args.self.now.mode c.take_all-place.result.0 (chars c.as_str-2.result.now) ≡ tagged t rest) c.adjusted_current_node_present_but_not_in_html_namespace-foreign.ensures e in
+    let held = ap chars (c.as_str-2.ensures.value ∙ ap string_bytes c.take_all-place.ensures.held) in
+    let whole = subst (λ x. place_lexeme table (foreign s) r.mode r.pending.place x ≡ tagged t rest) held (subst (λ x. place_lexeme table (foreign s) r.mode x (chars c.as_str-2.result.now) ≡ tagged t rest) c.take_all-place.ensures.place placed) in
     let alike = c.in_ok-tell_errors-in-Tagged.ensures.alike in
     let same = ap (λ x. step s (characters x)) (ap chars c.requires.run ∙ chars-nil) ∙ g.met.S.TokenSink.lawful.skips s in
     let stepped = c.in_ok-tell_tag-in-Tagged.ensures.told ∙ (alike.steps (tag t) tt ∙ ap (λ x. step x (tag t)) same) in
