@@ -1,6 +1,7 @@
 -- What is held of a lexeme that goes on.
-use Rattle.std.proofs.Common.{◌≡◌, ◌≢◌, ℕ, Bool, ◌&&◌, List, [], ◌∷◌, Option, Some, None, IsTrue, refl, sym, subst}
-use Rattle.std.proofs.lemmas.Bool.{and_parts}
+use Rattle.std.proofs.Common.{◌≡◌, ◌≢◌, ℕ, Bool, true, false, ◌==◌, ◌&&◌, length, List, [], ◌∷◌, Option, Some, None, IsTrue, refl, sym, subst}
+use Rattle.std.proofs.lemmas.Bool.{and_parts, eqb-true}
+use Rattle.std.proofs.lemmas.List.{nil_from_length}
 use Rattle.html_lexemes.specs.References.{References}
 use Rattle.html_lexemes.specs.declared.states.RawKind.{RawKind}
 use Rattle.html_tokenizer.specs.Goings.{IsGoing, is_end_tag_front, is_raw_going, may_begin}
@@ -11,6 +12,7 @@ use Rattle.html_tokenizer.specs.SectionTurns.{SectionAdvances}
 use Rattle.html_grammar.specs.Lexemes.{markup, reference_lexeme}
 use Rattle.html_grammar.specs.References.{Found, reference}
 use Rattle.html_tokenizer.specs.Advances.{IsWithinMarkup}
+use Rattle.html_tokenizer.specs.PlaceKinds.{is_of_text, is_open}
 use Rattle.html_tokenizer.specs.Places.{place_lexeme}
 use Rattle.html_tokenizer.specs.Turns.{EndsBeforeAt, IsOver, IsUntagged}
 use Rattle.html_tokenizer.specs.declared.place.Place.{Place}
@@ -108,3 +110,29 @@ ended_before table foreign mode Comment held c now e = absurd e
 ended_before table foreign mode Doctype held c now e = absurd e
 ended_before table foreign mode CdataSection held c now e = absurd e
 ended_before table foreign mode (RawText kind at) held c now e = absurd e
+
+-- ---- nothing is pending
+
+open_parts : (place : Place) (held run : List ℕ) → (is_open place && length held == 0 && length run == 0) ≡ true → (is_open place ≡ true) × (run ≡ [])
+open_parts place held run h =
+    let parts = and_parts (is_open place && length held == 0) (length run == 0) h in
+    ((and_parts (is_open place) (length held == 0) parts.0).0, nil_from_length run (eqb-true (length run) 0 parts.1))
+
+pub no_run : (place : Place) (held run : List ℕ) → (is_open place && length held == 0 && length run == 0) ≡ true → run ≡ []
+no_run place held run h = (open_parts place held run h).1
+
+only_text : (place : Place) → is_of_text place ≡ true → is_open place ≡ true → place ≡ NoLexeme
+only_text NoLexeme t o = refl
+only_text (CharacterReference place) t o = absurd (let k : false ≡ true = o in cc)
+only_text TagOpen t o = absurd (let k : false ≡ true = o in cc)
+only_text EndTagOpen t o = absurd (let k : false ≡ true = o in cc)
+only_text (Tag kind place) t o = absurd (let k : false ≡ true = o in cc)
+only_text MarkupDeclarationOpen t o = absurd (let k : false ≡ true = o in cc)
+only_text BogusComment t o = absurd (let k : false ≡ true = o in cc)
+only_text Comment t o = absurd (let k : false ≡ true = o in cc)
+only_text Doctype t o = absurd (let k : false ≡ true = o in cc)
+only_text CdataSection t o = absurd (let k : false ≡ true = t in cc)
+only_text (RawText kind place) t o = absurd (let k : false ≡ true = o in cc)
+
+pub text_open : (place : Place) (held run : List ℕ) → is_of_text place ≡ true → (is_open place && length held == 0 && length run == 0) ≡ true → place ≡ NoLexeme
+text_open place held run t h = only_text place t (open_parts place held run h).0

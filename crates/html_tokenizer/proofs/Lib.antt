@@ -28,4 +28,5 @@ pub mod TagTurnLemmas
 pub mod TagsGoOn
 pub mod TellsLemmas
 pub mod Unanswered
+pub mod Undecided
 pub mod WordLemmas

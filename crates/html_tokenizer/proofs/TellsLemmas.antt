@@ -8,7 +8,10 @@ use Rattle.html_grammar.specs.Items.{Item, characters, null_character, error, ta
 use Rattle.html_grammar.specs.Modes.{is_pause}
 use Rattle.html_grammar.specs.Reading.{IsAfterError, IsAnswered, IsClosed, IsLawful}
 use Rattle.html_tokenizer.specs.Tells.{AreUnanswered, Asks, IsAlike, IsFirstAfterError, IsPauseOf, TellsOn, TellsUpTo, answer_of, told_none, told_one}
+use Rattle.html_tokenizer.specs.Completes.{Answers, result_of}
 use Rattle.html_tokenizer.specs.declared.reader.Pause.{Pause}
+use Rattle.html_tokenizer.specs.declared.reader.Pause.TheVariants.{Script, EncodingIndicator}
+use Rattle.html_tokenizer.specs.declared.results.TokenizerResult.{TokenizerResult}
 
 pub tells_same : {A H : Type 0} (step : A → Item → A) (reply : A → Item → TokenSinkResult H) (old new : A) → new ≡ old → TellsOn step reply old new
 tells_same step reply old new e = subst (TellsOn step reply old) (sym e) (told_none old)
@@ -81,3 +84,12 @@ if_ok_map (Err e) p f = tt
 pub closed_by : {A X E : Type 0} (close : A → A) (reads : A → Type 0) (r : Result X E) (final closed : A) → reads final → IfOk r (λ _. closed ≡ close final) → OnOk r (IsClosed close reads closed)
 closed_by close reads (Ok x) final closed h e = (final, (h, e))
 closed_by close reads (Err x) final closed h e = tt
+
+-- a pause as a result
+pub answers_pause : {A H : Type 0} (step : A → Item → A) (reply : A → Item → TokenSinkResult H) (pause : Pause H) (result : TokenizerResult H) (old new : A) → result ≡ result_of pause → Asks step reply (Some pause) old new → Answers step reply result old new
+answers_pause step reply (Script handle) result old new e asks = subst (λ r. Answers step reply r old new) (sym e) asks
+answers_pause step reply (EncodingIndicator encoding) result old new e asks = subst (λ r. Answers step reply r old new) (sym e) asks
+
+pub none_asked : {A H : Type 0} (step : A → Item → A) (reply : A → Item → TokenSinkResult H) (pause : Option (Pause H)) (old new : A) → ((p : Pause H) → pause ≡ Some p → ⊥) → Asks step reply pause old new → TellsOn step reply old new
+none_asked step reply None old new n asks = asks
+none_asked step reply (Some pause) old new n asks = absurd (n pause refl)

@@ -1,6 +1,7 @@
 -- What contracts say of a tokenizer.
 use Rattle.std.specs.Prelude.{◌≡◌, ℕ, Bool, ◌&&◌, ◌==◌, List, [], ◌∷◌, ◌++◌, length, IsTrue, string_bytes}
 use Rattle.html_lexemes.specs.Queue.{Queue, Takes}
+use Rattle.html_lexemes.specs.References.{References}
 use Rattle.html_lexemes.specs.declared.token.TokenSinkResult.{TokenSinkResult}
 use Rattle.html_grammar.specs.Items.{Item}
 use Rattle.html_lexemes.specs.declared.token.TokenSinkResult.TheVariants.{Script as AskedScript, EncodingIndicator as AskedEncoding}
@@ -16,7 +17,9 @@ use Rattle.html_tokenizer.specs.Reads.{Reads}
 use Rattle.html_tokenizer.specs.Tells.{TellsOn, TellsUpTo}
 use Rattle.html_tokenizer.specs.Turns.{with_more}
 use Rattle.html_tokenizer.specs.declared.place.Place.TheVariants.{CdataSection}
+use Rattle.html_tokenizer.specs.declared.line_ends.LineEnds.{LineEnds}
 use Rattle.html_tokenizer.specs.declared.reader.Pause.{Pause}
+use Rattle.html_tokenizer.specs.declared.reader.Reader.{Reader}
 use Rattle.html_tokenizer.specs.declared.reader.Pause.TheVariants.{Script as PauseScript, EncodingIndicator as PauseEncoding}
 use Rattle.html_tokenizer.specs.declared.results.TokenizerResult.{TokenizerResult}
 use Rattle.html_tokenizer.specs.declared.results.TokenizerResult.TheVariants.{Done, Script, EncodingIndicator}
@@ -39,15 +42,14 @@ HasTold tokenizer = string_bytes tokenizer.reader.run ≡ []
 abbrev pub IsEmptied : {S : Type 0} → Tokenizer S → Type 0
 IsEmptied tokenizer = HoldsNothing tokenizer.reader
 
--- what stands where the tokenizer is, before what is left of a page
-abbrev pub awaited : {S : Type 0} → Tokenizer S → Bool → List ℕ → Lexeme
-awaited tokenizer foreign page =
-    place_lexeme tokenizer.table foreign tokenizer.reader.mode tokenizer.reader.pending.place (held_of tokenizer.reader ++ page_rest tokenizer.line_ends page)
+-- No lexeme stands where the tokenizer is whatever follows in the page; of a CDATA section at most a beginning of `]]>` is held back.
+pub record IsUndecidedAt (table : References) (ends : LineEnds) (reader : Reader) : Type 0 where
+  pub lexeme : (foreign : Bool) (l : Lexeme) →
+      ((page : List ℕ) → place_lexeme table foreign reader.mode reader.pending.place (held_of reader ++ page_rest ends page) ≡ with_more (page_rest ends page) l) → ⊥
+  pub section : reader.pending.place ≡ CdataSection → IsTrue (is_begun_section_end (held_of reader))
 
--- No lexeme stands there whatever follows; of a CDATA section at most a beginning of `]]>` is held back.
-pub record IsUndecided {S : Type 0} (tokenizer : Tokenizer S) : Type 0 where
-  pub lexeme : (foreign : Bool) (l : Lexeme) → ((page : List ℕ) → awaited tokenizer foreign page ≡ with_more (page_rest tokenizer.line_ends page) l) → ⊥
-  pub section : tokenizer.reader.pending.place ≡ CdataSection → IsTrue (is_begun_section_end (held_of tokenizer.reader))
+abbrev pub IsUndecided : {S : Type 0} → Tokenizer S → Type 0
+IsUndecided tokenizer = IsUndecidedAt tokenizer.table tokenizer.line_ends tokenizer.reader
 
 -- What a result says of what was told: no pause was asked for, or this one, by what was told last.
 abbrev pub Answers : {A H : Type 0} → (A → Item → A) → (A → Item → TokenSinkResult H) → TokenizerResult H → A → A → Type 0

@@ -1,10 +1,15 @@
-use Rattle.std.proofs.Common.{arith, length, ap, sym, ◌∙◌, ◌++◌, string_bytes, subst}
+use Rattle.std.proofs.Common.{[], Some, refl, arith, length, ap, sym, ◌∙◌, ◌++◌, string_bytes, subst}
 use Rattle.std.proofs.lemmas.Str.{chars-nil}
 use Rattle.std.specs.Str.{chars}
 use Rattle.html_grammar.specs.Items.{characters}
 use Rattle.html_lexemes.specs.Queue.{Queue}
 use Rattle.html_tokenizer.specs.Completes.{Completes}
 use Rattle.html_tokenizer.specs.PageRest.{page_rest}
+use Rattle.html_grammar.specs.declared.modes.Mode.{Mode}
+use Rattle.html_tokenizer.specs.Goings.{IsGoing}
+use Rattle.html_tokenizer.specs.Tells.{Asks}
+use Rattle.html_tokenizer.proofs.TellsLemmas.{answers_pause, asks_behind, none_asked, tells_same, tells_then}
+use Rattle.html_tokenizer.proofs.Undecided.{undecided}
 use Rattle.html_tokenizer.proofs.QueueTaken.{taken_more}
 use Rattle.html_tokenizer.proofs.ReadsLemmas.{leaves_same}
 use Rattle.html_tokenizer.proofs.tokenizer.Tokenizer.read.Goals as goal
@@ -15,6 +20,10 @@ returns-in-Some-2-clause-takes g c = taken_more c.args.queue.now c.characters.qu
 pub characters-preserved : goal.characters-preserved
 characters-preserved g c = record {
   ready = c.in_ok-pause.ensures.ready;
+  over = c.take.ensures.over;
+  holds = c.in_ok-pause.ensures.holds;
+  tells = tells_then g.Sink.TokenSink.step g.Sink.TokenSink.reply (g.Sink.TokenSink.state c.args.self.now.sink) (g.Sink.TokenSink.state c.characters.self.sink) (g.Sink.TokenSink.state c.take.new.self.sink)
+      c.characters.invariant.tells (none_asked g.Sink.TokenSink.step g.Sink.TokenSink.reply c.in_ok-pause.field-0 (g.Sink.TokenSink.state c.characters.self.sink) (g.Sink.TokenSink.state c.take.new.self.sink) c.in_default-2.not-Some c.in_ok-pause.ensures.asks);
   shorter = omega (arith, ap length c.in-Some.ensures.takes.text, c.characters.invariant.shorter);
   takes = taken_more c.args.queue.now c.characters.queue c.next.new.self c.in-Some.c c.characters.invariant.takes c.in-Some.ensures.takes;
   reads = λ rest final l. c.characters.invariant.reads rest final
@@ -32,3 +41,42 @@ returns-clause-reads g c = λ rest final l.
     c.characters.invariant.reads rest final (subst (λ x. Completes g.Sink.TokenSink.state step g.Sink.TokenSink.reply g.Sink.TokenSink.foreign c.characters.self (x ++ rest) final) same
     (leaves_same c.characters.self.table step g.Sink.TokenSink.reply g.Sink.TokenSink.foreign r.mode now.mode r.pending now.pending (page_rest c.characters.self.line_ends (c.next.new.self.text ++ rest))
     (step (g.Sink.TokenSink.state c.characters.self.sink) (characters (chars (string_bytes r.run)))) (step after (characters (chars (string_bytes now.run)))) final c.tell_run.ensures.mode c.tell_run.ensures.pending told l))
+
+pub returns-in-Some-2-clause-asks : goal.returns-in-Some-2-clause-asks
+returns-in-Some-2-clause-asks g c =
+    let step = g.Sink.TokenSink.step in
+    let reply = g.Sink.TokenSink.reply in
+    let s0 = g.Sink.TokenSink.state c.args.self.now.sink in
+    let s1 = g.Sink.TokenSink.state c.characters.self.sink in
+    let s2 = g.Sink.TokenSink.state c.take.new.self.sink in
+    answers_pause step reply c.in-Some-2.pause c.result_of.result s0 s2 c.result_of.ensures
+    (asks_behind step reply (Some c.in-Some-2.pause) s0 s1 s2 c.characters.invariant.tells
+    (subst (λ p. Asks step reply p s1 s2) c.in-Some-2.is c.in_ok-pause.ensures.asks))
+
+pub returns-clause-holds : goal.returns-clause-holds
+returns-clause-holds g c =
+    subst (λ p. IsGoing c.characters.self.table c.tell_run.new.self.mode.last_start_tag p.place (chars (string_bytes p.held))) (sym c.tell_run.ensures.pending)
+    (subst (λ (m : Mode). IsGoing c.characters.self.table m.last_start_tag c.characters.self.reader.pending.place (chars (string_bytes c.characters.self.reader.pending.held))) (sym c.tell_run.ensures.mode) c.characters.invariant.holds)
+
+pub returns-clause-asks : goal.returns-clause-asks
+returns-clause-asks g c =
+    tells_then g.Sink.TokenSink.step g.Sink.TokenSink.reply (g.Sink.TokenSink.state c.args.self.now.sink) (g.Sink.TokenSink.state c.characters.self.sink) (g.Sink.TokenSink.state c.tell_run.new.sink)
+    c.characters.invariant.tells c.in_ok-tell_run.ensures.tells
+
+pub characters-init : goal.characters-init
+characters-init g c = record {
+  ready = c.requires.ready;
+  over = c.requires.over;
+  holds = c.requires.holds;
+  tells = tells_same g.Sink.TokenSink.step g.Sink.TokenSink.reply (g.Sink.TokenSink.state c.args.self.now.sink) (g.Sink.TokenSink.state c.args.self.now.sink) refl;
+  shorter = omega arith;
+  takes = record { taken = []; takes = refl };
+  reads = λ rest final l. l;
+}
+
+pub returns-clause-done : goal.returns-clause-done
+returns-clause-done g c = λ _.
+    let holds = subst (λ p. IsGoing c.characters.self.table c.tell_run.new.self.mode.last_start_tag p.place (chars (string_bytes p.held))) (sym c.tell_run.ensures.pending)
+        (subst (λ (m : Mode). IsGoing c.characters.self.table m.last_start_tag c.characters.self.reader.pending.place (chars (string_bytes c.characters.self.reader.pending.held))) (sym c.tell_run.ensures.mode) c.characters.invariant.holds) in
+    (ap (λ (q : Queue). q.text) c.in_default.ensures.takes.1 ∙ c.in_default.ensures.takes.0,
+    (c.in_ok-tell_run.ensures.run, undecided c.characters.self.table c.characters.self.line_ends c.tell_run.new.self c.names_are_names.ensures holds))

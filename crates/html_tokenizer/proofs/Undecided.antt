@@ -1,0 +1,68 @@
+-- What is held of a lexeme that goes on is no lexeme yet.
+use Rattle.std.proofs.Common.{◌≡◌, ℕ, Bool, true, false, not, ◌==◌, ◌||◌, if◌then◌else◌, List, [], ◌∷◌, ◌++◌, IsTrue, refl, sym, ap, ◌∙◌, subst}
+use Rattle.std.proofs.lemmas.Bool.{and_parts}
+use Rattle.std.specs.List.{list_all}
+use Rattle.html_lexemes.specs.LineEnds.{begins_with_line_feed, lines_ended, without_mark}
+use Rattle.html_lexemes.specs.References.{References}
+use Rattle.html_grammar.specs.declared.modes.Mode.{Mode}
+use Rattle.html_tokenizer.specs.Completes.{IsUndecidedAt}
+use Rattle.html_tokenizer.specs.Goings.{IsGoing}
+use Rattle.html_tokenizer.specs.Holdings.{Holds, held_of}
+use Rattle.html_tokenizer.specs.OpenEnds.{IsOpenEnded, is_steady}
+use Rattle.html_tokenizer.specs.PageRest.{page_rest}
+use Rattle.html_tokenizer.specs.Places.{place_lexeme}
+use Rattle.html_tokenizer.specs.Turns.{with_more}
+use Rattle.html_tokenizer.specs.declared.line_ends.LineEnds.{LineEnds}
+use Rattle.html_tokenizer.specs.declared.line_ends.LineEnds.TheVariants.{AtMark, AfterReturn, Within}
+use Rattle.html_tokenizer.specs.declared.place.Place.{Place}
+use Rattle.html_tokenizer.specs.declared.place.Place.TheVariants.{Text, CharacterReference, TagOpen, EndTagOpen, Tag, MarkupDeclarationOpen, BogusComment, Comment, Doctype, CdataSection, RawText}
+use Rattle.html_tokenizer.specs.declared.reader.Reader.{Reader}
+use Rattle.html_tokenizer.proofs.MarkupOpenEnds.{bogus_comment_undecided, comment_undecided, declaration_undecided, doctype_undecided, end_tag_open_undecided, section_undecided, tag_open_undecided, tag_undecided, text_undecided}
+use Rattle.html_tokenizer.proofs.RawOpenEnds.{raw_open}
+use Rattle.html_tokenizer.proofs.ReferenceNames.{AreNames}
+use Rattle.html_tokenizer.proofs.ReferenceOpenEnds.{references_open}
+
+going_open : (table : References) (foreign : Bool) (mode : Mode) (place : Place) (held : List ℕ) → AreNames table → IsGoing table mode.last_start_tag place held → IsOpenEnded table foreign mode place held
+going_open table foreign mode Text held law h = text_undecided table foreign mode held h
+going_open table foreign mode (CharacterReference place) held law h = references_open table foreign mode place held law h.0 h.1
+going_open table foreign mode TagOpen held law h = tag_open_undecided table foreign mode held h
+going_open table foreign mode EndTagOpen held law h = end_tag_open_undecided table foreign mode held h
+going_open table foreign mode (Tag kind place) held law h = tag_undecided table foreign mode kind place held h
+going_open table foreign mode MarkupDeclarationOpen held law h = declaration_undecided table foreign mode held h
+going_open table foreign mode BogusComment held law h = bogus_comment_undecided table foreign mode held h
+going_open table foreign mode Comment held law h = comment_undecided table foreign mode held h
+going_open table foreign mode Doctype held law h = doctype_undecided table foreign mode held h
+going_open table foreign mode CdataSection held law h = section_undecided table foreign mode held h
+going_open table foreign mode (RawText kind place) held law h = raw_open table foreign mode kind place held h
+
+-- ---- a steady text of a page is that text
+
+none_of : (a b d : Bool) → IsTrue (not (a || b || d)) → ((a ≡ false) × (b ≡ false)) × (d ≡ false)
+none_of false false false h = ((refl, refl), refl)
+none_of true b d h = absurd (let k : false ≡ true = h in cc)
+none_of false true d h = absurd (let k : false ≡ true = h in cc)
+none_of false false true h = absurd (let k : false ≡ true = h in cc)
+
+first_steady : (c : ℕ) (cs : List ℕ) → IsTrue (is_steady (c ∷ cs)) → (((c == 10) ≡ false) × ((c == 13) ≡ false)) × ((c == 0xFEFF) ≡ false)
+first_steady c cs h = none_of (c == 10) (c == 13) (c == 0xFEFF) (and_parts (not (c == 10 || c == 13 || c == 0xFEFF)) (is_steady cs) h).0
+
+steady_lines : (cs : List ℕ) → IsTrue (is_steady cs) → lines_ended cs ≡ cs
+steady_lines [] h = refl
+steady_lines (c ∷ cs) h =
+    ap (λ b. if b then (if begins_with_line_feed cs then lines_ended cs else 10 ∷ lines_ended cs) else c ∷ lines_ended cs) (first_steady c cs h).0.1
+    ∙ ap (λ l. c ∷ l) (steady_lines cs (and_parts (not (c == 10 || c == 13 || c == 0xFEFF)) (is_steady cs) h).1)
+
+steady_page : (ends : LineEnds) (cs : List ℕ) → IsTrue (is_steady cs) → page_rest ends cs ≡ cs
+steady_page AtMark [] h = refl
+steady_page AtMark (c ∷ cs) h = ap (λ b. lines_ended (if b then cs else c ∷ cs)) (first_steady c cs h).1 ∙ steady_lines (c ∷ cs) h
+steady_page AfterReturn [] h = refl
+steady_page AfterReturn (c ∷ cs) h = ap (λ b. lines_ended (if b then cs else c ∷ cs)) (first_steady c cs h).0.0 ∙ steady_lines (c ∷ cs) h
+steady_page Within cs h = steady_lines cs h
+
+pub undecided : (table : References) (ends : LineEnds) (reader : Reader) → AreNames table → Holds table reader → IsUndecidedAt table ends reader
+undecided table ends reader law holds = record {
+  lexeme = λ foreign l f.
+      going_open table foreign reader.mode reader.pending.place (held_of reader) law holds l (λ rest h.
+      subst (λ x. place_lexeme table foreign reader.mode reader.pending.place (held_of reader ++ x) ≡ with_more x l) (steady_page ends rest h) (f rest));
+  section = λ e. subst (λ p. IsGoing table reader.mode.last_start_tag p (held_of reader)) e holds;
+}

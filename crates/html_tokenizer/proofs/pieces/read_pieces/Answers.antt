@@ -1,0 +1,16 @@
+use Rattle.std.proofs.Common.{◌≡◌, List, [], ◌∷◌, String, length, refl, sym, arith, subst}
+use Rattle.std.specs.Vec.Iter.{into_iter_items}
+use Rattle.html_tokenizer.specs.Completes.{Completes}
+use Rattle.html_tokenizer.specs.Pieces.{joined}
+use Rattle.html_tokenizer.proofs.pieces.read_pieces.Goals as goal
+
+no_pieces : {Z : Type 0} (pieces : List (String Z)) → length pieces ≡ 0 → joined pieces ≡ []
+no_pieces [] e = refl
+no_pieces (piece ∷ pieces) e = absurd (omega arith)
+
+pub returns : goal.returns
+returns g c =
+    let told = c.in_ok-end.ensures.completes in
+    let reads = subst (λ x. Completes g.Sink.TokenSink.state g.Sink.TokenSink.step g.Sink.TokenSink.reply g.Sink.TokenSink.foreign c.pieces.tokenizer x told.0)
+        (sym (no_pieces (into_iter_items c.pieces.piece-iterator) c.in-None.ensures.steps.0)) told.1.0 in
+    (told.0, (c.pieces.invariant.reads told.0 reads, told.1.1))

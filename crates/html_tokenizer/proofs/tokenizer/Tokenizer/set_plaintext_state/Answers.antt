@@ -1,0 +1,26 @@
+use Rattle.std.proofs.Common.{◌≡◌, ap, ◌∙◌, string_bytes, subst}
+use Rattle.std.proofs.lemmas.Str.{chars-nil}
+use Rattle.std.specs.Str.{chars}
+use Rattle.html_grammar.specs.Items.{characters}
+use Rattle.html_grammar.specs.Reading.{Reading}
+use Rattle.html_tokenizer.specs.Completes.{plain_mode}
+use Rattle.html_tokenizer.specs.PageRest.{page_rest}
+use Rattle.html_tokenizer.specs.declared.pending.Pending.{Pending}
+use Rattle.html_tokenizer.proofs.GoingLemmas.{no_run, text_open}
+use Rattle.html_tokenizer.proofs.ReadsLemmas.{held_none, reading_of}
+use Rattle.html_tokenizer.proofs.tokenizer.Tokenizer.set_plaintext_state.Goals as goal
+
+pub returns-clause-plain : goal.returns-clause-plain
+returns-clause-plain g c = λ page final l.
+    let t = c.args.self.now in
+    let step = g.Sink.TokenSink.step in
+    let reply = g.Sink.TokenSink.reply in
+    let foreign = g.Sink.TokenSink.foreign in
+    let s = g.Sink.TokenSink.state t.sink in
+    let now = c.set_plaintext.new.self in
+    let rest = page_rest t.line_ends page in
+    let at = ap (λ (p : Pending). p.place) c.set_plaintext.ensures.pending ∙ text_open t.reader.pending.place (string_bytes t.reader.pending.held) (string_bytes t.reader.run) c.requires.text c.requires.nothing in
+    let none = ap string_bytes c.set_plaintext.ensures.run ∙ no_run t.reader.pending.place (string_bytes t.reader.pending.held) (string_bytes t.reader.run) c.requires.nothing in
+    let reads = reading_of t.table step reply foreign now.mode now.pending.place (chars (string_bytes now.pending.held)) rest (step s (characters (chars (string_bytes now.run)))) final at (held_none now.pending at) l in
+    let same = ap (λ x. step s (characters x)) (ap chars none ∙ chars-nil) ∙ g.met.Sink.TokenSink.lawful.skips s in
+    subst (λ m. Reading t.table step reply foreign m s rest final) c.set_plaintext.ensures.mode (subst (λ x. Reading t.table step reply foreign now.mode x rest final) same reads)
