@@ -4,7 +4,7 @@ use Rattle.std.proofs.lemmas.Bool.{and_parts, eqb-true}
 use Rattle.std.proofs.lemmas.List.{nil_from_length}
 use Rattle.html_lexemes.specs.References.{References}
 use Rattle.html_lexemes.specs.declared.states.RawKind.{RawKind}
-use Rattle.html_tokenizer.specs.Goings.{IsGoing, is_end_tag_front, is_raw_going, may_begin}
+use Rattle.html_tokenizer.specs.Goings.{IsGoing, is_raw_going, may_begin}
 use Rattle.html_tokenizer.specs.RawSound.{is_raw_held}
 use Rattle.html_tokenizer.specs.Sound.{IsSound}
 use Rattle.html_grammar.specs.declared.modes.Mode.{Mode}

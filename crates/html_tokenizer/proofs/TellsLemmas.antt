@@ -1,13 +1,13 @@
 -- What was told between two states of a sink.
-use Rattle.std.proofs.Common.{◌≡◌, ℕ, Bool, true, false, List, [], ◌∷◌, Option, Some, None, Result, Ok, Err, IfOk, OnOk, refl, sym, ap, ◌∙◌, subst}
+use Rattle.std.proofs.Common.{◌≡◌, Bool, false, List, [], ◌∷◌, Option, Some, None, Result, Ok, Err, IfOk, OnOk, refl, sym, ap, ◌∙◌, subst}
 use Rattle.std.specs.List.{fold}
 use Rattle.html_lexemes.specs.declared.token.Tag.{Tag}
 use Rattle.html_lexemes.specs.declared.token.TokenSinkResult.{TokenSinkResult}
 use Rattle.html_lexemes.specs.declared.token.TokenSinkResult.TheVariants.{Continue}
-use Rattle.html_grammar.specs.Items.{Item, characters, null_character, error, tag}
+use Rattle.html_grammar.specs.Items.{Item, error, tag}
 use Rattle.html_grammar.specs.Modes.{is_pause}
-use Rattle.html_grammar.specs.Reading.{IsAfterError, IsAnswered, IsClosed, IsLawful}
-use Rattle.html_tokenizer.specs.Tells.{AreUnanswered, Asks, IsAlike, IsFirstAfterError, IsPauseOf, TellsOn, TellsUpTo, answer_of, told_none, told_one}
+use Rattle.html_grammar.specs.Reading.{IsAnswered, IsClosed, IsLawful}
+use Rattle.html_tokenizer.specs.Tells.{AreUnanswered, Asks, IsAlike, IsFirstAfterError, IsPauseOf, TellsOn, told_none, told_one}
 use Rattle.html_tokenizer.specs.Completes.{Answers, result_of}
 use Rattle.html_tokenizer.specs.declared.reader.Pause.{Pause}
 use Rattle.html_tokenizer.specs.declared.reader.Pause.TheVariants.{Script, EncodingIndicator}

@@ -1,8 +1,7 @@
 -- What is held of a lexeme that goes on is no lexeme yet.
-use Rattle.std.proofs.Common.{◌≡◌, ℕ, Bool, true, false, not, ◌==◌, ◌||◌, if◌then◌else◌, List, [], ◌∷◌, ◌++◌, IsTrue, refl, sym, ap, ◌∙◌, subst}
+use Rattle.std.proofs.Common.{◌≡◌, ℕ, Bool, true, false, not, ◌==◌, ◌||◌, if◌then◌else◌, List, [], ◌∷◌, ◌++◌, IsTrue, refl, ap, ◌∙◌, subst}
 use Rattle.std.proofs.lemmas.Bool.{and_parts}
-use Rattle.std.specs.List.{list_all}
-use Rattle.html_lexemes.specs.LineEnds.{begins_with_line_feed, lines_ended, without_mark}
+use Rattle.html_lexemes.specs.LineEnds.{begins_with_line_feed, lines_ended}
 use Rattle.html_lexemes.specs.References.{References}
 use Rattle.html_grammar.specs.declared.modes.Mode.{Mode}
 use Rattle.html_tokenizer.specs.Completes.{IsUndecidedAt}

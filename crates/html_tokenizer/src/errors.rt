@@ -36,7 +36,11 @@ pub(crate) fn find_errors_before(
     if place != Place::TagOpen {
         return Ok(());
     }
-    let first_line = if c == '\n' { line.saturating_sub(1) } else { line };
+    let first_line = if c == '\n' {
+        line.saturating_sub(1)
+    } else {
+        line
+    };
     errors.at_tag_open(Some(c), first_line)
 }
 

@@ -20,8 +20,8 @@ use crate::pending::{Advance, Pending, RawAdvance};
 use crate::place::Place;
 use crate::section_turn::SectionTurn;
 use html_grammar::lexemes::Lexeme;
-use html_grammar::slices::first_and_rest;
 use html_grammar::plain::{last_behind, tell_lexemes, tell_tokens, text_behind};
+use html_grammar::slices::first_and_rest;
 use html_grammar::{Mode, TextKind, TokenSink};
 use html_lexemes::{ParseFault, ReferenceTable, Tag, Text, Token, TokenSinkResult};
 use parse_errors::ParseErrors;
@@ -85,7 +85,10 @@ impl Reader {
     pub(crate) fn is_in_text(&self) -> bool
         ensures { result ≡ is_of_text self.now.pending.place }
     {
-        matches!(self.pending.place(), Place::Text | Place::CharacterReference(_))
+        matches!(
+            self.pending.place(),
+            Place::Text | Place::CharacterReference(_)
+        )
     }
 
     /// Whether no character is held back, and no text is untold.
@@ -144,7 +147,11 @@ impl Reader {
     }
 
     // Tells some tokens, none of which is a tag, behind the errors that were found where they change nothing.
-    fn tell_items<S: TokenSink>(&mut self, sink: &mut S, tokens: Vec<Token>) -> Result<(), ParseFault>
+    fn tell_items<S: TokenSink>(
+        &mut self,
+        sink: &mut S,
+        tokens: Vec<Token>,
+    ) -> Result<(), ParseFault>
         requires ready { S.ready (S.state sink.old) }
         requires run { string_bytes self.old.run ≡ [] }
         requires untagged { AreUnanswered (items_of tokens.items) }
@@ -455,8 +462,7 @@ impl Reader {
             Reads table S.step S.reply S.foreign self.new (S.state sink.new) rest final →
             Reads table S.step S.reply S.foreign self.old (S.state sink.old) (c ∷ rest) final) }
     {
-        self.errors
-            .at_text(state_of(self.mode.text), c, self.line)?;
+        self.errors.at_text(state_of(self.mode.text), c, self.line)?;
         match first_of(&self.mode.last_start_tag, self.mode.text, c) {
             First::Text(shown) => self.read_text(sink, shown)?,
             First::Null => self.tell_null(sink)?,

@@ -2,11 +2,10 @@ use Rattle.std.proofs.Common.{◌≡◌, sym, ap, ◌∙◌, string_bytes, subst
 use Rattle.std.proofs.lemmas.Str.{chars-nil}
 use Rattle.std.specs.Str.{chars}
 use Rattle.html_grammar.specs.Items.{characters, end_of_file, tag}
-use Rattle.html_grammar.specs.Lexemes.{tagged, told}
+use Rattle.html_grammar.specs.Lexemes.{tagged}
 use Rattle.html_grammar.specs.Modes.{mode_behind}
 use Rattle.html_grammar.specs.PlainRead.{items_of, lexeme_of}
 use Rattle.html_grammar.specs.Reading.{Reading}
-use Rattle.html_grammar.specs.declared.modes.Mode.{Mode}
 use Rattle.html_tokenizer.specs.Places.{place_lexeme}
 use Rattle.html_tokenizer.specs.Reads.{Follows}
 use Rattle.html_tokenizer.proofs.ReadsLemmas.{on_ok_map}

@@ -1,4 +1,4 @@
-use Rattle.std.proofs.Common.{◌≡◌, ap, ◌∙◌, string_bytes, subst}
+use Rattle.std.proofs.Common.{ap, ◌∙◌, string_bytes, subst}
 use Rattle.std.proofs.lemmas.Str.{chars-nil}
 use Rattle.std.specs.List.{fold}
 use Rattle.std.specs.Str.{chars}

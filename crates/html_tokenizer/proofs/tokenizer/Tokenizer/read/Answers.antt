@@ -77,6 +77,7 @@ characters-init g c = record {
 pub returns-clause-done : goal.returns-clause-done
 returns-clause-done g c = λ _.
     let holds = subst (λ p. IsGoing c.characters.self.table c.tell_run.new.self.mode.last_start_tag p.place (chars (string_bytes p.held))) (sym c.tell_run.ensures.pending)
-        (subst (λ (m : Mode). IsGoing c.characters.self.table m.last_start_tag c.characters.self.reader.pending.place (chars (string_bytes c.characters.self.reader.pending.held))) (sym c.tell_run.ensures.mode) c.characters.invariant.holds) in
-    (ap (λ (q : Queue). q.text) c.in_default.ensures.takes.1 ∙ c.in_default.ensures.takes.0,
-    (c.in_ok-tell_run.ensures.run, undecided c.characters.self.table c.characters.self.line_ends c.tell_run.new.self c.names_are_names.ensures holds))
+    (subst (λ (m : Mode). IsGoing c.characters.self.table m.last_start_tag c.characters.self.reader.pending.place (chars (string_bytes c.characters.self.reader.pending.held))) (sym c.tell_run.ensures.mode) c.characters.invariant.holds) in (
+      ap (λ (q : Queue). q.text) c.in_default.ensures.takes.1 ∙ c.in_default.ensures.takes.0,
+      (c.in_ok-tell_run.ensures.run, undecided c.characters.self.table c.characters.self.line_ends c.tell_run.new.self c.names_are_names.ensures holds),
+    )

@@ -1,9 +1,8 @@
-use Rattle.std.proofs.Common.{◌≡◌, ap, ◌∙◌, string_bytes, subst}
+use Rattle.std.proofs.Common.{ap, ◌∙◌, string_bytes, subst}
 use Rattle.std.proofs.lemmas.Str.{chars-nil}
 use Rattle.std.specs.Str.{chars}
 use Rattle.html_grammar.specs.Items.{characters}
 use Rattle.html_grammar.specs.Reading.{Reading}
-use Rattle.html_tokenizer.specs.Completes.{plain_mode}
 use Rattle.html_tokenizer.specs.PageRest.{page_rest}
 use Rattle.html_tokenizer.specs.declared.pending.Pending.{Pending}
 use Rattle.html_tokenizer.proofs.GoingLemmas.{no_run, text_open}
