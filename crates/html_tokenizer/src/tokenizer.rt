@@ -18,7 +18,8 @@ use html_lexemes::{BufferQueue, ParseFault, ReferenceTable};
 use std::alloc::Global;
 
 /// Reads the text of a page, in any pieces, and tells its tokens to a sink (WHATWG HTML, 13.2.5). What it tells is what
-/// the reading of the whole text by the grammar tells, however the text is cut. Of errors it tells those that the grammar has.
+/// the reading of the whole text by the grammar tells, however the text is cut. Parse errors are told before what follows them; they
+/// change nothing else.
 #[derive(Drop)]
 pub struct Tokenizer<Sink> {
     /// What the tokens are told to. Nobody else is to change its state before the end.
