@@ -4,8 +4,7 @@ use crate::error::Error;
 use crate::listing::lines_of;
 use crate::sink::KeepingSink;
 use html_grammar::read_plainly;
-use html_lexemes::BufferQueue;
-use html_tokenizer::Tokenizer;
+use html_tokenizer::read_pieces;
 use std::alloc::{AllocError, Global};
 
 /// The lines on the tokens of a case, on which the plain reader and the tokenizer agree, fed with the whole text and
@@ -38,14 +37,8 @@ fn lines_read_plainly(alloc: Global, case: &Case) -> Result<String, Error> {
 fn lines_fed(alloc: Global, case: &Case, pieces: Vec<String>) -> Result<String, Error> {
     let sink = KeepingSink::new(alloc, case.foreign);
     let table = case.table.table(alloc)?;
-    let mut tokenizer = Tokenizer::new(alloc, sink, case.options()?, table);
-    let mut queue = BufferQueue::new(alloc);
-    for piece in pieces {
-        queue.push_back(piece)?;
-        tokenizer.feed(&mut queue)?;
-    }
-    tokenizer.end()?;
-    Ok(lines_of(alloc, tokenizer.sink.tokens())?)
+    let told = read_pieces(alloc, sink, case.options()?, table, pieces)?;
+    Ok(lines_of(alloc, told.tokens())?)
 }
 
 fn whole(alloc: Global, text: &str) -> Result<Vec<String>, AllocError> {
