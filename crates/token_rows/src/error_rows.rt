@@ -73,17 +73,22 @@ pub(crate) static ERRORS: [(Start, &str, &str); 74] = [
     (
         HTML,
         "&#0;\n&#xD800;&#x110000;",
-        "1: Invalid numeric character reference\n2: Invalid numeric character reference\n2: Invalid numeric character reference",
+        "1: Invalid numeric character reference\n\
+         2: Invalid numeric character reference\n\
+         2: Invalid numeric character reference",
     ),
     (
         HTML,
         "&#;&#x;&#xg",
-        "1: Numeric character reference without digits\n1: Numeric character reference without digits\n1: Numeric character reference without digits",
+        "1: Numeric character reference without digits\n\
+         1: Numeric character reference without digits\n\
+         1: Numeric character reference without digits",
     ),
     (
         HTML,
         "&#65a\n&#x41<p>",
-        "1: Semicolon missing after numeric character reference\n2: Semicolon missing after numeric character reference",
+        "1: Semicolon missing after numeric character reference\n\
+         2: Semicolon missing after numeric character reference",
     ),
     (
         TITLE,
@@ -99,7 +104,8 @@ pub(crate) static ERRORS: [(Start, &str, &str); 74] = [
     (
         NAMES,
         "&not;&notit;\r\n&notin;",
-        "1: Character reference does not end with semicolon\n1: Character reference does not end with semicolon",
+        "1: Character reference does not end with semicolon\n\
+         1: Character reference does not end with semicolon",
     ),
     (
         HTML,
@@ -109,12 +115,15 @@ pub(crate) static ERRORS: [(Start, &str, &str); 74] = [
     (
         HTML,
         "<p a='\n&x;&#1;&#65'>",
-        "2: Invalid character reference\n2: Invalid numeric character reference\n2: Semicolon missing after numeric character reference",
+        "2: Invalid character reference\n\
+         2: Invalid numeric character reference\n\
+         2: Semicolon missing after numeric character reference",
     ),
     (
         NAMES,
         "<p a=&not b='&not=' c=&notx>",
-        "1: Character reference does not end with semicolon\n1: Equals sign after character reference in attribute",
+        "1: Character reference does not end with semicolon\n\
+         1: Equals sign after character reference in attribute",
     ),
     // ends of pages
     (HTML, "a\n<", "2: Unexpected EOF"),
@@ -179,12 +188,18 @@ pub(crate) static EXACT_ERRORS: [(Start, &str, &str); 13] = [
     (
         HTML,
         "<p\n\u{7f}='&#128;&x;\r'b c=d\">",
-        "2: Bad character \u{7f}\n2: Invalid numeric character reference value 0x000080\n2: Invalid character reference &x;\n3: Saw b in state AfterAttributeValueQuoted\n3: Saw \" in state AttributeValue(Unquoted)",
+        "2: Bad character \u{7f}\n\
+         2: Invalid numeric character reference value 0x000080\n\
+         2: Invalid character reference &x;\n\
+         3: Saw b in state AfterAttributeValueQuoted\n\
+         3: Saw \" in state AttributeValue(Unquoted)",
     ),
     (
         HTML,
         "&unknown;&#xD800;&#65 ",
-        "1: Invalid character reference &unknown;\n1: Invalid numeric character reference value 0x00D800\n1: Semicolon missing after numeric character reference",
+        "1: Invalid character reference &unknown;\n\
+         1: Invalid numeric character reference value 0x00D800\n\
+         1: Semicolon missing after numeric character reference",
     ),
     (
         HTML,
@@ -194,7 +209,9 @@ pub(crate) static EXACT_ERRORS: [(Start, &str, &str); 13] = [
     (
         HTML,
         "<!doctype html x\u{1}\n\0",
-        "1: Saw x in state AfterDoctypeName\n1: Bad character \u{1}\n2: Saw \0 in state BogusDoctype",
+        "1: Saw x in state AfterDoctypeName\n\
+         1: Bad character \u{1}\n\
+         2: Saw \0 in state BogusDoctype",
     ),
     (HTML, "</p", "1: Saw EOF in state TagName"),
 ];
@@ -214,7 +231,12 @@ pub(crate) static MARKED: [(&str, &str); 10] = [
     ),
     (
         "a<p b='c'd>e",
-        "text\ta\nerror\t1\tBad character\nstart\tp\t-\t-\nattribute\tb\tc\nattribute\td\t\ntext\te",
+        "text\ta\n\
+         error\t1\tBad character\n\
+         start\tp\t-\t-\n\
+         attribute\tb\tc\n\
+         attribute\td\t\n\
+         text\te",
     ),
     (
         "<!-->a<!---",
