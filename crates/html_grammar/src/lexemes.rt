@@ -136,6 +136,7 @@ pub fn reference_or_sign<'t>(
     let Some(found) = reference(alloc, table, rest)? else {
         return one_character(alloc, mode.text, '&', rest);
     };
+    let message = without_semicolon(rest);
     let Found {
         characters,
         closed,
@@ -143,11 +144,19 @@ pub fn reference_or_sign<'t>(
     } = found;
     let mut tokens = Vec::new(alloc);
     if !closed {
-        let message = ErrorMessage::Fixed("character reference without a semicolon");
         tokens.push(Token::ParseError(message))?;
     }
     tokens.push(Token::CharacterTokens(characters))?;
     Ok(Lexeme::Told(tokens, mode.text, rest))
+}
+
+// what is said of a reference without its semicolon, from behind its `&` on
+fn without_semicolon(reference: &str) -> ErrorMessage {
+    ErrorMessage::Fixed(if reference.starts_with('#') {
+        "Semicolon missing after numeric character reference"
+    } else {
+        "Character reference does not end with semicolon"
+    })
 }
 
 /// What a `<` begins in ordinary text, from behind it on (WHATWG HTML, 13.2.5.6). The error is want of memory alone.
@@ -204,7 +213,7 @@ pub fn end_tag<'t>(
         return Ok(tag_or_nothing(tag_at(alloc, table, TagKind::EndTag, rest)?));
     }
     if c == '>' {
-        let message = ErrorMessage::Fixed("end tag without a name");
+        let message = ErrorMessage::Fixed("Bad character");
         return told_one(alloc, Token::ParseError(message), mode.text, behind_c);
     }
     comment(alloc, mode, bogus_comment_slice(rest))

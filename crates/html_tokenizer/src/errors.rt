@@ -26,22 +26,17 @@ pub(crate) fn find_errors(
     }
 }
 
-/// Finds the error of a `<` that is text, at the character behind it, on whose end `line` is the line.
+/// Finds the error of a `<` that is text, at the character behind it; `line` is that of the `<`.
 pub(crate) fn find_errors_before(
     errors: &mut ParseErrors,
     place: Place,
     c: char,
     line: u64,
 ) -> Result<(), AllocError> {
-    if place != Place::TagOpen {
-        return Ok(());
+    match place {
+        Place::TagOpen => errors.at_tag_open(Some(c), line),
+        _ => Ok(()),
     }
-    let first_line = if c == '\n' {
-        line.saturating_sub(1)
-    } else {
-        line
-    };
-    errors.at_tag_open(Some(c), first_line)
 }
 
 /// The same in what is held at the end of the page.

@@ -23,6 +23,7 @@ use html_grammar::lexemes::Lexeme;
 use html_grammar::plain::{last_behind, tell_lexemes, tell_tokens, text_behind};
 use html_grammar::slices::first_and_rest;
 use html_grammar::{Mode, TextKind, TokenSink};
+use html_lexemes::states::State;
 use html_lexemes::{ParseFault, ReferenceTable, Tag, Text, Token, TokenSinkResult};
 use parse_errors::ParseErrors;
 use std::alloc::Global;
@@ -36,7 +37,9 @@ pub(crate) struct Reader {
     pending: Pending,
     // those that were found and are not told yet
     errors: ParseErrors,
+    // the line of the character that was taken last, and that of the next
     line: u64,
+    next_line: u64,
 }
 
 /// What the tokenizer pauses for.
@@ -67,17 +70,19 @@ impl Reader {
             pending: Pending::new(alloc),
             errors: ParseErrors::new(alloc, exact_errors),
             line: 1,
+            next_line: 1,
         }
     }
 
-    /// Counts a line behind a LF.
+    /// Goes to the line of a further character; a LF still stands on the line that it ends.
     pub(crate) fn count_line(&mut self, c: char)
         ensures mode { self.new.mode ≡ self.old.mode }
         ensures run { self.new.run ≡ self.old.run }
         ensures pending { self.new.pending ≡ self.old.pending }
     {
+        self.line = self.next_line;
         if c == '\n' {
-            self.line = self.line.saturating_add(1);
+            self.next_line = self.line.saturating_add(1);
         }
     }
 
@@ -317,6 +322,8 @@ impl Reader {
         ensures place { OnOk result (self.new.pending.place ≡ SectionPlace) }
         ensures held { OnOk result (chars (string_bytes self.new.pending.held) ≡ []) }
     {
+        self.errors
+            .at_text(State::CdataSection, c, self.line)?;
         let held = self.pending.take_held();
         self.run.push_str(held.as_str())?;
         if c == '\0' {
@@ -334,6 +341,7 @@ impl Reader {
         requires ready { S.ready (S.state sink.old) }
         ensures reads { OnOk result (IsClosed S.close (Reads table.now S.step S.reply S.foreign self.old (S.state sink.old) []) (S.state sink.new)) }
     {
+        self.line = self.next_line;
         let state = last_state(self.mode.text, self.pending.place());
         self.tell_run(sink)?;
         self.tell_held(table, sink)?;

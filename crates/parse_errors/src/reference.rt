@@ -5,8 +5,9 @@ use std::alloc::AllocError;
 
 impl ParseErrors {
     /// Finds the errors of a character reference in text: the text behind `&` that the reference is made of, perhaps with the
-    /// character that ended it. A name that the table lacks is an error only once its `;` is read; `at_text` then
-    /// goes on with the character behind the text. The error is want of memory alone.
+    /// character that ended it. That its semicolon is missing is not among them: the grammar tells it. A name that the table
+    /// lacks is an error only once its `;` is read; `at_text` then goes on with the character behind the text. The error is
+    /// want of memory alone.
     pub fn in_reference(
         &mut self,
         table: &ReferenceTable,
@@ -38,8 +39,7 @@ impl ParseErrors {
             return self.in_number(number, is_last, line);
         }
         match table.longest_name(text) {
-            Some(reference) if reference.name.ends_with(';') => Ok(()),
-            Some(_) => self.lacks_semicolon(line),
+            Some(_) => Ok(()),
             None => self.in_unknown_name(text, line),
         }
     }
@@ -53,6 +53,7 @@ impl ParseErrors {
     ) -> Result<(), AllocError> {
         let text = text.strip_prefix('&').unwrap_or(text);
         if let Some(number) = text.strip_prefix('#') {
+            self.at_number_end(number, line)?;
             return self.in_number(number, true, line);
         }
         match table.longest_name(text) {
@@ -60,7 +61,7 @@ impl ParseErrors {
             Some(reference) => match character_behind(reference, text) {
                 Some('=') => self.tell("Equals sign after character reference in attribute", line),
                 Some(c) if c.is_ascii_alphanumeric() => Ok(()),
-                _ => self.lacks_semicolon(line),
+                _ => self.tell("Character reference does not end with semicolon", line),
             },
             None => {
                 self.in_unknown_name(text, line)?;
@@ -68,10 +69,6 @@ impl ParseErrors {
                 Ok(())
             }
         }
-    }
-
-    fn lacks_semicolon(&mut self, line: u64) -> Result<(), AllocError> {
-        self.tell("Character reference does not end with semicolon", line)
     }
 
     // Reads a name that the table lacks, as far as it goes.
@@ -86,7 +83,7 @@ impl ParseErrors {
         Ok(())
     }
 
-    // Finds the errors of a number behind `#`; `is_last` says that the page ends with the text.
+    // Finds the errors of a number behind `#`, but for a missing semicolon; `is_last` says that the page ends with the text.
     fn in_number(&mut self, text: &str, is_last: bool, line: u64) -> Result<(), AllocError> {
         if is_last && text.is_empty() {
             return self.tell("EOF after '#' in character reference", line);
@@ -95,15 +92,24 @@ impl ParseErrors {
         if !number.has_digits {
             return self.tell("Numeric character reference without digits", line);
         }
-        match number.behind {
-            Some(';') => {}
-            None if is_last => self.tell("EOF in numeric character reference", line)?,
-            _ => self.tell("Semicolon missing after numeric character reference", line)?,
-        }
         if !number.is_valid() {
             self.tell_number(number.code, line)?;
         }
         Ok(())
+    }
+
+    // Finds that no semicolon stands behind the digits of a number in a value; the text goes up to the end of the tag or of
+    // the page.
+    fn at_number_end(&mut self, text: &str, line: u64) -> Result<(), AllocError> {
+        let number = Number::read(text);
+        if !number.has_digits {
+            return Ok(());
+        }
+        match number.behind {
+            Some(';') => Ok(()),
+            None => self.tell("EOF in numeric character reference", line),
+            Some(_) => self.tell("Semicolon missing after numeric character reference", line),
+        }
     }
 }
 

@@ -162,25 +162,14 @@ pub(crate) static TAGS: [(Lexeme, &str, &str); 34] = [
     (StartTag, "a/", "1 Saw EOF in state SelfClosingStartTag\n"),
 ];
 
-/// References in text and in values, with a table of `amp;`, `not` and `notin;`, in the exact wording.
+/// References in text and in values, with a table of `amp;`, `not` and `notin;`, in the exact wording. A missing semicolon is
+/// found in values alone.
 pub(crate) static REFERENCES: [(Lexeme, &str, &str); 44] = [
     (Reference, "amp;", ""),
     (Reference, "notin;", ""),
-    (
-        Reference,
-        "not",
-        "1 Character reference does not end with semicolon\n",
-    ),
-    (
-        Reference,
-        "noti",
-        "1 Character reference does not end with semicolon\n",
-    ),
-    (
-        Reference,
-        "not=",
-        "1 Character reference does not end with semicolon\n",
-    ),
+    (Reference, "not", ""),
+    (Reference, "noti", ""),
+    (Reference, "not=", ""),
     (Reference, "", ""),
     (Reference, ";", ""),
     (Reference, "\u{1}", ""),
@@ -203,11 +192,7 @@ pub(crate) static REFERENCES: [(Lexeme, &str, &str); 44] = [
         "1 Numeric character reference without digits\n",
     ),
     (Reference, "#65;", ""),
-    (
-        Reference,
-        "#X4a",
-        "1 Semicolon missing after numeric character reference\n",
-    ),
+    (Reference, "#X4a", ""),
     (Reference, "#12;", ""),
     (
         Reference,
@@ -217,8 +202,7 @@ pub(crate) static REFERENCES: [(Lexeme, &str, &str); 44] = [
     (
         Reference,
         "#0\n",
-        "1 Semicolon missing after numeric character reference\n\
-         1 Invalid numeric character reference value 0x000000\n",
+        "1 Invalid numeric character reference value 0x000000\n",
     ),
     (
         Reference,
@@ -253,11 +237,7 @@ pub(crate) static REFERENCES: [(Lexeme, &str, &str); 44] = [
         "1 Invalid numeric character reference value 0x000041\n",
     ),
     (LastReference, "xy", ""),
-    (
-        LastReference,
-        "not",
-        "1 Character reference does not end with semicolon\n",
-    ),
+    (LastReference, "not", ""),
     (
         LastReference,
         "#",
@@ -271,8 +251,7 @@ pub(crate) static REFERENCES: [(Lexeme, &str, &str); 44] = [
     (
         LastReference,
         "#128",
-        "1 EOF in numeric character reference\n\
-         1 Invalid numeric character reference value 0x000080\n",
+        "1 Invalid numeric character reference value 0x000080\n",
     ),
     (LastReference, "#65;", ""),
     (

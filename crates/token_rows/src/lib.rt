@@ -2,6 +2,10 @@
 #![tactic(auto)]
 
 #[cfg(test)]
+mod error_rows;
+#[cfg(test)]
+mod error_tests;
+#[cfg(test)]
 mod feeding;
 #[cfg(test)]
 mod rows;

@@ -26,7 +26,8 @@ pub(crate) const HTML: Start = Start {
     discard_bom: false,
 };
 
-const FOREIGN: Start = Start {
+/// Ordinary text within a foreign element.
+pub(crate) const FOREIGN: Start = Start {
     state: State::Data,
     last: None,
     foreign: true,
@@ -34,7 +35,8 @@ const FOREIGN: Start = Start {
     discard_bom: false,
 };
 
-const NAMES: Start = Start {
+/// Ordinary text with references whose names want more characters.
+pub(crate) const NAMES: Start = Start {
     state: State::Data,
     last: None,
     foreign: false,
@@ -51,7 +53,8 @@ pub(crate) const WITHOUT_MARK: Start = Start {
     discard_bom: true,
 };
 
-const PLAINTEXT: Start = Start {
+/// Text up to the end of the page.
+pub(crate) const PLAINTEXT: Start = Start {
     state: State::Plaintext,
     last: Some("plaintext"),
     foreign: false,
@@ -59,7 +62,8 @@ const PLAINTEXT: Start = Start {
     discard_bom: false,
 };
 
-const TITLE: Start = Start {
+/// The text of an element with references.
+pub(crate) const TITLE: Start = Start {
     state: State::RawData(RawKind::Rcdata),
     last: Some("title"),
     foreign: false,
@@ -75,7 +79,8 @@ const NO_ELEMENT: Start = Start {
     discard_bom: false,
 };
 
-const STYLE: Start = Start {
+/// The text of an element without references.
+pub(crate) const STYLE: Start = Start {
     state: State::RawData(RawKind::Rawtext),
     last: Some("style"),
     foreign: false,
@@ -83,7 +88,8 @@ const STYLE: Start = Start {
     discard_bom: false,
 };
 
-const SCRIPT: Start = Start {
+/// The text of a script.
+pub(crate) const SCRIPT: Start = Start {
     state: State::RawData(RawKind::ScriptData),
     last: Some("script"),
     foreign: false,

@@ -28,6 +28,19 @@ impl Collected {
             is_in_text: false,
         }
     }
+
+    // writes an error on a line of its own
+    fn mark(&mut self, message: &str, line: u64) -> Result<(), AllocError>
+        ensures { self.new.foreign ≡ self.old.foreign }
+    {
+        let alloc = *self.log.allocator();
+        let number = format!(in alloc; "{line}")?;
+        begin_line(&mut self.log, "error")?;
+        write_field(&mut self.log, number.as_str())?;
+        write_field(&mut self.log, message)?;
+        self.is_in_text = false;
+        Ok(())
+    }
 }
 
 impl TokenSink for Collected {
@@ -213,6 +226,122 @@ impl TokenSink for Counting {
 
     fn adjusted_current_node_present_but_not_in_html_namespace(&self) -> bool {
         false
+    }
+}
+
+/// Keeps the errors alone, each on a line of the log, behind the line that it was told at.
+#[derive(Drop)]
+pub(crate) struct Errors {
+    /// The lines, joined.
+    pub(crate) log: String,
+    foreign: bool,
+}
+
+impl Errors {
+    /// An empty log.
+    pub(crate) fn new(alloc: Global, foreign: bool) -> Errors {
+        Errors {
+            log: String::new(alloc),
+            foreign,
+        }
+    }
+}
+
+impl TokenSink for Errors {
+    type Handle = u32;
+
+    ghost Abstract = { Bool };
+
+    ghost state = { λ s. s.foreign };
+
+    ghost step = { λ s _. s };
+
+    ghost reply = { λ _ _. Continue };
+
+    ghost foreign = { λ s. s };
+
+    ghost ready = { λ _. Unit {0} };
+
+    ghost close = { λ s. s };
+
+    ghost lawful = { record { joins = λ _ _ _. refl; skips = λ _. refl; answers = λ _ _ _. refl; keeps = λ _ _ r. r; forgets = λ _ _ _. refl; still_answers = λ _ _. refl; still_foreign = λ _. refl } };
+
+    fn process_token(
+        &mut self,
+        token: Token,
+        line: u64,
+    ) -> Result<TokenSinkResult<u32>, ParseFault> {
+        if let Token::ParseError(message) = &token {
+            if !self.log.is_empty() {
+                self.log.push('\n')?;
+            }
+            write!(self.log, "{line}: {}", message.as_str())?;
+        }
+        Ok(TokenSinkResult::Continue)
+    }
+
+    fn end(&mut self) -> Result<(), ParseFault> {
+        Ok(())
+    }
+
+    fn adjusted_current_node_present_but_not_in_html_namespace(&self) -> bool {
+        self.foreign
+    }
+}
+
+/// Writes a log in which each error is a line of its own, also within a text.
+#[derive(Drop)]
+pub(crate) struct Marked {
+    /// What was told.
+    pub(crate) told: Collected,
+}
+
+impl Marked {
+    /// An empty log.
+    pub(crate) fn new(alloc: Global, foreign: bool) -> Marked {
+        Marked {
+            told: Collected::new(alloc, foreign),
+        }
+    }
+}
+
+impl TokenSink for Marked {
+    type Handle = u32;
+
+    ghost Abstract = { Bool };
+
+    ghost state = { λ s. s.told.foreign };
+
+    ghost step = { λ s _. s };
+
+    ghost reply = { λ _ _. Continue };
+
+    ghost foreign = { λ s. s };
+
+    ghost ready = { λ _. Unit {0} };
+
+    ghost close = { λ s. s };
+
+    ghost lawful = { record { joins = λ _ _ _. refl; skips = λ _. refl; answers = λ _ _ _. refl; keeps = λ _ _ r. r; forgets = λ _ _ _. refl; still_answers = λ _ _. refl; still_foreign = λ _. refl } };
+
+    fn process_token(
+        &mut self,
+        token: Token,
+        line: u64,
+    ) -> Result<TokenSinkResult<u32>, ParseFault> {
+        if let Token::ParseError(message) = &token {
+            self.told.mark(message.as_str(), line)?;
+        }
+        self.told.process_token(token, line)
+    }
+
+    fn end(&mut self) -> Result<(), ParseFault> {
+        self.told.end()
+    }
+
+    fn adjusted_current_node_present_but_not_in_html_namespace(&self) -> bool {
+        self.told
+            .adjusted_current_node_present_but_not_in_html_namespace()
     }
 }
 
