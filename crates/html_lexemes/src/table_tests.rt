@@ -140,3 +140,30 @@ fn an_empty_table_has_no_name(rt: HostRuntime) {
     assert!(rt; !table.has_longer_name(""));
     assert_eq!(rt; table.longest_name("a"), None);
 }
+
+#[test]
+fn a_further_value_takes_the_place_of_a_value(rt: HostRuntime) -> Result<(), Fail> {
+    let mut table = ReferenceTable::empty(rt.alloc());
+    table.insert("a", "1")?;
+    table.insert("b", "2")?;
+    table.insert("a", "3")?;
+    assert_eq!(rt; table.value("a"), Some("3"));
+    assert_eq!(rt; table.value("b"), Some("2"));
+    Ok(())
+}
+
+#[test]
+fn names_and_values_are_told(rt: HostRuntime) {
+    for text in ["a", "Z9", "frac12", "not;", "0"] {
+        assert!(rt; is_name(text), "at {text}");
+    }
+    for text in ["", ";", "a;b", "a;;", "a-b", "\u{e9}", "\u{661}"] {
+        assert!(rt; !is_name(text), "at {text}");
+    }
+    for text in ["a", "\u{ac}", "\u{1d504}", "\u{2266}\u{338}"] {
+        assert!(rt; is_value(text), "at {text}");
+    }
+    for text in ["", "\0", "a\0", "\0a", "abc"] {
+        assert!(rt; !is_value(text));
+    }
+}
