@@ -77,6 +77,7 @@ impl<Sink: TokenSink> Tokenizer<Sink> {
         requires { Sink.ready (Sink.state self.old.sink) }
         ensures ready { OnOk result (Sink.ready (Sink.state self.new.sink)) }
         ensures failed { has_failed self.old ≡ true → result ≡ Err Failed }
+        ensures kept { has_failed self.old ≡ true → (self.new ≡ self.old) × (queue.new ≡ queue.old) }
         ensures works { has_failed self.new ≡ is_err result }
         ensures takes { OnOk result (TakesSome queue.old queue.new) }
         ensures done { result ≡ Ok TokenizerResult.Done → (queue.new.text ≡ []) × (HasTold self.new × IsUndecided self.new) }
@@ -201,6 +202,7 @@ impl<Sink: TokenSink> Tokenizer<Sink> {
     pub fn end(&mut self) -> Result<(), ParseFault>
         requires { Sink.ready (Sink.state self.old.sink) }
         ensures failed { has_failed self.old ≡ true → result ≡ Err Failed }
+        ensures kept { has_failed self.old ≡ true → self.new ≡ self.old }
         ensures over { has_failed self.new ≡ true }
         ensures completes { OnOk result (IsClosed Sink.close (Completes Sink.state Sink.step Sink.reply Sink.foreign self.old []) (Sink.state self.new.sink)) }
     {

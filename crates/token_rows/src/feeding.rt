@@ -35,6 +35,48 @@ pub(crate) fn first_answer<S: TokenSink + Drop>(
     Ok((result, rest))
 }
 
+/// Whether a tokenizer is in a state of text, and whether nothing is pending, behind the beginning of a page.
+pub(crate) fn states_behind<S: TokenSink + Drop>(
+    alloc: Global,
+    sink: S,
+    options: TokenizerOpts,
+    table: ReferenceTable,
+    page: &str,
+) -> Result<(bool, bool), ParseFault>
+    requires { S.ready (S.state sink) }
+{
+    let mut tokenizer = Tokenizer::new(alloc, sink, options, table);
+    let mut queue = BufferQueue::new(alloc);
+    queue.push_back(String::from_str(alloc, page)?)?;
+    tokenizer.feed_on(&mut queue)?;
+    Ok((tokenizer.is_text_state(), tokenizer.nothing_pending()))
+}
+
+/// The sink behind a page that is read as plain text from behind a front on, where that may be asked for.
+pub(crate) fn fed_plainly<S: TokenSink + Drop>(
+    alloc: Global,
+    sink: S,
+    options: TokenizerOpts,
+    table: ReferenceTable,
+    front: &str,
+    rest: &str,
+) -> Result<S, ParseFault>
+    requires { S.ready (S.state sink) }
+{
+    let mut tokenizer = Tokenizer::new(alloc, sink, options, table);
+    let mut queue = BufferQueue::new(alloc);
+    queue.push_back(String::from_str(alloc, front)?)?;
+    tokenizer.feed_on(&mut queue)?;
+    if tokenizer.is_text_state() && tokenizer.nothing_pending() {
+        tokenizer.set_plaintext_state();
+    }
+    queue.push_back(String::from_str(alloc, rest)?)?;
+    tokenizer.feed_on(&mut queue)?;
+    tokenizer.end()?;
+    let Tokenizer { sink, .. } = tokenizer;
+    Ok(sink)
+}
+
 /// A text as one piece.
 pub(crate) fn whole(alloc: Global, text: &str) -> Result<Vec<String>, AllocError> {
     let text = String::from_str(alloc, text)?;

@@ -1,4 +1,4 @@
-use crate::feeding::{characters, fed, first_answer, halves, whole};
+use crate::feeding::{characters, fed, fed_plainly, first_answer, halves, states_behind, whole};
 use crate::rows::{HTML, ROWS, Start};
 use crate::sinks::{Collected, Counting, SCRIPT_HANDLE, Switching};
 use html_grammar::read_plainly;
@@ -94,6 +94,47 @@ fn a_pause_leaves_what_follows_in_the_queue(rt: HostRuntime) -> Result<(), Fail>
     let encoding = Text::from_str(alloc, "latin1")?;
     assert_eq!(rt; result, TokenizerResult::EncodingIndicator(encoding));
     assert_eq!(rt; rest.as_str(), "&<\r\n");
+    Ok(())
+}
+
+// whether the state is one of text, and whether nothing is pending
+fn states(alloc: Global, page: &str) -> Result<(bool, bool), Fail> {
+    let sink = Collected::new(alloc, false);
+    let options = HTML.options(alloc)?;
+    let states = states_behind(alloc, sink, options, HTML.table(alloc)?, page)?;
+    Ok(states)
+}
+
+#[test]
+fn a_tokenizer_tells_its_state(rt: HostRuntime) -> Result<(), Fail> {
+    let alloc = rt.alloc();
+    for (page, expected) in [
+        ("", (true, true)),
+        ("a<p>b", (true, true)),
+        ("a&amp;", (true, true)),
+        ("a&am", (true, false)),
+        ("a<", (false, false)),
+        ("<p a='", (false, false)),
+        ("<!--", (false, false)),
+    ] {
+        assert_eq!(rt; states(alloc, page)?, expected, "behind {page}");
+    }
+    Ok(())
+}
+
+// the log of a page that is plain text from behind a front on
+fn log_plain(alloc: Global, front: &str, rest: &str) -> Result<String, Fail> {
+    let sink = Collected::new(alloc, false);
+    let options = HTML.options(alloc)?;
+    let sink = fed_plainly(alloc, sink, options, HTML.table(alloc)?, front, rest)?;
+    Ok(sink.log)
+}
+
+#[test]
+fn plain_text_may_be_asked_for(rt: HostRuntime) -> Result<(), Fail> {
+    let alloc = rt.alloc();
+    let log = log_plain(alloc, "<p>a", "<b>&lt;\0")?;
+    assert_eq!(rt; log.as_str(), "start\tp\t-\t-\ntext\ta<b>&lt;\u{fffd}");
     Ok(())
 }
 
