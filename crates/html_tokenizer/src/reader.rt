@@ -322,8 +322,7 @@ impl Reader {
         ensures place { OnOk result (self.new.pending.place ≡ SectionPlace) }
         ensures held { OnOk result (chars (string_bytes self.new.pending.held) ≡ []) }
     {
-        self.errors
-            .at_text(State::CdataSection, c, self.line)?;
+        self.errors.at_text(State::CdataSection, c, self.line)?;
         let held = self.pending.take_held();
         self.run.push_str(held.as_str())?;
         if c == '\0' {
