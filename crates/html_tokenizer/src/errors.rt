@@ -69,8 +69,21 @@ pub(crate) fn last_state(text: TextKind, place: Place) -> State {
     }
 }
 
-/// The state of text of a kind.
-pub(crate) fn state_of(text: TextKind) -> State {
+/// Finds the errors at a character of text.
+pub(crate) fn heed(
+    errors: &mut ParseErrors,
+    text: TextKind,
+    c: char,
+    line: u64,
+) -> Result<(), AllocError> {
+    if !errors.heeds(c) {
+        return Ok(());
+    }
+    errors.at_text(state_of(text), c, line)
+}
+
+// the state of text of a kind
+fn state_of(text: TextKind) -> State {
     match text {
         TextKind::Ordinary => State::Data,
         TextKind::Plain => State::Plaintext,

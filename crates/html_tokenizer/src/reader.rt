@@ -13,7 +13,7 @@ ghost use Rattle.html_tokenizer.specs.Tells.{IsFirstAfterError, IsPauseOf};
 ghost use Rattle.html_tokenizer.specs.declared.place.Place.{Place as SeenPlace};
 ghost use Rattle.html_tokenizer.specs.declared.place.Place.TheVariants.{CdataSection as SectionPlace, MarkupDeclarationOpen as DeclarationPlace, Text as TextPlace};
 
-use crate::errors::{find_errors, find_errors_before, find_last_errors, last_state, state_of};
+use crate::errors::{find_errors, find_errors_before, find_last_errors, heed, last_state};
 use crate::first::{First, first_of};
 use crate::last::lexeme_from;
 use crate::pending::{Advance, Pending, RawAdvance};
@@ -469,7 +469,7 @@ impl Reader {
             Reads table S.step S.reply S.foreign self.new (S.state sink.new) rest final →
             Reads table S.step S.reply S.foreign self.old (S.state sink.old) (c ∷ rest) final) }
     {
-        self.errors.at_text(state_of(self.mode.text), c, self.line)?;
+        heed(&mut self.errors, self.mode.text, c, self.line)?;
         match first_of(&self.mode.last_start_tag, self.mode.text, c) {
             First::Text(shown) => self.read_text(sink, shown)?,
             First::Null => self.tell_null(sink)?,

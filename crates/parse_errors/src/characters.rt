@@ -1,5 +1,8 @@
 //! Which characters are errors in which states (WHATWG HTML, 13.2.5, as html5ever reads it).
 
+ghost use Rattle.std.specs.Prelude.{◌≡◌};
+ghost use Rattle.parse_errors.specs.Noncharacters.{is_noncharacter};
+
 use html_lexemes::states::{AttrValueKind, State};
 
 /// The line behind a character.
@@ -17,7 +20,9 @@ pub(crate) fn is_space(c: char) -> bool {
 }
 
 /// Whether a code point is a control other than white space and NUL, or stands for no character.
-pub(crate) fn is_noncharacter(code: u32) -> bool {
+pub(crate) fn is_noncharacter(code: u32) -> bool
+    ensures { result ≡ is_noncharacter code }
+{
     matches!(code, 0x01..=0x08 | 0x0b | 0x0e..=0x1f | 0x7f..=0x9f | 0xfdd0..=0xfdef)
         || code % 0x10000 >= 0xfffe
 }

@@ -11,6 +11,9 @@ impl ParseErrors {
         let mut state = State::CommentStart;
         for c in text.chars() {
             line = line_behind(line, c);
+            if matches!(state, State::Comment) && self.is_plain_in_comment(c) {
+                continue;
+            }
             let reading = self.read(state, c, line)?;
             let Some(next) = comment_state(reading, c) else {
                 return Ok(());
@@ -18,6 +21,11 @@ impl ParseErrors {
             state = next;
         }
         self.saw_end(state_at_end(state), line)
+    }
+
+    // Whether a character within a comment is no error, and begins nothing.
+    fn is_plain_in_comment(&self, c: char) -> bool {
+        !matches!(c, '\0' | '<' | '-') && !self.tells_character(c)
     }
 }
 

@@ -1,3 +1,7 @@
+ghost use Rattle.std.specs.Prelude.{◌≡◌, ◌≢◌, ◌&&◌, [], false, MatchBool};
+ghost use Rattle.parse_errors.specs.Found.{found_of, heeds, is_exact, is_watching};
+ghost use Rattle.parse_errors.specs.Noncharacters.{is_noncharacter};
+
 use crate::characters::{is_bad, is_noncharacter, reading_state};
 use html_lexemes::states::State;
 use html_lexemes::{ErrorMessage, Text};
@@ -27,7 +31,11 @@ pub struct ParseErrors {
 
 impl ParseErrors {
     /// Before the first character of a page.
-    pub fn new(alloc: Global, exact: bool) -> ParseErrors {
+    pub fn new(alloc: Global, exact: bool) -> ParseErrors
+        ensures none { found_of result ≡ [] }
+        ensures exact { is_exact result ≡ exact }
+        ensures unwatched { is_watching result ≡ false }
+    {
         ParseErrors {
             exact,
             found: Vec::new(alloc),
@@ -37,18 +45,28 @@ impl ParseErrors {
     }
 
     /// Whether there is nothing to tell.
-    pub fn is_empty(&self) -> bool {
+    pub fn is_empty(&self) -> bool
+        ensures { MatchBool result (found_of self.now ≡ []) (found_of self.now ≢ []) }
+    {
         self.found.is_empty()
     }
 
     /// Gives out what was found; nothing is left to tell.
-    pub fn take(&mut self) -> Vec<FoundError> {
+    pub fn take(&mut self) -> Vec<FoundError>
+        ensures taken { result.items ≡ found_of self.old }
+        ensures none { found_of self.new ≡ [] }
+        ensures exact { is_exact self.new ≡ is_exact self.old }
+        ensures watched { is_watching self.new ≡ is_watching self.old }
+    {
         let alloc = self.alloc();
         mem::replace(&mut self.found, Vec::new(alloc))
     }
 
-    /// Whether `at_text` is to be asked about a character of text; else it finds nothing there.
-    pub fn heeds(&self, c: char) -> bool {
+    /// Whether `at_text` could find an error at a character of text, or has one in view: it is NUL, or stands in an
+    /// unknown name behind `&`, or with `exact` it is a control or a noncharacter.
+    pub fn heeds(&self, c: char) -> bool
+        ensures { result ≡ heeds self.now c }
+    {
         c == '\0' || self.watched.is_some() || self.tells_character(c)
     }
 
@@ -57,7 +75,9 @@ impl ParseErrors {
     }
 
     // Whether a character is told wherever it stands.
-    pub(crate) fn tells_character(&self, c: char) -> bool {
+    pub(crate) fn tells_character(&self, c: char) -> bool
+        ensures { result ≡ (is_exact self.now && is_noncharacter c) }
+    {
         self.exact && is_noncharacter(u32::from(c))
     }
 

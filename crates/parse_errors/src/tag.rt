@@ -19,16 +19,19 @@ impl ParseErrors {
         let mut names = AttributeNames::new(self.alloc());
         let mut state = State::TagName;
         for (at, c) in text.char_indices() {
+            if is_plain_in_tag(state, c) {
+                continue;
+            }
             line = line_behind(line, c);
             let reading = self.read(state, c, line)?;
             if c == '&' && matches!(reading, State::AttributeValue(_)) {
                 self.in_value(table, text.get(at..).unwrap_or(""), line)?;
             }
             let Some(next) = tag_state(reading, c) else {
-                let is_self_closing = reading == State::SelfClosingStartTag;
+                let is_self_closing = matches!(reading, State::SelfClosingStartTag);
                 return self.at_tag_end(kind, &mut names, is_self_closing, line);
             };
-            if next == State::AttributeName {
+            if matches!(next, State::AttributeName) {
                 self.in_attribute_name(&mut names, reading, c, line)?;
             }
             state = next;
@@ -44,7 +47,7 @@ impl ParseErrors {
         c: char,
         line: u64,
     ) -> Result<(), AllocError> {
-        if state != State::AttributeName {
+        if !matches!(state, State::AttributeName) {
             self.finish_attribute(names, line)?;
         }
         names.push(c)
@@ -80,6 +83,11 @@ impl ParseErrors {
         }
         Ok(())
     }
+}
+
+// Whether a character within a tag's name or a value is no error, and ends nothing.
+fn is_plain_in_tag(state: State, c: char) -> bool {
+    matches!(state, State::TagName | State::AttributeValue(_)) && c.is_ascii_alphanumeric()
 }
 
 // The state behind a character that is read in a state. `None` is the end of the tag.

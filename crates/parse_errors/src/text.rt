@@ -1,3 +1,6 @@
+ghost use Rattle.std.specs.Prelude.{◌≡◌, false, Ok};
+ghost use Rattle.parse_errors.specs.Found.{heeds};
+
 use crate::ParseErrors;
 use crate::characters::is_bad;
 use html_lexemes::states::{RawKind, State};
@@ -7,7 +10,9 @@ impl ParseErrors {
     /// Finds the errors at a character that is read in a state of text, on its line: `Data`, `Plaintext`, `RawData`, a state
     /// behind dashes of a script, or `CdataSection`. A `<` or `&`, which may begin markup, is such a character too. The
     /// error is want of memory alone.
-    pub fn at_text(&mut self, state: State, c: char, line: u64) -> Result<(), AllocError> {
+    pub fn at_text(&mut self, state: State, c: char, line: u64) -> Result<(), AllocError>
+        ensures unheeded { heeds self.old c ≡ false → (self.new ≡ self.old) × (result ≡ Ok tt) }
+    {
         if !self.heeds(c) {
             return Ok(());
         }
