@@ -5,23 +5,23 @@ use html_lexemes::states::State;
 use parse_errors::ParseErrors;
 use std::alloc::AllocError;
 
-/// Finds the parse errors in a lexeme that is over: in what was held at its place. `line` is the line on which that ends. What the
-/// grammar tells as an item, a `</>` and a reference without its semicolon, is not among them. The error is want of memory
-/// alone.
+/// Finds the parse errors in a lexeme that is over: in what was held at its place. `line` is that on which a reference stands.
+/// What the grammar tells as an item, a `</>` and a reference without its semicolon, is not among them. The error is want of
+/// memory alone.
 pub(crate) fn find_errors(
     errors: &mut ParseErrors,
     table: &ReferenceTable,
+    opening: Opening,
     place: Place,
     held: &str,
     line: u64,
 ) -> Result<(), AllocError> {
-    let first_line = line.saturating_sub(line_feeds(held));
     match place {
-        Place::CharacterReference(_) => errors.in_reference(table, held, first_line),
-        Place::Tag(kind, _) => errors.in_tag(table, kind, held, first_line),
-        Place::BogusComment => errors.in_bogus_comment(opening_of(held), held, first_line),
-        Place::Comment => errors.in_comment(held, first_line),
-        Place::Doctype => errors.in_doctype(held, first_line),
+        Place::CharacterReference(_) => errors.in_reference(table, held, line),
+        Place::Tag(kind, _) => errors.in_tag(table, kind, held, opening.line),
+        Place::BogusComment => errors.in_bogus_comment(opening.state, held, opening.line),
+        Place::Comment => errors.in_comment(held, opening.line),
+        Place::Doctype => errors.in_doctype(held, opening.line),
         _ => Ok(()),
     }
 }
@@ -43,6 +43,7 @@ pub(crate) fn find_errors_before(
 pub(crate) fn find_last_errors(
     errors: &mut ParseErrors,
     table: &ReferenceTable,
+    opening: Opening,
     place: Place,
     held: &str,
     line: u64,
@@ -54,7 +55,7 @@ pub(crate) fn find_last_errors(
         Place::MarkupDeclarationOpen => {
             errors.in_bogus_comment(State::MarkupDeclarationOpen, held, line)
         }
-        _ => find_errors(errors, table, place, held, line),
+        _ => find_errors(errors, table, opening, place, held, line),
     }
 }
 
@@ -69,43 +70,33 @@ pub(crate) fn last_state(text: TextKind, place: Place) -> State {
     }
 }
 
-/// Finds the errors at a character of text.
-pub(crate) fn heed(
-    errors: &mut ParseErrors,
-    text: TextKind,
-    c: char,
-    line: u64,
-) -> Result<(), AllocError> {
-    if !errors.heeds(c) {
-        return Ok(());
-    }
-    errors.at_text(state_of(text), c, line)
+/// Where markup began.
+#[derive(Clone, Copy, Debug)]
+pub(crate) struct Opening {
+    /// The state behind its `<`, `</` or `<!`.
+    pub(crate) state: State,
+    /// The line of the character behind that.
+    pub(crate) line: u64,
 }
 
-// the state of text of a kind
-fn state_of(text: TextKind) -> State {
+impl Opening {
+    /// What is known behind a further character of markup, on a line, that was read at a place.
+    pub(crate) fn behind(self, place: Place, line: u64) -> Opening {
+        let state = match place {
+            Place::TagOpen => State::TagOpen,
+            Place::EndTagOpen => State::EndTagOpen,
+            Place::MarkupDeclarationOpen => State::MarkupDeclarationOpen,
+            _ => return self,
+        };
+        Opening { state, line }
+    }
+}
+
+/// The state of text of a kind.
+pub(crate) fn state_of(text: TextKind) -> State {
     match text {
         TextKind::Ordinary => State::Data,
         TextKind::Plain => State::Plaintext,
         TextKind::Raw(kind) => State::RawData(kind),
     }
-}
-
-// the state in which a bogus comment was opened: `?` stands behind `<`; else it is taken to stand behind `<!`
-fn opening_of(comment: &str) -> State {
-    if comment.starts_with('?') {
-        State::TagOpen
-    } else {
-        State::MarkupDeclarationOpen
-    }
-}
-
-fn line_feeds(text: &str) -> u64 {
-    let mut count: u64 = 0;
-    for c in text.chars() {
-        if c == '\n' {
-            count = count.saturating_add(1);
-        }
-    }
-    count
 }

@@ -13,7 +13,9 @@ ghost use Rattle.html_tokenizer.specs.Tells.{IsFirstAfterError, IsPauseOf};
 ghost use Rattle.html_tokenizer.specs.declared.place.Place.{Place as SeenPlace};
 ghost use Rattle.html_tokenizer.specs.declared.place.Place.TheVariants.{CdataSection as SectionPlace, MarkupDeclarationOpen as DeclarationPlace, Text as TextPlace};
 
-use crate::errors::{find_errors, find_errors_before, find_last_errors, heed, last_state};
+use crate::errors::{
+    Opening, find_errors, find_errors_before, find_last_errors, last_state, state_of,
+};
 use crate::first::{First, first_of};
 use crate::last::lexeme_from;
 use crate::pending::{Advance, Pending, RawAdvance};
@@ -37,6 +39,8 @@ pub(crate) struct Reader {
     pending: Pending,
     // those that were found and are not told yet
     errors: ParseErrors,
+    // where the markup that is not over began
+    opening: Opening,
     // the line of the character that was taken last, and that of the next
     line: u64,
     next_line: u64,
@@ -69,6 +73,10 @@ impl Reader {
             run: String::new(alloc),
             pending: Pending::new(alloc),
             errors: ParseErrors::new(alloc, exact_errors),
+            opening: Opening {
+                state: State::TagOpen,
+                line: 1,
+            },
             line: 1,
             next_line: 1,
         }
@@ -242,6 +250,7 @@ impl Reader {
             Reads table.now S.step S.reply S.foreign self.new (S.state sink.new) rest final →
             Reads table.now S.step S.reply S.foreign self.old (S.state sink.old) (c ∷ rest) final) }
     {
+        self.opening = self.opening.behind(self.pending.place(), self.line);
         let foreign = self.is_foreign(sink)?;
         match self.pending.take(table, foreign, c)? {
             Some(advance) => self.advance(table, sink, advance, c),
@@ -284,7 +293,10 @@ impl Reader {
                 self.mode.text = TextKind::Raw(behind);
                 Ok(true)
             }
-            RawAdvance::EndTag => Ok(false),
+            RawAdvance::EndTag => {
+                self.opening.line = self.line;
+                Ok(false)
+            }
         }
     }
 
@@ -365,7 +377,8 @@ impl Reader {
         let foreign = sink.adjusted_current_node_present_but_not_in_html_namespace();
         let alloc = *self.run.allocator();
         let (place, held) = self.pending.take_all();
-        find_last_errors(&mut self.errors, table, place, held.as_str(), self.line)?;
+        let errors = &mut self.errors;
+        find_last_errors(errors, table, self.opening, place, held.as_str(), self.line)?;
         match lexeme_from(alloc, table, foreign, &self.mode, place, held.as_str())? {
             Lexeme::Nothing => Ok(()),
             Lexeme::Told(tokens, text, rest) => {
@@ -469,7 +482,7 @@ impl Reader {
             Reads table S.step S.reply S.foreign self.new (S.state sink.new) rest final →
             Reads table S.step S.reply S.foreign self.old (S.state sink.old) (c ∷ rest) final) }
     {
-        heed(&mut self.errors, self.mode.text, c, self.line)?;
+        self.errors.at_text(state_of(self.mode.text), c, self.line)?;
         match first_of(&self.mode.last_start_tag, self.mode.text, c) {
             First::Text(shown) => self.read_text(sink, shown)?,
             First::Null => self.tell_null(sink)?,
@@ -534,7 +547,8 @@ impl Reader {
             Leaves table.now S.step S.reply S.foreign self.old.mode place (chars (string_bytes held) ++ (follow ++ rest)) (state_of S.step self.old (S.state sink.old)) final) }
     {
         self.tell_run(sink)?;
-        find_errors(&mut self.errors, table, place, held.as_str(), self.line)?;
+        let errors = &mut self.errors;
+        find_errors(errors, table, self.opening, place, held.as_str(), self.line)?;
         let foreign = sink.adjusted_current_node_present_but_not_in_html_namespace();
         let alloc = *self.run.allocator();
         match lexeme_from(alloc, table, foreign, &self.mode, place, held.as_str())? {

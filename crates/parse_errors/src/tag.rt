@@ -19,7 +19,7 @@ impl ParseErrors {
         let mut names = AttributeNames::new(self.alloc());
         let mut state = State::TagName;
         for (at, c) in text.char_indices() {
-            if is_plain_in_tag(state, c) {
+            if self.is_plain_in_tag(state, c) {
                 continue;
             }
             line = line_behind(line, c);
@@ -37,6 +37,18 @@ impl ParseErrors {
             state = next;
         }
         self.saw_end(state_at_end(state), line)
+    }
+
+    // Whether a character within a tag's name or a value is no error, and begins and ends nothing.
+    fn is_plain_in_tag(&self, state: State, c: char) -> bool {
+        match state {
+            State::TagName | State::AttributeValue(AttrValueKind::Unquoted) =>
+                c.is_ascii_alphanumeric(),
+            State::AttributeValue(_) => {
+                !matches!(c, '\0' | '\n' | '"' | '\'' | '&') && !self.tells_character(c)
+            }
+            _ => false,
+        }
     }
 
     // Takes a character of an attribute's name that is read in a state; in all but one it is the first.
@@ -83,11 +95,6 @@ impl ParseErrors {
         }
         Ok(())
     }
-}
-
-// Whether a character within a tag's name or a value is no error, and ends nothing.
-fn is_plain_in_tag(state: State, c: char) -> bool {
-    matches!(state, State::TagName | State::AttributeValue(_)) && c.is_ascii_alphanumeric()
 }
 
 // The state behind a character that is read in a state. `None` is the end of the tag.

@@ -16,6 +16,12 @@ impl ParseErrors {
         if !self.heeds(c) {
             return Ok(());
         }
+        self.at_heeded(state, c, line)
+    }
+
+    // The same at a character that matters.
+    #[inline(never)]
+    fn at_heeded(&mut self, state: State, c: char, line: u64) -> Result<(), AllocError> {
         if has_references(state) {
             self.name_goes_on(c, line)?;
         } else {

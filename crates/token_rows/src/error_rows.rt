@@ -164,7 +164,7 @@ pub(crate) static ERRORS: [(Start, &str, &str); 74] = [
 ];
 
 /// The same in the wording that names characters and states.
-pub(crate) static EXACT_ERRORS: [(Start, &str, &str); 13] = [
+pub(crate) static EXACT_ERRORS: [(Start, &str, &str); 15] = [
     (HTML, "a\0", "1: Saw \0 in state Data"),
     (
         HTML,
@@ -178,6 +178,8 @@ pub(crate) static EXACT_ERRORS: [(Start, &str, &str); 13] = [
     ),
     (HTML, "\r\n<?", "2: Saw ? in state TagOpen"),
     (HTML, "<!x>", "1: Saw ! in state MarkupDeclarationOpen"),
+    (HTML, "</\n>", "2: Saw \n in state EndTagOpen"),
+    (HTML, "<b></3", "1: Saw 3 in state EndTagOpen"),
     (TITLE, "\0", "1: Saw \0 in state RawData(Rcdata)"),
     (
         SCRIPT,
