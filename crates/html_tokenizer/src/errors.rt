@@ -11,17 +11,17 @@ use std::alloc::AllocError;
 pub(crate) fn find_errors(
     errors: &mut ParseErrors,
     table: &ReferenceTable,
-    opening: Opening,
+    start: MarkupStart,
     place: Place,
     held: &str,
     line: u64,
 ) -> Result<(), AllocError> {
     match place {
         Place::CharacterReference(_) => errors.in_reference(table, held, line),
-        Place::Tag(kind, _) => errors.in_tag(table, kind, held, opening.line),
-        Place::BogusComment => errors.in_bogus_comment(opening.state, held, opening.line),
-        Place::Comment => errors.in_comment(held, opening.line),
-        Place::Doctype => errors.in_doctype(held, opening.line),
+        Place::Tag(kind, _) => errors.in_tag(table, kind, held, start.line),
+        Place::BogusComment => errors.in_bogus_comment(start.state, held, start.line),
+        Place::Comment => errors.in_comment(held, start.line),
+        Place::Doctype => errors.in_doctype(held, start.line),
         _ => Ok(()),
     }
 }
@@ -43,7 +43,7 @@ pub(crate) fn find_errors_before(
 pub(crate) fn find_last_errors(
     errors: &mut ParseErrors,
     table: &ReferenceTable,
-    opening: Opening,
+    start: MarkupStart,
     place: Place,
     held: &str,
     line: u64,
@@ -55,7 +55,7 @@ pub(crate) fn find_last_errors(
         Place::MarkupDeclarationOpen => {
             errors.in_bogus_comment(State::MarkupDeclarationOpen, held, line)
         }
-        _ => find_errors(errors, table, opening, place, held, line),
+        _ => find_errors(errors, table, start, place, held, line),
     }
 }
 
@@ -72,23 +72,23 @@ pub(crate) fn last_state(text: TextKind, place: Place) -> State {
 
 /// Where markup began.
 #[derive(Clone, Copy, Debug)]
-pub(crate) struct Opening {
+pub(crate) struct MarkupStart {
     /// The state behind its `<`, `</` or `<!`.
     pub(crate) state: State,
     /// The line of the character behind that.
     pub(crate) line: u64,
 }
 
-impl Opening {
+impl MarkupStart {
     /// What is known behind a further character of markup, on a line, that was read at a place.
-    pub(crate) fn behind(self, place: Place, line: u64) -> Opening {
+    pub(crate) fn behind(self, place: Place, line: u64) -> MarkupStart {
         let state = match place {
             Place::TagOpen => State::TagOpen,
             Place::EndTagOpen => State::EndTagOpen,
             Place::MarkupDeclarationOpen => State::MarkupDeclarationOpen,
             _ => return self,
         };
-        Opening { state, line }
+        MarkupStart { state, line }
     }
 }
 

@@ -14,7 +14,7 @@ ghost use Rattle.html_tokenizer.specs.declared.place.Place.{Place as SeenPlace};
 ghost use Rattle.html_tokenizer.specs.declared.place.Place.TheVariants.{CdataSection as SectionPlace, MarkupDeclarationOpen as DeclarationPlace, Text as TextPlace};
 
 use crate::errors::{
-    Opening, find_errors, find_errors_before, find_last_errors, last_state, state_of,
+    MarkupStart, find_errors, find_errors_before, find_last_errors, last_state, state_of,
 };
 use crate::first::{First, first_of};
 use crate::last::lexeme_from;
@@ -40,7 +40,7 @@ pub(crate) struct Reader {
     // those that were found and are not told yet
     errors: ParseErrors,
     // where the markup that is not over began
-    opening: Opening,
+    start: MarkupStart,
     // the line of the character that was taken last, and that of the next
     line: u64,
     next_line: u64,
@@ -73,7 +73,7 @@ impl Reader {
             run: String::new(alloc),
             pending: Pending::new(alloc),
             errors: ParseErrors::new(alloc, exact_errors),
-            opening: Opening {
+            start: MarkupStart {
                 state: State::TagOpen,
                 line: 1,
             },
@@ -250,7 +250,7 @@ impl Reader {
             Reads table.now S.step S.reply S.foreign self.new (S.state sink.new) rest final →
             Reads table.now S.step S.reply S.foreign self.old (S.state sink.old) (c ∷ rest) final) }
     {
-        self.opening = self.opening.behind(self.pending.place(), self.line);
+        self.start = self.start.behind(self.pending.place(), self.line);
         let foreign = self.is_foreign(sink)?;
         match self.pending.take(table, foreign, c)? {
             Some(advance) => self.advance(table, sink, advance, c),
@@ -294,7 +294,7 @@ impl Reader {
                 Ok(true)
             }
             RawAdvance::EndTag => {
-                self.opening.line = self.line;
+                self.start.line = self.line;
                 Ok(false)
             }
         }
@@ -378,7 +378,7 @@ impl Reader {
         let alloc = *self.run.allocator();
         let (place, held) = self.pending.take_all();
         let errors = &mut self.errors;
-        find_last_errors(errors, table, self.opening, place, held.as_str(), self.line)?;
+        find_last_errors(errors, table, self.start, place, held.as_str(), self.line)?;
         match lexeme_from(alloc, table, foreign, &self.mode, place, held.as_str())? {
             Lexeme::Nothing => Ok(()),
             Lexeme::Told(tokens, text, rest) => {
@@ -548,7 +548,7 @@ impl Reader {
     {
         self.tell_run(sink)?;
         let errors = &mut self.errors;
-        find_errors(errors, table, self.opening, place, held.as_str(), self.line)?;
+        find_errors(errors, table, self.start, place, held.as_str(), self.line)?;
         let foreign = sink.adjusted_current_node_present_but_not_in_html_namespace();
         let alloc = *self.run.allocator();
         match lexeme_from(alloc, table, foreign, &self.mode, place, held.as_str())? {
