@@ -1,7 +1,14 @@
+ghost use Rattle.std.specs.Prelude.{IsTrue, chars};
+ghost use Rattle.html_grammar.specs.Items.{characters};
+ghost use Rattle.html_grammar.specs.PlainRead.{items_of};
+ghost use Rattle.html_grammar.specs.Reading.{IsAfterError};
+ghost use Rattle.html_tokenizer.specs.Tells.{IsFirstAfterError};
+
 use crate::place::Place;
 use html_grammar::TextKind;
-use html_lexemes::ReferenceTable;
+use html_grammar::slices::first_and_rest;
 use html_lexemes::states::State;
+use html_lexemes::{ReferenceTable, Token};
 use parse_errors::ParseErrors;
 use std::alloc::AllocError;
 
@@ -98,5 +105,26 @@ pub(crate) fn state_of(text: TextKind) -> State {
         TextKind::Ordinary => State::Data,
         TextKind::Plain => State::Plaintext,
         TextKind::Raw(kind) => State::RawData(kind),
+    }
+}
+
+/// Whether an error right before the first of some tokens changes nothing.
+pub(crate) fn may_follow_error(tokens: &[Token]) -> bool
+    ensures { IsTrue result → IsFirstAfterError (items_of tokens.now) }
+{
+    match tokens.first() {
+        Some(Token::CharacterTokens(text)) => is_other_than_line_feed(text.as_str()),
+        Some(_) => true,
+        None => false,
+    }
+}
+
+// whether a text begins with another character than LF
+fn is_other_than_line_feed(text: &str) -> bool
+    ensures { IsTrue result → IsAfterError (characters (chars text.now)) }
+{
+    match first_and_rest(text) {
+        Some((c, _)) => c != '\n',
+        None => false,
     }
 }

@@ -27,6 +27,7 @@ pub(crate) enum First {
 
 /// What a character is where it stands first in text of a kind (WHATWG HTML, 13.2.5.1 to 13.2.5.5, 13.2.5.20 and
 /// 13.2.5.27); `last` is the name of the last start tag, without which `<` begins no end tag.
+#[inline(always)]
 pub(crate) fn first_of(last: &Option<LocalName>, text: TextKind, c: char) -> First
     requires { IsScalar c }
     ensures { IsFirst last.now text c result }
@@ -52,6 +53,7 @@ fn shown(c: char) -> char
     if c == '\0' { '\u{fffd}' } else { c }
 }
 
+#[inline(never)]
 fn first_of_raw(last: &Option<LocalName>, kind: RawKind, c: char) -> First
     requires { IsScalar c }
     ensures { IsFirst last.now (Raw kind) c result }

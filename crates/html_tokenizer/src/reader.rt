@@ -5,16 +5,17 @@ ghost use Rattle.html_grammar.specs.Items.{characters, end_of_file, null_charact
 ghost use Rattle.html_grammar.specs.Lexemes.{ordinary_item};
 ghost use Rattle.html_grammar.specs.Modes.{mode_behind};
 ghost use Rattle.html_grammar.specs.PlainRead.{items_of};
-ghost use Rattle.html_grammar.specs.Reading.{IsAfterError, IsClosed, Reading};
+ghost use Rattle.html_grammar.specs.Reading.{IsClosed, Reading};
 ghost use Rattle.html_tokenizer.specs.Places.{place_lexeme};
 ghost use Rattle.html_grammar.specs.declared.modes.TextKind.TheVariants.{Plain as PlainText};
 ghost use Rattle.html_tokenizer.specs.PlaceKinds.{is_of_text, is_open};
-ghost use Rattle.html_tokenizer.specs.Tells.{IsFirstAfterError, IsPauseOf};
+ghost use Rattle.html_tokenizer.specs.Tells.{IsPauseOf};
 ghost use Rattle.html_tokenizer.specs.declared.place.Place.{Place as SeenPlace};
 ghost use Rattle.html_tokenizer.specs.declared.place.Place.TheVariants.{CdataSection as SectionPlace, MarkupDeclarationOpen as DeclarationPlace, Text as TextPlace};
 
 use crate::errors::{
-    MarkupStart, find_errors, find_errors_before, find_last_errors, last_state, state_of,
+    MarkupStart, find_errors, find_errors_before, find_last_errors, last_state, may_follow_error,
+    state_of,
 };
 use crate::first::{First, first_of};
 use crate::last::lexeme_from;
@@ -23,7 +24,6 @@ use crate::place::Place;
 use crate::section_turn::SectionTurn;
 use html_grammar::lexemes::Lexeme;
 use html_grammar::plain::{last_behind, tell_lexemes, tell_tokens, text_behind};
-use html_grammar::slices::first_and_rest;
 use html_grammar::{Mode, TextKind, TokenSink};
 use html_lexemes::states::State;
 use html_lexemes::{ParseFault, ReferenceTable, Tag, Text, Token, TokenSinkResult};
@@ -143,6 +143,7 @@ impl Reader {
     }
 
     // Tells the errors that were found, behind the text that was read.
+    #[cold]
     fn tell_errors<S: TokenSink>(&mut self, sink: &mut S) -> Result<(), ParseFault>
         requires { S.ready (S.state sink.old) }
         ensures ready { OnOk result (S.ready (S.state sink.new)) }
@@ -470,7 +471,8 @@ impl Reader {
         Ok(sink.adjusted_current_node_present_but_not_in_html_namespace())
     }
 
-    // takes the first character of a lexeme
+    // takes the first character of a lexeme; always inlined, since most characters come here alone
+    #[inline(always)]
     fn begin<S: TokenSink>(&mut self, sink: &mut S, c: char) -> Result<(), ParseFault>
         requires ready { S.ready (S.state sink.old) }
         requires place { self.old.pending.place ≡ TextPlace }
@@ -493,6 +495,7 @@ impl Reader {
     }
 
     // Reads a character as text. Errors are told before it; before a LF, which they could change, they are not.
+    #[inline(always)]
     fn read_text<S: TokenSink>(&mut self, sink: &mut S, c: char) -> Result<(), ParseFault>
         requires ready { S.ready (S.state sink.old) }
         requires scalar { IsScalar c }
@@ -564,27 +567,6 @@ impl Reader {
                 self.tell_tag(sink, tag)
             }
         }
-    }
-}
-
-// whether an error right before the first of some tokens changes nothing
-fn may_follow_error(tokens: &[Token]) -> bool
-    ensures { IsTrue result → IsFirstAfterError (items_of tokens.now) }
-{
-    match tokens.first() {
-        Some(Token::CharacterTokens(text)) => is_other_than_line_feed(text.as_str()),
-        Some(_) => true,
-        None => false,
-    }
-}
-
-// whether a text begins with another character than LF
-fn is_other_than_line_feed(text: &str) -> bool
-    ensures { IsTrue result → IsAfterError (characters (chars text.now)) }
-{
-    match first_and_rest(text) {
-        Some((c, _)) => c != '\n',
-        None => false,
     }
 }
 
