@@ -1,4 +1,4 @@
-ghost use Rattle.std.specs.Prelude.{IsTrue, chars};
+ghost use Rattle.std.specs.Prelude.{MatchBool, chars};
 ghost use Rattle.html_grammar.specs.Items.{characters};
 ghost use Rattle.html_grammar.specs.PlainRead.{items_of};
 ghost use Rattle.html_grammar.specs.Reading.{IsAfterError};
@@ -110,7 +110,7 @@ pub(crate) fn state_of(text: TextKind) -> State {
 
 /// Whether an error right before the first of some tokens changes nothing.
 pub(crate) fn may_follow_error(tokens: &[Token]) -> bool
-    ensures { IsTrue result → IsFirstAfterError (items_of tokens.now) }
+    ensures { MatchBool result (IsFirstAfterError (items_of tokens.now)) (IsFirstAfterError (items_of tokens.now) → ⊥) }
 {
     match tokens.first() {
         Some(Token::CharacterTokens(text)) => is_other_than_line_feed(text.as_str()),
@@ -121,7 +121,7 @@ pub(crate) fn may_follow_error(tokens: &[Token]) -> bool
 
 // whether a text begins with another character than LF
 fn is_other_than_line_feed(text: &str) -> bool
-    ensures { IsTrue result → IsAfterError (characters (chars text.now)) }
+    ensures { MatchBool result (IsAfterError (characters (chars text.now))) (IsAfterError (characters (chars text.now)) → ⊥) }
 {
     match first_and_rest(text) {
         Some((c, _)) => c != '\n',

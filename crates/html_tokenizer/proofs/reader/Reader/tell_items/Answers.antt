@@ -1,4 +1,5 @@
 use Rattle.std.proofs.Common.{ap, ◌∙◌, string_bytes, subst}
+use Rattle.std.proofs.lemmas.Bool.{MatchBool-at_true}
 use Rattle.std.proofs.lemmas.Str.{chars-nil}
 use Rattle.std.specs.List.{fold}
 use Rattle.std.specs.Str.{chars}
@@ -18,7 +19,7 @@ returns-clause-told g c =
     let step = g.S.TokenSink.step in
     let old = g.S.TokenSink.state c.args.sink.now in
     let items = items_of c.args.tokens.items in
-    let first = subst (λ x. IsFirstAfterError (items_of x)) c.as_slice.ensures.value (c.may_follow_error.ensures c.if-not-may_follow_error.false) in
+    let first = subst (λ x. IsFirstAfterError (items_of x)) c.as_slice.ensures.value (MatchBool-at_true _ _ c.if-not-may_follow_error.false c.may_follow_error.ensures) in
     let same = ap (λ x. step old (characters x)) (ap chars c.requires.run ∙ chars-nil) ∙ g.met.S.TokenSink.lawful.skips old in
     on_ok_map c.tell_tokens-2.result c.tell_tokens-2.ensures.told (λ t.
     t ∙ (alike_items step g.S.TokenSink.reply g.S.TokenSink.foreign (step old (characters (chars (string_bytes c.args.self.now.run)))) (g.S.TokenSink.state c.tell_errors.new.sink) items c.in_ok-tell_errors.ensures.alike first
