@@ -224,12 +224,6 @@ pub record IsShown (c d : ℕ) : Type 0 where
   pub scalar : IsScalar d
   pub same : shown c ≡ d
 
-pub IsShown-nul : (c d : ℕ) → c ≡ 0 → d ≡ 0xFFFD → IsShown c d
-IsShown-nul c d e f = rw (e, f) (record { scalar = refl; same = refl })
-
-pub IsShown-other : (c d : ℕ) → IsScalar c → (c ≡ 0 → ⊥) → d ≡ c → IsShown c d
-IsShown-other c d h e f = rw f (record { scalar = h; same = grind (arith, nat_tests) })
-
 pub scalar_first : (bs rest : List ℕ) (c : ℕ) → IsUtf8 bs → bs ≡ encode_utf8 c ++ rest → IsScalar c
 scalar_first bs rest c u e =
     let cut = cons_from_encodes u.0 rest c (u.1.1 ∙ e) in

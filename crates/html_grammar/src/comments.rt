@@ -6,6 +6,7 @@ ghost use Rattle.html_grammar.specs.Edges.{before};
 ghost use Rattle.html_grammar.specs.Read.{cut_of};
 ghost use Rattle.html_grammar.specs.Slices.{cut};
 
+use crate::characters::shown_character;
 use crate::slices::{behind, cut_at, first_and_rest};
 use html_lexemes::Text;
 use std::alloc::{AllocError, Global};
@@ -81,7 +82,7 @@ pub fn shown(alloc: Global, text: &str) -> Result<Text, AllocError>
 {
     let mut shown = String::new(alloc);
     'shown: for c in text.chars() {
-        shown.push(if c == '\0' { '\u{fffd}' } else { c })?;
+        shown.push(shown_character(c))?;
     }
     Ok(Text::from(shown))
 }

@@ -13,6 +13,7 @@ ghost use Rattle.html_grammar.specs.Told.{HasRest};
 ghost use Rattle.html_grammar.specs.declared.modes.Mode.{Mode as SeenMode};
 ghost use Rattle.std.specs.Prelude.{option_map, map, codes, drop, IfSome, Some, None, if◌then◌else◌, ◌&&◌, ◌==◌};
 
+use crate::characters::shown_character;
 use crate::comments::{bogus_comment_slice, comment_slice, shown};
 use crate::doctypes::doctype_at;
 use crate::modes::{Mode, TextKind};
@@ -95,12 +96,6 @@ fn text_of(alloc: Global, c: char) -> Result<Text, AllocError>
     let mut characters = String::new(alloc);
     characters.push(c)?;
     Ok(Text::from(characters))
-}
-
-fn shown_character(c: char) -> char
-    ensures { result ≡ shown c }
-{
-    if c == '\0' { '\u{fffd}' } else { c }
 }
 
 // what stands first in ordinary text (WHATWG HTML, 13.2.5.1), at its first character
@@ -362,7 +357,8 @@ fn end_tag_name<'t>(
     Ok(None)
 }
 
-fn may_be_reference(kind: RawKind, c: char) -> bool
+/// Whether a character in the text of an element begins a reference: `&` in RCDATA (WHATWG HTML, 13.2.5.2).
+pub fn may_be_reference(kind: RawKind, c: char) -> bool
     ensures { result ≡ (c == 38 && has_references kind) }
 {
     c == '&' && matches!(kind, RawKind::Rcdata)

@@ -1,6 +1,7 @@
 //! The grammar of a page's text, and its reading: what a page tells to a sink of tokens.
 #![tactic(auto)]
 
+pub mod characters;
 pub mod comments;
 mod doctypes;
 pub mod laws;

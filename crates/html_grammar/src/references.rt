@@ -2,12 +2,13 @@ ghost use Rattle.std.specs.Prelude.{◌≡◌, ◌==◌, ◌||◌, ◌≤◌, if
 ghost use Rattle.std.specs.Char.{IsScalar};
 ghost use Rattle.std.specs.List.{list_all, list_any};
 ghost use Rattle.std.specs.Str.{IsUtf8};
-ghost use Rattle.html_grammar.specs.Characters.{is_alphanumeric, is_digit, shown};
+ghost use Rattle.html_grammar.specs.Characters.{is_alphanumeric, is_digit};
 ghost use Rattle.html_grammar.specs.Classes.{is_of};
 ghost use Rattle.html_grammar.specs.Read.{found_of};
 ghost use Rattle.html_grammar.specs.References.{behind_number_sign, named, number_of, numbered, numeric, reference, reference_in_value, value_of};
 ghost use Rattle.html_grammar.specs.Slices.{first_passes};
 
+use crate::characters::shown_character;
 use crate::slices::{CharacterClass, behind, first_and_rest, split_while};
 use html_lexemes::{ReferenceTable, Text};
 use std::alloc::{AllocError, Global};
@@ -81,7 +82,7 @@ pub fn value_of(alloc: Global, table: &ReferenceTable, text: &str) -> Result<Tex
             rest = found.rest;
             continue;
         }
-        value.push(shown(c))?;
+        value.push(shown_character(c))?;
         rest = behind_c;
     }
     Ok(Text::from(value))
@@ -102,13 +103,6 @@ fn reference_behind<'t>(
     } else {
         Ok(None)
     }
-}
-
-// a character of a value, NUL as U+FFFD
-fn shown(c: char) -> char
-    ensures { result ≡ shown c }
-{
-    if c == '\0' { '\u{fffd}' } else { c }
 }
 
 // whether a text begins with `=`, a letter or a digit

@@ -1,14 +1,14 @@
 ghost use Rattle.std.specs.Prelude.{◌≡◌, ◌==◌, ◌&&◌, chars};
 ghost use Rattle.std.specs.Char.{IsScalar};
-ghost use Rattle.html_grammar.specs.Characters.{shown};
 ghost use Rattle.html_grammar.specs.declared.modes.TextKind.TheVariants.{Raw};
-ghost use Rattle.html_grammar.specs.Lexemes.{has_references};
 ghost use Rattle.html_tokenizer.specs.Firsts.{IsFirst};
 ghost use Rattle.html_tokenizer.specs.Goings.{has_end_tag, is_name_of_letters, may_begin};
 ghost use Rattle.html_tokenizer.specs.RawSound.{is_escaped};
 
 use crate::place::{Place, RawPlace, ReferencePlace};
 use html_grammar::TextKind;
+use html_grammar::characters::shown_character;
+use html_grammar::lexemes::may_be_reference;
 use html_lexemes::LocalName;
 use html_lexemes::states::RawKind;
 
@@ -39,18 +39,9 @@ pub(crate) fn first_of(last: &Option<LocalName>, text: TextKind, c: char) -> Fir
             '&' => First::Opens(Place::CharacterReference(ReferencePlace::Named)),
             _ => First::Text(c),
         },
-        TextKind::Plain => First::Text(shown(c)),
+        TextKind::Plain => First::Text(shown_character(c)),
         TextKind::Raw(kind) => first_of_raw(last, kind, c),
     }
-}
-
-// NUL is shown as U+FFFD
-fn shown(c: char) -> char
-    requires { IsScalar c }
-    ensures value { result ≡ shown c }
-    ensures scalar { IsScalar result }
-{
-    if c == '\0' { '\u{fffd}' } else { c }
 }
 
 #[inline(never)]
@@ -67,7 +58,7 @@ fn first_of_raw(last: &Option<LocalName>, kind: RawKind, c: char) -> First
     if may_end_escape(kind, c) {
         return First::OpensRaw(kind, RawPlace::Dashes);
     }
-    First::Text(shown(c))
+    First::Text(shown_character(c))
 }
 
 // whether `<` may begin an end tag, or another part of script data
@@ -95,12 +86,6 @@ fn is_name_of_letters(name: &str) -> bool
     ensures { result ≡ is_name_of_letters (chars name.now) }
 {
     !name.is_empty() && name.chars().all(|c| c.is_ascii_lowercase())
-}
-
-fn may_be_reference(kind: RawKind, c: char) -> bool
-    ensures { result ≡ (c == 38 && has_references kind) }
-{
-    c == '&' && matches!(kind, RawKind::Rcdata)
 }
 
 fn may_end_escape(kind: RawKind, c: char) -> bool

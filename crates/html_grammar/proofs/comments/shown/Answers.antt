@@ -1,9 +1,8 @@
 use Rattle.std.proofs.Common.{◌≡◌, ◌++◌, IsUtf8, chars, sym, ap, subst, ◌∙◌}
 use Rattle.std.proofs.lemmas.Str.{chars-nil, IsUtf8-string_bytes, IsUtf8-past_char}
 use Rattle.html_grammar.specs.Characters.{shown_text}
-use Rattle.html_grammar.proofs.MarkLemmas.{IsShown, IsShown-nul, IsShown-other, scalar_first, shown_all, shown_more}
+use Rattle.html_grammar.proofs.MarkLemmas.{IsShown, scalar_first, shown_all, shown_more}
 use Rattle.html_grammar.proofs.comments.shown.Goals as goal
-use Rattle.html_grammar.proofs.comments.shown.Goals.{then-c-eq0, else-c-eq0}
 
 pub shown-init : goal.shown-init
 shown-init c =
@@ -17,7 +16,7 @@ pub shown-preserved : goal.shown-preserved
 shown-preserved c =
     let left = c.shown.c-iterator.rest.now in
     let split = c.in-Some.ensures.steps.0 in
-    let written : IsShown c.in-Some.c c.if-c-eq0.push = elim c.if-c-eq0.branch [ then-c-eq0 w ↦ IsShown-nul _ _ w.if-c-eq0.true w.push-is | else-c-eq0 w ↦ IsShown-other _ _ (scalar_first left _ _ c.shown.invariant.left_text split) w.if-c-eq0.false w.push-is ] in
+    let written : IsShown c.in-Some.c c.shown_character.result = record { scalar = c.shown_character.ensures.scalar (scalar_first left _ _ c.shown.invariant.left_text split); same = sym c.shown_character.ensures.value } in
     record {
       left_text = IsUtf8-past_char left _ _ c.shown.invariant.left_text split;
       same = shown_more _ _ left _ _ _ _ (IsUtf8-string_bytes c.shown.shown) c.shown.invariant.left_text split c.in_ok-push.ensures.bytes written c.shown.invariant.same;

@@ -30,7 +30,7 @@ value-preserved c = record {
   so_far =
       valuing_character c.args.table.now _ _ _ c.in-Some.c (chars c.in-Some.behind_c.now) c.value.invariant.so_far c.in-Some.ensures.value _
       (sym (ap (option_map found_of) c.in_default-2.is) ∙ c.in_ok-found.ensures.value)
-      (pushed_shown c.value.value c.push.new.self c.in-Some.c c.shown.result c.in-Some.ensures.scalar c.shown.ensures c.in_ok-push.ensures.bytes);
+      (pushed_shown c.value.value c.push.new.self c.in-Some.c c.shown_character.result c.in-Some.ensures.scalar c.shown_character.ensures.value c.in_ok-push.ensures.bytes);
 }
 
 pub returns : goal.returns

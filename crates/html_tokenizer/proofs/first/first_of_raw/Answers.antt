@@ -14,8 +14,8 @@ returns-then-may_end_escape c = (refl, dash_first c.args.kind c.args.c (sym c.ma
 
 pub returns : goal.returns
 returns c = (
-  c.shown.ensures.scalar,
-  λ table foreign mode rest m l. raw_first_in table foreign c.args.last.now c.args.kind mode c.args.c c.shown.result rest c.shown.ensures.value
+  c.shown_character.ensures.scalar c.requires,
+  λ table foreign mode rest m l. raw_first_in table foreign c.args.last.now c.args.kind mode c.args.c c.shown_character.result rest c.shown_character.ensures.value
       (elim c.else-c-eq60.branch [
         | else-c-eq60-via-then-c-eq60+else-may_begin w ↦ and_right (c.args.c == 60) (may_begin c.args.last.now c.args.kind) (sym w.may_begin.ensures ∙ w.if-may_begin.false)
         | else-c-eq60-via-else-c-eq60 w ↦ and_left (c.args.c == 60) (may_begin c.args.last.now c.args.kind) (ne_eqb c.args.c 60 w.if-c-eq60.false)
