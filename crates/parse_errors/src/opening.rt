@@ -1,4 +1,4 @@
-ghost use Rattle.std.specs.Prelude.{◌≡◌, false, OnOk};
+ghost use Rattle.std.specs.Prelude.{◌≡◌, false, None, OnOk};
 ghost use Rattle.parse_errors.specs.Found.{GoesOn, HasOneMore, is_watching};
 
 use crate::ParseErrors;
@@ -12,6 +12,7 @@ impl ParseErrors {
     pub fn at_tag_open(&mut self, next: Option<char>, line: u64) -> Result<(), AllocError>
         ensures found { GoesOn self.old self.new }
         ensures unwatched { is_watching self.new ≡ false }
+        ensures last { next ≡ None → OnOk result (HasOneMore self.old line self.new) }
     {
         self.leave_name();
         let Some(c) = next else {
