@@ -1,3 +1,6 @@
+ghost use Rattle.std.specs.Prelude.{◌≡◌, false};
+ghost use Rattle.parse_errors.specs.Found.{GoesOn, is_watching};
+
 use crate::ParseErrors;
 use crate::characters::{line_behind, state_at_end};
 use html_lexemes::states::State;
@@ -6,10 +9,14 @@ use std::alloc::AllocError;
 impl ParseErrors {
     /// Finds the errors of a comment: the text behind `<!--`, up to and with its `>`, or up to the end of the page. The error
     /// is want of memory alone.
-    pub fn in_comment(&mut self, text: &str, mut line: u64) -> Result<(), AllocError> {
+    #[tactic(auto, using(crate::proofs::GoesOnLemmas::goes_on_twice))]
+    pub fn in_comment(&mut self, text: &str, mut line: u64) -> Result<(), AllocError>
+        ensures found { GoesOn self.old self.new }
+        ensures unwatched { is_watching self.new ≡ false }
+    {
         self.leave_name();
         let mut state = State::CommentStart;
-        for c in text.chars() {
+        'characters: for c in text.chars() {
             line = line_behind(line, c);
             if matches!(state, State::Comment) && self.is_plain_in_comment(c) {
                 continue;

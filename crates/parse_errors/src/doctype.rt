@@ -1,3 +1,6 @@
+ghost use Rattle.std.specs.Prelude.{◌≡◌, false};
+ghost use Rattle.parse_errors.specs.Found.{GoesOn, is_watching};
+
 use crate::ParseErrors;
 use crate::characters::{is_space, line_behind};
 use html_lexemes::states::{DoctypeIdKind, State};
@@ -9,11 +12,15 @@ const KEYWORD_LENGTH: usize = 6;
 impl ParseErrors {
     /// Finds the errors of a doctype: the text behind `<!doctype`, up to and with its `>`, or up to the end of the page. The
     /// error is want of memory alone.
-    pub fn in_doctype(&mut self, text: &str, mut line: u64) -> Result<(), AllocError> {
+    #[tactic(auto, using(crate::proofs::GoesOnLemmas::goes_on_twice))]
+    pub fn in_doctype(&mut self, text: &str, mut line: u64) -> Result<(), AllocError>
+        ensures found { GoesOn self.old self.new }
+        ensures unwatched { is_watching self.new ≡ false }
+    {
         self.leave_name();
         let mut state = State::Doctype;
         let mut keyword_end = 0;
-        for (at, c) in text.char_indices() {
+        'characters: for (at, c) in text.char_indices() {
             line = line_behind(line, c);
             if at < keyword_end {
                 continue;

@@ -1,5 +1,5 @@
-ghost use Rattle.std.specs.Prelude.{◌≡◌, ◌≢◌, ◌&&◌, [], false, MatchBool};
-ghost use Rattle.parse_errors.specs.Found.{found_of, heeds, is_exact, is_watching};
+ghost use Rattle.std.specs.Prelude.{◌≡◌, ◌≢◌, ◌&&◌, [], false, MatchBool, OnOk};
+ghost use Rattle.parse_errors.specs.Found.{GoesOn, HasOneMore, found_of, heeds, is_exact, is_watching};
 ghost use Rattle.parse_errors.specs.Noncharacters.{is_noncharacter};
 
 use crate::characters::{is_bad, is_noncharacter, reading_state};
@@ -82,17 +82,25 @@ impl ParseErrors {
     }
 
     // Says that the next character of text was read before.
-    pub(crate) fn reads_again(&mut self, c: char) {
+    pub(crate) fn reads_again(&mut self, c: char)
+        ensures found { GoesOn self.old self.new }
+        ensures watched { is_watching self.new ≡ is_watching self.old }
+    {
         self.was_told = self.tells_character(c);
     }
 
     // Whether the next character of text, which this is, was read before.
-    pub(crate) fn was_read(&mut self, c: char) -> bool {
+    pub(crate) fn was_read(&mut self, c: char) -> bool
+        ensures found { GoesOn self.old self.new }
+        ensures watched { is_watching self.new ≡ is_watching self.old }
+    {
         mem::replace(&mut self.was_told, false) && self.tells_character(c)
     }
 
     // Begins to watch for the `;` of an unknown name.
-    pub(crate) fn begin_name(&mut self) {
+    pub(crate) fn begin_name(&mut self)
+        ensures found { GoesOn self.old self.new }
+    {
         self.watched = Some(String::new(self.alloc()));
     }
 
@@ -102,12 +110,18 @@ impl ParseErrors {
     }
 
     // Ends the watch for the `;` of an unknown name.
-    pub(crate) fn leave_name(&mut self) {
+    pub(crate) fn leave_name(&mut self)
+        ensures found { GoesOn self.old self.new }
+        ensures same { found_of self.new ≡ found_of self.old }
+        ensures unwatched { is_watching self.new ≡ false }
+    {
         self.watched = None;
     }
 
     // Goes on with an unknown name, where one is watched.
-    pub(crate) fn name_goes_on(&mut self, c: char, line: u64) -> Result<(), AllocError> {
+    pub(crate) fn name_goes_on(&mut self, c: char, line: u64) -> Result<(), AllocError>
+        ensures found { GoesOn self.old self.new }
+    {
         let Some(mut name) = self.watched.take() else {
             return Ok(());
         };
@@ -122,7 +136,9 @@ impl ParseErrors {
         Ok(())
     }
 
-    fn tell_unknown_name(&mut self, name: &str, line: u64) -> Result<(), AllocError> {
+    fn tell_unknown_name(&mut self, name: &str, line: u64) -> Result<(), AllocError>
+        ensures found { GoesOn self.old self.new }
+    {
         if !self.exact {
             return self.tell("Invalid character reference", line);
         }
@@ -132,20 +148,31 @@ impl ParseErrors {
     }
 
     // Finds an error of a fixed wording.
-    pub(crate) fn tell(&mut self, message: &'static str, line: u64) -> Result<(), AllocError> {
+    pub(crate) fn tell(&mut self, message: &'static str, line: u64) -> Result<(), AllocError>
+        ensures found { GoesOn self.old self.new }
+        ensures watched { is_watching self.new ≡ is_watching self.old }
+        ensures one { OnOk result (HasOneMore self.old line self.new) }
+    {
         let message = ErrorMessage::Fixed(message);
         self.found.push(FoundError { message, line })?;
         Ok(())
     }
 
-    fn tell_made(&mut self, message: String, line: u64) -> Result<(), AllocError> {
+    fn tell_made(&mut self, message: String, line: u64) -> Result<(), AllocError>
+        ensures found { GoesOn self.old self.new }
+        ensures watched { is_watching self.new ≡ is_watching self.old }
+        ensures one { OnOk result (HasOneMore self.old line self.new) }
+    {
         let message = ErrorMessage::Made(Text::from(message));
         self.found.push(FoundError { message, line })?;
         Ok(())
     }
 
     // Finds that a number stands for no character, or for none that may be written so.
-    pub(crate) fn tell_number(&mut self, code: u32, line: u64) -> Result<(), AllocError> {
+    pub(crate) fn tell_number(&mut self, code: u32, line: u64) -> Result<(), AllocError>
+        ensures found { GoesOn self.old self.new }
+        ensures watched { is_watching self.new ≡ is_watching self.old }
+    {
         if !self.exact {
             return self.tell("Invalid numeric character reference", line);
         }
@@ -155,7 +182,10 @@ impl ParseErrors {
     }
 
     // Finds that a character has no place in a state.
-    pub(crate) fn saw(&mut self, state: State, c: char, line: u64) -> Result<(), AllocError> {
+    pub(crate) fn saw(&mut self, state: State, c: char, line: u64) -> Result<(), AllocError>
+        ensures found { GoesOn self.old self.new }
+        ensures watched { is_watching self.new ≡ is_watching self.old }
+    {
         if !self.exact {
             return self.tell("Bad character", line);
         }
@@ -165,7 +195,11 @@ impl ParseErrors {
     }
 
     // Finds that the page ends in a state.
-    pub(crate) fn saw_end(&mut self, state: State, line: u64) -> Result<(), AllocError> {
+    pub(crate) fn saw_end(&mut self, state: State, line: u64) -> Result<(), AllocError>
+        ensures found { GoesOn self.old self.new }
+        ensures watched { is_watching self.new ≡ is_watching self.old }
+        ensures one { OnOk result (HasOneMore self.old line self.new) }
+    {
         if !self.exact {
             return self.tell("Unexpected EOF", line);
         }
@@ -175,7 +209,10 @@ impl ParseErrors {
     }
 
     // Takes a character from the page.
-    pub(crate) fn at_character(&mut self, c: char, line: u64) -> Result<(), AllocError> {
+    pub(crate) fn at_character(&mut self, c: char, line: u64) -> Result<(), AllocError>
+        ensures found { GoesOn self.old self.new }
+        ensures watched { is_watching self.new ≡ is_watching self.old }
+    {
         if !self.tells_character(c) {
             return Ok(());
         }
@@ -184,16 +221,29 @@ impl ParseErrors {
         self.tell_made(message, line)
     }
 
+    // Finds that a character has no place in a state, where it has none.
+    pub(crate) fn look_at(&mut self, state: State, c: char, line: u64) -> Result<(), AllocError>
+        ensures found { GoesOn self.old self.new }
+        ensures watched { is_watching self.new ≡ is_watching self.old }
+    {
+        if is_bad(state, c) {
+            return self.saw(state, c, line);
+        }
+        Ok(())
+    }
+
     // Takes a character from the page in a state; answers the state that reads it, which is another one where this one
     // only looks at it.
-    pub(crate) fn read(&mut self, state: State, c: char, line: u64) -> Result<State, AllocError> {
+    #[tactic(auto, using(crate::proofs::GoesOnLemmas::goes_on_twice))]
+    pub(crate) fn read(&mut self, state: State, c: char, line: u64) -> Result<State, AllocError>
+        ensures found { GoesOn self.old self.new }
+        ensures watched { is_watching self.new ≡ is_watching self.old }
+    {
         self.at_character(c, line)?;
-        if is_bad(state, c) {
-            self.saw(state, c, line)?;
-        }
+        self.look_at(state, c, line)?;
         let reading = reading_state(state, c);
-        if reading != state && is_bad(reading, c) {
-            self.saw(reading, c, line)?;
+        if reading != state {
+            self.look_at(reading, c, line)?;
         }
         Ok(reading)
     }

@@ -1,12 +1,19 @@
+ghost use Rattle.std.specs.Prelude.{◌≡◌, false, None, OnOk};
+ghost use Rattle.parse_errors.specs.Found.{GoesOn, HasOneMore, is_watching};
+
 use crate::ParseErrors;
-use crate::characters::{is_bad, line_behind};
+use crate::characters::line_behind;
 use html_lexemes::states::State;
 use std::alloc::AllocError;
 
 impl ParseErrors {
     /// Finds the errors of a `<` that is text: the character behind it, which `at_text` is to be asked about next where
     /// `heeds` says so, or `None` at the end of the page. The line is that of the `<`. The error is want of memory alone.
-    pub fn at_tag_open(&mut self, next: Option<char>, line: u64) -> Result<(), AllocError> {
+    pub fn at_tag_open(&mut self, next: Option<char>, line: u64) -> Result<(), AllocError>
+        ensures found { GoesOn self.old self.new }
+        ensures unwatched { is_watching self.new ≡ false }
+        ensures last { next ≡ None → OnOk result (HasOneMore self.old line self.new) }
+    {
         self.leave_name();
         let Some(c) = next else {
             return self.saw_end(State::TagOpen, line);
@@ -14,14 +21,15 @@ impl ParseErrors {
         let line = line_behind(line, c);
         self.at_character(c, line)?;
         self.reads_again(c);
-        if is_bad(State::TagOpen, c) {
-            self.saw(State::TagOpen, c, line)?;
-        }
-        Ok(())
+        self.look_at(State::TagOpen, c, line)
     }
 
     /// Finds the error of a `</` at the end of the page. The error is want of memory alone.
-    pub fn at_end_tag_open(&mut self, line: u64) -> Result<(), AllocError> {
+    pub fn at_end_tag_open(&mut self, line: u64) -> Result<(), AllocError>
+        ensures found { GoesOn self.old self.new }
+        ensures unwatched { is_watching self.new ≡ false }
+        ensures one { OnOk result (HasOneMore self.old line self.new) }
+    {
         self.leave_name();
         self.saw_end(State::EndTagOpen, line)
     }

@@ -1,3 +1,6 @@
+ghost use Rattle.std.specs.Prelude.{◌≡◌, false, OnOk};
+ghost use Rattle.parse_errors.specs.Found.{GoesOn, is_watching};
+
 use crate::ParseErrors;
 use crate::number::Number;
 use html_lexemes::{NamedReference, ReferenceTable};
@@ -13,7 +16,9 @@ impl ParseErrors {
         table: &ReferenceTable,
         text: &str,
         line: u64,
-    ) -> Result<(), AllocError> {
+    ) -> Result<(), AllocError>
+        ensures found { GoesOn self.old self.new }
+    {
         self.in_text_reference(table, text, false, line)
     }
 
@@ -23,7 +28,9 @@ impl ParseErrors {
         table: &ReferenceTable,
         text: &str,
         line: u64,
-    ) -> Result<(), AllocError> {
+    ) -> Result<(), AllocError>
+        ensures found { GoesOn self.old self.new }
+    {
         self.in_text_reference(table, text, true, line)
     }
 
@@ -33,7 +40,9 @@ impl ParseErrors {
         text: &str,
         is_last: bool,
         line: u64,
-    ) -> Result<(), AllocError> {
+    ) -> Result<(), AllocError>
+        ensures found { GoesOn self.old self.new }
+    {
         self.leave_name();
         if let Some(number) = text.strip_prefix('#') {
             return self.in_number(number, is_last, line);
@@ -50,7 +59,10 @@ impl ParseErrors {
         table: &ReferenceTable,
         text: &str,
         line: u64,
-    ) -> Result<(), AllocError> {
+    ) -> Result<(), AllocError>
+        ensures found { GoesOn self.old self.new }
+        ensures unwatched { OnOk result (is_watching self.old ≡ false → is_watching self.new ≡ false) }
+    {
         let text = text.strip_prefix('&').unwrap_or(text);
         if let Some(number) = text.strip_prefix('#') {
             self.at_number_end(number, line)?;
@@ -72,9 +84,12 @@ impl ParseErrors {
     }
 
     // Reads a name that the table lacks, as far as it goes.
-    fn in_unknown_name(&mut self, text: &str, line: u64) -> Result<(), AllocError> {
+    #[tactic(auto, using(crate::proofs::GoesOnLemmas::goes_on_twice))]
+    fn in_unknown_name(&mut self, text: &str, line: u64) -> Result<(), AllocError>
+        ensures found { GoesOn self.old self.new }
+    {
         self.begin_name();
-        for c in text.chars() {
+        'characters: for c in text.chars() {
             if !self.is_in_name() {
                 break;
             }
@@ -84,7 +99,10 @@ impl ParseErrors {
     }
 
     // Finds the errors of a number behind `#`, but for a missing semicolon; `is_last` says that the page ends with the text.
-    fn in_number(&mut self, text: &str, is_last: bool, line: u64) -> Result<(), AllocError> {
+    fn in_number(&mut self, text: &str, is_last: bool, line: u64) -> Result<(), AllocError>
+        ensures found { GoesOn self.old self.new }
+        ensures watched { is_watching self.new ≡ is_watching self.old }
+    {
         if is_last && text.is_empty() {
             return self.tell("EOF after '#' in character reference", line);
         }
@@ -100,7 +118,10 @@ impl ParseErrors {
 
     // Finds that no semicolon stands behind the digits of a number in a value; the text goes up to the end of the tag or of
     // the page.
-    fn at_number_end(&mut self, text: &str, line: u64) -> Result<(), AllocError> {
+    fn at_number_end(&mut self, text: &str, line: u64) -> Result<(), AllocError>
+        ensures found { GoesOn self.old self.new }
+        ensures watched { is_watching self.new ≡ is_watching self.old }
+    {
         let number = Number::read(text);
         if !number.has_digits {
             return Ok(());

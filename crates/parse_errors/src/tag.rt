@@ -1,3 +1,6 @@
+ghost use Rattle.std.specs.Prelude.{◌≡◌, false, OnOk};
+ghost use Rattle.parse_errors.specs.Found.{GoesOn, is_watching};
+
 use crate::ParseErrors;
 use crate::characters::{is_space, line_behind, state_at_end};
 use crate::names::AttributeNames;
@@ -8,17 +11,21 @@ use std::alloc::AllocError;
 impl ParseErrors {
     /// Finds the errors of a tag: the text from its name on, up to and with its `>`, or up to the end of the page. The error
     /// is want of memory alone.
+    #[tactic(auto, using(crate::proofs::GoesOnLemmas::goes_on_twice))]
     pub fn in_tag(
         &mut self,
         table: &ReferenceTable,
         kind: TagKind,
         text: &str,
         mut line: u64,
-    ) -> Result<(), AllocError> {
+    ) -> Result<(), AllocError>
+        ensures found { GoesOn self.old self.new }
+        ensures unwatched { OnOk result (is_watching self.new ≡ false) }
+    {
         self.leave_name();
         let mut names = AttributeNames::new(self.alloc());
         let mut state = State::TagName;
-        for (at, c) in text.char_indices() {
+        'characters: for (at, c) in text.char_indices() {
             if self.is_plain_in_tag(state, c) {
                 continue;
             }
@@ -58,31 +65,37 @@ impl ParseErrors {
         state: State,
         c: char,
         line: u64,
-    ) -> Result<(), AllocError> {
+    ) -> Result<(), AllocError>
+        ensures found { GoesOn self.old self.new }
+        ensures watched { is_watching self.new ≡ is_watching self.old }
+    {
         if !matches!(state, State::AttributeName) {
             self.finish_attribute(names, line)?;
         }
         names.push(c)
     }
 
-    fn finish_attribute(
-        &mut self,
-        names: &mut AttributeNames,
-        line: u64,
-    ) -> Result<(), AllocError> {
+    fn finish_attribute(&mut self, names: &mut AttributeNames, line: u64) -> Result<(), AllocError>
+        ensures found { GoesOn self.old self.new }
+        ensures watched { is_watching self.new ≡ is_watching self.old }
+    {
         if names.finish()? {
             self.tell("Duplicate attribute", line)?;
         }
         Ok(())
     }
 
+    #[tactic(auto, using(crate::proofs::GoesOnLemmas::goes_on_twice))]
     fn at_tag_end(
         &mut self,
         kind: TagKind,
         names: &mut AttributeNames,
         is_self_closing: bool,
         line: u64,
-    ) -> Result<(), AllocError> {
+    ) -> Result<(), AllocError>
+        ensures found { GoesOn self.old self.new }
+        ensures watched { is_watching self.new ≡ is_watching self.old }
+    {
         self.finish_attribute(names, line)?;
         if kind == TagKind::StartTag {
             return Ok(());
