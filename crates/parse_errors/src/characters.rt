@@ -95,22 +95,22 @@ fn is_bad_in_doctype(state: State, c: char) -> bool {
     }
 }
 
-/// The state that reads a character, in a state that may only look at it.
-pub(crate) fn reading_state(state: State, c: char) -> State {
+/// The state that reads a character, where the state that comes to it only looks at it.
+pub(crate) fn next_reader(state: State, c: char) -> Option<State> {
     match state {
-        State::SelfClosingStartTag if c != '>' => State::BeforeAttributeName,
+        State::SelfClosingStartTag if c != '>' => Some(State::BeforeAttributeName),
         State::AfterAttributeValueQuoted if !(is_space(c) || c == '/' || c == '>') => {
-            State::BeforeAttributeName
+            Some(State::BeforeAttributeName)
         }
         State::BeforeAttributeValue if !(is_space(c) || matches!(c, '"' | '\'' | '>')) => {
-            State::AttributeValue(AttrValueKind::Unquoted)
+            Some(State::AttributeValue(AttrValueKind::Unquoted))
         }
-        State::CommentLessThanSign if c != '!' && c != '<' => State::Comment,
-        State::CommentLessThanSignBang if c != '-' => State::Comment,
-        State::CommentLessThanSignBangDash if c != '-' => State::CommentEndDash,
-        State::CommentLessThanSignBangDashDash => State::CommentEnd,
-        State::Doctype if !is_space(c) => State::BeforeDoctypeName,
-        _ => state,
+        State::CommentLessThanSign if c != '!' && c != '<' => Some(State::Comment),
+        State::CommentLessThanSignBang if c != '-' => Some(State::Comment),
+        State::CommentLessThanSignBangDash if c != '-' => Some(State::CommentEndDash),
+        State::CommentLessThanSignBangDashDash => Some(State::CommentEnd),
+        State::Doctype if !is_space(c) => Some(State::BeforeDoctypeName),
+        _ => None,
     }
 }
 

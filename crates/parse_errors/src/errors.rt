@@ -2,7 +2,7 @@ ghost use Rattle.std.specs.Prelude.{◌≡◌, ◌≢◌, ◌&&◌, [], false, M
 ghost use Rattle.parse_errors.specs.Found.{GoesOn, HasOneMore, found_of, heeds, is_exact, is_watching};
 ghost use Rattle.parse_errors.specs.Noncharacters.{is_noncharacter};
 
-use crate::characters::{is_bad, is_noncharacter, reading_state};
+use crate::characters::{is_bad, is_noncharacter, next_reader};
 use html_lexemes::states::State;
 use html_lexemes::{ErrorMessage, Text};
 use std::alloc::{AllocError, Global};
@@ -241,10 +241,10 @@ impl ParseErrors {
     {
         self.at_character(c, line)?;
         self.look_at(state, c, line)?;
-        let reading = reading_state(state, c);
-        if reading != state {
-            self.look_at(reading, c, line)?;
-        }
-        Ok(reading)
+        let Some(reader) = next_reader(state, c) else {
+            return Ok(state);
+        };
+        self.look_at(reader, c, line)?;
+        Ok(reader)
     }
 }

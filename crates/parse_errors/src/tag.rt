@@ -29,6 +29,10 @@ impl ParseErrors {
             if self.is_plain_in_tag(state, c) {
                 continue;
             }
+            if matches!(state, State::AttributeName) && c.is_ascii_alphanumeric() {
+                names.push(c)?;
+                continue;
+            }
             line = line_behind(line, c);
             let reading = self.read(state, c, line)?;
             if c == '&' && matches!(reading, State::AttributeValue(_)) {
