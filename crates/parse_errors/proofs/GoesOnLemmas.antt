@@ -1,11 +1,7 @@
--- What was found before comes first: at one place, and over two steps.
-use Rattle.std.proofs.Common.{[], ◌++◌, refl, sym, ap, ◌∙◌, append_assoc, append-nil}
+-- What was found before comes first, over two steps.
+use Rattle.std.proofs.Common.{◌++◌, ap, ◌∙◌, append_assoc}
 use Rattle.parse_errors.specs.declared.errors.ParseErrors.{ParseErrors}
 use Rattle.parse_errors.specs.Found.{GoesOn, found_of}
-
--- nothing more is found
-pub goes_on_same : (a : ParseErrors) → GoesOn a a
-goes_on_same a = record { wording = refl; more = []; order = sym (append-nil (found_of a)) }
 
 pub goes_on_twice : (a b c : ParseErrors) → GoesOn a b → GoesOn b c → GoesOn a c
 goes_on_twice a b c first second = record {
