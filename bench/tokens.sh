@@ -8,7 +8,7 @@ piece=${1:-64}
 folder=${BENCH:-${TMPDIR:-/tmp}/count_tokens_bench}
 crate=$folder/crates/count_tokens
 mkdir -p "$crate/src"
-for name in html_lexemes parse_errors html_grammar html_tokenizer; do
+for name in html_lexemes parse_errors html_grammar lexeme_places html_tokenizer; do
   mkdir -p "$folder/crates/$name"
   # what was proved of the copy is kept
   find "$folder/crates/$name" -mindepth 1 -maxdepth 1 ! -name out -exec rm -r {} +
@@ -16,8 +16,8 @@ for name in html_lexemes parse_errors html_grammar html_tokenizer; do
 done
 cp "$here/../HANDLES" "$folder"
 {
-  grep -E "^(html_(lexemes|grammar|tokenizer)|parse_errors):" "$here/../crates.txt"
-  echo 'count_tokens: html_lexemes parse_errors html_grammar html_tokenizer thiserror'
+  grep -E "^(html_(lexemes|grammar|tokenizer)|parse_errors|lexeme_places):" "$here/../crates.txt"
+  echo 'count_tokens: html_lexemes parse_errors html_grammar lexeme_places html_tokenizer thiserror'
 } >"$folder/crates.txt"
 cp "$here/count_tokens/main.rt.txt" "$crate/src/main.rt"
 echo '<p>' >"$crate/stdin"

@@ -4,23 +4,22 @@ use Rattle.std.proofs.lemmas.Bool.{and_parts, eqb-true}
 use Rattle.std.proofs.lemmas.List.{nil_from_length}
 use Rattle.html_lexemes.specs.References.{References}
 use Rattle.html_lexemes.specs.declared.states.RawKind.{RawKind}
-use Rattle.html_tokenizer.specs.Goings.{IsGoing, is_raw_going, may_begin}
-use Rattle.html_tokenizer.specs.RawSound.{is_raw_held}
-use Rattle.html_tokenizer.specs.Sound.{IsSound}
+use Rattle.lexeme_places.specs.Goings.{IsGoing, is_raw_going, may_begin}
+use Rattle.lexeme_places.specs.RawSound.{is_raw_held}
+use Rattle.lexeme_places.specs.Sound.{IsSound}
 use Rattle.html_grammar.specs.declared.modes.Mode.{Mode}
-use Rattle.html_tokenizer.specs.SectionTurns.{SectionAdvances}
+use Rattle.lexeme_places.specs.SectionTurns.{SectionAdvances}
 use Rattle.html_grammar.specs.Lexemes.{markup, reference_lexeme}
 use Rattle.html_grammar.specs.References.{Found, reference}
-use Rattle.html_tokenizer.specs.Advances.{IsWithinMarkup}
-use Rattle.html_tokenizer.specs.PlaceKinds.{is_of_text, is_open}
-use Rattle.html_tokenizer.specs.Places.{place_lexeme}
-use Rattle.html_tokenizer.specs.Turns.{EndsBeforeAt, IsOver, IsUntagged}
-use Rattle.html_tokenizer.specs.declared.place.Place.{Place}
-use Rattle.html_tokenizer.specs.declared.place.Place.TheVariants.{Text as NoLexeme, CharacterReference, TagOpen, EndTagOpen, Tag, MarkupDeclarationOpen, BogusComment, Comment, Doctype, CdataSection, RawText}
-use Rattle.html_tokenizer.specs.declared.section_turn.SectionTurn.{SectionTurn}
-use Rattle.html_tokenizer.specs.declared.section_turn.SectionTurn.TheVariants.{Goes, Ends, Shifts, Text}
-use Rattle.html_tokenizer.specs.declared.place.RawPlace.{RawPlace}
-use Rattle.html_tokenizer.specs.declared.place.RawPlace.TheVariants.{LessThanSign, EndTagName, EscapeStart, EscapeWord, Dashes}
+use Rattle.lexeme_places.specs.PlaceKinds.{IsWithinMarkup, is_of_text, is_open}
+use Rattle.lexeme_places.specs.Places.{place_lexeme}
+use Rattle.lexeme_places.specs.Turns.{EndsBeforeAt, IsOver, IsUntagged}
+use Rattle.lexeme_places.specs.declared.place.Place.{Place}
+use Rattle.lexeme_places.specs.declared.place.Place.TheVariants.{Text as NoLexeme, CharacterReference, TagOpen, EndTagOpen, Tag, MarkupDeclarationOpen, BogusComment, Comment, Doctype, CdataSection, RawText}
+use Rattle.lexeme_places.specs.declared.section_turns.SectionTurn.{SectionTurn}
+use Rattle.lexeme_places.specs.declared.section_turns.SectionTurn.TheVariants.{Goes, Ends, Shifts, Text}
+use Rattle.lexeme_places.specs.declared.place.RawPlace.{RawPlace}
+use Rattle.lexeme_places.specs.declared.place.RawPlace.TheVariants.{LessThanSign, EndTagName, EscapeStart, EscapeWord, Dashes}
 
 pub raw_going_held : (last : Option (List ℕ)) (kind : RawKind) (place : RawPlace) (held : List ℕ) → IsTrue (is_raw_going last kind place held) → IsTrue (is_raw_held kind place held)
 raw_going_held last kind LessThanSign held h = (and_parts (is_raw_held kind LessThanSign held) (may_begin last kind) h).0

@@ -5,16 +5,16 @@ use Rattle.html_lexemes.specs.References.{References}
 use Rattle.html_lexemes.specs.declared.states.RawKind.{RawKind}
 use Rattle.html_grammar.specs.declared.modes.Mode.{Mode}
 use Rattle.html_grammar.specs.declared.modes.TextKind.TheVariants.{Ordinary}
-use Rattle.html_tokenizer.specs.RawTurns.{RawTurns}
-use Rattle.html_tokenizer.specs.MarkupSound.{is_begun_section_end}
-use Rattle.html_tokenizer.specs.SectionTurns.{SectionAdvances, SectionTurns}
-use Rattle.html_tokenizer.specs.Turns.{Turns}
-use Rattle.html_tokenizer.specs.declared.place.Place.{Place}
-use Rattle.html_tokenizer.specs.declared.place.Place.TheVariants.{CdataSection, MarkupDeclarationOpen, Text as NoLexeme}
-use Rattle.html_tokenizer.specs.declared.section_turn.SectionTurn.{SectionTurn}
-use Rattle.html_tokenizer.specs.declared.section_turn.SectionTurn.TheVariants.{Goes as SectionGoes, Ends as SectionEnds, Shifts as SectionShifts, Text as SectionText}
-use Rattle.html_tokenizer.specs.declared.raw_turn.RawTurn.{RawTurn}
-use Rattle.html_tokenizer.specs.declared.turn.Turn.{Turn}
+use Rattle.lexeme_places.specs.RawTurns.{RawTurns}
+use Rattle.lexeme_places.specs.MarkupSound.{is_begun_section_end}
+use Rattle.lexeme_places.specs.SectionTurns.{SectionAdvances, SectionTurns}
+use Rattle.lexeme_places.specs.Turns.{Turns}
+use Rattle.lexeme_places.specs.declared.place.Place.{Place}
+use Rattle.lexeme_places.specs.declared.place.Place.TheVariants.{CdataSection, MarkupDeclarationOpen, Text as NoLexeme}
+use Rattle.lexeme_places.specs.declared.section_turns.SectionTurn.{SectionTurn}
+use Rattle.lexeme_places.specs.declared.section_turns.SectionTurn.TheVariants.{Goes as SectionGoes, Ends as SectionEnds, Shifts as SectionShifts, Text as SectionText}
+use Rattle.lexeme_places.specs.declared.turn.RawTurn.{RawTurn}
+use Rattle.lexeme_places.specs.declared.turn.Turn.{Turn}
 
 abbrev pub TurnsTo : References → Bool → Place → List ℕ → ℕ → List ℕ → Turn → Type 0
 TurnsTo table foreign place held c now turn = (asked : Bool) (mode : Mode) → (place ≡ MarkupDeclarationOpen → asked ≡ foreign) → Turns table asked mode place held c turn now

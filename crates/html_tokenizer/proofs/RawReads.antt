@@ -13,17 +13,18 @@ use Rattle.html_grammar.specs.Lexemes.{Lexeme, cdata_lexeme, in_kind, lexeme, no
 use Rattle.html_grammar.specs.Reading.{Reading, ends, goes, tags}
 use Rattle.html_grammar.specs.Slices.{Cut, after, cut, cut_or_all}
 use Rattle.html_grammar.specs.declared.modes.Mode.{Mode}
-use Rattle.html_tokenizer.specs.Advances.{IsNoMarkup, IsRawPlace, IsWithinMarkup}
-use Rattle.html_tokenizer.specs.MarkupSound.{is_begun}
-use Rattle.html_tokenizer.specs.RawTurns.{IsEndTag, IsShifted, IsText, IsTextBefore}
+use Rattle.html_tokenizer.specs.Advances.{IsRawPlace}
+use Rattle.lexeme_places.specs.PlaceKinds.{IsNoMarkup, IsWithinMarkup}
+use Rattle.lexeme_places.specs.MarkupSound.{is_begun}
+use Rattle.lexeme_places.specs.RawTurns.{IsEndTag, IsShifted, IsText, IsTextBefore}
 use Rattle.html_tokenizer.specs.Reads.{Follows, Leaves}
-use Rattle.html_tokenizer.specs.SectionTurns.{SectionAdvances, section_lexeme, with_items}
-use Rattle.html_tokenizer.specs.declared.section_turn.SectionTurn.{SectionTurn}
-use Rattle.html_tokenizer.specs.declared.section_turn.SectionTurn.TheVariants.{Goes as SectionGoes, Ends as SectionEnds}
-use Rattle.html_tokenizer.specs.declared.place.Place.{Place}
-use Rattle.html_tokenizer.specs.declared.place.Place.TheVariants.{Text, CharacterReference, TagOpen, EndTagOpen, Tag as TagPlace, MarkupDeclarationOpen, BogusComment, Comment, Doctype, CdataSection, RawText}
-use Rattle.html_tokenizer.specs.declared.place.RawPlace.{RawPlace}
-use Rattle.html_tokenizer.specs.declared.place.TagPlace.TheVariants.{TagName}
+use Rattle.lexeme_places.specs.SectionTurns.{SectionAdvances, section_lexeme, with_items}
+use Rattle.lexeme_places.specs.declared.section_turns.SectionTurn.{SectionTurn}
+use Rattle.lexeme_places.specs.declared.section_turns.SectionTurn.TheVariants.{Goes as SectionGoes, Ends as SectionEnds}
+use Rattle.lexeme_places.specs.declared.place.Place.{Place}
+use Rattle.lexeme_places.specs.declared.place.Place.TheVariants.{Text, CharacterReference, TagOpen, EndTagOpen, Tag as TagPlace, MarkupDeclarationOpen, BogusComment, Comment, Doctype, CdataSection, RawText}
+use Rattle.lexeme_places.specs.declared.place.RawPlace.{RawPlace}
+use Rattle.lexeme_places.specs.declared.place.TagPlace.TheVariants.{TagName}
 use Rattle.html_tokenizer.proofs.ReadsLemmas.{of_lexeme, reading_of}
 
 -- what is a beginning of a mark without NUL has none

@@ -21,17 +21,17 @@ use Rattle.html_grammar.specs.declared.modes.Mode.{Mode}
 use Rattle.html_grammar.specs.declared.modes.TextKind.{TextKind}
 use Rattle.html_grammar.specs.declared.modes.TextKind.TheVariants.{Ordinary, Plain, Raw}
 use Rattle.html_grammar.proofs.MarkLemmas.{chars-encode}
-use Rattle.html_tokenizer.specs.Goings.{may_begin}
-use Rattle.html_tokenizer.specs.Places.{place_lexeme}
-use Rattle.html_tokenizer.specs.RawSound.{is_escaped}
+use Rattle.lexeme_places.specs.Goings.{may_begin}
+use Rattle.lexeme_places.specs.Places.{place_lexeme}
+use Rattle.lexeme_places.specs.RawSound.{is_escaped}
 use Rattle.html_tokenizer.specs.Reads.{Follows, Leaves}
-use Rattle.html_tokenizer.specs.Sound.{IsSound}
-use Rattle.html_tokenizer.specs.Turns.{IsOver, LeavesText, is_raw_text, is_text, with_more}
+use Rattle.lexeme_places.specs.Sound.{IsSound}
+use Rattle.lexeme_places.specs.Turns.{IsOver, LeavesText, is_raw_text, is_text, with_more}
 use Rattle.html_tokenizer.specs.declared.pending.Pending.{Pending}
-use Rattle.html_tokenizer.specs.declared.place.Place.{Place}
-use Rattle.html_tokenizer.specs.declared.place.Place.TheVariants.{Text, RawText}
-use Rattle.html_tokenizer.specs.declared.place.RawPlace.{RawPlace}
-use Rattle.html_tokenizer.proofs.FirstLemmas.{raw_first_in}
+use Rattle.lexeme_places.specs.declared.place.Place.{Place}
+use Rattle.lexeme_places.specs.declared.place.Place.TheVariants.{Text, RawText}
+use Rattle.lexeme_places.specs.declared.place.RawPlace.{RawPlace}
+use Rattle.lexeme_places.proofs.FirstLemmas.{raw_first_in}
 
 length_none : (b : Bool) (n : ℕ) → b ≡ (n == 0) → b ≡ true → n ≡ 0
 length_none b n e h = grind (arith, nat_tests)

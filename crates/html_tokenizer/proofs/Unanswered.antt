@@ -16,10 +16,10 @@ use Rattle.html_grammar.specs.Tags.{tag_at}
 use Rattle.html_grammar.specs.declared.modes.Mode.{Mode}
 use Rattle.html_grammar.specs.declared.modes.TextKind.{TextKind}
 use Rattle.html_grammar.specs.declared.modes.TextKind.TheVariants.{Ordinary, Plain, Raw}
-use Rattle.html_tokenizer.specs.Places.{place_lexeme}
+use Rattle.lexeme_places.specs.Places.{place_lexeme}
 use Rattle.html_tokenizer.specs.Tells.{AreUnanswered}
-use Rattle.html_tokenizer.specs.declared.place.Place.{Place}
-use Rattle.html_tokenizer.specs.declared.place.Place.TheVariants.{Text, CharacterReference, TagOpen, EndTagOpen, Tag, MarkupDeclarationOpen, BogusComment, Comment, Doctype, CdataSection, RawText}
+use Rattle.lexeme_places.specs.declared.place.Place.{Place}
+use Rattle.lexeme_places.specs.declared.place.Place.TheVariants.{Text, CharacterReference, TagOpen, EndTagOpen, Tag, MarkupDeclarationOpen, BogusComment, Comment, Doctype, CdataSection, RawText}
 
 abbrev TellsNoTag : Lexeme → Type 0
 TellsNoTag nothing = Unit {0}

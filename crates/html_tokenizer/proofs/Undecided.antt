@@ -5,34 +5,20 @@ use Rattle.html_lexemes.specs.LineEnds.{begins_with_line_feed, lines_ended}
 use Rattle.html_lexemes.specs.References.{References}
 use Rattle.html_grammar.specs.declared.modes.Mode.{Mode}
 use Rattle.html_tokenizer.specs.Completes.{IsUndecidedAt}
-use Rattle.html_tokenizer.specs.Goings.{IsGoing}
+use Rattle.lexeme_places.specs.Goings.{IsGoing}
 use Rattle.html_tokenizer.specs.Holdings.{Holds, held_of}
-use Rattle.html_tokenizer.specs.OpenEnds.{IsOpenEnded, is_steady}
+use Rattle.lexeme_places.specs.OpenEnds.{IsOpenEnded, is_steady}
 use Rattle.html_tokenizer.specs.PageRest.{page_rest}
-use Rattle.html_tokenizer.specs.Places.{place_lexeme}
-use Rattle.html_tokenizer.specs.Turns.{with_more}
+use Rattle.lexeme_places.specs.Places.{place_lexeme}
+use Rattle.lexeme_places.specs.Turns.{with_more}
 use Rattle.html_tokenizer.specs.declared.line_ends.LineEnds.{LineEnds}
 use Rattle.html_tokenizer.specs.declared.line_ends.LineEnds.TheVariants.{AtMark, AfterReturn, Within}
-use Rattle.html_tokenizer.specs.declared.place.Place.{Place}
-use Rattle.html_tokenizer.specs.declared.place.Place.TheVariants.{Text, CharacterReference, TagOpen, EndTagOpen, Tag, MarkupDeclarationOpen, BogusComment, Comment, Doctype, CdataSection, RawText}
+use Rattle.lexeme_places.specs.declared.place.Place.{Place}
 use Rattle.html_tokenizer.specs.declared.reader.Reader.{Reader}
-use Rattle.html_tokenizer.proofs.MarkupOpenEnds.{bogus_comment_undecided, comment_undecided, declaration_undecided, doctype_undecided, end_tag_open_undecided, section_undecided, tag_open_undecided, tag_undecided, text_undecided}
-use Rattle.html_tokenizer.proofs.RawOpenEnds.{raw_open}
-use Rattle.html_tokenizer.proofs.ReferenceNames.{AreNames}
-use Rattle.html_tokenizer.proofs.ReferenceOpenEnds.{references_open}
 
-going_open : (table : References) (foreign : Bool) (mode : Mode) (place : Place) (held : List ℕ) → AreNames table → IsGoing table mode.last_start_tag place held → IsOpenEnded table foreign mode place held
-going_open table foreign mode Text held law h = text_undecided table foreign mode held h
-going_open table foreign mode (CharacterReference place) held law h = references_open table foreign mode place held law h.0 h.1
-going_open table foreign mode TagOpen held law h = tag_open_undecided table foreign mode held h
-going_open table foreign mode EndTagOpen held law h = end_tag_open_undecided table foreign mode held h
-going_open table foreign mode (Tag kind place) held law h = tag_undecided table foreign mode kind place held h
-going_open table foreign mode MarkupDeclarationOpen held law h = declaration_undecided table foreign mode held h
-going_open table foreign mode BogusComment held law h = bogus_comment_undecided table foreign mode held h
-going_open table foreign mode Comment held law h = comment_undecided table foreign mode held h
-going_open table foreign mode Doctype held law h = doctype_undecided table foreign mode held h
-going_open table foreign mode CdataSection held law h = section_undecided table foreign mode held h
-going_open table foreign mode (RawText kind place) held law h = raw_open table foreign mode kind place held h
+-- no lexeme stands where one goes on
+abbrev pub AreOpenEnded : References → Type 0
+AreOpenEnded table = (foreign : Bool) (mode : Mode) (place : Place) (held : List ℕ) → IsGoing table mode.last_start_tag place held → IsOpenEnded table foreign mode place held
 
 -- ---- a steady text of a page is that text
 
@@ -58,10 +44,10 @@ steady_page AfterReturn [] h = refl
 steady_page AfterReturn (c ∷ cs) h = ap (λ b. lines_ended (if b then cs else c ∷ cs)) (first_steady c cs h).0.0 ∙ steady_lines (c ∷ cs) h
 steady_page Within cs h = steady_lines cs h
 
-pub undecided : (table : References) (ends : LineEnds) (reader : Reader) → AreNames table → Holds table reader → IsUndecidedAt table ends reader
+pub undecided : (table : References) (ends : LineEnds) (reader : Reader) → AreOpenEnded table → Holds table reader → IsUndecidedAt table ends reader
 undecided table ends reader law holds = record {
   lexeme = λ foreign l f.
-      going_open table foreign reader.mode reader.pending.place (held_of reader) law holds l (λ rest h.
+      law foreign reader.mode reader.pending.place (held_of reader) holds l (λ rest h.
       subst (λ x. place_lexeme table foreign reader.mode reader.pending.place (held_of reader ++ x) ≡ with_more x l) (steady_page ends rest h) (f rest));
   section = λ e. subst (λ p. IsGoing table reader.mode.last_start_tag p (held_of reader)) e holds;
 }

@@ -3,46 +3,18 @@ use Rattle.std.specs.Prelude.{◌≡◌, ℕ, Bool, List, [], ◌∷◌, ◌++�
 use Rattle.html_lexemes.specs.References.{References}
 use Rattle.html_lexemes.specs.declared.states.RawKind.{RawKind}
 use Rattle.html_grammar.specs.declared.modes.Mode.{Mode}
-use Rattle.html_tokenizer.specs.Goings.{IsGoing}
-use Rattle.html_tokenizer.specs.RawTurns.{IsEndTag, IsShifted, IsTextBefore}
-use Rattle.html_tokenizer.specs.Places.{place_lexeme}
-use Rattle.html_tokenizer.specs.Turns.{IsOver, IsTaken, IsUntagged}
+use Rattle.lexeme_places.specs.Goings.{IsGoing}
+use Rattle.lexeme_places.specs.RawTurns.{IsEndTag, IsShifted, IsTextBefore}
+use Rattle.lexeme_places.specs.Places.{place_lexeme}
+use Rattle.lexeme_places.specs.Turns.{IsOver, IsTaken, IsUntagged}
 use Rattle.html_lexemes.specs.declared.token.TagKind.TheVariants.{EndTag as EndTagKind}
 use Rattle.html_tokenizer.specs.declared.pending.Advance.{Advance}
 use Rattle.html_tokenizer.specs.declared.pending.Advance.TheVariants.{Goes, Ends, EndsBefore}
 use Rattle.html_tokenizer.specs.declared.pending.RawAdvance.{RawAdvance}
 use Rattle.html_tokenizer.specs.declared.pending.RawAdvance.TheVariants.{Goes as RawGoes, Before, Shifts, EndTag}
-use Rattle.html_tokenizer.specs.declared.place.Place.{Place}
-use Rattle.html_tokenizer.specs.declared.place.Place.TheVariants.{Text, CharacterReference, TagOpen, EndTagOpen, Tag, MarkupDeclarationOpen, BogusComment, Comment, Doctype, CdataSection, RawText}
-use Rattle.html_tokenizer.specs.declared.place.TagPlace.TheVariants.{TagName}
-
--- a place in text, in a section or in the text of an element
-abbrev pub IsNoMarkup : Place → Type 0
-IsNoMarkup Text = Unit {0}
-IsNoMarkup CdataSection = Unit {0}
-IsNoMarkup (RawText kind place) = Unit {0}
-IsNoMarkup (CharacterReference place) = ⊥
-IsNoMarkup TagOpen = ⊥
-IsNoMarkup EndTagOpen = ⊥
-IsNoMarkup (Tag kind place) = ⊥
-IsNoMarkup MarkupDeclarationOpen = ⊥
-IsNoMarkup BogusComment = ⊥
-IsNoMarkup Comment = ⊥
-IsNoMarkup Doctype = ⊥
-
--- a place in markup or in a section
-abbrev pub IsWithinMarkup : Place → Type 0
-IsWithinMarkup Text = ⊥
-IsWithinMarkup (RawText kind place) = ⊥
-IsWithinMarkup CdataSection = Unit {0}
-IsWithinMarkup (CharacterReference place) = Unit {0}
-IsWithinMarkup TagOpen = Unit {0}
-IsWithinMarkup EndTagOpen = Unit {0}
-IsWithinMarkup (Tag kind place) = Unit {0}
-IsWithinMarkup MarkupDeclarationOpen = Unit {0}
-IsWithinMarkup BogusComment = Unit {0}
-IsWithinMarkup Comment = Unit {0}
-IsWithinMarkup Doctype = Unit {0}
+use Rattle.lexeme_places.specs.declared.place.Place.{Place}
+use Rattle.lexeme_places.specs.declared.place.Place.TheVariants.{Text, Tag, RawText}
+use Rattle.lexeme_places.specs.declared.place.TagPlace.TheVariants.{TagName}
 
 -- a lexeme that is over is no longer pending
 abbrev pub IsLeft : Advance → Place → Type 0

@@ -9,14 +9,14 @@ use Rattle.html_grammar.specs.Lexemes.{Lexeme}
 use Rattle.html_grammar.specs.declared.modes.Mode.{Mode}
 use Rattle.html_grammar.specs.declared.modes.TextKind.TheVariants.{Plain}
 use Rattle.html_tokenizer.specs.Holdings.{HoldsNothing, held_of}
-use Rattle.html_tokenizer.specs.MarkupSound.{is_begun_section_end}
+use Rattle.lexeme_places.specs.MarkupSound.{is_begun_section_end}
 use Rattle.html_tokenizer.specs.PageRest.{page_rest}
-use Rattle.html_tokenizer.specs.PlaceKinds.{is_of_text, is_open}
-use Rattle.html_tokenizer.specs.Places.{place_lexeme}
+use Rattle.lexeme_places.specs.PlaceKinds.{is_of_text, is_open}
+use Rattle.lexeme_places.specs.Places.{place_lexeme}
 use Rattle.html_tokenizer.specs.Reads.{Reads}
 use Rattle.html_tokenizer.specs.Tells.{TellsOn, TellsUpTo}
-use Rattle.html_tokenizer.specs.Turns.{with_more}
-use Rattle.html_tokenizer.specs.declared.place.Place.TheVariants.{CdataSection}
+use Rattle.lexeme_places.specs.Turns.{with_more}
+use Rattle.lexeme_places.specs.declared.place.Place.TheVariants.{CdataSection}
 use Rattle.html_tokenizer.specs.declared.line_ends.LineEnds.{LineEnds}
 use Rattle.html_tokenizer.specs.declared.reader.Pause.{Pause}
 use Rattle.html_tokenizer.specs.declared.reader.Reader.{Reader}

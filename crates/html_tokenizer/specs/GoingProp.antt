@@ -2,12 +2,12 @@
 use Rattle.std.specs.Prelude.{ℕ, Bool, true, false, List, [], ◌∷◌, Option}
 use Rattle.std.proofs.Props.{props}
 use Rattle.html_lexemes.specs.References.{References}
-use Rattle.html_tokenizer.specs.Goings.{IsGoing}
+use Rattle.lexeme_places.specs.Goings.{IsGoing}
 use Rattle.html_tokenizer.specs.Holdings.{HoldsUnless, held_of}
-use Rattle.html_tokenizer.specs.SoundProp.{IsSound-prop}
-use Rattle.html_tokenizer.specs.declared.place.Place.{Place}
-use Rattle.html_tokenizer.specs.declared.place.Place.TheVariants.{Text, CharacterReference, TagOpen, EndTagOpen, Tag, MarkupDeclarationOpen, BogusComment, Comment, Doctype, CdataSection, RawText}
-use Rattle.html_tokenizer.specs.declared.place.ReferencePlace.TheVariants.{Named, Numeric, HexadecimalStart, Decimal, Hexadecimal}
+use Rattle.lexeme_places.specs.SoundProp.{IsSound-prop}
+use Rattle.lexeme_places.specs.declared.place.Place.{Place}
+use Rattle.lexeme_places.specs.declared.place.Place.TheVariants.{Text, CharacterReference, TagOpen, EndTagOpen, Tag, MarkupDeclarationOpen, BogusComment, Comment, Doctype, CdataSection, RawText}
+use Rattle.lexeme_places.specs.declared.place.ReferencePlace.TheVariants.{Named, Numeric, HexadecimalStart, Decimal, Hexadecimal}
 use Rattle.html_tokenizer.specs.declared.reader.Reader.{Reader}
 
 pub IsGoing-prop : (table : References) (last : Option (List ℕ)) (place : Place) (held : List ℕ) → IsProp (IsGoing table last place held)

@@ -2,9 +2,9 @@
 use Rattle.std.specs.Prelude.{◌≡◌, Bool, true, false, List, ℕ, [], chars, string_bytes, IsTrue}
 use Rattle.html_lexemes.specs.References.{References}
 use Rattle.html_lexemes.specs.declared.states.RawKind.{RawKind}
-use Rattle.html_tokenizer.specs.Goings.{IsGoing, is_raw_going}
-use Rattle.html_tokenizer.specs.declared.place.Place.TheVariants.{RawText, Text}
-use Rattle.html_tokenizer.specs.declared.place.RawPlace.{RawPlace}
+use Rattle.lexeme_places.specs.Goings.{IsGoing, is_raw_going}
+use Rattle.lexeme_places.specs.declared.place.Place.TheVariants.{RawText, Text}
+use Rattle.lexeme_places.specs.declared.place.RawPlace.{RawPlace}
 use Rattle.html_tokenizer.specs.declared.reader.Reader.{Reader}
 
 abbrev pub held_of : Reader → List ℕ

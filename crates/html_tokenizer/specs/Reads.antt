@@ -7,8 +7,8 @@ use Rattle.html_grammar.specs.Lexemes.{Lexeme, nothing, told, tagged}
 use Rattle.html_grammar.specs.Modes.{mode_behind}
 use Rattle.html_grammar.specs.Reading.{Reading}
 use Rattle.html_grammar.specs.declared.modes.Mode.{Mode}
-use Rattle.html_tokenizer.specs.Places.{place_lexeme}
-use Rattle.html_tokenizer.specs.declared.place.Place.{Place}
+use Rattle.lexeme_places.specs.Places.{place_lexeme}
+use Rattle.lexeme_places.specs.declared.place.Place.{Place}
 use Rattle.html_tokenizer.specs.declared.reader.Reader.{Reader}
 
 -- A lexeme in a mode, and the reading of what follows it, leave the sink in a final state.

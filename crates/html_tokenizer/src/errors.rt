@@ -4,11 +4,11 @@ ghost use Rattle.html_grammar.specs.PlainRead.{items_of};
 ghost use Rattle.html_grammar.specs.Reading.{IsAfterError};
 ghost use Rattle.html_tokenizer.specs.Tells.{IsFirstAfterError};
 
-use crate::place::Place;
 use html_grammar::TextKind;
 use html_grammar::slices::first_and_rest;
 use html_lexemes::states::State;
 use html_lexemes::{ReferenceTable, Token};
+use lexeme_places::Place;
 use parse_errors::ParseErrors;
 use std::alloc::AllocError;
 

@@ -1,17 +1,14 @@
 ghost use Rattle.std.specs.Prelude.{◌≡◌, [], ◌∷◌, ◌++◌, ℕ, Bool, List, chars, string_bytes, IfOk, IsTrue, IfSome, OnOk, MatchBool, MatchOption, length, ◌==◌, ◌≢◌};
-ghost use Rattle.html_tokenizer.specs.declared.place.Place.TheVariants.{CdataSection as SectionPlace, MarkupDeclarationOpen as DeclarationPlace, RawText as RawPlaceOf, Text as TextPlace};
+ghost use Rattle.lexeme_places.specs.declared.place.Place.TheVariants.{CdataSection as SectionPlace, MarkupDeclarationOpen as DeclarationPlace, RawText as RawPlaceOf, Text as TextPlace};
 ghost use Rattle.std.specs.Char.{IsScalar};
-ghost use Rattle.html_tokenizer.specs.Sound.{IsSound};
-ghost use Rattle.html_tokenizer.specs.SoundProp.{IsSound-prop};
+ghost use Rattle.lexeme_places.specs.Sound.{IsSound};
+ghost use Rattle.lexeme_places.specs.SoundProp.{IsSound-prop};
 
-use crate::markup_turn::markup_turn;
-use crate::place::{Place, RawPlace, TagPlace};
-use crate::raw_text_turns::raw_turn;
-use crate::raw_turn::RawTurn;
-use crate::section_turn::{SectionTurn, section_turn};
-use crate::turn::Turn;
 use html_lexemes::states::RawKind;
 use html_lexemes::{LocalName, ReferenceTable, TagKind};
+use lexeme_places::{
+    Place, RawPlace, RawTurn, SectionTurn, TagPlace, Turn, markup_turn, raw_turn, section_turn,
+};
 use std::alloc::{AllocError, Global};
 use std::mem;
 
@@ -51,9 +48,10 @@ pub(crate) enum RawAdvance {
 impl Pending {
     ghost use Rattle.html_grammar.specs.declared.modes.Mode.{Mode as SeenMode};
     ghost use Rattle.html_lexemes.specs.References.{References};
-    ghost use Rattle.html_tokenizer.specs.Advances.{Advances, IsLeft, IsNoMarkup, RawAdvances};
-    ghost use Rattle.html_tokenizer.specs.Goings.{is_raw_going};
-    ghost use Rattle.html_tokenizer.specs.SectionTurns.{SectionAdvances};
+    ghost use Rattle.html_tokenizer.specs.Advances.{Advances, IsLeft, RawAdvances};
+    ghost use Rattle.lexeme_places.specs.PlaceKinds.{IsNoMarkup};
+    ghost use Rattle.lexeme_places.specs.Goings.{is_raw_going};
+    ghost use Rattle.lexeme_places.specs.SectionTurns.{SectionAdvances};
 
     /// Before a lexeme.
     pub(crate) fn new(alloc: Global) -> Pending

@@ -6,27 +6,24 @@ ghost use Rattle.html_grammar.specs.Lexemes.{ordinary_item};
 ghost use Rattle.html_grammar.specs.Modes.{mode_behind};
 ghost use Rattle.html_grammar.specs.PlainRead.{items_of};
 ghost use Rattle.html_grammar.specs.Reading.{IsClosed, Reading};
-ghost use Rattle.html_tokenizer.specs.Places.{place_lexeme};
+ghost use Rattle.lexeme_places.specs.Places.{place_lexeme};
 ghost use Rattle.html_grammar.specs.declared.modes.TextKind.TheVariants.{Plain as PlainText};
-ghost use Rattle.html_tokenizer.specs.PlaceKinds.{is_of_text, is_open};
+ghost use Rattle.lexeme_places.specs.PlaceKinds.{IsWithinMarkup, is_of_text, is_open};
 ghost use Rattle.html_tokenizer.specs.Tells.{IsPauseOf};
-ghost use Rattle.html_tokenizer.specs.declared.place.Place.{Place as SeenPlace};
-ghost use Rattle.html_tokenizer.specs.declared.place.Place.TheVariants.{CdataSection as SectionPlace, MarkupDeclarationOpen as DeclarationPlace, Text as TextPlace};
+ghost use Rattle.lexeme_places.specs.declared.place.Place.{Place as SeenPlace};
+ghost use Rattle.lexeme_places.specs.declared.place.Place.TheVariants.{CdataSection as SectionPlace, MarkupDeclarationOpen as DeclarationPlace, Text as TextPlace};
 
 use crate::errors::{
     MarkupStart, find_errors, find_errors_before, find_last_errors, last_state, may_follow_error,
     state_of,
 };
-use crate::first::{First, first_of};
-use crate::last::lexeme_from;
 use crate::pending::{Advance, Pending, RawAdvance};
-use crate::place::Place;
-use crate::section_turn::SectionTurn;
 use html_grammar::lexemes::Lexeme;
 use html_grammar::plain::{last_behind, tell_lexemes, tell_tokens, text_behind};
 use html_grammar::{Mode, TextKind, TokenSink};
 use html_lexemes::states::State;
 use html_lexemes::{ParseFault, ReferenceTable, Tag, Text, Token, TokenSinkResult};
+use lexeme_places::{First, Place, SectionTurn, first_of, lexeme_from};
 use parse_errors::ParseErrors;
 use std::alloc::Global;
 use std::mem;
@@ -59,8 +56,8 @@ impl Reader {
     ghost use Rattle.html_tokenizer.specs.Holdings.{Holds, HoldsNothing, HoldsRaw};
     ghost use Rattle.html_tokenizer.specs.Reads.{Follows, Leaves, Reads, state_of};
     ghost use Rattle.html_tokenizer.specs.Tells.{AreUnanswered, Asks, IsAlike, TellsOn};
-    ghost use Rattle.html_tokenizer.specs.Turns.{IsOver, IsUntagged};
-    ghost use Rattle.html_tokenizer.specs.Advances.{Advances, IsLeft, IsWithinMarkup};
+    ghost use Rattle.lexeme_places.specs.Turns.{IsOver, IsUntagged};
+    ghost use Rattle.html_tokenizer.specs.Advances.{Advances, IsLeft};
 
     /// Before the first character of a text that is read in a mode.
     pub(crate) fn new(alloc: Global, mode: Mode, exact_errors: bool) -> Reader

@@ -15,6 +15,7 @@ use crate::results::{TokenizerResult, result_of};
 use html_grammar::plain::text_of_state;
 use html_grammar::{Mode, TokenSink, TokenizerOpts};
 use html_lexemes::{BufferQueue, ParseFault, ReferenceTable};
+use lexeme_places::laws::going_is_no_lexeme;
 use std::alloc::Global;
 
 /// Reads the text of a page, in any pieces, and tells its tokens to a sink (WHATWG HTML, 13.2.5). What it tells is what
@@ -137,8 +138,7 @@ impl<Sink: TokenSink> Tokenizer<Sink> {
             }
         }
         self.reader.tell_run(&mut self.sink)?;
-        // a longer name that is waited for is letters, digits and a semicolon
-        self.table.names_are_names();
+        going_is_no_lexeme(&self.table);
         Ok(TokenizerResult::Done)
     }
 

@@ -4,7 +4,8 @@ use Rattle.std.specs.Option.{is_some}
 use Rattle.html_lexemes.specs.declared.states.RawKind.{RawKind}
 use Rattle.html_lexemes.specs.declared.states.RawKind.TheVariants.{ScriptDataEscaped}
 use Rattle.html_lexemes.specs.declared.states.State.{State}
-use Rattle.html_lexemes.specs.declared.states.State.TheVariants.{CdataSection, CdataSectionBracket, CdataSectionEnd, RawData, RawEndTagName, RawEndTagOpen, RawLessThanSign, ScriptDataEscapedDash, ScriptDataEscapedDashDash}
+use Rattle.html_lexemes.specs.declared.states.State.TheVariants.{CdataSection, CdataSectionBracket, CdataSectionEnd, RawData, RawEndTagName, RawEndTagOpen, RawLessThanSign, ScriptDataDoubleEscapeEnd, ScriptDataEscapeStart, ScriptDataEscapedDash, ScriptDataEscapedDashDash}
+use Rattle.html_lexemes.specs.declared.states.ScriptEscapeKind.TheVariants.{DoubleEscaped}
 use Rattle.parse_errors.specs.Noncharacters.{is_noncharacter}
 use Rattle.parse_errors.specs.declared.errors.FoundError.{FoundError}
 use Rattle.parse_errors.specs.declared.errors.ParseErrors.{ParseErrors}
@@ -46,6 +47,8 @@ abbrev pub is_error_at_end : State → Bool
 is_error_at_end CdataSection = true
 is_error_at_end CdataSectionBracket = true
 is_error_at_end CdataSectionEnd = true
+is_error_at_end (ScriptDataEscapeStart DoubleEscaped) = true
+is_error_at_end ScriptDataDoubleEscapeEnd = true
 is_error_at_end (ScriptDataEscapedDash _) = true
 is_error_at_end (ScriptDataEscapedDashDash _) = true
 is_error_at_end (RawData kind) = is_escaped kind

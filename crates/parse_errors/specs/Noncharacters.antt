@@ -1,8 +1,6 @@
 -- Controls and noncharacters (WHATWG Infra, 4.6), NUL and ASCII white space aside.
-use Rattle.std.specs.Prelude.{ℕ, Bool, ◌==◌, ◌&&◌, ◌||◌, nat_le, ◌%◌}
-
-abbrev pub is_between : ℕ → ℕ → ℕ → Bool
-is_between low high c = nat_le low c && nat_le c high
+use Rattle.std.specs.Prelude.{ℕ, Bool, ◌==◌, ◌||◌, nat_le, ◌%◌}
+use Rattle.html_lexemes.specs.References.{is_between}
 
 -- TAB, LF, FF and CR are no such controls
 abbrev pub is_control : ℕ → Bool

@@ -221,6 +221,9 @@ fn ends_within_text_are_found(rt: HostRuntime) -> Result<(), Fail> {
         State::CdataSectionEnd,
         State::RawData(ESCAPED),
         State::RawEndTagName(ESCAPED),
+        State::ScriptDataEscapeStart(ScriptEscapeKind::Escaped),
+        State::ScriptDataEscapeStart(ScriptEscapeKind::DoubleEscaped),
+        State::ScriptDataDoubleEscapeEnd,
         DASH,
     ];
     for state in states {
@@ -229,6 +232,8 @@ fn ends_within_text_are_found(rt: HostRuntime) -> Result<(), Fail> {
     let expected = "8 Saw EOF in state CdataSection\n8 Saw EOF in state CdataSection\n\
         8 Saw EOF in state RawData(ScriptDataEscaped(Escaped))\n\
         8 Saw EOF in state RawData(ScriptDataEscaped(Escaped))\n\
+        8 Saw EOF in state RawData(ScriptDataEscaped(Escaped))\n\
+        8 Saw EOF in state RawData(ScriptDataEscaped(DoubleEscaped))\n\
         8 Saw EOF in state ScriptDataEscapedDash(DoubleEscaped)\n";
     assert_eq!(rt; told(alloc, &mut errors)?.as_str(), expected);
     Ok(())

@@ -2,7 +2,7 @@ ghost use Rattle.std.specs.Prelude.{◌≡◌, false, MatchBool, Ok, OnOk, is_so
 ghost use Rattle.parse_errors.specs.Found.{GoesOn, HasOneMore, found_of, heeds, is_error_at_end, is_watching};
 
 use crate::ParseErrors;
-use html_lexemes::states::{RawKind, State};
+use html_lexemes::states::{RawKind, ScriptEscapeKind, State};
 use std::alloc::AllocError;
 
 impl ParseErrors {
@@ -70,6 +70,10 @@ fn has_references(state: State) -> bool {
     matches!(state, State::Data | State::RawData(RawKind::Rcdata))
 }
 
+fn escaped_text(kind: ScriptEscapeKind) -> State {
+    State::RawData(RawKind::ScriptDataEscaped(kind))
+}
+
 // The state of text that the end of the page is an error in, where there is one.
 fn state_of_text(state: State) -> Option<State>
     ensures { is_some result ≡ is_error_at_end state }
@@ -79,6 +83,10 @@ fn state_of_text(state: State) -> Option<State>
             Some(State::CdataSection)
         }
         State::ScriptDataEscapedDash(_) | State::ScriptDataEscapedDashDash(_) => Some(state),
+        State::ScriptDataEscapeStart(ScriptEscapeKind::DoubleEscaped) => {
+            Some(escaped_text(ScriptEscapeKind::Escaped))
+        }
+        State::ScriptDataDoubleEscapeEnd => Some(escaped_text(ScriptEscapeKind::DoubleEscaped)),
         State::RawData(kind)
         | State::RawLessThanSign(kind)
         | State::RawEndTagOpen(kind)

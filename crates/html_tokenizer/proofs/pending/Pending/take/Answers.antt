@@ -1,9 +1,9 @@
 use Rattle.std.proofs.Common.{[], refl, sym, ap, ◌∙◌, subst, string_bytes}
 use Rattle.std.proofs.lemmas.Str.{chars-nil}
 use Rattle.std.specs.Str.{chars}
-use Rattle.html_tokenizer.specs.Sound.{IsSound}
-use Rattle.html_tokenizer.specs.Turns.{IsOver, IsTaken}
-use Rattle.html_tokenizer.specs.declared.turn.Turn.TheVariants.{Goes, Ends, EndsBefore}
+use Rattle.lexeme_places.specs.Sound.{IsSound}
+use Rattle.lexeme_places.specs.Turns.{IsOver, IsTaken}
+use Rattle.lexeme_places.specs.declared.turn.Turn.TheVariants.{Goes, Ends, EndsBefore}
 use Rattle.html_tokenizer.proofs.GoingLemmas.{ended_before, ended_untagged, going_sound}
 use Rattle.html_tokenizer.proofs.PendingLemmas.{some_mode, turned}
 use Rattle.html_tokenizer.proofs.pending.Pending.take.Goals as goal

@@ -1,9 +1,9 @@
 use Rattle.std.proofs.Common.{refl, sym, ◌∷◌, [], ◌++◌, string_bytes, subst}
 use Rattle.std.specs.Str.{chars}
 use Rattle.html_grammar.specs.Items.{characters}
-use Rattle.html_tokenizer.specs.Places.{place_lexeme}
+use Rattle.lexeme_places.specs.Places.{place_lexeme}
 use Rattle.html_tokenizer.specs.Tells.{Asks}
-use Rattle.html_tokenizer.specs.Turns.{IsOver, IsUntagged}
+use Rattle.lexeme_places.specs.Turns.{IsOver, IsUntagged}
 use Rattle.html_tokenizer.proofs.TellsLemmas.{tells_same, tells_then}
 use Rattle.html_tokenizer.specs.Reads.{Leaves}
 use Rattle.html_tokenizer.specs.Advances.{Advances, IsLeft}

@@ -4,7 +4,7 @@ use Rattle.std.proofs.lemmas.Bool.{ne_eqb}
 use Rattle.std.specs.Prelude.{not}
 use Rattle.std.specs.Str.{chars}
 use Rattle.html_grammar.specs.Items.{characters}
-use Rattle.html_tokenizer.specs.Sound.{IsSound}
+use Rattle.lexeme_places.specs.Sound.{IsSound}
 use Rattle.html_tokenizer.proofs.PendingLemmas.{some_table}
 use Rattle.html_tokenizer.proofs.RawReads.{begun_plain, section_character, section_null}
 use Rattle.html_tokenizer.proofs.ReadsLemmas.{on_ok_map, on_ok_two}

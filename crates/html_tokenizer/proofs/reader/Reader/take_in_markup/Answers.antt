@@ -2,9 +2,10 @@ use Rattle.std.proofs.Common.{◌≡◌, Bool, MatchOption, ap, sym, ◌∙◌, 
 use Rattle.std.specs.Str.{chars}
 use Rattle.html_grammar.specs.Items.{characters}
 use Rattle.html_grammar.specs.declared.modes.Mode.{Mode}
-use Rattle.html_tokenizer.specs.Advances.{Advances, IsNoMarkup, IsWithinMarkup}
+use Rattle.html_tokenizer.specs.Advances.{Advances}
+use Rattle.lexeme_places.specs.PlaceKinds.{IsNoMarkup, IsWithinMarkup}
 use Rattle.html_tokenizer.specs.declared.pending.Pending.{Pending}
-use Rattle.html_tokenizer.specs.declared.place.Place.TheVariants.{MarkupDeclarationOpen}
+use Rattle.lexeme_places.specs.declared.place.Place.TheVariants.{MarkupDeclarationOpen}
 use Rattle.html_tokenizer.proofs.RawReads.{in_section}
 use Rattle.html_tokenizer.proofs.ReadsLemmas.{leaves_same, on_ok_map}
 use Rattle.html_tokenizer.proofs.TellsLemmas.{asks_behind, if_ok_map, tells_then}

@@ -2,7 +2,8 @@ use Rattle.std.proofs.Common.{false, refl, ap, sym, ◌∙◌, ◌++◌, string_
 use Rattle.std.proofs.lemmas.Str.{chars-append, IsUtf8-string_bytes}
 use Rattle.std.specs.Str.{chars}
 use Rattle.html_grammar.specs.Items.{characters}
-use Rattle.html_tokenizer.specs.Advances.{IsWithinMarkup, RawAdvances}
+use Rattle.html_tokenizer.specs.Advances.{RawAdvances}
+use Rattle.lexeme_places.specs.PlaceKinds.{IsWithinMarkup}
 use Rattle.html_tokenizer.proofs.GoingLemmas.{within_markup}
 use Rattle.html_tokenizer.proofs.PendingLemmas.{some_table}
 use Rattle.html_tokenizer.proofs.RawReads.{raw_before, raw_end_tag, raw_goes, raw_shifts}

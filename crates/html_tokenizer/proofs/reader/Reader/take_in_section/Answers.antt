@@ -5,7 +5,7 @@ use Rattle.html_grammar.specs.Items.{characters}
 use Rattle.html_grammar.specs.Lexemes.{ordinary_item}
 use Rattle.std.specs.List.{fold}
 use Rattle.html_tokenizer.specs.Reads.{Leaves}
-use Rattle.html_tokenizer.specs.SectionTurns.{SectionAdvances}
+use Rattle.lexeme_places.specs.SectionTurns.{SectionAdvances}
 use Rattle.html_tokenizer.proofs.GoingLemmas.{section_going}
 use Rattle.html_tokenizer.proofs.PendingLemmas.{some_mode}
 use Rattle.html_tokenizer.proofs.RawReads.{section_more, section_on}

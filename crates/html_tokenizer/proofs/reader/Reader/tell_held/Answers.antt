@@ -6,7 +6,7 @@ use Rattle.html_grammar.specs.Lexemes.{tagged}
 use Rattle.html_grammar.specs.Modes.{mode_behind}
 use Rattle.html_grammar.specs.PlainRead.{items_of, lexeme_of}
 use Rattle.html_grammar.specs.Reading.{Reading}
-use Rattle.html_tokenizer.specs.Places.{place_lexeme}
+use Rattle.lexeme_places.specs.Places.{place_lexeme}
 use Rattle.html_tokenizer.specs.Reads.{Follows}
 use Rattle.html_tokenizer.proofs.ReadsLemmas.{on_ok_map}
 use Rattle.html_tokenizer.proofs.Unanswered.{untagged}

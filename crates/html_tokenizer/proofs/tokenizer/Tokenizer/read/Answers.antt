@@ -6,7 +6,7 @@ use Rattle.html_lexemes.specs.Queue.{Queue}
 use Rattle.html_tokenizer.specs.Completes.{Completes}
 use Rattle.html_tokenizer.specs.PageRest.{page_rest}
 use Rattle.html_grammar.specs.declared.modes.Mode.{Mode}
-use Rattle.html_tokenizer.specs.Goings.{IsGoing}
+use Rattle.lexeme_places.specs.Goings.{IsGoing}
 use Rattle.html_tokenizer.specs.Tells.{Asks}
 use Rattle.html_tokenizer.proofs.TellsLemmas.{answers_pause, asks_behind, none_asked, tells_same, tells_then}
 use Rattle.html_tokenizer.proofs.Undecided.{undecided}
@@ -79,5 +79,5 @@ returns-clause-done g c = λ _.
     let holds = subst (λ p. IsGoing c.characters.self.table c.tell_run.new.self.mode.last_start_tag p.place (chars (string_bytes p.held))) (sym c.tell_run.ensures.pending)
     (subst (λ (m : Mode). IsGoing c.characters.self.table m.last_start_tag c.characters.self.reader.pending.place (chars (string_bytes c.characters.self.reader.pending.held))) (sym c.tell_run.ensures.mode) c.characters.invariant.holds) in (
       ap (λ (q : Queue). q.text) c.in_default.ensures.takes.1 ∙ c.in_default.ensures.takes.0,
-      (c.in_ok-tell_run.ensures.run, undecided c.characters.self.table c.characters.self.line_ends c.tell_run.new.self c.names_are_names.ensures holds),
+      (c.in_ok-tell_run.ensures.run, undecided c.characters.self.table c.characters.self.line_ends c.tell_run.new.self c.going_is_no_lexeme.ensures holds),
     )
