@@ -25,3 +25,6 @@ pub use place::{Place, RawPlace, ReferencePlace, TagPlace};
 pub use raw_text_turns::raw_turn;
 pub use section_turns::{SectionTurn, section_turn};
 pub use turn::{RawTurn, Turn};
+
+#[cfg(test)]
+mod rows;

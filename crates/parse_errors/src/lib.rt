@@ -17,6 +17,8 @@ mod text;
 pub use errors::{FoundError, ParseErrors};
 
 #[cfg(test)]
+mod definition_rows;
+#[cfg(test)]
 mod rows;
 #[cfg(test)]
 mod tests;
