@@ -10,6 +10,10 @@ inner_of d = d.inner
 abbrev pub is_failed : {T : Type 0} → Device T → Bool
 is_failed d = d.failed
 
+-- its last call as a writer was a flush, and was not refused
+abbrev pub is_flushed : {T : Type 0} → Device T → Bool
+is_flushed d = d.flushed
+
 -- how many bytes it gave, as a reader
 abbrev pub count_of : {T : Type 0} → Device T → ℕ
 count_of d = d.given

@@ -1,5 +1,5 @@
-ghost use Rattle.std.specs.Prelude.{◌≡◌, ℕ, ◌+◌, ◌<◌, ◌≤◌, ◌^◌, Bool, true, false, is_err, List, Option, length, take, IfOk, OnErr};
-ghost use Rattle.std.specs.Io.KnownBytes.{Appends, Consumes, IsAtEnd};
+ghost use Rattle.std.specs.Prelude.{◌≡◌, ℕ, ◌+◌, ◌<◌, ◌≤◌, ◌^◌, Bool, true, false, is_err, List, Option, length, take, IfOk, OnOk, OnErr};
+ghost use Rattle.std.specs.Io.KnownBytes.{Appends, Consumes, IsAtEnd, Keeps};
 ghost use Rattle.html_lexemes.specs.KnownPart.{AppendsPart};
 
 use std::error::Error;
@@ -40,10 +40,12 @@ pub trait ByteReader {
         ensures end { IfOk result (λ n. n ≡ 0 → 0 < length buf.new → IsAtEnd (remaining self.new)) };
 }
 
-/// What takes bytes. Contracts see whether it has failed, and the bytes that it holds, where those are
-/// known.
+/// What takes bytes. Contracts see whether it has failed, whether it was flushed since its last write, and
+/// the bytes that it holds, where those are known.
 pub trait ByteWriter {
     ghost has_failed: { Self → Bool };
+
+    ghost was_flushed: { Self → Bool };
 
     ghost contents: { Self → Option (List ℕ) };
 
@@ -54,10 +56,18 @@ pub trait ByteWriter {
         ensures stays { has_failed self.old ≡ true → has_failed self.new ≡ true }
         ensures bound { IfOk result (λ n. n ≤ length bytes.now) }
         ensures progress { IfOk result (λ n. 0 < length bytes.now → 0 < n) }
+        ensures waits { was_flushed self.new ≡ false }
         ensures bytes { IfOk result
             (λ n. Appends (contents self.old) (contents self.new) (take n bytes.now)) }
         ensures part { OnErr result
             (AppendsPart (contents self.old) (contents self.new) bytes.now) };
+
+    /// Passes on what waits in a buffer of the writer's own.
+    fn flush(&mut self) -> Result<(), DeviceFault>
+        ensures refused { is_err result ≡ has_failed self.new }
+        ensures stays { has_failed self.old ≡ true → has_failed self.new ≡ true }
+        ensures flushed { OnOk result (was_flushed self.new ≡ true) }
+        ensures bytes { Keeps (contents self.old) (contents self.new) };
 }
 
 /// A reader or a writer of std's as a device: its first fault, an interruption too, is its failure, and
@@ -67,21 +77,24 @@ pub struct Device<T> {
     inner: T,
     failed: bool,
     given: u64,
+    flushed: bool,
 }
 
 impl<T> Device<T> {
-    ghost use Rattle.html_lexemes.specs.Device.{inner_of, is_failed, count_of};
+    ghost use Rattle.html_lexemes.specs.Device.{inner_of, is_failed, is_flushed, count_of};
 
     /// A device over std's `Read` or `Write`.
     pub fn new(inner: T) -> Device<T>
         ensures inner { inner_of result ≡ inner }
         ensures works { is_failed result ≡ false }
         ensures fresh { count_of result ≡ 0 }
+        ensures waits { is_flushed result ≡ false }
     {
         Device {
             inner,
             failed: false,
             given: 0,
+            flushed: false,
         }
     }
 
@@ -93,6 +106,7 @@ impl<T> Device<T> {
             inner,
             failed: _,
             given: _,
+            flushed: _,
         } = self;
         inner
     }
@@ -127,13 +141,16 @@ impl<R: Read> ByteReader for Device<R> {
 }
 
 impl<W: Write> ByteWriter for Device<W> {
-    ghost use Rattle.html_lexemes.specs.Device.{inner_of, is_failed};
+    ghost use Rattle.html_lexemes.specs.Device.{inner_of, is_failed, is_flushed};
 
     ghost has_failed = { λ d. is_failed d };
+
+    ghost was_flushed = { λ d. is_flushed d };
 
     ghost contents = { λ d. W.contents (inner_of d) };
 
     fn write(&mut self, bytes: &[u8]) -> Result<usize, DeviceFault> {
+        self.flushed = false;
         if self.failed {
             return Err(DeviceFault);
         }
@@ -148,5 +165,13 @@ impl<W: Write> ByteWriter for Device<W> {
                 Err(DeviceFault)
             }
         }
+    }
+    fn flush(&mut self) -> Result<(), DeviceFault> {
+        if self.failed || self.inner.flush().is_err() {
+            self.failed = true;
+            return Err(DeviceFault);
+        }
+        self.flushed = true;
+        Ok(())
     }
 }
