@@ -35,6 +35,7 @@ passed_kinds words width kind asked (inr among) = absurd (subst (IsAmong kind) (
 pub memory_fault : (kind : ErrorKind) (fault : WordFault) → IsFaultOf kind fault → kind ≡ OutOfMemory → fault ≡ faults.Memory
 memory_fault kind (faults.Help text) is memory = let bad : DisplayHelp ≡ OutOfMemory = sym is ∙ memory in cc
 memory_fault kind (faults.Words text) is memory = absurd (is.1 memory)
+memory_fault kind faults.NotUtf8 is memory = absurd is
 memory_fault kind faults.Memory is memory = refl
 
 pub explains : (words : List Text) (kind : ErrorKind) (fault : WordFault) → MayBe words kind → IsFaultOf kind fault → Explains words fault
@@ -45,11 +46,13 @@ explains words kind (faults.Words text) (inr among) is = (
   λ width asked. subst (IsAmong kind) (asked_passes words width asked) among,
   λ help. elim (subst (IsAmong kind) (help_fault words help) among) [ inl same ↦ is.0 same | inr none ↦ none ],
 )
+explains words kind faults.NotUtf8 may is = is
 explains words kind faults.Memory may is = tt
 
 pub helped : (words : List Text) (kind : ErrorKind) (fault : WordFault) → MayBe words kind → IsFaultOf kind fault → AsksHelp words → IsHelpOrMemory fault
 helped words kind (faults.Help text) may is help = tt
 helped words kind (faults.Words text) may is help = (explains words kind (faults.Words text) may is).1 help
+helped words kind faults.NotUtf8 may is help = is
 helped words kind faults.Memory may is help = tt
 
 -- words that ask for help ask for no width

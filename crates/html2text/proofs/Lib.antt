@@ -8,12 +8,14 @@ pub mod DecoderTable
 pub mod DecoderText
 pub mod LayoutLemmas
 pub mod LinesTextLemmas
+pub mod OneAnswer
 pub mod PageTextLemmas
 pub mod ParagraphCuts
 pub mod ParagraphLemmas
 pub mod ParagraphLinesLemmas
 pub mod ParagraphPageLemmas
 pub mod ReadingLemmas
+pub mod ResponseLemmas
 pub mod TextBridges
 pub mod WritingLemmas
 pub mod WrittenLemmas

@@ -2,12 +2,13 @@
 use Rattle.std.proofs.Common.{◌≡◌, ℕ, List, [], ◌∷◌, ◌++◌, map, refl, ap, ◌∙◌, append_assoc, sym, rules, IsUtf8}
 use Rattle.std.specs.Str.{chars}
 use Rattle.std.proofs.lemmas.Str.{chars-nil, chars-append, IsUtf8-string_bytes, IsUtf8-append, IsUtf8-nil}
-use Rattle.text_decorators.specs.Tagged.{element_text, elements_text, line_text}
+use Rattle.text_decorators.specs.Tagged.{characters, element_text, elements_text, line_items, line_text}
 use Rattle.text_decorators.specs.declared.tagged_line.TaggedLine.{TaggedLine}
 use Rattle.text_decorators.specs.declared.tagged_string.TaggedLineElement.{TaggedLineElement}
 use Rattle.text_decorators.specs.declared.tagged_string.TaggedLineElement.TheVariants.{Str, FragmentStart}
 use Rattle.html2text.specs.LinesText.{elements_bytes, line_bytes, lines_bytes, newline}
 use Rattle.html2text.specs.PageLines.{lines_text}
+use Rattle.html2text.proofs.LayoutLemmas.{characters-line}
 
 pub elements_bytes-step : {T : Type 0} (es : List (TaggedLineElement T)) (e : TaggedLineElement T) (rest : List (TaggedLineElement T)) (bytes : List ℕ)
     → es ≡ e ∷ rest → bytes ≡ element_text e → elements_bytes es ++ newline ≡ bytes ++ (elements_bytes rest ++ newline)
@@ -46,7 +47,9 @@ chars-line_bytes line =
     chars-append (elements_bytes line.elements.items) newline (elements_utf8 line.elements.items) ∙ ap (λ l. l ++ chars newline) (chars-elements_bytes line.elements.items) ∙ ap (λ l. line_text line ++ l) chars-newline
 
 -- the bytes that are written are those of the lines' text
-pub chars-lines_bytes : {T : Type 0} (lines : List (TaggedLine T)) → chars (lines_bytes lines) ≡ lines_text (map line_text lines)
-chars-lines_bytes [] = chars-nil
-chars-lines_bytes (line ∷ lines) =
-    chars-append (line_bytes line) (lines_bytes lines) (line_utf8 line) ∙ ap (λ l. l ++ chars (lines_bytes lines)) (chars-line_bytes line) ∙ ap (λ l. (line_text line ++ newline) ++ l) (chars-lines_bytes lines)
+pub chars-lines_bytes : {T S : Type 0} (seen : T → S) (lines : List (TaggedLine T)) → chars (lines_bytes lines) ≡ lines_text (map (line_items seen) lines)
+chars-lines_bytes seen [] = chars-nil
+chars-lines_bytes seen (line ∷ lines) =
+    chars-append (line_bytes line) (lines_bytes lines) (line_utf8 line) ∙ ap (λ l. l ++ chars (lines_bytes lines)) (chars-line_bytes line)
+    ∙ ap (λ l. (l ++ newline) ++ chars (lines_bytes lines)) (sym (characters-line seen line))
+    ∙ ap (λ l. (characters (line_items seen line) ++ newline) ++ l) (chars-lines_bytes seen lines)

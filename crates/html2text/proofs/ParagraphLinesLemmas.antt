@@ -24,16 +24,6 @@ wider_text width text tag none never =
     let P : List (Letter Plain) → Type 0 = λ read. HasNoLayout width false (marks width read) in
     subst (λ t. P (lettered text t)) none (subst P (append-nil (lettered text tag)) (never [] []))
 
-lines_texts : {T S : Type 0} (seen : T → S) (lines : List (TaggedLine T)) → map line_text lines ≡ map characters (map (line_items seen) lines)
-lines_texts seen [] = refl
-lines_texts seen (line ∷ lines) = ap (λ l. l ∷ map line_text lines) (sym (characters-line seen line)) ∙ ap (λ l. characters (line_items seen line) ∷ l) (lines_texts seen lines)
-
 pub paragraph_laid : {T : Type 0} (seen : T → Plain) (width : ℕ) (text : List ℕ) (tag : Plain) (lines : List (TaggedLine T)) → tag ≡ []
-    → AreLinesOf width false ([] ++ lettered text tag) (map (line_items seen) lines) → AreParagraphLines width text (map line_text lines)
-paragraph_laid seen width text tag lines none laid =
-    (map (line_items seen) lines, subst (λ t. AreLinesOf width false (lettered text t) (map (line_items seen) lines)) none laid, lines_texts seen lines)
-
-pub paragraph_within : {T : Type 0} (seen : T → Plain) (width : ℕ) (lines : List (TaggedLine T)) → All (λ items. line_columns items ≤ width) (map (line_items seen) lines)
-    → All (FitsWidth width) (map line_text lines)
-paragraph_within seen width lines fit =
-    subst (All (FitsWidth width)) (sym (lines_texts seen lines)) (All-map (FitsWidth width) characters (map (line_items seen) lines) fit)
+    → AreLinesOf width false ([] ++ lettered text tag) (map (line_items seen) lines) → AreParagraphLines width text (map (line_items seen) lines)
+paragraph_laid seen width text tag lines none laid = subst (λ t. AreLinesOf width false (lettered text t) (map (line_items seen) lines)) none laid

@@ -59,3 +59,8 @@ pub record AsksHelp (words : List (List ℕ)) : Type 0 where
   pub line : words ≡ words_of_any item ++ word ∷ rest
   pub asks : AsksWidth item width
   pub helps : IsHelpWord word
+
+-- the words of a command line without the first, the program's name
+abbrev pub words_behind_name : List (List ℕ) → List (List ℕ)
+words_behind_name [] = []
+words_behind_name (name ∷ words) = words

@@ -1,11 +1,19 @@
--- What a refusal of a lower layer is to the callers of this one.
-use Rattle.std.specs.Prelude.{Result, Ok, Err}
+-- Errors: their texts, and what a refusal of a lower layer is to the callers of this one.
+use Rattle.std.specs.Prelude.{ℕ, List, Result, Ok, Err, codes}
 use Rattle.html2text.specs.declared.error.Error.{Error}
 use Rattle.html2text.specs.declared.error.Error.TheVariants as errors
 use Rattle.html_lexemes.specs.declared.fault.ParseFault.{ParseFault}
 use Rattle.html_lexemes.specs.declared.fault.ParseFault.TheVariants as faults
 use Rattle.text_block_renderer.specs.declared.fault.BlockError.{BlockError}
 use Rattle.text_block_renderer.specs.declared.fault.BlockError.TheVariants as blocks
+
+-- what is wrong, in words
+abbrev pub error_text : Error → List ℕ
+error_text errors.TooNarrow = codes "output width not wide enough"
+error_text errors.Fail = codes "nothing to render"
+error_text errors.IoError = codes "read or write failed"
+error_text errors.TooLong = codes "page too long"
+error_text errors.Memory = codes "out of memory"
 
 abbrev pub error_of_fault : ParseFault → Error
 error_of_fault faults.Memory = errors.Memory

@@ -8,6 +8,7 @@ pub mod PageLines
 pub mod PageText
 pub mod ParagraphPage
 pub mod ReplacedText
+pub mod Responses
 pub mod Statuses
 pub mod WordFaults
 pub mod Written

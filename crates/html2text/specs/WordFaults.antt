@@ -1,8 +1,12 @@
 -- Which words are refused, and how.
-use Rattle.std.specs.Prelude.{◌≡◌, ◌≢◌, ℕ, List, ⊤}
+use Rattle.std.specs.Prelude.{◌≡◌, ◌≢◌, ℕ, List, Result, Ok, Err, String, Vec, ⊤, map, string_bytes}
+use Rattle.std.specs.IoError.{error_kind}
+use Rattle.std.specs.declared.io.Error.{Error as IoFault}
 use Rattle.clap.specs.declared.error.kind.ErrorKind.{ErrorKind}
 use Rattle.clap.specs.declared.error.kind.ErrorKind.TheVariants as kinds
-use Rattle.html2text.specs.CommandWords.{Asks, AsksHelp}
+use Rattle.std.specs.declared.io.ErrorKind.{ErrorKind as IoKind}
+use Rattle.std.specs.declared.io.ErrorKind.TheVariants as io_kinds
+use Rattle.html2text.specs.CommandWords.{Asks, AsksHelp, words_behind_name}
 use Rattle.html2text.specs.declared.words.WordFault.{WordFault}
 use Rattle.html2text.specs.declared.words.WordFault.TheVariants as faults
 
@@ -10,15 +14,34 @@ use Rattle.html2text.specs.declared.words.WordFault.TheVariants as faults
 abbrev pub Explains : List (List ℕ) → WordFault → Type 0
 Explains words (faults.Help text) = AsksHelp words
 Explains words (faults.Words text) = ((width : ℕ) → Asks words width → ⊥) × (AsksHelp words → ⊥)
+Explains words faults.NotUtf8 = ⊥
 Explains words faults.Memory = ⊤
+
+-- Words that could not be had, for this kind of error, are no text, or memory ran out. (The runtime tells no other kind.)
+abbrev pub fault_of_kind : IoKind → WordFault
+fault_of_kind io_kinds.OutOfMemory = faults.Memory
+fault_of_kind other = faults.NotUtf8
+
+abbrev pub IsHelp : WordFault → Type 0
+IsHelp (faults.Help text) = ⊤
+IsHelp (faults.Words text) = ⊥
+IsHelp faults.NotUtf8 = ⊥
+IsHelp faults.Memory = ⊥
 
 abbrev pub IsHelpOrMemory : WordFault → Type 0
 IsHelpOrMemory (faults.Help text) = ⊤
 IsHelpOrMemory (faults.Words text) = ⊥
+IsHelpOrMemory faults.NotUtf8 = ⊥
 IsHelpOrMemory faults.Memory = ⊤
 
 -- what clap's kind of error is to the callers of this program
 abbrev pub IsFaultOf : ErrorKind → WordFault → Type 0
 IsFaultOf kind (faults.Help text) = kind ≡ kinds.DisplayHelp
 IsFaultOf kind (faults.Words text) = (kind ≢ kinds.DisplayHelp) × (kind ≢ kinds.OutOfMemory)
+IsFaultOf kind faults.NotUtf8 = ⊥
 IsFaultOf kind faults.Memory = ⊤
+
+-- why the words of a command line, the program's name first, are refused
+abbrev pub IsRefusedWith : {A B : Type 0} → Result (Vec (String A) B) IoFault → WordFault → Type 0
+IsRefusedWith (Ok words) fault = Explains (words_behind_name (map string_bytes words.items)) fault × (IsHelp fault → ⊥)
+IsRefusedWith (Err error) fault = fault ≡ fault_of_kind (error_kind error)

@@ -1,7 +1,7 @@
 ghost use Rattle.std.specs.Prelude.{◌≡◌, ◌+◌, ◌<◌, ◌≤◌, ◌^◌, ◌-◌, true, false, map, length, chars, string_bytes, All, Err, IfSome, IfOk, OnOk};
 ghost use Rattle.std.specs.Io.KnownBytes.{IsAtEnd};
-ghost use Rattle.text_decorators.specs.Tagged.{line_text};
 ghost use Rattle.html2text.specs.Errors.{IsAnswer};
+ghost use Rattle.html2text.specs.LinesText.{plain_items};
 ghost use Rattle.html2text.specs.PageLines.{ArePageLines, FitsWidth, HasPageText, IsTooNarrowPage, IsOtherPage};
 
 use crate::error::Error;
@@ -44,8 +44,8 @@ impl Config<PlainDecorator> {
         width: usize,
     ) -> Result<Vec<PlainLine>, Error>
         ensures lines { IfOk result (λ lines. IfSome (R.remaining input.old)
-            (λ bytes. ArePageLines width bytes (map line_text lines.items))) }
-        ensures within { IfOk result (λ lines. All (FitsWidth width) (map line_text lines.items)) }
+            (λ bytes. ArePageLines width bytes (map plain_items lines.items))) }
+        ensures within { IfOk result (λ lines. All (FitsWidth width) (map plain_items lines.items)) }
         ensures narrow { result ≡ Err Error.TooNarrow → IfSome (R.remaining input.old) (IsTooNarrowPage width) }
         ensures fail { result ≡ Err Error.Fail → IfSome (R.remaining input.old) IsOtherPage }
         ensures short { IsAnswer result → IfSome (R.remaining input.old) (λ bytes. length bytes ≤ max_bytes_of self) }

@@ -168,118 +168,14 @@ fn read_piece(
     Ok(left.len())
 }
 
-/// The text of bytes that come in pieces: the replaced text of the pieces joined, however they were cut.
-pub fn decoded_text(alloc: Global, pieces: &[Vec<u8>]) -> Result<String, ParseFault>
-    ensures text { IfOk result (λ text. chars (string_bytes text) ≡ replaced_text (flat_map (λ piece. piece.items) pieces.now)) }
-    ensures kinds { IfErr result (λ e. e ≡ ParseFault.Memory) }
-{
-    let mut decoder = Utf8LossyDecoder::new();
-    let mut text = String::new(alloc);
-    for piece in pieces {
-        text.push_str(decoder.push(alloc, piece)?.as_str())?;
-    }
-    text.push_str(decoder.finish(alloc)?.as_str())?;
-    Ok(text)
-}
-
-#[cfg(test)]
-mod tests {
-    use super::*;
-    use std::process::Abort;
-    use std::test::Fail;
-
-    // Bytes in two pieces and their text: the rows of the Unicode Standard's Tables 3-8 to 3-11 among them.
-    const ROWS: [(&[u8], &[u8], &str); 13] = [
-        (b"", b"", ""),
-        (b"\xF0\x9F\x98", b"", "\u{FFFD}"),
-        (b"\xF0\x9F", b"\x98\x80!", "\u{1F600}!"),
-        (b"\xF0\x9F\x98", b"A", "\u{FFFD}A"),
-        (b"\xE0", b"\x80", "\u{FFFD}\u{FFFD}"),
-        (b"\xED\xA0", b"\x80", "\u{FFFD}\u{FFFD}\u{FFFD}"),
-        (b"caf\xC3", b"\xA9", "caf\u{E9}"),
-        (b"a\xFF", b"b", "a\u{FFFD}b"),
-        (
-            b"\xC0\xAF\xE0\x80\xBF",
-            b"\xF0\x81\x82A",
-            "\u{FFFD}\u{FFFD}\u{FFFD}\u{FFFD}\u{FFFD}\u{FFFD}\u{FFFD}\u{FFFD}A",
-        ),
-        (
-            b"\xED\xA0\x80\xED\xBF\xBF\xED",
-            b"\xAFA",
-            "\u{FFFD}\u{FFFD}\u{FFFD}\u{FFFD}\u{FFFD}\u{FFFD}\u{FFFD}\u{FFFD}A",
-        ),
-        (
-            b"\xF4\x91\x92\x93\xFFA\x80",
-            b"\xBFB",
-            "\u{FFFD}\u{FFFD}\u{FFFD}\u{FFFD}\u{FFFD}A\u{FFFD}\u{FFFD}B",
-        ),
-        (
-            b"\xE1\x80\xE2\xF0\x91",
-            b"\x92\xF1\xBFA",
-            "\u{FFFD}\u{FFFD}\u{FFFD}\u{FFFD}A",
-        ),
-        (
-            b"a\xF1\x80\x80\xE1\x80\xC2b\x80c\x80",
-            b"\xBFd",
-            "a\u{FFFD}\u{FFFD}\u{FFFD}b\u{FFFD}c\u{FFFD}\u{FFFD}d",
-        ),
-    ];
-
-    #[test]
-    fn replaces_in_two_pieces(rt: HostRuntime) -> Result<(), Fail> {
-        let alloc = rt.alloc();
-        for (first, second, want) in ROWS {
-            let pieces = vec![in alloc; first.to_vec(alloc)?, second.to_vec(alloc)?]?;
-            let text = decoded_text(alloc, &pieces)?;
-            assert_eq!(rt; text.as_str(), want, "{first:?} {second:?}");
-        }
-        Ok(())
-    }
-
-    // The text of the bytes pushed one by one; after a refusal the decoder answers no more.
-    fn text_of_single_bytes(
-        rt: &(impl AllocGlobal + Abort),
-        bytes: &[u8],
-    ) -> Result<String, ParseFault> {
-        let mut decoder = Utf8LossyDecoder::new();
-        let mut text = String::new(rt.alloc());
-        for byte in bytes {
-            match decoder.push(rt.alloc(), &[*byte]) {
-                Ok(part) => text.push_str(part.as_str())?,
-                Err(fault) => {
-                    let later = decoder.push(rt.alloc(), b"A");
-                    assert_eq!(rt; later.err(), Some(ParseFault::Failed));
-                    let last = decoder.finish(rt.alloc());
-                    assert_eq!(rt; last.err(), Some(ParseFault::Failed));
-                    return Err(fault);
-                }
-            }
-        }
-        text.push_str(decoder.finish(rt.alloc())?.as_str())?;
-        Ok(text)
-    }
-
-    // It holds where memory is refused, too, as under `rt try --test --fail-alloc`.
-    #[test]
-    fn replaces_in_single_bytes_or_refuses(rt: HostRuntime) {
-        for (first, second, want) in ROWS {
-            let Ok(bytes) = [first, second].concat(rt.alloc()) else {
-                continue;
-            };
-            match text_of_single_bytes(&rt, &bytes) {
-                Ok(text) => assert_eq!(rt; text.as_str(), want, "{bytes:?}"),
-                Err(fault) => assert_eq!(rt; fault, ParseFault::Memory, "{bytes:?}"),
-            }
-        }
-    }
-}
-
 // The definition, computed on worked rows.
 #[tactic(auto, unfolding(crate::specs::ReplacedText::replaced_text, crate::specs::ReplacedText::text_of_parts))]
 fn replaced_text_of_rows()
     ensures cut_emoji { replaced_text (0xF0 ∷ 0x9F ∷ 0x98 ∷ []) ≡ 0xFFFD ∷ [] }
     ensures overlong { replaced_text (0xE0 ∷ 0x80 ∷ []) ≡ 0xFFFD ∷ 0xFFFD ∷ [] }
     ensures surrogate { replaced_text (0xED ∷ 0xA0 ∷ 0x80 ∷ []) ≡ 0xFFFD ∷ 0xFFFD ∷ 0xFFFD ∷ [] }
+    ensures two_of_four { replaced_text (0xF0 ∷ 0x80 ∷ []) ≡ 0xFFFD ∷ 0xFFFD ∷ [] }
+    ensures above_the_last { replaced_text (0xF4 ∷ 0x90 ∷ []) ≡ 0xFFFD ∷ 0xFFFD ∷ [] }
     ensures lone { replaced_text (0x61 ∷ 0xFF ∷ 0x62 ∷ []) ≡ 0x61 ∷ 0xFFFD ∷ 0x62 ∷ [] }
     ensures whole { replaced_text (0xC3 ∷ 0xA9 ∷ 0xE6 ∷ 0xBC ∷ 0xA2 ∷ 0xF0 ∷ 0x9F ∷ 0x98 ∷ 0x80 ∷ []) ≡ 0xE9 ∷ 0x6F22 ∷ 0x1F600 ∷ [] }
 {}

@@ -6,24 +6,47 @@ use std::alloc::{AllocError, AllocFailed};
 use text_block_renderer::{BlockError, TooNarrow};
 use thiserror::Error;
 
+const TOO_NARROW: &str = "output width not wide enough";
+const FAIL: &str = "nothing to render";
+const IO_ERROR: &str = "read or write failed";
+const TOO_LONG: &str = "page too long";
+const MEMORY: &str = "out of memory";
+
 /// Why a page has no lines.
 #[derive(Clone, Copy, Debug, PartialEq, Eq, Error)]
 pub enum Error {
     /// The width is 0, or a character is wider than a line.
-    #[error("output width not wide enough")]
+    #[error("{text}", text = TOO_NARROW)]
     TooNarrow,
     /// There is nothing to render: today also each page that is no list of paragraphs.
-    #[error("nothing to render")]
+    #[error("{text}", text = FAIL)]
     Fail,
     /// The reader or the writer failed.
-    #[error("read or write failed")]
+    #[error("{text}", text = IO_ERROR)]
     IoError,
     /// The page has more bytes than were allowed.
-    #[error("page too long")]
+    #[error("{text}", text = TOO_LONG)]
     TooLong,
     /// A growth was refused for want of memory.
-    #[error("out of memory")]
+    #[error("{text}", text = MEMORY)]
     Memory,
+}
+
+impl Error {
+    ghost use Rattle.html2text.specs.Errors.{error_text};
+
+    /// What is wrong, in words; it is what `Display` writes.
+    pub fn text(self) -> &'static str
+        ensures { result.now ≡ error_text self }
+    {
+        match self {
+            Error::TooNarrow => TOO_NARROW,
+            Error::Fail => FAIL,
+            Error::IoError => IO_ERROR,
+            Error::TooLong => TOO_LONG,
+            Error::Memory => MEMORY,
+        }
+    }
 }
 
 impl From<TooNarrow> for Error {

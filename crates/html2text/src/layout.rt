@@ -1,7 +1,7 @@
 ghost use Rattle.std.specs.Prelude.{◌≡◌, ◌<◌, ◌⊎◌, ◌++◌, [], ◌∷◌, map, chars, string_bytes, All, Any, Err, IfOk, IfErr, OnOk};
 ghost use Rattle.text_decorators.specs.Tagged.{line_text};
 ghost use Rattle.text_block_renderer.specs.Units.{is_filled};
-ghost use Rattle.html2text.specs.LinesText.{line_bytes, lines_bytes, lines_have_content, texts_of};
+ghost use Rattle.html2text.specs.LinesText.{line_bytes, lines_bytes, lines_have_content, plain_items, texts_of};
 ghost use Rattle.html2text.specs.PageLines.{FitsWidth, AreParagraphLines, IsWiderText, AreLinesBehind, block_start, lines_text};
 
 use crate::error::Error;
@@ -9,7 +9,7 @@ use std::alloc::{AllocError, Global};
 use text_block_renderer::{TaggedLine, WhiteSpace, WrappedBlock};
 
 /// A line of plain text: its texts have no annotations.
-pub(crate) type PlainLine = TaggedLine<Vec<()>>;
+pub type PlainLine = TaggedLine<Vec<()>>;
 
 /// Lines of blocks, one below the other.
 #[derive(Drop)]
@@ -31,8 +31,8 @@ impl Blocks {
 
     /// Adds a block's lines, behind an empty line where some line so far has content.
     fn add_block(&mut self, alloc: Global, block: Vec<PlainLine>) -> Result<(), AllocError>
-        ensures ok { OnOk result (map line_text self.new.lines.items
-            ≡ map line_text self.old.lines.items ++ (block_start (map line_text self.old.lines.items) ++ map line_text block.items)) }
+        ensures ok { OnOk result (map plain_items self.new.lines.items
+            ≡ map plain_items self.old.lines.items ++ (block_start (map plain_items self.old.lines.items) ++ map plain_items block.items)) }
     {
         self.start_block(alloc)?;
         'lines: for line in block {
@@ -42,8 +42,8 @@ impl Blocks {
     }
 
     fn start_block(&mut self, alloc: Global) -> Result<(), AllocError>
-        ensures ok { OnOk result (map line_text self.new.lines.items
-            ≡ map line_text self.old.lines.items ++ block_start (map line_text self.old.lines.items)) }
+        ensures ok { OnOk result (map plain_items self.new.lines.items
+            ≡ map plain_items self.old.lines.items ++ block_start (map plain_items self.old.lines.items)) }
     {
         if !self.has_content {
             return Ok(());
@@ -75,8 +75,8 @@ pub(crate) fn page_lines(
     width: usize,
 ) -> Result<Vec<PlainLine>, Error>
     ensures lines { IfOk result (λ lines. (0 < width)
-        × AreLinesBehind width [] (texts_of paragraphs.now) (map line_text lines.items)) }
-    ensures within { IfOk result (λ lines. All (FitsWidth width) (map line_text lines.items)) }
+        × AreLinesBehind width [] (texts_of paragraphs.now) (map plain_items lines.items)) }
+    ensures within { IfOk result (λ lines. All (FitsWidth width) (map plain_items lines.items)) }
     ensures narrow { result ≡ Err Error.TooNarrow → (width ≡ 0) ⊎ Any (IsWiderText width) (texts_of paragraphs.now) }
     ensures kinds { IfErr result (λ e. (e ≡ Error.Memory) ⊎ (e ≡ Error.TooNarrow)) }
 {
@@ -92,8 +92,8 @@ pub(crate) fn page_lines(
 }
 
 fn paragraph_lines(alloc: Global, text: &str, width: usize) -> Result<Vec<PlainLine>, Error>
-    ensures lines { IfOk result (λ lines. AreParagraphLines width (chars text.now) (map line_text lines.items)) }
-    ensures within { IfOk result (λ lines. All (FitsWidth width) (map line_text lines.items)) }
+    ensures lines { IfOk result (λ lines. AreParagraphLines width (chars text.now) (map plain_items lines.items)) }
+    ensures within { IfOk result (λ lines. All (FitsWidth width) (map plain_items lines.items)) }
     ensures narrow { result ≡ Err Error.TooNarrow → IsWiderText width (chars text.now) }
     ensures kinds { IfErr result (λ e. (e ≡ Error.Memory) ⊎ (e ≡ Error.TooNarrow)) }
 {
@@ -106,7 +106,7 @@ fn paragraph_lines(alloc: Global, text: &str, width: usize) -> Result<Vec<PlainL
 /// The text of lines: the characters of each, and a newline.
 pub(crate) fn text_of_lines(alloc: Global, lines: &[PlainLine]) -> Result<String, AllocError>
     ensures bytes { IfOk result (λ text. string_bytes text ≡ lines_bytes lines.now) }
-    ensures text { IfOk result (λ text. chars (string_bytes text) ≡ lines_text (map line_text lines.now)) }
+    ensures text { IfOk result (λ text. chars (string_bytes text) ≡ lines_text (map plain_items lines.now)) }
 {
     let mut text = String::new(alloc);
     'lines: for line in lines {

@@ -122,38 +122,3 @@ fn normalized_rows()
     ensures second_mark { normalized (0xFEFF ∷ 0xFEFF ∷ 97 ∷ []) ≡ 0xFEFF ∷ 97 ∷ [] }
     ensures later_mark { normalized (97 ∷ 0xFEFF ∷ []) ≡ 97 ∷ 0xFEFF ∷ [] }
 {}
-
-#[cfg(test)]
-mod tests {
-    use super::*;
-    use std::test::Fail;
-
-    // Page texts, and what they are as normalized newlines without a first U+FEFF.
-    const ROWS: [(&str, &str); 9] = [
-        ("", ""),
-        ("\u{feff}", ""),
-        ("\u{feff}a\r\nb\rc\n", "a\nb\nc\n"),
-        ("\u{feff}\u{feff}a", "\u{feff}a"),
-        ("\u{feff}\r\n", "\n"),
-        ("a\u{feff}b", "a\u{feff}b"),
-        ("\r\n\r\r\n\n", "\n\n\n\n"),
-        ("\n\r", "\n\n"),
-        ("\u{e9}\r\u{1f600}\r", "\u{e9}\n\u{1f600}\n"),
-    ];
-
-    #[test]
-    fn joins_two_pieces(rt: HostRuntime) -> Result<(), Fail> {
-        for (page, want) in ROWS {
-            for place in 0..=page.len() {
-                if let (Some(first), Some(second)) = (page.get(..place), page.get(place..)) {
-                    let mut text = PageText::new(rt.alloc());
-                    text.push(first)?;
-                    text.push("")?;
-                    text.push(second)?;
-                    assert_eq!(rt; text.into_text().as_str(), want, "{page:?} at {place}");
-                }
-            }
-        }
-        Ok(())
-    }
-}

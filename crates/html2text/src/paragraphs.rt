@@ -105,57 +105,5 @@ fn paragraph_page_rows()
     ensures two { IsParagraphPage (codes "<p>a</p><p></p>") (codes "a" ∷ [] ∷ []) }
     ensures references { IsParagraphPage (codes "<p>&lt;x&amp;</p>") (codes "<x&" ∷ []) }
     ensures no_list { (texts : List (List ℕ)) → IsParagraphPage (codes "<p>a</p> ") texts → ⊥ }
+    ensures nul { (texts : List (List ℕ)) → IsParagraphPage (codes "<p>" ++ 0 ∷ codes "</p>") texts → ⊥ }
 {}
-
-#[cfg(test)]
-mod tests {
-    use super::*;
-    use std::test::Fail;
-
-    // Pages and their paragraphs' texts, and pages that are no list of paragraphs.
-    const PAGES: [(&str, &[&str]); 6] = [
-        ("", &[]),
-        ("<p></p>", &[""]),
-        ("<p>a</p><p>b</p>", &["a", "b"]),
-        ("<p>a\n b></p><p></p>", &["a\n b>", ""]),
-        ("<p>&lt;&amp;amp;&gt;</p>", &["<&amp;>"]),
-        ("<p>&quot;&nbsp;\u{e9}&quot;</p>", &["\"\u{a0}\u{e9}\""]),
-    ];
-
-    const OTHERS: [&str; 13] = [
-        "Hello",
-        " ",
-        "<p>",
-        "<p>a",
-        "<p>a</p> ",
-        "<p>a</p></p>",
-        "<p>a<b</p>",
-        "<P>a</P>",
-        "<p class=x>a</p>",
-        "<p>&x;</p>",
-        "<p>&amp</p>",
-        "<p>a & b</p>",
-        "<p>\0</p>",
-    ];
-
-    #[test]
-    fn reads_paragraphs(rt: HostRuntime) -> Result<(), Fail> {
-        for (page, want) in PAGES {
-            let texts = paragraphs_of(rt.alloc(), page)?;
-            assert_eq!(rt; texts.len(), want.len(), "{page:?}");
-            for (text, want) in texts.iter().zip(want) {
-                assert_eq!(rt; text.as_str(), *want, "{page:?}");
-            }
-        }
-        Ok(())
-    }
-
-    #[test]
-    fn refuses_other_pages(rt: HostRuntime) -> Result<(), Fail> {
-        for page in OTHERS {
-            let refused = paragraphs_of(rt.alloc(), page).err();
-            assert_eq!(rt; refused, Some(Error::Fail), "{page:?}");
-        }
-        Ok(())
-    }
-}

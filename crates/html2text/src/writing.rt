@@ -1,5 +1,5 @@
 ghost use Rattle.std.specs.Prelude.{◌≡◌, ◌+◌, ◌<◌, ◌≤◌, ◌⊎◌, true, false, length, Err, IfSome, OnErr, OnOk};
-ghost use Rattle.std.specs.Io.KnownBytes.{Appends};
+ghost use Rattle.std.specs.Io.KnownBytes.{Appends, IsAtEnd};
 ghost use Rattle.html_lexemes.specs.KnownPart.{AppendsPart};
 ghost use Rattle.html2text.specs.Config.{max_bytes_of};
 ghost use Rattle.html2text.specs.Errors.{IsAnswer};
@@ -15,7 +15,7 @@ use std::alloc::Global;
 use text_block_renderer::PlainDecorator;
 
 /// Reads a page, and writes the text of its lines, each with a newline. Nothing is written before the
-/// layout has succeeded.
+/// layout has succeeded. It doesn't flush the writer.
 pub fn run<R: ByteReader, W: ByteWriter>(
     alloc: Global,
     reader: &mut R,
@@ -28,6 +28,8 @@ pub fn run<R: ByteReader, W: ByteWriter>(
     ensures too_long { result ≡ Err Error.TooLong → R.count reader.old + max_bytes_of config < R.count reader.new }
     ensures reader_stays { R.has_failed reader.old ≡ true → R.has_failed reader.new ≡ true }
     ensures writer_stays { W.has_failed writer.old ≡ true → W.has_failed writer.new ≡ true }
+    ensures works { IsAnswer result → R.has_failed reader.new ≡ false }
+    ensures end { IsAnswer result → IsAtEnd (R.remaining reader.new) }
 
     // What was read is written as its lines' text.
     ensures written { OnOk result (IfSome (R.remaining reader.old) (λ bytes. WritesPage width bytes (W.contents writer.old) (W.contents writer.new))) }
@@ -69,7 +71,7 @@ fn write_line<W: ByteWriter>(writer: &mut W, line: &PlainLine) -> Result<(), Dev
 }
 
 /// Writes all the bytes. A fault leaves a beginning of them.
-fn write_all<W: ByteWriter>(writer: &mut W, bytes: &[u8]) -> Result<(), DeviceFault>
+pub(crate) fn write_all<W: ByteWriter>(writer: &mut W, bytes: &[u8]) -> Result<(), DeviceFault>
     ensures ok { OnOk result (Appends (W.contents writer.old) (W.contents writer.new) bytes.now) }
     ensures part { OnErr result (AppendsPart (W.contents writer.old) (W.contents writer.new) bytes.now) }
     ensures failed { OnErr result (W.has_failed writer.new ≡ true) }

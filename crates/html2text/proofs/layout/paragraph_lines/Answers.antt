@@ -2,7 +2,7 @@ use Rattle.std.proofs.Common.{◌≡◌, Err, false, [], map, ap, rules}
 use Rattle.std.proofs.lemmas.Result.{err_from_is_err_and}
 use Rattle.html2text.specs.Errors.{error_of_block}
 use Rattle.html2text.specs.declared.error.Error.TheVariants.{TooNarrow}
-use Rattle.html2text.proofs.ParagraphLinesLemmas.{block_narrow, wider_text, paragraph_laid, paragraph_within}
+use Rattle.html2text.proofs.ParagraphLinesLemmas.{block_narrow, wider_text, paragraph_laid}
 use Rattle.html2text.proofs.layout.paragraph_lines.Goals as goal
 
 pub returns-in_err-add_text-clause-narrow : goal.returns-in_err-add_text-clause-narrow
@@ -19,5 +19,4 @@ returns-clause-lines c =
 
 pub returns-clause-within : goal.returns-clause-within
 returns-clause-within c =
-    paragraph_within _ c.args.width c.in_ok-into_lines.field-0.items
-    (c.in_ok-into_lines.ensures.within c.args.width _ (c.in_ok-add_text.ensures.read c.args.width false [] c.new-block.ensures.read) (search rules))
+    c.in_ok-into_lines.ensures.within c.args.width _ (c.in_ok-add_text.ensures.read c.args.width false [] c.new-block.ensures.read) (search rules)

@@ -1,7 +1,7 @@
-use Rattle.std.proofs.Common.{[], ◌∷◌, codes, refl, inl, inr, arith}
+use Rattle.std.proofs.Common.{◌≡◌, ℕ, List, [], ◌∷◌, ◌++◌, codes, refl, ap, ◌∙◌, inl, inr, arith}
 use Rattle.html2text.specs.PageText.{IsCutAt}
 use Rattle.html2text.specs.ParagraphPage.{IsCharacter, IsText}
-use Rattle.html2text.proofs.ParagraphPageLemmas.{PageSoFar, PageSoFar-start, PageSoFar-paragraph, no_page-start}
+use Rattle.html2text.proofs.ParagraphPageLemmas.{PageSoFar, PageSoFar-start, PageSoFar-paragraph, no_page-start, no_page-text}
 use Rattle.html2text.proofs.paragraphs.paragraph_page_rows.Goals as goal
 
 letter_a : IsCharacter (codes "a") 97
@@ -42,3 +42,21 @@ read =
 
 pub returns-clause-no_list : goal.returns-clause-no_list
 returns-clause-no_list c = no_page-start _ _ _ read (λ e. cc) (λ inner e. cc)
+
+same_first : (a b : ℕ) (xs ys : List ℕ) → a ∷ xs ≡ b ∷ ys → a ≡ b
+same_first a b xs ys e = cc
+
+-- a NUL is no text
+no_nul : (text : List ℕ) → IsText (0 ∷ []) text → ⊥
+no_nul [] h = let bad : 0 ∷ [] ≡ [] = h in cc
+no_nul (c ∷ cs) h =
+    elim h.3 as (λ _. ⊥) [
+      inl k ↦ k.3 (let whole : 0 ∷ [] ≡ c ∷ h.1 = h.2 ∙ ap (λ f. f ++ h.1) k.0 in cc)
+      | inr k ↦ let same = same_first 0 38 [] (k.0 ++ h.1) (h.2 ∙ ap (λ f. f ++ h.1) k.1) in omega (arith, same)
+    ]
+
+pub returns-clause-nul : goal.returns-clause-nul
+returns-clause-nul c =
+    let page = codes "<p>" ++ 0 ∷ codes "</p>" in
+    let cut : IsCutAt 60 (0 ∷ codes "</p>") (0 ∷ []) (codes "/p>") = record { whole = refl; lacks = ((λ e. omega arith), tt) } in
+    no_page-text page [] page (0 ∷ codes "</p>") (0 ∷ []) (codes "/p>") (PageSoFar-start page [] refl) refl cut no_nul

@@ -1,0 +1,32 @@
+//! HTML to wrapped text: decoding, page text, the paragraphs of a page, their layout, and what the program `html2text`
+//! does with them.
+#![tactic(auto)]
+
+mod config;
+mod decoder;
+mod error;
+mod laws;
+mod layout;
+mod page_text;
+mod paragraphs;
+mod reading;
+mod response;
+mod rows;
+mod words;
+mod writing;
+
+pub use config::{Config, from_read};
+pub use decoder::Utf8LossyDecoder;
+pub use error::Error;
+pub use html_lexemes::{
+    ByteReader, ByteWriter, Device, DeviceFault, ParseFault, ReferenceTable, TableError,
+};
+pub use laws::one_answer;
+pub use layout::PlainLine;
+pub use paragraphs::one_list;
+pub use response::{carry_out, respond};
+pub use text_block_renderer::{
+    PlainDecorator, TaggedLine, TaggedLineElement, TaggedString, TooNarrow,
+};
+pub use words::{Outcome, Request, WordFault, exit_status, read_words, request_of};
+pub use writing::run;

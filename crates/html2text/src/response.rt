@@ -1,0 +1,215 @@
+//! What the program answers to a command line: which text goes where, and its exit status.
+
+ghost use Rattle.std.specs.Prelude.{◌≡◌, ◌≢◌, ℕ, ◌+◌, ◌<◌, ◌⊎◌, ◌||◌, List, Option, true, false, Err, IfErr, IfOk, IfSome, IsOk, OnErr, OnOk, map, string_bytes};
+ghost use Rattle.std.specs.Io.KnownBytes.{Appends};
+ghost use Rattle.html_lexemes.specs.KnownPart.{AppendsPart};
+ghost use Rattle.html2text.specs.CommandWords.{words_behind_name};
+ghost use Rattle.html2text.specs.Errors.{error_text};
+ghost use Rattle.html2text.specs.Responses.{IsAskedRefusal, IsOutcomeOf, IsRefusal, Tells, WritesAnswer, WritesAnswerPart, WritesAsked, WritesAskedPart, complaint, fault_text};
+ghost use Rattle.html2text.specs.WordFaults.{IsRefusedWith};
+ghost use Rattle.html2text.specs.Written.{WritesPage, WritesPart};
+
+use crate::config::Config;
+use crate::error::Error;
+use crate::words::{Outcome, Request, WordFault, exit_status, request_of};
+use crate::writing::{run, write_all};
+use html_lexemes::{ByteReader, ByteWriter, DeviceFault, ReferenceTable};
+use std::alloc::Global;
+use std::io;
+
+/// Answers a command line, the program's name first, and gives the exit status: 0 where the text of the page that `input`
+/// gives was written to `output` and passed on, or the help was; 1 where the page was refused, or a device failed; 2 where
+/// the words were refused. Each fault is one text on `errors`, behind `html2text: `; where `errors` fails there is nobody
+/// left to tell.
+pub fn respond<R: ByteReader, W: ByteWriter, E: ByteWriter>(
+    alloc: Global,
+    words: io::Result<Vec<String>>,
+    input: &mut R,
+    output: &mut W,
+    errors: &mut E,
+) -> u8
+    ensures statuses { (result ≡ 0) ⊎ (result ≡ 1) ⊎ (result ≡ 2) }
+
+    // All that was asked for was written and passed on, and nothing is wrong.
+    ensures done { result ≡ 0 → IfOk words (λ all. WritesAsked (words_behind_name (map string_bytes all.items))
+        (R.remaining input.old) (W.contents output.old) (W.contents output.new)) }
+    ensures had { result ≡ 0 → IsOk words }
+    ensures passed_on { result ≡ 0 → (W.has_failed output.new ≡ false) × (W.was_flushed output.new ≡ true) }
+    ensures silent { result ≡ 0 → errors.new ≡ errors.old }
+
+    // The page was refused, or a device failed: for this error, which is told.
+    ensures refused { result ≡ 1 → (error : Error)
+        × Tells (E.has_failed errors.new) (E.contents errors.old) (E.contents errors.new) (complaint (error_text error))
+        × IfOk words (λ all. IsAskedRefusal (words_behind_name (map string_bytes all.items)) (R.remaining input.old)
+            (R.has_failed input.new || W.has_failed output.new) (W.has_failed output.new) usize.MAX (R.count input.old) (R.count input.new) error) }
+    ensures read { result ≡ 1 → IsOk words }
+    ensures unwritten { result ≡ 1 → (output.new ≡ output.old) ⊎ ((W.has_failed output.new ≡ true)
+        × IfOk words (λ all. WritesAskedPart (words_behind_name (map string_bytes all.items)) (R.remaining input.old)
+            (W.contents output.old) (W.contents output.new))) }
+
+    // The words were refused: for this fault, which is told; nothing was read and nothing written.
+    ensures words { result ≡ 2 → (fault : WordFault)
+        × Tells (E.has_failed errors.new) (E.contents errors.old) (E.contents errors.new) (complaint (fault_text fault))
+        × IsRefusedWith words fault }
+    ensures unread { result ≡ 2 → (input.new ≡ input.old) × (output.new ≡ output.old) }
+{
+    let request = request_of(alloc, words);
+    let outcome = carry_out(alloc, request, input, output, errors);
+    exit_status(&outcome)
+}
+
+/// Does what words ask for, or tells what is wrong with them: writes the text of the page that `input` gives, or the help,
+/// to `output`, and each fault to `errors`, behind `html2text: `.
+pub fn carry_out<R: ByteReader, W: ByteWriter, E: ByteWriter>(
+    alloc: Global,
+    request: Result<Request, WordFault>,
+    input: &mut R,
+    output: &mut W,
+    errors: &mut E,
+) -> Outcome
+    ensures outcomes { IsOutcomeOf request result }
+
+    // What was asked for was written and passed on, and nothing is wrong.
+    ensures done { result ≡ Outcome.Done → WritesAnswer request (R.remaining input.old) (W.contents output.old) (W.contents output.new) }
+    ensures passed_on { result ≡ Outcome.Done → (W.has_failed output.new ≡ false) × (W.was_flushed output.new ≡ true) }
+    ensures silent { result ≡ Outcome.Done → errors.new ≡ errors.old }
+
+    // The page was refused for this error, or a device failed.
+    ensures told { (error : Error) → result ≡ Outcome.Page error
+        → Tells (E.has_failed errors.new) (E.contents errors.old) (E.contents errors.new) (complaint (error_text error)) }
+    ensures reason { (error : Error) → result ≡ Outcome.Page error → IfOk request (λ asked. IsRefusal asked.width (R.remaining input.old)
+        (R.has_failed input.new || W.has_failed output.new) usize.MAX (R.count input.old) (R.count input.new) error) }
+    ensures unwritten { (error : Error) → result ≡ Outcome.Page error → (output.new ≡ output.old)
+        ⊎ ((W.has_failed output.new ≡ true)
+            × WritesAnswerPart request (R.remaining input.old) (W.contents output.old) (W.contents output.new)) }
+    ensures unhelped { (error : Error) → result ≡ Outcome.Page error → IfErr request (λ _. W.has_failed output.new ≡ true) }
+
+    // The words were refused.
+    ensures words { result ≡ Outcome.Words → IfErr request (λ fault.
+        Tells (E.has_failed errors.new) (E.contents errors.old) (E.contents errors.new) (complaint (fault_text fault))) }
+    ensures unread { result ≡ Outcome.Words → (input.new ≡ input.old) × (output.new ≡ output.old) }
+{
+    match request {
+        Ok(request) => show_page(alloc, request.width, input, output, errors),
+        Err(fault) => tell_fault(&fault, output, errors),
+    }
+}
+
+/// Writes the page's text, or tells why there is none.
+fn show_page<R: ByteReader, W: ByteWriter, E: ByteWriter>(
+    alloc: Global,
+    width: usize,
+    input: &mut R,
+    output: &mut W,
+    errors: &mut E,
+) -> Outcome
+    ensures outcomes { (result ≡ Outcome.Done) ⊎ ((error : Error) × (result ≡ Outcome.Page error)) }
+    ensures done { result ≡ Outcome.Done → IfSome (R.remaining input.old) (λ bytes. WritesPage width bytes (W.contents output.old) (W.contents output.new)) }
+    ensures passed_on { result ≡ Outcome.Done → (W.has_failed output.new ≡ false) × (W.was_flushed output.new ≡ true) }
+    ensures silent { result ≡ Outcome.Done → errors.new ≡ errors.old }
+    ensures told { (error : Error) → result ≡ Outcome.Page error
+        → Tells (E.has_failed errors.new) (E.contents errors.old) (E.contents errors.new) (complaint (error_text error)) }
+    ensures reason { (error : Error) → result ≡ Outcome.Page error → IsRefusal width (R.remaining input.old)
+        (R.has_failed input.new || W.has_failed output.new) usize.MAX (R.count input.old) (R.count input.new) error }
+    ensures unwritten { (error : Error) → result ≡ Outcome.Page error → (output.new ≡ output.old)
+        ⊎ ((W.has_failed output.new ≡ true) × IfSome (R.remaining input.old) (λ bytes. WritesPart width bytes (W.contents output.old) (W.contents output.new))) }
+{
+    match write_page(alloc, width, input, output) {
+        Ok(()) => Outcome::Done,
+        Err(error) => {
+            complain(errors, error.text());
+            Outcome::Page(error)
+        }
+    }
+}
+
+/// Writes the help that was asked for, or tells what is wrong with the words.
+fn tell_fault<W: ByteWriter, E: ByteWriter>(fault: &WordFault, output: &mut W, errors: &mut E) -> Outcome
+    ensures outcomes { IsOutcomeOf (Err fault.now) result }
+    ensures done { (bytes : Option (List ℕ)) → result ≡ Outcome.Done → WritesAnswer (Err fault.now) bytes (W.contents output.old) (W.contents output.new) }
+    ensures passed_on { result ≡ Outcome.Done → (W.has_failed output.new ≡ false) × (W.was_flushed output.new ≡ true) }
+    ensures silent { result ≡ Outcome.Done → errors.new ≡ errors.old }
+    ensures told { (error : Error) → result ≡ Outcome.Page error
+        → Tells (E.has_failed errors.new) (E.contents errors.old) (E.contents errors.new) (complaint (error_text error)) }
+    ensures unwritten { (error : Error) (bytes : Option (List ℕ)) → result ≡ Outcome.Page error → (W.has_failed output.new ≡ true)
+        × WritesAnswerPart (Err fault.now) bytes (W.contents output.old) (W.contents output.new) }
+    ensures words { result ≡ Outcome.Words → Tells (E.has_failed errors.new) (E.contents errors.old) (E.contents errors.new) (complaint (fault_text fault.now)) }
+    ensures unread { result ≡ Outcome.Words → output.new ≡ output.old }
+{
+    match fault {
+        WordFault::Help(text) => show_help(text.as_str(), output, errors),
+        WordFault::Words(_) | WordFault::NotUtf8 | WordFault::Memory => {
+            complain(errors, fault.text());
+            Outcome::Words
+        }
+    }
+}
+
+/// Writes the help, or tells that its writer failed.
+fn show_help<W: ByteWriter, E: ByteWriter>(text: &str, output: &mut W, errors: &mut E) -> Outcome
+    ensures outcomes { (result ≡ Outcome.Done) ⊎ (result ≡ Outcome.Page Error.IoError) }
+    ensures done { result ≡ Outcome.Done → Appends (W.contents output.old) (W.contents output.new) text.now }
+    ensures passed_on { result ≡ Outcome.Done → (W.has_failed output.new ≡ false) × (W.was_flushed output.new ≡ true) }
+    ensures silent { result ≡ Outcome.Done → errors.new ≡ errors.old }
+    ensures told { (error : Error) → result ≡ Outcome.Page error
+        → Tells (E.has_failed errors.new) (E.contents errors.old) (E.contents errors.new) (complaint (error_text error)) }
+    ensures unwritten { (error : Error) → result ≡ Outcome.Page error → (W.has_failed output.new ≡ true)
+        × AppendsPart (W.contents output.old) (W.contents output.new) text.now }
+{
+    match write_through(output, text.as_bytes()) {
+        Ok(()) => Outcome::Done,
+        Err(DeviceFault) => {
+            complain(errors, Error::IoError.text());
+            Outcome::Page(Error::IoError)
+        }
+    }
+}
+
+/// Writes the lines of the page, and passes them on.
+fn write_page<R: ByteReader, W: ByteWriter>(
+    alloc: Global,
+    width: usize,
+    input: &mut R,
+    output: &mut W,
+) -> Result<(), Error>
+    ensures written { OnOk result (IfSome (R.remaining input.old) (λ bytes. WritesPage width bytes (W.contents output.old) (W.contents output.new))) }
+    ensures passed_on { OnOk result ((W.has_failed output.new ≡ false) × (W.was_flushed output.new ≡ true)) }
+    ensures reason { IfErr result (IsRefusal width (R.remaining input.old)
+        (R.has_failed input.new || W.has_failed output.new) usize.MAX (R.count input.old) (R.count input.new)) }
+    ensures unwritten { OnErr result ((output.new ≡ output.old) ⊎ ((W.has_failed output.new ≡ true)
+        × IfSome (R.remaining input.old) (λ bytes. WritesPart width bytes (W.contents output.old) (W.contents output.new)))) }
+{
+    let config = Config::plain(ReferenceTable::basic(alloc)?);
+    run(alloc, input, output, config, width)?;
+    output.flush()?;
+    Ok(())
+}
+
+/// Writes the bytes, and passes them on.
+fn write_through<W: ByteWriter>(output: &mut W, bytes: &[u8]) -> Result<(), DeviceFault>
+    ensures ok { OnOk result (Appends (W.contents output.old) (W.contents output.new) bytes.now) }
+    ensures passed_on { OnOk result ((W.has_failed output.new ≡ false) × (W.was_flushed output.new ≡ true)) }
+    ensures part { OnErr result (AppendsPart (W.contents output.old) (W.contents output.new) bytes.now) }
+    ensures failed { OnErr result (W.has_failed output.new ≡ true) }
+{
+    write_all(output, bytes)?;
+    output.flush()
+}
+
+/// Tells what is wrong.
+fn complain<E: ByteWriter>(errors: &mut E, text: &str)
+    ensures { Tells (E.has_failed errors.new) (E.contents errors.old) (E.contents errors.new) (complaint text.now) }
+{
+    // Where it can't be told there is nobody left to tell.
+    let _ = write_complaint(errors, text);
+}
+
+fn write_complaint<E: ByteWriter>(errors: &mut E, text: &str) -> Result<(), DeviceFault>
+    ensures ok { OnOk result (Appends (E.contents errors.old) (E.contents errors.new) (complaint text.now)) }
+    ensures part { OnErr result (AppendsPart (E.contents errors.old) (E.contents errors.new) (complaint text.now)) }
+    ensures failed { OnErr result (E.has_failed errors.new ≡ true) }
+{
+    write_all(errors, b"html2text: ")?;
+    write_all(errors, text.as_bytes())?;
+    write_through(errors, b"\n")
+}
