@@ -1,6 +1,6 @@
 use Rattle.std.proofs.Common.{◌≡◌, false, take, [], string_bytes, flat_map}
 use Rattle.html2text.proofs.DecoderReads.{HasRead}
-use Rattle.html2text.proofs.decoder.decoded_text.Given as goal
+use Rattle.page_rows.proofs.decoded.decoded_text.Given as goal
 
 abbrev pub invariant-loop-piece : goal.invariant-loop-piece
 invariant-loop-piece l =

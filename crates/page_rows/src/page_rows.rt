@@ -1,73 +1,12 @@
 //! Pages from outside, through the public calls. Readers and writers are in memory.
-use crate::{Config, Error, from_read, run};
-use html_lexemes::{Device, ReferenceTable};
+use crate::devices::{Faltering, Full, Pieces};
+use html2text::{Config, Device, Error, PlainDecorator, ReferenceTable, from_read, one_answer, run};
 use std::alloc::Global;
 use std::io;
-use std::io::{ErrorKind, Read, Write};
+use std::io::Read;
 use std::test::Fail;
 
-/// Gives its bytes a few at a time.
-#[derive(Drop)]
-struct Pieces<'a> {
-    bytes: &'a [u8],
-    most: usize,
-}
-
-impl Read for Pieces<'_> {
-    fn read(&mut self, buf: &mut [u8]) -> io::Result<usize> {
-        let most = buf.len().min(self.most);
-        (&mut self.bytes).read(&mut buf[..most])
-    }
-}
-
-/// Gives its bytes a few at a time, and fails where none is left or the count of reads is used up.
-#[derive(Drop)]
-struct Faltering<'a> {
-    bytes: &'a [u8],
-    most: usize,
-    reads: usize,
-}
-
-impl Read for Faltering<'_> {
-    fn read(&mut self, buf: &mut [u8]) -> io::Result<usize> {
-        if self.bytes.is_empty() || self.reads == 0 {
-            return Err(io::Error::from(ErrorKind::Interrupted));
-        }
-        self.reads -= 1;
-        let most = buf.len().min(self.most);
-        (&mut self.bytes).read(&mut buf[..most])
-    }
-}
-
-/// Takes bytes while the count of writes lasts, and then fails, or takes none.
-#[derive(Drop)]
-struct Full {
-    taken: Vec<u8>,
-    most: usize,
-    writes: usize,
-    takes_none: bool,
-}
-
-impl Write for Full {
-    fn write(&mut self, buf: &[u8]) -> io::Result<usize> {
-        if self.writes == 0 {
-            if self.takes_none {
-                return Ok(0);
-            }
-            return Err(io::Error::from(ErrorKind::WriteZero));
-        }
-        self.writes -= 1;
-        let taken = buf.len().min(self.most);
-        self.taken.extend_from_slice(&buf[..taken])?;
-        Ok(taken)
-    }
-
-    fn flush(&mut self) -> io::Result<()> {
-        Ok(())
-    }
-}
-
-fn plain(alloc: Global) -> Result<Config<text_block_renderer::PlainDecorator>, Error> {
+fn plain(alloc: Global) -> Result<Config<PlainDecorator>, Error> {
     Ok(Config::plain(ReferenceTable::basic(alloc)?))
 }
 
@@ -77,11 +16,11 @@ fn text_of(alloc: Global, bytes: &[u8], most: usize, width: usize) -> Result<Str
     from_read(alloc, &mut input, width, ReferenceTable::basic(alloc)?)
 }
 
-const FIRST_PAGE: &[u8] = b"<p>Hello, world.  Superlongwordreally</p>";
+pub(crate) const FIRST_PAGE: &[u8] = b"<p>Hello, world.  Superlongwordreally</p>";
 
-const FIRST_TEXT: &str = "Hello,\nworld.\nSuperlon\ngwordrea\nlly\n";
+pub(crate) const FIRST_TEXT: &str = "Hello,\nworld.\nSuperlon\ngwordrea\nlly\n";
 
-static PAGES: [(usize, &[u8], Result<&str, Error>); 27] = [
+static PAGES: [(usize, &[u8], Result<&str, Error>); 42] = [
     (8, FIRST_PAGE, Ok(FIRST_TEXT)),
     (20, b"<p>caf\xC3\xA9</p>", Ok("caf\u{e9}\n")),
     (20, b"<p>a\xFFb</p>", Ok("a\u{fffd}b\n")),
@@ -117,6 +56,21 @@ static PAGES: [(usize, &[u8], Result<&str, Error>); 27] = [
     (0, b"Hello", Err(Error::Fail)),
     (20, b"<p></p><p>x</p><p></p><p>y</p>", Ok("x\n\n\ny\n")),
     (20, b"<p>\xCC\x81</p><p>a</p>", Ok("\u{301}\n\na\n")),
+    (20, b"\xEF\xBB\xBF\xEF\xBB\xBF<p>a</p>", Err(Error::Fail)),
+    (20, b"<p>a\xEF\xBB\xBFb</p>", Ok("a\u{feff}b\n")),
+    (20, b"<p>\xF0\x80</p>", Ok("\u{fffd}\u{fffd}\n")),
+    (20, b"<p>\xF4\x90</p>", Ok("\u{fffd}\u{fffd}\n")),
+    (20, b"<p>a\n b></p><p></p>", Ok("a b>\n\n")),
+    (20, b"<p>&quot;&nbsp;\xC3\xA9&quot;</p>", Ok("\"\u{a0}\u{e9}\"\n")),
+    (5, b"<p>a\x07b cd</p>", Ok("ab cd\n")),
+    (20, b" ", Err(Error::Fail)),
+    (20, b"<p>a</p></p>", Err(Error::Fail)),
+    (20, b"<p>a<b</p>", Err(Error::Fail)),
+    (20, b"<P>a</P>", Err(Error::Fail)),
+    (20, b"<p class=x>a</p>", Err(Error::Fail)),
+    (20, b"<p>&amp</p>", Err(Error::Fail)),
+    (20, b"<p>a & b</p>", Err(Error::Fail)),
+    (20, b"<p>\0</p>", Err(Error::Fail)),
 ];
 
 #[test]
@@ -286,6 +240,12 @@ fn errors_are_told(rt: HostRuntime) -> Result<(), Fail> {
     ];
     for (error, wanted) in texts {
         assert_eq!(rt; error.to_string(rt.alloc())?.as_str(), wanted);
+        assert_eq!(rt; error.text(), wanted);
     }
     Ok(())
+}
+
+#[test]
+fn a_page_has_one_answer() {
+    one_answer();
 }

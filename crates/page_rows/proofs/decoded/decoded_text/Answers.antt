@@ -4,7 +4,7 @@ use Rattle.std.proofs.lemmas.List.{take_more, flat_map_more}
 use Rattle.std.proofs.lemmas.Str.{IsUtf8-string_bytes}
 use Rattle.html2text.specs.ReplacedText.{replaced_text}
 use Rattle.html2text.proofs.DecoderReads.{HasRead-piece, chars-last}
-use Rattle.html2text.proofs.decoder.decoded_text.Goals as goal
+use Rattle.page_rows.proofs.decoded.decoded_text.Goals as goal
 
 pub loop-piece-preserved : goal.loop-piece-preserved
 loop-piece-preserved c =

@@ -1,0 +1,92 @@
+//! Bytes in two pieces and their text, by the decoder.
+use crate::decoded_text;
+use html2text::{ParseFault, Utf8LossyDecoder};
+use std::process::Abort;
+use std::test::Fail;
+
+// Bytes in two pieces and their text: the rows of the Unicode Standard's Tables 3-8 to 3-11 among them.
+const ROWS: [(&[u8], &[u8], &str); 15] = [
+    (b"", b"", ""),
+    (b"\xF0\x9F\x98", b"", "\u{FFFD}"),
+    (b"\xF0\x9F", b"\x98\x80!", "\u{1F600}!"),
+    (b"\xF0\x9F\x98", b"A", "\u{FFFD}A"),
+    (b"\xE0", b"\x80", "\u{FFFD}\u{FFFD}"),
+    (b"\xF0", b"\x80", "\u{FFFD}\u{FFFD}"),
+    (b"\xF4", b"\x90", "\u{FFFD}\u{FFFD}"),
+    (b"\xED\xA0", b"\x80", "\u{FFFD}\u{FFFD}\u{FFFD}"),
+    (b"caf\xC3", b"\xA9", "caf\u{E9}"),
+    (b"a\xFF", b"b", "a\u{FFFD}b"),
+    (
+        b"\xC0\xAF\xE0\x80\xBF",
+        b"\xF0\x81\x82A",
+        "\u{FFFD}\u{FFFD}\u{FFFD}\u{FFFD}\u{FFFD}\u{FFFD}\u{FFFD}\u{FFFD}A",
+    ),
+    (
+        b"\xED\xA0\x80\xED\xBF\xBF\xED",
+        b"\xAFA",
+        "\u{FFFD}\u{FFFD}\u{FFFD}\u{FFFD}\u{FFFD}\u{FFFD}\u{FFFD}\u{FFFD}A",
+    ),
+    (
+        b"\xF4\x91\x92\x93\xFFA\x80",
+        b"\xBFB",
+        "\u{FFFD}\u{FFFD}\u{FFFD}\u{FFFD}\u{FFFD}A\u{FFFD}\u{FFFD}B",
+    ),
+    (
+        b"\xE1\x80\xE2\xF0\x91",
+        b"\x92\xF1\xBFA",
+        "\u{FFFD}\u{FFFD}\u{FFFD}\u{FFFD}A",
+    ),
+    (
+        b"a\xF1\x80\x80\xE1\x80\xC2b\x80c\x80",
+        b"\xBFd",
+        "a\u{FFFD}\u{FFFD}\u{FFFD}b\u{FFFD}c\u{FFFD}\u{FFFD}d",
+    ),
+];
+
+#[test]
+fn replaces_in_two_pieces(rt: HostRuntime) -> Result<(), Fail> {
+    let alloc = rt.alloc();
+    for (first, second, want) in ROWS {
+        let pieces = vec![in alloc; first.to_vec(alloc)?, second.to_vec(alloc)?]?;
+        let text = decoded_text(alloc, &pieces)?;
+        assert_eq!(rt; text.as_str(), want, "{first:?} {second:?}");
+    }
+    Ok(())
+}
+
+// The text of the bytes pushed one by one; after a refusal the decoder answers no more.
+fn text_of_single_bytes(
+    rt: &(impl AllocGlobal + Abort),
+    bytes: &[u8],
+) -> Result<String, ParseFault> {
+    let mut decoder = Utf8LossyDecoder::new();
+    let mut text = String::new(rt.alloc());
+    for byte in bytes {
+        match decoder.push(rt.alloc(), &[*byte]) {
+            Ok(part) => text.push_str(part.as_str())?,
+            Err(fault) => {
+                let later = decoder.push(rt.alloc(), b"A");
+                assert_eq!(rt; later.err(), Some(ParseFault::Failed));
+                let last = decoder.finish(rt.alloc());
+                assert_eq!(rt; last.err(), Some(ParseFault::Failed));
+                return Err(fault);
+            }
+        }
+    }
+    text.push_str(decoder.finish(rt.alloc())?.as_str())?;
+    Ok(text)
+}
+
+// It holds where memory is refused, too, as under `rt try --test --fail-alloc`.
+#[test]
+fn replaces_in_single_bytes_or_refuses(rt: HostRuntime) {
+    for (first, second, want) in ROWS {
+        let Ok(bytes) = [first, second].concat(rt.alloc()) else {
+            continue;
+        };
+        match text_of_single_bytes(&rt, &bytes) {
+            Ok(text) => assert_eq!(rt; text.as_str(), want, "{bytes:?}"),
+            Err(fault) => assert_eq!(rt; fault, ParseFault::Memory, "{bytes:?}"),
+        }
+    }
+}
