@@ -3,7 +3,8 @@
 # nothing, say that memory ran out, and end with status 1 (the page) or 2 (the words).
 set -eu
 here=$(cd "$(dirname "$0")" && pwd)
-crate=$here/../crates/html2text
+crate=$here/../crates/html2text_program
+rows=$here/../crates/page_rows
 (cd "$crate" && rt run -- --width 8 <stdin >/dev/null 2>&1)
 room=$(mktemp -d)
 trap 'rm -rf "$room"' EXIT
@@ -11,7 +12,7 @@ cc -shared -fPIC -o "$room/refuse.so" "$here/refuse.c" -ldl
 whole=0 memory=0 other=0
 for number in $(seq 1 400); do
   status=0
-  REFUSE=$number LD_PRELOAD=$room/refuse.so "$crate/out/html2text" --width 8 <"$crate/stdin" >"$room/out" 2>"$room/err" || status=$?
+  REFUSE=$number LD_PRELOAD=$room/refuse.so "$crate/out/html2text_program" --width 8 <"$crate/stdin" >"$room/out" 2>"$room/err" || status=$?
   if [ "$status" = 0 ] && cmp -s "$room/out" "$crate/stdout"; then
     whole=$((whole + 1))
   elif [ ! -s "$room/out" ] && grep -q 'out of memory' "$room/err"; then
@@ -21,11 +22,11 @@ for number in $(seq 1 400); do
     echo "request $number: status $status, $(head -c 200 "$room/err")"
   fi
 done
-(cd "$crate" && rt test >/dev/null 2>&1)
-for test in tests::a_refused_growth_is_told words::tests::reads_lines_or_refuses decoder::tests::replaces_in_single_bytes_or_refuses; do
+(cd "$rows" && rt test >/dev/null 2>&1)
+for test in page_rows::a_refused_growth_is_told word_rows::reads_lines_or_refuses decoder_rows::replaces_in_single_bytes_or_refuses; do
   failed=0
   for number in $(seq 1 250); do
-    REFUSE=$number LD_PRELOAD=$room/refuse.so "$crate/out/html2text_tests" "$test" >"$room/out" 2>&1 || failed=$((failed + 1))
+    REFUSE=$number LD_PRELOAD=$room/refuse.so "$rows/out/page_rows_tests" "$test" >"$room/out" 2>&1 || failed=$((failed + 1))
   done
   echo "$test: $failed of 250 failed"
 done

@@ -2,8 +2,8 @@
 # Times the built program on pages of several sizes, to show that the time grows in step with the input.
 set -eu
 here=$(cd "$(dirname "$0")" && pwd)
-(cd "$here/../crates/html2text" && rt run -- --width 8 <stdin >/dev/null 2>&1)
-program=$here/../crates/html2text/out/html2text
+(cd "$here/../crates/html2text_program" && rt run -- --width 8 <stdin >/dev/null 2>&1)
+program=$here/../crates/html2text_program/out/html2text_program
 room=$(mktemp -d)
 trap 'rm -rf "$room"' EXIT
 for size in 1 2 4 8 10; do

@@ -21,7 +21,8 @@ abbrev pub IsWritten : Item → Type 0
 IsWritten (apart value) = starts_with_minus value ≡ false
 IsWritten (joined value) = ⊤
 
--- the value is decimal digits, behind a sign or none, and says a number from 0 to the most in 32 bits: `+8` says 8, and `-0` says 0
+-- the value is decimal digits, behind a sign or none, and says a number from 0 to the most in 32 bits: `+8` says 8, and
+-- `-0` says 0
 abbrev pub Says : List ℕ → ℕ → Type 0
 Says value n = IsNumeral 10 (without_leading_sign value) × (signed_digits_value 10 value ≡ pos n) × (n < 2 ^ 32)
 
@@ -48,9 +49,11 @@ pub record Asks (words : List (List ℕ)) (width : ℕ) : Type 0 where
 
 -- `--help`, or a hyphen and then `h` (104), with more characters behind it or none, which are not read
 abbrev pub IsHelpWord : List ℕ → Type 0
-IsHelpWord word = (word ≡ codes "--help") ⊎ ((flags : List ℕ) × (word ≡ codes "-" ++ flags) × (slice_get (chars flags) 0 ≡ Some 104))
+IsHelpWord word =
+    (word ≡ codes "--help") ⊎ ((flags : List ℕ) × (word ≡ codes "-" ++ flags) × (slice_get (chars flags) 0 ≡ Some 104))
 
--- the words are those of a line without its ending, then one that asks for help, and then any others, which are not read
+-- the words are those of a line without its ending, then one that asks for help, and then any others, which are not
+-- read
 pub record AsksHelp (words : List (List ℕ)) : Type 0 where
   pub item : Option Item
   pub width : ℕ

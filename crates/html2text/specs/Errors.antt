@@ -24,8 +24,8 @@ error_of_block blocks.TooNarrow = errors.TooNarrow
 error_of_block blocks.Memory = errors.Memory
 error_of_block blocks.Failed = errors.Fail
 
--- Lines, or that the page or its width is refused: what is answered of a whole page that was read, and not of a fault, a
--- page too long or want of memory.
+-- Lines, or that the page or its width is refused: what is answered of a whole page that was read, and not of a fault,
+-- a page too long or want of memory.
 abbrev pub IsAnswer : {T : Type 0} → Result T Error → Type 0
 IsAnswer (Ok lines) = Unit {0}
 IsAnswer (Err errors.TooNarrow) = Unit {0}

@@ -76,10 +76,11 @@ pub record HasPageText (width : ℕ) (bytes text : List ℕ) : Type 0 where
 abbrev pub FitsWidth : {S : Type 0} → ℕ → List (Item S) → Type 0
 FitsWidth width line = line_columns line ≤ width
 
--- Of the same bytes and width there is at most one list of lines, and it, a width that is too narrow and a page of another
--- kind exclude one another.
+-- Of the same bytes and width there is at most one list of lines, and it, a width that is too narrow and a page of
+-- another kind exclude one another.
 pub record IsOneAnswer (width : ℕ) (bytes : List ℕ) : Type 0 where
-  pub one : (lines others : List PlainItems) → ArePageLines width bytes lines → ArePageLines width bytes others → lines ≡ others
+  pub one : (lines others : List PlainItems) → ArePageLines width bytes lines → ArePageLines width bytes others
+      → lines ≡ others
   pub wide : (lines : List PlainItems) → ArePageLines width bytes lines → IsTooNarrowPage width bytes → ⊥
   pub page : (lines : List PlainItems) → ArePageLines width bytes lines → IsOtherPage bytes → ⊥
   pub narrow : IsTooNarrowPage width bytes → IsOtherPage bytes → ⊥

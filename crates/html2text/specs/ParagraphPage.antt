@@ -20,7 +20,8 @@ IsCharacter source c = ((source ≡ c ∷ []) × (c ≢ 60) × (c ≢ 38) × (c 
 -- A text as it is written: its characters, one behind the other.
 abbrev pub IsText : List ℕ → List ℕ → Type 0
 IsText source [] = source ≡ []
-IsText source (c ∷ cs) = (first : List ℕ) × (rest : List ℕ) × (source ≡ first ++ rest) × IsCharacter first c × IsText rest cs
+IsText source (c ∷ cs) =
+    (first : List ℕ) × (rest : List ℕ) × (source ≡ first ++ rest) × IsCharacter first c × IsText rest cs
 
 abbrev pub start_tag : List ℕ
 start_tag = codes "<p>"
@@ -32,8 +33,10 @@ end_tag = codes "</p>"
 abbrev pub IsParagraphPage : List ℕ → List (List ℕ) → Type 0
 IsParagraphPage page [] = page ≡ []
 IsParagraphPage page (text ∷ texts) =
-    (source : List ℕ) × (rest : List ℕ) × (page ≡ start_tag ++ (source ++ (end_tag ++ rest))) × IsText source text × IsParagraphPage rest texts
+    (source : List ℕ) × (rest : List ℕ) × (page ≡ start_tag ++ (source ++ (end_tag ++ rest)))
+    × IsText source text × IsParagraphPage rest texts
 
 -- no two lists of texts are the page
 abbrev pub HasOneList : List ℕ → Type 0
-HasOneList page = (texts others : List (List ℕ)) → IsParagraphPage page texts → IsParagraphPage page others → texts ≡ others
+HasOneList page =
+    (texts others : List (List ℕ)) → IsParagraphPage page texts → IsParagraphPage page others → texts ≡ others

@@ -64,14 +64,16 @@ replacement = 0xFFFD
 
 -- what the first part stands for: the character that it encodes, or U+FFFD where it is ill-formed
 abbrev pub part_character : List ℕ → ℕ
-part_character bytes = if list_any (begins_with_row bytes) table then code_point (take (part_length bytes) bytes) else replacement
+part_character bytes =
+    if list_any (begins_with_row bytes) table then code_point (take (part_length bytes) bytes) else replacement
 
 -- The bytes, divided into parts from the front, of which there are at most as many as bytes: the text has one
 -- character a part.
 unfoldable pub text_of_parts : ℕ → List ℕ → List ℕ
 text_of_parts zero bytes = []
 text_of_parts (suc most) [] = []
-text_of_parts (suc most) (byte ∷ bytes) = part_character (byte ∷ bytes) ∷ text_of_parts most (drop (part_length (byte ∷ bytes)) (byte ∷ bytes))
+text_of_parts (suc most) (byte ∷ bytes) =
+    part_character (byte ∷ bytes) ∷ text_of_parts most (drop (part_length (byte ∷ bytes)) (byte ∷ bytes))
 
 -- The replaced text: each well-formed sequence as its character, each longest ill-formed part (a beginning of
 -- some well-formed sequence, else one byte) as one U+FFFD.

@@ -1,5 +1,5 @@
 -- What the program answers to a command line: what its writers gain, and its exit status.
-use Rattle.std.specs.Prelude.{◌≡◌, ◌≢◌, ℕ, ◌+◌, ◌<◌, ◌⊎◌, Bool, true, false, List, ◌++◌, Option, Result, Ok, Err, IfSome, codes, string_bytes, ⊤}
+use Rattle.std.specs.Prelude.{◌≡◌, ℕ, ◌+◌, ◌<◌, ◌⊎◌, Bool, true, List, ◌++◌, Option, Result, Ok, Err, IfSome, codes, string_bytes, ⊤}
 use Rattle.std.specs.Str.{trim_end}
 use Rattle.std.specs.Io.KnownBytes.{Appends}
 use Rattle.html_lexemes.specs.KnownPart.{AppendsPart}
@@ -16,6 +16,10 @@ use Rattle.html2text.specs.declared.words.Request.{Request}
 use Rattle.html2text.specs.declared.words.WordFault.{WordFault}
 use Rattle.html2text.specs.declared.words.WordFault.TheVariants as faults
 
+-- the bytes of a device, where they are known
+abbrev pub Bytes : Type 0
+Bytes = Option (List ℕ)
+
 -- a fault on standard error: the program's name, what is wrong, and a newline
 abbrev pub complaint : List ℕ → List ℕ
 complaint text = codes "html2text: " ++ (text ++ newline)
@@ -28,12 +32,16 @@ fault_text faults.NotUtf8 = codes "a word of the command line is not UTF-8"
 fault_text faults.Memory = error_text errors.Memory
 
 -- known bytes grow by these, or by a beginning of them where their writer has failed
-abbrev pub Tells : Bool → Option (List ℕ) → Option (List ℕ) → List ℕ → Type 0
+abbrev pub Tells : Bool → Bytes → Bytes → List ℕ → Type 0
 Tells failed old new bytes = Appends old new bytes ⊎ ((failed ≡ true) × AppendsPart old new bytes)
 
--- Why a page is refused at a width: by its bytes, where they are known; because a device has failed; or because more bytes
--- than a number counts were given, from before to after.
-abbrev pub IsRefusal : ℕ → Option (List ℕ) → Bool → ℕ → ℕ → ℕ → Error → Type 0
+-- the same, of a fault with this text
+abbrev pub Complains : Bool → Bytes → Bytes → List ℕ → Type 0
+Complains failed old new text = Tells failed old new (complaint text)
+
+-- Why a page is refused at a width: by its bytes, where they are known; because a device has failed; or because more
+-- bytes than a number counts were given, from before to after.
+abbrev pub IsRefusal : ℕ → Bytes → Bool → ℕ → ℕ → ℕ → Error → Type 0
 IsRefusal width bytes failed most before after errors.TooNarrow = IfSome bytes (IsTooNarrowPage width)
 IsRefusal width bytes failed most before after errors.Fail = IfSome bytes IsOtherPage
 IsRefusal width bytes failed most before after errors.IoError = failed ≡ true
@@ -49,7 +57,7 @@ IsOutcomeOf (Err faults.NotUtf8) outcome = outcome ≡ outcomes.Words
 IsOutcomeOf (Err faults.Memory) outcome = outcome ≡ outcomes.Words
 
 -- known bytes grow by what was asked for: the text of the page's lines, or the help
-abbrev pub WritesAnswer : Result Request WordFault → Option (List ℕ) → Option (List ℕ) → Option (List ℕ) → Type 0
+abbrev pub WritesAnswer : Result Request WordFault → Bytes → Bytes → Bytes → Type 0
 WritesAnswer (Ok request) bytes old new = IfSome bytes (λ page. WritesPage request.width page old new)
 WritesAnswer (Err (faults.Help text)) bytes old new = Appends old new (string_bytes text)
 WritesAnswer (Err (faults.Words text)) bytes old new = ⊥
@@ -57,7 +65,7 @@ WritesAnswer (Err faults.NotUtf8) bytes old new = ⊥
 WritesAnswer (Err faults.Memory) bytes old new = ⊥
 
 -- known bytes grow by a beginning of it
-abbrev pub WritesAnswerPart : Result Request WordFault → Option (List ℕ) → Option (List ℕ) → Option (List ℕ) → Type 0
+abbrev pub WritesAnswerPart : Result Request WordFault → Bytes → Bytes → Bytes → Type 0
 WritesAnswerPart (Ok request) bytes old new = IfSome bytes (λ page. WritesPart request.width page old new)
 WritesAnswerPart (Err (faults.Help text)) bytes old new = AppendsPart old new (string_bytes text)
 WritesAnswerPart (Err (faults.Words text)) bytes old new = ⊥
@@ -65,16 +73,21 @@ WritesAnswerPart (Err faults.NotUtf8) bytes old new = ⊥
 WritesAnswerPart (Err faults.Memory) bytes old new = ⊥
 
 -- the words ask for a page at a width, or for help; and known bytes grow by the text of its lines, or by a text
-pub data WritesAsked (words : List (List ℕ)) (bytes old new : Option (List ℕ)) : Type 0 where
-  page : (width : ℕ) → Asks words width → IfSome bytes (λ page. WritesPage width page old new) → WritesAsked words bytes old new
+pub data WritesAsked (words : List (List ℕ)) (bytes old new : Bytes) : Type 0 where
+  page : (width : ℕ) → Asks words width → IfSome bytes (λ page. WritesPage width page old new)
+      → WritesAsked words bytes old new
   help : (text : List ℕ) → AsksHelp words → Appends old new text → WritesAsked words bytes old new
 
 -- the same, by a beginning of it
-pub data WritesAskedPart (words : List (List ℕ)) (bytes old new : Option (List ℕ)) : Type 0 where
-  page : (width : ℕ) → Asks words width → IfSome bytes (λ page. WritesPart width page old new) → WritesAskedPart words bytes old new
+pub data WritesAskedPart (words : List (List ℕ)) (bytes old new : Bytes) : Type 0 where
+  page : (width : ℕ) → Asks words width → IfSome bytes (λ page. WritesPart width page old new)
+      → WritesAskedPart words bytes old new
   help : (text : List ℕ) → AsksHelp words → AppendsPart old new text → WritesAskedPart words bytes old new
 
 -- the words ask for a page at a width, and this is why it is refused; or for help, whose writer has failed
-pub data IsAskedRefusal (words : List (List ℕ)) (bytes : Option (List ℕ)) (failed writer_failed : Bool) (most before after : ℕ) (error : Error) : Type 0 where
-  page : (width : ℕ) → Asks words width → IsRefusal width bytes failed most before after error → IsAskedRefusal words bytes failed writer_failed most before after error
-  help : AsksHelp words → error ≡ errors.IoError → writer_failed ≡ true → IsAskedRefusal words bytes failed writer_failed most before after error
+pub data IsAskedRefusal (words : List (List ℕ)) (bytes : Bytes) (failed writer_failed : Bool)
+    (most before after : ℕ) (error : Error) : Type 0 where
+  page : (width : ℕ) → Asks words width → IsRefusal width bytes failed most before after error
+      → IsAskedRefusal words bytes failed writer_failed most before after error
+  help : AsksHelp words → error ≡ errors.IoError → writer_failed ≡ true
+      → IsAskedRefusal words bytes failed writer_failed most before after error

@@ -17,7 +17,7 @@ Explains words (faults.Words text) = ((width : ℕ) → Asks words width → ⊥
 Explains words faults.NotUtf8 = ⊥
 Explains words faults.Memory = ⊤
 
--- Words that could not be had, for this kind of error, are no text, or memory ran out. (The runtime tells no other kind.)
+-- Words that could not be had, for this kind of error: memory ran out, or one is no text. (The runtime tells no other.)
 abbrev pub fault_of_kind : IoKind → WordFault
 fault_of_kind io_kinds.OutOfMemory = faults.Memory
 fault_of_kind other = faults.NotUtf8

@@ -50,7 +50,8 @@ impl Utf8LossyDecoder {
     /// back. After a refusal every call is refused as `Failed`.
     pub fn push(&mut self, alloc: Global, piece: &[u8]) -> Result<String, ParseFault>
         ensures text { IfOk result (λ text. (rest : List ℕ) →
-            replaced_text (self.old.held ++ piece.now ++ rest) ≡ chars (string_bytes text) ++ replaced_text (self.new.held ++ rest)) }
+            replaced_text (self.old.held ++ piece.now ++ rest)
+            ≡ chars (string_bytes text) ++ replaced_text (self.new.held ++ rest)) }
         ensures unfinished { IsTrue (is_unfinished self.new.held) }
         ensures at_most { length self.new.held ≤ 3 }
         ensures refused { is_err result ≡ self.new.has_failed }
@@ -177,5 +178,6 @@ fn replaced_text_of_rows()
     ensures two_of_four { replaced_text (0xF0 ∷ 0x80 ∷ []) ≡ 0xFFFD ∷ 0xFFFD ∷ [] }
     ensures above_the_last { replaced_text (0xF4 ∷ 0x90 ∷ []) ≡ 0xFFFD ∷ 0xFFFD ∷ [] }
     ensures lone { replaced_text (0x61 ∷ 0xFF ∷ 0x62 ∷ []) ≡ 0x61 ∷ 0xFFFD ∷ 0x62 ∷ [] }
-    ensures whole { replaced_text (0xC3 ∷ 0xA9 ∷ 0xE6 ∷ 0xBC ∷ 0xA2 ∷ 0xF0 ∷ 0x9F ∷ 0x98 ∷ 0x80 ∷ []) ≡ 0xE9 ∷ 0x6F22 ∷ 0x1F600 ∷ [] }
+    ensures whole { replaced_text (0xC3 ∷ 0xA9 ∷ 0xE6 ∷ 0xBC ∷ 0xA2 ∷ 0xF0 ∷ 0x9F ∷ 0x98 ∷ 0x80 ∷ [])
+        ≡ 0xE9 ∷ 0x6F22 ∷ 0x1F600 ∷ [] }
 {}

@@ -32,7 +32,8 @@ impl Blocks {
     /// Adds a block's lines, behind an empty line where some line so far has content.
     fn add_block(&mut self, alloc: Global, block: Vec<PlainLine>) -> Result<(), AllocError>
         ensures ok { OnOk result (map plain_items self.new.lines.items
-            ≡ map plain_items self.old.lines.items ++ (block_start (map plain_items self.old.lines.items) ++ map plain_items block.items)) }
+            ≡ map plain_items self.old.lines.items
+                ++ (block_start (map plain_items self.old.lines.items) ++ map plain_items block.items)) }
     {
         self.start_block(alloc)?;
         'lines: for line in block {

@@ -24,7 +24,8 @@ impl Model for PageText {
 
     ghost Value = { Joining };
 
-    ghost view = { λ p. record { text = chars (string_bytes p.text); has_begun = p.has_begun; after_return = p.after_return } };
+    ghost view = { λ p. record {
+        text = chars (string_bytes p.text); has_begun = p.has_begun; after_return = p.after_return } };
 }
 
 impl PageText {
@@ -60,7 +61,8 @@ impl PageText {
     fn without_start<'a>(&self, piece: &'a str) -> &'a str
         requires { 0 < length piece.now }
         ensures { (rest : List ℕ) →
-            continued self.now.has_begun self.now.after_return (chars piece.now ++ rest) ≡ lines_ended (chars result.now ++ rest) }
+            continued self.now.has_begun self.now.after_return (chars piece.now ++ rest)
+            ≡ lines_ended (chars result.now ++ rest) }
     {
         if !self.has_begun {
             without_first(piece, BYTE_ORDER_MARK)

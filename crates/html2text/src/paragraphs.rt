@@ -11,7 +11,8 @@ use std::alloc::Global;
 /// The texts of a page's paragraphs, references replaced. A page that is no list of paragraphs with
 /// nothing between them is `Fail`.
 pub(crate) fn paragraphs_of(alloc: Global, page: &str) -> Result<Vec<String>, Error>
-    ensures found { IfOk result (λ texts. IsParagraphPage (chars page.now) (map (λ text. chars (string_bytes text)) texts.items)) }
+    ensures found { IfOk result
+        (λ texts. IsParagraphPage (chars page.now) (map (λ text. chars (string_bytes text)) texts.items)) }
     ensures none { result ≡ Err Error.Fail → (texts : List (List ℕ)) → IsParagraphPage (chars page.now) texts → ⊥ }
     ensures kinds { IfErr result (λ e. (e ≡ Error.Memory) ⊎ (e ≡ Error.Fail)) }
 {

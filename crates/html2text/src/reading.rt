@@ -21,8 +21,10 @@ pub(crate) fn page_text_of<R: ByteReader>(
     ensures io { result ≡ Err Error.IoError → R.has_failed input.new ≡ true }
     ensures too_long { result ≡ Err Error.TooLong → R.count input.old + max_bytes < R.count input.new }
     ensures kinds { IfErr result (λ e. (e ≡ Error.IoError) ⊎ (e ≡ Error.TooLong) ⊎ (e ≡ Error.Memory)) }
-    ensures text { IfOk result (λ text. IfSome (R.remaining input.old) (λ bytes. chars (string_bytes text) ≡ page_text bytes)) }
-    ensures came { OnOk result (IfSome (R.remaining input.old) (λ bytes. R.count input.new ≡ R.count input.old + length bytes)) }
+    ensures text { IfOk result (λ text. IfSome (R.remaining input.old)
+        (λ bytes. chars (string_bytes text) ≡ page_text bytes)) }
+    ensures came { OnOk result (IfSome (R.remaining input.old)
+        (λ bytes. R.count input.new ≡ R.count input.old + length bytes)) }
     ensures within { OnOk result (R.count input.new ≤ R.count input.old + max_bytes) }
     ensures stays { R.has_failed input.old ≡ true → R.has_failed input.new ≡ true }
     ensures works { OnOk result (R.has_failed input.new ≡ false) }

@@ -5,7 +5,7 @@ ghost use Rattle.std.specs.Io.KnownBytes.{Appends};
 ghost use Rattle.html_lexemes.specs.KnownPart.{AppendsPart};
 ghost use Rattle.html2text.specs.CommandWords.{words_behind_name};
 ghost use Rattle.html2text.specs.Errors.{error_text};
-ghost use Rattle.html2text.specs.Responses.{IsAskedRefusal, IsOutcomeOf, IsRefusal, Tells, WritesAnswer, WritesAnswerPart, WritesAsked, WritesAskedPart, complaint, fault_text};
+ghost use Rattle.html2text.specs.Responses.{IsAskedRefusal, IsOutcomeOf, IsRefusal, Complains, WritesAnswer, WritesAnswerPart, WritesAsked, WritesAskedPart, complaint, fault_text};
 ghost use Rattle.html2text.specs.WordFaults.{IsRefusedWith};
 ghost use Rattle.html2text.specs.Written.{WritesPage, WritesPart};
 
@@ -17,10 +17,10 @@ use html_lexemes::{ByteReader, ByteWriter, DeviceFault, ReferenceTable};
 use std::alloc::Global;
 use std::io;
 
-/// Answers a command line, the program's name first, and gives the exit status: 0 where the text of the page that `input`
-/// gives was written to `output` and passed on, or the help was; 1 where the page was refused, or a device failed; 2 where
-/// the words were refused. Each fault is one text on `errors`, behind `html2text: `; where `errors` fails there is nobody
-/// left to tell.
+/// Answers a command line, the program's name first, and gives the exit status: 0 where the text of the page that
+/// `input` gives was written to `output` and passed on, or the help was; 1 where the page was refused, or a device
+/// failed; 2 where the words were refused. Each fault is one text on `errors`, behind `html2text: `; where `errors` fails
+/// there is nobody left to tell.
 pub fn respond<R: ByteReader, W: ByteWriter, E: ByteWriter>(
     alloc: Global,
     words: io::Result<Vec<String>>,
@@ -39,17 +39,19 @@ pub fn respond<R: ByteReader, W: ByteWriter, E: ByteWriter>(
 
     // The page was refused, or a device failed: for this error, which is told.
     ensures refused { result ≡ 1 → (error : Error)
-        × Tells (E.has_failed errors.new) (E.contents errors.old) (E.contents errors.new) (complaint (error_text error))
-        × IfOk words (λ all. IsAskedRefusal (words_behind_name (map string_bytes all.items)) (R.remaining input.old)
-            (R.has_failed input.new || W.has_failed output.new) (W.has_failed output.new) usize.MAX (R.count input.old) (R.count input.new) error) }
+        × Complains (E.has_failed errors.new) (E.contents errors.old) (E.contents errors.new) (error_text error)
+        × IfOk words (λ all. IsAskedRefusal (words_behind_name (map string_bytes all.items))
+            (R.remaining input.old)
+            (R.has_failed input.new || W.has_failed output.new) (W.has_failed output.new)
+            usize.MAX (R.count input.old) (R.count input.new) error) }
     ensures read { result ≡ 1 → IsOk words }
     ensures unwritten { result ≡ 1 → (output.new ≡ output.old) ⊎ ((W.has_failed output.new ≡ true)
-        × IfOk words (λ all. WritesAskedPart (words_behind_name (map string_bytes all.items)) (R.remaining input.old)
-            (W.contents output.old) (W.contents output.new))) }
+        × IfOk words (λ all. WritesAskedPart (words_behind_name (map string_bytes all.items))
+            (R.remaining input.old) (W.contents output.old) (W.contents output.new))) }
 
     // The words were refused: for this fault, which is told; nothing was read and nothing written.
     ensures words { result ≡ 2 → (fault : WordFault)
-        × Tells (E.has_failed errors.new) (E.contents errors.old) (E.contents errors.new) (complaint (fault_text fault))
+        × Complains (E.has_failed errors.new) (E.contents errors.old) (E.contents errors.new) (fault_text fault)
         × IsRefusedWith words fault }
     ensures unread { result ≡ 2 → (input.new ≡ input.old) × (output.new ≡ output.old) }
 {
@@ -58,8 +60,8 @@ pub fn respond<R: ByteReader, W: ByteWriter, E: ByteWriter>(
     exit_status(&outcome)
 }
 
-/// Does what words ask for, or tells what is wrong with them: writes the text of the page that `input` gives, or the help,
-/// to `output`, and each fault to `errors`, behind `html2text: `.
+/// Does what words ask for, or tells what is wrong with them: writes the text of the page that `input` gives, or the
+/// help, to `output`, and each fault to `errors`, behind `html2text: `.
 pub fn carry_out<R: ByteReader, W: ByteWriter, E: ByteWriter>(
     alloc: Global,
     request: Result<Request, WordFault>,
@@ -70,23 +72,26 @@ pub fn carry_out<R: ByteReader, W: ByteWriter, E: ByteWriter>(
     ensures outcomes { IsOutcomeOf request result }
 
     // What was asked for was written and passed on, and nothing is wrong.
-    ensures done { result ≡ Outcome.Done → WritesAnswer request (R.remaining input.old) (W.contents output.old) (W.contents output.new) }
+    ensures done { result ≡ Outcome.Done
+        → WritesAnswer request (R.remaining input.old) (W.contents output.old) (W.contents output.new) }
     ensures passed_on { result ≡ Outcome.Done → (W.has_failed output.new ≡ false) × (W.was_flushed output.new ≡ true) }
     ensures silent { result ≡ Outcome.Done → errors.new ≡ errors.old }
 
     // The page was refused for this error, or a device failed.
     ensures told { (error : Error) → result ≡ Outcome.Page error
-        → Tells (E.has_failed errors.new) (E.contents errors.old) (E.contents errors.new) (complaint (error_text error)) }
-    ensures reason { (error : Error) → result ≡ Outcome.Page error → IfOk request (λ asked. IsRefusal asked.width (R.remaining input.old)
-        (R.has_failed input.new || W.has_failed output.new) usize.MAX (R.count input.old) (R.count input.new) error) }
+        → Complains (E.has_failed errors.new) (E.contents errors.old) (E.contents errors.new) (error_text error) }
+    ensures reason { (error : Error) → result ≡ Outcome.Page error → IfOk request (λ asked.
+        IsRefusal asked.width (R.remaining input.old) (R.has_failed input.new || W.has_failed output.new)
+            usize.MAX (R.count input.old) (R.count input.new) error) }
     ensures unwritten { (error : Error) → result ≡ Outcome.Page error → (output.new ≡ output.old)
         ⊎ ((W.has_failed output.new ≡ true)
             × WritesAnswerPart request (R.remaining input.old) (W.contents output.old) (W.contents output.new)) }
-    ensures unhelped { (error : Error) → result ≡ Outcome.Page error → IfErr request (λ _. W.has_failed output.new ≡ true) }
+    ensures unhelped { (error : Error) → result ≡ Outcome.Page error
+        → IfErr request (λ _. W.has_failed output.new ≡ true) }
 
     // The words were refused.
     ensures words { result ≡ Outcome.Words → IfErr request (λ fault.
-        Tells (E.has_failed errors.new) (E.contents errors.old) (E.contents errors.new) (complaint (fault_text fault))) }
+        Complains (E.has_failed errors.new) (E.contents errors.old) (E.contents errors.new) (fault_text fault)) }
     ensures unread { result ≡ Outcome.Words → (input.new ≡ input.old) × (output.new ≡ output.old) }
 {
     match request {
@@ -104,15 +109,18 @@ fn show_page<R: ByteReader, W: ByteWriter, E: ByteWriter>(
     errors: &mut E,
 ) -> Outcome
     ensures outcomes { (result ≡ Outcome.Done) ⊎ ((error : Error) × (result ≡ Outcome.Page error)) }
-    ensures done { result ≡ Outcome.Done → IfSome (R.remaining input.old) (λ bytes. WritesPage width bytes (W.contents output.old) (W.contents output.new)) }
+    ensures done { result ≡ Outcome.Done → IfSome (R.remaining input.old)
+        (λ bytes. WritesPage width bytes (W.contents output.old) (W.contents output.new)) }
     ensures passed_on { result ≡ Outcome.Done → (W.has_failed output.new ≡ false) × (W.was_flushed output.new ≡ true) }
     ensures silent { result ≡ Outcome.Done → errors.new ≡ errors.old }
     ensures told { (error : Error) → result ≡ Outcome.Page error
-        → Tells (E.has_failed errors.new) (E.contents errors.old) (E.contents errors.new) (complaint (error_text error)) }
-    ensures reason { (error : Error) → result ≡ Outcome.Page error → IsRefusal width (R.remaining input.old)
-        (R.has_failed input.new || W.has_failed output.new) usize.MAX (R.count input.old) (R.count input.new) error }
+        → Complains (E.has_failed errors.new) (E.contents errors.old) (E.contents errors.new) (error_text error) }
+    ensures reason { (error : Error) → result ≡ Outcome.Page error
+        → IsRefusal width (R.remaining input.old) (R.has_failed input.new || W.has_failed output.new)
+            usize.MAX (R.count input.old) (R.count input.new) error }
     ensures unwritten { (error : Error) → result ≡ Outcome.Page error → (output.new ≡ output.old)
-        ⊎ ((W.has_failed output.new ≡ true) × IfSome (R.remaining input.old) (λ bytes. WritesPart width bytes (W.contents output.old) (W.contents output.new))) }
+        ⊎ ((W.has_failed output.new ≡ true) × IfSome (R.remaining input.old)
+            (λ bytes. WritesPart width bytes (W.contents output.old) (W.contents output.new))) }
 {
     match write_page(alloc, width, input, output) {
         Ok(()) => Outcome::Done,
@@ -126,14 +134,17 @@ fn show_page<R: ByteReader, W: ByteWriter, E: ByteWriter>(
 /// Writes the help that was asked for, or tells what is wrong with the words.
 fn tell_fault<W: ByteWriter, E: ByteWriter>(fault: &WordFault, output: &mut W, errors: &mut E) -> Outcome
     ensures outcomes { IsOutcomeOf (Err fault.now) result }
-    ensures done { (bytes : Option (List ℕ)) → result ≡ Outcome.Done → WritesAnswer (Err fault.now) bytes (W.contents output.old) (W.contents output.new) }
+    ensures done { (bytes : Option (List ℕ)) → result ≡ Outcome.Done
+        → WritesAnswer (Err fault.now) bytes (W.contents output.old) (W.contents output.new) }
     ensures passed_on { result ≡ Outcome.Done → (W.has_failed output.new ≡ false) × (W.was_flushed output.new ≡ true) }
     ensures silent { result ≡ Outcome.Done → errors.new ≡ errors.old }
     ensures told { (error : Error) → result ≡ Outcome.Page error
-        → Tells (E.has_failed errors.new) (E.contents errors.old) (E.contents errors.new) (complaint (error_text error)) }
-    ensures unwritten { (error : Error) (bytes : Option (List ℕ)) → result ≡ Outcome.Page error → (W.has_failed output.new ≡ true)
-        × WritesAnswerPart (Err fault.now) bytes (W.contents output.old) (W.contents output.new) }
-    ensures words { result ≡ Outcome.Words → Tells (E.has_failed errors.new) (E.contents errors.old) (E.contents errors.new) (complaint (fault_text fault.now)) }
+        → Complains (E.has_failed errors.new) (E.contents errors.old) (E.contents errors.new) (error_text error) }
+    ensures unwritten { (error : Error) (bytes : Option (List ℕ)) → result ≡ Outcome.Page error
+        → (W.has_failed output.new ≡ true)
+            × WritesAnswerPart (Err fault.now) bytes (W.contents output.old) (W.contents output.new) }
+    ensures words { result ≡ Outcome.Words
+        → Complains (E.has_failed errors.new) (E.contents errors.old) (E.contents errors.new) (fault_text fault.now) }
     ensures unread { result ≡ Outcome.Words → output.new ≡ output.old }
 {
     match fault {
@@ -152,7 +163,7 @@ fn show_help<W: ByteWriter, E: ByteWriter>(text: &str, output: &mut W, errors: &
     ensures passed_on { result ≡ Outcome.Done → (W.has_failed output.new ≡ false) × (W.was_flushed output.new ≡ true) }
     ensures silent { result ≡ Outcome.Done → errors.new ≡ errors.old }
     ensures told { (error : Error) → result ≡ Outcome.Page error
-        → Tells (E.has_failed errors.new) (E.contents errors.old) (E.contents errors.new) (complaint (error_text error)) }
+        → Complains (E.has_failed errors.new) (E.contents errors.old) (E.contents errors.new) (error_text error) }
     ensures unwritten { (error : Error) → result ≡ Outcome.Page error → (W.has_failed output.new ≡ true)
         × AppendsPart (W.contents output.old) (W.contents output.new) text.now }
 {
@@ -172,12 +183,14 @@ fn write_page<R: ByteReader, W: ByteWriter>(
     input: &mut R,
     output: &mut W,
 ) -> Result<(), Error>
-    ensures written { OnOk result (IfSome (R.remaining input.old) (λ bytes. WritesPage width bytes (W.contents output.old) (W.contents output.new))) }
+    ensures written { OnOk result (IfSome (R.remaining input.old)
+        (λ bytes. WritesPage width bytes (W.contents output.old) (W.contents output.new))) }
     ensures passed_on { OnOk result ((W.has_failed output.new ≡ false) × (W.was_flushed output.new ≡ true)) }
     ensures reason { IfErr result (IsRefusal width (R.remaining input.old)
         (R.has_failed input.new || W.has_failed output.new) usize.MAX (R.count input.old) (R.count input.new)) }
     ensures unwritten { OnErr result ((output.new ≡ output.old) ⊎ ((W.has_failed output.new ≡ true)
-        × IfSome (R.remaining input.old) (λ bytes. WritesPart width bytes (W.contents output.old) (W.contents output.new)))) }
+        × IfSome (R.remaining input.old)
+            (λ bytes. WritesPart width bytes (W.contents output.old) (W.contents output.new)))) }
 {
     let config = Config::plain(ReferenceTable::basic(alloc)?);
     run(alloc, input, output, config, width)?;
@@ -198,7 +211,7 @@ fn write_through<W: ByteWriter>(output: &mut W, bytes: &[u8]) -> Result<(), Devi
 
 /// Tells what is wrong.
 fn complain<E: ByteWriter>(errors: &mut E, text: &str)
-    ensures { Tells (E.has_failed errors.new) (E.contents errors.old) (E.contents errors.new) (complaint text.now) }
+    ensures { Complains (E.has_failed errors.new) (E.contents errors.old) (E.contents errors.new) text.now }
 {
     // Where it can't be told there is nobody left to tell.
     let _ = write_complaint(errors, text);

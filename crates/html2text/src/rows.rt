@@ -1,4 +1,4 @@
-//! The definitions of a page's text and lines, computed on worked rows. What is a relation is computed by the program, whose
+//! The definitions of a page's text and lines, computed on worked rows. What is a relation is computed by the calls whose
 //! contract it is, in the tests.
 ghost use Rattle.std.specs.Prelude.{◌≡◌, [], ◌∷◌, true, false, codes};
 ghost use Rattle.text_decorators.specs.Tagged.{character, marker};

@@ -76,7 +76,8 @@ const DEFAULT_WIDTH: usize = 80;
 pub fn read_words(alloc: Global, words: &[String]) -> Result<Request, WordFault>
     ensures asked { IfOk result (λ request. Asks (map string_bytes words.now) request.width) }
     ensures explained { IfErr result (Explains (map string_bytes words.now)) }
-    ensures answered { (width : ℕ) → Asks (map string_bytes words.now) width → IfErr result (λ fault. fault ≡ faults.Memory) }
+    ensures answered { (width : ℕ) → Asks (map string_bytes words.now) width
+        → IfErr result (λ fault. fault ≡ faults.Memory) }
     ensures helped { AsksHelp (map string_bytes words.now) → IsErrAnd result IsHelpOrMemory }
 {
     let Ok(command) = command(alloc) else {
@@ -90,14 +91,16 @@ pub fn read_words(alloc: Global, words: &[String]) -> Result<Request, WordFault>
     }
 }
 
-/// Reads the words of a command line, the program's name first, as `std::env::args` gives them or refuses to: for want of
-/// memory, or because one is not UTF-8.
+/// Reads the words of a command line, the program's name first, as `std::env::args` gives them or refuses to: for want
+/// of memory, or because one is not UTF-8.
 pub fn request_of(alloc: Global, words: io::Result<Vec<String>>) -> Result<Request, WordFault>
-    ensures asked { IfOk result (λ request. IfOk words (λ all. Asks (words_behind_name (map string_bytes all.items)) request.width)) }
+    ensures asked { IfOk result (λ request. IfOk words
+        (λ all. Asks (words_behind_name (map string_bytes all.items)) request.width)) }
     ensures explained { IfOk words (λ all. IfErr result (Explains (words_behind_name (map string_bytes all.items)))) }
     ensures answered { IfOk words (λ all. (width : ℕ) → Asks (words_behind_name (map string_bytes all.items)) width
         → IfErr result (λ fault. fault ≡ faults.Memory)) }
-    ensures helped { IfOk words (λ all. AsksHelp (words_behind_name (map string_bytes all.items)) → IsErrAnd result IsHelpOrMemory) }
+    ensures helped { IfOk words (λ all. AsksHelp (words_behind_name (map string_bytes all.items))
+        → IsErrAnd result IsHelpOrMemory) }
     ensures unread { IfErr words (λ error. result ≡ Err (fault_of_kind (error_kind error))) }
 {
     match words {

@@ -32,14 +32,16 @@ pub fn run<R: ByteReader, W: ByteWriter>(
     ensures end { IsAnswer result → IsAtEnd (R.remaining reader.new) }
 
     // What was read is written as its lines' text.
-    ensures written { OnOk result (IfSome (R.remaining reader.old) (λ bytes. WritesPage width bytes (W.contents writer.old) (W.contents writer.new))) }
+    ensures written { OnOk result (IfSome (R.remaining reader.old)
+        (λ bytes. WritesPage width bytes (W.contents writer.old) (W.contents writer.new))) }
     ensures narrow { result ≡ Err Error.TooNarrow → IfSome (R.remaining reader.old) (IsTooNarrowPage width) }
     ensures fail { result ≡ Err Error.Fail → IfSome (R.remaining reader.old) IsOtherPage }
     ensures short { IsAnswer result → IfSome (R.remaining reader.old) (λ bytes. length bytes ≤ max_bytes_of config) }
 
     // Only a fault of the writer leaves anything written: a beginning of that text.
-    ensures unwritten { OnErr result ((writer.new ≡ writer.old) ⊎ ((result ≡ Err Error.IoError) × (W.has_failed writer.new ≡ true)
-        × IfSome (R.remaining reader.old) (λ bytes. WritesPart width bytes (W.contents writer.old) (W.contents writer.new)))) }
+    ensures unwritten { OnErr result ((writer.new ≡ writer.old)
+        ⊎ ((result ≡ Err Error.IoError) × (W.has_failed writer.new ≡ true) × IfSome (R.remaining reader.old)
+            (λ bytes. WritesPart width bytes (W.contents writer.old) (W.contents writer.new)))) }
 {
     let lines = config.lines_from_read(alloc, reader, width)?;
     write_lines(writer, &lines)?;

@@ -1,0 +1,69 @@
+#!/usr/bin/env python3
+"""Runs the gate on a copy of HEAD, and says what each crate took of the processors: its proof, its tests' proof, its edits.
+
+    tools/gate_times.py [FOLDER]
+
+It looks at the running checks twice a second, so a number may be short by half a second a check. The gate's own output goes
+to FOLDER/gate.log (a new folder in /tmp without one); its status is this program's.
+"""
+
+import collections
+import os
+import re
+import subprocess
+import sys
+import tempfile
+import time
+
+TICKS = os.sysconf("SC_CLK_TCK")
+
+
+def checks():
+    """The running checks: process, folder, crate, kind of check, and seconds of processor time so far, of the processes that
+    a check starts too."""
+    found = {}
+    for pid in filter(str.isdigit, os.listdir("/proc")):
+        try:
+            with open(f"/proc/{pid}/cmdline", "rb") as it:
+                words = it.read().decode(errors="replace").split("\0")
+            if not words[0].endswith("/rattle") or "--crate-name" not in words:
+                continue
+            folder = os.readlink(f"/proc/{pid}/cwd")
+            with open(f"/proc/{pid}/stat", encoding="utf-8") as it:
+                stat = it.read().rsplit(")", 1)[1].split()
+        except OSError:
+            continue
+        crate = words[words.index("--crate-name") + 1]
+        kind = "edits" if "/rt-edit-" in folder else "tests" if "--test" in words else "proof"
+        found[pid] = stat[1], ((pid, stat[19]), folder, crate, kind, sum(map(int, stat[11:15])) / TICKS)
+    return [it for parent, it in found.values() if parent not in found]
+
+
+def main():
+    top = subprocess.run(["git", "rev-parse", "--show-toplevel"], check=True, capture_output=True, text=True).stdout.strip()
+    room = sys.argv[1] if len(sys.argv) > 1 else tempfile.mkdtemp(prefix="gate-times-")
+    tree = f"{room}/tree"
+    subprocess.run(["git", "clone", "-q", top, tree], check=True)
+    seen, begun = {}, time.time()
+    with open(f"{room}/gate.log", "w", encoding="utf-8") as log:
+        gate = subprocess.Popen(["bash", ".ci/run"], cwd=tree, stdin=subprocess.DEVNULL, stdout=log, stderr=subprocess.STDOUT)
+        while gate.poll() is None:
+            for key, folder, crate, kind, seconds in checks():
+                if kind == "edits" or folder.startswith(tree):
+                    seen[key] = crate, kind, seconds
+            time.sleep(0.5)
+    total = collections.Counter()
+    for crate, kind, seconds in seen.values():
+        total[crate, kind] += seconds
+    with open(f"{room}/gate.log", encoding="utf-8", errors="replace") as log:
+        text = log.read()
+    for crate in sorted({it for it, _ in total}):
+        proof, tests, edits = (round(total[crate, kind]) for kind in ("proof", "tests", "edits"))
+        counted = re.search(rf"== {crate}\n(?:.*\n)*?logic=proved functions=(\d+)", text)
+        print(f"| {crate} | {counted[1] if counted else '?'} | {proof} | {tests} | {edits} |")
+    print(f"{text.rstrip().splitlines()[-1]}: {time.time() - begun:.0f} s, {sum(total.values()):.0f} s of processor time in checks")
+    return gate.returncode
+
+
+if __name__ == "__main__":
+    sys.exit(main())
