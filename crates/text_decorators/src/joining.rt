@@ -5,12 +5,11 @@ ghost use Rattle.text_decorators.specs.Elements.{elements_items, tagged, marker,
 
 use crate::equal_copy::EqualCopy;
 use crate::tagged_string::{TaggedLineElement, TaggedString};
-use std::alloc::{AllocError, Global};
+use std::alloc::AllocError;
 
 /// Adds a text at the end. Where the last element is a text with an equal tag, it joins that.
 pub(crate) fn push_text<T: EqualCopy + Drop>(
     elements: &mut Vec<TaggedLineElement<T>>,
-    alloc: Global,
     text: &str,
     tag: &T,
 ) -> Result<(), AllocError>
@@ -25,14 +24,13 @@ pub(crate) fn push_text<T: EqualCopy + Drop>(
     } else if ends_with_tag(elements, tag) {
         extend_last(elements, text)
     } else {
-        push_new(elements, alloc, text, tag)
+        push_new(elements, text, tag)
     }
 }
 
 /// Adds a text of one character at the end, as `push_text`.
 pub(crate) fn push_character<T: EqualCopy + Drop>(
     elements: &mut Vec<TaggedLineElement<T>>,
-    alloc: Global,
     c: char,
     tag: &T,
 ) -> Result<(), AllocError>
@@ -46,14 +44,13 @@ pub(crate) fn push_character<T: EqualCopy + Drop>(
         extend_last_by(elements, c)
     } else {
         let mut bytes = [0; 4];
-        push_new(elements, alloc, c.encode_utf8(&mut bytes), tag)
+        push_new(elements, c.encode_utf8(&mut bytes), tag)
     }
 }
 
 /// Adds a marker at the end.
 pub(crate) fn push_marker<T: EqualCopy + Drop>(
     elements: &mut Vec<TaggedLineElement<T>>,
-    alloc: Global,
     name: &str,
 ) -> Result<(), AllocError>
     ensures ok { OnOk result (elements_items T.seen elements.new.items
@@ -61,7 +58,7 @@ pub(crate) fn push_marker<T: EqualCopy + Drop>(
     ensures err { OnErr result (elements.new.items ≡ elements.old.items) }
     ensures joined { AreJoined T.seen elements.old.items → AreJoined T.seen elements.new.items }
 {
-    let name = String::from_str(alloc, name)?;
+    let name = String::from_str(*elements.allocator(), name)?;
     elements.push(TaggedLineElement::FragmentStart(name))?;
     Ok(())
 }
@@ -113,7 +110,6 @@ fn extend_last_by<T: EqualCopy + Drop>(
 // Adds the text as an element of its own.
 fn push_new<T: EqualCopy + Drop>(
     elements: &mut Vec<TaggedLineElement<T>>,
-    alloc: Global,
     text: &str,
     tag: &T,
 ) -> Result<(), AllocError>
@@ -123,6 +119,7 @@ fn push_new<T: EqualCopy + Drop>(
     ensures joined { OnOk result (AreJoined T.seen elements.old.items → text.now ≢ []
         → ¬ EndsWithTag T.seen (T.seen tag.now) elements.old.items → AreJoined T.seen elements.new.items) }
 {
+    let alloc = *elements.allocator();
     let s = String::from_str(alloc, text)?;
     let tag = tag.copy(alloc)?;
     make_room(elements)?;
