@@ -18,7 +18,7 @@ pub trait Columns {
 
 /// The columns of `unicode_width` (Unicode Standard Annex #11), at most two. The characters that borders
 /// are made of have one.
-#[derive(Clone, Copy, Debug, PartialEq, Eq)]
+#[derive(Clone, Copy)]
 pub struct UnicodeColumns;
 
 impl Columns for UnicodeColumns {

@@ -13,7 +13,7 @@ use std::alloc::{AllocError, Global};
 use std::{slice, vec};
 
 /// A line of tagged text. What is pushed joins the text before it where their tags are equal.
-#[derive(Debug, Drop, PartialEq)]
+#[derive(Drop, PartialEq)]
 pub struct TaggedLine<T> {
     elements: Vec<TaggedLineElement<T>>,
     columns: usize,

@@ -6,7 +6,7 @@ use crate::equal_copy::EqualCopy;
 use std::alloc::AllocError;
 
 /// A text with a tag.
-#[derive(Debug, Drop, PartialEq)]
+#[derive(Drop, PartialEq)]
 pub struct TaggedString<T> {
     /// The text.
     pub s: String,
@@ -48,7 +48,7 @@ impl<T: EqualCopy + Drop> TaggedString<T> {
 }
 
 /// A part of a line: a tagged text, or a marker between characters.
-#[derive(Debug, Drop, PartialEq)]
+#[derive(Drop, PartialEq)]
 pub enum TaggedLineElement<T> {
     /// A text with its tag.
     Str(TaggedString<T>),
