@@ -6,7 +6,7 @@ ghost use Rattle.text_decorators.specs.Elements.{elements_text};
 
 use crate::columns::{Columns, UnicodeColumns};
 use crate::equal_copy::EqualCopy;
-use crate::joining::{push_character, push_marker, push_text};
+use crate::joining::{push_character, push_elements, push_text};
 use crate::line_iterators::{LineChars, TaggedStrings};
 use crate::tagged_string::{TaggedLineElement, columns_of};
 use std::alloc::{AllocError, Global};
@@ -94,43 +94,20 @@ impl<T: EqualCopy + Drop> TaggedLine<T> {
         Ok(())
     }
 
-    /// Adds another line at the end. The error is want of memory alone; the line may then have taken a
-    /// beginning of the other.
+    /// Adds another line at the end. The error is want of memory alone, and leaves the line as it was.
     pub fn push_line(&mut self, other: &TaggedLine<T>) -> Result<(), AllocError>
         ensures ok { OnOk result (line_items T.seen self.new
             ≡ line_items T.seen self.old ++ line_items T.seen other.now) }
-        ensures joined { IsJoined T.seen self.old → IsJoined T.seen self.new }
-    {
-        // The common case: a line of one element has that element's columns.
-        if let [element] = other.elements.as_slice() {
-            return self.push_copy(element, other.columns);
-        }
-        for element in &other.elements {
-            self.push_copy(element, element.width())?;
-        }
-        Ok(())
-    }
-
-    // Adds a copy of the element, which has that many columns, at the end.
-    fn push_copy(
-        &mut self,
-        element: &TaggedLineElement<T>,
-        columns: usize,
-    ) -> Result<(), AllocError>
-        requires { columns ≡ text_columns (chars (element_text element.now)) }
-        ensures ok { OnOk result (line_items T.seen self.new
-            ≡ line_items T.seen self.old ++ element_items T.seen element.now) }
         ensures err { OnErr result (line_items T.seen self.new ≡ line_items T.seen self.old) }
         ensures joined { IsJoined T.seen self.old → IsJoined T.seen self.new }
     {
-        match element {
-            TaggedLineElement::Str(string) => {
-                self.push_counted(string.s.as_str(), columns, &string.tag)
-            }
-            TaggedLineElement::FragmentStart(name) => {
-                push_marker(&mut self.elements, name.as_str())
-            }
-        }
+        let columns = self
+            .columns
+            .checked_add(other.columns)
+            .ok_or(AllocError)?;
+        push_elements(&mut self.elements, &other.elements)?;
+        self.columns = columns;
+        Ok(())
     }
 
     // Adds a text, which has that many columns, at the end.
@@ -207,12 +184,13 @@ impl<T: Drop> TaggedLine<T> {
 
 impl<T: EqualCopy + Drop> TaggedLine<T> {
     ghost use Rattle.text_decorators.specs.Elements.{CopiesAll};
-    ghost use Rattle.text_decorators.specs.Tagged.{line_elements, line_items};
+    ghost use Rattle.text_decorators.specs.Tagged.{line_elements, line_items, IsJoined};
 
     /// An equal line. The error is want of memory alone.
     pub fn try_clone(&self) -> Result<TaggedLine<T>, AllocError>
         ensures elements { IfOk result (λ copy. CopiesAll T.seen (line_elements self.now) (line_elements copy)) }
         ensures items { IfOk result (λ copy. line_items T.seen copy ≡ line_items T.seen self.now) }
+        ensures joined { IsJoined T.seen self.now → IfOk result (IsJoined T.seen) }
     {
         let mut elements = Vec::new(*self.elements.allocator());
         for element in &self.elements {
