@@ -110,7 +110,7 @@ all_same seen (Str s ∷ es) (Str t ∷ fs) first second same =
     let ys = elements_items seen fs in
     let tag = same_tag (seen s.tag) (seen t.tag) (chars (string_bytes s.s)) (chars (string_bytes t.s)) xs ys (some_chars s.s first.0) (some_chars t.s second.0) same in
     let runs = same_runs (seen s.tag) (seen t.tag) (chars (string_bytes s.s)) (chars (string_bytes t.s)) xs ys tag same
-        (λ begins. first.1 (items_begin seen (seen s.tag) es first.2 begins)) (λ begins. second.1 (items_begin seen (seen t.tag) fs second.2 begins)) in
+    (λ begins. first.1 (items_begin seen (seen s.tag) es first.2 begins)) (λ begins. second.1 (items_begin seen (seen t.tag) fs second.2 begins)) in
     ((runs.0, tag), all_same seen es fs first.2 second.2 runs.1)
 all_same seen (Str s ∷ es) (FragmentStart n ∷ fs) first second same =
     absurd (run_is_no_marker (seen s.tag) (chars (string_bytes s.s)) (chars (string_bytes n)) (elements_items seen es) (elements_items seen fs) (some_chars s.s first.0) same)

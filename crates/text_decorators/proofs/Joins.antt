@@ -1,6 +1,6 @@
 -- Texts and markers that are added at the end of a line's elements.
 use Rattle.std.proofs.Common.{◌≡◌, ℕ, ◌+◌, ◌-◌, ◌<◌, subst, List, [], ◌∷◌, ◌++◌, length, get_or, set, take, sym, ap, ◌∙◌, refl, append_assoc, arith}
-use Rattle.std.specs.Prelude.{Option, None, Some, Result, Ok, Err, OnOk, OnErr, chars, string_bytes, IsSomeAnd, slice_get}
+use Rattle.std.specs.Prelude.{Option, None, Some, chars, string_bytes, IsSomeAnd, slice_get}
 use Rattle.std.proofs.lemmas.Str.{chars-append, chars-nil, chars_past_char, IsUtf8-encode, IsUtf8-string_bytes}
 use Rattle.std.specs.Char.{IsScalar}
 use lib.Utf8.{encode}

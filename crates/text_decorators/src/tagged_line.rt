@@ -101,22 +101,14 @@ impl<T: EqualCopy + Drop> TaggedLine<T> {
         ensures err { OnErr result (line_items T.seen self.new ≡ line_items T.seen self.old) }
         ensures joined { IsJoined T.seen self.old → IsJoined T.seen self.new }
     {
-        let columns = self
-            .columns
-            .checked_add(other.columns)
-            .ok_or(AllocError)?;
+        let columns = self.columns.checked_add(other.columns).ok_or(AllocError)?;
         push_elements(&mut self.elements, &other.elements)?;
         self.columns = columns;
         Ok(())
     }
 
     // Adds a text, which has that many columns, at the end.
-    fn push_counted(
-        &mut self,
-        text: &str,
-        columns: usize,
-        tag: &T,
-    ) -> Result<(), AllocError>
+    fn push_counted(&mut self, text: &str, columns: usize, tag: &T) -> Result<(), AllocError>
         requires { columns ≡ text_columns (chars text.now) }
         ensures ok { OnOk result (line_items T.seen self.new
             ≡ line_items T.seen self.old ++ tagged (chars text.now) (T.seen tag.now)) }
@@ -163,10 +155,7 @@ impl<T: Drop> TaggedLine<T> {
 
     /// The same line, with what `f` makes of each text's tag; texts whose tags become equal stay apart. The
     /// error is want of memory alone.
-    pub fn map_tag<U: Drop, F: Fn(T) -> U>(
-        self,
-        f: &F,
-    ) -> Result<TaggedLine<U>, AllocError>
+    pub fn map_tag<U: Drop, F: Fn(T) -> U>(self, f: &F) -> Result<TaggedLine<U>, AllocError>
         requires { F.IsAlwaysCallable f.now }
         ensures { IfOk result (λ line. MapsTags (F.post f.now) (line_elements self) (line_elements line)) }
     {
