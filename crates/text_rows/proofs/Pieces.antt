@@ -1,4 +1,12 @@
--- ---- texts, one after another
+-- The letters of texts, one after another.
+use Rattle.std.proofs.Common.{◌≡◌, ℕ, ◌+◌, ◌<◌, List, [], ◌∷◌, ◌++◌, length, get_or, take, drop, sym, ap, ◌∙◌, refl, subst, append_assoc}
+use Rattle.std.specs.Prelude.{Result, Err, chars, string_bytes}
+use Rattle.std.proofs.lemmas.List.{append-nil, take_more, take-append-drop}
+use Rattle.text_decorators.specs.declared.tagged_string.TaggedString.{TaggedString}
+use Rattle.text_block_renderer.specs.Units.{lettered}
+use Rattle.text_block_renderer.specs.Layout.{NeverFits}
+use Rattle.text_block_renderer.proofs.BlockFinal.{never_before}
+use Rattle.text_rows.specs.Letters.{letters_of}
 
 letters_of-append : {T S : Type 0} (seen : T → S) (xs ys : List (TaggedString T)) → letters_of seen (xs ++ ys) ≡ letters_of seen xs ++ letters_of seen ys
 letters_of-append seen [] ys = refl
@@ -23,4 +31,3 @@ pieces_never seen width ps i p inside read never =
 
 pub same_error : {X E : Type 0} (r : Result X E) (a b : E) → r ≡ Err a → r ≡ Err b → a ≡ b
 same_error r a b first second = cc
-
