@@ -100,8 +100,8 @@ fn paragraph_lines(alloc: Global, text: &str, width: usize) -> Result<Vec<PlainL
 {
     let tag = Vec::new(alloc);
     let mut block = WrappedBlock::new(alloc, width, false, false, Vec::new(alloc));
-    block.add_text(alloc, text, WhiteSpace::Normal, &tag, &tag)?;
-    Ok(block.into_lines(alloc)?)
+    block.add_text(text, WhiteSpace::Normal, &tag, &tag)?;
+    Ok(block.into_lines()?)
 }
 
 /// The text of lines: the characters of each, and a newline.

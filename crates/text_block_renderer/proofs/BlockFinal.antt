@@ -1,15 +1,13 @@
 -- What a block makes of what was read is the fullest layout, and what it refuses has none.
-use Rattle.std.proofs.Common.{◌≡◌, ℕ, ◌+◌, ◌<◌, ◌≤◌, ◌⊎◌, Bool, true, false, nat_le, ◌||◌, List, [], ◌∷◌, ◌++◌, map, length, get_or, take, drop, inl, inr, sym, ap, ◌∙◌, refl, subst, append_assoc, arith}
-use Rattle.std.specs.Prelude.{Result, Ok, Err, IfOk, Option, None, Some, All, chars, string_bytes}
-use Rattle.std.proofs.lemmas.List.{append-nil, take_more, take-append-drop}
+use Rattle.std.proofs.Common.{◌≡◌, ℕ, ◌+◌, ◌<◌, ◌≤◌, ◌⊎◌, Bool, true, false, nat_le, ◌||◌, List, [], ◌∷◌, ◌++◌, map, get_or, inl, inr, sym, ap, ◌∙◌, refl, subst, append_assoc, arith}
+use Rattle.std.specs.Prelude.{Result, Ok, Err, IfOk, Option, None, Some, All}
 use Rattle.std.proofs.lemmas.Bool.Decides.{nat_tests}
 use Rattle.text_decorators.specs.Columns.{width_of}
 use Rattle.text_decorators.specs.Tagged.{Item, line_columns}
-use Rattle.text_decorators.specs.declared.tagged_string.TaggedString.{TaggedString}
-use Rattle.text_block_renderer.specs.Units.{Letter, lettered, is_break_point, units}
+use Rattle.text_block_renderer.specs.Units.{Letter, is_break_point, units}
 use Rattle.text_block_renderer.specs.Layout.{AreLinesOf, NeverFits, HasNoLayout, marks, marks_items}
 use Rattle.text_block_renderer.specs.Filling.{read_letters, nothing_read, lines_read, last_filled, all_lines}
-use Rattle.text_block_renderer.specs.Block.{HasRead, HasWider, AllHaveRoom, letters_of, padded, padding_of, ArePaddedLinesOf, HoldsLines, Moves, lay_read}
+use Rattle.text_block_renderer.specs.Block.{HasRead, HasWider, AllHaveRoom, padded, padding_of, ArePaddedLinesOf, HoldsLines, Moves, lay_read}
 use Rattle.text_block_renderer.specs.declared.block.WrappedBlock.{WrappedBlock}
 use Rattle.text_block_renderer.proofs.BlockFilling.{if_true, if_false}
 use Rattle.text_block_renderer.proofs.BlockReading.{laid_lines}
@@ -97,32 +95,6 @@ pub results_bare : {T S X E : Type 0} (seen : T → S) (block : WrappedBlock T) 
     → IfOk r (λ x. (width : ℕ) (overflow : Bool) (read : List (Letter S)) → HasRead seen width overflow read block → padding_of seen block ≡ None → AreLinesOf width overflow read (shown x))
 results_bare seen block shown (Err e) h = tt
 results_bare seen block shown (Ok x) h = λ width overflow read has none. bare_are width overflow (padding_of seen block) read (shown x) none has.room (h width overflow read has)
-
--- ---- texts, one after another
-
-letters_of-append : {T S : Type 0} (seen : T → S) (xs ys : List (TaggedString T)) → letters_of seen (xs ++ ys) ≡ letters_of seen xs ++ letters_of seen ys
-letters_of-append seen [] ys = refl
-letters_of-append seen (x ∷ xs) ys =
-    ap (λ rest. lettered (chars (string_bytes x.s)) (seen x.tag) ++ rest) (letters_of-append seen xs ys) ∙ sym (append_assoc (lettered (chars (string_bytes x.s)) (seen x.tag)) (letters_of seen xs) (letters_of seen ys))
-
-pub letters_more : {T S : Type 0} (seen : T → S) (ps : List (TaggedString T)) (i : ℕ) (p : TaggedString T) → i < length ps → p ≡ get_or ps i p
-    → letters_of seen (take i ps) ++ lettered (chars (string_bytes p.s)) (seen p.tag) ≡ letters_of seen (take (i + 1) ps)
-letters_more seen ps i p inside read =
-    ap (λ last. letters_of seen (take i ps) ++ last) (sym (append-nil (lettered (chars (string_bytes p.s)) (seen p.tag)))) ∙ sym (letters_of-append seen (take i ps) (p ∷ []))
-    ∙ ap (λ x. letters_of seen (take i ps ++ x ∷ [])) read ∙ ap (letters_of seen) (sym (take_more ps i p inside))
-
-pub letters_split : {T S : Type 0} (seen : T → S) (ps : List (TaggedString T)) (n : ℕ) → letters_of seen (take n ps) ++ letters_of seen (drop n ps) ≡ letters_of seen ps
-letters_split seen ps n = sym (letters_of-append seen (take n ps) (drop n ps)) ∙ ap (letters_of seen) (take-append-drop n ps)
-
--- a piece that never fits, with what stands before it
-pub pieces_never : {T S : Type 0} (seen : T → S) (width : ℕ) (ps : List (TaggedString T)) (i : ℕ) (p : TaggedString T) → i < length ps → p ≡ get_or ps i p
-    → NeverFits width false (letters_of seen (take i ps) ++ lettered (chars (string_bytes p.s)) (seen p.tag)) → NeverFits width false (letters_of seen ps)
-pieces_never seen width ps i p inside read never =
-    subst (NeverFits width false) (letters_split seen ps (i + 1))
-    (never_before width (letters_of seen (take (i + 1) ps)) (letters_of seen (drop (i + 1) ps)) (subst (NeverFits width false) (letters_more seen ps i p inside read) never))
-
-pub same_error : {X E : Type 0} (r : Result X E) (a b : E) → r ≡ Err a → r ≡ Err b → a ≡ b
-same_error r a b first second = cc
 
 -- ---- the width
 

@@ -1,10 +1,9 @@
 -- What contracts see of a `WrappedBlock`: how its lines, its white space and its word follow from what was read.
-use Rattle.std.specs.Prelude.{◌≡◌, ℕ, ◌+◌, ◌-◌, ◌<◌, Bool, true, false, ◌||◌, nat_le, List, [], ◌∷◌, ◌++◌, Option, None, Some, map, fold, replicate, is_some, All, IsTrue, if◌then◌else◌, chars, string_bytes}
+use Rattle.std.specs.Prelude.{◌≡◌, ℕ, ◌+◌, ◌-◌, ◌<◌, Bool, true, false, ◌||◌, nat_le, List, [], ◌∷◌, ◌++◌, Option, None, Some, map, fold, replicate, is_some, All, IsTrue, if◌then◌else◌, chars}
 use Rattle.std.specs.Option.{option_map}
 use Rattle.std.specs.Str.{IsUtf8}
 use Rattle.text_decorators.specs.Columns.{columns_of, width_of}
 use Rattle.text_decorators.specs.Tagged.{Item, character, line_items, line_columns, IsJoined}
-use Rattle.text_decorators.specs.declared.tagged_string.TaggedString.{TaggedString}
 use Rattle.text_block_renderer.specs.Units.{Letter, piece, lettered, is_break_point, is_white_space, first_of, has_columns, is_filled}
 use Rattle.text_block_renderer.specs.Layout.{Mark, opens, inside, marked, columns, marks_items, gap, AreLinesOf}
 use Rattle.text_block_renderer.specs.Filling.{Filled, filled, all_lines, add_unit, add_marks, add_mark, Reading, reading, read_letters, nothing_read}
@@ -45,11 +44,6 @@ with_room more width f = if nat_le (columns f.line + more) width then f else fil
 -- letters as they stand on a line
 abbrev pub letter_items : {S : Type 0} → List (Letter S) → List (Item S)
 letter_items ls = map (λ l. character l.code l.tag) ls
-
--- the letters of some texts, joined
-abbrev pub letters_of : {T S : Type 0} → (T → S) → List (TaggedString T) → List (Letter S)
-letters_of seen [] = []
-letters_of seen (p ∷ ps) = lettered (chars (string_bytes p.s)) (seen p.tag) ++ letters_of seen ps
 
 -- a line can hold the letter, or it stands on none
 abbrev pub has_room : {S : Type 0} → ℕ → Bool → Letter S → Bool

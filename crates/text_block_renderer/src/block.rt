@@ -62,7 +62,6 @@ impl<T: EqualCopy + Drop> WrappedBlock<T> {
     /// `Failed`.
     pub fn add_text(
         &mut self,
-        alloc: Global,
         text: &str,
         ws_mode: WhiteSpace,
         main_tag: &T,
@@ -86,36 +85,36 @@ impl<T: EqualCopy + Drop> WrappedBlock<T> {
             return Err(BlockError::Failed);
         }
         let result = match ws_mode {
-            WhiteSpace::Normal => self.add_normal(alloc, text, main_tag),
+            WhiteSpace::Normal => self.add_normal(text, main_tag),
         };
         let _ = wrap_tag;
         self.failed = result.is_err();
         result
     }
 
-    fn add_normal(&mut self, alloc: Global, text: &str, tag: &T) -> Result<(), BlockError>
+    fn add_normal(&mut self, text: &str, tag: &T) -> Result<(), BlockError>
         ensures kinds { IfErr result (λ e. (e ≡ BlockError.TooNarrow) ⊎ (e ≡ BlockError.Memory)) }
         ensures padding { padding_of T.seen self.new ≡ padding_of T.seen self.old }
         ensures read { OnOk result (Reads T.seen self.old self.new (lettered (chars text.now) (T.seen tag.now))) }
         ensures narrow { result ≡ Err BlockError.TooNarrow → MeetsWider T.seen self.old (lettered (chars text.now) (T.seen tag.now)) }
     {
-        let mut rest = self.add_run(alloc, text, tag)?;
+        let mut rest = self.add_run(text, tag)?;
         while let Some((c, after)) = first_char(rest) {
-            self.add_char(alloc, c, tag)?;
-            rest = self.add_run(alloc, after, tag)?;
+            self.add_char(c, tag)?;
+            rest = self.add_run(after, tag)?;
         }
         Ok(())
     }
 
     /// Adds the characters in front that join the word at hand, all at once; what follows them is left.
-    fn add_run<'a>(&mut self, alloc: Global, text: &'a str, tag: &T) -> Result<&'a str, AllocError>
+    fn add_run<'a>(&mut self, text: &'a str, tag: &T) -> Result<&'a str, AllocError>
         ensures padding { padding_of T.seen self.new ≡ padding_of T.seen self.old }
         ensures read { IfOk result (λ rest. ReadsFront T.seen self.old self.new text.now rest.now (T.seen tag.now)) }
         ensures text { IfOk result (λ rest. IsUtf8 rest.now) }
         ensures no_longer { IfOk result (λ rest. length rest.now ≤ length text.now) }
     {
         let (run, rest) = text.split_at(text.len() - self.after_run(text).len());
-        self.word.push_str(alloc, run, tag)?;
+        self.word.push_str(run, tag)?;
         Ok(rest)
     }
 
@@ -143,26 +142,25 @@ impl<T: EqualCopy + Drop> WrappedBlock<T> {
         }
     }
 
-    fn add_char(&mut self, alloc: Global, c: char, tag: &T) -> Result<(), BlockError>
+    fn add_char(&mut self, c: char, tag: &T) -> Result<(), BlockError>
         ensures kinds { IfErr result (λ e. (e ≡ BlockError.TooNarrow) ⊎ (e ≡ BlockError.Memory)) }
         ensures padding { padding_of T.seen self.new ≡ padding_of T.seen self.old }
         ensures read { OnOk result (Reads T.seen self.old self.new (lettered (c ∷ []) (T.seen tag.now))) }
         ensures narrow { result ≡ Err BlockError.TooNarrow → MeetsWider T.seen self.old (lettered (c ∷ []) (T.seen tag.now)) }
     {
         if is_break_point(c) {
-            self.end_word(alloc)?;
-            self.add_space(alloc, c, tag)?;
+            self.end_word()?;
+            self.add_space(c, tag)?;
             return Ok(());
         }
         match UnicodeColumns::columns(c) {
-            Some(columns) => self.add_to_word(alloc, c, columns, tag),
+            Some(columns) => self.add_to_word(c, columns, tag),
             None => Ok(()),
         }
     }
 
     fn add_to_word(
         &mut self,
-        alloc: Global,
         c: char,
         columns: usize,
         tag: &T,
@@ -176,23 +174,23 @@ impl<T: EqualCopy + Drop> WrappedBlock<T> {
         if !self.lines.has_room_for(columns) {
             return Err(BlockError::TooNarrow);
         }
-        self.word.push_char(alloc, c, tag)?;
+        self.word.push_char(c, tag)?;
         Ok(())
     }
 
     /// Keeps the tag of a white space, where it is the first.
-    fn add_space(&mut self, alloc: Global, c: char, tag: &T) -> Result<(), AllocError>
+    fn add_space(&mut self, c: char, tag: &T) -> Result<(), AllocError>
         ensures padding { padding_of T.seen self.new ≡ padding_of T.seen self.old }
         ensures read { OnOk result (IsTrue (is_break_point c) → Moves T.seen self.old self.new (space_read c (T.seen tag.now))) }
     {
         if c != ZERO_WIDTH_SPACE && self.space.is_none() {
-            self.space = Some(tag.copy(alloc)?);
+            self.space = Some(self.lines.copy_tag(tag)?);
         }
         Ok(())
     }
 
     /// Lays the word, where it has columns; a word without columns joins the next.
-    fn end_word(&mut self, alloc: Global) -> Result<(), BlockError>
+    fn end_word(&mut self) -> Result<(), BlockError>
         ensures kinds { IfErr result (λ e. e ≡ BlockError.Memory) }
         ensures padding { padding_of T.seen self.new ≡ padding_of T.seen self.old }
         ensures read { OnOk result (Moves T.seen self.old self.new end_read) }
@@ -200,12 +198,12 @@ impl<T: EqualCopy + Drop> WrappedBlock<T> {
         if self.word.width() == 0 {
             Ok(())
         } else {
-            self.lay_word(alloc)
+            self.lay_word()
         }
     }
 
     /// Lays the word, where it has characters.
-    fn lay_word(&mut self, alloc: Global) -> Result<(), BlockError>
+    fn lay_word(&mut self) -> Result<(), BlockError>
         ensures kinds { IfErr result (λ e. e ≡ BlockError.Memory) }
         ensures padding { padding_of T.seen self.new ≡ padding_of T.seen self.old }
         ensures read { OnOk result (Moves T.seen self.old self.new lay_read) }
@@ -214,13 +212,13 @@ impl<T: EqualCopy + Drop> WrappedBlock<T> {
             return Ok(());
         }
         let space = self.space.take();
-        self.lines.add_word(alloc, space.as_ref(), &self.word)?;
+        self.lines.add_word(space.as_ref(), &self.word)?;
         self.word.clear();
         Ok(())
     }
 
     /// The lines of the text. Refused as `Memory`, or as `Failed` after a refusal.
-    pub fn into_lines(self, alloc: Global) -> Result<Vec<TaggedLine<T>>, BlockError>
+    pub fn into_lines(self) -> Result<Vec<TaggedLine<T>>, BlockError>
         ensures failed { has_failed self ≡ true → result ≡ Err BlockError.Failed }
         ensures kinds { has_failed self ≡ false → IfErr result (λ e. e ≡ BlockError.Memory) }
         ensures laid { IfOk result (λ lines. (width : ℕ) (overflow : Bool) (read : List (Letter T.Seen))
@@ -242,12 +240,12 @@ impl<T: EqualCopy + Drop> WrappedBlock<T> {
         if self.failed {
             Err(BlockError::Failed)
         } else {
-            self.lay_lines(alloc)
+            self.lay_lines()
         }
     }
 
     /// The lines of the text, filled where lines are to be.
-    fn lay_lines(mut self, alloc: Global) -> Result<Vec<TaggedLine<T>>, BlockError>
+    fn lay_lines(mut self) -> Result<Vec<TaggedLine<T>>, BlockError>
         ensures kinds { IfErr result (λ e. e ≡ BlockError.Memory) }
         ensures laid { IfOk result (λ lines. (width : ℕ) (overflow : Bool) (read : List (Letter T.Seen))
             → HasRead T.seen width overflow read self
@@ -256,7 +254,7 @@ impl<T: EqualCopy + Drop> WrappedBlock<T> {
         ensures joined { IfOk result (λ lines. (width : ℕ) (overflow : Bool) (read : List (Letter T.Seen))
             → HasRead T.seen width overflow read self → All (IsJoined T.seen) lines.items) }
     {
-        self.lay_word(alloc)?;
+        self.lay_word()?;
         let WrappedBlock {
             width,
             pad_blocks,
@@ -264,9 +262,9 @@ impl<T: EqualCopy + Drop> WrappedBlock<T> {
             lines,
             ..
         } = self;
-        let lines = lines.into_lines(alloc)?;
+        let lines = lines.into_lines()?;
         if pad_blocks {
-            Ok(pad_lines(alloc, lines, width, &default_tag)?)
+            Ok(pad_lines(lines, width, &default_tag)?)
         } else {
             Ok(lines)
         }
@@ -298,7 +296,6 @@ fn first_char(text: &str) -> Option<(char, &str)>
 
 /// Fills each line with spaces up to the width.
 fn pad_lines<T: EqualCopy + Drop>(
-    alloc: Global,
     mut lines: Vec<TaggedLine<T>>,
     width: usize,
     tag: &T,
@@ -308,14 +305,13 @@ fn pad_lines<T: EqualCopy + Drop>(
     ensures joined { All (IsJoined T.seen) lines.items → IfOk result (λ all. All (IsJoined T.seen) all.items) }
 {
     for line in lines.iter_mut() {
-        pad(alloc, line, width, tag)?;
+        pad(line, width, tag)?;
     }
     Ok(lines)
 }
 
 /// Fills the line with spaces up to the width; a wider one stays.
 fn pad<T: EqualCopy + Drop>(
-    alloc: Global,
     line: &mut TaggedLine<T>,
     width: usize,
     tag: &T,
@@ -326,7 +322,7 @@ fn pad<T: EqualCopy + Drop>(
 {
     let missing = width.saturating_sub(line.width());
     for _space in 0..missing {
-        line.push_char(alloc, ' ', tag)?;
+        line.push_char(' ', tag)?;
     }
     Ok(())
 }

@@ -6,7 +6,7 @@ use std::error::Error;
 use std::fmt;
 
 /// The text has a part that no line of the width can hold.
-#[derive(Clone, Copy, Debug, PartialEq, Eq)]
+#[derive(Clone, Copy, Debug)]
 pub struct TooNarrow;
 
 impl fmt::Display for TooNarrow {
@@ -18,7 +18,7 @@ impl fmt::Display for TooNarrow {
 impl Error for TooNarrow {}
 
 /// Why a block refused a call.
-#[derive(Clone, Copy, Debug, PartialEq, Eq)]
+#[derive(Clone, Copy, Debug)]
 pub enum BlockError {
     /// A character is wider than the block's lines.
     TooNarrow,

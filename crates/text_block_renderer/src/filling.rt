@@ -34,6 +34,13 @@ impl<T: EqualCopy + Drop> Filling<T> {
         }
     }
 
+    /// An equal tag, in the memory of the lines.
+    pub(crate) fn copy_tag(&self, tag: &T) -> Result<T, AllocError>
+        ensures { IfOk result (λ copy. T.seen copy ≡ T.seen tag.now) }
+    {
+        tag.copy(*self.done.allocator())
+    }
+
     /// Whether some line can hold so many columns.
     pub(crate) fn has_room_for(&self, columns: usize) -> bool
         ensures { result ≡ (self.now.allow_overflow || nat_le columns self.now.width) }
@@ -53,7 +60,6 @@ impl<T: EqualCopy + Drop> Filling<T> {
     /// it; else on a fresh line. A word wider than a line is cut there.
     pub(crate) fn add_word(
         &mut self,
-        alloc: Global,
         space: Option<&T>,
         word: &TaggedLine<T>,
     ) -> Result<(), BlockError>
@@ -62,15 +68,14 @@ impl<T: EqualCopy + Drop> Filling<T> {
         ensures kinds { IfErr result (λ e. e ≡ BlockError.Memory) }
     {
         if word.width() > self.width {
-            self.add_cut(alloc, word)
+            self.add_cut(word)
         } else {
-            self.add_whole(alloc, space, word)
+            self.add_whole(space, word)
         }
     }
 
     fn add_whole(
         &mut self,
-        alloc: Global,
         space: Option<&T>,
         word: &TaggedLine<T>,
     ) -> Result<(), BlockError>
@@ -78,92 +83,92 @@ impl<T: EqualCopy + Drop> Filling<T> {
             (option_map T.seen (option_copied space.entry)) (line_items T.seen word.now)) }
         ensures kinds { IfErr result (λ e. e ≡ BlockError.Memory) }
     {
-        self.make_room(alloc, space_columns(space), word.width())?;
-        push_behind(alloc, &mut self.line, space, word)?;
+        self.make_room(space_columns(space), word.width())?;
+        push_behind(&mut self.line, space, word)?;
         Ok(())
     }
 
-    fn add_cut(&mut self, alloc: Global, word: &TaggedLine<T>) -> Result<(), BlockError>
+    fn add_cut(&mut self, word: &TaggedLine<T>) -> Result<(), BlockError>
         ensures laid { OnOk result (LaysCut T.seen self.old self.new (line_items T.seen word.now)) }
         ensures kinds { IfErr result (λ e. e ≡ BlockError.Memory) }
     {
-        self.end_line(alloc)?;
-        self.cut_word(alloc, word)
+        self.end_line()?;
+        self.cut_word(word)
     }
 
-    fn cut_word(&mut self, alloc: Global, word: &TaggedLine<T>) -> Result<(), BlockError>
+    fn cut_word(&mut self, word: &TaggedLine<T>) -> Result<(), BlockError>
         ensures laid { OnOk result (Cuts T.seen self.old self.new (line_items T.seen word.now)) }
         ensures kinds { IfErr result (λ e. e ≡ BlockError.Memory) }
     {
         for element in word.iter() {
-            self.cut_element(alloc, element)?;
+            self.cut_element(element)?;
         }
         Ok(())
     }
 
     fn cut_element(
         &mut self,
-        alloc: Global,
         element: &TaggedLineElement<T>,
     ) -> Result<(), BlockError>
         ensures laid { OnOk result (Cuts T.seen self.old self.new (element_items T.seen element.now)) }
         ensures kinds { IfErr result (λ e. e ≡ BlockError.Memory) }
     {
         match element {
-            TaggedLineElement::Str(string) => self.cut_string(alloc, string),
+            TaggedLineElement::Str(string) => self.cut_string(string),
             TaggedLineElement::FragmentStart(_) => Ok(()),
         }
     }
 
-    fn cut_string(&mut self, alloc: Global, string: &TaggedString<T>) -> Result<(), BlockError>
+    fn cut_string(&mut self, string: &TaggedString<T>) -> Result<(), BlockError>
         ensures laid { OnOk result (Cuts T.seen self.old self.new
             (tagged (chars (string_bytes string.now.s)) (T.seen string.now.tag))) }
         ensures kinds { IfErr result (λ e. e ≡ BlockError.Memory) }
     {
         for c in string.s.as_str().chars() {
-            self.add_char(alloc, c, &string.tag)?;
+            self.add_char(c, &string.tag)?;
         }
         Ok(())
     }
 
     /// Adds a character of a cut word: on a fresh line, where it doesn't go on the line.
-    fn add_char(&mut self, alloc: Global, c: char, tag: &T) -> Result<(), BlockError>
+    fn add_char(&mut self, c: char, tag: &T) -> Result<(), BlockError>
         ensures laid { OnOk result (Cuts T.seen self.old self.new (tagged (c ∷ []) (T.seen tag.now))) }
         ensures kinds { IfErr result (λ e. e ≡ BlockError.Memory) }
     {
         let columns = UnicodeColumns::columns(c).unwrap_or(0);
-        self.make_room(alloc, 0, columns)?;
-        self.line.push_char(alloc, c, tag)?;
+        self.make_room(0, columns)?;
+        self.line.push_char(c, tag)?;
         Ok(())
     }
 
     /// Ends the line, where it doesn't take so many columns more.
-    fn make_room(&mut self, alloc: Global, gap: usize, columns: usize) -> Result<(), BlockError>
+    fn make_room(&mut self, gap: usize, columns: usize) -> Result<(), BlockError>
         ensures laid { OnOk result (Lays T.seen self.old self.new (with_room (gap + columns))) }
         ensures kinds { IfErr result (λ e. e ≡ BlockError.Memory) }
     {
         if self.fits(gap, columns) {
             Ok(())
         } else {
-            self.end_line(alloc)
+            self.end_line()
         }
     }
 
     /// Ends the line, where it has text.
-    fn end_line(&mut self, alloc: Global) -> Result<(), BlockError>
+    fn end_line(&mut self) -> Result<(), BlockError>
         ensures laid { OnOk result (Lays T.seen self.old self.new (λ width f. filled (all_lines f) [])) }
         ensures kinds { IfErr result (λ e. e ≡ BlockError.Memory) }
     {
         if self.line.is_empty() {
             return Ok(());
         }
-        let line = std::mem::replace(&mut self.line, TaggedLine::new(alloc));
+        let fresh = TaggedLine::new(*self.done.allocator());
+        let line = std::mem::replace(&mut self.line, fresh);
         self.done.push(line)?;
         Ok(())
     }
 
     /// The lines, the last one too.
-    pub(crate) fn into_lines(mut self, alloc: Global) -> Result<Vec<TaggedLine<T>>, BlockError>
+    pub(crate) fn into_lines(mut self) -> Result<Vec<TaggedLine<T>>, BlockError>
         ensures lines { IfOk result (λ lines. (width : ℕ) (overflow : Bool) (f : Filled T.Seen)
             → HoldsLines T.seen width overflow self f
             → map (line_items T.seen) lines.items ≡ map marks_items (all_lines f)) }
@@ -171,7 +176,7 @@ impl<T: EqualCopy + Drop> Filling<T> {
             → HoldsLines T.seen width overflow self f → All (IsJoined T.seen) lines.items) }
         ensures kinds { IfErr result (λ e. e ≡ BlockError.Memory) }
     {
-        self.end_line(alloc)?;
+        self.end_line()?;
         let Filling { done, .. } = self;
         Ok(done)
     }
@@ -189,7 +194,6 @@ fn space_columns<T: EqualCopy>(space: Option<&T>) -> usize
 
 /// Adds a word at a line's end, behind a space of the given tag where the line has text.
 fn push_behind<T: EqualCopy + Drop>(
-    alloc: Global,
     line: &mut TaggedLine<T>,
     space: Option<&T>,
     word: &TaggedLine<T>,
@@ -199,13 +203,12 @@ fn push_behind<T: EqualCopy + Drop>(
         ++ line_items T.seen word.now) }
     ensures joined { IsJoined T.seen line.old → IsJoined T.seen line.new }
 {
-    push_space(alloc, line, space)?;
-    line.push_line(alloc, word)
+    push_space(line, space)?;
+    line.push_line(word)
 }
 
 /// Adds a space of the given tag at a line's end, where the line has text.
 fn push_space<T: EqualCopy + Drop>(
-    alloc: Global,
     line: &mut TaggedLine<T>,
     space: Option<&T>,
 ) -> Result<(), AllocError>
@@ -217,7 +220,7 @@ fn push_space<T: EqualCopy + Drop>(
         return Ok(());
     }
     match space {
-        Some(tag) => line.push_char(alloc, ' ', tag),
+        Some(tag) => line.push_char(' ', tag),
         None => Ok(()),
     }
 }

@@ -5,12 +5,9 @@ mod block;
 mod fault;
 mod filling;
 mod layout_laws;
-#[cfg(test)]
-mod tests;
 mod units_laws;
 mod units_rows;
 mod white_space;
-mod wrapped;
 
 pub use block::WrappedBlock;
 pub use fault::{BlockError, TooNarrow};
@@ -19,4 +16,3 @@ pub use text_decorators::{
     Columns, EqualCopy, PlainDecorator, TaggedLine, TaggedLineElement, TaggedString, UnicodeColumns,
 };
 pub use white_space::WhiteSpace;
-pub use wrapped::wrapped_lines;

@@ -1,7 +1,6 @@
 /// How a text's white space is laid out.
-#[derive(Clone, Copy, Debug, Default, PartialEq, Eq)]
+#[derive(Clone, Copy)]
 pub enum WhiteSpace {
     /// White space collapses to one space, and lines break at it (CSS Text, `white-space: normal`).
-    #[default]
     Normal,
 }

@@ -18,7 +18,7 @@ map_nil : {A B : Type 0} (f : A → B) (xs : List A) → map f xs ≡ [] → xs 
 map_nil f [] h = refl
 map_nil f (x ∷ xs) h = cc
 
-chars_nil : (bs : List ℕ) → IsUtf8 bs → chars bs ≡ [] → bs ≡ []
+pub chars_nil : (bs : List ℕ) → IsUtf8 bs → chars bs ≡ [] → bs ≡ []
 chars_nil bs utf8 h = sym (encodes-chars bs utf8) ∙ ap encodes h
 
 pub item_free : {T S : Type 0} (seen : T → S) (e : TaggedLineElement T) → IsEmpty e → element_items seen e ≡ []

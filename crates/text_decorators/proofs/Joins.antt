@@ -1,6 +1,6 @@
 -- Texts and markers that are added at the end of a line's elements.
 use Rattle.std.proofs.Common.{◌≡◌, ℕ, ◌+◌, ◌-◌, ◌<◌, subst, List, [], ◌∷◌, ◌++◌, length, get_or, set, take, sym, ap, ◌∙◌, refl, append_assoc, arith}
-use Rattle.std.specs.Prelude.{Option, None, Some, Result, Ok, Err, OnOk, OnErr, chars, string_bytes, IsSomeAnd, slice_get}
+use Rattle.std.specs.Prelude.{Option, None, Some, chars, string_bytes, IsSomeAnd, slice_get}
 use Rattle.std.proofs.lemmas.Str.{chars-append, chars-nil, chars_past_char, IsUtf8-encode, IsUtf8-string_bytes}
 use Rattle.std.specs.Char.{IsScalar}
 use lib.Utf8.{encode}
@@ -66,10 +66,10 @@ pub text_added : {T S : Type 0} (seen : T → S) (old new : List (TaggedLineElem
 text_added seen old new cs tag n m total same counted rest all =
     more_columns seen old new (tagged cs tag) n m total same counted (rest ∙ ap text_columns (sym (characters-tagged cs tag))) all
 
-pub marker_added : {T S E : Type 0} (seen : T → S) (old new : List (TaggedLineElement T)) (name : List ℕ) (n : ℕ) (r : Result (Unit {0}) E) → OnOk r (elements_items seen new ≡ elements_items seen old ++ marker name ∷ []) → OnErr r (new ≡ old)
-    → n ≡ text_columns (elements_text old) → n ≡ text_columns (elements_text new)
-marker_added seen old new name n (Ok _) ok err counted = more_columns seen old new (marker name ∷ []) n 0 n ok counted refl (omega arith)
-marker_added seen old new name n (Err _) ok err counted = counted ∙ ap (λ es. text_columns (elements_text es)) (sym err)
+pub line_added : {T S : Type 0} (seen : T → S) (old new others given : List (TaggedLineElement T)) (n m total : ℕ) → elements_items seen new ≡ elements_items seen old ++ elements_items seen given → given ≡ others → n ≡ text_columns (elements_text old)
+    → m ≡ text_columns (elements_text others) → total ≡ n + m → total ≡ text_columns (elements_text new)
+line_added seen old new others given n m total same all counted rest sum =
+    more_columns seen old new (elements_items seen others) n m total (same ∙ ap (λ es. elements_items seen old ++ elements_items seen es) all) counted (rest ∙ ap text_columns (sym (elements_characters seen others))) sum
 
 -- ---- the last element
 
@@ -123,10 +123,10 @@ pub chars_of_one : (c : ℕ) → IsScalar c → chars (encode c) ≡ c ∷ []
 chars_of_one c scalar =
     chars_past_char (encode c) [] c (IsUtf8-encode c scalar) (sym (append-nil (encode c))) ∙ ap (λ cs. c ∷ cs) chars-nil
 
--- ---- a loop over the elements
+-- ---- a loop that copies elements
 
-pub items_more : {T S : Type 0} (seen : T → S) (xs : List (TaggedLineElement T)) (i : ℕ) (e : TaggedLineElement T) (start line new : List (Item S)) → i < length xs → e ≡ get_or xs i e → line ≡ start ++ elements_items seen (take i xs)
-    → new ≡ line ++ element_items seen e → new ≡ start ++ elements_items seen (take (i + 1) xs)
-items_more seen xs i e start line new inside read so_far added =
+pub items_more : {T S : Type 0} (seen : T → S) (xs : List (TaggedLineElement T)) (i : ℕ) (e : TaggedLineElement T) (copied new : List (Item S)) → i < length xs → e ≡ get_or xs i e → copied ≡ elements_items seen (take i xs)
+    → new ≡ copied ++ element_items seen e → new ≡ elements_items seen (take (i + 1) xs)
+items_more seen xs i e copied new inside read so_far added =
     let step = ap (elements_items seen) (take_more xs i e inside ∙ ap (λ x. take i xs ++ x ∷ []) (sym read)) ∙ elements_items-last seen (take i xs) e in
-    added ∙ ap (λ items. items ++ element_items seen e) so_far ∙ append_assoc start (elements_items seen (take i xs)) (element_items seen e) ∙ ap (λ items. start ++ items) (sym step)
+    added ∙ ap (λ items. items ++ element_items seen e) so_far ∙ sym step

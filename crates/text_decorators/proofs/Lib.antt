@@ -1,3 +1,4 @@
+pub mod Alike
 pub mod Copying
 pub mod Elementwise
 pub mod Emptiness

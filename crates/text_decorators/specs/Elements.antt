@@ -58,6 +58,12 @@ abbrev pub BeginsWithTag : {T S : Type 0} → (T → S) → S → List (TaggedLi
 BeginsWithTag seen tag [] = ⊥
 BeginsWithTag seen tag (e ∷ es) = HasTag seen tag e
 
+-- the last of some elements and the first of others are texts with one tag
+abbrev pub MeetWithTag : {T S : Type 0} → (T → S) → List (TaggedLineElement T) → List (TaggedLineElement T) → Type 0
+MeetWithTag seen es [] = ⊥
+MeetWithTag seen es (Str string ∷ fs) = EndsWithTag seen (seen string.tag) es
+MeetWithTag seen es (FragmentStart name ∷ fs) = ⊥
+
 -- no text is empty, and none stands next to a text with an equal tag
 abbrev pub AreJoined : {T S : Type 0} → (T → S) → List (TaggedLineElement T) → Type 0
 AreJoined seen [] = Unit {0}

@@ -18,7 +18,7 @@ pub trait Columns {
 
 /// The columns of `unicode_width` (Unicode Standard Annex #11), at most two. The characters that borders
 /// are made of have one.
-#[derive(Clone, Copy, Debug, PartialEq, Eq)]
+#[derive(Clone, Copy)]
 pub struct UnicodeColumns;
 
 impl Columns for UnicodeColumns {
@@ -46,28 +46,4 @@ fn is_border(c: char) -> bool
         c,
         '─' | '┬' | '┴' | '┼' | '│' | '┤' | '├' | '┌' | '┐' | '└' | '┘' | '/'
     )
-}
-
-#[cfg(test)]
-mod tests {
-    use super::*;
-
-    // The widths are those of the Unicode Character Database; `unicode_width` has three columns for U+17D8.
-    #[test]
-    fn columns_of_characters(rt: HostRuntime) {
-        let table = [
-            ('a', Some(1)),
-            (' ', Some(1)),
-            ('漢', Some(2)),
-            ('\u{301}', Some(0)),
-            ('\u{200b}', Some(0)),
-            ('\n', None),
-            ('\0', None),
-            ('─', Some(1)),
-            ('\u{17d8}', Some(2)),
-        ];
-        for (c, columns) in table {
-            assert_eq!(rt; UnicodeColumns::columns(c), columns);
-        }
-    }
 }

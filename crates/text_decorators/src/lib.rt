@@ -5,6 +5,7 @@
 mod columns;
 mod equal_copy;
 mod joining;
+pub mod laws;
 mod line_iterators;
 mod plain;
 mod tagged_line;

@@ -1,5 +1,5 @@
 /// The decorator of plain text: it tags nothing.
-#[derive(Clone, Copy, Debug, Default, PartialEq, Eq)]
+#[derive(Clone, Copy)]
 pub struct PlainDecorator;
 
 impl PlainDecorator {

@@ -6,14 +6,14 @@ ghost use Rattle.text_decorators.specs.Elements.{elements_text};
 
 use crate::columns::{Columns, UnicodeColumns};
 use crate::equal_copy::EqualCopy;
-use crate::joining::{push_character, push_marker, push_text};
+use crate::joining::{push_character, push_elements, push_text};
 use crate::line_iterators::{LineChars, TaggedStrings};
 use crate::tagged_string::{TaggedLineElement, columns_of};
 use std::alloc::{AllocError, Global};
 use std::{slice, vec};
 
 /// A line of tagged text. What is pushed joins the text before it where their tags are equal.
-#[derive(Debug, Drop, PartialEq)]
+#[derive(Drop, PartialEq)]
 pub struct TaggedLine<T> {
     elements: Vec<TaggedLineElement<T>>,
     columns: usize,
@@ -41,7 +41,7 @@ impl<T: EqualCopy + Drop> TaggedLine<T> {
         ensures joined { IfOk result (IsJoined T.seen) }
     {
         let mut line = TaggedLine::new(alloc);
-        line.push_str(alloc, s.as_str(), tag)?;
+        line.push_str(s.as_str(), tag)?;
         Ok(line)
     }
 
@@ -69,17 +69,17 @@ impl<T: EqualCopy + Drop> TaggedLine<T> {
     }
 
     /// Adds a text at the end. The error is want of memory alone, and leaves the line as it was.
-    pub fn push_str(&mut self, alloc: Global, text: &str, tag: &T) -> Result<(), AllocError>
+    pub fn push_str(&mut self, text: &str, tag: &T) -> Result<(), AllocError>
         ensures ok { OnOk result (line_items T.seen self.new
             ≡ line_items T.seen self.old ++ tagged (chars text.now) (T.seen tag.now)) }
         ensures err { OnErr result (line_items T.seen self.new ≡ line_items T.seen self.old) }
         ensures joined { IsJoined T.seen self.old → IsJoined T.seen self.new }
     {
-        self.push_counted(alloc, text, columns_of(text), tag)
+        self.push_counted(text, columns_of(text), tag)
     }
 
     /// Adds a character at the end. The error is want of memory alone, and leaves the line as it was.
-    pub fn push_char(&mut self, alloc: Global, c: char, tag: &T) -> Result<(), AllocError>
+    pub fn push_char(&mut self, c: char, tag: &T) -> Result<(), AllocError>
         ensures ok { OnOk result (line_items T.seen self.new
             ≡ line_items T.seen self.old ++ tagged (c ∷ []) (T.seen tag.now)) }
         ensures err { OnErr result (line_items T.seen self.new ≡ line_items T.seen self.old) }
@@ -89,59 +89,26 @@ impl<T: EqualCopy + Drop> TaggedLine<T> {
             .columns
             .checked_add(UnicodeColumns::columns(c).unwrap_or(0))
             .ok_or(AllocError)?;
-        push_character(&mut self.elements, alloc, c, tag)?;
+        push_character(&mut self.elements, c, tag)?;
         self.columns = wider;
         Ok(())
     }
 
-    /// Adds another line at the end. The error is want of memory alone; the line may then have taken a
-    /// beginning of the other.
-    pub fn push_line(&mut self, alloc: Global, other: &TaggedLine<T>) -> Result<(), AllocError>
+    /// Adds another line at the end. The error is want of memory alone, and leaves the line as it was.
+    pub fn push_line(&mut self, other: &TaggedLine<T>) -> Result<(), AllocError>
         ensures ok { OnOk result (line_items T.seen self.new
             ≡ line_items T.seen self.old ++ line_items T.seen other.now) }
-        ensures joined { IsJoined T.seen self.old → IsJoined T.seen self.new }
-    {
-        // The common case: a line of one element has that element's columns.
-        if let [element] = other.elements.as_slice() {
-            return self.push_copy(alloc, element, other.columns);
-        }
-        for element in &other.elements {
-            self.push_copy(alloc, element, element.width())?;
-        }
-        Ok(())
-    }
-
-    // Adds a copy of the element, which has that many columns, at the end.
-    fn push_copy(
-        &mut self,
-        alloc: Global,
-        element: &TaggedLineElement<T>,
-        columns: usize,
-    ) -> Result<(), AllocError>
-        requires { columns ≡ text_columns (chars (element_text element.now)) }
-        ensures ok { OnOk result (line_items T.seen self.new
-            ≡ line_items T.seen self.old ++ element_items T.seen element.now) }
         ensures err { OnErr result (line_items T.seen self.new ≡ line_items T.seen self.old) }
         ensures joined { IsJoined T.seen self.old → IsJoined T.seen self.new }
     {
-        match element {
-            TaggedLineElement::Str(string) => {
-                self.push_counted(alloc, string.s.as_str(), columns, &string.tag)
-            }
-            TaggedLineElement::FragmentStart(name) => {
-                push_marker(&mut self.elements, alloc, name.as_str())
-            }
-        }
+        let columns = self.columns.checked_add(other.columns).ok_or(AllocError)?;
+        push_elements(&mut self.elements, &other.elements)?;
+        self.columns = columns;
+        Ok(())
     }
 
     // Adds a text, which has that many columns, at the end.
-    fn push_counted(
-        &mut self,
-        alloc: Global,
-        text: &str,
-        columns: usize,
-        tag: &T,
-    ) -> Result<(), AllocError>
+    fn push_counted(&mut self, text: &str, columns: usize, tag: &T) -> Result<(), AllocError>
         requires { columns ≡ text_columns (chars text.now) }
         ensures ok { OnOk result (line_items T.seen self.new
             ≡ line_items T.seen self.old ++ tagged (chars text.now) (T.seen tag.now)) }
@@ -150,7 +117,7 @@ impl<T: EqualCopy + Drop> TaggedLine<T> {
     {
         // No memory holds a text of more columns than a `usize` counts.
         let columns = self.columns.checked_add(columns).ok_or(AllocError)?;
-        push_text(&mut self.elements, alloc, text, tag)?;
+        push_text(&mut self.elements, text, tag)?;
         self.columns = columns;
         Ok(())
     }
@@ -188,16 +155,12 @@ impl<T: Drop> TaggedLine<T> {
 
     /// The same line, with what `f` makes of each text's tag; texts whose tags become equal stay apart. The
     /// error is want of memory alone.
-    pub fn map_tag<U: Drop, F: Fn(T) -> U>(
-        self,
-        alloc: Global,
-        f: &F,
-    ) -> Result<TaggedLine<U>, AllocError>
+    pub fn map_tag<U: Drop, F: Fn(T) -> U>(self, f: &F) -> Result<TaggedLine<U>, AllocError>
         requires { F.IsAlwaysCallable f.now }
         ensures { IfOk result (λ line. MapsTags (F.post f.now) (line_elements self) (line_elements line)) }
     {
         let TaggedLine { elements, columns } = self;
-        let mut mapped = Vec::new(alloc);
+        let mut mapped = Vec::new(*elements.allocator());
         for element in elements {
             mapped.push(element.map_tag(f))?;
         }
@@ -210,16 +173,17 @@ impl<T: Drop> TaggedLine<T> {
 
 impl<T: EqualCopy + Drop> TaggedLine<T> {
     ghost use Rattle.text_decorators.specs.Elements.{CopiesAll};
-    ghost use Rattle.text_decorators.specs.Tagged.{line_elements, line_items};
+    ghost use Rattle.text_decorators.specs.Tagged.{line_elements, line_items, IsJoined};
 
     /// An equal line. The error is want of memory alone.
-    pub fn try_clone(&self, alloc: Global) -> Result<TaggedLine<T>, AllocError>
+    pub fn try_clone(&self) -> Result<TaggedLine<T>, AllocError>
         ensures elements { IfOk result (λ copy. CopiesAll T.seen (line_elements self.now) (line_elements copy)) }
         ensures items { IfOk result (λ copy. line_items T.seen copy ≡ line_items T.seen self.now) }
+        ensures joined { IsJoined T.seen self.now → IfOk result (IsJoined T.seen) }
     {
-        let mut elements = Vec::new(alloc);
+        let mut elements = Vec::new(*self.elements.allocator());
         for element in &self.elements {
-            elements.push(element.try_clone(alloc)?)?;
+            elements.push(element.try_clone()?)?;
         }
         Ok(TaggedLine {
             elements,
@@ -246,6 +210,3 @@ impl<T: Drop> IntoIterator for TaggedLine<T> {
         elements.into_iter()
     }
 }
-
-#[cfg(test)]
-mod tests;

@@ -3,10 +3,10 @@ ghost use Rattle.text_decorators.specs.Columns.{text_columns};
 
 use crate::columns::{Columns, UnicodeColumns};
 use crate::equal_copy::EqualCopy;
-use std::alloc::{AllocError, Global};
+use std::alloc::AllocError;
 
 /// A text with a tag.
-#[derive(Debug, Drop, PartialEq)]
+#[derive(Drop, PartialEq)]
 pub struct TaggedString<T> {
     /// The text.
     pub s: String,
@@ -35,10 +35,11 @@ impl<T> TaggedString<T> {
 
 impl<T: EqualCopy + Drop> TaggedString<T> {
     /// An equal string. The error is want of memory alone.
-    pub fn try_clone(&self, alloc: Global) -> Result<TaggedString<T>, AllocError>
+    pub fn try_clone(&self) -> Result<TaggedString<T>, AllocError>
         ensures text { IfOk result (λ copy. string_bytes copy.s ≡ string_bytes self.now.s) }
         ensures tag { IfOk result (λ copy. T.seen copy.tag ≡ T.seen self.now.tag) }
     {
+        let alloc = *self.s.allocator();
         Ok(TaggedString {
             s: String::from_str(alloc, self.s.as_str())?,
             tag: self.tag.copy(alloc)?,
@@ -47,7 +48,7 @@ impl<T: EqualCopy + Drop> TaggedString<T> {
 }
 
 /// A part of a line: a tagged text, or a marker between characters.
-#[derive(Debug, Drop, PartialEq)]
+#[derive(Drop, PartialEq)]
 pub enum TaggedLineElement<T> {
     /// A text with its tag.
     Str(TaggedString<T>),
@@ -123,13 +124,13 @@ impl<T: EqualCopy + Drop> TaggedLineElement<T> {
     ghost use Rattle.text_decorators.specs.Elements.{Copies};
 
     /// An equal element. The error is want of memory alone.
-    pub fn try_clone(&self, alloc: Global) -> Result<TaggedLineElement<T>, AllocError>
+    pub fn try_clone(&self) -> Result<TaggedLineElement<T>, AllocError>
         ensures { IfOk result (Copies T.seen self.now) }
     {
         match self {
-            TaggedLineElement::Str(string) => Ok(TaggedLineElement::Str(string.try_clone(alloc)?)),
+            TaggedLineElement::Str(string) => Ok(TaggedLineElement::Str(string.try_clone()?)),
             TaggedLineElement::FragmentStart(name) => {
-                let name = String::from_str(alloc, name.as_str())?;
+                let name = String::from_str(*name.allocator(), name.as_str())?;
                 Ok(TaggedLineElement::FragmentStart(name))
             }
         }

@@ -1,4 +1,5 @@
 use Rattle.text_decorators.proofs.Elementwise.{CopiesAll-more, CopiesAll-items, all_copied}
+use Rattle.text_decorators.proofs.Joined.{copies_joined}
 use Rattle.text_decorators.proofs.Joins.{same_columns}
 use Rattle.text_decorators.proofs.tagged_line.TaggedLine.try_clone.Goals as goal
 
@@ -16,3 +17,8 @@ pub returns-clause-items : goal.returns-clause-items
 returns-clause-items g c =
     let seen = g.T.EqualCopy.seen in
     CopiesAll-items seen c.args.self.now.elements.items c.loop-element.elements.items (all_copied seen c.deref-element-items.result.now _ c.loop-element.elements.items c.loop-element.element-index c.deref-element-items.ensures.value c.loop-element-test.false c.loop-element.invariant)
+
+pub returns-clause-joined : goal.returns-clause-joined
+returns-clause-joined g c =
+    let seen = g.T.EqualCopy.seen in
+    copies_joined seen c.args.self.now.elements.items c.loop-element.elements.items (all_copied seen c.deref-element-items.result.now _ c.loop-element.elements.items c.loop-element.element-index c.deref-element-items.ensures.value c.loop-element-test.false c.loop-element.invariant)

@@ -1,7 +1,8 @@
 use Rattle.std.proofs.Common.{◌≡◌, take}
 use Rattle.std.specs.Prelude.{None}
-use Rattle.text_block_renderer.specs.Block.{HasRead, padding_of, letters_of}
-use Rattle.text_block_renderer.proofs.wrapped.wrapped_lines.Given as goal
+use Rattle.text_block_renderer.specs.Block.{HasRead, padding_of}
+use Rattle.text_rows.specs.Letters.{letters_of}
+use Rattle.text_rows.proofs.wrapped.wrapped_lines.Given as goal
 
 abbrev pub invariant-loop-piece : goal.invariant-loop-piece
 invariant-loop-piece g l =

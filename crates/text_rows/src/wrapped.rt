@@ -1,17 +1,15 @@
 ghost use Rattle.std.specs.Prelude.{◌≡◌, ◌⊎◌, false, map, All, ◌≤◌, IfOk, IfErr};
 ghost use Rattle.text_decorators.specs.Tagged.{line_items, line_columns, IsJoined};
 ghost use Rattle.text_block_renderer.specs.Layout.{AreLinesOf, NeverFits};
-ghost use Rattle.text_block_renderer.specs.Block.{letters_of};
+ghost use Rattle.text_rows.specs.Letters.{letters_of};
 
-use crate::block::WrappedBlock;
-use crate::fault::BlockError;
-use crate::white_space::WhiteSpace;
 use std::alloc::Global;
+use text_block_renderer::{BlockError, WhiteSpace, WrappedBlock};
 use text_decorators::{EqualCopy, TaggedLine, TaggedString};
 
 /// The lines of some texts, joined: their fullest layout on lines of at most `width` columns. Refused as
 /// `Memory`, or as `TooNarrow` where there is no layout at all.
-pub fn wrapped_lines<T: EqualCopy + Drop>(
+pub(crate) fn wrapped_lines<T: EqualCopy + Drop>(
     alloc: Global,
     pieces: &[TaggedString<T>],
     width: usize,
@@ -27,12 +25,11 @@ pub fn wrapped_lines<T: EqualCopy + Drop>(
     let mut block = WrappedBlock::new(alloc, width, false, allow_overflow, default_tag);
     for piece in pieces {
         block.add_text(
-            alloc,
             piece.s.as_str(),
             WhiteSpace::Normal,
             &piece.tag,
             &piece.tag,
         )?;
     }
-    block.into_lines(alloc)
+    block.into_lines()
 }
