@@ -30,26 +30,33 @@ impl Blocks {
     }
 
     /// Adds a block's lines, behind an empty line where some line so far has content.
-    fn add_block(&mut self, alloc: Global, block: Vec<PlainLine>) -> Result<(), AllocError>
+    fn add_block(&mut self, block: Vec<PlainLine>) -> Result<(), AllocError>
         ensures ok { OnOk result (map plain_items self.new.lines.items
             ≡ map plain_items self.old.lines.items
                 ++ (block_start (map plain_items self.old.lines.items) ++ map plain_items block.items)) }
     {
-        self.start_block(alloc)?;
+        self.start_block()?;
         'lines: for line in block {
             self.add_line(line)?;
         }
         Ok(())
     }
 
-    fn start_block(&mut self, alloc: Global) -> Result<(), AllocError>
+    fn start_block(&mut self) -> Result<(), AllocError>
         ensures ok { OnOk result (map plain_items self.new.lines.items
             ≡ map plain_items self.old.lines.items ++ block_start (map plain_items self.old.lines.items)) }
     {
         if !self.has_content {
             return Ok(());
         }
-        self.add_line(TaggedLine::new(alloc))
+        let empty = self.empty_line();
+        self.add_line(empty)
+    }
+
+    fn empty_line(&self) -> PlainLine
+        ensures { plain_items result ≡ [] }
+    {
+        TaggedLine::new(*self.lines.allocator())
     }
 
     fn add_line(&mut self, line: PlainLine) -> Result<(), AllocError>
@@ -87,7 +94,7 @@ pub(crate) fn page_lines(
     let mut blocks = Blocks::new(alloc);
     'paragraphs: for text in paragraphs {
         let block = paragraph_lines(alloc, text.as_str(), width)?;
-        blocks.add_block(alloc, block)?;
+        blocks.add_block(block)?;
     }
     Ok(blocks.lines)
 }

@@ -7,7 +7,7 @@ pub returns : goal.returns
 returns c =
     record {
       ok = on_ok_weaker c.add_line.result
-          (λ added. block_started _ c.args.self.now.lines.items c.add_line.new.self.lines.items c.new.result c.args.self.now.has_content c.args.self.now.told c.if-not-self.false c.new.ensures.items added)
+          (λ added. block_started _ c.args.self.now.lines.items c.add_line.new.self.lines.items c.empty_line-empty.result c.args.self.now.has_content c.args.self.now.told c.if-not-self.false c.empty_line-empty.ensures added)
           c.add_line.ensures.ok;
     }
 
