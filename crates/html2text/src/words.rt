@@ -17,14 +17,14 @@ use std::alloc::{AllocError, Global};
 use std::io;
 
 /// What the words of a command line ask for.
-#[derive(Clone, Copy, Debug, PartialEq, Eq)]
+#[derive(Drop)]
 pub struct Request {
     /// The columns of a line.
     pub width: usize,
 }
 
 /// Why words are no request.
-#[derive(Debug, Drop)]
+#[derive(Drop)]
 pub enum WordFault {
     /// They ask for help: its text.
     Help(String),
@@ -55,7 +55,7 @@ impl WordFault {
 }
 
 /// How a run of the program ended.
-#[derive(Clone, Copy, Debug, PartialEq, Eq)]
+#[derive(Clone, Copy, PartialEq, Eq)]
 pub enum Outcome {
     /// The page was written, or help was asked for.
     Done,

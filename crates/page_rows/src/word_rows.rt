@@ -106,6 +106,6 @@ fn gives_each_status(rt: HostRuntime) {
         (Outcome::Words, 2),
         (Outcome::Table, 3),
     ] {
-        assert_eq!(rt; exit_status(&outcome), want, "{outcome:?}");
+        assert_eq!(rt; exit_status(&outcome), want);
     }
 }
