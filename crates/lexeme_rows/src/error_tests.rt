@@ -1,7 +1,8 @@
-use crate::rows::{COMMENTS, DOCTYPES, Lexeme, PLAIN, REFERENCES, TAGS};
-use crate::{FoundError, ParseErrors};
+//! The parse errors of lexemes and of text.
+use crate::error_rows::{COMMENTS, DOCTYPES, Lexeme, PLAIN, REFERENCES, TAGS};
 use html_lexemes::states::{RawKind, ScriptEscapeKind, State};
 use html_lexemes::{ReferenceTable, TableError, TagKind};
+use parse_errors::{FoundError, ParseErrors};
 use std::alloc::{AllocError, Global};
 use std::process::Abort;
 use std::test::Fail;
