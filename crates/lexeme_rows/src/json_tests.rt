@@ -1,5 +1,7 @@
 //! Tables of JSON texts.
+use crate::checks::holds;
 use html_lexemes::ReferenceTable;
+use std::alloc::Global;
 use std::test::Fail;
 
 /// A text, and its fault.
@@ -66,14 +68,18 @@ static FAULTS: [(&str, &str); 29] = [
     ("{\"&x\":38}", "bad code points of \"&x\""),
 ];
 
+// whether the table of a text is refused so
+fn is_refused(alloc: Global, text: &str, expected: &str) -> Result<bool, Fail> {
+    match ReferenceTable::from_json(alloc, text) {
+        Ok(_) => Ok(false),
+        Err(fault) => Ok(fault.to_string(alloc)?.as_str() == expected),
+    }
+}
+
 #[test]
 fn the_first_fault_is_told(rt: HostRuntime) -> Result<(), Fail> {
-    let alloc = rt.alloc();
     for (text, expected) in &FAULTS {
-        match ReferenceTable::from_json(alloc, text) {
-            Ok(_) => assert!(rt; false, "at {text}"),
-            Err(fault) => assert_eq!(rt; fault.to_string(alloc)?.as_str(), *expected, "at {text}"),
-        }
+        holds(&rt, is_refused(rt.alloc(), text, expected)?, text);
     }
     Ok(())
 }
@@ -83,14 +89,26 @@ fn names_have_their_values(rt: HostRuntime) -> Result<(), Fail> {
     let text = "{\"&not\":{\"codepoints\":[172]},\"&notin;\":{\"codepoints\":[8713]},\
         \"&bne;\":{\"codepoints\":[61,8421],\"characters\":\"=\\u20E5\"}}";
     let table = ReferenceTable::from_json(rt.alloc(), text)?;
-    assert_eq!(rt; table.value("not"), Some("\u{ac}"));
-    assert_eq!(rt; table.value("notin;"), Some("\u{2209}"));
-    assert_eq!(rt; table.value("notin"), None);
-    assert_eq!(rt; table.value("bne;"), Some("=\u{20e5}"));
+    for (name, value) in [
+        ("not", Some("\u{ac}")),
+        ("notin;", Some("\u{2209}")),
+        ("notin", None),
+        ("bne;", Some("=\u{20e5}")),
+    ] {
+        holds(&rt, table.value(name) == value, name);
+    }
+    Ok(())
+}
+
+#[test]
+fn an_empty_object_has_no_names(rt: HostRuntime) -> Result<(), Fail> {
     let table = ReferenceTable::from_json(rt.alloc(), "{}")?;
-    assert_eq!(rt; table.value("amp;"), None);
-    assert!(rt; !table.has_name_beginning(""));
-    assert!(rt; !table.has_longer_name(""));
-    assert!(rt; table.longest_name("a").is_none());
+    holds(&rt, table.value("amp;").is_none(), "a name");
+    holds(
+        &rt,
+        !table.has_name_beginning("") && !table.has_longer_name(""),
+        "any name",
+    );
+    holds(&rt, table.longest_name("a").is_none(), "a text");
     Ok(())
 }

@@ -1,6 +1,8 @@
-//! Calls of the tokenizer's lowest layers, and the parse errors of lexemes, with answers from outside. It has tests alone.
+//! Calls of the lowest layers with answers from outside, and the parse errors of lexemes. It has tests alone.
 #![tactic(auto)]
 
+#[cfg(test)]
+mod checks;
 #[cfg(test)]
 mod device_tests;
 #[cfg(test)]

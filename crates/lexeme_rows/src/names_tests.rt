@@ -1,4 +1,5 @@
 //! Texts, names, tags, tokens and states, compared.
+use crate::checks::holds;
 use html_lexemes::states::{RawKind, ScriptEscapeKind, State};
 use html_lexemes::{
     Attribute, Attributes, Doctype, ErrorMessage, LocalName, Namespace, ProcessResult, QualName,
@@ -12,28 +13,6 @@ fn hash_of<T: Hash>(value: &T) -> u64 {
     let mut hasher = DefaultHasher::new();
     value.hash(&mut hasher);
     hasher.finish()
-}
-
-fn attribute(alloc: Global, local: &str, value: &str) -> Result<Attribute, AllocError> {
-    Ok(Attribute {
-        name: QualName::new(Namespace::Html, LocalName::from_str(alloc, local)?),
-        value: Text::from_str(alloc, value)?,
-    })
-}
-
-// a start tag with these attributes
-fn tag(alloc: Global, pairs: &[(&str, &str)]) -> Result<Tag, AllocError> {
-    let mut attrs = Attributes::new(alloc);
-    for (local, value) in pairs {
-        attrs.push(attribute(alloc, local, value)?)?;
-    }
-    Ok(Tag {
-        kind: TagKind::StartTag,
-        name: LocalName::from_str(alloc, "a")?,
-        self_closing: false,
-        attrs,
-        had_duplicate_attributes: false,
-    })
 }
 
 /// In the order of their code points. A character of two units in UTF-16 stands behind U+FFFD.
@@ -50,16 +29,26 @@ static TEXTS: [&str; 10] = [
     "\u{10ffff}",
 ];
 
+// whether two texts are found equal, hashed alike and in order just where that is said
+fn are_compared(
+    alloc: Global,
+    first: &str,
+    second: &str,
+    is_same: bool,
+    is_less: bool,
+) -> Result<bool, AllocError> {
+    let a = Text::from_str(alloc, first)?;
+    let b = Text::from_str(alloc, second)?;
+    let is_hashed = (hash_of(&a) == hash_of(&b)) == is_same;
+    Ok(is_hashed && (a == b) == is_same && (a < b) == is_less)
+}
+
 #[test]
 fn texts_are_compared_by_code_points(rt: HostRuntime) -> Result<(), Fail> {
-    let alloc = rt.alloc();
     for i in 0..TEXTS.len() {
         for j in 0..TEXTS.len() {
-            let a = Text::from_str(alloc, TEXTS[i])?;
-            let b = Text::from_str(alloc, TEXTS[j])?;
-            assert_eq!(rt; a == b, i == j);
-            assert_eq!(rt; a < b, i < j);
-            assert_eq!(rt; hash_of(&a) == hash_of(&b), i == j);
+            let is_so = are_compared(rt.alloc(), TEXTS[i], TEXTS[j], i == j, i < j)?;
+            holds(&rt, is_so, TEXTS[i]);
         }
     }
     Ok(())
@@ -68,113 +57,164 @@ fn texts_are_compared_by_code_points(rt: HostRuntime) -> Result<(), Fail> {
 #[test]
 fn texts_are_made_and_given_back(rt: HostRuntime) -> Result<(), Fail> {
     let text = Text::from(String::from_str(rt.alloc(), "né")?);
-    assert_eq!(rt; text.as_str(), "né");
     let copy = text.try_clone()?;
-    assert!(rt; copy == text);
-    assert_eq!(rt; copy.into_string().as_str(), "né");
     let name = LocalName::from(text);
-    assert_eq!(rt; name.as_str(), "né");
-    assert!(rt; name.try_clone()? == name);
-    assert_eq!(rt; name.into_text().as_str(), "né");
+    holds(&rt, name.as_str() == "né", "a name");
+    let given = name.try_clone()?.into_text();
+    holds(&rt, given == copy, "a copy");
+    holds(&rt, copy.into_string().as_str() == "né", "a text");
+    Ok(())
+}
+
+fn attribute(alloc: Global, local: &str, value: &str) -> Result<Attribute, AllocError> {
+    Ok(Attribute {
+        name: QualName::new(Namespace::Html, LocalName::from_str(alloc, local)?),
+        value: Text::from_str(alloc, value)?,
+    })
+}
+
+#[test]
+fn attributes_are_compared_by_name_and_value(rt: HostRuntime) -> Result<(), Fail> {
+    let first = attribute(rt.alloc(), "a", "2")?;
+    let second = attribute(rt.alloc(), "b", "1")?;
+    holds(&rt, first < second && first != second, "two names");
+    let copy = first.try_clone()?;
+    holds(&rt, copy == first, "a copy");
+    holds(&rt, hash_of(&copy) == hash_of(&first), "its hash");
     Ok(())
 }
 
 #[test]
-fn names_are_compared_by_namespace_and_name(rt: HostRuntime) -> Result<(), Fail> {
-    let alloc = rt.alloc();
-    let other = Namespace::Other(Text::from_str(alloc, "urn:x")?);
-    assert!(rt; other.try_clone()? == other);
-    let a = attribute(alloc, "a", "")?.name;
-    let b = attribute(alloc, "b", "")?.name;
-    let elsewhere = QualName::new(Namespace::Svg, LocalName::from_str(alloc, "a")?);
-    assert!(rt; a < b);
-    assert!(rt; b < elsewhere);
-    assert!(rt; a != elsewhere);
-    assert!(rt; a.try_clone()? == a);
-    assert_eq!(rt; hash_of(&a.try_clone()?), hash_of(&a));
-    assert!(rt; attribute(alloc, "x", "1")? < attribute(alloc, "x", "2")?);
+fn names_are_compared_by_namespace_first(rt: HostRuntime) -> Result<(), Fail> {
+    let other = Namespace::Other(Text::from_str(rt.alloc(), "urn:x")?);
+    let copy = other.try_clone()?;
+    holds(&rt, copy == other && Namespace::Svg < other, "namespaces");
+    let name = QualName::new(other, LocalName::from_str(rt.alloc(), "a")?);
+    holds(&rt, name.try_clone()? == name, "a copy");
+    holds(&rt, attribute(rt.alloc(), "b", "")?.name < name, "names");
     Ok(())
+}
+
+// these attributes, with the values
+fn attributes(alloc: Global, pairs: &[(&str, &str)]) -> Result<Attributes, AllocError> {
+    let mut attributes = Attributes::new(alloc);
+    for (local, value) in pairs {
+        attributes.push(attribute(alloc, local, value)?)?;
+    }
+    Ok(attributes)
 }
 
 #[test]
 fn attributes_are_a_list(rt: HostRuntime) -> Result<(), Fail> {
-    let alloc = rt.alloc();
-    let mut attributes = Attributes::new(alloc);
-    attributes.push(attribute(alloc, "x", "1")?)?;
-    attributes.push(attribute(alloc, "y", "")?)?;
-    assert_eq!(rt; attributes.as_slice().len(), 2);
-    let copy = attributes.try_clone()?;
-    assert!(rt; copy == attributes);
+    let first = attributes(rt.alloc(), &[("x", "1"), ("y", "")])?;
+    let copy = first.try_clone()?;
+    holds(&rt, copy == first && copy.as_slice().len() == 2, "a copy");
     let items = copy.into_vec();
-    assert_eq!(rt; items.len(), 2);
-    assert!(rt; items[1].try_clone()? == attribute(alloc, "y", "")?);
-    assert!(rt; Attributes::from(items) == attributes);
+    holds(&rt, items.len() == 2, "a vector");
+    holds(&rt, Attributes::from(items) == first, "attributes of it");
     Ok(())
+}
+
+// a start tag with these attributes
+fn tag(alloc: Global, pairs: &[(&str, &str)]) -> Result<Tag, AllocError> {
+    Ok(Tag {
+        kind: TagKind::StartTag,
+        name: LocalName::from_str(alloc, "a")?,
+        self_closing: false,
+        attrs: attributes(alloc, pairs)?,
+        had_duplicate_attributes: false,
+    })
 }
 
 #[test]
 fn tags_are_equivalent_in_any_order_of_attributes(rt: HostRuntime) -> Result<(), Fail> {
-    let alloc = rt.alloc();
-    let first = tag(alloc, &[("x", "1"), ("y", "2"), ("x", "1")])?;
-    let reordered = tag(alloc, &[("y", "2"), ("x", "1"), ("x", "1")])?;
-    let other_counts = tag(alloc, &[("x", "1"), ("y", "2"), ("y", "2")])?;
-    let fewer = tag(alloc, &[("x", "1"), ("y", "2")])?;
-    assert!(rt; first.equiv_modulo_attr_order(&first));
-    assert!(rt; first.equiv_modulo_attr_order(&reordered));
-    assert!(rt; !first.equiv_modulo_attr_order(&other_counts));
-    assert!(rt; !first.equiv_modulo_attr_order(&fewer));
-    let mut end = first.try_clone()?;
-    assert!(rt; end == first);
-    end.kind = TagKind::EndTag;
-    assert!(rt; !first.equiv_modulo_attr_order(&end));
-    let mut renamed = first.try_clone()?;
-    renamed.name = LocalName::from_str(alloc, "b")?;
-    assert!(rt; !first.equiv_modulo_attr_order(&renamed));
-    let mut closed = first.try_clone()?;
-    closed.self_closing = true;
-    assert!(rt; first.equiv_modulo_attr_order(&closed));
+    let first = tag(rt.alloc(), &[("x", "1"), ("y", "2"), ("x", "1")])?;
+    for (pairs, expected) in [
+        ([("x", "1"), ("y", "2"), ("x", "1")], true),
+        ([("y", "2"), ("x", "1"), ("x", "1")], true),
+        ([("x", "1"), ("y", "2"), ("y", "2")], false),
+        ([("x", "1"), ("y", "2"), ("x", "2")], false),
+    ] {
+        let other = tag(rt.alloc(), &pairs)?;
+        holds(
+            &rt,
+            first.equiv_modulo_attr_order(&other) == expected,
+            pairs[2].1,
+        );
+    }
     Ok(())
 }
 
 #[test]
-fn tokens_and_answers_are_told_apart(rt: HostRuntime) -> Result<(), Fail> {
-    let alloc = rt.alloc();
-    let text = Token::CharacterTokens(Text::from_str(alloc, "a")?);
-    let comment = Token::CommentToken(Text::from_str(alloc, "a")?);
-    assert!(rt; text != comment);
-    let tagged = Token::TagToken(tag(alloc, &[])?);
-    assert!(rt; tagged == Token::TagToken(tag(alloc, &[])?));
+fn tags_are_equivalent_of_one_kind_and_name(rt: HostRuntime) -> Result<(), Fail> {
+    let first = tag(rt.alloc(), &[("x", "1")])?;
+    let mut other = first.try_clone()?;
+    holds(&rt, other == first, "a copy");
+    other.self_closing = true;
+    holds(&rt, first.equiv_modulo_attr_order(&other), "a closed one");
+    other.kind = TagKind::EndTag;
+    holds(&rt, !first.equiv_modulo_attr_order(&other), "an end tag");
+    other.kind = TagKind::StartTag;
+    other.name = LocalName::from_str(rt.alloc(), "b")?;
+    holds(&rt, !first.equiv_modulo_attr_order(&other), "another name");
+    Ok(())
+}
+
+#[test]
+fn doctypes_tell_missing_from_empty(rt: HostRuntime) -> Result<(), Fail> {
     let doctype = Doctype {
-        name: Some(Text::from_str(alloc, "html")?),
+        name: None,
         public_id: None,
-        system_id: Some(Text::from_str(alloc, "")?),
+        system_id: Some(Text::from_str(rt.alloc(), "")?),
         force_quirks: false,
     };
     let copy = doctype.try_clone()?;
-    assert!(rt; copy == doctype);
-    assert!(rt; copy.public_id != copy.system_id);
-    let made = ErrorMessage::Made(Text::from_str(alloc, "at a")?);
-    assert_eq!(rt; made.as_str(), "at a");
-    assert_eq!(rt; ErrorMessage::Fixed("bad").as_str(), "bad");
-    assert!(rt; Token::ParseError(made) != Token::NullCharacterToken);
-    let script: TokenSinkResult<u8> = TokenSinkResult::Script(3);
-    assert!(rt; script != TokenSinkResult::RawData(RawKind::Rcdata));
-    let pause: ProcessResult<u8> = ProcessResult::EncodingIndicator(Text::from_str(alloc, "x")?);
-    assert!(rt; pause != ProcessResult::Suspend);
+    holds(&rt, copy == doctype, "a copy");
+    holds(&rt, copy.public_id != copy.system_id, "an empty one");
     Ok(())
+}
+
+#[test]
+fn tokens_are_told_apart(rt: HostRuntime) -> Result<(), Fail> {
+    let text = Token::CharacterTokens(Text::from_str(rt.alloc(), "a")?);
+    holds(&rt, text != Token::NullCharacterToken, "a text");
+    Ok(())
+}
+
+#[test]
+fn messages_are_lent(rt: HostRuntime) -> Result<(), Fail> {
+    let made = ErrorMessage::Made(Text::from_str(rt.alloc(), "a")?);
+    holds(&rt, made.as_str() == "a", "a made message");
+    holds(
+        &rt,
+        ErrorMessage::Fixed("bad").as_str() == "bad",
+        "a fixed message",
+    );
+    Ok(())
+}
+
+#[test]
+fn answers_are_told_apart(rt: HostRuntime) {
+    let script: TokenSinkResult<u8> = TokenSinkResult::Script(3);
+    holds(
+        &rt,
+        script != TokenSinkResult::RawData(RawKind::Rcdata),
+        "of a sink",
+    );
+    let script: ProcessResult<u8> = ProcessResult::Script(3);
+    holds(&rt, script != ProcessResult::Suspend, "of a parser");
 }
 
 #[test]
 fn states_are_in_their_order(rt: HostRuntime) {
     let escaped = State::RawData(RawKind::ScriptDataEscaped(ScriptEscapeKind::Escaped));
     let double = State::RawData(RawKind::ScriptDataEscaped(ScriptEscapeKind::DoubleEscaped));
-    assert!(rt; State::Data < State::Plaintext);
-    assert!(rt; State::TagName < escaped);
-    assert!(rt; escaped < double);
-    assert!(rt; double < State::CdataSectionEnd);
-    assert!(rt; hash_of(&escaped) != hash_of(&double));
-    assert_eq!(rt;
-        hash_of(&escaped),
-        hash_of(&State::RawData(RawKind::ScriptDataEscaped(ScriptEscapeKind::Escaped)))
+    holds(&rt, State::Data < State::Plaintext, "ordinary text");
+    holds(
+        &rt,
+        State::TagName < escaped && escaped < double,
+        "text of a script",
     );
+    holds(&rt, double < State::CdataSectionEnd, "a section's end");
+    holds(&rt, hash_of(&escaped) != hash_of(&double), "hashes");
 }

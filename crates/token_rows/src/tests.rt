@@ -171,7 +171,7 @@ fn a_refusal_lasts(rt: HostRuntime) -> Result<(), Fail> {
         queue.push_back(String::from_str(alloc, "<p>a")?)?;
         let is_done = tokenizer
             .feed(&mut queue)
-            .map(|result| matches!(result, TokenizerResult::Done));
+            .map(|answer| matches!(answer, TokenizerResult::Done));
         assert_eq!(rt; is_done, fed, "after {taken}");
         assert_eq!(rt; tokenizer.end(), ended, "after {taken}");
         assert_eq!(rt;
