@@ -25,7 +25,7 @@ use html_lexemes::{ErrorMessage, LocalName, ReferenceTable, Tag, TagKind, Text, 
 use std::alloc::{AllocError, Global};
 
 /// What stands first in a text.
-#[derive(Debug, Drop)]
+#[derive(Drop)]
 pub enum Lexeme<'t> {
     /// Nothing: the end, also in a tag.
     Nothing,

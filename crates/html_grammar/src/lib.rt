@@ -9,6 +9,7 @@ pub mod lexemes;
 mod modes;
 pub mod plain;
 mod references;
+mod rows;
 mod sink;
 pub mod slice_laws;
 pub mod slices;
@@ -17,6 +18,3 @@ pub mod tags;
 pub use modes::{Mode, TextKind};
 pub use plain::read_plainly;
 pub use sink::{TokenSink, TokenizerOpts};
-
-#[cfg(test)]
-mod rows;

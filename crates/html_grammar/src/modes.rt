@@ -2,7 +2,7 @@ use html_lexemes::LocalName;
 use html_lexemes::states::RawKind;
 
 /// How the text of a page is read.
-#[derive(Clone, Copy, Debug, PartialEq, Eq)]
+#[derive(Clone, Copy)]
 pub enum TextKind {
     /// Text with markup (WHATWG HTML, 13.2.5.1).
     Ordinary,
@@ -13,7 +13,7 @@ pub enum TextKind {
 }
 
 /// The kind of text, and the name of the last start tag, whose end tag ends text of an element.
-#[derive(Debug, Drop)]
+#[derive(Drop)]
 pub struct Mode {
     /// The kind of text.
     pub text: TextKind,

@@ -14,7 +14,7 @@ use html_lexemes::{ReferenceTable, Text};
 use std::alloc::{AllocError, Global};
 
 /// A reference that stands behind a `&`.
-#[derive(Debug, Drop)]
+#[derive(Drop)]
 pub struct Found<'t> {
     /// What it stands for.
     pub characters: Text,

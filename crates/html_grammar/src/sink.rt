@@ -50,7 +50,7 @@ pub trait TokenSink {
 }
 
 /// How a page's text is read.
-#[derive(Debug, Drop)]
+#[derive(Drop)]
 pub struct TokenizerOpts {
     /// Whether errors are told with what stood there.
     pub exact_errors: bool,

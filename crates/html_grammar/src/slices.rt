@@ -6,7 +6,7 @@ ghost use Rattle.html_grammar.specs.Classes.{is_of};
 ghost use Rattle.html_grammar.specs.Read.{cut_of};
 
 /// What the characters of a slice have in common.
-#[derive(Clone, Copy, Debug, PartialEq, Eq)]
+#[derive(Clone, Copy)]
 pub enum CharacterClass {
     /// TAB, LF, FF and SPACE.
     Space,

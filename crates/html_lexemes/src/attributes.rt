@@ -6,7 +6,7 @@ use std::alloc::{AllocError, Global};
 use std::marker::Model;
 
 /// The attributes of a tag, in their order. Contracts see a list.
-#[derive(Debug, Drop)]
+#[derive(Drop)]
 pub struct Attributes {
     items: Vec<Attribute>,
 }

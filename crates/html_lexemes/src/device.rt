@@ -7,7 +7,7 @@ use std::fmt;
 use std::io::{Read, Write};
 
 /// A device refused a read or a write. It has failed, and refuses every later call.
-#[derive(Clone, Copy, Debug, PartialEq, Eq, Hash)]
+#[derive(Clone, Copy, Debug)]
 pub struct DeviceFault;
 
 impl fmt::Display for DeviceFault {
@@ -166,6 +166,7 @@ impl<W: Write> ByteWriter for Device<W> {
             }
         }
     }
+
     fn flush(&mut self) -> Result<(), DeviceFault> {
         if self.failed || self.inner.flush().is_err() {
             self.failed = true;

@@ -6,7 +6,7 @@ use std::error::Error;
 use std::fmt;
 
 /// Why a reading object refused a call.
-#[derive(Clone, Copy, Debug, PartialEq, Eq, Hash)]
+#[derive(Clone, Copy, Debug, PartialEq, Eq)]
 pub enum ParseFault {
     /// A growth was refused for want of memory.
     Memory,

@@ -7,9 +7,11 @@ mod attributes;
 mod device;
 mod fault;
 mod json;
+mod json_rows;
 pub mod laws;
 mod names;
 mod queue;
+mod rows;
 pub mod states;
 mod table;
 mod table_error;
@@ -25,18 +27,3 @@ pub use table::{NamedReference, ReferenceTable};
 pub use table_error::TableError;
 pub use text::Text;
 pub use token::{Doctype, ErrorMessage, ProcessResult, Tag, TagKind, Token, TokenSinkResult};
-
-#[cfg(test)]
-mod json_rows;
-#[cfg(test)]
-mod json_tests;
-#[cfg(test)]
-mod names_tests;
-#[cfg(test)]
-mod queue_tests;
-#[cfg(test)]
-mod rows;
-#[cfg(test)]
-mod table_tests;
-#[cfg(test)]
-mod tests;

@@ -6,7 +6,7 @@ use std::marker::Model;
 
 /// The local name of an element or an attribute (WHATWG DOM, 1.4). Contracts see the list of its code
 /// points; equality, order and hashing are those of that list.
-#[derive(Debug, Drop, PartialEq, Eq, PartialOrd, Ord, Hash)]
+#[derive(Drop, PartialEq, Eq, PartialOrd, Ord, Hash)]
 pub struct LocalName {
     name: Text,
 }
@@ -69,7 +69,7 @@ impl From<Text> for LocalName {
 }
 
 /// The namespace of an element or an attribute (WHATWG Infra, 8).
-#[derive(Debug, Drop, PartialEq, Eq, PartialOrd, Ord, Hash)]
+#[derive(Drop, PartialEq, Eq, PartialOrd, Ord, Hash)]
 pub enum Namespace {
     /// `http://www.w3.org/1999/xhtml`.
     Html,
@@ -96,7 +96,7 @@ impl Namespace {
 }
 
 /// A name in its namespace.
-#[derive(Debug, Drop, PartialEq, Eq, PartialOrd, Ord, Hash)]
+#[derive(Drop, PartialEq, Eq, PartialOrd, Ord, Hash)]
 pub struct QualName {
     /// The namespace.
     pub ns: Namespace,
@@ -124,7 +124,7 @@ impl QualName {
 }
 
 /// An attribute of a tag: its name and its value, with character references read.
-#[derive(Debug, Drop, PartialEq, Eq, PartialOrd, Ord, Hash)]
+#[derive(Drop, PartialEq, Eq, PartialOrd, Ord, Hash)]
 pub struct Attribute {
     /// The name, of which a tag has each once.
     pub name: QualName,

@@ -9,7 +9,7 @@ use std::marker::Model;
 use std::mem;
 
 /// What stood at a queue's front: a character of a set, or a run of characters outside it.
-#[derive(Debug, Drop, PartialEq, Eq)]
+#[derive(Drop)]
 pub enum SetResult {
     /// A character of the set.
     FromSet(char),
@@ -23,7 +23,7 @@ pub enum SetResult {
 ///
 /// What was taken stays in memory until a text comes when it is at least as long as what is left, at
 /// the latest until all is taken and a text comes. Taking is constant time for each character.
-#[derive(Debug, Drop)]
+#[derive(Drop)]
 pub struct BufferQueue {
     // what is left stands from `start` on, in bytes
     text: String,

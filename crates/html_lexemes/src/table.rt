@@ -42,7 +42,7 @@ impl Model for ReferenceTable {
 }
 
 /// A name of a table that a text begins with, and what it stands for.
-#[derive(Clone, Copy, Debug, PartialEq, Eq)]
+#[derive(Clone, Copy)]
 pub struct NamedReference<'t> {
     /// The name, without its `&`.
     pub name: &'t str,

@@ -7,7 +7,7 @@ use std::error::Error;
 use std::fmt;
 
 /// Why there is no table of references.
-#[derive(Debug, Drop, PartialEq, Eq)]
+#[derive(Debug, Drop)]
 pub enum TableError {
     /// The text is no JSON.
     NotJson,

@@ -8,7 +8,7 @@ use crate::text::Text;
 use std::alloc::AllocError;
 
 /// Whether a tag opens or closes an element.
-#[derive(Clone, Copy, Debug, PartialEq, Eq, PartialOrd, Ord, Hash)]
+#[derive(Clone, Copy, PartialEq, Eq)]
 pub enum TagKind {
     /// `<name>`.
     StartTag,
@@ -17,7 +17,7 @@ pub enum TagKind {
 }
 
 /// A tag (WHATWG HTML, 13.2.5).
-#[derive(Debug, Drop, PartialEq, Eq)]
+#[derive(Drop, PartialEq, Eq)]
 pub struct Tag {
     /// Whether it is a start tag or an end tag.
     pub kind: TagKind,
@@ -65,7 +65,7 @@ impl Tag {
 }
 
 /// A doctype (WHATWG HTML, 13.2.5). What is missing is `None`, which is not the empty text.
-#[derive(Debug, Drop, PartialEq, Eq)]
+#[derive(Drop, PartialEq, Eq)]
 pub struct Doctype {
     /// The name, in lower case where it came from a page.
     pub name: Option<Text>,
@@ -102,7 +102,7 @@ fn clone_if_given(text: &Option<Text>) -> Result<Option<Text>, AllocError>
 
 /// What a parse error says: a text of the program, or one made for it. It is for people to read, and
 /// nothing depends on it.
-#[derive(Debug, Drop, PartialEq, Eq)]
+#[derive(Drop, PartialEq, Eq)]
 pub enum ErrorMessage {
     /// A text of the program.
     Fixed(&'static str),
@@ -125,7 +125,7 @@ impl ErrorMessage {
 }
 
 /// What a tokenizer tells (WHATWG HTML, 13.2.5).
-#[derive(Debug, Drop, PartialEq, Eq)]
+#[derive(Drop, PartialEq, Eq)]
 pub enum Token {
     /// A doctype.
     DoctypeToken(Doctype),
@@ -144,7 +144,7 @@ pub enum Token {
 }
 
 /// What a sink asks of the tokenizer after a token.
-#[derive(Debug, Drop, PartialEq, Eq)]
+#[derive(Drop, PartialEq, Eq)]
 pub enum TokenSinkResult<H> {
     /// To go on.
     Continue,
@@ -159,7 +159,7 @@ pub enum TokenSinkResult<H> {
 }
 
 /// What became of some input.
-#[derive(Debug, Drop, PartialEq, Eq)]
+#[derive(Drop, PartialEq, Eq)]
 pub enum ProcessResult<H> {
     /// There may be more to do with what is left.
     Continue,

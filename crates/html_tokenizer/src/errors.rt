@@ -78,7 +78,7 @@ pub(crate) fn last_state(text: TextKind, place: Place) -> State {
 }
 
 /// Where markup began.
-#[derive(Clone, Copy, Debug)]
+#[derive(Clone, Copy)]
 pub(crate) struct MarkupStart {
     /// The state behind its `<`, `</` or `<!`.
     pub(crate) state: State,

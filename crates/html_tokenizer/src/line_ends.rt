@@ -4,7 +4,7 @@ ghost use Rattle.html_grammar.specs.PageText.{page_text};
 
 /// How the characters of a page become those of its text: a first U+FEFF may be dropped, and each CR LF, CR and LF is
 /// one LF (WHATWG HTML, 13.2.3.5), also where a CR LF is cut in two.
-#[derive(Clone, Copy, Debug, PartialEq, Eq)]
+#[derive(Clone, Copy)]
 pub(crate) enum LineEnds {
     /// Before the first character, where a U+FEFF is dropped.
     AtMark,

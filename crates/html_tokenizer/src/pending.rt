@@ -13,7 +13,7 @@ use std::alloc::{AllocError, Global};
 use std::mem;
 
 /// A lexeme that is not over: where in it, and the characters that are held back.
-#[derive(Debug, Drop)]
+#[derive(Drop)]
 pub(crate) struct Pending {
     place: Place,
     // what stands behind the opening that the place names
@@ -22,7 +22,7 @@ pub(crate) struct Pending {
 }
 
 /// What became of a further character of markup.
-#[derive(Debug, Drop)]
+#[derive(Drop)]
 pub(crate) enum Advance {
     /// It belongs to the lexeme, which goes on.
     Goes,
@@ -33,7 +33,7 @@ pub(crate) enum Advance {
 }
 
 /// What became of a further character of the text of an element.
-#[derive(Debug, Drop)]
+#[derive(Drop)]
 pub(crate) enum RawAdvance {
     /// It is held.
     Goes,
@@ -75,7 +75,7 @@ impl Pending {
     pub(crate) fn is_text(&self) -> bool
         ensures { MatchBool result (self.now.place ≡ TextPlace) (self.now.place ≢ TextPlace) }
     {
-        self.place == Place::Text
+        matches!(self.place, Place::Text)
     }
 
     /// Whether no character is held behind the opening that the place names.

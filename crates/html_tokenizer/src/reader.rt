@@ -29,7 +29,7 @@ use std::alloc::Global;
 use std::mem;
 
 /// How far a text was read: the mode, the text that was read and is not told yet, and the lexeme that is not over.
-#[derive(Debug, Drop)]
+#[derive(Drop)]
 pub(crate) struct Reader {
     mode: Mode,
     run: String,
@@ -44,7 +44,7 @@ pub(crate) struct Reader {
 }
 
 /// What the tokenizer pauses for.
-#[derive(Debug, Drop, PartialEq, Eq)]
+#[derive(Drop)]
 pub(crate) enum Pause<H> {
     /// A script element.
     Script(H),
@@ -461,9 +461,9 @@ impl Reader {
         ensures mode { self.new.mode ≡ self.old.mode }
         ensures pending { self.new.pending ≡ self.old.pending }
     {
-        if self.pending.place() != Place::MarkupDeclarationOpen {
+        let Place::MarkupDeclarationOpen = self.pending.place() else {
             return Ok(false);
-        }
+        };
         self.tell_run(sink)?;
         Ok(sink.adjusted_current_node_present_but_not_in_html_namespace())
     }

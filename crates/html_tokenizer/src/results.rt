@@ -5,7 +5,7 @@ use crate::reader::Pause;
 use html_lexemes::Text;
 
 /// Why a `Tokenizer` gave back what it was fed with.
-#[derive(Debug, Drop, PartialEq, Eq)]
+#[derive(Drop)]
 pub enum TokenizerResult<H> {
     /// The queue is empty.
     Done,

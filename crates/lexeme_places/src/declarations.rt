@@ -6,7 +6,7 @@ use crate::place::Place;
 use html_grammar::slices::first_and_rest;
 
 /// How a text stands to a mark.
-#[derive(Clone, Copy, Debug)]
+#[derive(Clone, Copy)]
 pub(crate) enum Spelled {
     /// It is the mark.
     Whole,
@@ -17,7 +17,7 @@ pub(crate) enum Spelled {
 }
 
 /// What a text behind `<!` is.
-#[derive(Clone, Copy, Debug)]
+#[derive(Clone, Copy)]
 pub(crate) enum Opening {
     /// A beginning of what opens a comment, a doctype or a section.
     Begun,

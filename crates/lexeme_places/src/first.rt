@@ -13,7 +13,7 @@ use html_lexemes::LocalName;
 use html_lexemes::states::RawKind;
 
 /// What the first character of a lexeme is, before what follows it is known.
-#[derive(Clone, Copy, Debug, PartialEq, Eq)]
+#[derive(Clone, Copy)]
 pub enum First {
     /// Text, as this character.
     Text(char),

@@ -12,6 +12,7 @@ mod open_turns;
 mod place;
 mod raw_text_turns;
 mod reference_places;
+mod rows;
 mod script_turns;
 mod section_turns;
 mod tag_places;
@@ -25,6 +26,3 @@ pub use place::{Place, RawPlace, ReferencePlace, TagPlace};
 pub use raw_text_turns::raw_turn;
 pub use section_turns::{SectionTurn, section_turn};
 pub use turn::{RawTurn, Turn};
-
-#[cfg(test)]
-mod rows;

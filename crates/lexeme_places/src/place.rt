@@ -3,7 +3,7 @@ use html_lexemes::states::{AttrValueKind, RawKind};
 
 /// Where the tokenizer stands in a lexeme that is not over. What is held back is what stands behind the
 /// opening that the place names.
-#[derive(Clone, Copy, Debug, PartialEq, Eq)]
+#[derive(Clone, Copy)]
 pub enum Place {
     /// Before a lexeme.
     Text,
@@ -31,7 +31,7 @@ pub enum Place {
 }
 
 /// Where in a character reference.
-#[derive(Clone, Copy, Debug, PartialEq, Eq)]
+#[derive(Clone, Copy)]
 pub enum ReferencePlace {
     /// Behind `&`, in a name (WHATWG HTML, 13.2.5.73).
     Named,
@@ -46,7 +46,7 @@ pub enum ReferencePlace {
 }
 
 /// Where in a tag.
-#[derive(Clone, Copy, Debug, PartialEq, Eq)]
+#[derive(Clone, Copy)]
 pub enum TagPlace {
     /// WHATWG HTML, 13.2.5.8.
     TagName,
@@ -63,7 +63,7 @@ pub enum TagPlace {
 }
 
 /// Where in a beginning of something that ends the text of an element or changes its kind.
-#[derive(Clone, Copy, Debug, PartialEq, Eq)]
+#[derive(Clone, Copy)]
 pub enum RawPlace {
     /// At `<` (WHATWG HTML, 13.2.5.9, 13.2.5.12, 13.2.5.15, 13.2.5.23 and 13.2.5.30).
     LessThanSign,

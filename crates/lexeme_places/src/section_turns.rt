@@ -6,7 +6,7 @@ ghost use Rattle.lexeme_places.specs.SectionTurns.{SectionTurns};
 use std::alloc::AllocError;
 
 /// What a further character does in a CDATA section, where a beginning of its end mark may be held back.
-#[derive(Clone, Copy, Debug, PartialEq, Eq)]
+#[derive(Clone, Copy)]
 pub enum SectionTurn {
     /// It is held: what is held may be the end mark.
     Goes,

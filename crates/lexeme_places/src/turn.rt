@@ -2,7 +2,7 @@ use crate::place::{Place, RawPlace};
 use html_lexemes::states::RawKind;
 
 /// What a further character does to a lexeme that is not over.
-#[derive(Clone, Copy, Debug, PartialEq, Eq)]
+#[derive(Clone, Copy)]
 pub enum Turn {
     /// The character is held, and the lexeme goes on at this place.
     Goes(Place),
@@ -13,7 +13,7 @@ pub enum Turn {
 }
 
 /// What a further character does to what is held of the text of an element.
-#[derive(Clone, Copy, Debug, PartialEq, Eq)]
+#[derive(Clone, Copy)]
 pub enum RawTurn {
     /// The character is held, and more is needed.
     Goes(RawPlace),

@@ -2,7 +2,7 @@ use html_lexemes::{ReferenceTable, TableError};
 use std::alloc::Global;
 
 /// Which table of references a case is read with.
-#[derive(Clone, Copy, Debug, PartialEq, Eq)]
+#[derive(Clone, Copy)]
 pub(crate) enum TableName {
     /// The basic one.
     Basic,

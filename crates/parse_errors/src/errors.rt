@@ -9,7 +9,7 @@ use std::alloc::{AllocError, Global};
 use std::mem;
 
 /// A parse error, and the line at which it is told, from 1 on.
-#[derive(Debug, Drop, PartialEq, Eq)]
+#[derive(Drop)]
 pub struct FoundError {
     /// What it says.
     pub message: ErrorMessage,
@@ -19,7 +19,7 @@ pub struct FoundError {
 
 /// The parse errors that were found and are not told yet, in the order in which they were found. With `exact` the
 /// wording names characters and states, and each control and noncharacter of the page is an error.
-#[derive(Debug, Drop)]
+#[derive(Drop)]
 pub struct ParseErrors {
     exact: bool,
     found: Vec<FoundError>,

@@ -5,6 +5,7 @@
 mod bogus;
 mod characters;
 mod comment;
+mod definition_rows;
 mod doctype;
 mod errors;
 mod names;
@@ -15,10 +16,3 @@ mod tag;
 mod text;
 
 pub use errors::{FoundError, ParseErrors};
-
-#[cfg(test)]
-mod definition_rows;
-#[cfg(test)]
-mod rows;
-#[cfg(test)]
-mod tests;

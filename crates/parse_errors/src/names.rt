@@ -4,7 +4,7 @@ use std::collections::BTreeSet;
 use std::mem;
 
 /// The names of a tag's attributes, as far as they are read.
-#[derive(Debug, Drop)]
+#[derive(Drop)]
 pub(crate) struct AttributeNames {
     // of those that are finished, each once
     finished: BTreeSet<Text>,

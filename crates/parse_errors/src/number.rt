@@ -1,7 +1,7 @@
 use crate::characters::is_noncharacter;
 
 /// What stands behind the `#` of a numeric character reference.
-#[derive(Clone, Copy, Debug)]
+#[derive(Clone, Copy)]
 pub(crate) struct Number {
     /// The value of the digits, without what passes 32 bits.
     pub(crate) code: u32,

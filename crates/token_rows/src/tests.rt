@@ -2,7 +2,7 @@ use crate::feeding::{characters, fed, fed_plainly, first_answer, halves, states_
 use crate::rows::{HTML, ROWS, Start};
 use crate::sinks::{Collected, Counting, SCRIPT_HANDLE, Switching};
 use html_grammar::read_plainly;
-use html_lexemes::{BufferQueue, ParseFault, Text};
+use html_lexemes::{BufferQueue, ParseFault};
 use html_tokenizer::{Tokenizer, TokenizerResult};
 use std::alloc::Global;
 use std::test::Fail;
@@ -88,11 +88,13 @@ fn paused(alloc: Global, page: &str) -> Result<(TokenizerResult<u32>, String), F
 fn a_pause_leaves_what_follows_in_the_queue(rt: HostRuntime) -> Result<(), Fail> {
     let alloc = rt.alloc();
     let (result, rest) = paused(alloc, "<script>a</script >b")?;
-    assert_eq!(rt; result, TokenizerResult::Script(SCRIPT_HANDLE));
+    assert!(rt; matches!(result, TokenizerResult::Script(handle) if handle == SCRIPT_HANDLE));
     assert_eq!(rt; rest.as_str(), "b");
     let (result, rest) = paused(alloc, "<meta>&<\r\n")?;
-    let encoding = Text::from_str(alloc, "latin1")?;
-    assert_eq!(rt; result, TokenizerResult::EncodingIndicator(encoding));
+    let TokenizerResult::EncodingIndicator(encoding) = result else {
+        return Ok(assert!(rt; false));
+    };
+    assert_eq!(rt; encoding.as_str(), "latin1");
     assert_eq!(rt; rest.as_str(), "&<\r\n");
     Ok(())
 }
@@ -146,7 +148,7 @@ fn nothing_is_read_behind_the_end(rt: HostRuntime) -> Result<(), Fail> {
     let mut queue = BufferQueue::new(alloc);
     tokenizer.end()?;
     queue.push_back(String::from_str(alloc, "a")?)?;
-    assert_eq!(rt; tokenizer.feed(&mut queue), Err(ParseFault::Failed));
+    assert_eq!(rt; tokenizer.feed(&mut queue).err(), Some(ParseFault::Failed));
     assert_eq!(rt; tokenizer.end(), Err(ParseFault::Failed));
     assert_eq!(rt; tokenizer.sink.log.as_str(), "");
     assert_eq!(rt; queue.peek(), Some('a'));
@@ -160,18 +162,21 @@ fn a_refusal_lasts(rt: HostRuntime) -> Result<(), Fail> {
     for (taken, fed, ended) in [
         (0, Err(ParseFault::Memory), Err(ParseFault::Failed)),
         (1, Err(ParseFault::Memory), Err(ParseFault::Failed)),
-        (2, Ok(TokenizerResult::Done), Err(ParseFault::Memory)),
-        (3, Ok(TokenizerResult::Done), Ok(())),
+        (2, Ok(true), Err(ParseFault::Memory)),
+        (3, Ok(true), Ok(())),
     ] {
         let sink = Counting::new(taken);
         let mut tokenizer = Tokenizer::new(alloc, sink, HTML.options(alloc)?, HTML.table(alloc)?);
         let mut queue = BufferQueue::new(alloc);
         queue.push_back(String::from_str(alloc, "<p>a")?)?;
-        assert_eq!(rt; tokenizer.feed(&mut queue), fed, "after {taken}");
+        let is_done = tokenizer
+            .feed(&mut queue)
+            .map(|answer| matches!(answer, TokenizerResult::Done));
+        assert_eq!(rt; is_done, fed, "after {taken}");
         assert_eq!(rt; tokenizer.end(), ended, "after {taken}");
         assert_eq!(rt;
-            tokenizer.feed(&mut queue),
-            Err(ParseFault::Failed),
+            tokenizer.feed(&mut queue).err(),
+            Some(ParseFault::Failed),
             "after {taken}"
         );
         assert_eq!(rt; tokenizer.end(), Err(ParseFault::Failed), "after {taken}");

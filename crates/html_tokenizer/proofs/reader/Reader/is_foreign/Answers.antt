@@ -10,5 +10,5 @@ returns-clause-state g c =
     let s = g.S.TokenSink.state c.tell_run.new.sink in
     ap (λ x. g.S.TokenSink.step s (characters x)) (ap chars c.in_ok-tell_run.ensures.run ∙ chars-nil) ∙ (g.met.S.TokenSink.lawful.skips s ∙ c.in_ok-tell_run.ensures.told)
 
-pub returns-then-ne-clause-tells : goal.returns-then-ne-clause-tells
-returns-then-ne-clause-tells g c = tells_same g.S.TokenSink.step g.S.TokenSink.reply (g.S.TokenSink.state c.args.sink.now) (g.S.TokenSink.state c.args.sink.now) refl
+pub returns-in_default-clause-tells : goal.returns-in_default-clause-tells
+returns-in_default-clause-tells g c = tells_same g.S.TokenSink.step g.S.TokenSink.reply (g.S.TokenSink.state c.args.sink.now) (g.S.TokenSink.state c.args.sink.now) refl

@@ -162,8 +162,8 @@ pub(crate) static TAGS: [(Lexeme, &str, &str); 34] = [
     (StartTag, "a/", "1 Saw EOF in state SelfClosingStartTag\n"),
 ];
 
-/// References in text and in values, with a table of `amp;`, `not` and `notin;`, in the exact wording. A missing semicolon is
-/// found in values alone.
+/// References in text and in values, with a table of `amp;`, `not` and `notin;`, in the exact wording. A missing
+/// semicolon is found in values alone.
 pub(crate) static REFERENCES: [(Lexeme, &str, &str); 44] = [
     (Reference, "amp;", ""),
     (Reference, "notin;", ""),
