@@ -39,16 +39,19 @@ pub lines_are : {S : Type 0} (width : ℕ) (overflow : Bool) (read : List (Lette
     → AreLinesOf width overflow read (map marks_items (lines_read width (read_letters width nothing_read read)))
 lines_are width overflow read room =
     are_lines width overflow read (filled_is_fullest width overflow (units read)
-        (units_fit width overflow read (letters_fit width overflow read room))
-        (letters_there (units read) (units_have_letters read)))
+    (units_fit width overflow read (letters_fit width overflow read room))
+    (letters_there (units read) (units_have_letters read)))
 
 pub padded_are : {S : Type 0} (width : ℕ) (overflow : Bool) (padding : Option S) (read : List (Letter S))
     (lines : List (List (Item S))) → AllHaveRoom width overflow read
     → lines ≡ map (padded width padding) (map marks_items (lines_read width (read_letters width nothing_read read)))
-        → ArePaddedLinesOf width overflow padding read lines
-padded_are width overflow padding read lines room laid = record { shown = map marks_items
-    (lines_read width (read_letters width nothing_read read)); are_lines = lines_are width overflow read room;
-    filled_up = laid }
+    → ArePaddedLinesOf width overflow padding read lines
+padded_are width overflow padding read lines room laid = record {
+  shown = map marks_items
+      (lines_read width (read_letters width nothing_read read));
+  are_lines = lines_are width overflow read room;
+  filled_up = laid;
+}
 
 nothing_padded : {S : Type 0} (width : ℕ) (lines : List (List (Item S))) → map (padded width None) lines ≡ lines
 nothing_padded width [] = refl
@@ -57,11 +60,11 @@ nothing_padded width (line ∷ lines) = ap (λ rest. line ∷ rest) (nothing_pad
 pub bare_are : {S : Type 0} (width : ℕ) (overflow : Bool) (padding : Option S) (read : List (Letter S))
     (lines : List (List (Item S))) → padding ≡ None → AllHaveRoom width overflow read
     → lines ≡ map (padded width padding) (map marks_items (lines_read width (read_letters width nothing_read read)))
-        → AreLinesOf width overflow read lines
+    → AreLinesOf width overflow read lines
 bare_are width overflow padding read lines none room laid =
     let shown = map marks_items (lines_read width (read_letters width nothing_read read)) in
     subst (AreLinesOf width overflow read) (sym (laid ∙ ap (λ p. map (padded width p) shown) none
-        ∙ nothing_padded width shown)) (lines_are width overflow read room)
+    ∙ nothing_padded width shown)) (lines_are width overflow read room)
 
 -- ---- what is refused
 
@@ -74,57 +77,57 @@ pub never_behind : {S : Type 0} (width : ℕ) (read ls : List (Letter S)) → Ne
     → NeverFits width false (read ++ ls)
 never_behind width read ls never before after =
     subst (λ xs. HasNoLayout width false (marks width xs)) (append_assoc before read (ls ++ after)
-        ∙ ap (λ xs. before ++ xs) (sym (append_assoc read ls after))) (never (before ++ read) after)
+    ∙ ap (λ xs. before ++ xs) (sym (append_assoc read ls after))) (never (before ++ read) after)
 
 pub never_before : {S : Type 0} (width : ℕ) (ls rest : List (Letter S)) → NeverFits width false ls
     → NeverFits width false (ls ++ rest)
 never_before width ls rest never before after =
     subst (λ xs. HasNoLayout width false (marks width xs)) (ap (λ xs. before ++ xs) (sym (append_assoc ls rest after)))
-        (never before (rest ++ after))
+    (never before (rest ++ after))
 
 -- ---- the code's lines
 
 pub filled_lines : {T S : Type 0} (seen : T → S) (old mid : WrappedBlock T) (lines : List (List (Item S)))
     → Moves seen old mid lay_read → padding_of seen mid ≡ padding_of seen old → mid.pad_blocks ≡ false
     → ((width : ℕ) (overflow : Bool) (f : _) → HoldsLines seen width overflow mid.lines f → lines ≡ map marks_items
-        (all_lines f))
+    (all_lines f))
     → (width : ℕ) (overflow : Bool) (read : List (Letter S)) → HasRead seen width overflow read old
-        → lines ≡ map (padded width (padding_of seen old))
-        (map marks_items (lines_read width (read_letters width nothing_read read)))
+    → lines ≡ map (padded width (padding_of seen old))
+    (map marks_items (lines_read width (read_letters width nothing_read read)))
 filled_lines seen old mid lines laid padding no_pad given width overflow read h =
     let shown = map marks_items (lines_read width (read_letters width nothing_read read)) in
     let none : padding_of seen old ≡ None = sym padding ∙ if_false mid.pad_blocks (Some (seen mid.default_tag)) None
-        no_pad in
+    no_pad in
     given width overflow (last_filled width (read_letters width nothing_read read))
-        (laid_lines seen old mid laid width overflow read h) ∙ sym (nothing_padded width shown)
-        ∙ ap (λ p. map (padded width p) shown) (sym none)
+    (laid_lines seen old mid laid width overflow read h) ∙ sym (nothing_padded width shown)
+    ∙ ap (λ p. map (padded width p) shown) (sym none)
 
 pub padded_lines : {T S : Type 0} (seen : T → S) (old mid : WrappedBlock T) (lines filled_up : List (List (Item S)))
     → Moves seen old mid lay_read → padding_of seen mid ≡ padding_of seen old → mid.pad_blocks ≡ true
     → ((width : ℕ) (overflow : Bool) (f : _) → HoldsLines seen width overflow mid.lines f → lines ≡ map marks_items
-        (all_lines f))
+    (all_lines f))
     → filled_up ≡ map (padded mid.width (Some (seen mid.default_tag))) lines
     → (width : ℕ) (overflow : Bool) (read : List (Letter S)) → HasRead seen width overflow read old
-        → filled_up ≡ map (padded width (padding_of seen old))
-        (map marks_items (lines_read width (read_letters width nothing_read read)))
+    → filled_up ≡ map (padded width (padding_of seen old))
+    (map marks_items (lines_read width (read_letters width nothing_read read)))
 padded_lines seen old mid lines filled_up laid padding pad given filled_is width overflow read h =
     let shown = map marks_items (lines_read width (read_letters width nothing_read read)) in
     let some : padding_of seen old ≡ Some (seen mid.default_tag) = sym padding ∙ if_true mid.pad_blocks
-        (Some (seen mid.default_tag)) None pad in
+    (Some (seen mid.default_tag)) None pad in
     filled_is ∙ ap (λ w. map (padded w (Some (seen mid.default_tag))) lines)
-        (laid.moves width overflow (read_letters width nothing_read read) h.state).same_width
+    (laid.moves width overflow (read_letters width nothing_read read) h.state).same_width
     ∙ ap (map (padded width (Some (seen mid.default_tag))))
-        (given width overflow (last_filled width (read_letters width nothing_read read))
-        (laid_lines seen old mid laid width overflow read h))
+    (given width overflow (last_filled width (read_letters width nothing_read read))
+    (laid_lines seen old mid laid width overflow read h))
     ∙ ap (λ p. map (padded width p) shown) (sym some)
 
 pub results_padded : {T S X E : Type 0} (seen : T → S) (block : WrappedBlock T) (shown : X → List (List (Item S)))
     (r : Result X E)
     → IfOk r (λ x. (width : ℕ) (overflow : Bool) (read : List (Letter S)) → HasRead seen width overflow read block
-        → shown x ≡ map (padded width (padding_of seen block))
-        (map marks_items (lines_read width (read_letters width nothing_read read))))
+    → shown x ≡ map (padded width (padding_of seen block))
+    (map marks_items (lines_read width (read_letters width nothing_read read))))
     → IfOk r (λ x. (width : ℕ) (overflow : Bool) (read : List (Letter S)) → HasRead seen width overflow read block
-        → ArePaddedLinesOf width overflow (padding_of seen block) read (shown x))
+    → ArePaddedLinesOf width overflow (padding_of seen block) read (shown x))
 results_padded seen block shown (Err e) h = tt
 results_padded seen block shown (Ok x) h = λ width overflow read has. padded_are width overflow (padding_of seen block)
     read (shown x) has.room (h width overflow read has)
@@ -132,10 +135,10 @@ results_padded seen block shown (Ok x) h = λ width overflow read has. padded_ar
 pub results_bare : {T S X E : Type 0} (seen : T → S) (block : WrappedBlock T) (shown : X → List (List (Item S)))
     (r : Result X E)
     → IfOk r (λ x. (width : ℕ) (overflow : Bool) (read : List (Letter S)) → HasRead seen width overflow read block
-        → shown x ≡ map (padded width (padding_of seen block))
-        (map marks_items (lines_read width (read_letters width nothing_read read))))
+    → shown x ≡ map (padded width (padding_of seen block))
+    (map marks_items (lines_read width (read_letters width nothing_read read))))
     → IfOk r (λ x. (width : ℕ) (overflow : Bool) (read : List (Letter S)) → HasRead seen width overflow read block
-        → padding_of seen block ≡ None → AreLinesOf width overflow read (shown x))
+    → padding_of seen block ≡ None → AreLinesOf width overflow read (shown x))
 results_bare seen block shown (Err e) h = tt
 results_bare seen block shown (Ok x) h = λ width overflow read has none. bare_are width overflow (padding_of seen block)
     read (shown x) none has.room (h width overflow read has)
@@ -147,7 +150,7 @@ pub lines_within : {S : Type 0} (width : ℕ) (read : List (Letter S)) (lines : 
 lines_within width read lines are =
     subst (All (λ items. line_columns items ≤ width)) (sym are.shown)
     (All-map (λ items. line_columns items ≤ width) marks_items are.layout
-        (lines_keep_the_width width (marks width read) are.layout are.fullest.layout))
+    (lines_keep_the_width width (marks width read) are.layout are.fullest.layout))
 
 pub if_ok_map : {T E : Type 0} (P Q : T → Type 0) (r : Result T E) → ((x : T) → P x → Q x) → IfOk r P → IfOk r Q
 if_ok_map P Q (Ok x) f h = f x h

@@ -55,8 +55,8 @@ following_items-append : {S : Type 0} (xs ys : List (Mark S)) → following_item
 following_items-append [] ys = refl
 following_items-append (x ∷ xs) ys =
     ap (λ rest. gap_items x.joint ++ character x.letter.code x.letter.tag ∷ rest) (following_items-append xs ys)
-        ∙ sym (append_assoc (gap_items x.joint) (character x.letter.code x.letter.tag ∷ following_items xs)
-        (following_items ys))
+    ∙ sym (append_assoc (gap_items x.joint) (character x.letter.code x.letter.tag ∷ following_items xs)
+    (following_items ys))
 
 following_columns-append : {S : Type 0} (xs ys : List (Mark S)) → following_columns (xs ++ ys) ≡ following_columns
     xs + following_columns ys
@@ -95,7 +95,7 @@ unit_columns (Some tag) ls l = let rest = inside_columns ls in omega (arith, res
 
 pub unit_items : {S : Type 0} (line : List (Mark S)) (space : Option S) (l : Letter S) (ls : List (Letter S))
     → behind_items line (marked (opens space) inside (l ∷ ls)) ≡ space_behind (marks_items line) space ++ letter_items
-        (l ∷ ls)
+    (l ∷ ls)
 unit_items [] space l ls = ap (λ rest. character l.code l.tag ∷ rest) (inside_items ls)
 unit_items (n ∷ ns) None l ls = ap (λ rest. character l.code l.tag ∷ rest) (inside_items ls)
 unit_items (n ∷ ns) (Some tag) l ls = ap (λ rest. character 0x20 tag ∷ character l.code l.tag ∷ rest) (inside_items ls)
@@ -128,8 +128,11 @@ cuttable_shown (l ∷ ls) = ap (λ rest. character l.code l.tag ∷ rest) (cutta
 
 pub cut_shows : {S : Type 0} (l : Letter S) (ls : List (Letter S)) → ShowsAs (marked starts cuttable (l ∷ ls))
     (letter_items (l ∷ ls))
-cut_shows l ls = record { gapless = (refl, cuttable_gapless ls); shown = ap (λ rest. character l.code l.tag ∷ rest)
-    (cuttable_shown ls) }
+cut_shows l ls = record {
+  gapless = (refl, cuttable_gapless ls);
+  shown = ap (λ rest. character l.code l.tag ∷ rest)
+      (cuttable_shown ls);
+}
 
 -- ---- a character's columns
 

@@ -16,26 +16,26 @@ changed_more change start now new i x y inside so_far read made set_is =
     let whole : now ≡ front ++ here ∷ rest = so_far ∙ ap (λ tail. front ++ tail) (drop_more start i x inside) in
     let same : x ≡ here = read ∙ ap (λ l. get_or l i x) whole ∙ get_or_at front here rest x i long in
     set_is ∙ ap (λ l. set l i y) whole ∙ set_at front here rest y i long ∙ ap (λ z. front ++ z ∷ rest)
-        (made ∙ ap change same) ∙ sym (append_assoc front (change here ∷ []) rest)
+    (made ∙ ap change same) ∙ sym (append_assoc front (change here ∷ []) rest)
     ∙ ap (λ f. f ++ rest) (sym (map_more change start i x inside))
 
 pub all_changed : {X : Type 0} (change : X → X) (start now : List X) (i : ℕ) → length start ≤ i
     → now ≡ map change (take i start) ++ drop i start → now ≡ map change start
 all_changed change start now i long so_far =
     so_far ∙ ap (λ f. map change f ++ drop i start) (take_all i start (omega (arith, long)))
-        ∙ ap (λ d. map change start ++ d) (drop_all i start (omega (arith, long))) ∙ append-nil (map change start)
+    ∙ ap (λ d. map change start ++ d) (drop_all i start (omega (arith, long))) ∙ append-nil (map change start)
 
 -- the same where the elements are seen by a view
 pub views_more : {A X : Type 0} (view : A → X) (change : X → X) (first now : List A) (i : ℕ) (a b : A)
     → i < length first → length now ≡ length first
     → map view now ≡ map change (take i (map view first)) ++ drop i (map view first) → a ≡ get_or now i a
-        → view b ≡ change (view (get_or now i a))
+    → view b ≡ change (view (get_or now i a))
     → map view (set now i b) ≡ map change (take (i + 1) (map view first)) ++ drop (i + 1) (map view first)
 views_more view change first now i a b inside same so_far read made =
     changed_more change (map view first) (map view now) (map view (set now i b)) i (view a) (view b)
-        (omega (arith, inside, length-map first view)) so_far
+    (omega (arith, inside, length-map first view)) so_far
     (ap view read ∙ sym (get_or-map view now i a (view a) (omega (arith, inside, same))))
-        (made ∙ ap (λ x. change (view x)) (sym read)) (map-set view now i b)
+    (made ∙ ap (λ x. change (view x)) (sym read)) (map-set view now i b)
 
 -- the same of all, as a `Vec` has them behind a loop
 pub all_views : {A X : Type 0} (view : A → X) (change : X → X) (first start now : List A) (i n : ℕ) → start ≡ first
@@ -43,7 +43,7 @@ pub all_views : {A X : Type 0} (view : A → X) (change : X → X) (first start 
     → map view (take n (now ++ drop (length now) first)) ≡ map change (map view first)
 all_views view change first start now i n same past long so_far =
     ap (map view) (take_at now (drop (length now) first) n long) ∙ all_changed change (map view start) (map view now) i
-        (omega (arith, past, length-map start view)) so_far ∙ ap (λ xs. map change (map view xs)) same
+    (omega (arith, past, length-map start view)) so_far ∙ ap (λ xs. map change (map view xs)) same
 
 -- what a change keeps of an element, the loop keeps of all
 pub joined_more : {A : Type 0} (P : A → Type 0) (now : List A) (i : ℕ) (a b : A) → i < length now → a ≡ get_or now i a

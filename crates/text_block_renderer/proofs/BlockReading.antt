@@ -20,10 +20,10 @@ use Rattle.text_block_renderer.proofs.BlockFilling.{if_true, if_false, below, ne
 lay_held : {T S : Type 0} (seen : T → S) (width : ℕ) (overflow : Bool) (old new : WrappedBlock T) (lines : Filled S)
     (space : Option S) (letters : List (Letter S))
     → (line_items seen old.word ≡ [] → ⊥) → LaysUnit seen old.lines new.lines (option_map seen old.space)
-        (line_items seen old.word) → new.width ≡ old.width → new.failed ≡ old.failed
+    (line_items seen old.word) → new.width ≡ old.width → new.failed ≡ old.failed
     → option_map seen new.space ≡ None → line_items seen new.word ≡ []
     → HoldsReading seen width overflow old (reading lines space letters) → HoldsReading seen width overflow new
-        (lay_read width (reading lines space letters))
+    (lay_read width (reading lines space letters))
 lay_held seen width overflow old new lines space [] some laid w f no_space no_word h = absurd (some h.word)
 lay_held seen width overflow old new lines space (l ∷ ls) some laid w f no_space no_word h =
     record {
@@ -38,13 +38,15 @@ lay_held seen width overflow old new lines space (l ∷ ls) some laid w f no_spa
 pub lay_moved : {T S : Type 0} (seen : T → S) (old new : WrappedBlock T) (space : Option S) (word : List (Item S))
     → space ≡ option_map seen old.space → word ≡ line_items seen old.word
     → (line_items seen old.word ≡ [] → ⊥) → LaysUnit seen old.lines new.lines space word → new.width ≡ old.width
-        → new.failed ≡ old.failed
+    → new.failed ≡ old.failed
     → option_map seen new.space ≡ None → line_items seen new.word ≡ [] → Moves seen old new lay_read
 lay_moved seen old new space word space_is word_is some laid w f no_space no_word =
     let same = subst (λ s. LaysUnit seen old.lines new.lines s (line_items seen old.word)) space_is
-        (subst (λ i. LaysUnit seen old.lines new.lines space i) word_is laid) in
-    record { moves = λ width overflow r h. lay_held seen width overflow old new r.lines r.space r.letters some same w f
-        no_space no_word h }
+    (subst (λ i. LaysUnit seen old.lines new.lines space i) word_is laid) in
+    record {
+      moves = λ width overflow r h. lay_held seen width overflow old new r.lines r.space r.letters some same w f
+          no_space no_word h;
+    }
 
 -- ---- a word is ended
 
@@ -65,10 +67,10 @@ no_columns seen old n n_is none =
     record {
       moves = λ width overflow r h.
           let test = not_positive (letters_columns r.letters) (sym (word_columns seen width overflow old r n n_is h)
-              ∙ none) in
+          ∙ none) in
           subst (HoldsReading seen width overflow old)
-              (sym (if_false (has_columns r.letters) (reading (add_unit width r.lines (piece r.space r.letters))
-              None []) r test)) h;
+          (sym (if_false (has_columns r.letters) (reading (add_unit width r.lines (piece r.space r.letters))
+          None []) r test)) h;
     }
 
 filled_test : {S : Type 0} (ls : List (Letter S)) → (letters_columns ls ≡ 0 → ⊥) → is_filled ls ≡ true
@@ -86,7 +88,7 @@ some_columns seen old new n n_is some laid =
           let not_none : letters_columns r.letters ≡ 0 → ⊥ = λ e. some (same ∙ e) in
           subst (HoldsReading seen width overflow new)
           (if_true (is_filled r.letters) ended r (filled_test r.letters not_none)
-              ∙ sym (if_true (has_columns r.letters) ended r (positive (letters_columns r.letters) not_none)))
+          ∙ sym (if_true (has_columns r.letters) ended r (positive (letters_columns r.letters) not_none)))
           (laid.moves width overflow r h);
     }
 
@@ -118,7 +120,7 @@ lone_room width overflow l h = All-cons (λ x. IsTrue (has_room width overflow x
 
 break_same : {S : Type 0} (b : Bool) (r : Reading S) (lines : Filled S) (space : Option S)
     → (if b then reading lines space [] else reading r.lines (first_of r.space space) r.letters)
-        ≡ (let q = if b then reading lines None [] else r in reading q.lines (first_of q.space space) q.letters)
+    ≡ (let q = if b then reading lines None [] else r in reading q.lines (first_of q.space space) q.letters)
 break_same true r lines space = refl
 break_same false r lines space = refl
 
@@ -134,9 +136,9 @@ break_read seen old mid new code tag is_break ended kept =
             let first = reading r.lines (first_of r.space (space_of l)) r.letters in
             subst (HoldsReading seen width overflow new)
             (sym (break_same (has_columns r.letters) r (add_unit width r.lines (piece r.space r.letters)) (space_of l))
-                ∙ sym (if_true (is_break_point code) (if has_columns r.letters then whole else first)
-                (reading r.lines r.space (if is_some (columns_of code) then r.letters ++ l ∷ [] else r.letters))
-                is_break))
+            ∙ sym (if_true (is_break_point code) (if has_columns r.letters then whole else first)
+            (reading r.lines r.space (if is_some (columns_of code) then r.letters ++ l ∷ [] else r.letters))
+            is_break))
             (kept.moves width overflow (end_read width r) (ended.moves width overflow r h));
       };
       room = λ width overflow r h. lone_room width overflow l
@@ -150,8 +152,8 @@ pub other_same : {S : Type 0} (width : ℕ) (r : Reading S) (l : Letter S) (b : 
     → read_letter width r l ≡ reading r.lines r.space (if b then r.letters ++ l ∷ [] else r.letters)
 other_same width r l b no_break some =
     if_false (is_break_point l.code) (if has_columns r.letters then reading
-        (add_unit width r.lines (piece r.space r.letters)) (space_of l) [] else reading r.lines
-        (first_of r.space (space_of l)) r.letters)
+    (add_unit width r.lines (piece r.space r.letters)) (space_of l) [] else reading r.lines
+    (first_of r.space (space_of l)) r.letters)
     (reading r.lines r.space (if is_some (columns_of l.code) then r.letters ++ l ∷ [] else r.letters)) no_break
     ∙ ap (λ t. reading r.lines r.space (if t then r.letters ++ l ∷ [] else r.letters)) some
 
@@ -167,12 +169,12 @@ room_test : {T S : Type 0} (seen : T → S) (width : ℕ) (overflow : Bool) (old
     (code n : ℕ) (tag : S) → is_break_point code ≡ false → columns_of code ≡ Some n
     → HoldsReading seen width overflow old r
     → has_room {S = S} width overflow (record { code = code; tag = tag }) ≡ (old.lines.allow_overflow || nat_le n
-        old.lines.width)
+    old.lines.width)
 room_test seen width overflow old r code n tag no_break columns_are h =
     or_skips overflow (is_break_point code) (nat_le (width_of code) width) no_break
-        ∙ ap (λ w. overflow || nat_le w width) (width_read code n columns_are)
+    ∙ ap (λ w. overflow || nat_le w width) (width_read code n columns_are)
     ∙ ap (λ o. o || nat_le n width) (sym h.lines.same_overflow) ∙ ap (λ w. old.lines.allow_overflow || nat_le n w)
-        (sym h.lines.same_width)
+    (sym h.lines.same_width)
 
 pub letter_read : {T S : Type 0} (seen : T → S) (old new : WrappedBlock T) (code n : ℕ) (tag : S)
     → is_break_point code ≡ false → columns_of code ≡ Some n → Moves seen old new (word_read code tag)
@@ -197,9 +199,16 @@ letter_wider seen old code n tag no_break columns_are wider =
       wider = λ width overflow r h.
           let no_room = room_test seen width overflow old r code n tag no_break columns_are h ∙ wider in
           let parts = neither overflow (is_break_point code || nat_le (width_of code) width) no_room in
-          record { front = []; letter = l; back = []; whole = refl; not_allowed = parts.0; stands = no_break;
-              wider = wider_than (width_of code) width (neither (is_break_point code) (nat_le (width_of code) width)
-              parts.1).1 };
+          record {
+            front = [];
+            letter = l;
+            back = [];
+            whole = refl;
+            not_allowed = parts.0;
+            stands = no_break;
+            wider = wider_than (width_of code) width (neither (is_break_point code) (nat_le (width_of code) width)
+                parts.1).1;
+          };
     }
 
 pub no_width : {T S : Type 0} (seen : T → S) (old : WrappedBlock T) (code : ℕ) (tag : S) → is_break_point code ≡ false
@@ -207,20 +216,24 @@ pub no_width : {T S : Type 0} (seen : T → S) (old : WrappedBlock T) (code : �
 no_width seen old code tag no_break columns_are =
     let l : Letter _ = record { code = code; tag = tag } in
     record {
-      moves = record { moves = λ width overflow r h. subst (HoldsReading seen width overflow old)
-          (sym (other_same width r l false no_break (ap is_some columns_are))) h };
+      moves = record {
+        moves = λ width overflow r h. subst (HoldsReading seen width overflow old)
+            (sym (other_same width r l false no_break (ap is_some columns_are))) h;
+      };
       room = λ width overflow r h.
           lone_room width overflow l
           (or_skips overflow (is_break_point code) (nat_le (width_of code) width) no_break
-              ∙ or_right overflow (nat_le (width_of code) width)
-              (below (width_of code) width (omega (arith, no_width_read code columns_are))));
+          ∙ or_right overflow (nat_le (width_of code) width)
+          (below (width_of code) width (omega (arith, no_width_read code columns_are))));
     }
 
 -- ---- letters, one after another
 
 pub reads_nothing : {T S : Type 0} (seen : T → S) (old : WrappedBlock T) → Reads seen old old []
-reads_nothing seen old = record { moves = record { moves = λ width overflow r h. h };
-    room = λ width overflow r h. All-nil (λ x. IsTrue (has_room width overflow x)) }
+reads_nothing seen old = record {
+  moves = record { moves = λ width overflow r h. h };
+  room = λ width overflow r h. All-nil (λ x. IsTrue (has_room width overflow x));
+}
 
 pub reads_more : {T S : Type 0} (seen : T → S) (old mid new : WrappedBlock T) (xs ys : List (Letter S))
     → Reads seen old mid xs → Reads seen mid new ys → Reads seen old new (xs ++ ys)
@@ -229,11 +242,11 @@ reads_more seen old mid new xs ys first second =
       moves = record {
         moves = λ width overflow r h.
             subst (HoldsReading seen width overflow new) (sym (fold-append (read_letter width) r xs ys))
-                (second.moves.moves width overflow (read_letters width r xs) (first.moves.moves width overflow r h));
+            (second.moves.moves width overflow (read_letters width r xs) (first.moves.moves width overflow r h));
       };
       room = λ width overflow r h.
           All-append (λ x. IsTrue (has_room width overflow x)) xs ys (first.room width overflow r h)
-              (second.room width overflow (read_letters width r xs) (first.moves.moves width overflow r h));
+          (second.room width overflow (read_letters width r xs) (first.moves.moves width overflow r h));
     }
 
 pub wider_within : {S : Type 0} (width : ℕ) (overflow : Bool) (before ls after all : List (Letter S))
@@ -254,27 +267,27 @@ wider_within width overflow before ls after all all_is w =
 pub next_read : {T S Y : Type 0} (seen : T → S) (old mid new : WrappedBlock T) (cs : List ℕ) (ys : List Y) (y : Y)
     (c : ℕ) (tag : S) → (length ys < length cs) × (c ≡ get_or cs (length ys) c)
     → Reads seen old mid (lettered (take (length ys) cs) tag) → Reads seen mid new (lettered (c ∷ []) tag)
-        → Reads seen old new (lettered (take (length (ys ++ y ∷ [])) cs) tag)
+    → Reads seen old new (lettered (take (length (ys ++ y ∷ [])) cs) tag)
 next_read seen old mid new cs ys y c tag turn so_far read =
     subst (Reads seen old new) (sym (ap (λ front. lettered front tag) (next_taken cs ys y c turn)
-        ∙ map-append _ (take (length ys) cs) (c ∷ [])))
+    ∙ map-append _ (take (length ys) cs) (c ∷ [])))
     (reads_more seen old mid new (lettered (take (length ys) cs) tag) (lettered (c ∷ []) tag) so_far read)
 
 pub next_wider : {T S Y : Type 0} (seen : T → S) (old mid : WrappedBlock T) (cs : List ℕ) (ys : List Y) (c : ℕ)
     (tag : S) → (length ys < length cs) × (c ≡ get_or cs (length ys) c)
     → Reads seen old mid (lettered (take (length ys) cs) tag) → MeetsWider seen mid (lettered (c ∷ []) tag)
-        → MeetsWider seen old (lettered cs tag)
+    → MeetsWider seen old (lettered cs tag)
 next_wider seen old mid cs ys c tag turn so_far w =
     let n = length ys in
     let split : cs ≡ take n cs ++ (c ∷ drop (n + 1) cs) = sym (take-append-drop n cs) ∙ ap (λ d. take n cs ++ d)
-        (drop_more cs n c turn.0) ∙ ap (λ x. take n cs ++ x ∷ drop (n + 1) cs) (sym turn.1) in
+    (drop_more cs n c turn.0) ∙ ap (λ x. take n cs ++ x ∷ drop (n + 1) cs) (sym turn.1) in
     let mapped = ap (λ x. lettered x tag) split ∙ map-append _ (take n cs) (c ∷ drop (n + 1) cs) in
     record {
       wider = λ width overflow r h.
           wider_within width overflow (lettered (take n cs) tag) (lettered (c ∷ []) tag)
-              (lettered (drop (n + 1) cs) tag) (lettered cs tag) mapped
+          (lettered (drop (n + 1) cs) tag) (lettered cs tag) mapped
           (w.wider width overflow (read_letters width r (lettered (take n cs) tag))
-              (so_far.moves.moves width overflow r h));
+          (so_far.moves.moves width overflow r h));
     }
 
 -- ---- what was read since the block was made
@@ -301,7 +314,7 @@ pub laid_lines : {T S : Type 0} (seen : T → S) (old new : WrappedBlock T) → 
 laid_lines seen old new laid width overflow read h =
     let r = read_letters width nothing_read read in
     subst (HoldsLines seen width overflow new.lines) (last_same width r.lines r.space r.letters)
-        ((laid.moves width overflow r h.state).lines)
+    ((laid.moves width overflow r h.state).lines)
 
 -- ---- results
 
@@ -313,7 +326,7 @@ pub text_read : {T S E : Type 0} (seen : T → S) (r : Result (Unit {0}) E) (old
     (ls : List (Letter S)) → OnOk r (Reads seen old mid ls) → new.width ≡ mid.width → new.lines ≡ mid.lines
     → new.space ≡ mid.space → new.word ≡ mid.word → new.failed ≡ is_err r
     → OnOk r ((width : ℕ) (overflow : Bool) (read : List (Letter S)) → HasRead seen width overflow read old
-        → HasRead seen width overflow (read ++ ls) new)
+    → HasRead seen width overflow (read ++ ls) new)
 text_read seen (Err e) old mid new ls reads w l s i f = tt
 text_read seen (Ok x) old mid new ls reads w l s i f = λ width overflow read h.
     let m = read_more seen old mid ls reads width overflow read h in

@@ -18,8 +18,13 @@ use Rattle.text_block_renderer.proofs.BlockReading.{other_same, or_skips, width_
 -- ---- finding the run
 
 pub runs_start : {T : Type 0} (block : WrappedBlock T) (text : List ℕ) → RunsTo block text text
-runs_start block text = record { front = []; whole = refl; utf8 = IsUtf8-nil; joins = All-same (JoinsWord block)
-    (chars []) [] chars-nil (All-nil (JoinsWord block)) }
+runs_start block text = record {
+  front = [];
+  whole = refl;
+  utf8 = IsUtf8-nil;
+  joins = All-same (JoinsWord block)
+      (chars []) [] chars-nil (All-nil (JoinsWord block));
+}
 
 chars-encode : (c : ℕ) → IsScalar c → chars (encode_utf8 c) ≡ c ∷ []
 chars-encode c scalar = chars_past_char (encode_utf8 c) [] c (IsUtf8-encode c scalar) (sym (append-nil (encode_utf8 c)))
@@ -59,7 +64,7 @@ letters_run block width r (c ∷ cs) tag all =
     let joins = All-head (JoinsWord block) c cs all in
     ap (λ q. read_letters width q (lettered cs tag)) (other_same width r l true joins.no_break joins.has_width)
     ∙ letters_run block width (reading r.lines r.space (r.letters ++ l ∷ [])) cs tag
-        (All-tail (JoinsWord block) c cs all)
+    (All-tail (JoinsWord block) c cs all)
     ∙ ap (λ ls. reading r.lines r.space ls) (append_assoc r.letters (l ∷ []) (lettered cs tag))
 
 run_room : {T S : Type 0} (seen : T → S) (width : ℕ) (overflow : Bool) (old : WrappedBlock T) (r : Reading S)
@@ -71,9 +76,9 @@ run_room seen width overflow old r (c ∷ cs) tag h all =
     let joins = All-head (JoinsWord old) c cs all in
     let room = or_skips overflow (is_break_point c) (nat_le (width_of c) width) joins.no_break
     ∙ ap (λ o. o || nat_le (width_of c) width) (sym h.lines.same_overflow)
-        ∙ ap (λ w. old.lines.allow_overflow || nat_le (width_of c) w) (sym h.lines.same_width) ∙ joins.room in
+    ∙ ap (λ w. old.lines.allow_overflow || nat_le (width_of c) w) (sym h.lines.same_width) ∙ joins.room in
     All-cons (λ x. IsTrue (has_room width overflow x)) l (lettered cs tag) room
-        (run_room seen width overflow old r cs tag h (All-tail (JoinsWord old) c cs all))
+    (run_room seen width overflow old r cs tag h (All-tail (JoinsWord old) c cs all))
 
 lettered_items : {S : Type 0} (cs : List ℕ) (tag : S) → tagged cs tag ≡ letter_items (lettered cs tag)
 lettered_items [] tag = refl
@@ -123,13 +128,13 @@ rest_dropped : (text front rest : List ℕ) (n : ℕ) → text ≡ front ++ rest
     → drop n text ≡ rest
 rest_dropped text front rest n whole n_is =
     same_rest front (drop n text) rest (ap (λ l. l ++ drop n text) (sym (front_taken text front rest n whole n_is))
-        ∙ take-append-drop n text ∙ whole)
+    ∙ take-append-drop n text ∙ whole)
 
 pub front_reads : {T S : Type 0} (seen : T → S) (old new : WrappedBlock T) (text rest run back : List ℕ) (n : ℕ)
     (tag : S) → RunsTo old text rest → n ≡ length text - length rest → run ≡ take n text → back ≡ drop n text
     → new.width ≡ old.width → new.failed ≡ old.failed → new.lines ≡ old.lines → new.space ≡ old.space
     → line_items seen new.word ≡ line_items seen old.word ++ tagged (chars run) tag
-        → ReadsFront seen old new text back tag
+    → ReadsFront seen old new text back tag
 front_reads seen old new text rest run back n tag r n_is run_is back_is w f l s added =
     let is_front = run_is ∙ front_taken text r.front rest n r.whole n_is in
     let is_rest = back_is ∙ rest_dropped text r.front rest n r.whole n_is in
@@ -145,7 +150,7 @@ front_reads seen old new text rest run back n tag r n_is run_is back_is w f l s 
 pub front_more : {T S : Type 0} (seen : T → S) (old mid next new : WrappedBlock T) (text rest after back : List ℕ)
     (c : ℕ) (tag : S) → ReadsFront seen old mid text rest tag → IsUtf8 rest → rest ≡ encode_utf8 c ++ after
     → Reads seen mid next (lettered (c ∷ []) tag) → ReadsFront seen next new after back tag
-        → ReadsFront seen old new text back tag
+    → ReadsFront seen old new text back tag
 front_more seen old mid next new text rest after back c tag first utf8 split one second =
     let rest_is = chars_past_char rest after c utf8 split ∙ ap (λ l. c ∷ l) second.whole in
     let both = reads_more seen mid next new (lettered (c ∷ []) tag) (lettered second.front tag) one second.reads in
@@ -166,14 +171,14 @@ front_wider seen old mid text rest after c tag first utf8 split meets =
     record {
       wider = λ width overflow r h.
           wider_within width overflow (lettered first.front tag) (lettered (c ∷ []) tag) (lettered (chars after) tag)
-              (lettered (chars text) tag) mapped
+          (lettered (chars text) tag) mapped
           (meets.wider width overflow (read_letters width r (lettered first.front tag))
-              (first.reads.moves.moves width overflow r h));
+          (first.reads.moves.moves width overflow r h));
     }
 
 pub front_all : {T S : Type 0} (seen : T → S) (old new : WrappedBlock T) (text rest : List ℕ) (tag : S)
     → ReadsFront seen old new text rest tag → rest ≡ [] → Reads seen old new (lettered (chars text) tag)
 front_all seen old new text rest tag first none =
     let text_is = first.whole ∙ ap (λ l. first.front ++ chars l) none ∙ ap (λ l. first.front ++ l) chars-nil
-        ∙ append-nil first.front in
+    ∙ append-nil first.front in
     subst (Reads seen old new) (sym (ap (λ cs. lettered cs tag) text_is)) first.reads

@@ -57,8 +57,11 @@ rest_of_line : {S : Type 0} (w : ℕ) (o : Bool) (front line b : List (Mark S)) 
     → HasLayoutWithin w o b (suc (length lines))
 rest_of_line w o front line b lines allowed each begins long = record {
   lines = (long.next ∷ long.more) ∷ lines;
-  layout = layout_of w o b ((long.next ∷ long.more) ∷ lines) long.back (tail_allowed w o front long.next long.more
-      (subst (IsAllowed w o) long.front allowed) (subst CanBegin (sym long.back) begins), each);
+  layout = layout_of w o b ((long.next ∷ long.more) ∷ lines) long.back (
+    tail_allowed w o front long.next long.more
+        (subst (IsAllowed w o) long.front allowed) (subst CanBegin (sym long.back) begins),
+    each,
+  );
   within = omega arith;
 }
 
@@ -73,8 +76,8 @@ no_lines w o (x ∷ front) b e = cc
 by_line : {S : Type 0} (w : ℕ) (o : Bool) (front line b : List (Mark S)) (lines : List (List (Mark S)))
     → IsAllowed w o line → AllByRecursion (IsAllowed w o) lines → CanBegin b
     → ((past : List (Mark S)) → joined_lines lines ≡ past ++ b → HasLayoutWithin w o b (length lines))
-        → IsLonger line (joined_lines lines) front b ⊎ IsWithin line (joined_lines lines) front b
-        → HasLayoutWithin w o b (suc (length lines))
+    → IsLonger line (joined_lines lines) front b ⊎ IsWithin line (joined_lines lines) front b
+    → HasLayoutWithin w o b (suc (length lines))
 by_line w o front line b lines allowed each begins further (inl long) = rest_of_line w o front line b lines allowed each
     begins long
 by_line w o front line b lines allowed each begins further (inr within) = one_line_more w o b (length lines)
@@ -87,7 +90,7 @@ rest_layout : {S : Type 0} (w : ℕ) (o : Bool) (front b : List (Mark S)) (lines
 rest_layout w o front b [] e each begins = no_lines w o front b e
 rest_layout w o front b (line ∷ lines) e each begins =
     by_line w o front line b lines each.0 each.1 begins (λ past back. rest_layout w o past b lines back each.1 begins)
-        (longer_or_within line (joined_lines lines) front b e)
+    (longer_or_within line (joined_lines lines) front b e)
 
 -- ---- the rest of a fullest layout
 
@@ -100,7 +103,7 @@ rest_is_fullest w o ms line lines h =
       full = λ before here after other others cut layout.
           h.full (line ∷ before) here after other others (ap (λ ls. line ∷ ls) cut)
           (layout_of w o ms (line ∷ (before ++ other ∷ others)) (ap (λ xs. line ++ xs) layout.whole ∙ h.layout.whole)
-              (each.0, each_of w o (joined_lines lines) (before ++ other ∷ others) layout));
+          (each.0, each_of w o (joined_lines lines) (before ++ other ∷ others) layout));
     }
 
 no_empty_lines : {S : Type 0} (w : ℕ) (o : Bool) (line rest : List (Mark S)) → IsAllowed w o line → [] ≡ line ++ rest
@@ -124,13 +127,13 @@ fewest_lines w o ms (line ∷ lines) [] h layout = absurd (no_empty_lines w o li
 fewest_lines w o ms (line ∷ lines) (other ∷ others) h layout =
     let short : length other ≤ length line = h.full [] line lines other others refl layout in
     let within = reached other (joined_lines others) line (joined_lines lines) short
-        (longer_or_within other (joined_lines others) line (joined_lines lines) (layout.whole ∙ sym h.layout.whole)) in
+    (longer_or_within other (joined_lines others) line (joined_lines lines) (layout.whole ∙ sym h.layout.whole)) in
     let begins = lines_begin w o lines (each_of w o ms (line ∷ lines) h.layout).1 in
     let left = rest_layout w o within.past (joined_lines lines) others within.back
-        (each_of w o ms (other ∷ others) layout).1 begins in
+    (each_of w o ms (other ∷ others) layout).1 begins in
     let most : length left.lines ≤ length others = left.within in
     let fewer : length lines ≤ length left.lines = fewest_lines w o (joined_lines lines) lines left.lines
-        (rest_is_fullest w o ms line lines h) left.layout in
+    (rest_is_fullest w o ms line lines h) left.layout in
     omega arith
 
 -- ---- only one
@@ -144,11 +147,11 @@ one_fullest w o ms (line ∷ lines) [] h k = absurd (no_empty_lines w o line (jo
     (each_of w o ms (line ∷ lines) h.layout).0 (k.layout.whole ∙ sym h.layout.whole))
 one_fullest w o ms (line ∷ lines) (other ∷ others) h k =
     let same = same_fronts line (joined_lines lines) other (joined_lines others) (h.layout.whole ∙ sym k.layout.whole)
-        (le_antisymm (k.full [] other others line lines refl h.layout)
-        (h.full [] line lines other others refl k.layout)) in
+    (le_antisymm (k.full [] other others line lines refl h.layout)
+    (h.full [] line lines other others refl k.layout)) in
     let first : line ≡ other = same.0 in
     let rest : lines ≡ others = one_fullest w o (joined_lines lines) lines others (rest_is_fullest w o ms line lines h)
-        (subst (λ xs. IsFullest w o xs others) (sym same.1) (rest_is_fullest w o ms other others k)) in
+    (subst (λ xs. IsFullest w o xs others) (sym same.1) (rest_is_fullest w o ms other others k)) in
     cc
 
 -- ---- a letter wider than the width
@@ -179,8 +182,8 @@ wider_lines w [] m after [] wide each e = cc
 wider_lines w (b ∷ before) m after [] wide each e = cc
 wider_lines w before m after (line ∷ lines) wide each e =
     ⊎_elim (λ long. wider_here w line (joined_lines lines) before m after wide each.0 long)
-        (λ within. wider_lines w within.past m after lines wide each.1 within.back)
-        (longer_or_within line (joined_lines lines) before (m ∷ after) e)
+    (λ within. wider_lines w within.past m after lines wide each.1 within.back)
+    (longer_or_within line (joined_lines lines) before (m ∷ after) e)
 
 pub no_layout_of_wider : {S : Type 0} (w : ℕ) (before after : List (Mark S)) (m : Mark S) → w < width_of m.letter.code
     → HasNoLayout w false (before ++ m ∷ after)
@@ -210,8 +213,8 @@ following_width : {S : Type 0} (ms : List (Mark S)) → text_columns (characters
 following_width [] = refl
 following_width (m ∷ ms) =
     let more = with_gap m.joint (character m.letter.code m.letter.tag ∷ following_items ms)
-        (width_of m.letter.code + following_columns ms) (with_letter m.letter.code m.letter.tag (following_items ms)
-        (following_columns ms) (following_width ms)) in
+    (width_of m.letter.code + following_columns ms) (with_letter m.letter.code m.letter.tag (following_items ms)
+    (following_columns ms) (following_width ms)) in
     omega arith
 
 pub marks_width : {S : Type 0} (line : List (Mark S)) → text_columns (characters (marks_items line)) ≡ columns line
@@ -226,8 +229,11 @@ line_width w line h = marks_width line
 widths_kept : {S : Type 0} (w : ℕ) (lines : List (List (Mark S))) → AllByRecursion (IsLine w) lines
     → AllByRecursion (λ line. text_columns (characters (marks_items line)) ≤ w) lines
 widths_kept w [] each = tt
-widths_kept w (line ∷ lines) each = (subst (λ n. n ≤ w) (sym (marks_width line)) (line_fits w line each.0), widths_kept
-    w lines each.1)
+widths_kept w (line ∷ lines) each = (
+  subst (λ n. n ≤ w) (sym (marks_width line)) (line_fits w line each.0),
+  widths_kept
+      w lines each.1,
+)
 
 pub lines_keep_the_width : {S : Type 0} (w : ℕ) (ms : List (Mark S)) (lines : List (List (Mark S)))
     → IsLayout w false ms lines → All (λ line. text_columns (characters (marks_items line)) ≤ w) lines

@@ -90,10 +90,10 @@ adds_marks : {S : Type 0} (w : ℕ) (o : Bool) (ms : List (Mark S)) (m : Mark S)
     → IsFilledWith w o (ms ++ m ∷ c) (add_marks w f (m ∷ c))
 adds_marks w o ms m c f h allowed follow inner =
     cond_both (leb (columns (f.line ++ m ∷ c)) w) (filled f.done (f.line ++ m ∷ c)) (filled (all_lines f) (m ∷ c))
-        (IsFilledWith w o (ms ++ m ∷ c))
+    (IsFilledWith w o (ms ++ m ∷ c))
     (λ e. on_line w o ms (m ∷ c) f h allowed follow (le_when (columns (f.line ++ m ∷ c)) w e))
     (λ e. on_fresh w o ms (m ∷ c) f h allowed (λ more. ends_before w o f.line m c more h.last
-        (lt_when (columns (f.line ++ m ∷ c)) w e) inner))
+    (lt_when (columns (f.line ++ m ∷ c)) w e) inner))
 
 -- ---- a unit that fits a line
 
@@ -113,7 +113,7 @@ inside_columns (l ∷ ls) = let rest = inside_columns ls in omega arith
 adds_fitting : {S : Type 0} (w : ℕ) (o : Bool) (ms : List (Mark S)) (space : Option S) (l : Letter S)
     (ls : List (Letter S)) (f : Filled S) → IsFilledWith w o ms f → letters_columns (l ∷ ls) ≤ w
     → IsFilledWith w o (ms ++ marked (opens space) inside (l ∷ ls))
-        (add_marks w f (marked (opens space) inside (l ∷ ls)))
+    (add_marks w f (marked (opens space) inside (l ∷ ls)))
 adds_fitting w o ms space l ls f h fits =
     let rest = inside_columns ls in
     adds_marks w o ms (mark l (opens space)) (map (λ x. mark x inside) ls) f h
@@ -144,9 +144,9 @@ adds_cut : {S : Type 0} (w : ℕ) (o : Bool) (ms : List (Mark S)) (ls : List (Le
 adds_cut w o ms [] f h room = subst (λ xs. IsFilledWith w o xs f) (sym (append-nil ms)) h
 adds_cut w o ms (l ∷ ls) f h room =
     let first = adds_marks w o ms (mark l cuttable) [] f h (lone_allowed w o (mark l cuttable) room.0 refl)
-        (refl, tt) tt in
+    (refl, tt) tt in
     subst (λ xs. IsFilledWith w o xs (fold (add_mark w) (add_mark w f (mark l cuttable))
-        (map (λ x. mark x cuttable) ls))) (append_assoc ms (mark l cuttable ∷ []) (map (λ x. mark x cuttable) ls))
+    (map (λ x. mark x cuttable) ls))) (append_assoc ms (mark l cuttable ∷ []) (map (λ x. mark x cuttable) ls))
     (adds_cut w o (ms ++ mark l cuttable ∷ []) ls (add_mark w f (mark l cuttable)) first room.1)
 
 -- the first letter of a unit that is cut stands on a fresh line
@@ -155,20 +155,20 @@ starts_cut : {S : Type 0} (w : ℕ) (o : Bool) (ms : List (Mark S)) (l : Letter 
     → IsFilledWith w o (ms ++ mark l starts ∷ []) (add_mark w (filled (all_lines f) []) (mark l starts))
 starts_cut w o ms l f h room =
     let fresh = on_fresh w o ms (mark l starts ∷ []) f h (lone_allowed w o (mark l starts) room refl)
-        (λ more. ends_before_starts w o f.line (mark l starts) more h.last refl) in
+    (λ more. ends_before_starts w o f.line (mark l starts) more h.last refl) in
     cond_both (leb (columns (mark l starts ∷ [])) w) (filled (all_lines f) (mark l starts ∷ []))
-        (filled (all_lines f ++ []) (mark l starts ∷ [])) (IsFilledWith w o (ms ++ mark l starts ∷ []))
+    (filled (all_lines f ++ []) (mark l starts ∷ [])) (IsFilledWith w o (ms ++ mark l starts ∷ []))
     (λ _. fresh) (λ _. subst (λ ls. IsFilledWith w o (ms ++ mark l starts ∷ []) (filled ls (mark l starts ∷ [])))
-        (sym (append-nil (all_lines f))) fresh)
+    (sym (append-nil (all_lines f))) fresh)
 
 adds_wide : {S : Type 0} (w : ℕ) (o : Bool) (ms : List (Mark S)) (l : Letter S) (ls : List (Letter S)) (f : Filled S)
     → IsFilledWith w o ms f → AllByRecursion (HasRoom w o) (l ∷ ls)
     → IsFilledWith w o (ms ++ marked starts cuttable (l ∷ ls)) (fold (add_mark w) (filled (all_lines f) [])
-        (marked starts cuttable (l ∷ ls)))
+    (marked starts cuttable (l ∷ ls)))
 adds_wide w o ms l ls f h room =
     let first = starts_cut w o ms l f h room.0 in
     subst (λ xs. IsFilledWith w o xs (fold (add_mark w) (add_mark w (filled (all_lines f) []) (mark l starts))
-        (map (λ x. mark x cuttable) ls))) (append_assoc ms (mark l starts ∷ []) (map (λ x. mark x cuttable) ls))
+    (map (λ x. mark x cuttable) ls))) (append_assoc ms (mark l starts ∷ []) (map (λ x. mark x cuttable) ls))
     (adds_cut w o (ms ++ mark l starts ∷ []) ls (add_mark w (filled (all_lines f) []) (mark l starts)) first room.1)
 
 -- ---- units
@@ -182,9 +182,9 @@ by_test w o ms false c d f g h k = k refl
 adds_letters : {S : Type 0} (w : ℕ) (o : Bool) (ms : List (Mark S)) (p : Piece S) (ls : List (Letter S)) (f : Filled S)
     → p.letters ≡ ls → IsTrue (is_filled ls) → IsFilledWith w o ms f → AllByRecursion (HasRoom w o) ls
     → IsFilledWith w o (ms ++ (if leb (letters_columns ls) w then marked (opens p.space) inside ls else marked starts
-        cuttable ls))
+    cuttable ls))
     (if leb (letters_columns ls) w then add_marks w f (marked (opens p.space) inside ls) else fold (add_mark w)
-        (filled (all_lines f) []) (marked starts cuttable ls))
+    (filled (all_lines f) []) (marked starts cuttable ls))
 adds_letters w o ms p [] f is has h room = cc
 adds_letters w o ms p (l ∷ ls) f is has h room =
     by_test w o ms (leb (letters_columns (l ∷ ls)) w) _ _ _ _
@@ -206,7 +206,7 @@ pub adds_units : {S : Type 0} (w : ℕ) (o : Bool) (ms : List (Mark S)) (ps : Li
 adds_units w o ms [] f room h = subst (λ xs. IsFilledWith w o xs f) (sym (append-nil ms)) h
 adds_units w o ms (p ∷ ps) f room h =
     subst (λ xs. IsFilledWith w o xs (fold (add_unit w) (add_unit w f p) ps))
-        (append_assoc ms (unit_marks w p) (flat_map (unit_marks w) ps))
+    (append_assoc ms (unit_marks w p) (flat_map (unit_marks w) ps))
     (adds_units w o (ms ++ unit_marks w p) ps (add_unit w f p) room.1 (adds_unit w o ms p f room.0.0 room.0.1 h))
 
 nothing_filled : (S : Type 0) (w : ℕ) (o : Bool) → IsFilledWith {S = S} w o [] (filled [] [])
@@ -237,8 +237,14 @@ rooms_fit : {S : Type 0} (w : ℕ) (o : Bool) (ps : List (Piece S))
     → AllByRecursion (λ p. All (λ l. width_of l.code ≤ w) p.letters) ps → AllByRecursion (λ p. IsTrue (has_letters p))
     ps → HaveRoom w o ps
 rooms_fit w o [] fit has = tt
-rooms_fit w o (p ∷ ps) fit has = ((has.0, letters_fit w o p.letters
-    (recursion_from_All (λ l. width_of l.code ≤ w) p.letters fit.0)), rooms_fit w o ps fit.1 has.1)
+rooms_fit w o (p ∷ ps) fit has = (
+  (
+    has.0,
+    letters_fit w o p.letters
+        (recursion_from_All (λ l. width_of l.code ≤ w) p.letters fit.0),
+  ),
+  rooms_fit w o ps fit.1 has.1,
+)
 
 pub have_room : {S : Type 0} (w : ℕ) (o : Bool) (ps : List (Piece S))
     → (o ≡ true) ⊎ All (λ p. All (λ l. width_of l.code ≤ w) p.letters) ps → All (λ p. IsTrue (has_letters p)) ps

@@ -52,10 +52,10 @@ pieces_letters_at : {S : Type 0} (s : Option S) (l : Letter S) (ls : List (Lette
     → letters_of (pieces_after s (l ∷ ls)) ≡ filter stands (l ∷ ls)
 pieces_letters_at s l ls rest true h =
     ap letters_of (pieces_after-break s l ls h) ∙ rest (space_of l)
-        ∙ sym (cond-false _ _ _ (ap (λ b. not b && is_some (columns_of l.code)) h))
+    ∙ sym (cond-false _ _ _ (ap (λ b. not b && is_some (columns_of l.code)) h))
 pieces_letters_at s l ls rest false h =
     ap letters_of (pieces_after-letter s l ls h) ∙ letters_of-with_front l (pieces_after s ls)
-        (pieces_after-filled s ls) ∙ ap (λ xs. cond (is_some (columns_of l.code)) (l ∷ xs) xs) (rest s)
+    (pieces_after-filled s ls) ∙ ap (λ xs. cond (is_some (columns_of l.code)) (l ∷ xs) xs) (rest s)
     ∙ ap (λ b. cond (not b && is_some (columns_of l.code)) (l ∷ filter stands ls) (filter stands ls)) (sym h)
 
 pieces_letters : {S : Type 0} (s : Option S) (ls : List (Letter S)) → letters_of (pieces_after s ls) ≡ filter stands ls
@@ -81,7 +81,7 @@ pub each_piece : {S : Type 0} (P : Letter S → Type 0) (ps : List (Piece S)) �
 each_piece P [] h = All-nil (λ p. All P p.letters)
 each_piece P (p ∷ ps) h =
     All-cons (λ q. All P q.letters) p ps (all_front P p.letters (letters_of ps) h)
-        (each_piece P ps (all_back P p.letters (letters_of ps) h))
+    (each_piece P ps (all_back P p.letters (letters_of ps) h))
 
 not_a_break : (b c : Bool) → (not b && c) ≡ true → b ≡ false
 not_a_break true c h = cc
@@ -96,7 +96,7 @@ unit_letters_fit w read fit =
     each_piece (λ l. width_of l.code ≤ w) (units read)
     (All-same (λ l. width_of l.code ≤ w) (letters_of (units read)) (filter stands read) (units_letters read)
     (λ k d lt. kept k d lt (not_a_break (is_break_point (get_or (filter stands read) k d).code)
-        (is_some (columns_of (get_or (filter stands read) k d).code)) (standing k d lt))))
+    (is_some (columns_of (get_or (filter stands read) k d).code)) (standing k d lt))))
 
 pub units_are_filled : {S : Type 0} (read : List (Letter S)) → All (λ p. has_letters p ≡ true) (units read)
 units_are_filled read = filter_passes has_letters (joined (pieces_after None read))

@@ -50,13 +50,13 @@ joining_twice : {S : Type 0} (s t : Option S) (xs ys : List (Letter S)) (ps : Li
 joining_twice s t xs ys [] b has none = joining-without (piece s xs) (piece t ys) [] none
 joining_twice s t xs ys (q ∷ qs) true has none =
     ap (joining (piece s xs)) (joining-with_columns (piece t ys) (q ∷ qs) has) ∙ joining-without (piece s xs)
-        (piece t ys) (q ∷ qs) none
+    (piece t ys) (q ∷ qs) none
     ∙ sym (joining-with_columns (piece (first_of s t) (xs ++ ys)) (q ∷ qs) (has_columns-after_none xs ys none ∙ has))
 joining_twice s t xs ys (q ∷ qs) false has none =
     ap (joining (piece s xs)) (joining-without (piece t ys) q qs has) ∙ joining-without (piece s xs)
-        (piece (first_of t q.space) (ys ++ q.letters)) qs none
+    (piece (first_of t q.space) (ys ++ q.letters)) qs none
     ∙ piece-same (first_of s (first_of t q.space)) (first_of (first_of s t) q.space) (xs ++ (ys ++ q.letters))
-        ((xs ++ ys) ++ q.letters) qs (first_of-assoc s t q.space) (sym (append_assoc xs ys q.letters))
+    ((xs ++ ys) ++ q.letters) qs (first_of-assoc s t q.space) (sym (append_assoc xs ys q.letters))
     ∙ sym (joining-without (piece (first_of s t) (xs ++ ys)) q qs (has_columns-after_none xs ys none ∙ has))
 
 -- ---- the piece at hand in front of the pieces to come
@@ -99,7 +99,7 @@ nothing_in_front-at s t l ls rest true h = ap (in_front s []) (pieces_after-brea
     ∙ sym (pieces_after-break s l ls h)
 nothing_in_front-at s t l ls rest false h =
     ap (in_front s []) (pieces_after-letter t l ls h) ∙ with_front-in_front s l (pieces_after t ls)
-        ∙ ap (with_front l) rest ∙ sym (pieces_after-letter s l ls h)
+    ∙ ap (with_front l) rest ∙ sym (pieces_after-letter s l ls h)
 
 nothing_in_front : {S : Type 0} (s t : Option S) (ls : List (Letter S))
     → in_front s [] (pieces_after t ls) ≡ pieces_after s ls
@@ -174,27 +174,27 @@ in_front-break : {S : Type 0} (s t : Option S) (xs : List (Letter S)) (l : Lette
     → is_break_point l.code ≡ true → in_front s xs (pieces_after t (l ∷ ls)) ≡ piece s xs ∷ pieces_after (space_of l) ls
 in_front-break s t xs l ls h =
     ap (in_front s xs) (pieces_after-break t l ls h) ∙ ap (λ letters. piece s letters ∷ pieces_after (space_of l) ls)
-        (append-nil xs)
+    (append-nil xs)
 
 gives-at : {S : Type 0} (w : ℕ) (l : Letter S) (more : List (Letter S)) → Gives w more → (f : Filled S) (s t : Option S)
     (xs : List (Letter S)) (b c : Bool) → is_break_point l.code ≡ b → has_columns xs ≡ c
     → lines_read w (read_letters w (reading f s xs) (l ∷ more)) ≡ laid w f (in_front s xs (pieces_after t (l ∷ more)))
 gives-at w l more next f s t xs false c h has =
     ap (λ r. lines_read w (read_letters w r more)) (step_letter w f s xs l h) ∙ next f s t (with_letter xs l)
-        ∙ ap (laid w f) (sym (in_front-with_front s xs l (pieces_after t more)))
+    ∙ ap (laid w f) (sym (in_front-with_front s xs l (pieces_after t more)))
     ∙ ap (λ ps. laid w f (in_front s xs ps)) (sym (pieces_after-letter t l more h))
 gives-at w l more next f s t xs true true h has =
     ap (λ r. lines_read w (read_letters w r more)) (step_break w f s xs l h has) ∙ next (add_unit w f (piece s xs))
-        (space_of l) t []
+    (space_of l) t []
     ∙ ap (laid w (add_unit w f (piece s xs))) (nothing_in_front (space_of l) t more)
-        ∙ sym (laid-with_columns w f s xs (pieces_after (space_of l) more) has)
+    ∙ sym (laid-with_columns w f s xs (pieces_after (space_of l) more) has)
     ∙ ap (laid w f) (sym (in_front-break s t xs l more h))
 gives-at w l more next f s t xs true false h has =
     ap (λ r. lines_read w (read_letters w r more)) (step_joins w f s xs l h has) ∙ next f (first_of s (space_of l)) t xs
     ∙ ap (λ ps. all_lines (fold (add_unit w) f (filter has_letters ps)))
-        (sym (joined-in_front s (space_of l) xs (pieces_after t more) (pieces_after-filled t more) has))
+    (sym (joined-in_front s (space_of l) xs (pieces_after t more) (pieces_after-filled t more) has))
     ∙ ap (λ ps. laid w f (piece s xs ∷ ps)) (nothing_in_front (space_of l) t more)
-        ∙ ap (laid w f) (sym (in_front-break s t xs l more h))
+    ∙ ap (laid w f) (sym (in_front-break s t xs l more h))
 
 -- What a state still gives for the letters to come: the piece at hand stands in front of their pieces.
 pub reading_gives : {S : Type 0} (w : ℕ) (more : List (Letter S)) (f : Filled S) (s t : Option S) (xs : List (Letter S))

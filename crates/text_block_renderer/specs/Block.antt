@@ -123,9 +123,9 @@ pub record HoldsReading {T S : Type 0} (seen : T → S) (width : ℕ) (overflow 
 
 -- What a block holds before a call, the step makes what it holds after it.
 pub record Moves {T S : Type 0} (seen : T → S) (old new : WrappedBlock T) (step : ℕ → Reading S → Reading S) : Type 0
-    where
-  pub moves : (width : ℕ) (overflow : Bool) (r : Reading S) → HoldsReading seen width overflow old r
-      → HoldsReading seen width overflow new (step width r)
+  where
+    pub moves : (width : ℕ) (overflow : Bool) (r : Reading S) → HoldsReading seen width overflow old r
+        → HoldsReading seen width overflow new (step width r)
 
 -- The block reads the letters behind what it read before, and lines can hold each.
 pub record Reads {T S : Type 0} (seen : T → S) (old new : WrappedBlock T) (ls : List (Letter S)) : Type 0 where

@@ -96,7 +96,7 @@ pub record IsFullest {S : Type 0} (width : ℕ) (overflow : Bool) (ms : List (Ma
   pub full : (before : List (List (Mark S))) (line : List (Mark S)) (after : List (List (Mark S)))
       (other : List (Mark S)) (others : List (List (Mark S))) →
       lines ≡ before ++ line ∷ after → IsLayout width overflow ms (before ++ other ∷ others)
-          → length other ≤ length line
+      → length other ≤ length line
 
 -- No legal layout.
 abbrev pub HasNoLayout : {S : Type 0} → ℕ → Bool → List (Mark S) → Type 0

@@ -162,12 +162,7 @@ impl<T: EqualCopy + Drop> WrappedBlock<T> {
         }
     }
 
-    fn add_to_word(
-        &mut self,
-        c: char,
-        columns: usize,
-        tag: &T,
-    ) -> Result<(), BlockError>
+    fn add_to_word(&mut self, c: char, columns: usize, tag: &T) -> Result<(), BlockError>
         ensures kinds { IfErr result (λ e. (e ≡ BlockError.TooNarrow) ⊎ (e ≡ BlockError.Memory)) }
         ensures padding { padding_of T.seen self.new ≡ padding_of T.seen self.old }
         ensures read { OnOk result (Moves T.seen self.old self.new (word_read c (T.seen tag.now))) }
@@ -230,7 +225,7 @@ impl<T: EqualCopy + Drop> WrappedBlock<T> {
             → HasRead T.seen width overflow read self
             → map (line_items T.seen) lines.items
             ≡ map (padded width (padding_of T.seen self))
-                (map marks_items (lines_read width (read_letters width nothing_read read)))) }
+            (map marks_items (lines_read width (read_letters width nothing_read read)))) }
         ensures lines { IfOk result (λ lines. (width : ℕ) (overflow : Bool) (read : List (Letter T.Seen))
             → HasRead T.seen width overflow read self
             → ArePaddedLinesOf width overflow (padding_of T.seen self) read (map (line_items T.seen) lines.items)) }
@@ -257,7 +252,7 @@ impl<T: EqualCopy + Drop> WrappedBlock<T> {
             → HasRead T.seen width overflow read self
             → map (line_items T.seen) lines.items
             ≡ map (padded width (padding_of T.seen self))
-                (map marks_items (lines_read width (read_letters width nothing_read read)))) }
+            (map marks_items (lines_read width (read_letters width nothing_read read)))) }
         ensures joined { IfOk result (λ lines. (width : ℕ) (overflow : Bool) (read : List (Letter T.Seen))
             → HasRead T.seen width overflow read self → All (IsJoined T.seen) lines.items) }
     {

@@ -28,9 +28,9 @@ fn letters_are_marked()
         → read ≡ front ++ l ∷ back
         → is_break_point l.code ≡ false → columns_of l.code ≡ Some n
         → (some : List (Mark ℕ)) × (m : Mark ℕ) × (more : List (Mark ℕ))
-            × (marks w (before ++ (read ++ after)) ≡ some ++ m ∷ more) × (m.letter ≡ l) }
+        × (marks w (before ++ (read ++ after)) ≡ some ++ m ∷ more) × (m.letter ≡ l) }
     ensures never { (w : ℕ) → ((before after : List (Mark ℕ)) (m : Mark ℕ) → w < width_of m.letter.code
-            → HasNoLayout w false (before ++ m ∷ after))
+        → HasNoLayout w false (before ++ m ∷ after))
         → (read front back : List (Letter ℕ)) (l : Letter ℕ) → read ≡ front ++ l ∷ back → is_break_point l.code ≡ false
         → w < width_of l.code → NeverFits w false read }
     ensures lines { (w : ℕ) (overflow : Bool) (read : List (Letter ℕ))

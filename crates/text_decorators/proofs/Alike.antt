@@ -76,7 +76,7 @@ same_runs : {S : Type 0} (t u : S) (cs ds : List ℕ) (xs ys : List (Item S)) �
     → tagged cs t ++ xs ≡ tagged ds u ++ ys → ¬ BeginsWith t xs → ¬ BeginsWith u ys → (cs ≡ ds) × (xs ≡ ys)
 same_runs t u cs ds xs ys tag same first second =
     same_rest u cs ds xs ys (subst (λ v. tagged cs v ++ xs ≡ tagged ds u ++ ys) tag same)
-        (subst (λ v. ¬ BeginsWith v xs) tag first) second
+    (subst (λ v. ¬ BeginsWith v xs) tag first) second
 
 run_is_no_marker : {S : Type 0} (t : S) (cs name : List ℕ) (xs ys : List (Item S)) → cs ≢ []
     → tagged cs t ++ xs ≡ marker name ∷ ys → ⊥
@@ -124,20 +124,20 @@ all_same seen (Str s ∷ es) (Str t ∷ fs) first second same =
     let xs = elements_items seen es in
     let ys = elements_items seen fs in
     let tag = same_tag (seen s.tag) (seen t.tag) (chars (string_bytes s.s)) (chars (string_bytes t.s)) xs ys
-        (some_chars s.s first.0) (some_chars t.s second.0) same in
+    (some_chars s.s first.0) (some_chars t.s second.0) same in
     let runs = same_runs (seen s.tag) (seen t.tag) (chars (string_bytes s.s)) (chars (string_bytes t.s)) xs ys tag same
     (λ begins. first.1 (items_begin seen (seen s.tag) es first.2 begins))
-        (λ begins. second.1 (items_begin seen (seen t.tag) fs second.2 begins)) in
+    (λ begins. second.1 (items_begin seen (seen t.tag) fs second.2 begins)) in
     ((runs.0, tag), all_same seen es fs first.2 second.2 runs.1)
 all_same seen (Str s ∷ es) (FragmentStart n ∷ fs) first second same =
     absurd (run_is_no_marker (seen s.tag) (chars (string_bytes s.s)) (chars (string_bytes n)) (elements_items seen es)
-        (elements_items seen fs) (some_chars s.s first.0) same)
+    (elements_items seen fs) (some_chars s.s first.0) same)
 all_same seen (FragmentStart n ∷ es) (Str t ∷ fs) first second same =
     absurd (run_is_no_marker (seen t.tag) (chars (string_bytes t.s)) (chars (string_bytes n)) (elements_items seen fs)
-        (elements_items seen es) (some_chars t.s second.0) (sym same))
+    (elements_items seen es) (some_chars t.s second.0) (sym same))
 all_same seen (FragmentStart m ∷ es) (FragmentStart n ∷ fs) first second same =
     let parts = same_markers (chars (string_bytes m)) (chars (string_bytes n)) (elements_items seen es)
-        (elements_items seen fs) same in
+    (elements_items seen fs) same in
     (parts.0, all_same seen es fs first second parts.1)
 
 -- ---- what the tests answer
@@ -155,7 +155,7 @@ module _ {T S : Type 0} (eq : T → T → Bool) (seen : T → S) (same : (x y : 
         (ap chars ((bytes_eq-Decides (string_bytes a.s) (string_bytes b.s)).0 p.0), same a.tag b.tag p.1)),
     (λ h. both_true (bytes_eq (string_bytes a.s) (string_bytes b.s)) (eq a.tag b.tag)
         ((bytes_eq-Decides (string_bytes a.s) (string_bytes b.s)).1 (same_bytes (string_bytes a.s) (string_bytes b.s)
-            (IsUtf8-string_bytes a.s) (IsUtf8-string_bytes b.s) h.0))
+        (IsUtf8-string_bytes a.s) (IsUtf8-string_bytes b.s) h.0))
         (tags_alike a.tag b.tag (eq a.tag b.tag) refl h.1)),
   )
 
@@ -207,7 +207,7 @@ module _ {T S : Type 0} (eq : T → T → Bool) (seen : T → S) (same : (x y : 
       → (es fs : List (TaggedLineElement T)) (m n : ℕ) → m ≡ text_columns (elements_text es)
       → n ≡ text_columns (elements_text fs)
       → AreJoined seen es → AreJoined seen fs → elements_items seen es ≡ elements_items seen fs
-          → (pointwise tells es fs && nat_eq m n) ≡ true
+      → (pointwise tells es fs && nat_eq m n) ≡ true
   joined_told tells is es fs m n counted also first second same =
       both_true (pointwise tells es fs) (nat_eq m n) (all_told tells is es fs (all_same seen es fs first second same))
-          (eq-eqb m n (same_columns seen es fs m (sym same) counted ∙ sym also))
+      (eq-eqb m n (same_columns seen es fs m (sym same) counted ∙ sym also))

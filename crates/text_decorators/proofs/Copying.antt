@@ -7,4 +7,4 @@ pub seen_more : {T S : Type 0} (seen : T → S) (xs copies new : List T) (i : �
     → map seen new ≡ map seen (take (i + 1) xs)
 seen_more seen xs copies new i x copied inside read so_far pushed same =
     ap (map seen) pushed ∙ map_push seen copies copied ∙ ap (λ front. front ++ seen copied ∷ []) so_far
-        ∙ ap (λ s. map seen (take i xs) ++ s ∷ []) (same ∙ ap seen read) ∙ sym (map_more seen xs i x inside)
+    ∙ ap (λ s. map seen (take i xs) ++ s ∷ []) (same ∙ ap seen read) ∙ sym (map_more seen xs i x inside)

@@ -31,7 +31,7 @@ MapsTags-text P [] (y ∷ fs) h = absurd h
 MapsTags-text P (x ∷ es) [] h = absurd h
 MapsTags-text P (x ∷ es) (y ∷ fs) h =
     ap (λ bs. chars bs ++ elements_text fs) (MapsTag-text P x y h.0) ∙ ap (λ rest. chars (element_text x) ++ rest)
-        (MapsTags-text P es fs h.1)
+    (MapsTags-text P es fs h.1)
 
 pub mapped_columns : {T U : Type 0} (P : T → U → Type 0) (es : List (TaggedLineElement T))
     (fs : List (TaggedLineElement U)) (n : ℕ) → MapsTags P es fs → n ≡ text_columns (elements_text es)
@@ -53,7 +53,7 @@ pub CopiesAll-more : {T S : Type 0} (seen : T → S) (xs fs new : List (TaggedLi
 CopiesAll-more seen xs fs new i e f inside read so_far pushed one =
     let step = ap (λ x. take i xs ++ x ∷ []) read ∙ sym (take_more xs i e inside) in
     subst (λ ys. CopiesAll seen ys new) step (subst (CopiesAll seen (take i xs ++ e ∷ [])) (sym pushed)
-        (CopiesAll-push seen (take i xs) fs e f so_far one))
+    (CopiesAll-push seen (take i xs) fs e f so_far one))
 
 Copies-items : {T S : Type 0} (seen : T → S) (e f : TaggedLineElement T) → Copies seen e f
     → element_items seen f ≡ element_items seen e
@@ -70,7 +70,7 @@ CopiesAll-items seen [] (y ∷ fs) h = absurd h
 CopiesAll-items seen (x ∷ es) [] h = absurd h
 CopiesAll-items seen (x ∷ es) (y ∷ fs) h =
     ap (λ front. front ++ elements_items seen fs) (Copies-items seen x y h.0)
-        ∙ ap (λ rest. element_items seen x ++ rest) (CopiesAll-items seen es fs h.1)
+    ∙ ap (λ rest. element_items seen x ++ rest) (CopiesAll-items seen es fs h.1)
 
 pub MapsTags-more : {T U : Type 0} (P : T → U → Type 0) (es : List (TaggedLineElement T))
     (fs new : List (TaggedLineElement U)) (e : TaggedLineElement T) (f : TaggedLineElement U) → MapsTags P es fs

@@ -36,7 +36,7 @@ all_free : {T S : Type 0} (seen : T → S) (es : List (TaggedLineElement T)) →
 all_free seen [] h = refl
 all_free seen (e ∷ es) h =
     ap (λ front. front ++ elements_items seen es) (item_free seen e (h 0 e (omega arith) (omega arith)))
-        ∙ all_free seen es (λ k d low high. h (suc k) d (omega arith) (omega arith))
+    ∙ all_free seen es (λ k d low high. h (suc k) d (omega arith) (omega arith))
 
 some_item : {T S : Type 0} (seen : T → S) (es : List (TaggedLineElement T)) (k : ℕ) → k < length es
     → HoldsAt (λ e. ¬ IsEmpty e) es k → elements_items seen es ≡ [] → ⊥

@@ -19,9 +19,12 @@ text_pushed : {T S : Type 0} (seen : T → S) (es : List (TaggedLineElement T)) 
     → ¬ EndsWithTag seen (seen new.tag) es → string_bytes new.s ≢ [] → AreJoined seen (es ++ Str new ∷ [])
 text_pushed seen [] new joined ends some = (some, λ b. b, tt)
 text_pushed seen (Str s ∷ []) new joined ends some = (joined.0, λ same. ends (sym same), (some, λ b. b, tt))
-text_pushed seen (Str s ∷ f ∷ es) new joined ends some =
-    (joined.0, joined.1, text_pushed seen (f ∷ es) new joined.2
-        (λ h. ends (ends_later seen (seen new.tag) (Str s) f es h)) some)
+text_pushed seen (Str s ∷ f ∷ es) new joined ends some = (
+  joined.0,
+  joined.1,
+  text_pushed seen (f ∷ es) new joined.2
+      (λ h. ends (ends_later seen (seen new.tag) (Str s) f es h)) some,
+)
 text_pushed seen (FragmentStart n ∷ []) new joined ends some = (some, λ b. b, tt)
 text_pushed seen (FragmentStart n ∷ f ∷ es) new joined ends some =
     text_pushed seen (f ∷ es) new joined (λ h. ends (ends_later seen (seen new.tag) (FragmentStart n) f es h)) some
@@ -32,7 +35,7 @@ pub text_joined : {T S : Type 0} (seen : T → S) (es all : List (TaggedLineElem
     → ¬ EndsWithTag seen tag es → AreJoined seen all
 text_joined seen es all new text tag pushed same same_tag joined some ends =
     subst (AreJoined seen) (sym pushed) (text_pushed seen es new joined
-        (λ h. ends (subst (λ t. EndsWithTag seen t es) same_tag h)) (λ none. some (sym same ∙ none)))
+    (λ h. ends (subst (λ t. EndsWithTag seen t es) same_tag h)) (λ none. some (sym same ∙ none)))
 
 pub marker_pushed : {T S : Type 0} (seen : T → S) (es : List (TaggedLineElement T)) (name : _) → AreJoined seen es
     → AreJoined seen (es ++ FragmentStart name ∷ [])
@@ -77,7 +80,7 @@ last_extends : {T S : Type 0} (seen : T → S) (es : List (TaggedLineElement T))
 last_extends seen es i e f text last read extends joined =
     let split = last_split es i e last ∙ ap (λ x. take i es ++ x ∷ []) (sym read) in
     subst (AreJoined seen) (sym (last_set es i f last)) (last_changed seen (take i es) e f text extends
-        (subst (AreJoined seen) split joined))
+    (subst (AreJoined seen) split joined))
 
 pub last_joined : {T S E : Type 0} (seen : T → S) (es : List (TaggedLineElement T)) (i : ℕ) (e f : TaggedLineElement T)
     (text : List ℕ) (r : Result (Unit {0}) E) → i + 1 ≡ length es → e ≡ get_or es i e → OnOk r (Extends e f text)
@@ -112,9 +115,12 @@ pub both_joined : {T S : Type 0} (seen : T → S) (es fs : List (TaggedLineEleme
     → AreJoined seen fs → ¬ MeetWithTag seen es fs → AreJoined seen (es ++ fs)
 both_joined seen [] fs first second apart = second
 both_joined seen (Str s ∷ []) fs first second apart = (first.0, λ begins. apart (meets seen s fs begins), second)
-both_joined seen (Str s ∷ f ∷ es) fs first second apart =
-    (first.0, first.1, both_joined seen (f ∷ es) fs first.2 second
-        (λ meet. apart (meets_later seen (Str s) f es fs meet)))
+both_joined seen (Str s ∷ f ∷ es) fs first second apart = (
+  first.0,
+  first.1,
+  both_joined seen (f ∷ es) fs first.2 second
+      (λ meet. apart (meets_later seen (Str s) f es fs meet)),
+)
 both_joined seen (FragmentStart n ∷ []) fs first second apart = second
 both_joined seen (FragmentStart n ∷ f ∷ es) fs first second apart =
     both_joined seen (f ∷ es) fs first second (λ meet. apart (meets_later seen (FragmentStart n) f es fs meet))
@@ -153,20 +159,20 @@ pub first_joined : {T S : Type 0} (seen : T → S) (es new fs rest : List (Tagge
 first_joined seen es new [] rest meet ends same first second = absurd meet
 first_joined seen es new (Str s ∷ fs) rest meet ends same first second =
     let apart : ¬ MeetWithTag seen new fs = λ again. second.1 (meets_twice seen (seen s.tag) es fs meet
-        (still_meets seen es new fs ends again)) in
+    (still_meets seen es new fs ends again)) in
     subst (λ xs. AreJoined seen (new ++ xs)) (sym same) (both_joined seen new fs first second.2 apart)
 first_joined seen es new (FragmentStart n ∷ fs) rest meet ends same first second = absurd meet
 
 pub first_items : {T S : Type 0} (seen : T → S) (es fs rest : List (TaggedLineElement T)) (e : TaggedLineElement T)
     (text : List ℕ) (items : List (Item S)) → MeetWithTag seen es fs
     → ((t : S) → EndsWithTag seen t es → items ≡ elements_items seen es ++ tagged (chars text) t) → e ≡ get_or fs 0 e
-        → text ≡ element_text e → rest ≡ take 0 fs ++ drop (0 + 1) fs
+    → text ≡ element_text e → rest ≡ take 0 fs ++ drop (0 + 1) fs
     → items ++ elements_items seen rest ≡ elements_items seen es ++ elements_items seen fs
 first_items seen es [] rest e text items meet added read text_is same = absurd meet
 first_items seen es (Str s ∷ fs) rest e text items meet added read text_is same =
     ap (λ xs. items ++ elements_items seen xs) same ∙ ap (λ xs. xs ++ elements_items seen fs) (added (seen s.tag) meet)
     ∙ ap (λ bytes. (elements_items seen es ++ tagged (chars bytes) (seen s.tag)) ++ elements_items seen fs)
-        (text_is ∙ ap element_text read)
+    (text_is ∙ ap element_text read)
     ∙ append_assoc (elements_items seen es) (element_items seen (Str s)) (elements_items seen fs)
 first_items seen es (FragmentStart n ∷ fs) rest e text items meet added read text_is same = absurd meet
 
@@ -174,10 +180,10 @@ pub appended : {T S E : Type 0} (seen : T → S) (es room front copies rest othe
     (r : Result (Unit {0}) E) → new ≡ (if is_ok r then front ++ rest else front)
     → elements_items seen front ++ elements_items seen rest ≡ elements_items seen room ++ elements_items seen copies
     → room ≡ es → elements_items seen copies ≡ elements_items seen others
-        → OnOk r (elements_items seen new ≡ elements_items seen es ++ elements_items seen others)
+    → OnOk r (elements_items seen new ≡ elements_items seen es ++ elements_items seen others)
 appended seen es room front copies rest others new (Ok _) all joined reserved copied =
     ap (elements_items seen) all ∙ elements_items-append seen front rest ∙ joined
-        ∙ ap (λ xs. elements_items seen xs ++ elements_items seen copies) reserved
+    ∙ ap (λ xs. elements_items seen xs ++ elements_items seen copies) reserved
     ∙ ap (λ items. elements_items seen es ++ items) copied
 appended seen es room front copies rest others new (Err _) all joined reserved copied = tt
 

@@ -1,6 +1,5 @@
 -- Texts and markers that are added at the end of a line's elements.
-use Rattle.std.proofs.Common.{◌≡◌, ℕ, ◌+◌, ◌-◌, ◌<◌, subst, List, [], ◌∷◌, ◌++◌, length,
-    get_or, set, take, sym, ap, ◌∙◌, refl, append_assoc, arith}
+use Rattle.std.proofs.Common.{◌≡◌, ℕ, ◌+◌, ◌-◌, ◌<◌, subst, List, [], ◌∷◌, ◌++◌, length, get_or, set, take, sym, ap, ◌∙◌, refl, append_assoc, arith}
 use Rattle.std.specs.Prelude.{Option, None, Some, chars, string_bytes, IsSomeAnd, slice_get}
 use Rattle.std.proofs.lemmas.Str.{chars-append, chars-nil, chars_past_char, IsUtf8-encode, IsUtf8-string_bytes}
 use Rattle.std.specs.Char.{IsScalar}
@@ -20,13 +19,13 @@ pub elements_items-append : {T S : Type 0} (seen : T → S) (xs ys : List (Tagge
 elements_items-append seen [] ys = refl
 elements_items-append seen (x ∷ xs) ys =
     ap (λ rest. element_items seen x ++ rest) (elements_items-append seen xs ys)
-        ∙ sym (append_assoc (element_items seen x) (elements_items seen xs) (elements_items seen ys))
+    ∙ sym (append_assoc (element_items seen x) (elements_items seen xs) (elements_items seen ys))
 
 elements_items-last : {T S : Type 0} (seen : T → S) (xs : List (TaggedLineElement T)) (e : TaggedLineElement T)
     → elements_items seen (xs ++ e ∷ []) ≡ elements_items seen xs ++ element_items seen e
 elements_items-last seen xs e =
     elements_items-append seen xs (e ∷ []) ∙ ap (λ last. elements_items seen xs ++ last)
-        (append-nil (element_items seen e))
+    (append-nil (element_items seen e))
 
 pub items_pushed : {T S : Type 0} (seen : T → S) (xs ys : List (TaggedLineElement T)) (e : TaggedLineElement T)
     → ys ≡ xs ++ e ∷ [] → elements_items seen ys ≡ elements_items seen xs ++ element_items seen e
@@ -53,7 +52,7 @@ pub elements_characters : {T S : Type 0} (seen : T → S) (es : List (TaggedLine
 elements_characters seen [] = refl
 elements_characters seen (e ∷ es) =
     characters-append (element_items seen e) (elements_items seen es)
-        ∙ ap (λ front. front ++ characters (elements_items seen es)) (element_characters seen e)
+    ∙ ap (λ front. front ++ characters (elements_items seen es)) (element_characters seen e)
     ∙ ap (λ rest. chars (element_text e) ++ rest) (elements_characters seen es)
 
 -- ---- the columns
@@ -63,15 +62,15 @@ pub same_columns : {T S : Type 0} (seen : T → S) (old new : List (TaggedLineEl
     → n ≡ text_columns (elements_text new)
 same_columns seen old new n same counted =
     counted ∙ ap text_columns (sym (elements_characters seen old)) ∙ ap (λ items. text_columns (characters items))
-        (sym same) ∙ ap text_columns (elements_characters seen new)
+    (sym same) ∙ ap text_columns (elements_characters seen new)
 
 pub more_columns : {T S : Type 0} (seen : T → S) (old new : List (TaggedLineElement T)) (more : List (Item S))
     (n m total : ℕ) → elements_items seen new ≡ elements_items seen old ++ more → n ≡ text_columns (elements_text old)
     → m ≡ text_columns (characters more) → total ≡ n + m → total ≡ text_columns (elements_text new)
 more_columns seen old new more n m total same counted rest all =
     let split = ap (λ items. text_columns (characters items)) same
-        ∙ ap text_columns (characters-append (elements_items seen old) more) ∙ sum_by-append width_of
-        (characters (elements_items seen old)) (characters more) in
+    ∙ ap text_columns (characters-append (elements_items seen old) more) ∙ sum_by-append width_of
+    (characters (elements_items seen old)) (characters more) in
     let was = ap text_columns (elements_characters seen old) in
     let now = ap text_columns (elements_characters seen new) in
     omega (arith, split, was, now, counted, rest, all)
@@ -82,7 +81,7 @@ pub text_added : {T S : Type 0} (seen : T → S) (old new : List (TaggedLineElem
     → m ≡ text_columns cs → total ≡ n + m → total ≡ text_columns (elements_text new)
 text_added seen old new cs tag n m total same counted rest all =
     more_columns seen old new (tagged cs tag) n m total same counted
-        (rest ∙ ap text_columns (sym (characters-tagged cs tag))) all
+    (rest ∙ ap text_columns (sym (characters-tagged cs tag))) all
 
 pub line_added : {T S : Type 0} (seen : T → S) (old new others given : List (TaggedLineElement T)) (n m total : ℕ)
     → elements_items seen new ≡ elements_items seen old ++ elements_items seen given → given ≡ others
@@ -90,8 +89,8 @@ pub line_added : {T S : Type 0} (seen : T → S) (old new others given : List (T
     → m ≡ text_columns (elements_text others) → total ≡ n + m → total ≡ text_columns (elements_text new)
 line_added seen old new others given n m total same all counted rest sum =
     more_columns seen old new (elements_items seen others) n m total
-        (same ∙ ap (λ es. elements_items seen old ++ elements_items seen es) all) counted
-        (rest ∙ ap text_columns (sym (elements_characters seen others))) sum
+    (same ∙ ap (λ es. elements_items seen old ++ elements_items seen es) all) counted
+    (rest ∙ ap text_columns (sym (elements_characters seen others))) sum
 
 -- ---- the last element
 
@@ -106,9 +105,9 @@ extended : {T S : Type 0} (seen : T → S) (tag : S) (e f : TaggedLineElement T)
     → HasTag seen tag e → element_items seen f ≡ element_items seen e ++ tagged (chars text) tag
 extended seen tag (Str old) (Str new) text h has =
     ap (λ bs. tagged (chars bs) (seen new.tag)) h.0 ∙ ap (λ cs. tagged cs (seen new.tag))
-        (chars-append (string_bytes old.s) text (IsUtf8-string_bytes old.s))
+    (chars-append (string_bytes old.s) text (IsUtf8-string_bytes old.s))
     ∙ ap (λ t. tagged (chars (string_bytes old.s) ++ chars text) (seen t)) h.1
-        ∙ map-append (λ c. character c (seen old.tag)) (chars (string_bytes old.s)) (chars text)
+    ∙ map-append (λ c. character c (seen old.tag)) (chars (string_bytes old.s)) (chars text)
     ∙ ap (λ t. tagged (chars (string_bytes old.s)) (seen old.tag) ++ tagged (chars text) t) has
 extended seen tag (Str old) (FragmentStart new) text h has = absurd h
 extended seen tag (FragmentStart old) f text h has = absurd has
@@ -117,7 +116,7 @@ kept : {T S : Type 0} (seen : T → S) (e f : TaggedLineElement T) → Extends e
     → element_items seen f ≡ element_items seen e
 kept seen (Str old) (Str new) h =
     ap (λ bs. tagged (chars bs) (seen new.tag)) (h.0 ∙ append-nil (string_bytes old.s))
-        ∙ ap (λ t. tagged (chars (string_bytes old.s)) (seen t)) h.1
+    ∙ ap (λ t. tagged (chars (string_bytes old.s)) (seen t)) h.1
 kept seen (Str old) (FragmentStart new) h = absurd h
 kept seen (FragmentStart old) (Str new) h = absurd h
 kept seen (FragmentStart old) (FragmentStart new) h = ap (λ name. marker (chars (string_bytes name)) ∷ []) h
@@ -130,25 +129,25 @@ last_has_tag seen tag (Some x) e same h = let inner : x ≡ e = cc in subst (Has
 pub last_extended : {T S : Type 0} (seen : T → S) (es : List (TaggedLineElement T)) (i : ℕ) (e f : TaggedLineElement T)
     (text : List ℕ) → i + 1 ≡ length es → i ≡ length es - 1 → e ≡ get_or es i e → Extends e f text
     → (tag : S) → EndsWithTag seen tag es → elements_items seen (set es i f) ≡ elements_items seen es ++ tagged
-        (chars text) tag
+    (chars text) tag
 last_extended seen es i e f text last at read extends tag ends =
     let here : slice_get es (length es - 1) ≡ Some e = ap (λ k. slice_get es k) (sym at) ∙ slice_get-get_or es i e
-        (omega (arith, last)) ∙ ap Some (sym read) in
+    (omega (arith, last)) ∙ ap Some (sym read) in
     let has = last_has_tag seen tag (slice_get es (length es - 1)) e here ends in
     let whole = ap (elements_items seen) (last_split es i e last ∙ ap (λ x. take i es ++ x ∷ []) (sym read))
-        ∙ elements_items-last seen (take i es) e in
+    ∙ elements_items-last seen (take i es) e in
     ap (elements_items seen) (last_set es i f last) ∙ elements_items-last seen (take i es) f
-        ∙ ap (λ items. elements_items seen (take i es) ++ items) (extended seen tag e f text extends has)
+    ∙ ap (λ items. elements_items seen (take i es) ++ items) (extended seen tag e f text extends has)
     ∙ sym (append_assoc (elements_items seen (take i es)) (element_items seen e) (tagged (chars text) tag))
-        ∙ ap (λ items. items ++ tagged (chars text) tag) (sym whole)
+    ∙ ap (λ items. items ++ tagged (chars text) tag) (sym whole)
 
 pub last_kept : {T S : Type 0} (seen : T → S) (es : List (TaggedLineElement T)) (i : ℕ) (e f : TaggedLineElement T)
     → i + 1 ≡ length es → e ≡ get_or es i e → Extends e f [] → elements_items seen (set es i f) ≡ elements_items seen es
 last_kept seen es i e f last read extends =
     let whole = ap (elements_items seen) (last_split es i e last ∙ ap (λ x. take i es ++ x ∷ []) (sym read))
-        ∙ elements_items-last seen (take i es) e in
+    ∙ elements_items-last seen (take i es) e in
     ap (elements_items seen) (last_set es i f last) ∙ elements_items-last seen (take i es) f
-        ∙ ap (λ items. elements_items seen (take i es) ++ items) (kept seen e f extends) ∙ sym whole
+    ∙ ap (λ items. elements_items seen (take i es) ++ items) (kept seen e f extends) ∙ sym whole
 
 -- ---- a text without bytes, and a character alone
 
@@ -168,5 +167,5 @@ pub items_more : {T S : Type 0} (seen : T → S) (xs : List (TaggedLineElement T
     → new ≡ copied ++ element_items seen e → new ≡ elements_items seen (take (i + 1) xs)
 items_more seen xs i e copied new inside read so_far added =
     let step = ap (elements_items seen) (take_more xs i e inside ∙ ap (λ x. take i xs ++ x ∷ []) (sym read))
-        ∙ elements_items-last seen (take i xs) e in
+    ∙ elements_items-last seen (take i xs) e in
     added ∙ ap (λ items. items ++ element_items seen e) so_far ∙ sym step

@@ -56,7 +56,7 @@ low_test c h = grind (arith, nat_tests)
 pub width_of-le-bytes : (c : ℕ) → width_of c ≤ len_utf8 c
 width_of-le-bytes c =
     by_bytes (ltb c 0x80) (ltb c 0x800) (ltb c 0x1_0000) (width_of c) (λ h. one_at_most c (low_test c h))
-        (two_at_most c)
+    (two_at_most c)
 
 encodes_columns : (cs : List ℕ) → text_columns cs ≤ length (encodes cs)
 encodes_columns [] = omega arith
@@ -80,7 +80,7 @@ one_counted x w o eo ew = let width = width_of-columns_of x w o eo ew in omega (
 pub one_more : (cs seen : List ℕ) (x w columns : ℕ) (o : Option ℕ)
     → (length seen < length cs) × (x ≡ get_or cs (length seen) x) → columns ≡ text_columns (take (length seen) cs)
     → o ≡ columns_of x → w ≡ unwrap_or o 0 → (columns + w ≡ text_columns (take (length (seen ++ x ∷ [])) cs))
-        × (columns + w ≤ text_columns cs)
+    × (columns + w ≤ text_columns cs)
 one_more cs seen x w columns o at so_far eo ew =
     let width = width_of-columns_of x w o eo ew in
     let here = ap width_of at.1 in

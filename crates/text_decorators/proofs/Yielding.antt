@@ -27,7 +27,7 @@ pub next_text : {T : Type 0} (text later : List ℕ) (es others : List (TaggedLi
     → chars later ++ elements_text others ≡ chars text ++ elements_text es
 next_text text later es others first no_text split same =
     ap (λ bs. chars bs ++ elements_text others) same ∙ sym (ap elements_text split)
-        ∙ sym (ap (λ cs. cs ++ elements_text es) chars-nil) ∙ sym (ap (λ bs. chars bs ++ elements_text es) no_text)
+    ∙ sym (ap (λ cs. cs ++ elements_text es) chars-nil) ∙ sym (ap (λ bs. chars bs ++ elements_text es) no_text)
 
 -- one call of `next` on the characters of a text, from and to being what those have left
 pub char_taken : (P : Type 0) (r : Option ℕ) (text from to rest more whole : List ℕ) → from ≡ text → rest ≡ to
@@ -38,4 +38,4 @@ char_taken P None text from to rest more whole begins ends utf8 some same h = ab
     (omega (arith, h.0, some, ap length begins))
 char_taken P (Some c) text from to rest more whole begins ends utf8 some same h =
     same ∙ ap (λ cs. cs ++ more) (chars_past_char text rest c utf8 (sym begins ∙ h ∙ ap (λ bs. encode c ++ bs)
-        (sym ends)))
+    (sym ends)))

@@ -10,7 +10,7 @@ use Rattle.std.proofs.lemmas.Bool.Decides.{nat_tests}
 abbrev pub is_border : ℕ → Bool
 is_border c =
     (c == 0x2500) || (c == 0x252C) || (c == 0x2534) || (c == 0x253C) || (c == 0x2502) || (c == 0x2524) ||
-        (c == 0x251C) || (c == 0x250C) || (c == 0x2510) || (c == 0x2514) || (c == 0x2518)
+    (c == 0x251C) || (c == 0x250C) || (c == 0x2510) || (c == 0x2514) || (c == 0x2518)
     || (c == 0x2F)
 
 -- A character's columns: one for a border's, else its width but at most two, and none where it has no width.

@@ -18,7 +18,7 @@ seen-same eq seen same (x ∷ xs) [] h = cc
 seen-same eq seen same (x ∷ xs) (y ∷ ys) h =
     let parts = both (eq x y) (pointwise eq xs ys) h in
     front_and_rest (seen x) (seen y) (map seen xs) (map seen ys) (same x y parts.0)
-        (seen-same eq seen same xs ys parts.1)
+    (seen-same eq seen same xs ys parts.1)
 
 one_differs : {T S : Type 0} (seen : T → S) (b r : Bool) (x y : T) (xs ys : List T) → (b ≡ false → seen x ≢ seen y)
     → (r ≡ false → map seen xs ≢ map seen ys) → (b && r) ≡ false → map seen (x ∷ xs) ≢ map seen (y ∷ ys)

@@ -13,17 +13,17 @@ letters_of-append : {T S : Type 0} (seen : T → S) (xs ys : List (TaggedString 
 letters_of-append seen [] ys = refl
 letters_of-append seen (x ∷ xs) ys =
     ap (λ rest. lettered (chars (string_bytes x.s)) (seen x.tag) ++ rest) (letters_of-append seen xs ys)
-        ∙ sym (append_assoc (lettered (chars (string_bytes x.s)) (seen x.tag)) (letters_of seen xs)
-        (letters_of seen ys))
+    ∙ sym (append_assoc (lettered (chars (string_bytes x.s)) (seen x.tag)) (letters_of seen xs)
+    (letters_of seen ys))
 
 pub letters_more : {T S : Type 0} (seen : T → S) (ps : List (TaggedString T)) (i : ℕ) (p : TaggedString T)
     → i < length ps → p ≡ get_or ps i p
     → letters_of seen (take i ps) ++ lettered (chars (string_bytes p.s)) (seen p.tag) ≡ letters_of seen
-        (take (i + 1) ps)
+    (take (i + 1) ps)
 letters_more seen ps i p inside read =
     ap (λ last. letters_of seen (take i ps) ++ last)
-        (sym (append-nil (lettered (chars (string_bytes p.s)) (seen p.tag))))
-        ∙ sym (letters_of-append seen (take i ps) (p ∷ []))
+    (sym (append-nil (lettered (chars (string_bytes p.s)) (seen p.tag))))
+    ∙ sym (letters_of-append seen (take i ps) (p ∷ []))
     ∙ ap (λ x. letters_of seen (take i ps ++ x ∷ [])) read ∙ ap (letters_of seen) (sym (take_more ps i p inside))
 
 pub letters_split : {T S : Type 0} (seen : T → S) (ps : List (TaggedString T)) (n : ℕ)
@@ -35,11 +35,11 @@ letters_split seen ps n = sym (letters_of-append seen (take n ps) (drop n ps))
 pub pieces_never : {T S : Type 0} (seen : T → S) (width : ℕ) (ps : List (TaggedString T)) (i : ℕ) (p : TaggedString T)
     → i < length ps → p ≡ get_or ps i p
     → NeverFits width false (letters_of seen (take i ps) ++ lettered (chars (string_bytes p.s)) (seen p.tag))
-        → NeverFits width false (letters_of seen ps)
+    → NeverFits width false (letters_of seen ps)
 pieces_never seen width ps i p inside read never =
     subst (NeverFits width false) (letters_split seen ps (i + 1))
     (never_before width (letters_of seen (take (i + 1) ps)) (letters_of seen (drop (i + 1) ps))
-        (subst (NeverFits width false) (letters_more seen ps i p inside read) never))
+    (subst (NeverFits width false) (letters_more seen ps i p inside read) never))
 
 pub same_error : {X E : Type 0} (r : Result X E) (a b : E) → r ≡ Err a → r ≡ Err b → a ≡ b
 same_error r a b first second = cc

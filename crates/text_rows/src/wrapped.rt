@@ -27,12 +27,7 @@ pub(crate) fn wrapped_lines<T: EqualCopy + Drop>(
 {
     let mut block = WrappedBlock::new(alloc, width, false, allow_overflow, default_tag);
     for piece in pieces {
-        block.add_text(
-            piece.s.as_str(),
-            WhiteSpace::Normal,
-            &piece.tag,
-            &piece.tag,
-        )?;
+        block.add_text(piece.s.as_str(), WhiteSpace::Normal, &piece.tag, &piece.tag)?;
     }
     block.into_lines()
 }

@@ -9,4 +9,4 @@ returns-then-width-eq0-clause-read g c = no_columns g.T.EqualCopy.seen c.args.se
 pub returns-else-width-eq0-clause-read : goal.returns-else-width-eq0-clause-read
 returns-else-width-eq0-clause-read g c =
     on_ok_weaker c.lay_word.result (λ h. some_columns g.T.EqualCopy.seen c.args.self.now _ _ c.width.ensures
-        c.if-width-eq0.false h) c.lay_word.ensures.read
+    c.if-width-eq0.false h) c.lay_word.ensures.read
