@@ -1,5 +1,5 @@
 -- What a block makes of what was read is the fullest layout, and what it refuses has none.
-use Rattle.std.proofs.Common.{◌≡◌, ℕ, ◌+◌, ◌<◌, ◌≤◌, ◌⊎◌, Bool, true, false, nat_le, ◌||◌, List, [], ◌∷◌, ◌++◌, map, get_or, inl, inr, sym, ap, ◌∙◌, refl, subst, append_assoc, arith}
+use Rattle.std.proofs.Common.{◌≡◌, ℕ, ◌≤◌, ◌⊎◌, Bool, true, false, nat_le, ◌||◌, List, [], ◌∷◌, ◌++◌, map, get_or, inl, inr, sym, ap, ◌∙◌, refl, subst, append_assoc, arith}
 use Rattle.std.specs.Prelude.{Result, Ok, Err, IfOk, Option, None, Some, All}
 use Rattle.std.proofs.lemmas.Bool.Decides.{nat_tests}
 use Rattle.text_decorators.specs.Columns.{width_of}
