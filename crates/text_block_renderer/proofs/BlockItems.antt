@@ -14,10 +14,12 @@ space_width : width_of 0x20 ≡ 1
 unfolding width_of
 space_width = ap (λ o. unwrap_or o 0) (columns_of-one 0x20 (inr (omega arith, omega arith)))
 
-one_more : {S : Type 0} (code : ℕ) (tag : S) (items : List (Item S)) → line_columns (character code tag ∷ items) ≡ width_of code + line_columns items
+one_more : {S : Type 0} (code : ℕ) (tag : S) (items : List (Item S))
+    → line_columns (character code tag ∷ items) ≡ width_of code + line_columns items
 one_more code tag items = sum_by-cons width_of code (characters items)
 
-gap_counted : {S : Type 0} (j : Joint S) (items : List (Item S)) → line_columns (gap_items j ++ items) ≡ gap j + line_columns items
+gap_counted : {S : Type 0} (j : Joint S) (items : List (Item S))
+    → line_columns (gap_items j ++ items) ≡ gap j + line_columns items
 gap_counted (opens (Some tag)) items = one_more 0x20 tag items ∙ ap (λ n. n + line_columns items) space_width
 gap_counted (opens None) items = omega arith
 gap_counted starts items = omega arith
@@ -48,12 +50,16 @@ letters_counted (l ∷ ls) =
 
 -- ---- letters behind those of a line
 
-following_items-append : {S : Type 0} (xs ys : List (Mark S)) → following_items (xs ++ ys) ≡ following_items xs ++ following_items ys
+following_items-append : {S : Type 0} (xs ys : List (Mark S)) → following_items (xs ++ ys) ≡ following_items
+    xs ++ following_items ys
 following_items-append [] ys = refl
 following_items-append (x ∷ xs) ys =
-    ap (λ rest. gap_items x.joint ++ character x.letter.code x.letter.tag ∷ rest) (following_items-append xs ys) ∙ sym (append_assoc (gap_items x.joint) (character x.letter.code x.letter.tag ∷ following_items xs) (following_items ys))
+    ap (λ rest. gap_items x.joint ++ character x.letter.code x.letter.tag ∷ rest) (following_items-append xs ys)
+    ∙ sym (append_assoc (gap_items x.joint) (character x.letter.code x.letter.tag ∷ following_items xs)
+    (following_items ys))
 
-following_columns-append : {S : Type 0} (xs ys : List (Mark S)) → following_columns (xs ++ ys) ≡ following_columns xs + following_columns ys
+following_columns-append : {S : Type 0} (xs ys : List (Mark S)) → following_columns (xs ++ ys) ≡ following_columns
+    xs + following_columns ys
 following_columns-append [] ys = omega arith
 following_columns-append (x ∷ xs) ys = let rest = following_columns-append xs ys in omega (arith, rest)
 
@@ -62,11 +68,13 @@ abbrev pub behind_items : {S : Type 0} → List (Mark S) → List (Mark S) → L
 behind_items [] ms = marks_items ms
 behind_items (n ∷ ns) ms = following_items ms
 
-pub items_behind : {S : Type 0} (line ms : List (Mark S)) → marks_items (line ++ ms) ≡ marks_items line ++ behind_items line ms
+pub items_behind : {S : Type 0} (line ms : List (Mark S)) → marks_items (line ++ ms) ≡ marks_items line ++ behind_items
+    line ms
 items_behind [] ms = refl
 items_behind (n ∷ ns) ms = ap (λ rest. character n.letter.code n.letter.tag ∷ rest) (following_items-append ns ms)
 
-pub columns_behind : {S : Type 0} (n : Mark S) (ns ms : List (Mark S)) → columns ((n ∷ ns) ++ ms) ≡ columns (n ∷ ns) + following_columns ms
+pub columns_behind : {S : Type 0} (n : Mark S) (ns ms : List (Mark S)) → columns ((n ∷ ns) ++ ms) ≡ columns
+    (n ∷ ns) + following_columns ms
 columns_behind n ns ms = let rest = following_columns-append ns ms in omega (arith, rest)
 
 -- ---- a unit that fits a line
@@ -75,16 +83,19 @@ inside_items : {S : Type 0} (ls : List (Letter S)) → following_items (map (λ 
 inside_items [] = refl
 inside_items (l ∷ ls) = ap (λ rest. character l.code l.tag ∷ rest) (inside_items ls)
 
-inside_columns : {S : Type 0} (ls : List (Letter S)) → following_columns (map (λ l. mark l inside) ls) ≡ letters_columns ls
+inside_columns : {S : Type 0} (ls : List (Letter S)) → following_columns (map (λ l. mark l inside) ls) ≡ letters_columns
+    ls
 inside_columns [] = refl
 inside_columns (l ∷ ls) = let rest = inside_columns ls in omega (arith, rest)
 
-pub unit_columns : {S : Type 0} (space : Option S) (ls : List (Letter S)) (l : Letter S) → following_columns (marked (opens space) inside (l ∷ ls)) ≡ space_columns space + letters_columns (l ∷ ls)
+pub unit_columns : {S : Type 0} (space : Option S) (ls : List (Letter S)) (l : Letter S)
+    → following_columns (marked (opens space) inside (l ∷ ls)) ≡ space_columns space + letters_columns (l ∷ ls)
 unit_columns None ls l = let rest = inside_columns ls in omega (arith, rest)
 unit_columns (Some tag) ls l = let rest = inside_columns ls in omega (arith, rest)
 
 pub unit_items : {S : Type 0} (line : List (Mark S)) (space : Option S) (l : Letter S) (ls : List (Letter S))
-    → behind_items line (marked (opens space) inside (l ∷ ls)) ≡ space_behind (marks_items line) space ++ letter_items (l ∷ ls)
+    → behind_items line (marked (opens space) inside (l ∷ ls)) ≡ space_behind (marks_items line) space ++ letter_items
+    (l ∷ ls)
 unit_items [] space l ls = ap (λ rest. character l.code l.tag ∷ rest) (inside_items ls)
 unit_items (n ∷ ns) None l ls = ap (λ rest. character l.code l.tag ∷ rest) (inside_items ls)
 unit_items (n ∷ ns) (Some tag) l ls = ap (λ rest. character 0x20 tag ∷ character l.code l.tag ∷ rest) (inside_items ls)
@@ -98,7 +109,8 @@ gapless_items starts h = refl
 gapless_items inside h = refl
 gapless_items cuttable h = refl
 
-pub lone_items : {S : Type 0} (line : List (Mark S)) (m : Mark S) → gap m.joint ≡ 0 → behind_items line (m ∷ []) ≡ character m.letter.code m.letter.tag ∷ []
+pub lone_items : {S : Type 0} (line : List (Mark S)) (m : Mark S) → gap m.joint ≡ 0
+    → behind_items line (m ∷ []) ≡ character m.letter.code m.letter.tag ∷ []
 lone_items [] m h = refl
 lone_items (n ∷ ns) m h = ap (λ front. front ++ character m.letter.code m.letter.tag ∷ []) (gapless_items m.joint h)
 
@@ -109,12 +121,18 @@ cuttable_gapless : {S : Type 0} (ls : List (Letter S)) → AreGapless (map (λ l
 cuttable_gapless [] = tt
 cuttable_gapless (l ∷ ls) = (refl, cuttable_gapless ls)
 
-cuttable_shown : {S : Type 0} (ls : List (Letter S)) → map (λ (m : Mark S). character m.letter.code m.letter.tag) (map (λ l. mark l cuttable) ls) ≡ letter_items ls
+cuttable_shown : {S : Type 0} (ls : List (Letter S)) → map (λ (m : Mark S). character m.letter.code m.letter.tag)
+    (map (λ l. mark l cuttable) ls) ≡ letter_items ls
 cuttable_shown [] = refl
 cuttable_shown (l ∷ ls) = ap (λ rest. character l.code l.tag ∷ rest) (cuttable_shown ls)
 
-pub cut_shows : {S : Type 0} (l : Letter S) (ls : List (Letter S)) → ShowsAs (marked starts cuttable (l ∷ ls)) (letter_items (l ∷ ls))
-cut_shows l ls = record { gapless = (refl, cuttable_gapless ls); shown = ap (λ rest. character l.code l.tag ∷ rest) (cuttable_shown ls) }
+pub cut_shows : {S : Type 0} (l : Letter S) (ls : List (Letter S)) → ShowsAs (marked starts cuttable (l ∷ ls))
+    (letter_items (l ∷ ls))
+cut_shows l ls = record {
+  gapless = (refl, cuttable_gapless ls);
+  shown = ap (λ rest. character l.code l.tag ∷ rest)
+      (cuttable_shown ls);
+}
 
 -- ---- a character's columns
 

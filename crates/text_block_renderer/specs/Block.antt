@@ -68,7 +68,8 @@ pub record AreAllJoined {T S : Type 0} (seen : T → S) (filling : Filling T) : 
   pub line : IsJoined seen filling.line
 
 -- The lines that were laid so far, and the line at hand.
-pub record HoldsLines {T S : Type 0} (seen : T → S) (width : ℕ) (overflow : Bool) (filling : Filling T) (f : Filled S) : Type 0 where
+pub record HoldsLines {T S : Type 0} (seen : T → S) (width : ℕ) (overflow : Bool) (filling : Filling T)
+    (f : Filled S) : Type 0 where
   pub same_width : filling.width ≡ width
   pub same_overflow : filling.allow_overflow ≡ overflow
   pub done : map (line_items seen) filling.done.items ≡ map marks_items f.done
@@ -77,7 +78,8 @@ pub record HoldsLines {T S : Type 0} (seen : T → S) (width : ℕ) (overflow : 
 
 -- What lines hold before a call, the step makes what they hold after it.
 pub record Lays {T S : Type 0} (seen : T → S) (old new : Filling T) (step : ℕ → Filled S → Filled S) : Type 0 where
-  pub lays : (width : ℕ) (overflow : Bool) (f : Filled S) → HoldsLines seen width overflow old f → HoldsLines seen width overflow new (step width f)
+  pub lays : (width : ℕ) (overflow : Bool) (f : Filled S) → HoldsLines seen width overflow old f
+      → HoldsLines seen width overflow new (step width f)
 
 -- no letter has a gap
 abbrev pub AreGapless : {S : Type 0} → List (Mark S) → Type 0
@@ -95,19 +97,24 @@ pub record Cuts {T S : Type 0} (seen : T → S) (old new : Filling T) (items : L
 
 -- Lays the items on a fresh line, letter by letter.
 pub record LaysCut {T S : Type 0} (seen : T → S) (old new : Filling T) (items : List (Item S)) : Type 0 where
-  pub lays_cut : (ms : List (Mark S)) → ShowsAs ms items → Lays seen old new (λ width f. fold (add_mark width) (filled (all_lines f) []) ms)
+  pub lays_cut : (ms : List (Mark S)) → ShowsAs ms items
+      → Lays seen old new (λ width f. fold (add_mark width) (filled (all_lines f) []) ms)
 
 -- Lays the items whole, behind the white space.
-pub record LaysWhole {T S : Type 0} (seen : T → S) (old new : Filling T) (space : Option S) (items : List (Item S)) : Type 0 where
+pub record LaysWhole {T S : Type 0} (seen : T → S) (old new : Filling T) (space : Option S)
+    (items : List (Item S)) : Type 0 where
   pub lays_whole : (l : Letter S) (ls : List (Letter S)) → items ≡ letter_items (l ∷ ls)
       → Lays seen old new (λ width f. add_marks width f (marked (opens space) inside (l ∷ ls)))
 
 -- Lays the items whole or cut, behind the white space.
-pub record LaysUnit {T S : Type 0} (seen : T → S) (old new : Filling T) (space : Option S) (items : List (Item S)) : Type 0 where
-  pub lays_unit : (l : Letter S) (ls : List (Letter S)) → items ≡ letter_items (l ∷ ls) → Lays seen old new (λ width f. add_unit width f (piece space (l ∷ ls)))
+pub record LaysUnit {T S : Type 0} (seen : T → S) (old new : Filling T) (space : Option S)
+    (items : List (Item S)) : Type 0 where
+  pub lays_unit : (l : Letter S) (ls : List (Letter S)) → items ≡ letter_items (l ∷ ls)
+      → Lays seen old new (λ width f. add_unit width f (piece space (l ∷ ls)))
 
 -- The lines, the white space and the word of a state of reading.
-pub record HoldsReading {T S : Type 0} (seen : T → S) (width : ℕ) (overflow : Bool) (block : WrappedBlock T) (r : Reading S) : Type 0 where
+pub record HoldsReading {T S : Type 0} (seen : T → S) (width : ℕ) (overflow : Bool) (block : WrappedBlock T)
+    (r : Reading S) : Type 0 where
   pub same_width : block.width ≡ width
   pub works : block.failed ≡ false
   pub lines : HoldsLines seen width overflow block.lines r.lines
@@ -115,13 +122,16 @@ pub record HoldsReading {T S : Type 0} (seen : T → S) (width : ℕ) (overflow 
   pub word : line_items seen block.word ≡ letter_items r.letters
 
 -- What a block holds before a call, the step makes what it holds after it.
-pub record Moves {T S : Type 0} (seen : T → S) (old new : WrappedBlock T) (step : ℕ → Reading S → Reading S) : Type 0 where
-  pub moves : (width : ℕ) (overflow : Bool) (r : Reading S) → HoldsReading seen width overflow old r → HoldsReading seen width overflow new (step width r)
+pub record Moves {T S : Type 0} (seen : T → S) (old new : WrappedBlock T) (step : ℕ → Reading S → Reading S) : Type 0
+  where
+    pub moves : (width : ℕ) (overflow : Bool) (r : Reading S) → HoldsReading seen width overflow old r
+        → HoldsReading seen width overflow new (step width r)
 
 -- The block reads the letters behind what it read before, and lines can hold each.
 pub record Reads {T S : Type 0} (seen : T → S) (old new : WrappedBlock T) (ls : List (Letter S)) : Type 0 where
   pub moves : Moves seen old new (λ width r. read_letters width r ls)
-  pub room : (width : ℕ) (overflow : Bool) (r : Reading S) → HoldsReading seen width overflow old r → AllHaveRoom width overflow ls
+  pub room : (width : ℕ) (overflow : Bool) (r : Reading S) → HoldsReading seen width overflow old r
+      → AllHaveRoom width overflow ls
 
 -- A character of a word that some line can hold.
 pub record JoinsWord {T : Type 0} (block : WrappedBlock T) (code : ℕ) : Type 0 where
@@ -137,17 +147,20 @@ pub record RunsTo {T : Type 0} (block : WrappedBlock T) (text rest : List ℕ) :
   pub joins : All (JoinsWord block) (chars front)
 
 -- The block reads what stands in front of the rest of the text.
-pub record ReadsFront {T S : Type 0} (seen : T → S) (old new : WrappedBlock T) (text rest : List ℕ) (tag : S) : Type 0 where
+pub record ReadsFront {T S : Type 0} (seen : T → S) (old new : WrappedBlock T) (text rest : List ℕ)
+    (tag : S) : Type 0 where
   pub front : List ℕ
   pub whole : chars text ≡ front ++ chars rest
   pub reads : Reads seen old new (lettered front tag)
 
 -- Some of the letters finds no line.
 pub record MeetsWider {T S : Type 0} (seen : T → S) (old : WrappedBlock T) (ls : List (Letter S)) : Type 0 where
-  pub wider : (width : ℕ) (overflow : Bool) (r : Reading S) → HoldsReading seen width overflow old r → HasWider width overflow ls
+  pub wider : (width : ℕ) (overflow : Bool) (r : Reading S) → HoldsReading seen width overflow old r
+      → HasWider width overflow ls
 
 -- The block has read these letters, and answers still.
-pub record HasRead {T S : Type 0} (seen : T → S) (width : ℕ) (overflow : Bool) (read : List (Letter S)) (block : WrappedBlock T) : Type 0 where
+pub record HasRead {T S : Type 0} (seen : T → S) (width : ℕ) (overflow : Bool) (read : List (Letter S))
+    (block : WrappedBlock T) : Type 0 where
   pub state : HoldsReading seen width overflow block (read_letters width nothing_read read)
   pub room : AllHaveRoom width overflow read
 
@@ -157,18 +170,21 @@ word_read code tag width r = reading r.lines r.space (r.letters ++ lettered (cod
 
 -- A break point behind the word at hand.
 abbrev pub space_read : {S : Type 0} → ℕ → S → ℕ → Reading S → Reading S
-space_read code tag width r = reading r.lines (first_of r.space (if is_white_space code then Some tag else None)) r.letters
+space_read code tag width r = reading r.lines (first_of r.space (if is_white_space code then Some tag else None))
+    r.letters
 
 -- the word at hand is laid, where it has columns
 abbrev pub end_read : {S : Type 0} → ℕ → Reading S → Reading S
-end_read width r = if has_columns r.letters then reading (add_unit width r.lines (piece r.space r.letters)) None [] else r
+end_read width r = if has_columns r.letters then reading (add_unit width r.lines (piece r.space r.letters)) None []
+    else r
 
 -- the word at hand is laid, where it has letters
 abbrev pub lay_read : {S : Type 0} → ℕ → Reading S → Reading S
 lay_read width r = if is_filled r.letters then reading (add_unit width r.lines (piece r.space r.letters)) None [] else r
 
 -- The lines of a stretch, filled with spaces up to the width where there is a tag for them.
-pub record ArePaddedLinesOf {S : Type 0} (width : ℕ) (overflow : Bool) (padding : Option S) (read : List (Letter S)) (lines : List (List (Item S))) : Type 0 where
+pub record ArePaddedLinesOf {S : Type 0} (width : ℕ) (overflow : Bool) (padding : Option S) (read : List (Letter S))
+    (lines : List (List (Item S))) : Type 0 where
   pub shown : List (List (Item S))
   pub are_lines : AreLinesOf width overflow read shown
   pub filled_up : lines ≡ map (padded width padding) shown

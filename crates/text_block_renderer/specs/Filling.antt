@@ -23,7 +23,8 @@ all_lines f = f.done ++ ended f.line
 
 -- letters behind those of the line where they go on it, else on a fresh line
 abbrev pub add_marks : {S : Type 0} → ℕ → Filled S → List (Mark S) → Filled S
-add_marks width f ms = if nat_le (columns (f.line ++ ms)) width then filled f.done (f.line ++ ms) else filled (all_lines f) ms
+add_marks width f ms = if nat_le (columns (f.line ++ ms)) width then filled f.done (f.line ++ ms) else filled
+    (all_lines f) ms
 
 -- a letter of a unit that is cut
 abbrev pub add_mark : {S : Type 0} → ℕ → Filled S → Mark S → Filled S

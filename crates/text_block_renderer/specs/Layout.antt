@@ -27,7 +27,8 @@ marked first further [] = []
 marked first further (l ∷ ls) = mark l first ∷ map (λ x. mark x further) ls
 
 abbrev pub unit_marks : {S : Type 0} → ℕ → Piece S → List (Mark S)
-unit_marks width p = if nat_le (letters_columns p.letters) width then marked (opens p.space) inside p.letters else marked starts cuttable p.letters
+unit_marks width p = if nat_le (letters_columns p.letters) width then marked (opens p.space) inside p.letters
+    else marked starts cuttable p.letters
 
 -- the letters of the units in order
 abbrev pub marks : {S : Type 0} → ℕ → List (Letter S) → List (Mark S)
@@ -65,7 +66,8 @@ columns (m ∷ ms) = width_of m.letter.code + following_columns ms
 -- A line: some letters of which the first can start and the others can follow, on at most the width's columns.
 abbrev pub IsLine : {S : Type 0} → ℕ → List (Mark S) → Type 0
 IsLine width [] = ⊥
-IsLine width (m ∷ ms) = IsTrue (can_start m.joint) × All (λ n. IsTrue (can_follow n.joint)) ms × (columns (m ∷ ms) ≤ width)
+IsLine width (m ∷ ms) = IsTrue (can_start m.joint) × All (λ n. IsTrue (can_follow n.joint)) ms × (columns
+    (m ∷ ms) ≤ width)
 
 -- A letter wider than the width, alone on its line.
 abbrev pub IsOverflow : {S : Type 0} → ℕ → List (Mark S) → Type 0
@@ -82,15 +84,19 @@ joined_lines lines = flat_map (λ line. line) lines
 
 -- A legal layout: the letters in order, divided into lines. (Units that fit are whole on a line, wider ones start
 -- a line and are cut between letters, and gaps stand between neighbours on a line, all by the letters' joints.)
-pub record IsLayout {S : Type 0} (width : ℕ) (overflow : Bool) (ms : List (Mark S)) (lines : List (List (Mark S))) : Type 0 where
+pub record IsLayout {S : Type 0} (width : ℕ) (overflow : Bool) (ms : List (Mark S))
+    (lines : List (List (Mark S))) : Type 0 where
   pub whole : joined_lines lines ≡ ms
   pub each : All (IsAllowed width overflow) lines
 
 -- The fullest layout: each line in turn has as many letters as in any legal layout with the same lines before it.
-pub record IsFullest {S : Type 0} (width : ℕ) (overflow : Bool) (ms : List (Mark S)) (lines : List (List (Mark S))) : Type 0 where
+pub record IsFullest {S : Type 0} (width : ℕ) (overflow : Bool) (ms : List (Mark S))
+    (lines : List (List (Mark S))) : Type 0 where
   pub layout : IsLayout width overflow ms lines
-  pub full : (before : List (List (Mark S))) (line : List (Mark S)) (after : List (List (Mark S))) (other : List (Mark S)) (others : List (List (Mark S))) →
-      lines ≡ before ++ line ∷ after → IsLayout width overflow ms (before ++ other ∷ others) → length other ≤ length line
+  pub full : (before : List (List (Mark S))) (line : List (Mark S)) (after : List (List (Mark S)))
+      (other : List (Mark S)) (others : List (List (Mark S))) →
+      lines ≡ before ++ line ∷ after → IsLayout width overflow ms (before ++ other ∷ others)
+      → length other ≤ length line
 
 -- No legal layout.
 abbrev pub HasNoLayout : {S : Type 0} → ℕ → Bool → List (Mark S) → Type 0
@@ -113,11 +119,13 @@ marks_items [] = []
 marks_items (m ∷ ms) = character m.letter.code m.letter.tag ∷ following_items ms
 
 -- The lines of a stretch: what stands on the lines of its fullest layout.
-pub record AreLinesOf {S : Type 0} (width : ℕ) (overflow : Bool) (read : List (Letter S)) (lines : List (List (Item S))) : Type 0 where
+pub record AreLinesOf {S : Type 0} (width : ℕ) (overflow : Bool) (read : List (Letter S))
+    (lines : List (List (Item S))) : Type 0 where
   pub layout : List (List (Mark S))
   pub fullest : IsFullest width overflow (marks width read) layout
   pub shown : lines ≡ map marks_items layout
 
 -- The stretch has no legal layout, and no stretch that holds it has one.
 abbrev pub NeverFits : {S : Type 0} → ℕ → Bool → List (Letter S) → Type 0
-NeverFits width overflow read = (before after : List (Letter _)) → HasNoLayout width overflow (marks width (before ++ (read ++ after)))
+NeverFits width overflow read = (before after : List (Letter _)) → HasNoLayout width overflow
+    (marks width (before ++ (read ++ after)))

@@ -48,7 +48,8 @@ space_of l = if is_white_space l.code then Some l.tag else None
 -- side the piece between them is empty.
 abbrev pub pieces_after : {S : Type 0} → Option S → List (Letter S) → List (Piece S)
 pieces_after space [] = piece space [] ∷ []
-pieces_after space (l ∷ ls) = if is_break_point l.code then piece space [] ∷ pieces_after (space_of l) ls else with_front l (pieces_after space ls)
+pieces_after space (l ∷ ls) = if is_break_point l.code then piece space [] ∷ pieces_after
+    (space_of l) ls else with_front l (pieces_after space ls)
 
 abbrev pub first_of : {S : Type 0} → Option S → Option S → Option S
 first_of None space = space
@@ -57,7 +58,8 @@ first_of (Some tag) space = Some tag
 -- A piece without columns joins the next one, with the white space before either.
 abbrev pub joining : {S : Type 0} → Piece S → List (Piece S) → List (Piece S)
 joining p [] = p ∷ []
-joining p (q ∷ qs) = if has_columns p.letters then p ∷ q ∷ qs else piece (first_of p.space q.space) (p.letters ++ q.letters) ∷ qs
+joining p (q ∷ qs) = if has_columns p.letters then p ∷ q ∷ qs else piece (first_of p.space q.space)
+    (p.letters ++ q.letters) ∷ qs
 
 abbrev pub joined : {S : Type 0} → List (Piece S) → List (Piece S)
 joined [] = []

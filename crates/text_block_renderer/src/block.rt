@@ -69,7 +69,8 @@ impl<T: EqualCopy + Drop> WrappedBlock<T> {
     ) -> Result<(), BlockError>
         ensures refused { is_err result ≡ has_failed self.new }
         ensures failed { has_failed self.old ≡ true → result ≡ Err BlockError.Failed }
-        ensures kinds { has_failed self.old ≡ false → IfErr result (λ e. (e ≡ BlockError.TooNarrow) ⊎ (e ≡ BlockError.Memory)) }
+        ensures kinds { has_failed self.old ≡ false
+            → IfErr result (λ e. (e ≡ BlockError.TooNarrow) ⊎ (e ≡ BlockError.Memory)) }
         ensures padding { padding_of T.seen self.new ≡ padding_of T.seen self.old }
         ensures read { OnOk result ((width : ℕ) (overflow : Bool) (read : List (Letter T.Seen))
             → HasRead T.seen width overflow read self.old
@@ -96,7 +97,8 @@ impl<T: EqualCopy + Drop> WrappedBlock<T> {
         ensures kinds { IfErr result (λ e. (e ≡ BlockError.TooNarrow) ⊎ (e ≡ BlockError.Memory)) }
         ensures padding { padding_of T.seen self.new ≡ padding_of T.seen self.old }
         ensures read { OnOk result (Reads T.seen self.old self.new (lettered (chars text.now) (T.seen tag.now))) }
-        ensures narrow { result ≡ Err BlockError.TooNarrow → MeetsWider T.seen self.old (lettered (chars text.now) (T.seen tag.now)) }
+        ensures narrow { result ≡ Err BlockError.TooNarrow
+            → MeetsWider T.seen self.old (lettered (chars text.now) (T.seen tag.now)) }
     {
         let mut rest = self.add_run(text, tag)?;
         while let Some((c, after)) = first_char(rest) {
@@ -146,7 +148,8 @@ impl<T: EqualCopy + Drop> WrappedBlock<T> {
         ensures kinds { IfErr result (λ e. (e ≡ BlockError.TooNarrow) ⊎ (e ≡ BlockError.Memory)) }
         ensures padding { padding_of T.seen self.new ≡ padding_of T.seen self.old }
         ensures read { OnOk result (Reads T.seen self.old self.new (lettered (c ∷ []) (T.seen tag.now))) }
-        ensures narrow { result ≡ Err BlockError.TooNarrow → MeetsWider T.seen self.old (lettered (c ∷ []) (T.seen tag.now)) }
+        ensures narrow { result ≡ Err BlockError.TooNarrow
+            → MeetsWider T.seen self.old (lettered (c ∷ []) (T.seen tag.now)) }
     {
         if is_break_point(c) {
             self.end_word()?;
@@ -159,17 +162,13 @@ impl<T: EqualCopy + Drop> WrappedBlock<T> {
         }
     }
 
-    fn add_to_word(
-        &mut self,
-        c: char,
-        columns: usize,
-        tag: &T,
-    ) -> Result<(), BlockError>
+    fn add_to_word(&mut self, c: char, columns: usize, tag: &T) -> Result<(), BlockError>
         ensures kinds { IfErr result (λ e. (e ≡ BlockError.TooNarrow) ⊎ (e ≡ BlockError.Memory)) }
         ensures padding { padding_of T.seen self.new ≡ padding_of T.seen self.old }
         ensures read { OnOk result (Moves T.seen self.old self.new (word_read c (T.seen tag.now))) }
         ensures room { OnOk result ((self.old.lines.allow_overflow || nat_le columns self.old.lines.width) ≡ true) }
-        ensures narrow { result ≡ Err BlockError.TooNarrow → (self.old.lines.allow_overflow || nat_le columns self.old.lines.width) ≡ false }
+        ensures narrow { result ≡ Err BlockError.TooNarrow
+            → (self.old.lines.allow_overflow || nat_le columns self.old.lines.width) ≡ false }
     {
         if !self.lines.has_room_for(columns) {
             return Err(BlockError::TooNarrow);
@@ -181,7 +180,8 @@ impl<T: EqualCopy + Drop> WrappedBlock<T> {
     /// Keeps the tag of a white space, where it is the first.
     fn add_space(&mut self, c: char, tag: &T) -> Result<(), AllocError>
         ensures padding { padding_of T.seen self.new ≡ padding_of T.seen self.old }
-        ensures read { OnOk result (IsTrue (is_break_point c) → Moves T.seen self.old self.new (space_read c (T.seen tag.now))) }
+        ensures read { OnOk result (IsTrue (is_break_point c)
+            → Moves T.seen self.old self.new (space_read c (T.seen tag.now))) }
     {
         if c != ZERO_WIDTH_SPACE && self.space.is_none() {
             self.space = Some(self.lines.copy_tag(tag)?);
@@ -224,7 +224,8 @@ impl<T: EqualCopy + Drop> WrappedBlock<T> {
         ensures laid { IfOk result (λ lines. (width : ℕ) (overflow : Bool) (read : List (Letter T.Seen))
             → HasRead T.seen width overflow read self
             → map (line_items T.seen) lines.items
-            ≡ map (padded width (padding_of T.seen self)) (map marks_items (lines_read width (read_letters width nothing_read read)))) }
+            ≡ map (padded width (padding_of T.seen self))
+            (map marks_items (lines_read width (read_letters width nothing_read read)))) }
         ensures lines { IfOk result (λ lines. (width : ℕ) (overflow : Bool) (read : List (Letter T.Seen))
             → HasRead T.seen width overflow read self
             → ArePaddedLinesOf width overflow (padding_of T.seen self) read (map (line_items T.seen) lines.items)) }
@@ -250,7 +251,8 @@ impl<T: EqualCopy + Drop> WrappedBlock<T> {
         ensures laid { IfOk result (λ lines. (width : ℕ) (overflow : Bool) (read : List (Letter T.Seen))
             → HasRead T.seen width overflow read self
             → map (line_items T.seen) lines.items
-            ≡ map (padded width (padding_of T.seen self)) (map marks_items (lines_read width (read_letters width nothing_read read)))) }
+            ≡ map (padded width (padding_of T.seen self))
+            (map marks_items (lines_read width (read_letters width nothing_read read)))) }
         ensures joined { IfOk result (λ lines. (width : ℕ) (overflow : Bool) (read : List (Letter T.Seen))
             → HasRead T.seen width overflow read self → All (IsJoined T.seen) lines.items) }
     {

@@ -74,11 +74,7 @@ impl<T: EqualCopy + Drop> Filling<T> {
         }
     }
 
-    fn add_whole(
-        &mut self,
-        space: Option<&T>,
-        word: &TaggedLine<T>,
-    ) -> Result<(), BlockError>
+    fn add_whole(&mut self, space: Option<&T>, word: &TaggedLine<T>) -> Result<(), BlockError>
         ensures laid { OnOk result (LaysWhole T.seen self.old self.new
             (option_map T.seen (option_copied space.entry)) (line_items T.seen word.now)) }
         ensures kinds { IfErr result (λ e. e ≡ BlockError.Memory) }
@@ -106,10 +102,7 @@ impl<T: EqualCopy + Drop> Filling<T> {
         Ok(())
     }
 
-    fn cut_element(
-        &mut self,
-        element: &TaggedLineElement<T>,
-    ) -> Result<(), BlockError>
+    fn cut_element(&mut self, element: &TaggedLineElement<T>) -> Result<(), BlockError>
         ensures laid { OnOk result (Cuts T.seen self.old self.new (element_items T.seen element.now)) }
         ensures kinds { IfErr result (λ e. e ≡ BlockError.Memory) }
     {

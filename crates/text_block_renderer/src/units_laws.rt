@@ -8,7 +8,8 @@ ghost use Rattle.text_block_renderer.specs.Filling.{all_lines, add_units, read_l
 
 /// Reading letter by letter lays the units, one after another.
 fn read_letters_are_units()
-    ensures units { (w : ℕ) (read : List (Letter ℕ)) → lines_read w (read_letters w nothing_read read) ≡ all_lines (add_units w (units read)) }
+    ensures units { (w : ℕ) (read : List (Letter ℕ)) → lines_read w (read_letters w nothing_read read)
+        ≡ all_lines (add_units w (units read)) }
 {}
 
 /// The letters of the units are the characters of the stretch that are no break points and have a width; so
@@ -23,12 +24,16 @@ fn units_keep_the_letters()
 
 /// A letter that is no break point and has a width is one of the marks, whatever stands around it.
 fn letters_are_marked()
-    ensures marked { (w : ℕ) (read before after front back : List (Letter ℕ)) (l : Letter ℕ) (n : ℕ) → read ≡ front ++ l ∷ back
+    ensures marked { (w : ℕ) (read before after front back : List (Letter ℕ)) (l : Letter ℕ) (n : ℕ)
+        → read ≡ front ++ l ∷ back
         → is_break_point l.code ≡ false → columns_of l.code ≡ Some n
-        → (some : List (Mark ℕ)) × (m : Mark ℕ) × (more : List (Mark ℕ)) × (marks w (before ++ (read ++ after)) ≡ some ++ m ∷ more) × (m.letter ≡ l) }
-    ensures never { (w : ℕ) → ((before after : List (Mark ℕ)) (m : Mark ℕ) → w < width_of m.letter.code → HasNoLayout w false (before ++ m ∷ after))
+        → (some : List (Mark ℕ)) × (m : Mark ℕ) × (more : List (Mark ℕ))
+        × (marks w (before ++ (read ++ after)) ≡ some ++ m ∷ more) × (m.letter ≡ l) }
+    ensures never { (w : ℕ) → ((before after : List (Mark ℕ)) (m : Mark ℕ) → w < width_of m.letter.code
+        → HasNoLayout w false (before ++ m ∷ after))
         → (read front back : List (Letter ℕ)) (l : Letter ℕ) → read ≡ front ++ l ∷ back → is_break_point l.code ≡ false
         → w < width_of l.code → NeverFits w false read }
-    ensures lines { (w : ℕ) (overflow : Bool) (read : List (Letter ℕ)) → IsFullest w overflow (marks w read) (all_lines (add_units w (units read)))
+    ensures lines { (w : ℕ) (overflow : Bool) (read : List (Letter ℕ))
+        → IsFullest w overflow (marks w read) (all_lines (add_units w (units read)))
         → AreLinesOf w overflow read (map marks_items (lines_read w (read_letters w nothing_read read))) }
 {}

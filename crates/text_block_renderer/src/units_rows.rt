@@ -11,16 +11,19 @@ fn units_of_texts()
         ≡ unit None (codes "aa") ∷ unit None (codes "bb") ∷ unit (Some (tt {0})) (codes "cc") ∷ [] }
     ensures leading { units_of (codes " a") ≡ unit (Some (tt {0})) (codes "a") ∷ [] }
     ensures accent { units_of (0x301 ∷ []) ≡ unit None (0x301 ∷ []) ∷ [] }
-    ensures line_end { units_of (codes "ab" ++ 0xA ∷ codes "c") ≡ unit None (codes "ab") ∷ unit (Some (tt {0})) (codes "c") ∷ [] }
+    ensures line_end { units_of (codes "ab" ++ 0xA ∷ codes "c")
+        ≡ unit None (codes "ab") ∷ unit (Some (tt {0})) (codes "c") ∷ [] }
     ensures accented { units_of (0x61 ∷ 0x301 ∷ codes " b")
         ≡ unit None (0x61 ∷ 0x301 ∷ []) ∷ unit (Some (tt {0})) (codes "b") ∷ [] }
 {}
 
 /// White space anywhere among the break points before a word makes a gap.
 fn break_points_side_by_side()
-    ensures space_first { units_of (codes "a " ++ 0x200B ∷ codes "b") ≡ unit None (codes "a") ∷ unit (Some (tt {0})) (codes "b") ∷ [] }
+    ensures space_first { units_of (codes "a " ++ 0x200B ∷ codes "b")
+        ≡ unit None (codes "a") ∷ unit (Some (tt {0})) (codes "b") ∷ [] }
     ensures space_first_lines { lines_of 3 (codes "a " ++ 0x200B ∷ codes "b") ≡ codes "a b" ∷ [] }
-    ensures space_last { units_of (codes "a" ++ 0x200B ∷ codes " b") ≡ unit None (codes "a") ∷ unit (Some (tt {0})) (codes "b") ∷ [] }
+    ensures space_last { units_of (codes "a" ++ 0x200B ∷ codes " b")
+        ≡ unit None (codes "a") ∷ unit (Some (tt {0})) (codes "b") ∷ [] }
     ensures space_last_lines { lines_of 3 (codes "a" ++ 0x200B ∷ codes " b") ≡ codes "a b" ∷ [] }
 {}
 
@@ -49,7 +52,8 @@ fn words_fill_a_line()
 
 /// A control character is left out, and parts nothing.
 fn control_character_is_left_out()
-    ensures parted { units_of (codes "a" ++ 0x7 ∷ codes "b cd") ≡ unit None (codes "ab") ∷ unit (Some (tt {0})) (codes "cd") ∷ [] }
+    ensures parted { units_of (codes "a" ++ 0x7 ∷ codes "b cd")
+        ≡ unit None (codes "ab") ∷ unit (Some (tt {0})) (codes "cd") ∷ [] }
     ensures lines { lines_of 5 (codes "a" ++ 0x7 ∷ codes "b cd") ≡ codes "ab cd" ∷ [] }
 {}
 

@@ -2,7 +2,9 @@
 use Rattle.std.proofs.Common.{◌≡◌, ℕ, ◌+◌, ◌<◌, List, [], ◌∷◌, ◌++◌, map, take, length, get_or, sym, ap, ◌∙◌}
 use Rattle.std.proofs.lemmas.List.{map_more, map_push}
 
-pub seen_more : {T S : Type 0} (seen : T → S) (xs copies new : List T) (i : ℕ) (x copied : T) → i < length xs → x ≡ get_or xs i x → map seen copies ≡ map seen (take i xs) → new ≡ copies ++ copied ∷ [] → seen copied ≡ seen x
+pub seen_more : {T S : Type 0} (seen : T → S) (xs copies new : List T) (i : ℕ) (x copied : T) → i < length xs
+    → x ≡ get_or xs i x → map seen copies ≡ map seen (take i xs) → new ≡ copies ++ copied ∷ [] → seen copied ≡ seen x
     → map seen new ≡ map seen (take (i + 1) xs)
 seen_more seen xs copies new i x copied inside read so_far pushed same =
-    ap (map seen) pushed ∙ map_push seen copies copied ∙ ap (λ front. front ++ seen copied ∷ []) so_far ∙ ap (λ s. map seen (take i xs) ++ s ∷ []) (same ∙ ap seen read) ∙ sym (map_more seen xs i x inside)
+    ap (map seen) pushed ∙ map_push seen copies copied ∙ ap (λ front. front ++ seen copied ∷ []) so_far
+    ∙ ap (λ s. map seen (take i xs) ++ s ∷ []) (same ∙ ap seen read) ∙ sym (map_more seen xs i x inside)

@@ -9,7 +9,8 @@ use Rattle.std.proofs.lemmas.Bool.Decides.{nat_tests}
 -- The characters that borders are made of: ─ ┬ ┴ ┼ │ ┤ ├ ┌ ┐ └ ┘ and /.
 abbrev pub is_border : ℕ → Bool
 is_border c =
-    (c == 0x2500) || (c == 0x252C) || (c == 0x2534) || (c == 0x253C) || (c == 0x2502) || (c == 0x2524) || (c == 0x251C) || (c == 0x250C) || (c == 0x2510) || (c == 0x2514) || (c == 0x2518)
+    (c == 0x2500) || (c == 0x252C) || (c == 0x2534) || (c == 0x253C) || (c == 0x2502) || (c == 0x2524) ||
+    (c == 0x251C) || (c == 0x250C) || (c == 0x2510) || (c == 0x2514) || (c == 0x2518)
     || (c == 0x2F)
 
 -- A character's columns: one for a border's, else its width but at most two, and none where it has no width.
@@ -38,13 +39,15 @@ chosen false o h = h
 
 pub columns_of-at_most_two : (c : ℕ) → IfSome (columns_of c) (λ n. n ≤ 2)
 unfolding columns_of
-columns_of-at_most_two c = chosen (is_border c) (option_map (λ n. min n 2) (char_width false c)) (capped (char_width false c))
+columns_of-at_most_two c = chosen (is_border c) (option_map (λ n. min n 2) (char_width false c))
+    (capped (char_width false c))
 
 printable_width : (c : ℕ) → 0x20 ≤ c → c ≤ 0x7E → char_width false c ≡ Some 1
 unfolding char_width
 printable_width c low high = grind (arith, nat_tests)
 
-one_of : (b : Bool) (o : Option ℕ) → IsTrue b ⊎ (o ≡ Some 1) → (if b then Some 1 else option_map (λ n. min n 2) o) ≡ Some 1
+one_of : (b : Bool) (o : Option ℕ) → IsTrue b ⊎ (o ≡ Some 1) → (if b then Some 1 else option_map (λ n. min n 2) o)
+    ≡ Some 1
 one_of true o h = refl
 one_of false o (inl h) = cc
 one_of false o (inr h) = ap (option_map (λ n. min n 2)) h

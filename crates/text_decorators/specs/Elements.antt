@@ -67,7 +67,8 @@ MeetWithTag seen es (FragmentStart name ∷ fs) = ⊥
 -- no text is empty, and none stands next to a text with an equal tag
 abbrev pub AreJoined : {T S : Type 0} → (T → S) → List (TaggedLineElement T) → Type 0
 AreJoined seen [] = Unit {0}
-AreJoined seen (Str string ∷ es) = (string_bytes string.s ≢ []) × (¬ BeginsWithTag seen (seen string.tag) es) × AreJoined seen es
+AreJoined seen (Str string ∷ es) = (string_bytes string.s ≢ []) × (¬ BeginsWithTag seen (seen string.tag) es)
+    × AreJoined seen es
 AreJoined seen (FragmentStart name ∷ es) = AreJoined seen es
 
 -- the element with the text added at its end
@@ -90,7 +91,8 @@ MapsTag P (FragmentStart old) (Str new) = ⊥
 MapsTag P (FragmentStart old) (FragmentStart new) = new ≡ old
 
 -- the elements with other tags, one by one
-abbrev pub MapsTags : {T U : Type 0} → (T → U → Type 0) → List (TaggedLineElement T) → List (TaggedLineElement U) → Type 0
+abbrev pub MapsTags : {T U : Type 0} → (T → U → Type 0) → List (TaggedLineElement T) → List (TaggedLineElement U)
+    → Type 0
 MapsTags P [] [] = Unit {0}
 MapsTags P [] (f ∷ fs) = ⊥
 MapsTags P (e ∷ es) [] = ⊥

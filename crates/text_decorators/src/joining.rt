@@ -129,7 +129,8 @@ fn join_first<T: EqualCopy + Drop>(
     ensures joined { AreJoined T.seen elements.old.items → AreJoined T.seen copies.old.items
         → OnOk result (AreJoined T.seen (elements.new.items ++ copies.new.items)) }
     ensures kept { AreJoined T.seen elements.old.items → AreJoined T.seen elements.new.items }
-    ensures room { (vec_len elements.new ≡ vec_len elements.old) × (vec_capacity elements.new ≡ vec_capacity elements.old)
+    ensures room { (vec_len elements.new ≡ vec_len elements.old)
+        × (vec_capacity elements.new ≡ vec_capacity elements.old)
         × (vec_len copies.new ≤ vec_len copies.old) }
 {
     if meet_with_tag(elements, copies) {
@@ -174,8 +175,10 @@ fn extend_last<T: EqualCopy + Drop>(
     ensures err { OnErr result (elements_items T.seen elements.new.items
         ≡ elements_items T.seen elements.old.items) }
     ensures joined { AreJoined T.seen elements.old.items → AreJoined T.seen elements.new.items }
-    ensures ends { (tag : T.Seen) → EndsWithTag T.seen tag elements.new.items → EndsWithTag T.seen tag elements.old.items }
-    ensures room { (vec_len elements.new ≡ vec_len elements.old) × (vec_capacity elements.new ≡ vec_capacity elements.old) }
+    ensures ends { (tag : T.Seen) → EndsWithTag T.seen tag elements.new.items
+        → EndsWithTag T.seen tag elements.old.items }
+    ensures room { (vec_len elements.new ≡ vec_len elements.old)
+        × (vec_capacity elements.new ≡ vec_capacity elements.old) }
 {
     let last = elements.len() - 1;
     elements[last].push_str(text)

@@ -17,13 +17,16 @@ pub fn equal_strings_are_seen_alike<T: EqualCopy + Drop>()
 
 /// Elements are found equal exactly where both are such texts, or markers of one name.
 pub fn equal_elements_are_seen_alike<T: EqualCopy + Drop>()
-    ensures { (a b : SeenElement T) → IsTrue (⟦<TaggedLineElement<T> as PartialEq>⟧.eq a b) ↔ AreSameElements T.seen a b }
+    ensures { (a b : SeenElement T) → IsTrue (⟦<TaggedLineElement<T> as PartialEq>⟧.eq a b)
+        ↔ AreSameElements T.seen a b }
 {}
 
 /// Lines that are found equal have the same tagged characters and markers, and joined lines that have them are found
 /// equal.
 pub fn equal_lines_are_seen_alike<T: EqualCopy + Drop>()
-    ensures items { (a b : SeenLine T) → IsTrue (⟦<TaggedLine<T> as PartialEq>⟧.eq a b) → line_items T.seen a ≡ line_items T.seen b }
-    ensures joined { (a b : SeenLine T) → IsJoined T.seen a → IsJoined T.seen b → line_items T.seen a ≡ line_items T.seen b
+    ensures items { (a b : SeenLine T) → IsTrue (⟦<TaggedLine<T> as PartialEq>⟧.eq a b)
+        → line_items T.seen a ≡ line_items T.seen b }
+    ensures joined { (a b : SeenLine T) → IsJoined T.seen a → IsJoined T.seen b
+        → line_items T.seen a ≡ line_items T.seen b
         → IsTrue (⟦<TaggedLine<T> as PartialEq>⟧.eq a b) }
 {}

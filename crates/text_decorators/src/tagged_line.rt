@@ -101,9 +101,9 @@ impl<T: EqualCopy + Drop> TaggedLine<T> {
         ensures err { OnErr result (line_items T.seen self.new ≡ line_items T.seen self.old) }
         ensures joined { IsJoined T.seen self.old → IsJoined T.seen self.new }
     {
-        let columns = self.columns.checked_add(other.columns).ok_or(AllocError)?;
+        let total = self.columns.checked_add(other.columns).ok_or(AllocError)?;
         push_elements(&mut self.elements, &other.elements)?;
-        self.columns = columns;
+        self.columns = total;
         Ok(())
     }
 

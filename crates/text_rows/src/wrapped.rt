@@ -16,20 +16,18 @@ pub(crate) fn wrapped_lines<T: EqualCopy + Drop>(
     allow_overflow: bool,
     default_tag: T,
 ) -> Result<Vec<TaggedLine<T>>, BlockError>
-    ensures lines { IfOk result (λ lines. AreLinesOf width allow_overflow (letters_of T.seen pieces.now) (map (line_items T.seen) lines.items)) }
-    ensures within { allow_overflow ≡ false → IfOk result (λ lines. All (λ items. line_columns items ≤ width) (map (line_items T.seen) lines.items)) }
+    ensures lines { IfOk result (λ lines.
+        AreLinesOf width allow_overflow (letters_of T.seen pieces.now) (map (line_items T.seen) lines.items)) }
+    ensures within { allow_overflow ≡ false → IfOk result (λ lines.
+        All (λ items. line_columns items ≤ width) (map (line_items T.seen) lines.items)) }
     ensures joined { IfOk result (λ lines. All (IsJoined T.seen) lines.items) }
-    ensures narrow { result ≡ Err BlockError.TooNarrow → (allow_overflow ≡ false) × NeverFits width false (letters_of T.seen pieces.now) }
+    ensures narrow { result ≡ Err BlockError.TooNarrow
+        → (allow_overflow ≡ false) × NeverFits width false (letters_of T.seen pieces.now) }
     ensures kinds { IfErr result (λ e. (e ≡ BlockError.TooNarrow) ⊎ (e ≡ BlockError.Memory)) }
 {
     let mut block = WrappedBlock::new(alloc, width, false, allow_overflow, default_tag);
     for piece in pieces {
-        block.add_text(
-            piece.s.as_str(),
-            WhiteSpace::Normal,
-            &piece.tag,
-            &piece.tag,
-        )?;
+        block.add_text(piece.s.as_str(), WhiteSpace::Normal, &piece.tag, &piece.tag)?;
     }
     block.into_lines()
 }

@@ -9,6 +9,7 @@ invariant-loop-line g l =
     let seen = g.T.EqualCopy.seen in
     let start = map (line_items seen) l.initial.line-items in
     record {
-      views : map (line_items seen) l.line-items ≡ map (padded l.width (Some (seen l.tag))) (take l.line-index start) ++ drop l.line-index start;
+      views : map (line_items seen) l.line-items ≡ map (padded l.width (Some (seen l.tag)))
+          (take l.line-index start) ++ drop l.line-index start;
       joined : All (IsJoined seen) l.initial.line-items → All (IsJoined seen) l.line-items;
     }

@@ -6,4 +6,5 @@ use Rattle.text_decorators.proofs.joining.push_text.Goals as goal
 
 pub returns-then-is_empty-clause-ok : goal.returns-then-is_empty-clause-ok
 returns-then-is_empty-clause-ok g c =
-    nothing_added _ c.args.text.now (g.T.EqualCopy.seen c.args.tag.now) (nil_from_length c.args.text.now (grind (arith, nat_tests)))
+    nothing_added _ c.args.text.now (g.T.EqualCopy.seen c.args.tag.now)
+    (nil_from_length c.args.text.now (grind (arith, nat_tests)))

@@ -5,5 +5,6 @@ use Rattle.text_decorators.proofs.laws.equal_elements_are_seen_alike.Goals as go
 
 pub returns : goal.returns
 returns g c =
-    elements_alike g.T.PartialEq.eq g.T.EqualCopy.seen g.met.T.EqualCopy.same g.met.T.EqualCopy.apart (elements g.row.T g.T.PartialEq g.T.PartialEq-dict).it
+    elements_alike g.T.PartialEq.eq g.T.EqualCopy.seen g.met.T.EqualCopy.same g.met.T.EqualCopy.apart
+    (elements g.row.T g.T.PartialEq g.T.PartialEq-dict).it
     (record { texts = λ a b. refl; text_first = λ a b. refl; name_first = λ a b. refl; names = λ a b. refl })

@@ -18,7 +18,9 @@ loop-piece-preserved g c =
     record {
       padding = c.in_ok-add_text.ensures.padding ∙ c.loop-piece.invariant.padding;
       read = subst (λ ls. HasRead seen c.args.width c.args.allow_overflow ls c.add_text.new.self)
-          (ap (λ bytes. so_far ++ lettered (chars bytes) (seen p.tag)) c.as_str.ensures.value ∙ letters_more seen c.args.pieces.now c.loop-piece.piece-index p c.loop-piece-test.true c.piece-item.is) read;
+          (ap (λ bytes. so_far ++ lettered (chars bytes) (seen p.tag)) c.as_str.ensures.value
+          ∙ letters_more seen c.args.pieces.now c.loop-piece.piece-index p c.loop-piece-test.true c.piece-item.is)
+          read;
     }
 
 pub returns-in_err-add_text-clause-narrow : goal.returns-in_err-add_text-clause-narrow
@@ -29,12 +31,15 @@ returns-in_err-add_text-clause-narrow g c = λ e.
     let q = err_from_is_err_and c.from_residual.result c.from_residual.ensures.1 in
     let narrow = c.in_err-add_text.was ∙ ap Err (sym q.2 ∙ same_error c.from_residual.result q.0 _ q.1 e) in
     let never = c.add_text.ensures.never narrow c.args.width c.args.allow_overflow so_far c.loop-piece.invariant.read in (
-      (c.add_text.ensures.narrow narrow c.args.width c.args.allow_overflow so_far c.loop-piece.invariant.read).not_allowed,
+      (c.add_text.ensures.narrow narrow c.args.width c.args.allow_overflow so_far
+          c.loop-piece.invariant.read).not_allowed,
       pieces_never seen c.args.width c.args.pieces.now c.loop-piece.piece-index p c.loop-piece-test.true c.piece-item.is
-          (subst (λ bytes. NeverFits c.args.width false (so_far ++ lettered (chars bytes) (seen p.tag))) c.as_str.ensures.value never),
+          (subst (λ bytes. NeverFits c.args.width false (so_far ++ lettered (chars bytes) (seen p.tag)))
+          c.as_str.ensures.value never),
     )
 
 pub returns-clause-joined : goal.returns-clause-joined
 returns-clause-joined g c =
     let so_far = letters_of g.T.EqualCopy.seen (take c.loop-piece.piece-index c.args.pieces.now) in
-    if_ok_map _ _ c.into_lines.result (λ lines all. all c.args.width c.args.allow_overflow so_far c.loop-piece.invariant.read) c.into_lines.ensures.joined
+    if_ok_map _ _ c.into_lines.result (λ lines all. all c.args.width c.args.allow_overflow so_far
+    c.loop-piece.invariant.read) c.into_lines.ensures.joined

@@ -8,5 +8,6 @@ abbrev pub invariant-loop-piece : goal.invariant-loop-piece
 invariant-loop-piece g l =
     record {
       padding : padding_of g.T.EqualCopy.seen l.block ≡ None;
-      read : HasRead g.T.EqualCopy.seen l.width l.allow_overflow (letters_of g.T.EqualCopy.seen (take l.piece-index l.pieces)) l.block;
+      read : HasRead g.T.EqualCopy.seen l.width l.allow_overflow
+          (letters_of g.T.EqualCopy.seen (take l.piece-index l.pieces)) l.block;
     }

@@ -4,4 +4,5 @@ use Rattle.text_block_renderer.proofs.block.WrappedBlock.joins_word.Goals as goa
 
 pub returns-then-not-is_break_point : goal.returns-then-not-is_break_point
 returns-then-not-is_break_point g c = λ fits.
-    joins_word c.args.self.now c.args.c c.in-Some.columns c.has_room_for.result (sym c.is_break_point.ensures ∙ c.if-not-is_break_point.true) (sym c.columns.ensures ∙ c.in-Some.is) c.has_room_for.ensures fits
+    joins_word c.args.self.now c.args.c c.in-Some.columns c.has_room_for.result (sym c.is_break_point.ensures
+    ∙ c.if-not-is_break_point.true) (sym c.columns.ensures ∙ c.in-Some.is) c.has_room_for.ensures fits

@@ -6,4 +6,5 @@ use Rattle.text_block_renderer.proofs.filling.Filling.cut_element.Goals as goal
 
 pub returns-in-FragmentStart-clause-laid : goal.returns-in-FragmentStart-clause-laid
 returns-in-FragmentStart-clause-laid g c =
-    subst (λ e. Cuts g.T.EqualCopy.seen c.args.self.now c.args.self.now (element_items g.T.EqualCopy.seen e)) (sym c.in-FragmentStart.is) (cuts_marker g.T.EqualCopy.seen c.args.self.now _)
+    subst (λ e. Cuts g.T.EqualCopy.seen c.args.self.now c.args.self.now (element_items g.T.EqualCopy.seen e))
+    (sym c.in-FragmentStart.is) (cuts_marker g.T.EqualCopy.seen c.args.self.now _)

@@ -6,4 +6,5 @@ use Rattle.text_block_renderer.proofs.filling.Filling.cut_string.Given as goal
 
 abbrev pub invariant-loop-c : goal.invariant-loop-c
 invariant-loop-c g l =
-    Cuts g.T.EqualCopy.seen l.fn.self l.self (tagged (take (length l.yielded) (chars (string_bytes l.string.s))) (g.T.EqualCopy.seen l.string.tag))
+    Cuts g.T.EqualCopy.seen l.fn.self l.self (tagged (take (length l.yielded) (chars (string_bytes l.string.s)))
+    (g.T.EqualCopy.seen l.string.tag))

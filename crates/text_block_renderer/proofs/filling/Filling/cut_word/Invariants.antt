@@ -5,4 +5,5 @@ use Rattle.text_block_renderer.proofs.filling.Filling.cut_word.Given as goal
 
 abbrev pub invariant-loop-element : goal.invariant-loop-element
 invariant-loop-element g l =
-    Cuts g.T.EqualCopy.seen l.fn.self l.self (elements_items g.T.EqualCopy.seen (take (length l.yielded) (line_elements l.word)))
+    Cuts g.T.EqualCopy.seen l.fn.self l.self (elements_items g.T.EqualCopy.seen
+    (take (length l.yielded) (line_elements l.word)))

@@ -8,4 +8,5 @@ returns-then-fits-clause-laid g c = roomy g.T.EqualCopy.seen c.args.self.now _ (
 
 pub returns-else-fits-clause-laid : goal.returns-else-fits-clause-laid
 returns-else-fits-clause-laid g c =
-    on_ok_weaker c.end_line.result (λ h. without_room g.T.EqualCopy.seen c.args.self.now _ _ (sym c.if-fits.false ∙ c.fits.ensures) h) c.end_line.ensures.laid
+    on_ok_weaker c.end_line.result (λ h. without_room g.T.EqualCopy.seen c.args.self.now _ _ (sym c.if-fits.false
+    ∙ c.fits.ensures) h) c.end_line.ensures.laid

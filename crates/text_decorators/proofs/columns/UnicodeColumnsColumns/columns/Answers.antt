@@ -5,4 +5,8 @@ use Rattle.text_decorators.proofs.columns.UnicodeColumnsColumns.columns.Goals as
 
 pub returns-in-32-to-126 : goal.returns-in-32-to-126
 returns-in-32-to-126 c =
-    sym (columns_of-one c.args.c (inr (grind (arith, nat_tests, c.in-32-to-126), grind (arith, nat_tests, c.in-32-to-126))))
+    sym (columns_of-one c.args.c (inr (
+      grind (arith, nat_tests, c.in-32-to-126),
+      grind
+          (arith, nat_tests, c.in-32-to-126),
+    )))

@@ -8,4 +8,6 @@ use borrow.Author.Tests.{tests}
 pub returns : goal.returns
 returns g c =
     none_by_all g.T.EqualCopy.seen c.args.self.now.elements.items _
-    (cases_from_all _ _ _ (λ e. IsEmpty e) (λ e. ¬ IsEmpty e) c.all.ensures.ran (YieldsList-from_slice c.args.self.now.elements.items cc) (λ x q k. search (rules, tests)) (λ x q k. search (rules, tests)))
+    (cases_from_all _ _ _ (λ e. IsEmpty e) (λ e. ¬ IsEmpty e) c.all.ensures.ran
+    (YieldsList-from_slice c.args.self.now.elements.items cc) (λ x q k. search (rules, tests))
+    (λ x q k. search (rules, tests)))

@@ -5,4 +5,5 @@ use Rattle.text_decorators.proofs.tagged_line.TaggedLine.width.Goals as goal
 
 pub returns : goal.returns
 returns g c =
-    c.args.self.now.counted ∙ ap text_columns (sym (elements_characters g.T.EqualCopy.seen c.args.self.now.elements.items))
+    c.args.self.now.counted ∙ ap text_columns (sym
+    (elements_characters g.T.EqualCopy.seen c.args.self.now.elements.items))
