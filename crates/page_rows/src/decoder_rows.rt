@@ -1,4 +1,5 @@
 //! Bytes in two pieces and their text, by the decoder.
+use crate::checks::holds;
 use crate::decoded_text;
 use html2text::{ParseFault, Utf8LossyDecoder};
 use std::process::Abort;
@@ -49,7 +50,7 @@ fn replaces_in_two_pieces(rt: HostRuntime) -> Result<(), Fail> {
     for (first, second, want) in ROWS {
         let pieces = vec![in alloc; first.to_vec(alloc)?, second.to_vec(alloc)?]?;
         let text = decoded_text(alloc, &pieces)?;
-        assert_eq!(rt; text.as_str(), want, "{first:?} {second:?}");
+        holds(&rt, text.as_str() == want, want);
     }
     Ok(())
 }
@@ -66,9 +67,9 @@ fn text_of_single_bytes(
             Ok(part) => text.push_str(part.as_str())?,
             Err(fault) => {
                 let later = decoder.push(rt.alloc(), b"A");
-                assert_eq!(rt; later.err(), Some(ParseFault::Failed));
+                holds(rt, later.err() == Some(ParseFault::Failed), "a later piece");
                 let last = decoder.finish(rt.alloc());
-                assert_eq!(rt; last.err(), Some(ParseFault::Failed));
+                holds(rt, last.err() == Some(ParseFault::Failed), "the end");
                 return Err(fault);
             }
         }
@@ -85,8 +86,8 @@ fn replaces_in_single_bytes_or_refuses(rt: HostRuntime) {
             continue;
         };
         match text_of_single_bytes(&rt, &bytes) {
-            Ok(text) => assert_eq!(rt; text.as_str(), want, "{bytes:?}"),
-            Err(fault) => assert_eq!(rt; fault, ParseFault::Memory, "{bytes:?}"),
+            Ok(text) => holds(&rt, text.as_str() == want, want),
+            Err(fault) => holds(&rt, fault == ParseFault::Memory, want),
         }
     }
 }

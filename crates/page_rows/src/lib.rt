@@ -7,6 +7,8 @@ mod decoded;
 pub use decoded::decoded_text;
 
 #[cfg(test)]
+mod checks;
+#[cfg(test)]
 mod decoder_rows;
 #[cfg(test)]
 mod devices;

@@ -1,4 +1,5 @@
 //! Pages from outside, through the public calls. Readers and writers are in memory.
+use crate::checks::{holds, is_answer};
 use crate::devices::{Faltering, Full, Pieces};
 use html2text::{Config, Device, Error, PlainDecorator, ReferenceTable, from_read, one_answer, run};
 use std::alloc::Global;
@@ -78,23 +79,15 @@ fn pages_have_their_lines_however_cut(rt: HostRuntime) -> Result<(), Fail> {
     for (width, bytes, wanted) in PAGES {
         for most in [1, 2, 7, 8192] {
             let found = text_of(rt.alloc(), bytes, most, width);
-            match (found, wanted) {
-                (Ok(text), Ok(wanted)) => {
-                    assert_eq!(rt; text.as_str(), wanted, "width {width}, pieces of {most}");
-                }
-                (Err(error), Err(wanted)) => {
-                    assert_eq!(rt; error, wanted, "width {width}, pieces of {most}");
-                }
-                (found, wanted) => {
-                    assert!(rt;
-                        false,
-                        "width {width}, pieces of {most}: {found:?}, not {wanted:?}"
-                    );
-                }
-            }
+            holds(&rt, is_answer(found, wanted), name_of(bytes));
         }
     }
     Ok(())
+}
+
+/// What a page is called where its text is not what was wanted.
+fn name_of(bytes: &[u8]) -> &str {
+    std::str::from_utf8(bytes).unwrap_or("bytes that are no text")
 }
 
 #[test]
@@ -102,10 +95,10 @@ fn two_pieces_are_one_page(rt: HostRuntime) -> Result<(), Fail> {
     let alloc = rt.alloc();
     let mut input = Device::new(b"<p>caf\xC3".as_slice().chain(b"\xA9</p>".as_slice()));
     let text = plain(alloc)?.string_from_read(alloc, &mut input, 20)?;
-    assert_eq!(rt; text.as_str(), "caf\u{e9}\n");
+    holds(&rt, text.as_str() == "caf\u{e9}\n", "a character in two pieces");
     let mut input = Device::new(b"<p>a\r".as_slice().chain(b"\nb</p>".as_slice()));
     let text = plain(alloc)?.string_from_read(alloc, &mut input, 20)?;
-    assert_eq!(rt; text.as_str(), "a b\n");
+    holds(&rt, text.as_str() == "a b\n", "a line end in two pieces");
     Ok(())
 }
 
@@ -121,11 +114,8 @@ fn a_page_is_as_long_as_allowed(rt: HostRuntime) -> Result<(), Fail> {
     for (bytes, most, wanted) in rows {
         let mut input = Device::new(bytes);
         let config = plain(alloc)?.max_bytes(most);
-        match (config.string_from_read(alloc, &mut input, 20), wanted) {
-            (Ok(text), Ok(wanted)) => assert_eq!(rt; text.as_str(), wanted),
-            (Err(error), Err(wanted)) => assert_eq!(rt; error, wanted),
-            (found, wanted) => assert!(rt; false, "{found:?}, not {wanted:?}"),
-        }
+        let found = config.string_from_read(alloc, &mut input, 20);
+        holds(&rt, is_answer(found, wanted), name_of(bytes));
     }
     Ok(())
 }
@@ -135,10 +125,13 @@ fn lines_are_given_one_by_one(rt: HostRuntime) -> Result<(), Fail> {
     let alloc = rt.alloc();
     let mut input = Device::new(b"<p>a b</p>".as_slice());
     let lines = plain(alloc)?.lines_from_read(alloc, &mut input, 1)?;
-    assert_eq!(rt; lines.len(), 2);
-    let first: String = lines[0].chars().collect(alloc)?;
-    assert_eq!(rt; first.as_str(), "a");
-    assert_eq!(rt; lines[1].width(), 1);
+    let [first, second] = lines.as_slice() else {
+        holds(&rt, false, "two lines");
+        return Ok(());
+    };
+    let text: String = first.chars().collect(alloc)?;
+    holds(&rt, text.as_str() == "a", "the first line");
+    holds(&rt, second.width() == 1, "the second line");
     Ok(())
 }
 
@@ -148,7 +141,7 @@ fn a_page_is_written(rt: HostRuntime) -> Result<(), Fail> {
     let mut input = Device::new(FIRST_PAGE);
     let mut output = Device::new(Vec::new(alloc));
     run(alloc, &mut input, &mut output, plain(alloc)?, 8)?;
-    assert_eq!(rt; output.into_inner().as_slice(), FIRST_TEXT.as_bytes());
+    holds(&rt, output.into_inner().as_slice() == FIRST_TEXT.as_bytes(), "the first page");
     Ok(())
 }
 
@@ -163,8 +156,8 @@ fn a_reader_that_fails_leaves_nothing_written(rt: HostRuntime) -> Result<(), Fai
         });
         let mut output = Device::new(Vec::new(alloc));
         let refused = run(alloc, &mut input, &mut output, plain(alloc)?, 20);
-        assert_eq!(rt; refused, Err(Error::IoError), "after {reads} reads");
-        assert!(rt; output.into_inner().is_empty(), "after {reads} reads");
+        holds(&rt, refused == Err(Error::IoError), "a reader that fails");
+        holds(&rt, output.into_inner().is_empty(), "what is written then");
     }
     Ok(())
 }
@@ -183,20 +176,11 @@ fn a_writer_that_fails_has_a_beginning(rt: HostRuntime) -> Result<(), Fail> {
                     takes_none,
                 });
                 let refused = run(alloc, &mut input, &mut output, plain(alloc)?, 8);
-                assert_eq!(rt;
-                    refused,
-                    Err(Error::IoError),
-                    "after {writes} writes of {most}"
-                );
+                holds(&rt, refused == Err(Error::IoError), "a writer that fails");
                 let taken = output.into_inner().taken;
-                assert!(rt;
-                    FIRST_TEXT.as_bytes().starts_with(taken.as_slice()),
-                    "after {writes} writes of {most}"
-                );
-                assert!(rt;
-                    writes == 0 || !taken.is_empty(),
-                    "after {writes} writes of {most}"
-                );
+                let is_beginning = FIRST_TEXT.as_bytes().starts_with(taken.as_slice());
+                holds(&rt, is_beginning, "what it has then");
+                holds(&rt, writes == 0 || !taken.is_empty(), "its first write");
             }
         }
     }
@@ -207,10 +191,9 @@ fn a_writer_that_fails_has_a_beginning(rt: HostRuntime) -> Result<(), Fail> {
 #[test]
 fn a_refused_growth_is_told(rt: HostRuntime) -> Result<(), Fail> {
     let alloc = rt.alloc();
-    match text_of(alloc, FIRST_PAGE, 8192, 8) {
-        Ok(text) => assert_eq!(rt; text.as_str(), FIRST_TEXT),
-        Err(error) => assert_eq!(rt; error, Error::Memory),
-    }
+    let found = text_of(alloc, FIRST_PAGE, 8192, 8);
+    let is_refused = matches!(found, Err(Error::Memory));
+    holds(&rt, is_refused || is_answer(found, Ok(FIRST_TEXT)), "the first page");
     let Ok(config) = plain(alloc) else {
         return Ok(());
     };
@@ -220,10 +203,10 @@ fn a_refused_growth_is_told(rt: HostRuntime) -> Result<(), Fail> {
     let written = run(alloc, &mut input, &mut output, config, 8);
     let length = output.into_inner().position();
     match written {
-        Ok(()) => assert_eq!(rt; length, FIRST_TEXT.len() as u64),
+        Ok(()) => holds(&rt, length == FIRST_TEXT.len() as u64, "the text written"),
         Err(error) => {
-            assert_eq!(rt; error, Error::Memory);
-            assert_eq!(rt; length, 0);
+            holds(&rt, error == Error::Memory, "what a refused growth is");
+            holds(&rt, length == 0, "what is written then");
         }
     }
     Ok(())
@@ -239,8 +222,8 @@ fn errors_are_told(rt: HostRuntime) -> Result<(), Fail> {
         (Error::Memory, "out of memory"),
     ];
     for (error, wanted) in texts {
-        assert_eq!(rt; error.to_string(rt.alloc())?.as_str(), wanted);
-        assert_eq!(rt; error.text(), wanted);
+        holds(&rt, error.to_string(rt.alloc())?.as_str() == wanted, wanted);
+        holds(&rt, error.text() == wanted, wanted);
     }
     Ok(())
 }

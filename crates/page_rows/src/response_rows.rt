@@ -1,5 +1,6 @@
 //! Command lines with a page, and what the program answers: its status, and what it writes to which stream.
 
+use crate::checks::holds;
 use crate::devices::{Full, Stuck};
 use crate::page_rows::{FIRST_PAGE, FIRST_TEXT};
 use html2text::{
@@ -50,9 +51,9 @@ fn lines_are_answered(rt: HostRuntime) -> Result<(), Fail> {
         let mut output = Device::new(Vec::new(alloc));
         let mut errors = Device::new(Vec::new(alloc));
         let status = respond(alloc, words, &mut input, &mut output, &mut errors);
-        assert_eq!(rt; status, wanted, "{line}");
-        assert_eq!(rt; output.into_inner().as_slice(), text.as_bytes(), "{line}");
-        assert_eq!(rt; errors.into_inner().as_slice(), complaint.as_bytes(), "{line}");
+        holds(&rt, status == wanted, line);
+        holds(&rt, output.into_inner().as_slice() == text.as_bytes(), line);
+        holds(&rt, errors.into_inner().as_slice() == complaint.as_bytes(), line);
     }
     Ok(())
 }
@@ -66,14 +67,11 @@ fn help_and_other_words_are_answered(rt: HostRuntime) -> Result<(), Fail> {
         let mut output = Device::new(Vec::new(alloc));
         let mut errors = Device::new(Vec::new(alloc));
         let status = respond(alloc, words, &mut input, &mut output, &mut errors);
-        assert_eq!(rt; status, wanted, "{line}");
-        assert_eq!(rt; output.into_inner().is_empty(), wanted != 0, "{line}");
+        holds(&rt, status == wanted, line);
+        holds(&rt, output.into_inner().is_empty() == (wanted != 0), line);
         let complaint = errors.into_inner();
-        assert_eq!(rt; complaint.is_empty(), wanted == 0, "{line}");
-        assert!(rt;
-            wanted == 0 || complaint.as_slice().starts_with(b"html2text: "),
-            "{line}"
-        );
+        let is_told = complaint.as_slice().starts_with(b"html2text: ");
+        holds(&rt, if wanted == 0 { complaint.is_empty() } else { is_told }, line);
     }
     Ok(())
 }
@@ -93,9 +91,9 @@ fn words_that_cannot_be_had_are_told(rt: HostRuntime) -> Result<(), Fail> {
         let mut errors = Device::new(Vec::new(alloc));
         let words = Err(io::Error::from(kind));
         let status = respond(alloc, words, &mut input, &mut output, &mut errors);
-        assert_eq!(rt; status, 2);
-        assert!(rt; output.into_inner().is_empty());
-        assert_eq!(rt; errors.into_inner().as_slice(), complaint.as_bytes());
+        holds(&rt, status == 2, complaint);
+        holds(&rt, output.into_inner().is_empty(), complaint);
+        holds(&rt, errors.into_inner().as_slice() == complaint.as_bytes(), complaint);
     }
     Ok(())
 }
@@ -111,12 +109,10 @@ fn a_refused_flush_is_told(rt: HostRuntime) -> Result<(), Fail> {
         });
         let mut errors = Device::new(Vec::new(alloc));
         let status = respond(alloc, words, &mut input, &mut output, &mut errors);
-        assert_eq!(rt; status, 1, "{line}");
-        assert!(rt; !output.into_inner().taken.is_empty(), "{line}");
-        assert_eq!(rt;
-            errors.into_inner().as_slice(),
-            b"html2text: read or write failed\n".as_slice()
-        );
+        holds(&rt, status == 1, line);
+        holds(&rt, !output.into_inner().taken.is_empty(), line);
+        let complaint = b"html2text: read or write failed\n".as_slice();
+        holds(&rt, errors.into_inner().as_slice() == complaint, line);
     }
     Ok(())
 }
@@ -133,10 +129,12 @@ fn a_fault_of_standard_error_changes_nothing_else(rt: HostRuntime) -> Result<(),
         takes_none: false,
     });
     let request = request_of(alloc, Ok(words_of(alloc, "html2text --width 5")?));
-    assert!(rt; matches!(request, Ok(Request { width: 5 })));
+    holds(&rt, matches!(request, Ok(Request { width: 5 })), "the words");
     let outcome = carry_out(alloc, request, &mut input, &mut output, &mut errors);
-    assert!(rt; outcome == Outcome::Page(Error::Fail));
-    assert_eq!(rt; errors.into_inner().taken.as_slice(), b"html2text: ".as_slice());
-    assert_eq!(rt; WordFault::NotUtf8.text(), "a word of the command line is not UTF-8");
+    holds(&rt, outcome == Outcome::Page(Error::Fail), "the outcome");
+    let taken = errors.into_inner().taken;
+    holds(&rt, taken.as_slice() == b"html2text: ".as_slice(), "what was told");
+    let text = WordFault::NotUtf8.text() == "a word of the command line is not UTF-8";
+    holds(&rt, text, "a text of words");
     Ok(())
 }

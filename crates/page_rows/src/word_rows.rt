@@ -1,11 +1,12 @@
 //! Command lines and what they ask for.
+use crate::checks::holds;
 use html2text::{Error, Outcome, WordFault, exit_status, read_words};
 use std::alloc::{AllocError, Global};
 use std::process::Abort;
 use std::test::Fail;
 
 // What a line of words, cut at spaces, comes to: its width, or why it has none.
-#[derive(Clone, Copy, Debug, PartialEq, Eq)]
+#[derive(Clone, Copy, PartialEq, Eq)]
 enum Answer {
     Width(usize),
     Help,
@@ -63,11 +64,11 @@ fn answer_of(rt: &(impl AllocGlobal + Abort), words: &[String]) -> Answer {
     match read_words(rt.alloc(), words) {
         Ok(request) => Answer::Width(request.width),
         Err(WordFault::Help(text)) => {
-            assert!(rt; text.contains("--width <N>"), "{text}");
+            holds(rt, text.contains("--width <N>"), "the help");
             Answer::Help
         }
         Err(WordFault::Words(text)) => {
-            assert!(rt; !text.is_empty());
+            holds(rt, !text.is_empty(), "clap's text");
             Answer::Words
         }
         Err(WordFault::NotUtf8) => Answer::NotUtf8,
@@ -79,7 +80,7 @@ fn answer_of(rt: &(impl AllocGlobal + Abort), words: &[String]) -> Answer {
 fn reads_lines(rt: HostRuntime) -> Result<(), Fail> {
     for (line, want) in LINES {
         let words = words_of(rt.alloc(), line)?;
-        assert_eq!(rt; answer_of(&rt, &words), want, "{line}");
+        holds(&rt, answer_of(&rt, &words) == want, line);
     }
     Ok(())
 }
@@ -92,7 +93,7 @@ fn reads_lines_or_refuses(rt: HostRuntime) {
             continue;
         };
         let answer = answer_of(&rt, &words);
-        assert!(rt; answer == want || answer == Answer::Memory, "{line}");
+        holds(&rt, answer == want || answer == Answer::Memory, line);
     }
 }
 
@@ -106,6 +107,6 @@ fn gives_each_status(rt: HostRuntime) {
         (Outcome::Words, 2),
         (Outcome::Table, 3),
     ] {
-        assert_eq!(rt; exit_status(&outcome), want);
+        holds(&rt, exit_status(&outcome) == want, "a status");
     }
 }

@@ -1,5 +1,10 @@
-//! Lines and blocks that are worked out by hand, and the lines of some texts in one call. It has tests alone.
+//! Lines and blocks that are worked out by hand, and the lines of some texts in one call. Beside tests it has one theorem, on
+//! lists of texts.
 #![tactic(auto)]
+
+mod wrapped;
+
+pub use wrapped::wrapped_lines;
 
 #[cfg(test)]
 mod block_tests;
@@ -13,5 +18,3 @@ mod marks;
 mod rows;
 #[cfg(test)]
 mod shown;
-#[cfg(test)]
-mod wrapped;

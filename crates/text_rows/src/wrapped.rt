@@ -9,7 +9,7 @@ use text_decorators::{EqualCopy, TaggedLine, TaggedString};
 
 /// The lines of some texts, joined: their fullest layout on lines of at most `width` columns. Refused as
 /// `Memory`, or as `TooNarrow` where there is no layout at all.
-pub(crate) fn wrapped_lines<T: EqualCopy + Drop>(
+pub fn wrapped_lines<T: EqualCopy + Drop>(
     alloc: Global,
     pieces: &[TaggedString<T>],
     width: usize,

@@ -1,0 +1,23 @@
+//! What each test asks.
+
+use html2text::Error;
+use std::process::Abort;
+
+/// Ends the test where something does not hold, and says at what.
+pub(crate) fn holds<R: Abort>(rt: &R, is_so: bool, at: &str) {
+    assert!(rt; is_so, "at {at}");
+}
+
+/// Whether a text, or an error, is the one that is wanted.
+pub(crate) fn is_answer(found: Result<String, Error>, wanted: Result<&str, Error>) -> bool {
+    match found {
+        Ok(text) => match wanted {
+            Ok(wanted) => text.as_str() == wanted,
+            Err(_) => false,
+        },
+        Err(error) => match wanted {
+            Ok(_) => false,
+            Err(wanted) => error == wanted,
+        },
+    }
+}
