@@ -1,3 +1,4 @@
+use crate::checks::holds;
 use crate::error_rows::{ERRORS, EXACT_ERRORS, MARKED};
 use crate::feeding::{characters, fed, whole};
 use crate::rows::{HTML, Start};
@@ -13,27 +14,29 @@ fn options(alloc: Global, start: Start, exact_errors: bool) -> Result<TokenizerO
     Ok(options)
 }
 
-// the errors of a page that is fed in pieces
-fn errors_of(
+// whether these are the errors of a page that is fed in pieces
+fn are_errors(
     alloc: Global,
     start: Start,
     exact_errors: bool,
     pieces: Vec<String>,
-) -> Result<String, Fail> {
+    expected: &str,
+) -> Result<bool, Fail> {
     let sink = Errors::new(alloc, start.foreign);
     let options = options(alloc, start, exact_errors)?;
     let sink = fed(alloc, sink, options, start.table(alloc)?, pieces)?;
-    Ok(sink.log)
+    Ok(sink.log.as_str() == expected)
 }
 
-// the log of an ordinary page that is fed in pieces, with its errors
-fn marked(alloc: Global, pieces: Vec<String>) -> Result<String, Fail> {
+// whether this is the log of an ordinary page that is fed in pieces, with its errors
+fn is_marked(alloc: Global, pieces: Vec<String>, expected: &str) -> Result<bool, Fail> {
     let sink = Marked::new(alloc, false);
     let options = options(alloc, HTML, false)?;
     let sink = fed(alloc, sink, options, HTML.table(alloc)?, pieces)?;
-    Ok(sink.told.log)
+    Ok(sink.told.log.as_str() == expected)
 }
 
+// asks for the errors of pages that are fed whole, and a character at a time
 fn check<R: Abort + AllocGlobal>(
     rt: &R,
     exact_errors: bool,
@@ -41,10 +44,16 @@ fn check<R: Abort + AllocGlobal>(
 ) -> Result<(), Fail> {
     let alloc = rt.alloc();
     for (start, page, expected) in rows {
-        let log = errors_of(alloc, *start, exact_errors, whole(alloc, page)?)?;
-        assert_eq!(rt; log.as_str(), *expected, "{page}, fed whole");
-        let log = errors_of(alloc, *start, exact_errors, characters(alloc, page)?)?;
-        assert_eq!(rt; log.as_str(), *expected, "{page}, fed by characters");
+        let is_so = are_errors(alloc, *start, exact_errors, whole(alloc, page)?, expected)?;
+        holds(rt, is_so, page);
+        let is_so = are_errors(
+            alloc,
+            *start,
+            exact_errors,
+            characters(alloc, page)?,
+            expected,
+        )?;
+        holds(rt, is_so, page);
     }
     Ok(())
 }
@@ -63,10 +72,9 @@ fn exact_errors_name_characters_and_states(rt: HostRuntime) -> Result<(), Fail> 
 fn errors_are_told_in_their_place(rt: HostRuntime) -> Result<(), Fail> {
     let alloc = rt.alloc();
     for (page, expected) in &MARKED {
-        let log = marked(alloc, whole(alloc, page)?)?;
-        assert_eq!(rt; log.as_str(), *expected, "{page}, fed whole");
-        let log = marked(alloc, characters(alloc, page)?)?;
-        assert_eq!(rt; log.as_str(), *expected, "{page}, fed by characters");
+        holds(&rt, is_marked(alloc, whole(alloc, page)?, expected)?, page);
+        let is_so = is_marked(alloc, characters(alloc, page)?, expected)?;
+        holds(&rt, is_so, page);
     }
     Ok(())
 }

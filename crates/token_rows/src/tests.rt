@@ -1,3 +1,4 @@
+use crate::checks::holds;
 use crate::feeding::{characters, fed, fed_plainly, first_answer, halves, states_behind, whole};
 use crate::rows::{HTML, ROWS, Start};
 use crate::sinks::{Collected, Counting, SCRIPT_HANDLE, Switching};
@@ -7,35 +8,40 @@ use html_tokenizer::{Tokenizer, TokenizerResult};
 use std::alloc::Global;
 use std::test::Fail;
 
-// the log of a text that is read plainly
-fn log_read(alloc: Global, start: Start, text: &str) -> Result<String, Fail> {
+// whether this is the log of a text that is read plainly
+fn is_read(alloc: Global, start: Start, text: &str, expected: &str) -> Result<bool, Fail> {
     let mut sink = Collected::new(alloc, start.foreign);
     let table = start.table(alloc)?;
     read_plainly(alloc, &mut sink, start.options(alloc)?, &table, text)?;
-    Ok(sink.log)
+    Ok(sink.log.as_str() == expected)
 }
 
-// the log of a text that is fed in pieces
-fn log_fed(alloc: Global, start: Start, pieces: Vec<String>) -> Result<String, Fail> {
+// whether this is the log of a text that is fed in pieces
+fn is_fed(alloc: Global, start: Start, pieces: Vec<String>, expected: &str) -> Result<bool, Fail> {
     let sink = Collected::new(alloc, start.foreign);
     let options = start.options(alloc)?;
     let sink = fed(alloc, sink, options, start.table(alloc)?, pieces)?;
-    Ok(sink.log)
+    Ok(sink.log.as_str() == expected)
 }
 
 #[test]
 fn rows_are_told_alike(rt: HostRuntime) -> Result<(), Fail> {
     let alloc = rt.alloc();
     for (start, text, expected) in &ROWS {
-        let log = log_read(alloc, *start, text)?;
-        assert_eq!(rt; log.as_str(), *expected, "{text}, read plainly");
-        let log = log_fed(alloc, *start, whole(alloc, text)?)?;
-        assert_eq!(rt; log.as_str(), *expected, "{text}, fed whole");
-        let log = log_fed(alloc, *start, characters(alloc, text)?)?;
-        assert_eq!(rt; log.as_str(), *expected, "{text}, fed by characters");
+        holds(&rt, is_read(alloc, *start, text, expected)?, text);
+        holds(
+            &rt,
+            is_fed(alloc, *start, whole(alloc, text)?, expected)?,
+            text,
+        );
+        holds(
+            &rt,
+            is_fed(alloc, *start, characters(alloc, text)?, expected)?,
+            text,
+        );
         for count in 0..=text.chars().count() {
-            let log = log_fed(alloc, *start, halves(alloc, text, count)?)?;
-            assert_eq!(rt; log.as_str(), *expected, "{text}, cut at {count}");
+            let pieces = halves(alloc, text, count)?;
+            holds(&rt, is_fed(alloc, *start, pieces, expected)?, text);
         }
     }
     Ok(())
@@ -57,21 +63,19 @@ static SWITCHED_LOG: &str = "start\tp\t-\t-\n\
     start\tplaintext\t-\t-\n\
     text\t</plaintext>&lt;<p>";
 
-// the log of a sink that chooses kinds of text, fed with a page that is cut behind so many characters
-fn log_switched(alloc: Global, count: usize) -> Result<String, Fail> {
+// whether the log of a sink that chooses kinds of text is right, fed with a page that is cut behind so many characters
+fn is_switched(alloc: Global, count: usize) -> Result<bool, Fail> {
     let sink = Switching::new(alloc, "x")?;
     let pieces = halves(alloc, SWITCHED, count)?;
     let options = HTML.options(alloc)?;
     let sink = fed(alloc, sink, options, HTML.table(alloc)?, pieces)?;
-    Ok(sink.told.log)
+    Ok(sink.told.log.as_str() == SWITCHED_LOG)
 }
 
 #[test]
 fn a_sink_chooses_the_kind_of_text(rt: HostRuntime) -> Result<(), Fail> {
-    let alloc = rt.alloc();
     for count in 0..=SWITCHED.chars().count() {
-        let log = log_switched(alloc, count)?;
-        assert_eq!(rt; log.as_str(), SWITCHED_LOG, "cut at {count}");
+        holds(&rt, is_switched(rt.alloc(), count)?, "a cut");
     }
     Ok(())
 }
@@ -86,16 +90,20 @@ fn paused(alloc: Global, page: &str) -> Result<(TokenizerResult<u32>, String), F
 
 #[test]
 fn a_pause_leaves_what_follows_in_the_queue(rt: HostRuntime) -> Result<(), Fail> {
-    let alloc = rt.alloc();
-    let (result, rest) = paused(alloc, "<script>a</script >b")?;
-    assert!(rt; matches!(result, TokenizerResult::Script(handle) if handle == SCRIPT_HANDLE));
-    assert_eq!(rt; rest.as_str(), "b");
-    let (result, rest) = paused(alloc, "<meta>&<\r\n")?;
-    let TokenizerResult::EncodingIndicator(encoding) = result else {
-        return Ok(assert!(rt; false));
+    let (answer, rest) = paused(rt.alloc(), "<script>a</script >b")?;
+    let is_so = matches!(answer, TokenizerResult::Script(handle) if handle == SCRIPT_HANDLE);
+    holds(&rt, is_so && rest.as_str() == "b", "a script");
+    Ok(())
+}
+
+#[test]
+fn a_pause_tells_an_encoding(rt: HostRuntime) -> Result<(), Fail> {
+    let (answer, rest) = paused(rt.alloc(), "<meta>&<\r\n")?;
+    let is_so = match answer {
+        TokenizerResult::EncodingIndicator(encoding) => encoding.as_str() == "latin1",
+        _ => false,
     };
-    assert_eq!(rt; encoding.as_str(), "latin1");
-    assert_eq!(rt; rest.as_str(), "&<\r\n");
+    holds(&rt, is_so && rest.as_str() == "&<\r\n", "a meta");
     Ok(())
 }
 
@@ -119,7 +127,7 @@ fn a_tokenizer_tells_its_state(rt: HostRuntime) -> Result<(), Fail> {
         ("<p a='", (false, false)),
         ("<!--", (false, false)),
     ] {
-        assert_eq!(rt; states(alloc, page)?, expected, "behind {page}");
+        holds(&rt, states(alloc, page)? == expected, page);
     }
     Ok(())
 }
@@ -136,7 +144,8 @@ fn log_plain(alloc: Global, front: &str, rest: &str) -> Result<String, Fail> {
 fn plain_text_may_be_asked_for(rt: HostRuntime) -> Result<(), Fail> {
     let alloc = rt.alloc();
     let log = log_plain(alloc, "<p>a", "<b>&lt;\0")?;
-    assert_eq!(rt; log.as_str(), "start\tp\t-\t-\ntext\ta<b>&lt;\u{fffd}");
+    let is_so = log.as_str() == "start\tp\t-\t-\ntext\ta<b>&lt;\u{fffd}";
+    holds(&rt, is_so, "plain text");
     Ok(())
 }
 
@@ -148,40 +157,57 @@ fn nothing_is_read_behind_the_end(rt: HostRuntime) -> Result<(), Fail> {
     let mut queue = BufferQueue::new(alloc);
     tokenizer.end()?;
     queue.push_back(String::from_str(alloc, "a")?)?;
-    assert_eq!(rt; tokenizer.feed(&mut queue).err(), Some(ParseFault::Failed));
-    assert_eq!(rt; tokenizer.end(), Err(ParseFault::Failed));
-    assert_eq!(rt; tokenizer.sink.log.as_str(), "");
-    assert_eq!(rt; queue.peek(), Some('a'));
+    let is_so = tokenizer.feed(&mut queue).err() == Some(ParseFault::Failed);
+    holds(&rt, is_so, "a feed");
+    holds(&rt, tokenizer.end() == Err(ParseFault::Failed), "an end");
+    let is_so = tokenizer.sink.log.is_empty() && queue.peek() == Some('a');
+    holds(&rt, is_so, "what is left");
     Ok(())
+}
+
+// The fault of a feed, and of an end and both again, of a page that is told to a sink that takes so many tokens.
+fn refused(
+    alloc: Global,
+    taken: u64,
+) -> Result<(Option<ParseFault>, [Option<ParseFault>; 3]), Fail> {
+    let sink = Counting::new(taken);
+    let mut tokenizer = Tokenizer::new(alloc, sink, HTML.options(alloc)?, HTML.table(alloc)?);
+    let mut queue = BufferQueue::new(alloc);
+    queue.push_back(String::from_str(alloc, "<p>a")?)?;
+    let fed = tokenizer.feed(&mut queue).err();
+    let ended = tokenizer.end().err();
+    let fed_again = tokenizer.feed(&mut queue).err();
+    Ok((fed, [ended, fed_again, tokenizer.end().err()]))
 }
 
 // The page's tokens are a tag, a text, which is told before `feed` answers `Done`, and its end.
 #[test]
 fn a_refusal_lasts(rt: HostRuntime) -> Result<(), Fail> {
-    let alloc = rt.alloc();
+    let failed = Some(ParseFault::Failed);
+    let memory = Some(ParseFault::Memory);
     for (taken, fed, ended) in [
-        (0, Err(ParseFault::Memory), Err(ParseFault::Failed)),
-        (1, Err(ParseFault::Memory), Err(ParseFault::Failed)),
-        (2, Ok(true), Err(ParseFault::Memory)),
-        (3, Ok(true), Ok(())),
+        (0, memory, failed),
+        (1, memory, failed),
+        (2, None, memory),
+        (3, None, None),
     ] {
-        let sink = Counting::new(taken);
-        let mut tokenizer = Tokenizer::new(alloc, sink, HTML.options(alloc)?, HTML.table(alloc)?);
-        let mut queue = BufferQueue::new(alloc);
-        queue.push_back(String::from_str(alloc, "<p>a")?)?;
-        let is_done = tokenizer
-            .feed(&mut queue)
-            .map(|answer| matches!(answer, TokenizerResult::Done));
-        assert_eq!(rt; is_done, fed, "after {taken}");
-        assert_eq!(rt; tokenizer.end(), ended, "after {taken}");
-        assert_eq!(rt;
-            tokenizer.feed(&mut queue).err(),
-            Some(ParseFault::Failed),
-            "after {taken}"
-        );
-        assert_eq!(rt; tokenizer.end(), Err(ParseFault::Failed), "after {taken}");
+        let answers = refused(rt.alloc(), taken)?;
+        holds(&rt, answers == (fed, [ended, failed, failed]), "a refusal");
     }
     Ok(())
+}
+
+// the line of the last tag of a page that is fed in pieces
+fn last_line(alloc: Global, pieces: Vec<String>) -> Result<u64, Fail> {
+    let sink = Counting::new(u64::MAX);
+    let sink = fed(
+        alloc,
+        sink,
+        HTML.options(alloc)?,
+        HTML.table(alloc)?,
+        pieces,
+    )?;
+    Ok(sink.tag_line)
 }
 
 // A tag stands where its `>` does.
@@ -200,15 +226,7 @@ fn each_line_end_counts_once(rt: HostRuntime) -> Result<(), Fail> {
     ] {
         for count in 0..=page.chars().count() {
             let pieces = halves(alloc, page, count)?;
-            let sink = Counting::new(u64::MAX);
-            let sink = fed(
-                alloc,
-                sink,
-                HTML.options(alloc)?,
-                HTML.table(alloc)?,
-                pieces,
-            )?;
-            assert_eq!(rt; sink.tag_line, line, "at {page}, cut at {count}");
+            holds(&rt, last_line(alloc, pieces)? == line, page);
         }
     }
     Ok(())
