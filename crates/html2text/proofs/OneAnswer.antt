@@ -45,7 +45,7 @@ is_one_answer one width bytes list =
           (subst (λ texts. AreLinesBehind width [] texts others) (list b.texts a.texts b.page a.page) b.laid);
       wide = λ lines a n. let same = list n.texts a.texts n.page a.page in
           elim n.narrow as (λ _. ⊥) [
-            inl zero_wide ↦ let wide = a.wide in omega (arith, zero_wide, wide)
+            | inl zero_wide ↦ let wide = a.wide in omega (arith, zero_wide, wide)
             | inr some ↦ none_wider width a.texts (each_laid width a.texts [] lines a.laid) (subst (Any (IsWiderText width)) same some)
           ];
       page = λ lines a other. other a.texts a.page;

@@ -7,9 +7,13 @@ use text_block_renderer::{BlockError, TooNarrow};
 use thiserror::Error;
 
 const TOO_NARROW: &str = "output width not wide enough";
+
 const FAIL: &str = "nothing to render";
+
 const IO_ERROR: &str = "read or write failed";
+
 const TOO_LONG: &str = "page too long";
+
 const MEMORY: &str = "out of memory";
 
 /// Why a page has no lines.

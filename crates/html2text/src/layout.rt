@@ -33,7 +33,7 @@ impl Blocks {
     fn add_block(&mut self, block: Vec<PlainLine>) -> Result<(), AllocError>
         ensures ok { OnOk result (map plain_items self.new.lines.items
             ≡ map plain_items self.old.lines.items
-                ++ (block_start (map plain_items self.old.lines.items) ++ map plain_items block.items)) }
+            ++ (block_start (map plain_items self.old.lines.items) ++ map plain_items block.items)) }
     {
         self.start_block()?;
         'lines: for line in block {

@@ -25,7 +25,10 @@ impl Model for PageText {
     ghost Value = { Joining };
 
     ghost view = { λ p. record {
-        text = chars (string_bytes p.text); has_begun = p.has_begun; after_return = p.after_return } };
+      text = chars (string_bytes p.text);
+      has_begun = p.has_begun;
+      after_return = p.after_return;
+    } };
 }
 
 impl PageText {

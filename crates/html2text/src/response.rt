@@ -41,13 +41,13 @@ pub fn respond<R: ByteReader, W: ByteWriter, E: ByteWriter>(
     ensures refused { result ≡ 1 → (error : Error)
         × Complains (E.has_failed errors.new) (E.contents errors.old) (E.contents errors.new) (error_text error)
         × IfOk words (λ all. IsAskedRefusal (words_behind_name (map string_bytes all.items))
-            (R.remaining input.old)
-            (R.has_failed input.new || W.has_failed output.new) (W.has_failed output.new)
-            usize.MAX (R.count input.old) (R.count input.new) error) }
+        (R.remaining input.old)
+        (R.has_failed input.new || W.has_failed output.new) (W.has_failed output.new)
+        usize.MAX (R.count input.old) (R.count input.new) error) }
     ensures read { result ≡ 1 → IsOk words }
     ensures unwritten { result ≡ 1 → (output.new ≡ output.old) ⊎ ((W.has_failed output.new ≡ true)
         × IfOk words (λ all. WritesAskedPart (words_behind_name (map string_bytes all.items))
-            (R.remaining input.old) (W.contents output.old) (W.contents output.new))) }
+        (R.remaining input.old) (W.contents output.old) (W.contents output.new))) }
 
     // The words were refused: for this fault, which is told; nothing was read and nothing written.
     ensures words { result ≡ 2 → (fault : WordFault)
@@ -82,10 +82,10 @@ pub fn carry_out<R: ByteReader, W: ByteWriter, E: ByteWriter>(
         → Complains (E.has_failed errors.new) (E.contents errors.old) (E.contents errors.new) (error_text error) }
     ensures reason { (error : Error) → result ≡ Outcome.Page error → IfOk request (λ asked.
         IsRefusal asked.width (R.remaining input.old) (R.has_failed input.new || W.has_failed output.new)
-            usize.MAX (R.count input.old) (R.count input.new) error) }
+        usize.MAX (R.count input.old) (R.count input.new) error) }
     ensures unwritten { (error : Error) → result ≡ Outcome.Page error → (output.new ≡ output.old)
         ⊎ ((W.has_failed output.new ≡ true)
-            × WritesAnswerPart request (R.remaining input.old) (W.contents output.old) (W.contents output.new)) }
+        × WritesAnswerPart request (R.remaining input.old) (W.contents output.old) (W.contents output.new)) }
     ensures unhelped { (error : Error) → result ≡ Outcome.Page error
         → IfErr request (λ _. W.has_failed output.new ≡ true) }
 
@@ -117,10 +117,10 @@ fn show_page<R: ByteReader, W: ByteWriter, E: ByteWriter>(
         → Complains (E.has_failed errors.new) (E.contents errors.old) (E.contents errors.new) (error_text error) }
     ensures reason { (error : Error) → result ≡ Outcome.Page error
         → IsRefusal width (R.remaining input.old) (R.has_failed input.new || W.has_failed output.new)
-            usize.MAX (R.count input.old) (R.count input.new) error }
+        usize.MAX (R.count input.old) (R.count input.new) error }
     ensures unwritten { (error : Error) → result ≡ Outcome.Page error → (output.new ≡ output.old)
         ⊎ ((W.has_failed output.new ≡ true) × IfSome (R.remaining input.old)
-            (λ bytes. WritesPart width bytes (W.contents output.old) (W.contents output.new))) }
+        (λ bytes. WritesPart width bytes (W.contents output.old) (W.contents output.new))) }
 {
     match write_page(alloc, width, input, output) {
         Ok(()) => Outcome::Done,
@@ -132,7 +132,11 @@ fn show_page<R: ByteReader, W: ByteWriter, E: ByteWriter>(
 }
 
 /// Writes the help that was asked for, or tells what is wrong with the words.
-fn tell_fault<W: ByteWriter, E: ByteWriter>(fault: &WordFault, output: &mut W, errors: &mut E) -> Outcome
+fn tell_fault<W: ByteWriter, E: ByteWriter>(
+    fault: &WordFault,
+    output: &mut W,
+    errors: &mut E,
+) -> Outcome
     ensures outcomes { IsOutcomeOf (Err fault.now) result }
     ensures done { (bytes : Option (List ℕ)) → result ≡ Outcome.Done
         → WritesAnswer (Err fault.now) bytes (W.contents output.old) (W.contents output.new) }
@@ -142,7 +146,7 @@ fn tell_fault<W: ByteWriter, E: ByteWriter>(fault: &WordFault, output: &mut W, e
         → Complains (E.has_failed errors.new) (E.contents errors.old) (E.contents errors.new) (error_text error) }
     ensures unwritten { (error : Error) (bytes : Option (List ℕ)) → result ≡ Outcome.Page error
         → (W.has_failed output.new ≡ true)
-            × WritesAnswerPart (Err fault.now) bytes (W.contents output.old) (W.contents output.new) }
+        × WritesAnswerPart (Err fault.now) bytes (W.contents output.old) (W.contents output.new) }
     ensures words { result ≡ Outcome.Words
         → Complains (E.has_failed errors.new) (E.contents errors.old) (E.contents errors.new) (fault_text fault.now) }
     ensures unread { result ≡ Outcome.Words → output.new ≡ output.old }
@@ -190,7 +194,7 @@ fn write_page<R: ByteReader, W: ByteWriter>(
         (R.has_failed input.new || W.has_failed output.new) usize.MAX (R.count input.old) (R.count input.new)) }
     ensures unwritten { OnErr result ((output.new ≡ output.old) ⊎ ((W.has_failed output.new ≡ true)
         × IfSome (R.remaining input.old)
-            (λ bytes. WritesPart width bytes (W.contents output.old) (W.contents output.new)))) }
+        (λ bytes. WritesPart width bytes (W.contents output.old) (W.contents output.new)))) }
 {
     let config = Config::plain(ReferenceTable::basic(alloc)?);
     run(alloc, input, output, config, width)?;

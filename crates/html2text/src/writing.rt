@@ -41,7 +41,7 @@ pub fn run<R: ByteReader, W: ByteWriter>(
     // Only a fault of the writer leaves anything written: a beginning of that text.
     ensures unwritten { OnErr result ((writer.new ≡ writer.old)
         ⊎ ((result ≡ Err Error.IoError) × (W.has_failed writer.new ≡ true) × IfSome (R.remaining reader.old)
-            (λ bytes. WritesPart width bytes (W.contents writer.old) (W.contents writer.new)))) }
+        (λ bytes. WritesPart width bytes (W.contents writer.old) (W.contents writer.new)))) }
 {
     let lines = config.lines_from_read(alloc, reader, width)?;
     write_lines(writer, &lines)?;

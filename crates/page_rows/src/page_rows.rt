@@ -1,7 +1,9 @@
 //! Pages from outside, through the public calls. Readers and writers are in memory.
 use crate::checks::{holds, is_answer};
 use crate::devices::{Faltering, Full, Pieces};
-use html2text::{Config, Device, Error, PlainDecorator, ReferenceTable, from_read, one_answer, run};
+use html2text::{
+    Config, Device, Error, PlainDecorator, ReferenceTable, from_read, one_answer, run,
+};
 use std::alloc::Global;
 use std::io;
 use std::io::Read;
@@ -62,7 +64,11 @@ static PAGES: [(usize, &[u8], Result<&str, Error>); 42] = [
     (20, b"<p>\xF0\x80</p>", Ok("\u{fffd}\u{fffd}\n")),
     (20, b"<p>\xF4\x90</p>", Ok("\u{fffd}\u{fffd}\n")),
     (20, b"<p>a\n b></p><p></p>", Ok("a b>\n\n")),
-    (20, b"<p>&quot;&nbsp;\xC3\xA9&quot;</p>", Ok("\"\u{a0}\u{e9}\"\n")),
+    (
+        20,
+        b"<p>&quot;&nbsp;\xC3\xA9&quot;</p>",
+        Ok("\"\u{a0}\u{e9}\"\n"),
+    ),
     (5, b"<p>a\x07b cd</p>", Ok("ab cd\n")),
     (20, b" ", Err(Error::Fail)),
     (20, b"<p>a</p></p>", Err(Error::Fail)),
@@ -95,7 +101,11 @@ fn two_pieces_are_one_page(rt: HostRuntime) -> Result<(), Fail> {
     let alloc = rt.alloc();
     let mut input = Device::new(b"<p>caf\xC3".as_slice().chain(b"\xA9</p>".as_slice()));
     let text = plain(alloc)?.string_from_read(alloc, &mut input, 20)?;
-    holds(&rt, text.as_str() == "caf\u{e9}\n", "a character in two pieces");
+    holds(
+        &rt,
+        text.as_str() == "caf\u{e9}\n",
+        "a character in two pieces",
+    );
     let mut input = Device::new(b"<p>a\r".as_slice().chain(b"\nb</p>".as_slice()));
     let text = plain(alloc)?.string_from_read(alloc, &mut input, 20)?;
     holds(&rt, text.as_str() == "a b\n", "a line end in two pieces");
@@ -141,7 +151,11 @@ fn a_page_is_written(rt: HostRuntime) -> Result<(), Fail> {
     let mut input = Device::new(FIRST_PAGE);
     let mut output = Device::new(Vec::new(alloc));
     run(alloc, &mut input, &mut output, plain(alloc)?, 8)?;
-    holds(&rt, output.into_inner().as_slice() == FIRST_TEXT.as_bytes(), "the first page");
+    holds(
+        &rt,
+        output.into_inner().as_slice() == FIRST_TEXT.as_bytes(),
+        "the first page",
+    );
     Ok(())
 }
 
@@ -193,7 +207,11 @@ fn a_refused_growth_is_told(rt: HostRuntime) -> Result<(), Fail> {
     let alloc = rt.alloc();
     let found = text_of(alloc, FIRST_PAGE, 8192, 8);
     let is_refused = matches!(found, Err(Error::Memory));
-    holds(&rt, is_refused || is_answer(found, Ok(FIRST_TEXT)), "the first page");
+    holds(
+        &rt,
+        is_refused || is_answer(found, Ok(FIRST_TEXT)),
+        "the first page",
+    );
     let Ok(config) = plain(alloc) else {
         return Ok(());
     };

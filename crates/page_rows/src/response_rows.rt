@@ -3,9 +3,7 @@
 use crate::checks::holds;
 use crate::devices::{Full, Stuck};
 use crate::page_rows::{FIRST_PAGE, FIRST_TEXT};
-use html2text::{
-    Device, Error, Outcome, Request, WordFault, carry_out, request_of, respond,
-};
+use html2text::{Device, Error, Outcome, Request, WordFault, carry_out, request_of, respond};
 use std::alloc::{AllocError, Global};
 use std::io;
 use std::io::ErrorKind;
@@ -39,7 +37,13 @@ static LINES: [(&str, &[u8], u8, &str, &str); 6] = [
         "",
         "html2text: output width not wide enough\n",
     ),
-    ("html2text", b"Hello", 1, "", "html2text: nothing to render\n"),
+    (
+        "html2text",
+        b"Hello",
+        1,
+        "",
+        "html2text: nothing to render\n",
+    ),
 ];
 
 #[test]
@@ -53,7 +57,11 @@ fn lines_are_answered(rt: HostRuntime) -> Result<(), Fail> {
         let status = respond(alloc, words, &mut input, &mut output, &mut errors);
         holds(&rt, status == wanted, line);
         holds(&rt, output.into_inner().as_slice() == text.as_bytes(), line);
-        holds(&rt, errors.into_inner().as_slice() == complaint.as_bytes(), line);
+        holds(
+            &rt,
+            errors.into_inner().as_slice() == complaint.as_bytes(),
+            line,
+        );
     }
     Ok(())
 }
@@ -71,7 +79,15 @@ fn help_and_other_words_are_answered(rt: HostRuntime) -> Result<(), Fail> {
         holds(&rt, output.into_inner().is_empty() == (wanted != 0), line);
         let complaint = errors.into_inner();
         let is_told = complaint.as_slice().starts_with(b"html2text: ");
-        holds(&rt, if wanted == 0 { complaint.is_empty() } else { is_told }, line);
+        holds(
+            &rt,
+            if wanted == 0 {
+                complaint.is_empty()
+            } else {
+                is_told
+            },
+            line,
+        );
     }
     Ok(())
 }
@@ -93,7 +109,11 @@ fn words_that_cannot_be_had_are_told(rt: HostRuntime) -> Result<(), Fail> {
         let status = respond(alloc, words, &mut input, &mut output, &mut errors);
         holds(&rt, status == 2, complaint);
         holds(&rt, output.into_inner().is_empty(), complaint);
-        holds(&rt, errors.into_inner().as_slice() == complaint.as_bytes(), complaint);
+        holds(
+            &rt,
+            errors.into_inner().as_slice() == complaint.as_bytes(),
+            complaint,
+        );
     }
     Ok(())
 }
@@ -129,11 +149,19 @@ fn a_fault_of_standard_error_changes_nothing_else(rt: HostRuntime) -> Result<(),
         takes_none: false,
     });
     let request = request_of(alloc, Ok(words_of(alloc, "html2text --width 5")?));
-    holds(&rt, matches!(request, Ok(Request { width: 5 })), "the words");
+    holds(
+        &rt,
+        matches!(request, Ok(Request { width: 5 })),
+        "the words",
+    );
     let outcome = carry_out(alloc, request, &mut input, &mut output, &mut errors);
     holds(&rt, outcome == Outcome::Page(Error::Fail), "the outcome");
     let taken = errors.into_inner().taken;
-    holds(&rt, taken.as_slice() == b"html2text: ".as_slice(), "what was told");
+    holds(
+        &rt,
+        taken.as_slice() == b"html2text: ".as_slice(),
+        "what was told",
+    );
     let text = WordFault::NotUtf8.text() == "a word of the command line is not UTF-8";
     holds(&rt, text, "a text of words");
     Ok(())

@@ -51,7 +51,7 @@ no_nul : (text : List ℕ) → IsText (0 ∷ []) text → ⊥
 no_nul [] h = let bad : 0 ∷ [] ≡ [] = h in cc
 no_nul (c ∷ cs) h =
     elim h.3 as (λ _. ⊥) [
-      inl k ↦ k.3 (let whole : 0 ∷ [] ≡ c ∷ h.1 = h.2 ∙ ap (λ f. f ++ h.1) k.0 in cc)
+      | inl k ↦ k.3 (let whole : 0 ∷ [] ≡ c ∷ h.1 = h.2 ∙ ap (λ f. f ++ h.1) k.0 in cc)
       | inr k ↦ let same = same_first 0 38 [] (k.0 ++ h.1) (h.2 ∙ ap (λ f. f ++ h.1) k.1) in omega (arith, same)
     ]
 

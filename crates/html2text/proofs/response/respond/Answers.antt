@@ -12,16 +12,19 @@ pub returns-clause-refused : goal.returns-clause-refused
 returns-clause-refused g c =
     λ e. let request = c.request_of-request.result in
     let page = page_status request c.carry_out-outcome.result c.carry_out-outcome.ensures.outcomes (sym c.exit_status.ensures ∙ e) in
-    let read : IsRead c.args.words request = record { asked = c.request_of-request.ensures.asked; explained = c.request_of-request.ensures.explained; unread = c.request_of-request.ensures.unread } in
-    (page.0, c.carry_out-outcome.ensures.told page.0 page.1, asked_refusal c.args.words request c.carry_out-outcome.result page.0 _ _ _ _ _ _ read c.carry_out-outcome.ensures.outcomes page.1
-    (c.carry_out-outcome.ensures.reason page.0 page.1) (c.carry_out-outcome.ensures.unhelped page.0 page.1))
+    let read : IsRead c.args.words request = record { asked = c.request_of-request.ensures.asked; explained = c.request_of-request.ensures.explained; unread = c.request_of-request.ensures.unread } in (
+      page.0,
+      c.carry_out-outcome.ensures.told page.0 page.1,
+      asked_refusal c.args.words request c.carry_out-outcome.result page.0 _ _ _ _ _ _ read c.carry_out-outcome.ensures.outcomes page.1
+          (c.carry_out-outcome.ensures.reason page.0 page.1) (c.carry_out-outcome.ensures.unhelped page.0 page.1),
+    )
 
 pub returns-clause-unwritten : goal.returns-clause-unwritten
 returns-clause-unwritten g c =
     λ e. let request = c.request_of-request.result in
     let page = page_status request c.carry_out-outcome.result c.carry_out-outcome.ensures.outcomes (sym c.exit_status.ensures ∙ e) in
     elim (c.carry_out-outcome.ensures.unwritten page.0 page.1) [
-      inl same ↦ inl same
+      | inl same ↦ inl same
       | inr part ↦ inr (part.0, writes_asked_part c.args.words request _ _ _ (record { asked = c.request_of-request.ensures.asked; explained = c.request_of-request.ensures.explained; unread = c.request_of-request.ensures.unread }) part.1)
     ]
 
