@@ -6,7 +6,7 @@ use std::error::Error;
 use std::fmt;
 
 /// The text has a part that no line of the width can hold.
-#[derive(Clone, Copy, Debug)]
+#[derive(Clone, Copy, Debug, PartialEq, Eq)]
 pub struct TooNarrow;
 
 impl fmt::Display for TooNarrow {
