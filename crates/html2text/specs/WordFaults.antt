@@ -20,7 +20,7 @@ Explains words faults.Memory = ⊤
 -- Words that could not be had, for this kind of error: memory ran out, or one is no text. (The runtime tells no other.)
 abbrev pub fault_of_kind : IoKind → WordFault
 fault_of_kind io_kinds.OutOfMemory = faults.Memory
-fault_of_kind other = faults.NotUtf8
+fault_of_kind _ = faults.NotUtf8
 
 abbrev pub IsHelp : WordFault → Type 0
 IsHelp (faults.Help text) = ⊤
