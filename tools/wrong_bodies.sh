@@ -5,8 +5,9 @@
 #   tools/wrong_bodies.sh [--since COMMIT] [NAME..]
 #
 # It takes the named crates; without names, those whose files, or whose lower crates' files, changed since the commit (the
-# last one without --since). It works on a copy of HEAD, on as many crates at once as there are processors (or as RT_LANES says). A
-# line for each crate: `NAME: N refused, M let through`; the status is 1 where an edit is let through or no longer applies.
+# last one without --since). It works on a copy of HEAD, on as many crates at once as there are processors (or as
+# RT_LANES says). A line for each crate: `NAME: N refused, M let through`; the status is 1 where an edit is let through or
+# no longer applies.
 set -euo pipefail
 cd "$(git -C "$(dirname "$0")" rev-parse --show-toplevel)"
 
@@ -15,7 +16,7 @@ names=()
 while [ $# -gt 0 ]; do
   case "$1" in
     --since) since=$2; shift 2 ;;
-    -*) sed -n '2,9p' "$0" >&2; exit 2 ;;
+    -*) sed -n '2,10p' "$0" >&2; exit 2 ;;
     *) names+=("$1"); shift ;;
   esac
 done
