@@ -7,7 +7,7 @@ here=$(cd "$(dirname "$0")" && pwd)
 piece=${1:-64}
 folder=${BENCH:-${TMPDIR:-/tmp}/count_tokens_bench}
 crate=$folder/crates/count_tokens
-mkdir -p "$crate/src"
+mkdir -p "$crate/src" "$crate/proofs/count"
 for name in html_lexemes parse_errors html_grammar lexeme_places html_tokenizer; do
   mkdir -p "$folder/crates/$name"
   # what was proved of the copy is kept
@@ -20,6 +20,7 @@ cp "$here/../HANDLES" "$folder"
   echo 'count_tokens: html_lexemes parse_errors html_grammar lexeme_places html_tokenizer thiserror'
 } >"$folder/crates.txt"
 cp "$here/count_tokens/main.rt.txt" "$crate/src/main.rt"
+cp "$here/count_tokens/Invariants.antt.txt" "$crate/proofs/count/Invariants.antt"
 echo '<p>' >"$crate/stdin"
 (cd "$crate" && rt run -- "$piece" data 1 >"$folder/log" 2>&1) || { tail -n 20 "$folder/log"; exit 1; }
 

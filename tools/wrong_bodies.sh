@@ -4,10 +4,10 @@
 #
 #   tools/wrong_bodies.sh [--since COMMIT] [NAME..]
 #
-# It takes the named crates; without names, those whose files, or whose lower crates' files, changed since the commit (the
-# last one without --since). It works on a copy of HEAD, on as many crates at once as there are processors (or as
-# RT_LANES says). A line for each crate: `NAME: N refused, M let through`; the status is 1 where an edit is let through or
-# no longer applies.
+# It takes the named crates; without names, those whose files, or whose lower crates' files, changed since the commit
+# (the last one without --since). It works on a copy of HEAD, on as many crates at once as there are processors (or as
+# RT_LANES says). A line for each crate: `NAME: N refused, M let through`; the status is 1 where an edit is let through
+# or no longer applies, and 2 where there is no such crate.
 set -euo pipefail
 cd "$(git -C "$(dirname "$0")" rev-parse --show-toplevel)"
 
@@ -40,6 +40,10 @@ changed() {
   done
   return 1
 }
+
+for name in ${names[@]+"${names[@]}"}; do
+  if [ ! -d "crates/$name" ]; then echo "no crate $name" >&2; exit 2; fi
+done
 
 if [ ${#names[@]} -eq 0 ]; then
   for folder in crates/*/wrong-bodies; do

@@ -42,6 +42,10 @@ newline_utf8 = search rules
 line_utf8 : {T : Type 0} (line : TaggedLine T) → IsUtf8 (line_bytes line)
 line_utf8 line = IsUtf8-append (elements_bytes line.elements.items) newline (elements_utf8 line.elements.items) newline_utf8
 
+pub lines_utf8 : {T : Type 0} (lines : List (TaggedLine T)) → IsUtf8 (lines_bytes lines)
+lines_utf8 [] = IsUtf8-nil
+lines_utf8 (line ∷ lines) = IsUtf8-append (line_bytes line) (lines_bytes lines) (line_utf8 line) (lines_utf8 lines)
+
 chars-line_bytes : {T : Type 0} (line : TaggedLine T) → chars (line_bytes line) ≡ line_text line ++ newline
 chars-line_bytes line =
     chars-append (elements_bytes line.elements.items) newline (elements_utf8 line.elements.items) ∙ ap (λ l. l ++ chars newline) (chars-elements_bytes line.elements.items) ∙ ap (λ l. line_text line ++ l) chars-newline

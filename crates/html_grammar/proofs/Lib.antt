@@ -1,4 +1,7 @@
 pub mod DoctypeLemmas
+pub mod FirstOfEach
+pub mod FirstOfEachOnly
+pub mod KindLemmas
 pub mod LaterNames
 pub mod LexemeLemmas
 pub mod LongestNames
@@ -7,10 +10,13 @@ pub mod NameLemmas
 pub mod NumberLemmas
 pub mod PageTextLemmas
 pub mod Readings
-pub mod ShortestCuts
 pub mod Shorter
+pub mod ShortestCuts
 pub mod SliceLemmas
 pub mod TagLemmas
 pub mod TagNameLemmas
+pub mod TagSlices
+pub mod TagSlicesRead
 pub mod TagValueLemmas
 pub mod ValueLemmas
+pub mod ValuesInTurn

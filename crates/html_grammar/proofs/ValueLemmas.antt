@@ -80,7 +80,7 @@ module _ (table : References) (cs : List ℕ) (found : Found) (b : Bool) (e : No
 
 -- ---- what follows a reference is no longer than the text
 
-abbrev EndsWithin : ℕ → Option Found → Type 0
+abbrev pub EndsWithin : ℕ → Option Found → Type 0
 EndsWithin n o = IfSome o (λ f. length f.rest ≤ n)
 
 within_both : (n : ℕ) (b : Bool) (x y : Option Found) → EndsWithin n x → EndsWithin n y → EndsWithin n (cond b x y)
@@ -134,7 +134,7 @@ kept_within : (n : ℕ) (o : Option Found) → EndsWithin n o → EndsWithin n (
 kept_within n None p = tt
 kept_within n (Some f) p = within_both n (not f.closed && first_passes goes_on f.rest) None (Some f) tt p
 
-within_value : (table : References) (cs : List ℕ) → EndsWithin (length cs) (reference_in_value table cs)
+pub within_value : (table : References) (cs : List ℕ) → EndsWithin (length cs) (reference_in_value table cs)
 within_value table cs =
     within_both (length cs) (begins (35 ∷ []) cs) (behind_number_sign (drop 1 cs)) (option_and_then kept (named table cs))
     (within_more (length (drop 1 cs)) (length cs) (behind_number_sign (drop 1 cs)) (drop_within cs) (sign_within (drop 1 cs)))

@@ -5,6 +5,7 @@ pub mod Doctypes
 pub mod Edges
 pub mod FirstMode
 pub mod Items
+pub mod Kinds
 pub mod Lexemes
 pub mod Modes
 pub mod PageText
@@ -12,8 +13,8 @@ pub mod PlainRead
 pub mod Read
 pub mod Reading
 pub mod References
-pub mod RowWords
 pub mod Slices
+pub mod TagLaws
 pub mod TagParts
 pub mod Tags
 pub mod Told

@@ -35,7 +35,7 @@ last_behind EndTag name last = last
 abbrev pub mode_behind : {H : Type 0} → Mode → Tag → TokenSinkResult H → Mode
 mode_behind mode t answer = record { text = text_behind answer; last_start_tag = last_behind t.kind t.name mode.last_start_tag }
 
--- the mode in which a page begins: a state of markup or of an element's text, else ordinary text
+-- the kind of text in which a page begins: plain or an element's where a state of such text is named, else ordinary
 abbrev pub text_of_state : Option State → TextKind
 text_of_state (Some states.Plaintext) = Plain
 text_of_state (Some (states.RawData kind)) = Raw kind

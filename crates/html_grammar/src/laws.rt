@@ -1,6 +1,8 @@
 //! Laws of the reading of a page: each is the contract of a function that does nothing.
-ghost use Rattle.std.specs.Prelude.{◌≡◌, ℕ, List};
+ghost use Rattle.std.specs.Prelude.{◌≡◌, ℕ, Bool, List};
 ghost use Rattle.html_lexemes.specs.References.{References};
+ghost use Rattle.html_grammar.specs.Kinds.{LexemeOf};
+ghost use Rattle.html_grammar.specs.Lexemes.{lexeme};
 ghost use Rattle.html_grammar.specs.Reading.{Reading};
 ghost use Rattle.html_grammar.specs.declared.modes.Mode.{Mode as SeenMode};
 
@@ -16,4 +18,11 @@ pub fn one_reading<S: TokenSink>()
 pub fn some_reading<S: TokenSink>()
     ensures { (table : References) (mode : SeenMode) (state : S.Abstract) (text : List ℕ) →
         (final : S.Abstract) × Reading table S.step S.reply S.foreign mode state text final }
+{}
+
+/// In text that isn't ordinary only characters, errors, end tags and nothing are read, and only behind a tag ordinary
+/// text follows it.
+pub fn text_of_a_kind()
+    ensures { (table : References) (foreign : Bool) (mode : SeenMode) (text : List ℕ) →
+        LexemeOf mode.text (lexeme table foreign mode text) }
 {}

@@ -9,10 +9,10 @@ pub mod lexemes;
 mod modes;
 pub mod plain;
 mod references;
-mod rows;
 mod sink;
 pub mod slice_laws;
 pub mod slices;
+pub mod tag_laws;
 pub mod tags;
 
 pub use modes::{Mode, TextKind};

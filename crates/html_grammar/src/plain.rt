@@ -1,11 +1,14 @@
-ghost use Rattle.std.specs.Prelude.{◌≡◌, ◌∷◌, ◌++◌, IfOk, OnOk, chars, fold, if◌then◌else◌, string_bytes};
+ghost use Rattle.std.specs.Prelude.{◌≡◌, ◌∷◌, ◌++◌, IfErr, IfOk, OnOk, chars, fold, if◌then◌else◌, string_bytes};
 ghost use Rattle.html_lexemes.specs.LineEnds.{begins_with_line_feed, lines_ended, without_mark};
+ghost use Rattle.html_lexemes.specs.declared.fault.ParseFault.TheVariants.{Memory};
 ghost use Rattle.html_grammar.specs.FirstMode.{first_mode};
-ghost use Rattle.html_grammar.specs.Items.{end_of_file, item_of, tag as tag_item};
+ghost use Rattle.html_grammar.specs.Items.{Item, end_of_file, item_of, tag as tag_item};
+ghost use Rattle.html_grammar.specs.Kinds.{AreWelcome, IsReadyFor};
 ghost use Rattle.html_grammar.specs.Modes.{last_behind, mode_behind, text_behind, text_of_state};
 ghost use Rattle.html_grammar.specs.PageText.{page_text};
 ghost use Rattle.html_grammar.specs.PlainRead.{items_of};
 ghost use Rattle.html_grammar.specs.Reading.{IsClosed, Reading};
+ghost use Rattle.html_grammar.specs.declared.modes.TextKind.TheVariants.{Plain};
 
 use crate::lexemes::{Lexeme, lexeme_at};
 use crate::modes::{Mode, TextKind};
@@ -19,7 +22,7 @@ use std::alloc::{AllocError, Global};
 /// compared with, and no tokenizer. Pauses that the sink asks for are passed over, each token stands at
 /// line 1, and errors that change nothing aren't told.
 ///
-/// The error is want of memory, or what the sink refused with; then nothing is known of the sink.
+/// The error is want of memory; then nothing is known of the sink.
 pub fn read_plainly<S: TokenSink>(
     alloc: Global,
     sink: &mut S,
@@ -27,8 +30,9 @@ pub fn read_plainly<S: TokenSink>(
     table: &ReferenceTable,
     text: &str,
 ) -> Result<(), ParseFault>
-    requires { S.ready (S.state sink.old) }
-    ensures { OnOk result (IsClosed S.close (Reading table.now S.step S.reply S.foreign (first_mode opts) (S.state sink.old) (page_text opts.discard_bom (chars text.now))) (S.state sink.new)) }
+    requires { IsReadyFor S.ready S.welcomes (text_of_state opts.initial_state) (S.state sink.old) }
+    ensures memory { IfErr result (λ e. e ≡ Memory) }
+    ensures told { OnOk result (IsClosed S.close (Reading table.now S.step S.reply S.foreign (first_mode opts) (S.state sink.old) (page_text opts.discard_bom (chars text.now))) (S.state sink.new)) }
 {
     let TokenizerOpts {
         exact_errors: _,
@@ -58,7 +62,7 @@ pub fn text_of_state(state: Option<State>) -> TextKind
 }
 
 /// Tells what stands in a text before its end, each token at a line, and passes over pauses that the sink asks for. The error is
-/// want of memory, or what the sink refused with; then nothing is known of the sink.
+/// want of memory; then nothing is known of the sink.
 pub fn tell_lexemes<S: TokenSink>(
     alloc: Global,
     sink: &mut S,
@@ -67,8 +71,9 @@ pub fn tell_lexemes<S: TokenSink>(
     text: &str,
     line: u64,
 ) -> Result<(), ParseFault>
-    requires { S.ready (S.state sink.old) }
-    ensures ready { OnOk result (S.ready (S.state sink.new)) }
+    requires { IsReadyFor S.ready S.welcomes mode.text (S.state sink.old) }
+    ensures memory { IfErr result (λ e. e ≡ Memory) }
+    ensures ready { OnOk result (IsReadyFor S.ready S.welcomes Plain (S.state sink.new)) }
     ensures told { OnOk result (Reading table.now S.step S.reply S.foreign mode (S.state sink.old) (chars text.now) (S.step (S.state sink.new) end_of_file)) }
 {
     let mut rest = text;
@@ -89,14 +94,17 @@ pub fn tell_lexemes<S: TokenSink>(
     }
 }
 
-/// Tells some tokens, none of which is a tag, at a line. The error is what the sink refused with.
+/// Tells some tokens that the sink welcomes, none of which is a tag, at a line. The error is want of memory.
 pub fn tell_tokens<S: TokenSink>(
     sink: &mut S,
     tokens: Vec<Token>,
     line: u64,
 ) -> Result<(), ParseFault>
-    requires { S.ready (S.state sink.old) }
+    requires ready { S.ready (S.state sink.old) }
+    requires welcome { AreWelcome S.welcomes (S.state sink.old) (items_of tokens.items) }
+    ensures memory { IfErr result (λ e. e ≡ Memory) }
     ensures ready { OnOk result (S.ready (S.state sink.new)) }
+    ensures hears { OnOk result ((item : Item) → S.welcomes (S.state sink.old) item → S.welcomes (S.state sink.new) item) }
     ensures told { OnOk result (S.state sink.new ≡ fold S.step (S.state sink.old) (items_of tokens.items)) }
 {
     'tokens: for token in tokens {
@@ -107,8 +115,10 @@ pub fn tell_tokens<S: TokenSink>(
 
 // tells a tag, and gives the mode behind it
 fn tell_tag<S: TokenSink>(sink: &mut S, mode: Mode, tag: Tag, line: u64) -> Result<Mode, ParseFault>
-    requires { S.ready (S.state sink.old) }
-    ensures ready { OnOk result (S.ready (S.state sink.new)) }
+    requires ready { S.ready (S.state sink.old) }
+    requires welcome { S.welcomes (S.state sink.old) (tag_item tag) }
+    ensures memory { IfErr result (λ e. e ≡ Memory) }
+    ensures ready { IfOk result (λ behind. IsReadyFor S.ready S.welcomes behind.text (S.state sink.new)) }
     ensures told { OnOk result (S.state sink.new ≡ S.step (S.state sink.old) (tag_item tag)) }
     ensures mode { IfOk result (λ behind. behind ≡ mode_behind mode tag (S.reply (S.state sink.old) (tag_item tag))) }
 {

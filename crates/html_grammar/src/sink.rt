@@ -1,13 +1,16 @@
-ghost use Rattle.std.specs.Prelude.{◌≡◌, Bool, IfOk};
+ghost use Rattle.std.specs.Prelude.{◌≡◌, Bool, IfErr, IfOk};
+ghost use Rattle.html_lexemes.specs.declared.fault.ParseFault.TheVariants.{Memory};
 ghost use Rattle.html_lexemes.specs.declared.token.TokenSinkResult.{TokenSinkResult as Answer};
-ghost use Rattle.html_grammar.specs.Items.{Item, item_of};
+ghost use Rattle.html_grammar.specs.Items.{Item, end_of_file, item_of};
+ghost use Rattle.html_grammar.specs.Kinds.{IsHearing};
 ghost use Rattle.html_grammar.specs.Reading.{IsLawful};
 
 use html_lexemes::states::State;
 use html_lexemes::{LocalName, ParseFault, Token, TokenSinkResult};
 
-/// What tokens are told to. Contracts see an abstract state and a step over what was told; nothing
-/// depends on the wording of errors or on lines.
+/// What tokens are told to. Contracts see an abstract state and a step over what was told; nothing depends on the
+/// wording of errors or on lines. A state in which a sink may be called is `ready`; what it `welcomes` there it refuses
+/// for want of memory alone.
 pub trait TokenSink {
     /// What stands for an element in an answer.
     type Handle: Copy;
@@ -24,6 +27,8 @@ pub trait TokenSink {
 
     ghost ready: { Abstract → Type 0 };
 
+    ghost welcomes: { Abstract → Item → Type 0 };
+
     ghost close: { Abstract → Abstract };
 
     /// Takes a token that stands at a line, and says how the text behind it is to be read. After a
@@ -35,18 +40,25 @@ pub trait TokenSink {
     ) -> Result<TokenSinkResult<Self::Handle>, ParseFault>
         requires { ready (state self.old) }
         ensures state { IfOk result (λ _. state self.new ≡ step (state self.old) (item_of token)) }
-        ensures reply { IfOk result (λ answer. answer ≡ reply (state self.old) (item_of token)) };
+        ensures reply { IfOk result (λ answer. answer ≡ reply (state self.old) (item_of token)) }
+        ensures refused { welcomes (state self.old) (item_of token) → IfErr result (λ e. e ≡ Memory) };
 
     /// Says that nothing more is told. It is called once, behind the end of the page.
     fn end(&mut self) -> Result<(), ParseFault>
-        ensures { IfOk result (λ _. state self.new ≡ close (state self.old)) };
+        requires { ready (state self.old) }
+        ensures closed { IfOk result (λ _. state self.new ≡ close (state self.old)) }
+        ensures refused { (before : Abstract) → welcomes before end_of_file → state self.old ≡ step before end_of_file →
+            IfErr result (λ e. e ≡ Memory) };
 
     /// Whether there is an adjusted current node, and it is foreign (WHATWG HTML, 13.2.4.2): then
     /// `<![CDATA[` opens text.
     fn adjusted_current_node_present_but_not_in_html_namespace(&self) -> bool
+        requires { ready (state self.now) }
         ensures { result ≡ foreign (state self.now) };
 
     ghost lawful: { IsLawful step reply foreign ready };
+
+    ghost hearing: { IsHearing step reply welcomes };
 }
 
 /// How a page's text is read.
@@ -63,6 +75,10 @@ pub struct TokenizerOpts {
 }
 
 impl Default for TokenizerOpts {
+    ghost use Rattle.html_grammar.specs.FirstMode.{default_options};
+
+    ghost is_default = { λ opts. opts ≡ default_options };
+
     fn default() -> TokenizerOpts {
         TokenizerOpts {
             exact_errors: false,

@@ -10,7 +10,7 @@ inner_of d = d.inner
 abbrev pub is_failed : {T : Type 0} → Device T → Bool
 is_failed d = d.failed
 
--- its last call as a writer was a flush, and was not refused
+-- a flush that was not refused came behind its last write
 abbrev pub is_flushed : {T : Type 0} → Device T → Bool
 is_flushed d = d.flushed
 

@@ -1,8 +1,10 @@
 pub mod GoingLemmas
+pub mod PauseMarks
 pub mod PendingLemmas
 pub mod QueueTaken
 pub mod RawReads
 pub mod ReadsLemmas
+pub mod ReadyLemmas
 pub mod TellsLemmas
 pub mod Unanswered
 pub mod Undecided

@@ -1,16 +1,19 @@
 -- What a turn says, once it is known which it is.
-use Rattle.std.proofs.Common.{◌≡◌, ℕ, Bool, List, [], Option, Some, None, MatchOption, IsTrue, refl, sym, subst}
+use Rattle.std.proofs.Common.{◌≡◌, ℕ, Bool, List, [], Option, Some, None, MatchOption, IfSome, IsTrue, refl, sym, subst}
 use Rattle.std.specs.FinMap as finite
 use Rattle.html_lexemes.specs.References.{References}
 use Rattle.html_lexemes.specs.declared.states.RawKind.{RawKind}
 use Rattle.html_grammar.specs.declared.modes.Mode.{Mode}
 use Rattle.html_grammar.specs.declared.modes.TextKind.TheVariants.{Ordinary}
+use Rattle.html_grammar.specs.declared.modes.TextKind.{TextKind}
+use Rattle.lexeme_places.specs.PlaceKinds.{IsPlaceOf, KeepsKind}
 use Rattle.lexeme_places.specs.RawTurns.{RawTurns}
+use Rattle.html_tokenizer.specs.Advances.{IsRawPlace}
 use Rattle.lexeme_places.specs.MarkupSound.{is_begun_section_end}
 use Rattle.lexeme_places.specs.SectionTurns.{SectionAdvances, SectionTurns}
 use Rattle.lexeme_places.specs.Turns.{Turns}
 use Rattle.lexeme_places.specs.declared.place.Place.{Place}
-use Rattle.lexeme_places.specs.declared.place.Place.TheVariants.{CdataSection, MarkupDeclarationOpen, Text as NoLexeme}
+use Rattle.lexeme_places.specs.declared.place.Place.TheVariants.{CharacterReference, TagOpen, EndTagOpen, Tag, BogusComment, Comment, Doctype, RawText, CdataSection, MarkupDeclarationOpen, Text as NoLexeme}
 use Rattle.lexeme_places.specs.declared.section_turns.SectionTurn.{SectionTurn}
 use Rattle.lexeme_places.specs.declared.section_turns.SectionTurn.TheVariants.{Goes as SectionGoes, Ends as SectionEnds, Shifts as SectionShifts, Text as SectionText}
 use Rattle.lexeme_places.specs.declared.turn.RawTurn.{RawTurn}
@@ -20,7 +23,24 @@ abbrev pub TurnsTo : References → Bool → Place → List ℕ → ℕ → List
 TurnsTo table foreign place held c now turn = (asked : Bool) (mode : Mode) → (place ≡ MarkupDeclarationOpen → asked ≡ foreign) → Turns table asked mode place held c turn now
 
 pub turned : (table : References) (foreign : Bool) (place : Place) (held : List ℕ) (c : ℕ) (now : List ℕ) (A : Type 0) (done : Option Turn) (turn known : Turn) → MatchOption done A (TurnsTo table foreign place held c now) → done ≡ Some turn → turn ≡ known → TurnsTo table foreign place held c now known
-turned table foreign place held c now A done turn known m d t = subst (TurnsTo table foreign place held c now) t (subst (λ o. MatchOption o A (TurnsTo table foreign place held c now)) d m)
+turned table foreign place held c now A outcome turn known m d t = subst (TurnsTo table foreign place held c now) t (subst (λ o. MatchOption o A (TurnsTo table foreign place held c now)) d m)
+
+pub kept : (place : Place) (done : Option Turn) (turn known : Turn) → IfSome done (KeepsKind place) → done ≡ Some turn → turn ≡ known → KeepsKind place known
+kept place outcome turn known m d t = subst (KeepsKind place) t (subst (λ o. IfSome o (KeepsKind place)) d m)
+
+-- a place in an element's text is one in any
+pub raw_place : (kind : TextKind) (raw : RawKind) (place : Place) → IsRawPlace raw place → IsPlaceOf kind place
+raw_place kind raw NoLexeme h = tt
+raw_place kind raw (CharacterReference p) h = tt
+raw_place kind raw (RawText k p) h = tt
+raw_place kind raw (Tag t p) h = absurd h
+raw_place kind raw TagOpen h = absurd h
+raw_place kind raw EndTagOpen h = absurd h
+raw_place kind raw MarkupDeclarationOpen h = absurd h
+raw_place kind raw BogusComment h = absurd h
+raw_place kind raw Comment h = absurd h
+raw_place kind raw Doctype h = absurd h
+raw_place kind raw CdataSection h = absurd h
 
 abbrev pub some_mode : Mode
 some_mode = record { text = Ordinary; last_start_tag = None }

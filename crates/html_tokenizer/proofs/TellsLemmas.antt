@@ -8,7 +8,8 @@ use Rattle.html_grammar.specs.Items.{Item, error, tag}
 use Rattle.html_grammar.specs.Modes.{is_pause}
 use Rattle.html_grammar.specs.Reading.{IsAnswered, IsClosed, IsLawful}
 use Rattle.html_tokenizer.specs.Tells.{AreUnanswered, Asks, IsAlike, IsFirstAfterError, IsPauseOf, TellsOn, told_none, told_one}
-use Rattle.html_tokenizer.specs.Completes.{Answers, result_of}
+use Rattle.html_tokenizer.specs.Completes.{Answers}
+use Rattle.html_tokenizer.specs.Inside.{result_of}
 use Rattle.html_tokenizer.specs.declared.reader.Pause.{Pause}
 use Rattle.html_tokenizer.specs.declared.reader.Pause.TheVariants.{Script, EncodingIndicator}
 use Rattle.html_tokenizer.specs.declared.results.TokenizerResult.{TokenizerResult}

@@ -4,7 +4,7 @@ use Rattle.std.proofs.lemmas.Bool.{and_parts}
 use Rattle.html_lexemes.specs.LineEnds.{begins_with_line_feed, lines_ended}
 use Rattle.html_lexemes.specs.References.{References}
 use Rattle.html_grammar.specs.declared.modes.Mode.{Mode}
-use Rattle.html_tokenizer.specs.Completes.{IsUndecidedAt}
+use Rattle.html_tokenizer.specs.Inside.{IsUndecidedAt}
 use Rattle.lexeme_places.specs.Goings.{IsGoing}
 use Rattle.html_tokenizer.specs.Holdings.{Holds, held_of}
 use Rattle.lexeme_places.specs.OpenEnds.{IsOpenEnded, is_steady}

@@ -3,7 +3,9 @@ use Rattle.std.specs.Prelude.{◌≡◌, ℕ, Bool, List, [], ◌∷◌, ◌++�
 use Rattle.html_lexemes.specs.References.{References}
 use Rattle.html_lexemes.specs.declared.states.RawKind.{RawKind}
 use Rattle.html_grammar.specs.declared.modes.Mode.{Mode}
+use Rattle.html_grammar.specs.declared.modes.TextKind.{TextKind}
 use Rattle.lexeme_places.specs.Goings.{IsGoing}
+use Rattle.lexeme_places.specs.PlaceKinds.{IsPlaceOf}
 use Rattle.lexeme_places.specs.RawTurns.{IsEndTag, IsShifted, IsTextBefore}
 use Rattle.lexeme_places.specs.Places.{place_lexeme}
 use Rattle.lexeme_places.specs.Turns.{IsOver, IsTaken, IsUntagged}
@@ -42,3 +44,13 @@ RawAdvances table foreign mode kind held c (Before text behind) at now =
 RawAdvances table foreign mode kind held c (Shifts text behind) at now =
     IsShifted table mode kind (held ++ c ∷ []) (chars text.now) behind now × (IsRawPlace behind at × IsGoing table mode.last_start_tag at now)
 RawAdvances table foreign mode kind held c EndTag at now = IsEndTag table foreign mode kind held c now × (at ≡ Tag EndTagKind TagName)
+
+-- what a further character leads to is in text of a kind
+abbrev pub IsWithinKind : TextKind → Advance → Place → Type 0
+IsWithinKind kind Goes at = IsPlaceOf kind at
+IsWithinKind kind (Ends last text) at = IsPlaceOf kind last
+IsWithinKind kind (EndsBefore last text) at = IsPlaceOf kind last
+
+-- where the place before it was
+abbrev pub StaysWithinKind : Place → Advance → Place → Type 0
+StaysWithinKind place advance at = (kind : TextKind) → IsPlaceOf kind place → IsWithinKind kind advance at

@@ -1,7 +1,9 @@
 pub mod Advances
 pub mod Completes
+pub mod Fits
 pub mod GoingProp
 pub mod Holdings
+pub mod Inside
 pub mod PageRest
 pub mod Pieces
 pub mod Reads

@@ -1,14 +1,18 @@
-//! The tokenizer: resumable, and equal to the reading of the grammar however the text is cut.
+//! The tokenizer: resumable, and equal to the reading of the grammar however the text is cut. What its calls name of the
+//! crates below it is exported here too.
 #![tactic(auto)]
 
 mod errors;
 mod line_ends;
+mod page_end;
 mod pending;
 mod pieces;
 mod reader;
 mod results;
 mod tokenizer;
 
+pub use html_grammar::{TokenSink, TokenizerOpts, read_plainly};
+pub use html_lexemes;
 pub use pieces::read_pieces;
 pub use results::TokenizerResult;
 pub use tokenizer::Tokenizer;

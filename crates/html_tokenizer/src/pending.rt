@@ -48,7 +48,7 @@ pub(crate) enum RawAdvance {
 impl Pending {
     ghost use Rattle.html_grammar.specs.declared.modes.Mode.{Mode as SeenMode};
     ghost use Rattle.html_lexemes.specs.References.{References};
-    ghost use Rattle.html_tokenizer.specs.Advances.{Advances, IsLeft, RawAdvances};
+    ghost use Rattle.html_tokenizer.specs.Advances.{Advances, IsLeft, RawAdvances, StaysWithinKind};
     ghost use Rattle.lexeme_places.specs.PlaceKinds.{IsNoMarkup};
     ghost use Rattle.lexeme_places.specs.Goings.{is_raw_going};
     ghost use Rattle.lexeme_places.specs.SectionTurns.{SectionAdvances};
@@ -131,6 +131,7 @@ impl Pending {
         c: char,
     ) -> Result<Option<Advance>, AllocError>
         ensures left { IfOk result (λ done. IfSome done (λ advance. IsLeft advance self.new.place)) }
+        ensures kind { IfOk result (λ done. IfSome done (λ advance. StaysWithinKind self.old.place advance self.new.place)) }
         ensures advance { IfOk result (λ done. MatchOption done (IsNoMarkup self.old.place × (self.new ≡ self.old))
             (λ advance. (asked : Bool) (mode : SeenMode) → (self.old.place ≡ DeclarationPlace → asked ≡ foreign) →
             Advances table.now asked mode self.old.place (chars (string_bytes self.old.held)) c advance self.new.place (chars (string_bytes self.new.held)))) }

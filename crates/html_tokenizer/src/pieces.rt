@@ -1,5 +1,8 @@
-ghost use Rattle.std.specs.Prelude.{◌≡◌, IfOk};
+ghost use Rattle.std.specs.Prelude.{◌≡◌, IfErr, IfOk};
+ghost use Rattle.html_lexemes.specs.declared.fault.ParseFault.TheVariants.{Memory};
 ghost use Rattle.html_grammar.specs.FirstMode.{first_mode};
+ghost use Rattle.html_grammar.specs.Kinds.{IsReadyFor};
+ghost use Rattle.html_grammar.specs.Modes.{text_of_state};
 ghost use Rattle.html_grammar.specs.PageText.{page_text};
 ghost use Rattle.html_grammar.specs.Reading.{IsClosed, Reading};
 ghost use Rattle.html_tokenizer.specs.Pieces.{joined};
@@ -10,7 +13,7 @@ use html_lexemes::{BufferQueue, ParseFault, ReferenceTable};
 use std::alloc::Global;
 
 /// Tells a page that comes in pieces to a sink, and gives the sink back. It is left as the reading of the whole page
-/// leaves it, however the page is cut. Pauses are passed over. The error is want of memory, or what the sink refused with.
+/// leaves it, however the page is cut. Pauses are passed over. The error is want of memory.
 pub fn read_pieces<Sink: TokenSink + Drop>(
     alloc: Global,
     sink: Sink,
@@ -18,8 +21,9 @@ pub fn read_pieces<Sink: TokenSink + Drop>(
     table: ReferenceTable,
     pieces: Vec<String>,
 ) -> Result<Sink, ParseFault>
-    requires { Sink.ready (Sink.state sink) }
-    ensures { IfOk result (λ told. IsClosed Sink.close (Reading table Sink.step Sink.reply Sink.foreign (first_mode opts) (Sink.state sink) (page_text opts.discard_bom (joined pieces.items))) (Sink.state told)) }
+    requires { IsReadyFor Sink.ready Sink.welcomes (text_of_state opts.initial_state) (Sink.state sink) }
+    ensures memory { IfErr result (λ e. e ≡ Memory) }
+    ensures told { IfOk result (λ told. IsClosed Sink.close (Reading table Sink.step Sink.reply Sink.foreign (first_mode opts) (Sink.state sink) (page_text opts.discard_bom (joined pieces.items))) (Sink.state told)) }
 {
     let mut tokenizer = Tokenizer::new(alloc, sink, opts, table);
     'pieces: for piece in pieces {

@@ -1,28 +1,29 @@
-ghost use Rattle.std.specs.Prelude.{◌≡◌, [], ◌∷◌, ◌++◌, ℕ, Bool, List, chars, string_bytes, IfOk, IfSome, IsTrue, OnOk, Ok, None, false, true, fold, map, length, ◌==◌, ◌&&◌, ◌≢◌, if◌then◌else◌};
+ghost use Rattle.std.specs.Prelude.{◌≡◌, [], ◌∷◌, ◌++◌, ℕ, Bool, List, chars, string_bytes, IfErr, IfOk, IfSome, IsTrue, OnOk, Ok, None, false, true, fold, map, length, ◌==◌, ◌&&◌, ◌≢◌, if◌then◌else◌};
 ghost use Rattle.std.specs.Char.{IsScalar};
 ghost use Rattle.html_lexemes.specs.References.{References};
+ghost use Rattle.html_lexemes.specs.declared.fault.ParseFault.TheVariants.{Memory};
 ghost use Rattle.html_grammar.specs.Items.{characters, end_of_file, null_character, tag as tag_item};
+ghost use Rattle.html_grammar.specs.Kinds.{AreWithin, HasMarkup, IsOf, IsReadyFor};
 ghost use Rattle.html_grammar.specs.Lexemes.{ordinary_item};
 ghost use Rattle.html_grammar.specs.Modes.{mode_behind};
 ghost use Rattle.html_grammar.specs.PlainRead.{items_of};
 ghost use Rattle.html_grammar.specs.Reading.{IsClosed, Reading};
+ghost use Rattle.html_grammar.specs.Tags.{greater};
 ghost use Rattle.lexeme_places.specs.Places.{place_lexeme};
 ghost use Rattle.html_grammar.specs.declared.modes.TextKind.TheVariants.{Plain as PlainText};
-ghost use Rattle.lexeme_places.specs.PlaceKinds.{IsWithinMarkup, is_of_text, is_open};
+ghost use Rattle.lexeme_places.specs.PlaceKinds.{IsPlaceOf, IsWithinMarkup, is_of_text, is_open};
 ghost use Rattle.html_tokenizer.specs.Tells.{IsPauseOf};
 ghost use Rattle.lexeme_places.specs.declared.place.Place.{Place as SeenPlace};
 ghost use Rattle.lexeme_places.specs.declared.place.Place.TheVariants.{CdataSection as SectionPlace, MarkupDeclarationOpen as DeclarationPlace, Text as TextPlace};
 
-use crate::errors::{
-    MarkupStart, find_errors, find_errors_before, find_last_errors, last_state, may_follow_error,
-    state_of,
-};
+use crate::errors::{MarkupStart, find_errors, find_errors_before, may_follow_error, state_of};
 use crate::pending::{Advance, Pending, RawAdvance};
 use html_grammar::lexemes::Lexeme;
 use html_grammar::plain::{last_behind, tell_lexemes, tell_tokens, text_behind};
 use html_grammar::{Mode, TextKind, TokenSink};
 use html_lexemes::states::State;
 use html_lexemes::{ParseFault, ReferenceTable, Tag, Text, Token, TokenSinkResult};
+use lexeme_places::laws::{place_of_a_kind, tag_ends_with_its_mark};
 use lexeme_places::{First, Place, SectionTurn, first_of, lexeme_from};
 use parse_errors::ParseErrors;
 use std::alloc::Global;
@@ -31,16 +32,16 @@ use std::mem;
 /// How far a text was read: the mode, the text that was read and is not told yet, and the lexeme that is not over.
 #[derive(Drop)]
 pub(crate) struct Reader {
-    mode: Mode,
-    run: String,
-    pending: Pending,
+    pub(crate) mode: Mode,
+    pub(crate) run: String,
+    pub(crate) pending: Pending,
     // those that were found and are not told yet
-    errors: ParseErrors,
+    pub(crate) errors: ParseErrors,
     // where the markup that is not over began
-    start: MarkupStart,
+    pub(crate) start: MarkupStart,
     // the line of the character that was taken last, and that of the next
-    line: u64,
-    next_line: u64,
+    pub(crate) line: u64,
+    pub(crate) next_line: u64,
 }
 
 /// What the tokenizer pauses for.
@@ -57,7 +58,7 @@ impl Reader {
     ghost use Rattle.html_tokenizer.specs.Reads.{Follows, Leaves, Reads, state_of};
     ghost use Rattle.html_tokenizer.specs.Tells.{AreUnanswered, Asks, IsAlike, TellsOn};
     ghost use Rattle.lexeme_places.specs.Turns.{IsOver, IsUntagged};
-    ghost use Rattle.html_tokenizer.specs.Advances.{Advances, IsLeft};
+    ghost use Rattle.html_tokenizer.specs.Advances.{Advances, IsLeft, IsWithinKind};
 
     /// Before the first character of a text that is read in a mode.
     pub(crate) fn new(alloc: Global, mode: Mode, exact_errors: bool) -> Reader
@@ -120,8 +121,9 @@ impl Reader {
 
     /// Tells the text that was read.
     pub(crate) fn tell_run<S: TokenSink>(&mut self, sink: &mut S) -> Result<(), ParseFault>
-        requires { S.ready (S.state sink.old) }
-        ensures ready { OnOk result (S.ready (S.state sink.new)) }
+        requires { IsReadyFor S.ready S.welcomes self.old.mode.text (S.state sink.old) }
+        ensures memory { IfErr result (λ e. e ≡ Memory) }
+        ensures ready { OnOk result (IsReadyFor S.ready S.welcomes self.new.mode.text (S.state sink.new)) }
         ensures told { OnOk result (S.state sink.new ≡ state_of S.step self.old (S.state sink.old)) }
         ensures tells { OnOk result (TellsOn S.step S.reply (S.state sink.old) (S.state sink.new)) }
         ensures run { OnOk result (string_bytes self.new.run ≡ []) }
@@ -141,9 +143,10 @@ impl Reader {
 
     // Tells the errors that were found, behind the text that was read.
     #[cold]
-    fn tell_errors<S: TokenSink>(&mut self, sink: &mut S) -> Result<(), ParseFault>
-        requires { S.ready (S.state sink.old) }
-        ensures ready { OnOk result (S.ready (S.state sink.new)) }
+    pub(crate) fn tell_errors<S: TokenSink>(&mut self, sink: &mut S) -> Result<(), ParseFault>
+        requires { IsReadyFor S.ready S.welcomes self.old.mode.text (S.state sink.old) }
+        ensures memory { IfErr result (λ e. e ≡ Memory) }
+        ensures ready { OnOk result (IsReadyFor S.ready S.welcomes self.new.mode.text (S.state sink.new)) }
         ensures alike { OnOk result (IsAlike S.step S.reply S.foreign (state_of S.step self.old (S.state sink.old)) (S.state sink.new)) }
         ensures tells { OnOk result (TellsOn S.step S.reply (S.state sink.old) (S.state sink.new)) }
         ensures run { OnOk result (string_bytes self.new.run ≡ []) }
@@ -158,15 +161,17 @@ impl Reader {
     }
 
     // Tells some tokens, none of which is a tag, behind the errors that were found where they change nothing.
-    fn tell_items<S: TokenSink>(
+    pub(crate) fn tell_items<S: TokenSink>(
         &mut self,
         sink: &mut S,
         tokens: Vec<Token>,
     ) -> Result<(), ParseFault>
-        requires ready { S.ready (S.state sink.old) }
+        requires ready { IsReadyFor S.ready S.welcomes self.old.mode.text (S.state sink.old) }
         requires run { string_bytes self.old.run ≡ [] }
         requires untagged { AreUnanswered (items_of tokens.items) }
-        ensures ready { OnOk result (S.ready (S.state sink.new)) }
+        requires within { AreWithin self.old.mode.text (items_of tokens.items) }
+        ensures memory { IfErr result (λ e. e ≡ Memory) }
+        ensures ready { OnOk result (IsReadyFor S.ready S.welcomes self.new.mode.text (S.state sink.new)) }
         ensures told { OnOk result (S.state sink.new ≡ fold S.step (S.state sink.old) (items_of tokens.items)) }
         ensures tells { OnOk result (TellsOn S.step S.reply (S.state sink.old) (S.state sink.new)) }
         ensures run { OnOk result (string_bytes self.new.run ≡ []) }
@@ -181,13 +186,15 @@ impl Reader {
     }
 
     // tells a tag, and says what the sink pauses for
-    fn tell_tag<S: TokenSink>(
+    pub(crate) fn tell_tag<S: TokenSink>(
         &mut self,
         sink: &mut S,
         tag: Tag,
     ) -> Result<Option<Pause<S::Handle>>, ParseFault>
-        requires { S.ready (S.state sink.old) }
-        ensures ready { OnOk result (S.ready (S.state sink.new)) }
+        requires ready { IsReadyFor S.ready S.welcomes self.old.mode.text (S.state sink.old) }
+        requires kind { IsOf self.old.mode.text (tag_item tag) }
+        ensures memory { IfErr result (λ e. e ≡ Memory) }
+        ensures ready { OnOk result (IsReadyFor S.ready S.welcomes self.new.mode.text (S.state sink.new)) }
         ensures told { OnOk result (S.state sink.new ≡ S.step (S.state sink.old) (tag_item tag)) }
         ensures mode { OnOk result (self.new.mode ≡ mode_behind self.old.mode tag (S.reply (S.state sink.old) (tag_item tag))) }
         ensures pause { IfOk result (IsPauseOf (S.reply (S.state sink.old) (tag_item tag))) }
@@ -209,13 +216,17 @@ impl Reader {
         sink: &mut S,
         c: char,
     ) -> Result<Option<Pause<S::Handle>>, ParseFault>
-        requires ready { S.ready (S.state sink.old) }
+        requires ready { IsReadyFor S.ready S.welcomes self.old.mode.text (S.state sink.old) }
         requires holds { Holds table.now self.old }
         requires scalar { IsScalar c }
-        ensures ready { OnOk result (S.ready (S.state sink.new)) }
+        requires placed { IsPlaceOf self.old.mode.text self.old.pending.place }
+        ensures memory { IfErr result (λ e. e ≡ Memory) }
+        ensures placed { OnOk result (IsPlaceOf self.new.mode.text self.new.pending.place) }
+        ensures ready { OnOk result (IsReadyFor S.ready S.welcomes self.new.mode.text (S.state sink.new)) }
         ensures holds { OnOk result (Holds table.now self.new) }
         ensures asks { IfOk result (λ pause. Asks S.step S.reply pause (S.state sink.old) (S.state sink.new)) }
         ensures paused { IfOk result (λ pause. IfSome pause (λ _. HoldsNothing self.new)) }
+        ensures greater { IfOk result (λ pause. IfSome pause (λ _. c ≡ greater)) }
         ensures reads { OnOk result ((rest : List ℕ) (final : S.Abstract) →
             Reads table.now S.step S.reply S.foreign self.new (S.state sink.new) rest final →
             Reads table.now S.step S.reply S.foreign self.old (S.state sink.old) (c ∷ rest) final) }
@@ -237,13 +248,17 @@ impl Reader {
         sink: &mut S,
         c: char,
     ) -> Result<Option<Pause<S::Handle>>, ParseFault>
-        requires ready { S.ready (S.state sink.old) }
+        requires ready { IsReadyFor S.ready S.welcomes self.old.mode.text (S.state sink.old) }
         requires scalar { IsScalar c }
         requires place { IsWithinMarkup self.old.pending.place }
-        ensures ready { OnOk result (S.ready (S.state sink.new)) }
+        requires placed { IsPlaceOf self.old.mode.text self.old.pending.place }
+        ensures memory { IfErr result (λ e. e ≡ Memory) }
+        ensures placed { OnOk result (IsPlaceOf self.new.mode.text self.new.pending.place) }
+        ensures ready { OnOk result (IsReadyFor S.ready S.welcomes self.new.mode.text (S.state sink.new)) }
         ensures holds { OnOk result (Holds table.now self.new) }
         ensures asks { IfOk result (λ pause. Asks S.step S.reply pause (S.state sink.old) (S.state sink.new)) }
         ensures paused { IfOk result (λ pause. IfSome pause (λ _. HoldsNothing self.new)) }
+        ensures greater { IfOk result (λ pause. IfSome pause (λ _. c ≡ greater)) }
         ensures reads { OnOk result ((rest : List ℕ) (final : S.Abstract) →
             Reads table.now S.step S.reply S.foreign self.new (S.state sink.new) rest final →
             Reads table.now S.step S.reply S.foreign self.old (S.state sink.old) (c ∷ rest) final) }
@@ -262,11 +277,14 @@ impl Reader {
     // Takes a further character of the text of an element, where some of it is held back. The answer is whether it was taken:
     // it is not elsewhere, nor behind the name of an end tag, which is markup then.
     fn take_in_raw_text<S: TokenSink>(&mut self, sink: &mut S, c: char) -> Result<bool, ParseFault>
-        requires ready { S.ready (S.state sink.old) }
+        requires ready { IsReadyFor S.ready S.welcomes self.old.mode.text (S.state sink.old) }
         requires scalar { IsScalar c }
         requires place { self.old.pending.place ≢ TextPlace }
         requires holds { HoldsRaw self.old }
-        ensures ready { OnOk result (S.ready (S.state sink.new)) }
+        requires placed { IsPlaceOf self.old.mode.text self.old.pending.place }
+        ensures memory { IfErr result (λ e. e ≡ Memory) }
+        ensures placed { OnOk result (IsPlaceOf self.new.mode.text self.new.pending.place) }
+        ensures ready { OnOk result (IsReadyFor S.ready S.welcomes self.new.mode.text (S.state sink.new)) }
         ensures holds { (table : References) → result ≡ Ok true → Holds table self.new }
         ensures tells { OnOk result (TellsOn S.step S.reply (S.state sink.old) (S.state sink.new)) }
         ensures place { result ≡ Ok false → IsWithinMarkup self.new.pending.place }
@@ -300,10 +318,13 @@ impl Reader {
 
     // takes a further character of a CDATA section
     fn take_in_section<S: TokenSink>(&mut self, sink: &mut S, c: char) -> Result<(), ParseFault>
-        requires ready { S.ready (S.state sink.old) }
+        requires ready { IsReadyFor S.ready S.welcomes self.old.mode.text (S.state sink.old) }
         requires scalar { IsScalar c }
         requires place { self.old.pending.place ≡ SectionPlace }
-        ensures ready { OnOk result (S.ready (S.state sink.new)) }
+        requires kind { HasMarkup self.old.mode.text }
+        ensures memory { IfErr result (λ e. e ≡ Memory) }
+        ensures placed { OnOk result (IsPlaceOf self.new.mode.text self.new.pending.place) }
+        ensures ready { OnOk result (IsReadyFor S.ready S.welcomes self.new.mode.text (S.state sink.new)) }
         ensures holds { OnOk result ((table : References) → Holds table self.new) }
         ensures tells { OnOk result (TellsOn S.step S.reply (S.state sink.old) (S.state sink.new)) }
         ensures reads { OnOk result ((table : References) (rest : List ℕ) (final : S.Abstract) →
@@ -322,10 +343,12 @@ impl Reader {
 
     // reads what is held of a section, and a character, as text
     fn read_section_text<S: TokenSink>(&mut self, sink: &mut S, c: char) -> Result<(), ParseFault>
-        requires ready { S.ready (S.state sink.old) }
+        requires ready { IsReadyFor S.ready S.welcomes self.old.mode.text (S.state sink.old) }
         requires scalar { IsScalar c }
         requires place { self.old.pending.place ≡ SectionPlace }
-        ensures ready { OnOk result (S.ready (S.state sink.new)) }
+        requires kind { HasMarkup self.old.mode.text }
+        ensures memory { IfErr result (λ e. e ≡ Memory) }
+        ensures ready { OnOk result (IsReadyFor S.ready S.welcomes self.new.mode.text (S.state sink.new)) }
         ensures tells { OnOk result (TellsOn S.step S.reply (S.state sink.old) (S.state sink.new)) }
         ensures told { OnOk result (state_of S.step self.new (S.state sink.new) ≡ fold S.step (state_of S.step self.old (S.state sink.old)) (map ordinary_item (chars (string_bytes self.old.pending.held) ++ c ∷ []))) }
         ensures mode { OnOk result (self.new.mode ≡ self.old.mode) }
@@ -341,80 +364,6 @@ impl Reader {
         self.read_text(sink, c)
     }
 
-    /// Tells what the end of the text makes of what is held back, and that it ends.
-    pub(crate) fn finish<S: TokenSink>(
-        &mut self,
-        table: &ReferenceTable,
-        sink: &mut S,
-    ) -> Result<(), ParseFault>
-        requires ready { S.ready (S.state sink.old) }
-        ensures reads { OnOk result (IsClosed S.close (Reads table.now S.step S.reply S.foreign self.old (S.state sink.old) []) (S.state sink.new)) }
-    {
-        self.line = self.next_line;
-        let state = last_state(self.mode.text, self.pending.place());
-        self.tell_run(sink)?;
-        self.tell_held(table, sink)?;
-        self.errors.at_end(state, self.line)?;
-        self.tell_errors(sink)?;
-        sink.process_token(Token::EOFToken, self.line)?;
-        sink.end()
-    }
-
-    // tells what stands in what is held back before the end
-    fn tell_held<S: TokenSink>(
-        &mut self,
-        table: &ReferenceTable,
-        sink: &mut S,
-    ) -> Result<(), ParseFault>
-        requires ready { S.ready (S.state sink.old) }
-        requires run { string_bytes self.old.run ≡ [] }
-        ensures ready { OnOk result (S.ready (S.state sink.new)) }
-        ensures run { OnOk result (string_bytes self.new.run ≡ []) }
-        ensures told { OnOk result (Leaves table.now S.step S.reply S.foreign self.old.mode self.old.pending.place (chars (string_bytes self.old.pending.held)) (S.state sink.old) (S.step (S.state sink.new) end_of_file)) }
-    {
-        let foreign = sink.adjusted_current_node_present_but_not_in_html_namespace();
-        let alloc = *self.run.allocator();
-        let (place, held) = self.pending.take_all();
-        let errors = &mut self.errors;
-        find_last_errors(errors, table, self.start, place, held.as_str(), self.line)?;
-        match lexeme_from(alloc, table, foreign, &self.mode, place, held.as_str())? {
-            Lexeme::Nothing => Ok(()),
-            Lexeme::Told(tokens, text, rest) => {
-                self.tell_items(sink, tokens)?;
-                self.mode.text = text;
-                self.tell_rest(table, sink, rest)
-            }
-            Lexeme::Tagged(tag, rest) => {
-                self.tell_errors(sink)?;
-                self.tell_tag(sink, tag)?;
-                self.tell_rest(table, sink, rest)
-            }
-        }
-    }
-
-    // tells what stands in a text before its end
-    fn tell_rest<S: TokenSink>(
-        &mut self,
-        table: &ReferenceTable,
-        sink: &mut S,
-        rest: &str,
-    ) -> Result<(), ParseFault>
-        requires ready { S.ready (S.state sink.old) }
-        ensures ready { OnOk result (S.ready (S.state sink.new)) }
-        ensures run { self.new.run ≡ self.old.run }
-        ensures told { OnOk result (Reading table.now S.step S.reply S.foreign self.old.mode (S.state sink.old) (chars rest.now) (S.step (S.state sink.new) end_of_file)) }
-    {
-        let alloc = *self.run.allocator();
-        let mode = mem::replace(
-            &mut self.mode,
-            Mode {
-                text: TextKind::Ordinary,
-                last_start_tag: None,
-            },
-        );
-        tell_lexemes(alloc, sink, table, mode, rest, self.line)
-    }
-
     // goes on behind a further character of markup
     fn advance<S: TokenSink>(
         &mut self,
@@ -423,16 +372,22 @@ impl Reader {
         advance: Advance,
         c: char,
     ) -> Result<Option<Pause<S::Handle>>, ParseFault>
-        requires ready { S.ready (S.state sink.old) }
+        requires ready { IsReadyFor S.ready S.welcomes self.old.mode.text (S.state sink.old) }
         requires scalar { IsScalar c }
         requires left { IsLeft advance self.old.pending.place }
-        ensures ready { OnOk result (S.ready (S.state sink.new)) }
+        requires placed { IsWithinKind self.old.mode.text advance self.old.pending.place }
+        ensures memory { IfErr result (λ e. e ≡ Memory) }
+        ensures placed { OnOk result (IsPlaceOf self.new.mode.text self.new.pending.place) }
+        ensures ready { OnOk result (IsReadyFor S.ready S.welcomes self.new.mode.text (S.state sink.new)) }
         ensures holds { OnOk result ((foreign : Bool) (place : SeenPlace) (held : List ℕ) →
             Advances table.now foreign self.old.mode place held c advance self.old.pending.place (chars (string_bytes self.old.pending.held)) → Holds table.now self.new) }
         ensures asks { IfOk result (λ pause. (place : SeenPlace) (held : List ℕ) →
             Advances table.now (S.foreign (state_of S.step self.old (S.state sink.old))) self.old.mode place held c advance self.old.pending.place (chars (string_bytes self.old.pending.held)) →
             Asks S.step S.reply pause (S.state sink.old) (S.state sink.new)) }
         ensures paused { IfOk result (λ pause. IfSome pause (λ _. HoldsNothing self.new)) }
+        ensures greater { IfOk result (λ pause. (place : SeenPlace) (held : List ℕ) →
+            Advances table.now (S.foreign (state_of S.step self.old (S.state sink.old))) self.old.mode place held c advance self.old.pending.place (chars (string_bytes self.old.pending.held)) →
+            IfSome pause (λ _. c ≡ greater)) }
         ensures reads { OnOk result ((place : SeenPlace) (held : List ℕ) →
             Advances table.now (S.foreign (state_of S.step self.old (S.state sink.old))) self.old.mode place held c advance self.old.pending.place (chars (string_bytes self.old.pending.held)) →
             (rest : List ℕ) (final : S.Abstract) →
@@ -441,7 +396,10 @@ impl Reader {
     {
         match advance {
             Advance::Goes => Ok(None),
-            Advance::Ends(place, held) => self.tell_lexeme(table, sink, place, held),
+            Advance::Ends(place, held) => {
+                tag_ends_with_its_mark();
+                self.tell_lexeme(table, sink, place, held)
+            }
             Advance::EndsBefore(place, held) => {
                 find_errors_before(&mut self.errors, place, c, self.line)?;
                 self.tell_lexeme(table, sink, place, held)?;
@@ -453,8 +411,9 @@ impl Reader {
 
     // whether the adjusted current node is foreign, where that matters: behind `<!`, once the text before it is told
     fn is_foreign<S: TokenSink>(&mut self, sink: &mut S) -> Result<bool, ParseFault>
-        requires { S.ready (S.state sink.old) }
-        ensures ready { OnOk result (S.ready (S.state sink.new)) }
+        requires { IsReadyFor S.ready S.welcomes self.old.mode.text (S.state sink.old) }
+        ensures memory { IfErr result (λ e. e ≡ Memory) }
+        ensures ready { OnOk result (IsReadyFor S.ready S.welcomes self.new.mode.text (S.state sink.new)) }
         ensures state { OnOk result (state_of S.step self.new (S.state sink.new) ≡ state_of S.step self.old (S.state sink.old)) }
         ensures tells { OnOk result (TellsOn S.step S.reply (S.state sink.old) (S.state sink.new)) }
         ensures foreign { IfOk result (λ f. self.old.pending.place ≡ DeclarationPlace → S.foreign (state_of S.step self.old (S.state sink.old)) ≡ f) }
@@ -471,10 +430,12 @@ impl Reader {
     // takes the first character of a lexeme; always inlined, since most characters come here alone
     #[inline(always)]
     fn begin<S: TokenSink>(&mut self, sink: &mut S, c: char) -> Result<(), ParseFault>
-        requires ready { S.ready (S.state sink.old) }
+        requires ready { IsReadyFor S.ready S.welcomes self.old.mode.text (S.state sink.old) }
         requires place { self.old.pending.place ≡ TextPlace }
         requires scalar { IsScalar c }
-        ensures ready { OnOk result (S.ready (S.state sink.new)) }
+        ensures memory { IfErr result (λ e. e ≡ Memory) }
+        ensures placed { OnOk result (IsPlaceOf self.new.mode.text self.new.pending.place) }
+        ensures ready { OnOk result (IsReadyFor S.ready S.welcomes self.new.mode.text (S.state sink.new)) }
         ensures holds { OnOk result ((table : References) → Holds table self.new) }
         ensures tells { OnOk result (TellsOn S.step S.reply (S.state sink.old) (S.state sink.new)) }
         ensures reads { OnOk result ((table : References) (rest : List ℕ) (final : S.Abstract) →
@@ -494,9 +455,10 @@ impl Reader {
     // Reads a character as text. Errors are told before it; before a LF, which they could change, they are not.
     #[inline(always)]
     fn read_text<S: TokenSink>(&mut self, sink: &mut S, c: char) -> Result<(), ParseFault>
-        requires ready { S.ready (S.state sink.old) }
+        requires ready { IsReadyFor S.ready S.welcomes self.old.mode.text (S.state sink.old) }
         requires scalar { IsScalar c }
-        ensures ready { OnOk result (S.ready (S.state sink.new)) }
+        ensures memory { IfErr result (λ e. e ≡ Memory) }
+        ensures ready { OnOk result (IsReadyFor S.ready S.welcomes self.new.mode.text (S.state sink.new)) }
         ensures tells { OnOk result (TellsOn S.step S.reply (S.state sink.old) (S.state sink.new)) }
         ensures told { OnOk result (state_of S.step self.new (S.state sink.new) ≡ S.step (state_of S.step self.old (S.state sink.old)) (characters (c ∷ []))) }
         ensures mode { self.new.mode ≡ self.old.mode }
@@ -513,8 +475,10 @@ impl Reader {
 
     // tells a NUL of ordinary text
     fn tell_null<S: TokenSink>(&mut self, sink: &mut S) -> Result<(), ParseFault>
-        requires { S.ready (S.state sink.old) }
-        ensures ready { OnOk result (S.ready (S.state sink.new)) }
+        requires ready { IsReadyFor S.ready S.welcomes self.old.mode.text (S.state sink.old) }
+        requires kind { HasMarkup self.old.mode.text }
+        ensures memory { IfErr result (λ e. e ≡ Memory) }
+        ensures ready { OnOk result (IsReadyFor S.ready S.welcomes self.new.mode.text (S.state sink.new)) }
         ensures tells { OnOk result (TellsOn S.step S.reply (S.state sink.old) (S.state sink.new)) }
         ensures told { OnOk result (S.state sink.new ≡ S.step (state_of S.step self.old (S.state sink.old)) null_character) }
         ensures run { OnOk result (string_bytes self.new.run ≡ []) }
@@ -534,9 +498,11 @@ impl Reader {
         place: Place,
         held: String,
     ) -> Result<Option<Pause<S::Handle>>, ParseFault>
-        requires ready { S.ready (S.state sink.old) }
+        requires ready { IsReadyFor S.ready S.welcomes self.old.mode.text (S.state sink.old) }
         requires place { self.old.pending.place ≡ TextPlace }
-        ensures ready { OnOk result (S.ready (S.state sink.new)) }
+        requires placed { IsPlaceOf self.old.mode.text place }
+        ensures memory { IfErr result (λ e. e ≡ Memory) }
+        ensures ready { OnOk result (IsReadyFor S.ready S.welcomes self.new.mode.text (S.state sink.new)) }
         ensures place { OnOk result (self.new.pending.place ≡ TextPlace) }
         ensures asks { IfOk result (λ pause. Asks S.step S.reply pause (S.state sink.old) (S.state sink.new)) }
         ensures untagged { IfOk result (λ pause. IsUntagged (place_lexeme table.now (S.foreign (state_of S.step self.old (S.state sink.old))) self.old.mode place (chars (string_bytes held))) → pause ≡ None) }
@@ -546,6 +512,7 @@ impl Reader {
             Reads table.now S.step S.reply S.foreign self.new (S.state sink.new) (follow ++ rest) final →
             Leaves table.now S.step S.reply S.foreign self.old.mode place (chars (string_bytes held) ++ (follow ++ rest)) (state_of S.step self.old (S.state sink.old)) final) }
     {
+        place_of_a_kind();
         self.tell_run(sink)?;
         let errors = &mut self.errors;
         find_errors(errors, table, self.start, place, held.as_str(), self.line)?;

@@ -1,5 +1,5 @@
 ghost use Rattle.std.specs.Prelude.{◌≡◌};
-ghost use Rattle.html_tokenizer.specs.Completes.{result_of};
+ghost use Rattle.html_tokenizer.specs.Inside.{result_of};
 
 use crate::reader::Pause;
 use html_lexemes::Text;

@@ -1,12 +1,15 @@
-ghost use Rattle.std.specs.Prelude.{◌≡◌, ◌++◌, ◌∷◌, ℕ, List, [], IfOk, IfSome, OnOk, true, false, length, ◌<◌, Ok, Err, is_err};
+ghost use Rattle.std.specs.Prelude.{◌≡◌, ◌++◌, ◌∷◌, ℕ, List, [], IfErr, IfOk, IfSome, OnOk, true, false, length, ◌<◌, Ok, Err, is_err};
 ghost use Rattle.std.specs.Char.{IsScalar};
-ghost use Rattle.html_lexemes.specs.declared.fault.ParseFault.TheVariants.{Failed};
+ghost use Rattle.html_lexemes.specs.declared.fault.ParseFault.TheVariants.{Failed, Memory};
 ghost use Rattle.html_grammar.specs.FirstMode.{first_mode};
+ghost use Rattle.html_grammar.specs.Kinds.{IsReadyFor};
+ghost use Rattle.html_grammar.specs.Modes.{text_of_state};
 ghost use Rattle.html_grammar.specs.PageText.{page_text};
 ghost use Rattle.html_grammar.specs.Reading.{IsClosed, Reading};
+ghost use Rattle.html_grammar.specs.Tags.{greater};
+ghost use Rattle.html_tokenizer.specs.Fits.{IsFitReader};
 ghost use Rattle.html_tokenizer.specs.GoingProp.{HoldsUnless-prop};
 ghost use Rattle.html_tokenizer.specs.Holdings.{Holds, HoldsUnless};
-ghost use Rattle.html_tokenizer.specs.PageRest.{page_rest};
 ghost use Rattle.html_tokenizer.specs.Tells.{Asks};
 
 use crate::line_ends::LineEnds;
@@ -19,8 +22,8 @@ use lexeme_places::laws::going_is_no_lexeme;
 use std::alloc::Global;
 
 /// Reads the text of a page, in any pieces, and tells its tokens to a sink (WHATWG HTML, 13.2.5). What it tells is what
-/// the reading of the whole text by the grammar tells, however the text is cut. Parse errors are told before what follows them; they
-/// change nothing else.
+/// the reading of the whole text by the grammar tells, however the text is cut. Parse errors are told before what follows
+/// them; they change nothing else.
 #[derive(Drop)]
 pub struct Tokenizer<Sink> {
     /// What the tokens are told to. Nobody else is to change its state before the end.
@@ -34,17 +37,25 @@ pub struct Tokenizer<Sink> {
 }
 
 impl<Sink: TokenSink> Tokenizer<Sink> {
-    ghost use Rattle.html_tokenizer.specs.Completes.{Answers, Completes, HasTold, IsEmptied, IsUndecided, TakesSome, has_failed, is_text_state, nothing_pending, plain_mode};
+    ghost use Rattle.html_tokenizer.specs.Completes.{Answers, Completes, HasTold, IsEmptied, IsFit, IsUndecided, PausesBehind, TakesSome, has_failed, is_text_state, last_start_tag_of, nothing_pending, plain_mode, table_of, text_left};
+    ghost use Rattle.html_tokenizer.specs.Inside as inside;
 
-    /// Before the first character of a page. The sink is in the state in which the page is to be told to it.
+    /// Before the first character of a page. The sink is in the state in which the page is to be told to it, and ready
+    /// for the kind of text in which the page begins.
+    #[tactic(auto, unfolding(crate::specs::Completes::has_failed, crate::specs::Completes::IsFit, crate::specs::Completes::Completes, crate::specs::Completes::HasTold, crate::specs::Completes::IsEmptied, crate::specs::Completes::IsUndecided, crate::specs::Completes::table_of, crate::specs::Completes::last_start_tag_of, crate::specs::Completes::text_left))]
     pub fn new(
         alloc: Global,
         sink: Sink,
         opts: TokenizerOpts,
         table: ReferenceTable,
     ) -> Tokenizer<Sink>
+        requires { IsReadyFor Sink.ready Sink.welcomes (text_of_state opts.initial_state) (Sink.state sink) }
         ensures sink { result.sink ≡ sink }
         ensures works { has_failed result ≡ false }
+        ensures fit { IsFit Sink.state Sink.ready Sink.welcomes result }
+        ensures table { table_of result ≡ table }
+        ensures last { last_start_tag_of result ≡ opts.last_start_tag_name }
+        ensures left { (page : List ℕ) → text_left result page ≡ page_text opts.discard_bom page }
         ensures begins { (page : List ℕ) (final : Sink.Abstract) → Completes Sink.state Sink.step Sink.reply Sink.foreign result page final →
             Reading table Sink.step Sink.reply Sink.foreign (first_mode opts) (Sink.state sink) (page_text opts.discard_bom page) final }
     {
@@ -68,21 +79,28 @@ impl<Sink: TokenSink> Tokenizer<Sink> {
     }
 
     /// Reads what is in the queue, up to its end or to a pause that the sink asks for, after which the same queue is fed on.
-    /// It pauses exactly where the sink asks, right behind the tag's `>`, and holds nothing back then. At `Done` all text that was read is told, and what is
-    /// held back is the beginning of a lexeme that what follows decides. The error is want of memory, or what the sink
-    /// refused with; after it, and after the end, every call is refused as `Failed`.
+    /// It pauses exactly where the sink asks, right behind the tag's `>`, and holds nothing back then. At `Done` all text
+    /// that was read is told, and what is held back is the beginning of a lexeme that what follows decides. The error is
+    /// want of memory; after it, and after the end, every call is refused as `Failed` and takes nothing from the queue.
+    #[tactic(auto, unfolding(crate::specs::Completes::has_failed, crate::specs::Completes::IsFit, crate::specs::Completes::Completes, crate::specs::Completes::HasTold, crate::specs::Completes::IsEmptied, crate::specs::Completes::IsUndecided, crate::specs::Completes::table_of))]
     pub fn feed(
         &mut self,
         queue: &mut BufferQueue,
     ) -> Result<TokenizerResult<Sink::Handle>, ParseFault>
-        requires { Sink.ready (Sink.state self.old.sink) }
+        requires { IsFit Sink.state Sink.ready Sink.welcomes self.old }
+        ensures fit { IsFit Sink.state Sink.ready Sink.welcomes self.new }
         ensures ready { OnOk result (Sink.ready (Sink.state self.new.sink)) }
+        ensures memory { has_failed self.old ≡ false → IfErr result (λ e. e ≡ Memory) }
         ensures failed { has_failed self.old ≡ true → result ≡ Err Failed }
         ensures kept { has_failed self.old ≡ true → (self.new ≡ self.old) × (queue.new ≡ queue.old) }
         ensures works { has_failed self.new ≡ is_err result }
+        ensures table { table_of self.new ≡ table_of self.old }
         ensures takes { OnOk result (TakesSome queue.old queue.new) }
         ensures done { result ≡ Ok TokenizerResult.Done → (queue.new.text ≡ []) × (HasTold self.new × IsUndecided self.new) }
-        ensures pauses { IfOk result (λ r. (r ≡ TokenizerResult.Done → ⊥) → (length queue.new.text < length queue.old.text) × IsEmptied self.new) }
+        ensures pauses { IfOk result (λ r. (r ≡ TokenizerResult.Done → ⊥) →
+            (length queue.new.text < length queue.old.text) × IsEmptied self.new) }
+        ensures behind { IfOk result (λ r. (r ≡ TokenizerResult.Done → ⊥) → PausesBehind Sink.state Sink.step Sink.reply Sink.foreign greater
+            (Sink.state self.old.sink) (Completes Sink.state Sink.step Sink.reply Sink.foreign self.old) queue.old queue.new) }
         ensures asks { IfOk result (λ r. Answers Sink.step Sink.reply r (Sink.state self.old.sink) (Sink.state self.new.sink)) }
         ensures reads { OnOk result ((rest : List ℕ) (final : Sink.Abstract) →
             Completes Sink.state Sink.step Sink.reply Sink.foreign self.new (queue.new.text ++ rest) final →
@@ -100,11 +118,16 @@ impl<Sink: TokenSink> Tokenizer<Sink> {
 
     /// Feeds on, over pauses, until the queue is empty. The errors are those of `feed`.
     pub fn feed_on(&mut self, queue: &mut BufferQueue) -> Result<(), ParseFault>
-        requires { Sink.ready (Sink.state self.old.sink) }
+        requires { IsFit Sink.state Sink.ready Sink.welcomes self.old }
+        ensures fit { IsFit Sink.state Sink.ready Sink.welcomes self.new }
         ensures ready { OnOk result (Sink.ready (Sink.state self.new.sink)) }
+        ensures memory { has_failed self.old ≡ false → IfErr result (λ e. e ≡ Memory) }
         ensures failed { has_failed self.old ≡ true → result ≡ Err Failed }
+        ensures kept { has_failed self.old ≡ true → (self.new ≡ self.old) × (queue.new ≡ queue.old) }
         ensures works { has_failed self.new ≡ is_err result }
-        ensures done { OnOk result (queue.new.text ≡ []) }
+        ensures table { table_of self.new ≡ table_of self.old }
+        ensures takes { OnOk result (TakesSome queue.old queue.new) }
+        ensures done { OnOk result ((queue.new.text ≡ []) × (HasTold self.new × IsUndecided self.new)) }
         ensures reads { OnOk result ((rest : List ℕ) (final : Sink.Abstract) →
             Completes Sink.state Sink.step Sink.reply Sink.foreign self.new rest final →
             Completes Sink.state Sink.step Sink.reply Sink.foreign self.old (queue.old.text ++ rest) final) }
@@ -118,22 +141,28 @@ impl<Sink: TokenSink> Tokenizer<Sink> {
 
     // reads on, where no call was refused
     fn read(&mut self, queue: &mut BufferQueue) -> Result<TokenizerResult<Sink::Handle>, ParseFault>
-        requires ready { Sink.ready (Sink.state self.old.sink) }
-        requires over { has_failed self.old ≡ true }
+        requires fit { IsFitReader Sink.ready Sink.welcomes self.old.reader (Sink.state self.old.sink) }
+        requires over { self.old.is_over ≡ true }
         requires holds { Holds self.old.table self.old.reader }
-        ensures ready { OnOk result (Sink.ready (Sink.state self.new.sink)) }
-        ensures over { has_failed self.new ≡ true }
+        ensures memory { IfErr result (λ e. e ≡ Memory) }
+        ensures fit { OnOk result (IsFitReader Sink.ready Sink.welcomes self.new.reader (Sink.state self.new.sink)) }
+        ensures over { self.new.is_over ≡ true }
+        ensures table { self.new.table ≡ self.old.table }
         ensures holds { OnOk result (Holds self.new.table self.new.reader) }
         ensures takes { OnOk result (TakesSome queue.old queue.new) }
-        ensures done { result ≡ Ok TokenizerResult.Done → (queue.new.text ≡ []) × (HasTold self.new × IsUndecided self.new) }
-        ensures pauses { IfOk result (λ r. (r ≡ TokenizerResult.Done → ⊥) → (length queue.new.text < length queue.old.text) × IsEmptied self.new) }
+        ensures done { result ≡ Ok TokenizerResult.Done → (queue.new.text ≡ []) × (inside.HasTold self.new × inside.IsUndecided self.new) }
+        ensures pauses { IfOk result (λ r. (r ≡ TokenizerResult.Done → ⊥) →
+            (length queue.new.text < length queue.old.text) × inside.IsEmptied self.new) }
+        ensures behind { IfOk result (λ r. (r ≡ TokenizerResult.Done → ⊥) → PausesBehind Sink.state Sink.step Sink.reply Sink.foreign greater
+            (Sink.state self.old.sink) (inside.Completes Sink.state Sink.step Sink.reply Sink.foreign self.old) queue.old queue.new) }
         ensures asks { IfOk result (λ r. Answers Sink.step Sink.reply r (Sink.state self.old.sink) (Sink.state self.new.sink)) }
         ensures reads { OnOk result ((rest : List ℕ) (final : Sink.Abstract) →
-            Completes Sink.state Sink.step Sink.reply Sink.foreign self.new (queue.new.text ++ rest) final →
-            Completes Sink.state Sink.step Sink.reply Sink.foreign self.old (queue.old.text ++ rest) final) }
+            inside.Completes Sink.state Sink.step Sink.reply Sink.foreign self.new (queue.new.text ++ rest) final →
+            inside.Completes Sink.state Sink.step Sink.reply Sink.foreign self.old (queue.old.text ++ rest) final) }
     {
         'characters: while let Some(c) = queue.next() {
             if let Some(pause) = self.take(c)? {
+                going_is_no_lexeme(&self.table);
                 return Ok(result_of(pause));
             }
         }
@@ -144,19 +173,21 @@ impl<Sink: TokenSink> Tokenizer<Sink> {
 
     // takes a further character of the page
     fn take(&mut self, c: char) -> Result<Option<Pause<Sink::Handle>>, ParseFault>
-        requires ready { Sink.ready (Sink.state self.old.sink) }
-        requires over { has_failed self.old ≡ true }
+        requires fit { IsFitReader Sink.ready Sink.welcomes self.old.reader (Sink.state self.old.sink) }
+        requires over { self.old.is_over ≡ true }
         requires holds { Holds self.old.table self.old.reader }
         requires scalar { IsScalar c }
-        ensures ready { OnOk result (Sink.ready (Sink.state self.new.sink)) }
-        ensures over { has_failed self.new ≡ true }
+        ensures memory { IfErr result (λ e. e ≡ Memory) }
+        ensures fit { OnOk result (IsFitReader Sink.ready Sink.welcomes self.new.reader (Sink.state self.new.sink)) }
+        ensures over { self.new.is_over ≡ true }
         ensures table { self.new.table ≡ self.old.table }
         ensures holds { OnOk result (Holds self.new.table self.new.reader) }
         ensures asks { IfOk result (λ pause. Asks Sink.step Sink.reply pause (Sink.state self.old.sink) (Sink.state self.new.sink)) }
-        ensures paused { IfOk result (λ pause. IfSome pause (λ _. IsEmptied self.new)) }
+        ensures paused { IfOk result (λ pause. IfSome pause (λ _. inside.IsEmptied self.new)) }
+        ensures greater { IfOk result (λ pause. IfSome pause (λ _. c ≡ greater)) }
         ensures reads { OnOk result ((rest : List ℕ) (final : Sink.Abstract) →
-            Completes Sink.state Sink.step Sink.reply Sink.foreign self.new rest final →
-            Completes Sink.state Sink.step Sink.reply Sink.foreign self.old (c ∷ rest) final) }
+            inside.Completes Sink.state Sink.step Sink.reply Sink.foreign self.new rest final →
+            inside.Completes Sink.state Sink.step Sink.reply Sink.foreign self.old (c ∷ rest) final) }
     {
         let ended = self.line_ends.ended(c);
         self.line_ends = LineEnds::behind(c);
@@ -171,6 +202,7 @@ impl<Sink: TokenSink> Tokenizer<Sink> {
 
     /// Whether the state is one of text (`Data`, `Plaintext` or `RawData`), and not one within markup. In a character
     /// reference in text it is.
+    #[tactic(auto, unfolding(crate::specs::Completes::is_text_state))]
     pub fn is_text_state(&self) -> bool
         ensures { result ≡ is_text_state self.now }
     {
@@ -178,6 +210,7 @@ impl<Sink: TokenSink> Tokenizer<Sink> {
     }
 
     /// Whether no character that was read is held back.
+    #[tactic(auto, unfolding(crate::specs::Completes::nothing_pending))]
     pub fn nothing_pending(&self) -> bool
         ensures { result ≡ nothing_pending self.now }
     {
@@ -186,21 +219,27 @@ impl<Sink: TokenSink> Tokenizer<Sink> {
 
     /// Goes on with all that follows as text (WHATWG HTML, 13.2.5.5). It is asked for in a state of text, with nothing
     /// pending.
+    #[tactic(auto, unfolding(crate::specs::Completes::has_failed, crate::specs::Completes::IsFit, crate::specs::Completes::Completes, crate::specs::Completes::HasTold, crate::specs::Completes::IsEmptied, crate::specs::Completes::IsUndecided, crate::specs::Completes::table_of, crate::specs::Completes::is_text_state, crate::specs::Completes::nothing_pending))]
     pub fn set_plaintext_state(&mut self)
         requires text { is_text_state self.old ≡ true }
         requires nothing { nothing_pending self.old ≡ true }
         ensures sink { self.new.sink ≡ self.old.sink }
         ensures works { has_failed self.new ≡ has_failed self.old }
+        ensures fit { IsFit Sink.state Sink.ready Sink.welcomes self.old → IsFit Sink.state Sink.ready Sink.welcomes self.new }
+        ensures table { table_of self.new ≡ table_of self.old }
         ensures plain { (rest : List ℕ) (final : Sink.Abstract) → Completes Sink.state Sink.step Sink.reply Sink.foreign self.new rest final →
-            Reading self.old.table Sink.step Sink.reply Sink.foreign (plain_mode self.old) (Sink.state self.old.sink) (page_rest self.old.line_ends rest) final }
+            Reading (table_of self.old) Sink.step Sink.reply Sink.foreign (plain_mode (last_start_tag_of self.old)) (Sink.state self.old.sink) (text_left self.old rest) final }
     {
         self.reader.set_plaintext();
     }
 
     /// Tells what the end of the page makes of what is held back, one `EOFToken`, and that nothing more is told. The error is
-    /// want of memory, or what the sink refused with. After it every call is refused as `Failed`.
+    /// want of memory. After it every call is refused as `Failed`.
+    #[tactic(auto, unfolding(crate::specs::Completes::has_failed, crate::specs::Completes::IsFit, crate::specs::Completes::Completes, crate::specs::Completes::HasTold, crate::specs::Completes::IsEmptied, crate::specs::Completes::IsUndecided, crate::specs::Completes::table_of))]
     pub fn end(&mut self) -> Result<(), ParseFault>
-        requires { Sink.ready (Sink.state self.old.sink) }
+        requires { IsFit Sink.state Sink.ready Sink.welcomes self.old }
+        ensures fit { IsFit Sink.state Sink.ready Sink.welcomes self.new }
+        ensures memory { has_failed self.old ≡ false → IfErr result (λ e. e ≡ Memory) }
         ensures failed { has_failed self.old ≡ true → result ≡ Err Failed }
         ensures kept { has_failed self.old ≡ true → self.new ≡ self.old }
         ensures over { has_failed self.new ≡ true }

@@ -11,6 +11,7 @@ pub mod HeldLemmas
 pub mod MarkupHeld
 pub mod MarkupOpenEnds
 pub mod OpenLemmas
+pub mod PlaceKindLemmas
 pub mod RawOpenEnds
 pub mod RawTextLemmas
 pub mod ReferenceLexemes
@@ -19,6 +20,7 @@ pub mod ReferenceOpenEnds
 pub mod ReferencePlaces
 pub mod SectionLemmas
 pub mod SlicesGoOn
+pub mod TagMarks
 pub mod TagSteps
 pub mod TagTurnLemmas
 pub mod TagsGoOn

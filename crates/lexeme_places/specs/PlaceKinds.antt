@@ -1,5 +1,11 @@
 -- Kinds of places.
 use Rattle.std.specs.Prelude.{Bool, true, false}
+use Rattle.html_grammar.specs.Kinds.{HasMarkup, IsOfTag}
+use Rattle.html_grammar.specs.declared.modes.TextKind.{TextKind}
+use Rattle.lexeme_places.specs.declared.first.First.{First}
+use Rattle.lexeme_places.specs.declared.first.First.TheVariants.{Text as FirstText, Null, Opens, OpensRaw}
+use Rattle.lexeme_places.specs.declared.turn.Turn.{Turn}
+use Rattle.lexeme_places.specs.declared.turn.Turn.TheVariants.{Goes, Ends, EndsBefore}
 use Rattle.lexeme_places.specs.declared.place.Place.{Place}
 use Rattle.lexeme_places.specs.declared.place.Place.TheVariants.{Text, CharacterReference, TagOpen, EndTagOpen, Tag, MarkupDeclarationOpen, BogusComment, Comment, Doctype, CdataSection, RawText}
 
@@ -42,3 +48,30 @@ IsWithinMarkup MarkupDeclarationOpen = Unit {0}
 IsWithinMarkup BogusComment = Unit {0}
 IsWithinMarkup Comment = Unit {0}
 IsWithinMarkup Doctype = Unit {0}
+
+-- A place that text of a kind may have: ordinary text alone has markup, but for the end tags of an element's text. A
+-- reference, and a place in an element's text, are asked nothing more.
+abbrev pub IsPlaceOf : TextKind → Place → Type 0
+IsPlaceOf kind Text = Unit {0}
+IsPlaceOf kind (CharacterReference place) = Unit {0}
+IsPlaceOf kind (RawText raw place) = Unit {0}
+IsPlaceOf kind (Tag tag place) = IsOfTag kind tag
+IsPlaceOf kind TagOpen = HasMarkup kind
+IsPlaceOf kind EndTagOpen = HasMarkup kind
+IsPlaceOf kind MarkupDeclarationOpen = HasMarkup kind
+IsPlaceOf kind BogusComment = HasMarkup kind
+IsPlaceOf kind Comment = HasMarkup kind
+IsPlaceOf kind Doctype = HasMarkup kind
+IsPlaceOf kind CdataSection = HasMarkup kind
+
+abbrev pub IsFirstOf : TextKind → First → Type 0
+IsFirstOf kind (FirstText c) = Unit {0}
+IsFirstOf kind Null = HasMarkup kind
+IsFirstOf kind (Opens place) = IsPlaceOf kind place
+IsFirstOf kind (OpensRaw raw place) = Unit {0}
+
+-- A further character leads from a place to one in text of the same kind.
+abbrev pub KeepsKind : Place → Turn → Type 0
+KeepsKind place (Goes at) = (kind : TextKind) → IsPlaceOf kind place → IsPlaceOf kind at
+KeepsKind place (Ends at) = (kind : TextKind) → IsPlaceOf kind place → IsPlaceOf kind at
+KeepsKind place EndsBefore = Unit {0}

@@ -5,6 +5,7 @@ use Rattle.html_grammar.specs.Characters.{is_digit}
 use Rattle.html_grammar.specs.References.{is_x, semicolon}
 use Rattle.html_grammar.specs.declared.modes.Mode.{Mode}
 use Rattle.lexeme_places.specs.Turns.{Turns}
+use Rattle.lexeme_places.specs.declared.place.Place.{Place}
 use Rattle.lexeme_places.specs.declared.place.Place.TheVariants.{CharacterReference}
 use Rattle.lexeme_places.specs.declared.place.ReferencePlace.{ReferencePlace}
 use Rattle.lexeme_places.specs.declared.place.ReferencePlace.TheVariants.{HexadecimalStart, Decimal, Hexadecimal}
@@ -34,3 +35,13 @@ hexadecimal_turn c = if is_digit 16 c then goes Hexadecimal else EndsBefore
 -- behind digits to the base
 abbrev pub digit_turn : ReferencePlace → ℕ → ℕ → Turn
 digit_turn place base c = if is_digit base c then goes place else (if c == semicolon then Ends (CharacterReference place) else EndsBefore)
+
+-- It goes on, and ends, as a reference.
+abbrev pub IsReference : Place → Type 0
+IsReference (CharacterReference place) = Unit {0}
+IsReference _ = ⊥
+
+abbrev pub StaysInReference : Turn → Type 0
+StaysInReference (Goes at) = IsReference at
+StaysInReference (Ends at) = IsReference at
+StaysInReference EndsBefore = Unit {0}

@@ -3,6 +3,7 @@ ghost use Rattle.std.specs.Char.{IsScalar};
 ghost use Rattle.html_grammar.specs.declared.modes.TextKind.TheVariants.{Raw};
 ghost use Rattle.lexeme_places.specs.Firsts.{IsFirst};
 ghost use Rattle.lexeme_places.specs.Goings.{has_end_tag, is_name_of_letters, may_begin};
+ghost use Rattle.lexeme_places.specs.PlaceKinds.{IsFirstOf};
 ghost use Rattle.lexeme_places.specs.RawSound.{is_escaped};
 
 use crate::place::{Place, RawPlace, ReferencePlace};
@@ -30,7 +31,8 @@ pub enum First {
 #[inline(always)]
 pub fn first_of(last: &Option<LocalName>, text: TextKind, c: char) -> First
     requires { IsScalar c }
-    ensures { IsFirst last.now text c result }
+    ensures first { IsFirst last.now text c result }
+    ensures kind { IsFirstOf text result }
 {
     match text {
         TextKind::Ordinary => match c {
@@ -47,7 +49,8 @@ pub fn first_of(last: &Option<LocalName>, text: TextKind, c: char) -> First
 #[inline(never)]
 fn first_of_raw(last: &Option<LocalName>, kind: RawKind, c: char) -> First
     requires { IsScalar c }
-    ensures { IsFirst last.now (Raw kind) c result }
+    ensures first { IsFirst last.now (Raw kind) c result }
+    ensures kind { IsFirstOf (Raw kind) result }
 {
     if c == '<' && may_begin(last, kind) {
         return First::OpensRaw(kind, RawPlace::LessThanSign);

@@ -1,6 +1,6 @@
-ghost use Rattle.std.specs.Prelude.{◌≡◌, Bool, chars, string_bytes, IfOk, MatchOption};
+ghost use Rattle.std.specs.Prelude.{◌≡◌, Bool, chars, string_bytes, IfOk, IfSome, MatchOption};
 ghost use Rattle.html_grammar.specs.declared.modes.Mode.{Mode as SeenMode};
-ghost use Rattle.lexeme_places.specs.PlaceKinds.{IsNoMarkup};
+ghost use Rattle.lexeme_places.specs.PlaceKinds.{IsNoMarkup, KeepsKind};
 ghost use Rattle.lexeme_places.specs.Sound.{IsSound};
 ghost use Rattle.lexeme_places.specs.Turns.{Turns};
 ghost use Rattle.lexeme_places.specs.declared.place.Place.TheVariants.{MarkupDeclarationOpen};
@@ -25,9 +25,10 @@ pub fn markup_turn(
     c: char,
 ) -> Result<Option<Turn>, AllocError>
     requires { IsSound place (chars (string_bytes held.old)) }
-    ensures { IfOk result (λ done. MatchOption done (IsNoMarkup place × (held.new ≡ held.old))
+    ensures turns { IfOk result (λ done. MatchOption done (IsNoMarkup place × (held.new ≡ held.old))
         (λ turn. (asked : Bool) (mode : SeenMode) → (place ≡ MarkupDeclarationOpen → asked ≡ foreign) →
         Turns table.now asked mode place (chars (string_bytes held.old)) c turn (chars (string_bytes held.new)))) }
+    ensures kind { IfOk result (λ done. IfSome done (KeepsKind place)) }
 {
     let turn = match place {
         Place::CharacterReference(place) => reference_turn(table, place, held, c)?,

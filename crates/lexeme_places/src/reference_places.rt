@@ -1,7 +1,7 @@
 ghost use Rattle.std.specs.Prelude.{◌≡◌, ℕ, ◌≤◌, ◌∷◌, ◌++◌, Bool, IfOk, IsTrue, List, [], chars, string_bytes};
 ghost use Rattle.html_grammar.specs.declared.modes.Mode.{Mode as SeenMode};
 ghost use Rattle.lexeme_places.specs.ReferenceSound.{is_reference_held};
-ghost use Rattle.lexeme_places.specs.ReferenceTurns.{ReferenceTurns, digit_turn, goes, hexadecimal_turn, number_turn};
+ghost use Rattle.lexeme_places.specs.ReferenceTurns.{ReferenceTurns, StaysInReference, digit_turn, goes, hexadecimal_turn, number_turn};
 ghost use Rattle.lexeme_places.specs.Turns.{Turns};
 
 use crate::place::{Place, ReferencePlace};
@@ -17,8 +17,9 @@ pub(crate) fn reference_turn(
     c: char,
 ) -> Result<Turn, AllocError>
     requires { IsTrue (is_reference_held place (chars (string_bytes held.old))) }
-    ensures { IfOk result (λ turn. (foreign : Bool) (mode : SeenMode)
+    ensures turns { IfOk result (λ turn. (foreign : Bool) (mode : SeenMode)
         → Turns table.now foreign mode (Place.CharacterReference place) (chars (string_bytes held.old)) c turn (chars (string_bytes held.new))) }
+    ensures kind { IfOk result StaysInReference }
 {
     let length = held.len();
     held.push(c)?;
@@ -31,8 +32,9 @@ pub(crate) fn reference_turn(
 
 // What the last character of a text does.
 fn turn_behind(table: &ReferenceTable, place: ReferencePlace, text: &str, c: char) -> Turn
-    ensures { (held : List ℕ) → chars text.now ≡ held ++ c ∷ [] → IsTrue (is_reference_held place held)
+    ensures turns { (held : List ℕ) → chars text.now ≡ held ++ c ∷ [] → IsTrue (is_reference_held place held)
         → ReferenceTurns table.now place held c result }
+    ensures kind { StaysInReference result }
 {
     match place {
         ReferencePlace::Named => name_turn(table, text),
@@ -45,8 +47,9 @@ fn turn_behind(table: &ReferenceTable, place: ReferencePlace, text: &str, c: cha
 
 // What the last character of a name does.
 fn name_turn(table: &ReferenceTable, text: &str) -> Turn
-    ensures { (held : List ℕ) (c : ℕ) → chars text.now ≡ held ++ c ∷ [] → IsTrue (is_reference_held ReferencePlace.Named held)
+    ensures turns { (held : List ℕ) (c : ℕ) → chars text.now ≡ held ++ c ∷ [] → IsTrue (is_reference_held ReferencePlace.Named held)
         → ReferenceTurns table.now ReferencePlace.Named held c result }
+    ensures kind { StaysInReference result }
 {
     table.names_are_names();
     if text == "#" {

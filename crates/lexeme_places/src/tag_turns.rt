@@ -1,6 +1,7 @@
 ghost use Rattle.std.specs.Prelude.{Bool, chars, string_bytes, IfOk};
 ghost use Rattle.html_lexemes.specs.References.{References};
 ghost use Rattle.html_grammar.specs.declared.modes.Mode.{Mode as SeenMode};
+ghost use Rattle.lexeme_places.specs.PlaceKinds.{KeepsKind};
 ghost use Rattle.lexeme_places.specs.TagPlaces.{IsInTag};
 ghost use Rattle.lexeme_places.specs.Turns.{Turns};
 ghost use Rattle.lexeme_places.specs.declared.place.Place.TheVariants.{Tag};
@@ -18,7 +19,8 @@ pub(crate) fn tag_turn(
     c: char,
 ) -> Result<Turn, AllocError>
     requires { IsInTag kind place (chars (string_bytes held.old)) }
-    ensures { IfOk result (λ turn. (table : References) (foreign : Bool) (mode : SeenMode) → Turns table foreign mode (Tag kind place) (chars (string_bytes held.old)) c turn (chars (string_bytes held.new))) }
+    ensures turns { IfOk result (λ turn. (table : References) (foreign : Bool) (mode : SeenMode) → Turns table foreign mode (Tag kind place) (chars (string_bytes held.old)) c turn (chars (string_bytes held.new))) }
+    ensures kind { IfOk result (KeepsKind (Tag kind place)) }
 {
     held.push(c)?;
     match place.next(c) {

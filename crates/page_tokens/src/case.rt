@@ -1,9 +1,9 @@
 use crate::error::Error;
 use crate::escapes::{NO_TEXT, unescaped};
 use crate::tables::TableName;
-use html_grammar::TokenizerOpts;
-use html_lexemes::states::{RawKind, State};
-use html_lexemes::{LocalName, Text};
+use html_tokenizer::TokenizerOpts;
+use html_tokenizer::html_lexemes::states::{RawKind, State};
+use html_tokenizer::html_lexemes::{LocalName, Text};
 use std::alloc::{AllocError, Global};
 
 /// A page, and how it is read.

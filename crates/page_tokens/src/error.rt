@@ -1,4 +1,4 @@
-use html_lexemes::{ParseFault, TableError};
+use html_tokenizer::html_lexemes::{ParseFault, TableError};
 use std::alloc::AllocError;
 use std::io;
 

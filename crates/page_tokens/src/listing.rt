@@ -1,6 +1,6 @@
 //! The lines on the tokens of a case.
 use crate::escapes::{NO_TEXT, push_escaped};
-use html_lexemes::{Attribute, Doctype, Tag, TagKind, Text, Token};
+use html_tokenizer::html_lexemes::{Attribute, Doctype, Tag, TagKind, Text, Token};
 use std::alloc::{AllocError, Global};
 
 /// Lines, and the text whose line is still to come, since more may follow it.

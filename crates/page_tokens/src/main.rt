@@ -7,7 +7,6 @@ mod case;
 mod error;
 mod escapes;
 mod listing;
-mod sink;
 mod tables;
 mod telling;
 

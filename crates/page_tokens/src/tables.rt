@@ -1,4 +1,4 @@
-use html_lexemes::{ReferenceTable, TableError};
+use html_tokenizer::html_lexemes::{ReferenceTable, TableError};
 use std::alloc::Global;
 
 /// Which table of references a case is read with.

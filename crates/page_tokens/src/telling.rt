@@ -2,10 +2,9 @@
 use crate::case::Case;
 use crate::error::Error;
 use crate::listing::lines_of;
-use crate::sink::KeepingSink;
-use html_grammar::read_plainly;
-use html_tokenizer::read_pieces;
+use html_tokenizer::{read_pieces, read_plainly};
 use std::alloc::{AllocError, Global};
+use token_sinks::KeptTokens;
 
 /// The lines on the tokens of a case, on which the plain reader and the tokenizer agree, fed with the whole text and
 /// with one character after the other.
@@ -21,7 +20,7 @@ pub(crate) fn lines_told(alloc: Global, case: &Case) -> Result<String, Error> {
 }
 
 fn lines_read_plainly(alloc: Global, case: &Case) -> Result<String, Error> {
-    let mut sink = KeepingSink::new(alloc, case.foreign);
+    let mut sink = KeptTokens::new(alloc, case.foreign);
     let table = case.table.table(alloc)?;
     read_plainly(
         alloc,
@@ -35,7 +34,7 @@ fn lines_read_plainly(alloc: Global, case: &Case) -> Result<String, Error> {
 
 /// The lines on what the tokenizer tells, fed with some pieces. The sink asks for no pause.
 fn lines_fed(alloc: Global, case: &Case, pieces: Vec<String>) -> Result<String, Error> {
-    let sink = KeepingSink::new(alloc, case.foreign);
+    let sink = KeptTokens::new(alloc, case.foreign);
     let table = case.table.table(alloc)?;
     let told = read_pieces(alloc, sink, case.options()?, table, pieces)?;
     Ok(lines_of(alloc, told.tokens())?)

@@ -1,7 +1,8 @@
--- What a sink of tests asks for: text of a kind behind the start tags of three names, and a pause at two tags.
+-- What a sink of tests asks for: text of a kind behind the start tags of three names and the end tags of two, and a
+-- pause at two tags.
 use Rattle.std.specs.Prelude.{◌≡◌, ℕ, List, if◌then◌else◌, refl}
 use Rattle.std.specs.Str.{bytes_eq}
-use Rattle.html_lexemes.specs.declared.states.RawKind.TheVariants.{Rcdata, ScriptData}
+use Rattle.html_lexemes.specs.declared.states.RawKind.TheVariants.{Rcdata, Rawtext, ScriptData}
 use Rattle.html_lexemes.specs.declared.token.TagKind.{TagKind}
 use Rattle.html_lexemes.specs.declared.token.TagKind.TheVariants.{StartTag, EndTag}
 use Rattle.html_lexemes.specs.declared.token.TokenSinkResult.{TokenSinkResult}
@@ -17,7 +18,10 @@ pub record Names : Type 0 where
   pub encoding : List ℕ
 
 abbrev pub asked_by : Names → TagKind → List ℕ → TokenSinkResult ℕ
-asked_by names EndTag name = if bytes_eq name names.script then Script 7 else Continue
+asked_by names EndTag name =
+    if bytes_eq name names.script then Script 7
+    else (if bytes_eq name names.plaintext then Plaintext
+    else (if bytes_eq name names.meta then RawData Rawtext else Continue))
 asked_by names StartTag name =
     if bytes_eq name names.rcdata then RawData Rcdata
     else (if bytes_eq name names.script then RawData ScriptData

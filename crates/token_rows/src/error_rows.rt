@@ -2,7 +2,7 @@
 use crate::rows::{FOREIGN, HTML, NAMES, PLAINTEXT, SCRIPT, STYLE, Start, TITLE};
 
 /// A page, how it is read, and its errors.
-pub(crate) static ERRORS: [(Start, &str, &str); 74] = [
+pub(crate) static ERRORS: [(Start, &str, &str); 76] = [
     // no error
     (
         HTML,
@@ -99,6 +99,13 @@ pub(crate) static ERRORS: [(Start, &str, &str); 74] = [
         HTML,
         "&am;\n&amx; &am ;",
         "1: Invalid character reference\n2: Invalid character reference",
+    ),
+    // LF is white space, so no error by itself (13.2.5.80); what is missing is the semicolon (13.2.5.79)
+    (HTML, "&#10;", ""),
+    (
+        HTML,
+        "&#10",
+        "1: Semicolon missing after numeric character reference",
     ),
     (STYLE, "&#65&x;", ""),
     (
@@ -219,7 +226,7 @@ pub(crate) static EXACT_ERRORS: [(Start, &str, &str); 15] = [
 ];
 
 /// An ordinary page, and its tokens with the errors among them.
-pub(crate) static MARKED: [(&str, &str); 10] = [
+pub(crate) static MARKED: [(&str, &str); 13] = [
     ("a\0b", "text\ta\nerror\t1\tBad character\nnull\ntext\tb"),
     ("a\r\n<1", "text\ta\\n\nerror\t2\tBad character\ntext\t<1"),
     ("a</>b", "text\ta\nerror\t1\tBad character\ntext\tb"),
@@ -227,6 +234,13 @@ pub(crate) static MARKED: [(&str, &str); 10] = [
         "a&#65b",
         "text\ta\nerror\t1\tSemicolon missing after numeric character reference\ntext\tAb",
     ),
+    // right before a LF
+    ("a</>\nb", "text\ta\nerror\t1\tBad character\ntext\t\\nb"),
+    (
+        "a&#10b",
+        "text\ta\nerror\t1\tSemicolon missing after numeric character reference\ntext\t\\nb",
+    ),
+    ("a&#10;b", "text\ta\\nb"),
     (
         "a&#1;",
         "text\ta\nerror\t1\tInvalid numeric character reference\ntext\t\\u{1}",

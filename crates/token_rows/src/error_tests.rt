@@ -78,3 +78,22 @@ fn errors_are_told_in_their_place(rt: HostRuntime) -> Result<(), Fail> {
     }
     Ok(())
 }
+
+// A first U+FEFF is dropped, the page begins as ordinary text, and errors are told without what was seen.
+#[test]
+fn default_options_read_a_page(rt: HostRuntime) -> Result<(), Fail> {
+    let alloc = rt.alloc();
+    let sink = Marked::new(alloc, false);
+    let pieces = whole(alloc, "\u{feff}<p>\u{feff}&amp;\0")?;
+    let sink = fed(
+        alloc,
+        sink,
+        TokenizerOpts::default(),
+        HTML.table(alloc)?,
+        pieces,
+    )?;
+    let expected = "start\tp\t-\t-\ntext\t\\u{FEFF}&\nerror\t1\tBad character\nnull";
+    let is_so = sink.told.log.as_str() == expected;
+    holds(&rt, is_so, "default options");
+    Ok(())
+}

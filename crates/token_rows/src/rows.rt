@@ -97,8 +97,16 @@ pub(crate) const SCRIPT: Start = Start {
     discard_bom: false,
 };
 
-/// A text, how it is read, and the log of a `Collected` behind it.
-pub(crate) static ROWS: [(Start, &str, &str); 105] = [
+const SCRIPT_OF_X: Start = Start {
+    state: State::RawData(RawKind::ScriptData),
+    last: Some("x"),
+    foreign: false,
+    has_not: false,
+    discard_bom: false,
+};
+
+/// A text, how it is read, and the log of a `Collected` behind it: all kinds of markup, then tags and references.
+pub(crate) static TAGS_AND_REFERENCES: [(Start, &str, &str); 60] = [
     // tags, comments, sections and references together
     (
         HTML,
@@ -308,6 +316,12 @@ pub(crate) static ROWS: [(Start, &str, &str); 105] = [
         "&#99999999999999999999;&#xDFFF;&#xE000;&#x10FFFF;&#13;&#1;&#xA0;",
         "text\t\u{fffd}\u{fffd}\u{e000}\u{10ffff}\\r\\u{1}\u{a0}",
     ),
+    // a noncharacter is an error alone (13.2.5.80)
+    (HTML, "&#xFFFE;", "text\t\u{fffe}"),
+];
+
+/// The same: comments, doctypes, sections, text of elements, and line ends.
+pub(crate) static DECLARATIONS_AND_RAW_TEXT: [(Start, &str, &str); 61] = [
     // comments (13.2.5.41 to 13.2.5.52)
     (
         HTML,
@@ -338,6 +352,7 @@ pub(crate) static ROWS: [(Start, &str, &str); 105] = [
         "<!--a\0&amp;--><!\0>",
         "comment\ta\u{fffd}&amp;\ncomment\t\u{fffd}",
     ),
+    (HTML, "<!--a\0", "comment\ta\u{fffd}"),
     // doctypes (13.2.5.53 to 13.2.5.68)
     (HTML, "<!doctype", "doctype\t\\N\t\\N\t\\N\tquirks"),
     (HTML, "<!doctype A ", "doctype\ta\t\\N\t\\N\tquirks"),
@@ -383,6 +398,17 @@ pub(crate) static ROWS: [(Start, &str, &str); 105] = [
         "<!DOCTYPE a PUBLIC 'b' 'c",
         "doctype\ta\tb\tc\tquirks",
     ),
+    // the end right behind a keyword (13.2.5.57, 13.2.5.63)
+    (HTML, "<!DOCTYPE a PUBLIC", "doctype\ta\t\\N\t\\N\tquirks"),
+    (HTML, "<!DOCTYPE a SYSTEM", "doctype\ta\t\\N\t\\N\tquirks"),
+    // `/` ends no name (13.2.5.55)
+    (HTML, "<!DOCTYPE a/b>", "doctype\ta/b\t\\N\t\\N\t-"),
+    // the other quote ends no identifier (13.2.5.59)
+    (
+        HTML,
+        "<!DOCTYPE a PUBLIC \"b'c\">",
+        "doctype\ta\tb'c\t\\N\t-",
+    ),
     // sections (13.2.5.69 to 13.2.5.71)
     (FOREIGN, "<![CDATA[a]]]>b", "text\ta]b"),
     (
@@ -416,7 +442,24 @@ pub(crate) static ROWS: [(Start, &str, &str); 105] = [
         "<b></ title></title\na=b>&amp;",
         "text\t<b></ title>\nend\ttitle\t-\t-\nattribute\ta\tb\ntext\t&",
     ),
+    (TITLE, "<!--&lt;", "text\t<!--<"),
+    (
+        TITLE,
+        "a</title><b>",
+        "text\ta\nend\ttitle\t-\t-\nstart\tb\t-\t-",
+    ),
+    (
+        STYLE,
+        "a</stile></style>",
+        "text\ta</stile>\nend\tstyle\t-\t-",
+    ),
     (NO_ELEMENT, "</title>&amp;</", "text\t</title>&</"),
+    // FF ends the name of an end tag (13.2.5.11)
+    (
+        TITLE,
+        "a</title\u{c}b>c",
+        "text\ta\nend\ttitle\t-\t-\nattribute\tb\t\ntext\tc",
+    ),
     // script data (13.2.5.4, 13.2.5.15 to 13.2.5.31)
     (
         SCRIPT,
@@ -472,6 +515,42 @@ pub(crate) static ROWS: [(Start, &str, &str); 105] = [
         SCRIPT,
         "<!--<script>a</script",
         "text\t<!--<script>a</script",
+    ),
+    // behind `-->` in a double escaped part neither part goes on (13.2.5.29)
+    (
+        SCRIPT,
+        "<!--<script>--><script></script>a",
+        "text\t<!--<script>--><script>\nend\tscript\t-\t-\ntext\ta",
+    ),
+    // behind a double escaped part the escaped one goes on, and may have a further (13.2.5.31, 13.2.5.26)
+    (
+        SCRIPT,
+        "<!--<script></script><script></script></script>a",
+        "text\t<!--<script></script><script></script>\nend\tscript\t-\t-\ntext\ta",
+    ),
+    // `--!>` ends no escaped part (13.2.5.22)
+    (
+        SCRIPT,
+        "<!--a--!><script></script>b</script>c",
+        "text\t<!--a--!><script></script>b\nend\tscript\t-\t-\ntext\tc",
+    ),
+    // no reference in an escaped part (13.2.5.20)
+    (
+        SCRIPT,
+        "<!--&lt;--></script>",
+        "text\t<!--&lt;-->\nend\tscript\t-\t-",
+    ),
+    // `</script` that ends a double escaped part is text itself (13.2.5.31)
+    (
+        SCRIPT,
+        "<!--<script>x</script x",
+        "text\t<!--<script>x</script x",
+    ),
+    // `<script` alone begins a double escaped part, whichever element it is (13.2.5.26)
+    (
+        SCRIPT_OF_X,
+        "<!--<x></x>a",
+        "text\t<!--<x>\nend\tx\t-\t-\ntext\ta",
     ),
     // line ends and a first U+FEFF (13.2.3.5, 13.2.3)
     (HTML, "a\r\nb\rc\n\rd\r", "text\ta\\nb\\nc\\n\\nd\\n"),

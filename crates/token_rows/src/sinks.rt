@@ -58,9 +58,13 @@ impl TokenSink for Collected {
 
     ghost ready = { λ _. Unit {0} };
 
+    ghost welcomes = { λ _ _. Unit {0} };
+
     ghost close = { λ s. s };
 
     ghost lawful = { record { joins = λ _ _ _. refl; skips = λ _. refl; answers = λ _ _ _. refl; keeps = λ _ _ r. r; forgets = λ _ _ _. refl; still_answers = λ _ _. refl; still_foreign = λ _. refl } };
+
+    ghost hearing = { record { goes_on = λ _ _ _ _ _ h. h; asks = λ _ _ _ _ _. tt } };
 
     fn process_token(
         &mut self,
@@ -83,8 +87,8 @@ impl TokenSink for Collected {
 /// The handle of each script element.
 pub(crate) const SCRIPT_HANDLE: u32 = 7;
 
-/// Writes a log; has the text behind the start tags of three names read as text of a kind; and asks for a pause at the end tag
-/// of a script element, and at a tag that names an encoding.
+/// Writes a log; has the text behind the start tags of three names, and behind the end tags of two, read as text of a
+/// kind; and asks for a pause at the end tag of a script element, and at a start tag that names an encoding.
 #[derive(Drop)]
 pub(crate) struct Switching {
     /// What was told.
@@ -114,6 +118,8 @@ impl Switching {
     {
         Ok(match tag.kind {
             TagKind::EndTag if tag.name == self.script => TokenSinkResult::Script(SCRIPT_HANDLE),
+            TagKind::EndTag if tag.name == self.plaintext => TokenSinkResult::Plaintext,
+            TagKind::EndTag if tag.name == self.meta => TokenSinkResult::RawData(RawKind::Rawtext),
             TagKind::EndTag => TokenSinkResult::Continue,
             TagKind::StartTag if tag.name == self.rcdata => {
                 TokenSinkResult::RawData(RawKind::Rcdata)
@@ -145,9 +151,13 @@ impl TokenSink for Switching {
 
     ghost ready = { λ _. Unit {0} };
 
+    ghost welcomes = { λ _ _. Unit {0} };
+
     ghost close = { λ s. s };
 
     ghost lawful = { record { joins = λ _ _ _. refl; skips = λ _. refl; answers = λ s item other. asked-answers s item other; keeps = λ _ _ r. r; forgets = λ _ _ _. refl; still_answers = λ _ _. refl; still_foreign = λ _. refl } };
+
+    ghost hearing = { record { goes_on = λ _ _ _ _ _ h. h; asks = λ _ _ _ _ _. tt } };
 
     fn process_token(
         &mut self,
@@ -201,9 +211,13 @@ impl TokenSink for Counting {
 
     ghost ready = { λ _. Unit {0} };
 
+    ghost welcomes = { λ _ _. Unit {0} };
+
     ghost close = { λ s. s };
 
     ghost lawful = { record { joins = λ _ _ _. refl; skips = λ _. refl; answers = λ _ _ _. refl; keeps = λ _ _ r. r; forgets = λ _ _ _. refl; still_answers = λ _ _. refl; still_foreign = λ _. refl } };
+
+    ghost hearing = { record { goes_on = λ _ _ _ _ _ h. h; asks = λ _ _ _ _ _. tt } };
 
     fn process_token(
         &mut self,
@@ -262,9 +276,13 @@ impl TokenSink for Errors {
 
     ghost ready = { λ _. Unit {0} };
 
+    ghost welcomes = { λ _ _. Unit {0} };
+
     ghost close = { λ s. s };
 
     ghost lawful = { record { joins = λ _ _ _. refl; skips = λ _. refl; answers = λ _ _ _. refl; keeps = λ _ _ r. r; forgets = λ _ _ _. refl; still_answers = λ _ _. refl; still_foreign = λ _. refl } };
+
+    ghost hearing = { record { goes_on = λ _ _ _ _ _ h. h; asks = λ _ _ _ _ _. tt } };
 
     fn process_token(
         &mut self,
@@ -320,9 +338,13 @@ impl TokenSink for Marked {
 
     ghost ready = { λ _. Unit {0} };
 
+    ghost welcomes = { λ _ _. Unit {0} };
+
     ghost close = { λ s. s };
 
     ghost lawful = { record { joins = λ _ _ _. refl; skips = λ _. refl; answers = λ _ _ _. refl; keeps = λ _ _ r. r; forgets = λ _ _ _. refl; still_answers = λ _ _. refl; still_foreign = λ _. refl } };
+
+    ghost hearing = { record { goes_on = λ _ _ _ _ _ h. h; asks = λ _ _ _ _ _. tt } };
 
     fn process_token(
         &mut self,
@@ -343,6 +365,15 @@ impl TokenSink for Marked {
         self.told
             .adjusted_current_node_present_but_not_in_html_namespace()
     }
+}
+
+/// The log of some tokens.
+pub(crate) fn log_of(alloc: Global, tokens: &[Token]) -> Result<String, AllocError> {
+    let mut log = String::new(alloc);
+    for token in tokens {
+        write_token(&mut log, false, token)?;
+    }
+    Ok(log)
 }
 
 // writes a token, and answers whether the last line is a text then

@@ -1,81 +1,119 @@
 use crate::checks::holds;
-use crate::feeding::{characters, fed, fed_plainly, first_answer, halves, states_behind, whole};
-use crate::rows::{HTML, ROWS, Start};
-use crate::sinks::{Collected, Counting, SCRIPT_HANDLE, Switching};
+use crate::feeding::{
+    characters, fed, fed_plainly, first_answer, halves, later_faults, states_behind, whole,
+};
+use crate::rows::{DECLARATIONS_AND_RAW_TEXT, HTML, Start, TAGS_AND_REFERENCES};
+use crate::sinks::{Collected, Counting, SCRIPT_HANDLE, Switching, log_of};
 use html_grammar::read_plainly;
 use html_lexemes::{BufferQueue, ParseFault};
 use html_tokenizer::{Tokenizer, TokenizerResult};
 use std::alloc::Global;
+use std::process::Abort;
 use std::test::Fail;
+use token_sinks::{KeptTokens, PreformattedText};
 
 // whether this is the log of a text that is read plainly
 fn is_read(alloc: Global, start: Start, text: &str, expected: &str) -> Result<bool, Fail> {
-    let mut sink = Collected::new(alloc, start.foreign);
+    let mut sink = KeptTokens::new(alloc, start.foreign);
     let table = start.table(alloc)?;
     read_plainly(alloc, &mut sink, start.options(alloc)?, &table, text)?;
-    Ok(sink.log.as_str() == expected)
+    Ok(log_of(alloc, sink.tokens())?.as_str() == expected)
 }
 
 // whether this is the log of a text that is fed in pieces
 fn is_fed(alloc: Global, start: Start, pieces: Vec<String>, expected: &str) -> Result<bool, Fail> {
-    let sink = Collected::new(alloc, start.foreign);
+    let sink = KeptTokens::new(alloc, start.foreign);
     let options = start.options(alloc)?;
     let sink = fed(alloc, sink, options, start.table(alloc)?, pieces)?;
-    Ok(sink.log.as_str() == expected)
+    Ok(log_of(alloc, sink.tokens())?.as_str() == expected)
 }
 
-#[test]
-fn rows_are_told_alike(rt: HostRuntime) -> Result<(), Fail> {
+// asks for the logs of texts that are read plainly, and that are fed whole, a character at a time and cut in two
+// everywhere
+fn check<R: Abort + AllocGlobal>(rt: &R, rows: &[(Start, &str, &str)]) -> Result<(), Fail> {
     let alloc = rt.alloc();
-    for (start, text, expected) in &ROWS {
-        holds(&rt, is_read(alloc, *start, text, expected)?, text);
-        holds(
-            &rt,
-            is_fed(alloc, *start, whole(alloc, text)?, expected)?,
-            text,
-        );
-        holds(
-            &rt,
-            is_fed(alloc, *start, characters(alloc, text)?, expected)?,
-            text,
-        );
+    for (start, text, expected) in rows {
+        holds(rt, is_read(alloc, *start, text, expected)?, text);
+        let pieces = whole(alloc, text)?;
+        holds(rt, is_fed(alloc, *start, pieces, expected)?, text);
+        let pieces = characters(alloc, text)?;
+        holds(rt, is_fed(alloc, *start, pieces, expected)?, text);
         for count in 0..=text.chars().count() {
             let pieces = halves(alloc, text, count)?;
-            holds(&rt, is_fed(alloc, *start, pieces, expected)?, text);
+            holds(rt, is_fed(alloc, *start, pieces, expected)?, text);
         }
     }
     Ok(())
 }
 
-static SWITCHED: &str = "<p><title a>&lt;<b></p></title><script><!--&lt;<p></title></SCRIPT>\
-    &lt;<meta><plaintext></plaintext>&lt;<p>";
+#[test]
+fn tags_and_references_are_told_alike(rt: HostRuntime) -> Result<(), Fail> {
+    check(&rt, &TAGS_AND_REFERENCES)
+}
 
-static SWITCHED_LOG: &str = "start\tp\t-\t-\n\
-    start\ttitle\t-\t-\n\
-    attribute\ta\t\n\
-    text\t<<b></p>\n\
-    end\ttitle\t-\t-\n\
-    start\tscript\t-\t-\n\
-    text\t<!--&lt;<p></title>\n\
-    end\tscript\t-\t-\n\
-    text\t<\n\
-    start\tmeta\t-\t-\n\
-    start\tplaintext\t-\t-\n\
-    text\t</plaintext>&lt;<p>";
+#[test]
+fn declarations_and_raw_text_are_told_alike(rt: HostRuntime) -> Result<(), Fail> {
+    check(&rt, &DECLARATIONS_AND_RAW_TEXT)
+}
 
-// whether the log of a sink that chooses kinds of text is right, fed with a page that is cut behind so many characters
-fn is_switched(alloc: Global, count: usize) -> Result<bool, Fail> {
+// Pages, and the log of a sink that chooses the kind of the text behind tags.
+static SWITCHED: [(&str, &str); 2] = [
+    (
+        "<p><title a>&lt;<b></p></title><script><!--&lt;<p></title></SCRIPT>\
+         &lt;<meta><plaintext></plaintext>&lt;<p>",
+        "start\tp\t-\t-\n\
+         start\ttitle\t-\t-\n\
+         attribute\ta\t\n\
+         text\t<<b></p>\n\
+         end\ttitle\t-\t-\n\
+         start\tscript\t-\t-\n\
+         text\t<!--&lt;<p></title>\n\
+         end\tscript\t-\t-\n\
+         text\t<\n\
+         start\tmeta\t-\t-\n\
+         start\tplaintext\t-\t-\n\
+         text\t</plaintext>&lt;<p>",
+    ),
+    // behind end tags: the text still ends at the name of the last start tag (13.2.5, "appropriate end tag token")
+    (
+        "<b></meta>x&lt;</meta></b>&lt;</plaintext>&lt;<p>",
+        "start\tb\t-\t-\n\
+         end\tmeta\t-\t-\n\
+         text\tx&lt;</meta>\n\
+         end\tb\t-\t-\n\
+         text\t<\n\
+         end\tplaintext\t-\t-\n\
+         text\t&lt;<p>",
+    ),
+];
+
+// whether this is the log of a sink that chooses kinds of text, and is told a page that is read plainly
+fn is_read_switched(alloc: Global, page: &str, expected: &str) -> Result<bool, Fail> {
+    let mut sink = Switching::new(alloc, "x")?;
+    let table = HTML.table(alloc)?;
+    read_plainly(alloc, &mut sink, HTML.options(alloc)?, &table, page)?;
+    Ok(sink.told.log.as_str() == expected)
+}
+
+// whether this is the log of such a sink, of a page that is fed in pieces
+fn is_fed_switched(alloc: Global, pieces: Vec<String>, expected: &str) -> Result<bool, Fail> {
     let sink = Switching::new(alloc, "x")?;
-    let pieces = halves(alloc, SWITCHED, count)?;
     let options = HTML.options(alloc)?;
     let sink = fed(alloc, sink, options, HTML.table(alloc)?, pieces)?;
-    Ok(sink.told.log.as_str() == SWITCHED_LOG)
+    Ok(sink.told.log.as_str() == expected)
 }
 
 #[test]
 fn a_sink_chooses_the_kind_of_text(rt: HostRuntime) -> Result<(), Fail> {
-    for count in 0..=SWITCHED.chars().count() {
-        holds(&rt, is_switched(rt.alloc(), count)?, "a cut");
+    let alloc = rt.alloc();
+    for (page, expected) in &SWITCHED {
+        holds(&rt, is_read_switched(alloc, page, expected)?, page);
+        let pieces = characters(alloc, page)?;
+        holds(&rt, is_fed_switched(alloc, pieces, expected)?, page);
+        for count in 0..=page.chars().count() {
+            let pieces = halves(alloc, page, count)?;
+            holds(&rt, is_fed_switched(alloc, pieces, expected)?, page);
+        }
     }
     Ok(())
 }
@@ -193,6 +231,57 @@ fn a_refusal_lasts(rt: HostRuntime) -> Result<(), Fail> {
     ] {
         let answers = refused(rt.alloc(), taken)?;
         holds(&rt, answers == (fed, [ended, failed, failed]), "a refusal");
+    }
+    Ok(())
+}
+
+// A sink that is ready in some states alone, and one that refuses the second token.
+#[test]
+fn later_calls_are_refused(rt: HostRuntime) -> Result<(), Fail> {
+    let alloc = rt.alloc();
+    let failed = Some(ParseFault::Failed);
+    let sink = PreformattedText::new(alloc)?;
+    let options = HTML.options(alloc)?;
+    let faults = later_faults(alloc, sink, options, HTML.table(alloc)?, "<pre>\na")?;
+    holds(&rt, faults == [None, None, failed], "a sink that takes all");
+    let options = HTML.options(alloc)?;
+    let sink = Counting::new(1);
+    let faults = later_faults(alloc, sink, options, HTML.table(alloc)?, "<pre>\na")?;
+    holds(
+        &rt,
+        faults == [failed, failed, failed],
+        "a sink that refuses",
+    );
+    Ok(())
+}
+
+// The text that is behind the start tag of `pre` loses its first line feed, but not behind an error, as in html5ever:
+// the standard knows no error between two tokens.
+#[test]
+fn a_line_feed_is_left_out(rt: HostRuntime) -> Result<(), Fail> {
+    let alloc = rt.alloc();
+    for (page, text) in [
+        ("<pre>\n\na", "\na"),
+        ("<pre>&#10;a", "a"),
+        ("<pre>&#10a", "\na"),
+        ("<pre></>\na", "\na"),
+        ("<p>\na", "\na"),
+        ("<pre><b>\na", "\na"),
+    ] {
+        let mut sink = PreformattedText::new(alloc)?;
+        let table = HTML.table(alloc)?;
+        read_plainly(alloc, &mut sink, HTML.options(alloc)?, &table, page)?;
+        holds(&rt, sink.text() == text, page);
+        let sink = PreformattedText::new(alloc)?;
+        let pieces = characters(alloc, page)?;
+        let sink = fed(
+            alloc,
+            sink,
+            HTML.options(alloc)?,
+            HTML.table(alloc)?,
+            pieces,
+        )?;
+        holds(&rt, sink.text() == text, page);
     }
     Ok(())
 }

@@ -8,8 +8,8 @@ no_pieces : {Z : Type 0} (pieces : List (String Z)) → length pieces ≡ 0 → 
 no_pieces [] e = refl
 no_pieces (piece ∷ pieces) e = absurd (omega arith)
 
-pub returns : goal.returns
-returns g c =
+pub returns-clause-told : goal.returns-clause-told
+returns-clause-told g c =
     let told = c.in_ok-end.ensures.completes in
     let left : length (into_iter_items c.pieces.piece-iterator) ≡ 0 = omega (arith, c.pieces.piece-iterator.rest.ok.0, c.in-None.ensures.steps.0) in
     let reads = subst (λ x. Completes g.Sink.TokenSink.state g.Sink.TokenSink.step g.Sink.TokenSink.reply g.Sink.TokenSink.foreign c.pieces.tokenizer x told.0)

@@ -1,8 +1,9 @@
+use Rattle.std.proofs.Common.{◌≡◌, false}
 use Rattle.std.specs.Vec.Iter.{into_iter_items}
 use Rattle.html_grammar.specs.FirstMode.{first_mode}
 use Rattle.html_grammar.specs.PageText.{page_text}
 use Rattle.html_grammar.specs.Reading.{Reading}
-use Rattle.html_tokenizer.specs.Completes.{Completes}
+use Rattle.html_tokenizer.specs.Completes.{Completes, IsFit, has_failed}
 use Rattle.html_tokenizer.specs.Pieces.{joined}
 use Rattle.html_tokenizer.proofs.pieces.read_pieces.Given as goal
 
@@ -13,6 +14,7 @@ invariant-pieces g l =
     let reply = g.Sink.TokenSink.reply in
     let foreign = g.Sink.TokenSink.foreign in
     record {
-      ready : g.Sink.TokenSink.ready (s l.tokenizer.sink);
+      works : has_failed l.tokenizer ≡ false;
+      fit : IsFit s g.Sink.TokenSink.ready g.Sink.TokenSink.welcomes l.tokenizer;
       reads : (final : _) → Completes s step reply foreign l.tokenizer (joined (into_iter_items l.piece-iterator)) final → Reading l.fn.table step reply foreign (first_mode l.fn.opts) (s l.fn.sink) (page_text l.fn.opts.discard_bom (joined l.fn.pieces.items)) final;
     }

@@ -1,11 +1,12 @@
 use Rattle.std.proofs.Common.{[], refl, sym, ap, ◌∙◌, subst, string_bytes}
 use Rattle.std.proofs.lemmas.Str.{chars-nil}
 use Rattle.std.specs.Str.{chars}
+use Rattle.lexeme_places.specs.PlaceKinds.{IsPlaceOf}
 use Rattle.lexeme_places.specs.Sound.{IsSound}
 use Rattle.lexeme_places.specs.Turns.{IsOver, IsTaken}
 use Rattle.lexeme_places.specs.declared.turn.Turn.TheVariants.{Goes, Ends, EndsBefore}
 use Rattle.html_tokenizer.proofs.GoingLemmas.{ended_before, ended_untagged, going_sound}
-use Rattle.html_tokenizer.proofs.PendingLemmas.{some_mode, turned}
+use Rattle.html_tokenizer.proofs.PendingLemmas.{kept, some_mode, turned}
 use Rattle.html_tokenizer.proofs.pending.Pending.take.Goals as goal
 
 pub invariant_of-self : goal.invariant_of-self
@@ -14,7 +15,7 @@ invariant_of-self c = record { sound = ap chars c.clear.ensures.bytes ∙ chars-
 pub invariant_of-self-in-Goes : goal.invariant_of-self-in-Goes
 invariant_of-self-in-Goes c =
     let p = c.args.self.now in
-    let t = turned c.args.table.now c.args.foreign p.place (chars (string_bytes p.held)) c.args.c (chars (string_bytes c.markup_turn.new.held)) _ c.in-Ok.done c.in-Some.turn (Goes c.in-Goes.next) c.in-Ok.ensures c.in-Some.is c.in-Goes.is in
+    let t = turned c.args.table.now c.args.foreign p.place (chars (string_bytes p.held)) c.args.c (chars (string_bytes c.markup_turn.new.held)) _ c.in-Ok.done c.in-Some.turn (Goes c.in-Goes.next) c.in-Ok.ensures.turns c.in-Some.is c.in-Goes.is in
     record { sound = going_sound c.args.table.now some_mode.last_start_tag c.in-Goes.next _ (t c.args.foreign some_mode (λ _. refl)).1 }
 
 pub invariant_of-self-in-Ends : goal.invariant_of-self-in-Ends
@@ -26,14 +27,14 @@ invariant_of-self-in-EndsBefore c = record { sound = subst (λ x. IsSound x (cha
 pub returns-in-Goes-clause-advance : goal.returns-in-Goes-clause-advance
 returns-in-Goes-clause-advance c =
     let p = c.args.self.now in
-    let t = turned c.args.table.now c.args.foreign p.place (chars (string_bytes p.held)) c.args.c (chars (string_bytes c.markup_turn.new.held)) _ c.in-Ok.done c.in-Some.turn (Goes c.in-Goes.next) c.in-Ok.ensures c.in-Some.is c.in-Goes.is in
+    let t = turned c.args.table.now c.args.foreign p.place (chars (string_bytes p.held)) c.args.c (chars (string_bytes c.markup_turn.new.held)) _ c.in-Ok.done c.in-Some.turn (Goes c.in-Goes.next) c.in-Ok.ensures.turns c.in-Some.is c.in-Goes.is in
     t
 
 pub returns-in-Ends-clause-advance : goal.returns-in-Ends-clause-advance
 returns-in-Ends-clause-advance c =
     let p = c.args.self.now in
     let held = chars (string_bytes p.held) in
-    let t = turned c.args.table.now c.args.foreign p.place held c.args.c (chars (string_bytes c.markup_turn.new.held)) _ c.in-Ok.done c.in-Some.turn (Ends c.in-Ends.last) c.in-Ok.ensures c.in-Some.is c.in-Ends.is in
+    let t = turned c.args.table.now c.args.foreign p.place held c.args.c (chars (string_bytes c.markup_turn.new.held)) _ c.in-Ok.done c.in-Some.turn (Ends c.in-Ends.last) c.in-Ok.ensures.turns c.in-Some.is c.in-Ends.is in
     let same = ap (λ x. chars (string_bytes x)) c.take_out.ensures.taken in
     λ asked mode e. (subst (λ x. IsTaken c.args.table.now asked mode p.place held c.args.c c.in-Ends.last x) (sym same) (t asked mode e).0, subst (λ x. IsOver c.args.table.now asked mode c.in-Ends.last x []) (sym same) (t asked mode e).1)
 
@@ -41,8 +42,17 @@ pub returns-in-EndsBefore-clause-advance : goal.returns-in-EndsBefore-clause-adv
 returns-in-EndsBefore-clause-advance c =
     let p = c.args.self.now in
     let held = chars (string_bytes p.held) in
-    let t = turned c.args.table.now c.args.foreign p.place held c.args.c (chars (string_bytes c.markup_turn.new.held)) _ c.in-Ok.done c.in-Some.turn EndsBefore c.in-Ok.ensures c.in-Some.is c.in-EndsBefore.is in
+    let t = turned c.args.table.now c.args.foreign p.place held c.args.c (chars (string_bytes c.markup_turn.new.held)) _ c.in-Ok.done c.in-Some.turn EndsBefore c.in-Ok.ensures.turns c.in-Some.is c.in-EndsBefore.is in
     let same = ap (λ x. chars (string_bytes x)) c.take_out-in-EndsBefore.ensures.taken in
     λ asked mode e.
     let over = ended_before c.args.table.now asked mode p.place held c.args.c (chars (string_bytes c.markup_turn.new.held)) (t asked mode e) in
     (c.replace-last.ensures.value, (same ∙ over.0, (over.1, ended_untagged c.args.table.now asked mode p.place held c.args.c (chars (string_bytes c.markup_turn.new.held)) p.sound (t asked mode e))))
+
+pub returns-in-Goes-clause-kind : goal.returns-in-Goes-clause-kind
+returns-in-Goes-clause-kind c = kept c.args.self.now.place c.in-Ok.done c.in-Some.turn (Goes c.in-Goes.next) c.in-Ok.ensures.kind c.in-Some.is c.in-Goes.is
+
+pub returns-in-Ends-clause-kind : goal.returns-in-Ends-clause-kind
+returns-in-Ends-clause-kind c = kept c.args.self.now.place c.in-Ok.done c.in-Some.turn (Ends c.in-Ends.last) c.in-Ok.ensures.kind c.in-Some.is c.in-Ends.is
+
+pub returns-in-EndsBefore-clause-kind : goal.returns-in-EndsBefore-clause-kind
+returns-in-EndsBefore-clause-kind c = λ kind h. subst (IsPlaceOf kind) (sym c.replace-last.ensures.value) h

@@ -4,9 +4,12 @@ use Rattle.html_grammar.specs.Items.{characters}
 use Rattle.lexeme_places.specs.Places.{place_lexeme}
 use Rattle.html_tokenizer.specs.Tells.{Asks}
 use Rattle.lexeme_places.specs.Turns.{IsOver, IsUntagged}
-use Rattle.html_tokenizer.proofs.TellsLemmas.{tells_same, tells_then}
+use Rattle.html_tokenizer.proofs.PauseMarks.{pause_mark}
+use Rattle.html_tokenizer.proofs.ReadsLemmas.{on_ok_map}
+use Rattle.html_tokenizer.proofs.ReadyLemmas.{placed_text}
+use Rattle.html_tokenizer.proofs.TellsLemmas.{if_ok_map, tells_same, tells_then}
 use Rattle.html_tokenizer.specs.Reads.{Leaves}
-use Rattle.html_tokenizer.specs.Advances.{Advances, IsLeft}
+use Rattle.html_tokenizer.specs.Advances.{Advances, IsLeft, IsWithinKind}
 use Rattle.html_tokenizer.proofs.reader.Reader.advance.Goals as goal
 
 pub tell_lexeme-requires-clause-place : goal.tell_lexeme-requires-clause-place
@@ -48,3 +51,23 @@ returns-in_ok-begin-in-EndsBefore-clause-asks g c = λ place held a.
     let untagged = subst (λ x. IsUntagged (place_lexeme table f r.mode x text)) (sym known.0) (subst (λ x. IsUntagged (place_lexeme table f r.mode place x)) (sym known.1.0) known.1.1.1) in
     tells_then step reply s0 s1 s2 (subst (λ x. Asks step reply x s0 s1) (c.in_ok-tell_lexeme-in-EndsBefore.ensures.untagged untagged) c.in_ok-tell_lexeme-in-EndsBefore.ensures.asks)
     c.in_ok-begin-in-EndsBefore.ensures.tells
+
+pub tell_lexeme-requires-clause-placed : goal.tell_lexeme-requires-clause-placed
+tell_lexeme-requires-clause-placed g c = subst (λ a. IsWithinKind c.args.self.now.mode.text a c.args.self.now.pending.place) c.in-Ends.is c.requires.placed
+
+pub tell_lexeme-requires-in-EndsBefore-clause-placed : goal.tell_lexeme-requires-in-EndsBefore-clause-placed
+tell_lexeme-requires-in-EndsBefore-clause-placed g c = subst (λ a. IsWithinKind c.args.self.now.mode.text a c.args.self.now.pending.place) c.in-EndsBefore.is c.requires.placed
+
+pub returns-in-Goes-clause-placed : goal.returns-in-Goes-clause-placed
+returns-in-Goes-clause-placed g c = subst (λ a. IsWithinKind c.args.self.now.mode.text a c.args.self.now.pending.place) c.in-Goes.is c.requires.placed
+
+pub returns-in-Ends-clause-placed : goal.returns-in-Ends-clause-placed
+returns-in-Ends-clause-placed g c = on_ok_map c.tell_lexeme.result c.tell_lexeme.ensures.place (λ e. placed_text c.tell_lexeme.new.self.mode.text c.tell_lexeme.new.self.pending.place e)
+
+pub returns-in-Ends-clause-greater : goal.returns-in-Ends-clause-greater
+returns-in-Ends-clause-greater g c = if_ok_map c.tell_lexeme.result c.tell_lexeme.ensures.untagged (λ pause untagged place held a.
+    let r = c.args.self.now in
+    let table = c.args.table.now in
+    let f = g.S.TokenSink.foreign (g.S.TokenSink.step (g.S.TokenSink.state c.args.sink.now) (characters (chars (string_bytes r.run)))) in
+    let known = subst (λ x. Advances table f r.mode place held c.args.c x r.pending.place (chars (string_bytes r.pending.held))) c.in-Ends.is a in
+    pause_mark table f r.mode place c.in-Ends.place held (chars (string_bytes c.in-Ends.held)) c.args.c pause c.tag_ends_with_its_mark.ensures known.0 known.1.left untagged)

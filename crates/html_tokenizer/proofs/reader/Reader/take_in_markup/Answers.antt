@@ -1,9 +1,9 @@
-use Rattle.std.proofs.Common.{◌≡◌, Bool, MatchOption, ap, sym, ◌∙◌, ◌∷◌, string_bytes, subst}
+use Rattle.std.proofs.Common.{◌≡◌, Bool, IfSome, MatchOption, ap, sym, ◌∙◌, ◌∷◌, string_bytes, subst}
 use Rattle.std.specs.Str.{chars}
 use Rattle.html_grammar.specs.Items.{characters}
 use Rattle.html_grammar.specs.declared.modes.Mode.{Mode}
-use Rattle.html_tokenizer.specs.Advances.{Advances}
-use Rattle.lexeme_places.specs.PlaceKinds.{IsNoMarkup, IsWithinMarkup}
+use Rattle.html_tokenizer.specs.Advances.{Advances, StaysWithinKind}
+use Rattle.lexeme_places.specs.PlaceKinds.{IsNoMarkup, IsPlaceOf, IsWithinMarkup}
 use Rattle.html_tokenizer.specs.declared.pending.Pending.{Pending}
 use Rattle.lexeme_places.specs.declared.place.Place.TheVariants.{MarkupDeclarationOpen}
 use Rattle.html_tokenizer.proofs.RawReads.{in_section}
@@ -70,7 +70,37 @@ returns-in-Some-clause-asks g c =
     asks_behind g.S.TokenSink.step g.S.TokenSink.reply pause (g.S.TokenSink.state c.args.sink.now) (g.S.TokenSink.state c.is_foreign.new.sink) (g.S.TokenSink.state c.advance.new.sink) c.in_ok-foreign.ensures.tells
     (f now.pending.place (chars (string_bytes now.pending.held)) (known (g.S.TokenSink.foreign t) now.mode asked_for)))
 
+pub returns-in-Some-clause-greater : goal.returns-in-Some-clause-greater
+returns-in-Some-clause-greater g c =
+    let now = c.is_foreign.new.self in
+    let after = c.take.new.self in
+    let t = g.S.TokenSink.step (g.S.TokenSink.state c.is_foreign.new.sink) (characters (chars (string_bytes now.run))) in
+    let known = subst (λ o. MatchOption o (IsNoMarkup now.pending.place × (after ≡ now.pending)) (λ advance. (asked : Bool) (mode : Mode) → (now.pending.place ≡ MarkupDeclarationOpen → asked ≡ c.in_ok-foreign.foreign) →
+    Advances c.args.table.now asked mode now.pending.place (chars (string_bytes now.pending.held)) c.args.c advance after.place (chars (string_bytes after.held)))) c.in-Some.is c.in_ok-advance.ensures.advance in
+    let asked_for = λ (e : now.pending.place ≡ MarkupDeclarationOpen). ap g.S.TokenSink.foreign c.in_ok-foreign.ensures.state ∙ c.in_ok-foreign.ensures.foreign (sym (ap (λ (p : Pending). p.place) c.is_foreign.ensures.pending) ∙ e) in
+    if_ok_map c.advance.result c.advance.ensures.greater (λ pause f.
+    f now.pending.place (chars (string_bytes now.pending.held)) (known (g.S.TokenSink.foreign t) now.mode asked_for))
+
 pub returns-in_ok-take_in_section-in-None-clause-asks : goal.returns-in_ok-take_in_section-in-None-clause-asks
 returns-in_ok-take_in_section-in-None-clause-asks g c =
     tells_then g.S.TokenSink.step g.S.TokenSink.reply (g.S.TokenSink.state c.args.sink.now) (g.S.TokenSink.state c.is_foreign.new.sink) (g.S.TokenSink.state c.take_in_section.new.sink)
     c.in_ok-foreign.ensures.tells c.in_ok-take_in_section-in-None.ensures.tells
+
+pub advance-requires-clause-placed : goal.advance-requires-clause-placed
+advance-requires-clause-placed g c =
+    let r = c.args.self.now in
+    let now = c.is_foreign.new.self in
+    let after = c.take.new.self in
+    let known = subst (λ o. IfSome o (λ advance. StaysWithinKind now.pending.place advance after.place)) c.in-Some.is c.in_ok-advance.ensures.kind in
+    known now.mode.text (subst (λ (p : Pending). IsPlaceOf now.mode.text p.place) (sym c.is_foreign.ensures.pending) (subst (λ (m : Mode). IsPlaceOf m.text r.pending.place) (sym c.is_foreign.ensures.mode) c.requires.placed))
+
+pub take_in_section-requires-clause-kind : goal.take_in_section-requires-clause-kind
+take_in_section-requires-clause-kind g c =
+    let r = c.args.self.now in
+    let now = c.is_foreign.new.self in
+    let after = c.take.new.self in
+    let known = subst (λ o. MatchOption o (IsNoMarkup now.pending.place × (after ≡ now.pending)) (λ advance. (asked : Bool) (mode : Mode) → (now.pending.place ≡ MarkupDeclarationOpen → asked ≡ c.in_ok-foreign.foreign) →
+    Advances c.args.table.now asked mode now.pending.place (chars (string_bytes now.pending.held)) c.args.c advance after.place (chars (string_bytes after.held)))) c.in-None.is c.in_ok-advance.ensures.advance in
+    let at = in_section now.pending.place (subst (λ (p : Pending). IsWithinMarkup p.place) (sym c.is_foreign.ensures.pending) c.requires.place) known.0 in
+    let placed = subst (λ (p : Pending). IsPlaceOf now.mode.text p.place) (sym c.is_foreign.ensures.pending) (subst (λ (m : Mode). IsPlaceOf m.text r.pending.place) (sym c.is_foreign.ensures.mode) c.requires.placed) in
+    subst (IsPlaceOf now.mode.text) at placed

@@ -3,9 +3,11 @@ use Rattle.std.proofs.lemmas.Str.{chars-append, IsUtf8-string_bytes}
 use Rattle.std.specs.Str.{chars}
 use Rattle.html_grammar.specs.Items.{characters}
 use Rattle.html_tokenizer.specs.Advances.{RawAdvances}
-use Rattle.lexeme_places.specs.PlaceKinds.{IsWithinMarkup}
+use Rattle.lexeme_places.specs.PlaceKinds.{IsPlaceOf, IsWithinMarkup}
+use Rattle.html_grammar.specs.declared.modes.TextKind.TheVariants.{Raw}
+use Rattle.html_grammar.proofs.KindLemmas.{ready_of}
 use Rattle.html_tokenizer.proofs.GoingLemmas.{within_markup}
-use Rattle.html_tokenizer.proofs.PendingLemmas.{some_table}
+use Rattle.html_tokenizer.proofs.PendingLemmas.{raw_place, some_table}
 use Rattle.html_tokenizer.proofs.RawReads.{raw_before, raw_end_tag, raw_goes, raw_shifts}
 use Rattle.html_tokenizer.proofs.TellsLemmas.{tells_same}
 use Rattle.html_tokenizer.proofs.reader.Reader.take_in_raw_text.Goals as goal
@@ -81,9 +83,40 @@ returns-in_ok-push_str-in-Shifts-clause-holds g c = λ table _.
 
 pub returns-in_default : goal.returns-in_default
 returns-in_default g c = record {
+  memory = tt;
+  placed = c.requires.placed;
   ready = c.requires.ready;
   holds = λ table e. absurd (let k = e in cc);
   tells = tells_same g.S.TokenSink.step g.S.TokenSink.reply (g.S.TokenSink.state c.args.sink.now) (g.S.TokenSink.state c.args.sink.now) refl;
   place = λ _. within_markup c.args.self.now.pending.place c.requires.place (λ kind place e. c.in_default.not-RawText kind place (c.place.ensures ∙ e));
   reads = λ table rest final l. l;
 }
+
+pub begin-requires-clause-ready : goal.begin-requires-clause-ready
+begin-requires-clause-ready g c =
+    ready_of g.S.TokenSink.ready g.S.TokenSink.welcomes c.args.self.now.mode.text (Raw c.in-Before.behind) (g.S.TokenSink.state c.args.sink.now) (λ h. absurd h) c.requires.ready
+
+pub returns-in_ok-push_str-in-Shifts-clause-ready : goal.returns-in_ok-push_str-in-Shifts-clause-ready
+returns-in_ok-push_str-in-Shifts-clause-ready g c =
+    ready_of g.S.TokenSink.ready g.S.TokenSink.welcomes c.args.self.now.mode.text (Raw c.in-Shifts.behind) (g.S.TokenSink.state c.args.sink.now) (λ h. absurd h) c.requires.ready
+
+pub returns-in-Goes-clause-placed : goal.returns-in-Goes-clause-placed
+returns-in-Goes-clause-placed g c =
+    let r = c.args.self.now in
+    let now = c.take_raw.new.self in
+    let a = subst (λ x. RawAdvances some_table false r.mode c.in-RawText.kind (chars (string_bytes r.pending.held)) c.args.c x now.place (chars (string_bytes now.held))) c.in-Goes.is (c.in_ok-take_raw.ensures some_table false r.mode refl) in
+    raw_place r.mode.text c.in-RawText.kind now.place a.1.0
+
+pub returns-in_ok-push_str-in-Shifts-clause-placed : goal.returns-in_ok-push_str-in-Shifts-clause-placed
+returns-in_ok-push_str-in-Shifts-clause-placed g c =
+    let r = c.args.self.now in
+    let now = c.take_raw.new.self in
+    let a = subst (λ x. RawAdvances some_table false r.mode c.in-RawText.kind (chars (string_bytes r.pending.held)) c.args.c x now.place (chars (string_bytes now.held))) c.in-Shifts.is (c.in_ok-take_raw.ensures some_table false r.mode refl) in
+    raw_place (Raw c.in-Shifts.behind) c.in-Shifts.behind now.place a.1.0
+
+pub returns-in-EndTag-clause-placed : goal.returns-in-EndTag-clause-placed
+returns-in-EndTag-clause-placed g c =
+    let r = c.args.self.now in
+    let now = c.take_raw.new.self in
+    let a = subst (λ x. RawAdvances some_table false r.mode c.in-RawText.kind (chars (string_bytes r.pending.held)) c.args.c x now.place (chars (string_bytes now.held))) c.in-EndTag.is (c.in_ok-take_raw.ensures some_table false r.mode refl) in
+    subst (IsPlaceOf r.mode.text) (sym a.1) tt

@@ -4,7 +4,10 @@ use Rattle.std.proofs.lemmas.Str.{chars-nil}
 use Rattle.std.specs.List.{fold}
 use Rattle.std.specs.Str.{chars}
 use Rattle.html_grammar.specs.Items.{characters}
+use Rattle.html_grammar.specs.Kinds.{IsReadyFor}
 use Rattle.html_grammar.specs.PlainRead.{items_of}
+use Rattle.html_grammar.specs.declared.modes.Mode.{Mode}
+use Rattle.html_grammar.proofs.KindLemmas.{within_welcome}
 use Rattle.html_tokenizer.specs.Tells.{IsFirstAfterError}
 use Rattle.html_tokenizer.proofs.ReadsLemmas.{on_ok_map}
 use Rattle.html_tokenizer.proofs.TellsLemmas.{alike_items, tells_all, tells_then}
@@ -32,3 +35,12 @@ returns-clause-tells g c =
     on_ok_map c.tell_tokens-2.result c.tell_tokens-2.ensures.told (λ t.
     tells_then g.S.TokenSink.step g.S.TokenSink.reply (g.S.TokenSink.state c.args.sink.now) between after c.in_ok-tell_errors.ensures.tells
     (tells_all g.S.TokenSink.step g.S.TokenSink.reply g.met.S.TokenSink.lawful.answers between after (items_of c.args.tokens.items) c.requires.untagged t))
+
+pub tell_tokens-requires-clause-welcome : goal.tell_tokens-requires-clause-welcome
+tell_tokens-requires-clause-welcome g c =
+    within_welcome g.S.TokenSink.ready g.S.TokenSink.welcomes c.args.self.now.mode.text (g.S.TokenSink.state c.args.sink.now) (items_of c.args.tokens.items) c.requires.ready c.requires.within
+
+pub tell_tokens-requires-2-clause-welcome : goal.tell_tokens-requires-2-clause-welcome
+tell_tokens-requires-2-clause-welcome g c =
+    within_welcome g.S.TokenSink.ready g.S.TokenSink.welcomes c.args.self.now.mode.text (g.S.TokenSink.state c.tell_errors.new.sink) (items_of c.args.tokens.items)
+    (subst (λ (m : Mode). IsReadyFor g.S.TokenSink.ready g.S.TokenSink.welcomes m.text (g.S.TokenSink.state c.tell_errors.new.sink)) c.tell_errors.ensures.mode c.in_ok-tell_errors.ensures.ready) c.requires.within

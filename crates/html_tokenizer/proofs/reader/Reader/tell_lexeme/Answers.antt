@@ -1,16 +1,18 @@
-use Rattle.std.proofs.Common.{ap, sym, ◌∙◌, ◌++◌, string_bytes}
+use Rattle.std.proofs.Common.{ap, sym, subst, ◌∙◌, ◌++◌, string_bytes}
 use Rattle.std.proofs.lemmas.Str.{chars-nil}
 use Rattle.std.specs.Str.{chars}
 use Rattle.std.specs.List.{fold}
 use Rattle.html_grammar.specs.Items.{characters, tag}
+use Rattle.html_grammar.specs.Kinds.{AreWithin, IsOf, IsReadyFor}
 use Rattle.html_grammar.specs.Modes.{mode_behind}
 use Rattle.html_grammar.specs.Lexemes.{nothing, told, tagged}
 use Rattle.html_grammar.specs.PlainRead.{items_of, lexeme_of}
 use Rattle.html_grammar.specs.declared.modes.Mode.{Mode}
+use Rattle.html_grammar.proofs.KindLemmas.{ready_of}
 use Rattle.html_tokenizer.specs.declared.pending.Pending.{Pending}
 use Rattle.html_tokenizer.proofs.ReadsLemmas.{found_from, held_none, never_nothing, on_ok_two, tagged_over, told_over}
+use Rattle.html_tokenizer.proofs.ReadyLemmas.{are_unanswered, tagged_kind, told_kind}
 use Rattle.html_tokenizer.proofs.TellsLemmas.{asks_behind, asks_tag, if_ok_with, tells_then}
-use Rattle.html_tokenizer.proofs.Unanswered.{untagged}
 use Rattle.html_tokenizer.proofs.reader.Reader.tell_lexeme.Goals as goal
 
 pub returns-in-Nothing-clause-reads : goal.returns-in-Nothing-clause-reads
@@ -22,6 +24,19 @@ returns-in-Nothing-clause-reads g c = λ follow rest final over l.
     (c.adjusted_current_node_present_but_not_in_html_namespace-foreign.ensures ∙ ap g.S.TokenSink.foreign c.in_ok-tell_run.ensures.told) c.tell_run.ensures.mode (ap chars c.as_str-2.ensures.value) c.in_ok-lexeme_from.ensures.value (ap (lexeme_of m) c.in-Nothing.is) in
     absurd (never_nothing c.args.table.now g.S.TokenSink.step g.S.TokenSink.reply g.S.TokenSink.foreign r.mode c.args.place (chars (string_bytes c.args.held)) follow (g.S.TokenSink.foreign s) over e)
 
+pub tell_items-requires-clause-within : goal.tell_items-requires-clause-within
+tell_items-requires-clause-within g c =
+    let r = c.args.self.now in
+    let m = c.tell_run.new.self.mode in
+    let s = g.S.TokenSink.step (g.S.TokenSink.state c.args.sink.now) (characters (chars (string_bytes r.run))) in
+    let items = items_of c.in-Told.tokens.items in
+    let behind : Mode = record m { text = c.in-Told.text } in
+    let left = chars c.in-Told.left.now in
+    let e = found_from c.args.table.now c.adjusted_current_node_present_but_not_in_html_namespace-foreign.result (g.S.TokenSink.foreign s) r.mode m c.args.place (chars c.as_str-2.result.now) (chars (string_bytes c.args.held)) (lexeme_of m c.in_ok-lexeme_from.field-0) (told items behind left)
+    (c.adjusted_current_node_present_but_not_in_html_namespace-foreign.ensures ∙ ap g.S.TokenSink.foreign c.in_ok-tell_run.ensures.told) c.tell_run.ensures.mode (ap chars c.as_str-2.ensures.value) c.in_ok-lexeme_from.ensures.value (ap (lexeme_of m) c.in-Told.is) in
+    subst (λ (x : Mode). AreWithin x.text items) (sym c.tell_run.ensures.mode)
+    (told_kind r.mode.text _ items behind left (c.place_of_a_kind.ensures c.args.table.now (g.S.TokenSink.foreign s) r.mode c.args.place (chars (string_bytes c.args.held)) c.requires.placed) e).0
+
 pub tell_items-requires-clause-untagged : goal.tell_items-requires-clause-untagged
 tell_items-requires-clause-untagged g c =
     let r = c.args.self.now in
@@ -32,7 +47,34 @@ tell_items-requires-clause-untagged g c =
     let left = chars c.in-Told.left.now in
     let e = found_from c.args.table.now c.adjusted_current_node_present_but_not_in_html_namespace-foreign.result (g.S.TokenSink.foreign s) r.mode m c.args.place (chars c.as_str-2.result.now) (chars (string_bytes c.args.held)) (lexeme_of m c.in_ok-lexeme_from.field-0) (told items behind left)
     (c.adjusted_current_node_present_but_not_in_html_namespace-foreign.ensures ∙ ap g.S.TokenSink.foreign c.in_ok-tell_run.ensures.told) c.tell_run.ensures.mode (ap chars c.as_str-2.ensures.value) c.in_ok-lexeme_from.ensures.value (ap (lexeme_of m) c.in-Told.is) in
-    untagged c.args.table.now (g.S.TokenSink.foreign s) r.mode c.args.place (chars (string_bytes c.args.held)) items behind left e
+    are_unanswered r.mode.text items (told_kind r.mode.text _ items behind left (c.place_of_a_kind.ensures c.args.table.now (g.S.TokenSink.foreign s) r.mode c.args.place (chars (string_bytes c.args.held)) c.requires.placed) e).0
+
+pub returns-in-Told-clause-ready : goal.returns-in-Told-clause-ready
+returns-in-Told-clause-ready g c =
+    let r = c.args.self.now in
+    let m = c.tell_run.new.self.mode in
+    let s = g.S.TokenSink.step (g.S.TokenSink.state c.args.sink.now) (characters (chars (string_bytes r.run))) in
+    let items = items_of c.in-Told.tokens.items in
+    let behind : Mode = record m { text = c.in-Told.text } in
+    let left = chars c.in-Told.left.now in
+    let e = found_from c.args.table.now c.adjusted_current_node_present_but_not_in_html_namespace-foreign.result (g.S.TokenSink.foreign s) r.mode m c.args.place (chars c.as_str-2.result.now) (chars (string_bytes c.args.held)) (lexeme_of m c.in_ok-lexeme_from.field-0) (told items behind left)
+    (c.adjusted_current_node_present_but_not_in_html_namespace-foreign.ensures ∙ ap g.S.TokenSink.foreign c.in_ok-tell_run.ensures.told) c.tell_run.ensures.mode (ap chars c.as_str-2.ensures.value) c.in_ok-lexeme_from.ensures.value (ap (lexeme_of m) c.in-Told.is) in
+    let now = c.tell_items.new.self in
+    let leads = (told_kind r.mode.text _ items behind left (c.place_of_a_kind.ensures c.args.table.now (g.S.TokenSink.foreign s) r.mode c.args.place (chars (string_bytes c.args.held)) c.requires.placed) e).1 in
+    ready_of g.S.TokenSink.ready g.S.TokenSink.welcomes r.mode.text c.in-Told.text (g.S.TokenSink.state c.tell_items.new.sink) leads
+    (subst (λ (x : Mode). IsReadyFor g.S.TokenSink.ready g.S.TokenSink.welcomes x.text (g.S.TokenSink.state c.tell_items.new.sink)) (c.tell_items.ensures.mode ∙ c.tell_run.ensures.mode) c.in_ok-tell_items-in-Told.ensures.ready)
+
+pub tell_tag-requires-clause-kind : goal.tell_tag-requires-clause-kind
+tell_tag-requires-clause-kind g c =
+    let r = c.args.self.now in
+    let m = c.tell_run.new.self.mode in
+    let step = g.S.TokenSink.step in
+    let s = step (g.S.TokenSink.state c.args.sink.now) (characters (chars (string_bytes r.run))) in
+    let left = chars c.in-Tagged.field-1.now in
+    let e = found_from c.args.table.now c.adjusted_current_node_present_but_not_in_html_namespace-foreign.result (g.S.TokenSink.foreign s) r.mode m c.args.place (chars c.as_str-2.result.now) (chars (string_bytes c.args.held)) (lexeme_of m c.in_ok-lexeme_from.field-0) (tagged c.in-Tagged.tag left)
+    (c.adjusted_current_node_present_but_not_in_html_namespace-foreign.ensures ∙ ap g.S.TokenSink.foreign c.in_ok-tell_run.ensures.told) c.tell_run.ensures.mode (ap chars c.as_str-2.ensures.value) c.in_ok-lexeme_from.ensures.value (ap (lexeme_of m) c.in-Tagged.is) in
+    subst (λ (x : Mode). IsOf x.text (tag c.in-Tagged.tag)) (sym (c.tell_errors.ensures.mode ∙ c.tell_run.ensures.mode))
+    (tagged_kind r.mode.text _ c.in-Tagged.tag left (c.place_of_a_kind.ensures c.args.table.now (g.S.TokenSink.foreign s) r.mode c.args.place (chars (string_bytes c.args.held)) c.requires.placed) e)
 
 pub returns-in-Told-clause-asks : goal.returns-in-Told-clause-asks
 returns-in-Told-clause-asks g c =

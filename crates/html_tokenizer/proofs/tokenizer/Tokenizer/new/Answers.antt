@@ -4,11 +4,13 @@ use Rattle.std.specs.Str.{chars}
 use Rattle.html_grammar.specs.FirstMode.{first_mode}
 use Rattle.html_grammar.specs.Items.{characters}
 use Rattle.html_grammar.specs.Reading.{Reading}
+use Rattle.html_tokenizer.specs.Completes.{Completes}
 use Rattle.html_tokenizer.specs.PageRest.{page_rest}
 use Rattle.html_tokenizer.proofs.ReadsLemmas.{held_none, reading_of}
 use Rattle.html_tokenizer.proofs.tokenizer.Tokenizer.new.Goals as goal
 
 pub returns-clause-begins : goal.returns-clause-begins
+unfolding Completes
 returns-clause-begins g c = λ page final l.
     let s = g.Sink.TokenSink.state c.args.sink in
     let step = g.Sink.TokenSink.step in

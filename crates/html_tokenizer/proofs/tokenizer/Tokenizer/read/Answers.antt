@@ -1,15 +1,17 @@
-use Rattle.std.proofs.Common.{[], Some, refl, arith, length, ap, sym, ◌∙◌, ◌++◌, string_bytes, subst}
+use Rattle.std.proofs.Common.{◌≡◌, ◌<◌, IfSome, [], Some, refl, arith, length, ap, sym, ◌∙◌, ◌++◌, string_bytes, subst}
 use Rattle.std.proofs.lemmas.Str.{chars-nil}
 use Rattle.std.specs.Str.{chars}
 use Rattle.html_grammar.specs.Items.{characters}
 use Rattle.html_lexemes.specs.Queue.{Queue}
-use Rattle.html_tokenizer.specs.Completes.{Completes}
+use Rattle.html_grammar.specs.Tags.{greater}
+use Rattle.html_tokenizer.specs.Inside.{Completes, IsEmptied}
 use Rattle.html_tokenizer.specs.PageRest.{page_rest}
 use Rattle.html_grammar.specs.declared.modes.Mode.{Mode}
 use Rattle.lexeme_places.specs.Goings.{IsGoing}
 use Rattle.html_tokenizer.specs.Tells.{Asks}
 use Rattle.html_tokenizer.proofs.TellsLemmas.{answers_pause, asks_behind, none_asked, tells_same, tells_then}
-use Rattle.html_tokenizer.proofs.Undecided.{undecided}
+use Rattle.html_tokenizer.proofs.Undecided.{AreOpenEnded, undecided}
+use Rattle.html_tokenizer.proofs.PauseMarks.{has_taken_more, has_taken_none, pauses_behind}
 use Rattle.html_tokenizer.proofs.QueueTaken.{taken_more}
 use Rattle.html_tokenizer.proofs.ReadsLemmas.{leaves_same}
 use Rattle.html_tokenizer.proofs.tokenizer.Tokenizer.read.Goals as goal
@@ -19,13 +21,16 @@ returns-in-Some-2-clause-takes g c = taken_more c.args.queue.now c.characters.qu
 
 pub characters-preserved : goal.characters-preserved
 characters-preserved g c = record {
-  ready = c.in_ok-pause.ensures.ready;
+  fit = c.in_ok-pause.ensures.fit;
+  table = c.take.ensures.table ∙ c.characters.invariant.table;
   over = c.take.ensures.over;
   holds = c.in_ok-pause.ensures.holds;
   tells = tells_then g.Sink.TokenSink.step g.Sink.TokenSink.reply (g.Sink.TokenSink.state c.args.self.now.sink) (g.Sink.TokenSink.state c.characters.self.sink) (g.Sink.TokenSink.state c.take.new.self.sink)
       c.characters.invariant.tells (none_asked g.Sink.TokenSink.step g.Sink.TokenSink.reply c.in_ok-pause.field-0 (g.Sink.TokenSink.state c.characters.self.sink) (g.Sink.TokenSink.state c.take.new.self.sink) c.in_default-2.not-Some c.in_ok-pause.ensures.asks);
   shorter = omega (arith, ap length c.in-Some.ensures.takes.text, c.characters.invariant.shorter);
   takes = taken_more c.args.queue.now c.characters.queue c.next.new.self c.in-Some.c c.characters.invariant.takes c.in-Some.ensures.takes;
+  taken = has_taken_more (Completes g.Sink.TokenSink.state g.Sink.TokenSink.step g.Sink.TokenSink.reply g.Sink.TokenSink.foreign c.args.self.now) (Completes g.Sink.TokenSink.state g.Sink.TokenSink.step g.Sink.TokenSink.reply g.Sink.TokenSink.foreign c.characters.self) (Completes g.Sink.TokenSink.state g.Sink.TokenSink.step g.Sink.TokenSink.reply g.Sink.TokenSink.foreign c.take.new.self)
+      c.args.queue.now c.characters.queue c.next.new.self c.in-Some.c c.characters.invariant.taken c.in-Some.ensures.takes c.in_ok-pause.ensures.reads;
   reads = λ rest final l. c.characters.invariant.reads rest final
       (subst (λ x. Completes g.Sink.TokenSink.state g.Sink.TokenSink.step g.Sink.TokenSink.reply g.Sink.TokenSink.foreign c.characters.self (x ++ rest) final) (sym c.in-Some.ensures.takes.text) (c.in_ok-pause.ensures.reads (c.next.new.self.text ++ rest) final l));
 }
@@ -65,12 +70,14 @@ returns-clause-asks g c =
 
 pub characters-init : goal.characters-init
 characters-init g c = record {
-  ready = c.requires.ready;
+  fit = c.requires.fit;
+  table = refl;
   over = c.requires.over;
   holds = c.requires.holds;
   tells = tells_same g.Sink.TokenSink.step g.Sink.TokenSink.reply (g.Sink.TokenSink.state c.args.self.now.sink) (g.Sink.TokenSink.state c.args.self.now.sink) refl;
   shorter = omega arith;
   takes = record { taken = []; takes = refl };
+  taken = has_taken_none (Completes g.Sink.TokenSink.state g.Sink.TokenSink.step g.Sink.TokenSink.reply g.Sink.TokenSink.foreign c.args.self.now) c.args.queue.now;
   reads = λ rest final l. l;
 }
 
@@ -79,5 +86,20 @@ returns-clause-done g c = λ _.
     let holds = subst (λ p. IsGoing c.characters.self.table c.tell_run.new.self.mode.last_start_tag p.place (chars (string_bytes p.held))) (sym c.tell_run.ensures.pending)
     (subst (λ (m : Mode). IsGoing c.characters.self.table m.last_start_tag c.characters.self.reader.pending.place (chars (string_bytes c.characters.self.reader.pending.held))) (sym c.tell_run.ensures.mode) c.characters.invariant.holds) in (
       ap (λ (q : Queue). q.text) c.in_default.ensures.takes.1 ∙ c.in_default.ensures.takes.0,
-      (c.in_ok-tell_run.ensures.run, undecided c.characters.self.table c.characters.self.line_ends c.tell_run.new.self c.going_is_no_lexeme.ensures holds),
+      (c.in_ok-tell_run.ensures.run, undecided c.characters.self.table c.characters.self.line_ends c.tell_run.new.self c.going_is_no_lexeme-2.ensures holds),
     )
+
+pub returns-in-Some-2-clause-pauses : goal.returns-in-Some-2-clause-pauses
+returns-in-Some-2-clause-pauses g c = λ _.
+    let shorter : length c.next.new.self.text < length c.args.queue.now.text = omega (arith, ap length c.in-Some.ensures.takes.text, c.characters.invariant.shorter) in
+    let emptied = subst (λ p. IfSome p (λ _. IsEmptied c.take.new.self)) c.in-Some-2.is c.in_ok-pause.ensures.paused in
+    (shorter, emptied)
+
+pub returns-in-Some-2-clause-behind : goal.returns-in-Some-2-clause-behind
+returns-in-Some-2-clause-behind g c = λ _.
+    let before = c.characters.self in
+    let law = subst AreOpenEnded c.take.ensures.table c.going_is_no_lexeme.ensures in
+    let mark = subst (λ p. IfSome p (λ _. c.in-Some.c ≡ greater)) c.in-Some-2.is c.in_ok-pause.ensures.greater in
+    pauses_behind g.Sink.TokenSink.state g.Sink.TokenSink.step g.Sink.TokenSink.reply g.Sink.TokenSink.foreign greater c.in-Some.c (g.Sink.TokenSink.state c.args.self.now.sink)
+    (Completes g.Sink.TokenSink.state g.Sink.TokenSink.step g.Sink.TokenSink.reply g.Sink.TokenSink.foreign c.args.self.now) c.args.queue.now c.characters.queue c.next.new.self before c.characters.invariant.taken c.characters.invariant.tells
+    (undecided before.table before.line_ends before.reader law c.characters.invariant.holds) c.in-Some.ensures.takes mark

@@ -1,17 +1,22 @@
 use Rattle.std.proofs.Common.{◌≡◌, true, length, ◌++◌, ◌≤◌}
-use Rattle.html_tokenizer.specs.Completes.{Completes, TakesSome}
+use Rattle.html_tokenizer.specs.Completes.{TakesSome}
+use Rattle.html_tokenizer.specs.Fits.{IsFitReader}
+use Rattle.html_tokenizer.specs.Inside.{Completes}
 use Rattle.html_tokenizer.specs.Holdings.{Holds}
 use Rattle.html_tokenizer.specs.Tells.{TellsOn}
+use Rattle.html_tokenizer.proofs.PauseMarks.{HasTaken}
 use Rattle.html_tokenizer.proofs.tokenizer.Tokenizer.read.Given as goal
 
 abbrev pub invariant-characters : goal.invariant-characters
 invariant-characters g l = record {
-  ready : g.Sink.TokenSink.ready (g.Sink.TokenSink.state l.self.sink);
+  fit : IsFitReader g.Sink.TokenSink.ready g.Sink.TokenSink.welcomes l.self.reader (g.Sink.TokenSink.state l.self.sink);
+  table : l.self.table ≡ l.fn.self.table;
   over : l.self.is_over ≡ true;
   holds : Holds l.self.table l.self.reader;
   tells : TellsOn g.Sink.TokenSink.step g.Sink.TokenSink.reply (g.Sink.TokenSink.state l.fn.self.sink) (g.Sink.TokenSink.state l.self.sink);
   shorter : length l.queue.text ≤ length l.fn.queue.text;
   takes : TakesSome l.fn.queue l.queue;
+  taken : HasTaken (Completes g.Sink.TokenSink.state g.Sink.TokenSink.step g.Sink.TokenSink.reply g.Sink.TokenSink.foreign l.fn.self) (Completes g.Sink.TokenSink.state g.Sink.TokenSink.step g.Sink.TokenSink.reply g.Sink.TokenSink.foreign l.self) l.fn.queue l.queue;
   reads : (rest : _) (final : _) → Completes g.Sink.TokenSink.state g.Sink.TokenSink.step g.Sink.TokenSink.reply g.Sink.TokenSink.foreign l.self (l.queue.text ++ rest) final →
       Completes g.Sink.TokenSink.state g.Sink.TokenSink.step g.Sink.TokenSink.reply g.Sink.TokenSink.foreign l.fn.self (l.fn.queue.text ++ rest) final;
 }

@@ -3,6 +3,7 @@ use Rattle.std.proofs.lemmas.Str.{chars-nil}
 use Rattle.std.specs.Str.{chars}
 use Rattle.html_grammar.specs.Items.{characters}
 use Rattle.html_grammar.specs.Reading.{Reading}
+use Rattle.html_tokenizer.specs.Completes.{Completes, is_text_state, last_start_tag_of, nothing_pending, table_of, text_left}
 use Rattle.html_tokenizer.specs.PageRest.{page_rest}
 use Rattle.html_tokenizer.specs.declared.pending.Pending.{Pending}
 use Rattle.html_tokenizer.proofs.GoingLemmas.{no_run, text_open}
@@ -10,6 +11,7 @@ use Rattle.html_tokenizer.proofs.ReadsLemmas.{held_none, reading_of}
 use Rattle.html_tokenizer.proofs.tokenizer.Tokenizer.set_plaintext_state.Goals as goal
 
 pub returns-clause-plain : goal.returns-clause-plain
+unfolding Completes table_of last_start_tag_of text_left is_text_state nothing_pending
 returns-clause-plain g c = λ page final l.
     let t = c.args.self.now in
     let step = g.Sink.TokenSink.step in

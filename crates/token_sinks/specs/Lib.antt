@@ -1,0 +1,4 @@
+pub mod KeptTokens
+pub mod KeptTokensLaws
+pub mod PreformattedText
+pub mod PreformattedTextLaws
