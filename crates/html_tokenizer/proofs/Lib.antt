@@ -1,3 +1,4 @@
+pub mod Emptied
 pub mod GoingLemmas
 pub mod PauseMarks
 pub mod PendingLemmas
@@ -6,5 +7,4 @@ pub mod RawReads
 pub mod ReadsLemmas
 pub mod ReadyLemmas
 pub mod TellsLemmas
-pub mod Unanswered
 pub mod Undecided

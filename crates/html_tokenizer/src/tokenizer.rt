@@ -82,7 +82,7 @@ impl<Sink: TokenSink> Tokenizer<Sink> {
     /// It pauses exactly where the sink asks, right behind the tag's `>`, and holds nothing back then. At `Done` all text
     /// that was read is told, and what is held back is the beginning of a lexeme that what follows decides. The error is
     /// want of memory; after it, and after the end, every call is refused as `Failed` and takes nothing from the queue.
-    #[tactic(auto, unfolding(crate::specs::Completes::has_failed, crate::specs::Completes::IsFit, crate::specs::Completes::Completes, crate::specs::Completes::HasTold, crate::specs::Completes::IsEmptied, crate::specs::Completes::IsUndecided, crate::specs::Completes::table_of))]
+    #[tactic(auto, unfolding(crate::specs::Completes::has_failed, crate::specs::Completes::IsFit, crate::specs::Completes::Completes, crate::specs::Completes::HasTold, crate::specs::Completes::IsEmptied, crate::specs::Completes::IsUndecided, crate::specs::Completes::table_of, crate::specs::Completes::is_text_state, crate::specs::Completes::nothing_pending))]
     pub fn feed(
         &mut self,
         queue: &mut BufferQueue,
@@ -98,7 +98,8 @@ impl<Sink: TokenSink> Tokenizer<Sink> {
         ensures takes { OnOk result (TakesSome queue.old queue.new) }
         ensures done { result ≡ Ok TokenizerResult.Done → (queue.new.text ≡ []) × (HasTold self.new × IsUndecided self.new) }
         ensures pauses { IfOk result (λ r. (r ≡ TokenizerResult.Done → ⊥) →
-            (length queue.new.text < length queue.old.text) × IsEmptied self.new) }
+            (length queue.new.text < length queue.old.text) × (IsEmptied self.new
+            × ((is_text_state self.new ≡ true) × (nothing_pending self.new ≡ true)))) }
         ensures behind { IfOk result (λ r. (r ≡ TokenizerResult.Done → ⊥) → PausesBehind Sink.state Sink.step Sink.reply Sink.foreign greater
             (Sink.state self.old.sink) (Completes Sink.state Sink.step Sink.reply Sink.foreign self.old) queue.old queue.new) }
         ensures asks { IfOk result (λ r. Answers Sink.step Sink.reply r (Sink.state self.old.sink) (Sink.state self.new.sink)) }
@@ -152,7 +153,8 @@ impl<Sink: TokenSink> Tokenizer<Sink> {
         ensures takes { OnOk result (TakesSome queue.old queue.new) }
         ensures done { result ≡ Ok TokenizerResult.Done → (queue.new.text ≡ []) × (inside.HasTold self.new × inside.IsUndecided self.new) }
         ensures pauses { IfOk result (λ r. (r ≡ TokenizerResult.Done → ⊥) →
-            (length queue.new.text < length queue.old.text) × inside.IsEmptied self.new) }
+            (length queue.new.text < length queue.old.text) × (inside.IsEmptied self.new
+            × ((inside.is_text_state self.new ≡ true) × (inside.nothing_pending self.new ≡ true)))) }
         ensures behind { IfOk result (λ r. (r ≡ TokenizerResult.Done → ⊥) → PausesBehind Sink.state Sink.step Sink.reply Sink.foreign greater
             (Sink.state self.old.sink) (inside.Completes Sink.state Sink.step Sink.reply Sink.foreign self.old) queue.old queue.new) }
         ensures asks { IfOk result (λ r. Answers Sink.step Sink.reply r (Sink.state self.old.sink) (Sink.state self.new.sink)) }

@@ -11,6 +11,7 @@ use Rattle.lexeme_places.specs.Goings.{IsGoing}
 use Rattle.html_tokenizer.specs.Tells.{Asks}
 use Rattle.html_tokenizer.proofs.TellsLemmas.{answers_pause, asks_behind, none_asked, tells_same, tells_then}
 use Rattle.html_tokenizer.proofs.Undecided.{AreOpenEnded, undecided}
+use Rattle.html_tokenizer.proofs.Emptied.{emptied_pending, emptied_text}
 use Rattle.html_tokenizer.proofs.PauseMarks.{has_taken_more, has_taken_none, pauses_behind}
 use Rattle.html_tokenizer.proofs.QueueTaken.{taken_more}
 use Rattle.html_tokenizer.proofs.ReadsLemmas.{leaves_same}
@@ -93,7 +94,7 @@ pub returns-in-Some-2-clause-pauses : goal.returns-in-Some-2-clause-pauses
 returns-in-Some-2-clause-pauses g c = λ _.
     let shorter : length c.next.new.self.text < length c.args.queue.now.text = omega (arith, ap length c.in-Some.ensures.takes.text, c.characters.invariant.shorter) in
     let emptied = subst (λ p. IfSome p (λ _. IsEmptied c.take.new.self)) c.in-Some-2.is c.in_ok-pause.ensures.paused in
-    (shorter, emptied)
+    (shorter, (emptied, (emptied_text c.take.new.self.reader emptied, emptied_pending c.take.new.self.reader emptied)))
 
 pub returns-in-Some-2-clause-behind : goal.returns-in-Some-2-clause-behind
 returns-in-Some-2-clause-behind g c = λ _.
