@@ -2,6 +2,7 @@ pub mod CommandRules
 pub mod CommandWords
 pub mod Config
 pub mod Decoding
+pub mod Endings
 pub mod Errors
 pub mod LinesText
 pub mod PageLines

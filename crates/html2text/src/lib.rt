@@ -9,6 +9,7 @@ mod laws;
 mod layout;
 mod page_text;
 mod paragraphs;
+mod program;
 mod reading;
 mod response;
 mod rows;
@@ -24,6 +25,7 @@ pub use html_lexemes::{
 pub use laws::one_answer;
 pub use layout::PlainLine;
 pub use paragraphs::one_list;
+pub use program::{Served, serve};
 pub use response::{carry_out, respond};
 pub use text_block_renderer::{
     PlainDecorator, TaggedLine, TaggedLineElement, TaggedString, TooNarrow,
