@@ -1,5 +1,6 @@
 pub mod Counts
 pub mod Device
+pub mod ElementSets
 pub mod Json
 pub mod KnownPart
 pub mod LineEnds
@@ -9,8 +10,10 @@ pub mod QueueAnswers
 pub mod QueueParts
 pub mod References
 pub mod RowWords
+pub mod Sets
 pub mod Shown
 pub mod Table
+pub mod TagSets
 pub mod Tags
 pub mod Texts
 pub mod Tokens
