@@ -5,3 +5,4 @@ pub mod Forest
 pub mod Orders
 pub mod Places
 pub mod RowWords
+pub mod Sinks

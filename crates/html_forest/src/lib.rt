@@ -4,6 +4,7 @@
 mod keeping;
 mod laws;
 mod rows;
+mod sink;
 
 pub use keeping::{
     a_page_alone_is_a_forest, attributes_keep_a_forest, making_keeps_a_forest,
@@ -13,3 +14,4 @@ pub use laws::{
     a_node_stands_where_it_was_put, a_node_taken_out_stands_nowhere, alikeness_is_an_equivalence,
     attributes_are_added, texts_side_by_side_are_one, what_was_not_named_stays,
 };
+pub use sink::{ElementFlags, NodeOrText, QuirksMode, TreeSink};

@@ -1,0 +1,255 @@
+ghost use Rattle.std.specs.Prelude.{◌≡◌, ℕ, Bool, Option, Some, IfOk, OnErr, OnOk, ◌==◌};
+ghost use Rattle.html_forest.specs.Changes.{detached, made, made_element, reparented, with_attributes};
+ghost use Rattle.html_forest.specs.Conditions.{CanPut, CanReparent};
+ghost use Rattle.html_forest.specs.Forest.{Forest, IsElement, comment, contents_of, instruction};
+ghost use Rattle.html_forest.specs.Forest.{is_integration_point, name_of, nodes};
+ghost use Rattle.html_forest.specs.Places.{based_on, before, below, put, with_doctype};
+ghost use Rattle.html_forest.specs.Sinks.{child_of};
+ghost use Rattle.html_forest.specs.declared.sink.QuirksMode.{QuirksMode as Quirks};
+
+use html_lexemes::{Attribute, Attributes, ErrorMessage, ParseFault, QualName, Text};
+
+/// How a page is laid out (WHATWG DOM, 4.5).
+#[derive(Clone, Copy, Debug, PartialEq, Eq)]
+pub enum QuirksMode {
+    /// As old browsers did.
+    Quirks,
+    /// As old browsers did in tables alone.
+    LimitedQuirks,
+    /// As the standards say.
+    NoQuirks,
+}
+
+/// What is put into a tree.
+#[derive(Drop)]
+pub enum NodeOrText<H> {
+    /// A node that stands nowhere yet.
+    AppendNode(H),
+    /// Characters, which join the text right before their place, where there is one.
+    AppendText(Text),
+}
+
+/// What else an element is made with.
+#[derive(Clone, Copy, Debug, PartialEq, Eq)]
+pub struct ElementFlags {
+    /// Whether it is a template, which has contents beside its children (WHATWG HTML, 4.12.3).
+    pub template: bool,
+    /// Whether it is an `annotation-xml` element whose contents are HTML (WHATWG HTML, 13.2.6).
+    pub mathml_annotation_xml_integration_point: bool,
+}
+
+/// What a page's tree is built into. Contracts see a forest, whose nodes have numbers in the order in which they were
+/// made, and a quirks mode. A call that is refused changes neither; the error is want of memory alone.
+pub trait TreeSink {
+    /// What stands for a node.
+    type Handle: Copy;
+
+    /// What a finished tree is given as.
+    type Output;
+
+    ghost number: { Self.Handle → ℕ };
+
+    ghost handle: { ℕ → Self.Handle };
+
+    ghost forest: { Self → Forest };
+
+    ghost quirks: { Self → Quirks };
+
+    ghost tree: { Self.Output → Forest };
+
+    ghost tree_quirks: { Self.Output → Quirks };
+
+    /// The finished tree.
+    fn finish(self) -> Self::Output
+        ensures forest { tree result ≡ forest self }
+        ensures quirks { tree_quirks result ≡ quirks self };
+
+    /// Takes note of a parse error.
+    fn parse_error(&mut self, message: ErrorMessage) -> Result<(), ParseFault>
+        ensures forest { forest self.new ≡ forest self.old }
+        ensures quirks { quirks self.new ≡ quirks self.old };
+
+    /// The document.
+    fn get_document(&self) -> Self::Handle
+        ensures { number result ≡ 0 };
+
+    /// The name of an element.
+    fn elem_name(&self, target: Self::Handle) -> &QualName
+        requires { IsElement (number target) (forest self.now) }
+        ensures { result.now ≡ name_of (number target) (forest self.now) };
+
+    /// An element more, which stands nowhere yet (WHATWG DOM, 4.9, "create an element").
+    fn create_element(
+        &mut self,
+        name: QualName,
+        attrs: Attributes,
+        flags: ElementFlags,
+    ) -> Result<Self::Handle, ParseFault>
+        ensures number { IfOk result (λ made. number made ≡ nodes (forest self.old)) }
+        ensures forest { OnOk result (forest self.new ≡ made_element name attrs flags.template
+            flags.mathml_annotation_xml_integration_point (forest self.old)) }
+        ensures refused { OnErr result (forest self.new ≡ forest self.old) }
+        ensures quirks { quirks self.new ≡ quirks self.old };
+
+    /// A comment more, which stands nowhere yet (WHATWG DOM, 4.14).
+    fn create_comment(&mut self, text: Text) -> Result<Self::Handle, ParseFault>
+        ensures number { IfOk result (λ made. number made ≡ nodes (forest self.old)) }
+        ensures forest { OnOk result (forest self.new ≡ made (comment text) (forest self.old)) }
+        ensures refused { OnErr result (forest self.new ≡ forest self.old) }
+        ensures quirks { quirks self.new ≡ quirks self.old };
+
+    /// A processing instruction more, which stands nowhere yet (WHATWG DOM, 4.13).
+    fn create_pi(&mut self, target: Text, text: Text) -> Result<Self::Handle, ParseFault>
+        ensures number { IfOk result (λ made. number made ≡ nodes (forest self.old)) }
+        ensures forest { OnOk result (forest self.new ≡ made (instruction target text) (forest self.old)) }
+        ensures refused { OnErr result (forest self.new ≡ forest self.old) }
+        ensures quirks { quirks self.new ≡ quirks self.old };
+
+    /// Puts a node or a text behind the children of a node (WHATWG DOM, 4.2.3, "append").
+    fn append(
+        &mut self,
+        parent: Self::Handle,
+        child: NodeOrText<Self::Handle>,
+    ) -> Result<(), ParseFault>
+        requires { CanPut (below (number parent)) (child_of number child) (forest self.old) }
+        ensures forest { OnOk result (forest self.new
+            ≡ put (below (number parent)) (child_of number child) (forest self.old)) }
+        ensures refused { OnErr result (forest self.new ≡ forest self.old) }
+        ensures quirks { quirks self.new ≡ quirks self.old };
+
+    /// Puts a node or a text right before a child (WHATWG DOM, 4.2.3, "insert").
+    fn append_before_sibling(
+        &mut self,
+        sibling: Self::Handle,
+        child: NodeOrText<Self::Handle>,
+    ) -> Result<(), ParseFault>
+        requires { CanPut (before (number sibling)) (child_of number child) (forest self.old) }
+        ensures forest { OnOk result (forest self.new
+            ≡ put (before (number sibling)) (child_of number child) (forest self.old)) }
+        ensures refused { OnErr result (forest self.new ≡ forest self.old) }
+        ensures quirks { quirks self.new ≡ quirks self.old };
+
+    /// Puts a node or a text right before an element that has a parent, else behind the children of another (WHATWG
+    /// HTML, 13.2.6.1, foster parent).
+    fn append_based_on_parent_node(
+        &mut self,
+        element: Self::Handle,
+        prev_element: Self::Handle,
+        child: NodeOrText<Self::Handle>,
+    ) -> Result<(), ParseFault>
+        requires { CanPut (based_on (number element) (number prev_element) (forest self.old))
+            (child_of number child) (forest self.old) }
+        ensures forest { OnOk result (forest self.new
+            ≡ put (based_on (number element) (number prev_element) (forest self.old))
+            (child_of number child) (forest self.old)) }
+        ensures refused { OnErr result (forest self.new ≡ forest self.old) }
+        ensures quirks { quirks self.new ≡ quirks self.old };
+
+    /// Puts a doctype behind the children of the document (WHATWG DOM, 4.6).
+    fn append_doctype_to_document(
+        &mut self,
+        name: Text,
+        public_id: Text,
+        system_id: Text,
+    ) -> Result<(), ParseFault>
+        ensures forest { OnOk result (forest self.new ≡ with_doctype name public_id system_id (forest self.old)) }
+        ensures refused { OnErr result (forest self.new ≡ forest self.old) }
+        ensures quirks { quirks self.new ≡ quirks self.old };
+
+    /// Adds the attributes whose names an element lacks (WHATWG HTML, 13.2.6.4.7, `html` and `body`).
+    fn add_attrs_if_missing(
+        &mut self,
+        target: Self::Handle,
+        attrs: Attributes,
+    ) -> Result<(), ParseFault>
+        requires { IsElement (number target) (forest self.old) }
+        ensures forest { OnOk result (forest self.new ≡ with_attributes (number target) attrs (forest self.old)) }
+        ensures refused { OnErr result (forest self.new ≡ forest self.old) }
+        ensures quirks { quirks self.new ≡ quirks self.old };
+
+    /// Says that a control belongs to a form (WHATWG HTML, 4.10.18.3).
+    fn associate_with_form(
+        &mut self,
+        target: Self::Handle,
+        form: Self::Handle,
+        element: Self::Handle,
+        prev_element: Option<Self::Handle>,
+    ) -> Result<(), ParseFault>
+        ensures forest { forest self.new ≡ forest self.old }
+        ensures quirks { quirks self.new ≡ quirks self.old };
+
+    /// Takes a node out of its parent's children, where it has one (WHATWG DOM, 4.2.3, "remove").
+    fn remove_from_parent(&mut self, target: Self::Handle) -> Result<(), ParseFault>
+        ensures forest { OnOk result (forest self.new ≡ detached (number target) (forest self.old)) }
+        ensures refused { OnErr result (forest self.new ≡ forest self.old) }
+        ensures quirks { quirks self.new ≡ quirks self.old };
+
+    /// Puts all children of a node behind those of another (WHATWG HTML, 13.2.6.4.7, adoption agency).
+    fn reparent_children(
+        &mut self,
+        node: Self::Handle,
+        new_parent: Self::Handle,
+    ) -> Result<(), ParseFault>
+        requires { CanReparent (number node) (number new_parent) (forest self.old) }
+        ensures forest { OnOk result (forest self.new
+            ≡ reparented (number node) (number new_parent) (forest self.old)) }
+        ensures refused { OnErr result (forest self.new ≡ forest self.old) }
+        ensures quirks { quirks self.new ≡ quirks self.old };
+
+    /// What holds a template's contents (WHATWG HTML, 4.12.3).
+    fn get_template_contents(&self, target: Self::Handle) -> Self::Handle
+        requires { (n : ℕ) × (contents_of (number target) (forest self.now) ≡ Some n) }
+        ensures { contents_of (number target) (forest self.now) ≡ Some (number result) };
+
+    /// Whether two handles are of one node.
+    fn same_node(&self, x: Self::Handle, y: Self::Handle) -> bool
+        ensures { result ≡ (number x == number y) };
+
+    /// Sets the quirks mode.
+    fn set_quirks_mode(&mut self, mode: QuirksMode) -> Result<(), ParseFault>
+        ensures forest { forest self.new ≡ forest self.old }
+        ensures quirks { OnOk result (quirks self.new ≡ mode) }
+        ensures refused { OnErr result (quirks self.new ≡ quirks self.old) };
+
+    /// Says that a script must not run (WHATWG HTML, 13.2.6.4.4).
+    fn mark_script_already_started(&mut self, target: Self::Handle) -> Result<(), ParseFault>
+        requires { IsElement (number target) (forest self.old) }
+        ensures forest { forest self.new ≡ forest self.old }
+        ensures quirks { quirks self.new ≡ quirks self.old };
+
+    /// Says that an element is no longer open (WHATWG HTML, 13.2.4.2).
+    fn pop(&mut self, target: Self::Handle) -> Result<(), ParseFault>
+        requires { IsElement (number target) (forest self.old) }
+        ensures forest { forest self.new ≡ forest self.old }
+        ensures quirks { quirks self.new ≡ quirks self.old };
+
+    /// Whether an element is an `annotation-xml` element whose contents are HTML.
+    fn is_mathml_annotation_xml_integration_point(&self, target: Self::Handle) -> bool
+        requires { IsElement (number target) (forest self.now) }
+        ensures { result ≡ is_integration_point (number target) (forest self.now) };
+
+    /// Says which line of the page is read, from 1.
+    fn set_current_line(&mut self, line: u64) -> Result<(), ParseFault>
+        ensures forest { forest self.new ≡ forest self.old }
+        ensures quirks { quirks self.new ≡ quirks self.old };
+
+    /// Whether a declarative shadow root was attached to an element (WHATWG HTML, 13.2.6.4.4).
+    fn attach_declarative_shadow(
+        &mut self,
+        location: Self::Handle,
+        template: Self::Handle,
+        attrs: &[Attribute],
+    ) -> Result<bool, ParseFault>
+        ensures forest { forest self.new ≡ forest self.old }
+        ensures quirks { quirks self.new ≡ quirks self.old };
+
+    /// Says that an option was closed, which a `selectedcontent` element may show (WHATWG HTML, 4.10.10).
+    fn maybe_clone_an_option_into_selectedcontent(
+        &mut self,
+        option: Self::Handle,
+    ) -> Result<(), ParseFault>
+        ensures forest { forest self.new ≡ forest self.old }
+        ensures quirks { quirks self.new ≡ quirks self.old };
+
+    ghost named: { (target : Self.Handle) → handle (number target) ≡ target };
+}
