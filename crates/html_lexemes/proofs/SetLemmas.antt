@@ -1,5 +1,5 @@
 -- A name is looked for among words, one after the other.
-use Rattle.std.proofs.Common.{◌≡◌, ℕ, ◌+◌, ◌<◌, ◌≤◌, ◌-◌, length-drop, slice_index_or, Bool, true, false, ◌&&◌, ◌||◌, IsTrue, List, [], ◌∷◌, length, drop, leb, IsUtf8, chars, bytes_eq, refl, sym, ap, subst, ◌∙◌, arith, zero, suc}
+use Rattle.std.proofs.Common.{◌≡◌, ℕ, ◌+◌, ◌<◌, ◌≤◌, length-drop, slice_index_or, true, false, ◌||◌, IsTrue, List, [], ◌∷◌, length, drop, IsUtf8, chars, bytes_eq, sym, ap, subst, ◌∙◌, arith, zero, suc}
 use Rattle.std.specs.Borrow.{Bor}
 use Rattle.std.specs.Bool.{nat_lt}
 use Rattle.std.specs.Str.{IsAscii}

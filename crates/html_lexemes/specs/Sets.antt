@@ -1,6 +1,6 @@
 -- Sets of names: of elements, by their namespaces, and of tags (WHATWG HTML, 13.2.4, 13.2.6 and 13.3). The numbers
 -- are sections of that standard.
-use Rattle.std.specs.Prelude.{ℕ, Bool, false, ◌||◌, List, [], ◌∷◌, codes, bytes_eq, map}
+use Rattle.std.specs.Prelude.{ℕ, Bool, false, ◌||◌, List, [], ◌∷◌, bytes_eq, map}
 use Rattle.std.specs.Borrow.{Bor}
 use Rattle.std.specs.Bool.{nat_lt}
 use Rattle.std.specs.List.{list_all}

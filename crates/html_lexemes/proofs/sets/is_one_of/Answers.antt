@@ -1,6 +1,5 @@
-use Rattle.std.proofs.Common.{◌≡◌, ℕ, ◌+◌, ◌||◌, IsTrue, drop, slice_index_or, chars, List, [], Bor, refl, sym, ap, subst, ◌∙◌, length}
-use Rattle.std.proofs.lemmas.List.{drop_more}
-use Rattle.html_lexemes.specs.Sets.{are_ascii, is_one_of, words_of}
+use Rattle.std.proofs.Common.{[], refl, sym, ap, ◌∙◌}
+use Rattle.html_lexemes.specs.Sets.{is_one_of, words_of}
 use Rattle.html_lexemes.proofs.SetLemmas.{found, not_found, none_left, other_words}
 use Rattle.html_lexemes.proofs.sets.is_one_of.Goals as goal
 
