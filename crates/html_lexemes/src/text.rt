@@ -1,4 +1,4 @@
-ghost use Rattle.std.specs.Prelude.{◌≡◌, IfOk, chars, string_bytes, encode_utf8_all, Some};
+ghost use Rattle.std.specs.Prelude.{◌≡◌, ◌++◌, IfOk, OnErr, OnOk, chars, string_bytes, encode_utf8_all, Some};
 ghost use Rattle.std.specs.Ordering.{nat_cmp};
 ghost use Rattle.std.specs.Cmp.Lexicographic.{slice_cmp, pointwise, texts_ties, texts_po, nat_list_cmp_total, nat_list_eq_equiv};
 ghost use Rattle.std.specs.Cmp as Cmp;
@@ -53,6 +53,15 @@ impl Text {
     {
         let Text { text } = self;
         text
+    }
+
+    /// Adds characters behind the others. The error is want of memory alone, and leaves the text as it was.
+    pub fn push_str(&mut self, more: &str) -> Result<(), AllocError>
+        ensures ok { OnOk result (self.new ≡ self.old ++ chars more.now) }
+        ensures err { OnErr result (self.new ≡ self.old) }
+    {
+        self.text.push_str(more)?;
+        Ok(())
     }
 
     /// An equal text. The error is want of memory alone.
