@@ -1,0 +1,5 @@
+pub mod LawAlike
+pub mod LawLists
+pub mod LawNodes
+pub mod LawPlaces
+pub mod LawTexts
