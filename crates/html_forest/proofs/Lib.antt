@@ -1,4 +1,5 @@
 pub mod LawAlike
+pub mod LawAttributes
 pub mod LawLists
 pub mod LawNodes
 pub mod LawPlaces
