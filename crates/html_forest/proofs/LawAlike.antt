@@ -1,8 +1,9 @@
 -- To be equal up to the numbers of nodes is an equivalence.
-use Rattle.std.proofs.Common.{◌≡◌, ℕ, inl, inr, List, [], ◌∷◌, Option, None, Some, map, refl, sym, ap, ap₂, ◌∙◌, subst, map-id}
+use Rattle.std.proofs.Common.{◌≡◌, ℕ, inl, inr, List, [], ◌∷◌, Option, None, Some, map, refl, sym, ap, ap₂, ◌∙◌, map-id}
 use Rattle.std.proofs.lemmas.Simd.{map-map}
 use Rattle.html_forest.specs.Alike.{AreAlike, kind_by, node_by, number_by}
-use Rattle.html_forest.specs.Forest.{Element, Forest, Holds, Kind, Node, children_at, comment, contents_of, doctype, document, element, element_of, instruction, kind_at, node_at, text}
+use Rattle.html_forest.specs.Forest.{Element, Forest, Holds, Kind, Node, children_at, comment, doctype, document}
+use Rattle.html_forest.specs.Forest.{element, element_of, instruction, kind_at, node_at, text}
 use Rattle.html_forest.specs.Orders.{IsForest, IsIn, of_child, of_contents}
 
 abbrev with_number : Element → Option ℕ → Kind

@@ -1,9 +1,10 @@
 -- Attributes that are added to an element.
-use Rattle.std.proofs.Common.{◌≡◌, ℕ, List, Option, refl, ap, ◌∙◌}
+use Rattle.std.proofs.Common.{◌≡◌, ℕ, List, refl, ap, ◌∙◌}
 use Rattle.html_lexemes.specs.declared.names.Attribute.{Attribute}
-use Rattle.html_lexemes.specs.declared.names.QualName.{QualName}
-use Rattle.html_forest.specs.Changes.{changed, kind_with, with_attributes, with_missing}
-use Rattle.html_forest.specs.Forest.{Forest, Holds, IsElement, IsElementKind, Kind, Node, attributes_of, children_at, comment, contents_of, doctype, document, element, element_of, instruction, kind_at, name_of, text}
+use Rattle.html_forest.specs.Changes.{kind_with, with_attributes, with_missing}
+use Rattle.html_forest.specs.Forest.{Forest, Holds, IsElement, IsElementKind, Kind, Node, attributes_of, children_at}
+use Rattle.html_forest.specs.Forest.{comment, contents_of, doctype, document, element, element_of, instruction}
+use Rattle.html_forest.specs.Forest.{kind_at, name_of, text}
 use Rattle.html_forest.proofs.LawNodes.{changed_here, kept}
 
 abbrev more_of : List Attribute → Node → Node

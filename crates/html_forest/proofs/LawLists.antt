@@ -1,5 +1,6 @@
 -- Numbers in a list: whether one is there, one that is put before another, and one that is left out.
-use Rattle.std.proofs.Common.{◌≡◌, ℕ, Bool, true, false, ◌==◌, if◌then◌else◌, ◌⊎◌, inl, inr, List, [], ◌∷◌, ◌++◌, Option, Some, refl, sym, ap, ◌∙◌, subst}
+use Rattle.std.proofs.Common.{◌≡◌, ℕ, Bool, true, false, ◌==◌, if◌then◌else◌, ◌⊎◌, inl, inr, List, [], ◌∷◌, ◌++◌}
+use Rattle.std.proofs.Common.{Some, refl, sym, ap, ◌∙◌, subst}
 use Rattle.std.proofs.lemmas.Bool.{cases_eq, eq-eqb, eqb-false, ne_eqb}
 use Rattle.html_forest.specs.Changes.{left_out}
 use Rattle.html_forest.specs.Forest.{is_in}
@@ -36,11 +37,11 @@ decided n m ms (inr off) (inr out) = inr none where
   none (inl e) = off e
   none (inr i) = out i
 
-pub decide_in : (n : ℕ) (ms : List ℕ) → IsIn n ms ⊎ ¬ (IsIn n ms)
+decide_in : (n : ℕ) (ms : List ℕ) → IsIn n ms ⊎ ¬ (IsIn n ms)
 decide_in n [] = inr (λ h. h)
 decide_in n (m ∷ ms) = decided n m ms (cases_eq n m) (decide_in n ms)
 
-pub in_middle : (n : ℕ) (front rest : List ℕ) → IsIn n (front ++ n ∷ rest)
+in_middle : (n : ℕ) (front rest : List ℕ) → IsIn n (front ++ n ∷ rest)
 in_middle n [] rest = inl refl
 in_middle n (m ∷ front) rest = inr (in_middle n front rest)
 
@@ -58,15 +59,11 @@ standing n [] h = absurd h
 standing n (m ∷ ms) (inl e) = record { front = []; rest = ms; whole = ap (λ k. k ∷ ms) (sym e) }
 standing n (m ∷ ms) (inr i) = one_more n m ms (standing n ms i)
 
--- of distinct numbers one is neither in front of itself nor behind
+-- of distinct numbers none is in front of itself
 pub not_in_front : (n : ℕ) (front rest : List ℕ) → AreDistinct (front ++ n ∷ rest) → ¬ (IsIn n front)
 not_in_front n [] rest d h = h
 not_in_front n (m ∷ front) rest d (inl e) = d.0 (subst (λ k. IsIn k (front ++ n ∷ rest)) e (in_middle n front rest))
 not_in_front n (m ∷ front) rest d (inr i) = not_in_front n front rest d.1 i
-
-pub not_in_rest : (n : ℕ) (front rest : List ℕ) → AreDistinct (front ++ n ∷ rest) → ¬ (IsIn n rest)
-not_in_rest n [] rest d = d.0
-not_in_rest n (m ∷ front) rest d = not_in_rest n front rest d.1
 
 -- a number that is put before another
 pub put_before_at : (s c : ℕ) (front rest : List ℕ) → ¬ (IsIn s front)
@@ -113,7 +110,7 @@ pub left_out_at : (n : ℕ) (front rest : List ℕ) → AreDistinct (front ++ n 
 left_out_at n [] rest d = chosen_at n n (left_out n rest) (n ∷ left_out n rest) refl ∙ left_out_none n rest d.0
 left_out_at n (m ∷ front) rest d =
     chosen_off m n (left_out n (front ++ n ∷ rest)) (m ∷ left_out n (front ++ n ∷ rest))
-        (λ e. not_in_front n (m ∷ front) rest d (inl (sym e)))
+    (λ e. not_in_front n (m ∷ front) rest d (inl (sym e)))
     ∙ ap (λ l. m ∷ l) (left_out_at n front rest d.1)
 
 out_step : (b : Bool) (n m : ℕ) (ms : List ℕ) → (m == n) ≡ b → ¬ (IsIn n (left_out n ms))

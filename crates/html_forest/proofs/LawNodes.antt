@@ -1,7 +1,9 @@
 -- The nodes of a forest after a change.
-use Rattle.std.proofs.Common.{◌≡◌, ℕ, zero, suc, ◌+◌, ◌<◌, Bool, true, false, if◌then◌else◌, List, [], ◌∷◌, ◌++◌, map, Option, Some, refl, sym, ap, ◌∙◌, subst, add-zero, zero-add, arith}
+use Rattle.std.proofs.Common.{◌≡◌, ℕ, zero, suc, ◌+◌, if◌then◌else◌, [], ◌∷◌, map, Some, refl, sym, ap, ◌∙◌, add-zero}
+use Rattle.std.proofs.Common.{zero-add, arith}
 use Rattle.html_forest.specs.Changes.{changed, made}
-use Rattle.html_forest.specs.Forest.{Forest, Holds, Kind, Node, children_at, document, kind_at, node_at, nodes, parent_from, parent_of}
+use Rattle.html_forest.specs.Forest.{Forest, Holds, Kind, Node, children_at, document, kind_at, node_at, nodes}
+use Rattle.html_forest.specs.Forest.{parent_from, parent_of}
 use Rattle.html_forest.specs.Orders.{IsForest, IsIn, of_child}
 use Rattle.html_forest.proofs.LawLists.{is_in_false, is_in_true}
 
@@ -35,11 +37,6 @@ kept view g zero (suc m) (x ∷ f) h = refl
 kept view g (suc n) zero (x ∷ f) h = refl
 kept view g (suc n) (suc m) (x ∷ f) h = kept view g n m f h
 
-pub changed_nodes : (g : Node → Node) (n : ℕ) (f : Forest) → nodes (changed n g f) ≡ nodes f
-changed_nodes g n [] = refl
-changed_nodes g zero (x ∷ f) = refl
-changed_nodes g (suc n) (x ∷ f) = ap suc (changed_nodes g n f)
-
 -- a node that is made
 pub made_old : (kind : Kind) (m : ℕ) (f : Forest) → Holds m f → node_at m (made kind f) ≡ node_at m f
 made_old kind m [] h = absurd (omega arith)
@@ -68,7 +65,7 @@ only_parent s at zero (x ∷ f) h only =
     ap (λ b. if b then Some at else parent_from s (suc at) f) (is_in_true s x.children h) ∙ ap Some (sym (zero-add at))
 only_parent s at (suc q) (x ∷ f) h only =
     ap (λ b. if b then Some at else parent_from s (suc at) f)
-        (is_in_false s x.children (λ i. let e : zero ≡ suc q = only zero i in omega arith))
+    (is_in_false s x.children (λ i. let e : zero ≡ suc q = only zero i in omega arith))
     ∙ only_parent s (suc at) q f h (λ p i. let e : suc p ≡ suc q = only (suc p) i in omega arith)
     ∙ ap Some (let e : q + suc at ≡ suc q + at = omega arith in e)
 

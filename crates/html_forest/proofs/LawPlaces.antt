@@ -1,12 +1,13 @@
 -- What stands at a place, and what stays, when a node is put or taken out.
-use Rattle.std.proofs.Common.{◌≡◌, ℕ, ◌==◌, ◌⊎◌, inl, inr, List, [], ◌∷◌, ◌++◌, Option, None, Some, refl, sym, ap, ◌∙◌, subst}
+use Rattle.std.proofs.Common.{◌≡◌, ℕ, ◌⊎◌, inl, inr, List, [], ◌∷◌, ◌++◌, Some, refl, sym, ap, ◌∙◌, subst}
 use Rattle.std.proofs.lemmas.Bool.{cases_eq}
 use Rattle.html_forest.specs.Changes.{changed, childless, detached, left_out, reparented, with_more, without_child}
-use Rattle.html_forest.specs.Conditions.{CanPut, IsPlace}
+use Rattle.html_forest.specs.Conditions.{CanPut}
 use Rattle.html_forest.specs.Forest.{Forest, Holds, children_at, kind_at}
 use Rattle.html_forest.specs.Orders.{AreDistinct, IsForest, IsIn, of_child}
 use Rattle.html_forest.specs.Places.{Place, before, behind, below, in_front, node, parent_at, put_before, put_node}
-use Rattle.html_forest.proofs.LawLists.{in_put_before, left_out_at, left_out_none, not_in_front, not_left, put_before_at, put_before_none}
+use Rattle.html_forest.proofs.LawLists.{in_put_before, left_out_at, left_out_none, not_in_front, not_left}
+use Rattle.html_forest.proofs.LawLists.{put_before_at, put_before_none}
 use Rattle.html_forest.proofs.LawNodes.{changed_here, changed_other, kept, mapped, parent_is}
 
 -- the children of nodes after a node is put
@@ -30,9 +31,9 @@ put_there (below p) n q f forest can h = by (cases_eq q p) where
       (subst (IsIn n) (ap (λ x. x.children) (changed_other (behind n) p q f off)) h)))
 put_there (before s) n q f forest can h =
     by (in_put_before s n n (children_at q f) (subst (IsIn n) (put_in_front s n q f) h)) where
-  by : IsIn n (children_at q f) ⊎ IsIn s (children_at q f) → parent_at (before s) f ≡ Some q
-  by (inl i) = absurd (can.1.free q (of_child q n i))
-  by (inr i) = parent_is s q f forest i
+      by : IsIn n (children_at q f) ⊎ IsIn s (children_at q f) → parent_at (before s) f ≡ Some q
+      by (inl i) = absurd (can.1.free q (of_child q n i))
+      by (inr i) = parent_is s q f forest i
 
 -- what a node that is put leaves
 pub put_kinds : (place : Place) (n m : ℕ) (f : Forest) → kind_at m (put_node place n f) ≡ kind_at m f
@@ -65,10 +66,12 @@ out_others n q f h = out_children n q f ∙ left_out_none n (children_at q f) h
 
 -- children that go to another node
 pub reparented_kinds : (old new m : ℕ) (f : Forest) → kind_at m (reparented old new f) ≡ kind_at m f
-reparented_kinds old new m f = kept (λ x. x.kind) (with_more (children_at old f)) new m (changed old childless f) (λ x. refl)
+reparented_kinds old new m f =
+    kept (λ x. x.kind) (with_more (children_at old f)) new m (changed old childless f) (λ x. refl)
     ∙ kept (λ x. x.kind) childless old m f (λ x. refl)
 
 pub reparented_children : (old new q : ℕ) (f : Forest) → ¬ (q ≡ old) → ¬ (q ≡ new)
     → children_at q (reparented old new f) ≡ children_at q f
 reparented_children old new q f from to = ap (λ x. x.children)
-    (changed_other (with_more (children_at old f)) new q (changed old childless f) to ∙ changed_other childless old q f from)
+    (changed_other (with_more (children_at old f)) new q (changed old childless f) to
+    ∙ changed_other childless old q f from)

@@ -1,12 +1,17 @@
 -- Characters at a place: a text that is there grows, else a new one is put.
-use Rattle.std.proofs.Common.{◌≡◌, ℕ, zero, suc, ◌==◌, if◌then◌else◌, ◌⊎◌, inl, inr, List, [], ◌∷◌, ◌++◌, map, Option, None, Some, refl, sym, ap, ◌∙◌, subst, append-nil, append_assoc, add-zero, ◌<◌, arith}
+use Rattle.std.proofs.Common.{◌≡◌, ℕ, zero, suc, if◌then◌else◌, ◌⊎◌, inl, inr, List, [], ◌∷◌, ◌++◌, map, Option, None}
+use Rattle.std.proofs.Common.{Some, refl, sym, ap, ◌∙◌, subst, append-nil, append_assoc, add-zero, ◌<◌, arith}
 use Rattle.html_forest.specs.Changes.{changed, made, saying, saying_kind}
 use Rattle.html_forest.specs.Conditions.{IsPlace}
-use Rattle.html_forest.specs.Forest.{Forest, Holds, Kind, Node, children_at, comment, doctype, document, element, instruction, is_in, kind_at, node_at, nodes, parent_from, parent_of, text, text_of}
+use Rattle.html_forest.specs.Forest.{Forest, Holds, Kind, Node, children_at, comment, doctype, document, element}
+use Rattle.html_forest.specs.Forest.{instruction, is_in, kind_at, nodes, parent_from, parent_of, text, text_of}
 use Rattle.html_forest.specs.Orders.{AreDistinct, IsForest, IsIn, of_child}
-use Rattle.html_forest.specs.Places.{Place, before, behind, below, in_front, last_of, neighbour, one_before, put_before, put_node, put_words, siblings_of}
-use Rattle.html_forest.proofs.LawLists.{Standing, in_middle, in_put_before, last_of_end, not_in_front, one_before_put, put_before_at, standing}
-use Rattle.html_forest.proofs.LawNodes.{changed_nodes, changed_other, kept, made_children, made_new, made_nodes, made_old, only_parent, parent_is}
+use Rattle.html_forest.specs.Places.{Place, before, behind, below, in_front, last_of, neighbour, one_before}
+use Rattle.html_forest.specs.Places.{put_before, put_node, put_words, siblings_of}
+use Rattle.html_forest.proofs.LawLists.{Standing, in_put_before, last_of_end, not_in_front, one_before_put}
+use Rattle.html_forest.proofs.LawLists.{put_before_at, standing}
+use Rattle.html_forest.proofs.LawNodes.{changed_other, kept, made_children, made_new, made_nodes, made_old}
+use Rattle.html_forest.proofs.LawNodes.{only_parent, parent_is}
 use Rattle.html_forest.proofs.LawPlaces.{put_below, put_in_front, put_kinds}
 
 new_text : (place : Place) (c : ℕ) (cs : List ℕ) (f : Forest) → neighbour place f ≡ None
@@ -26,8 +31,9 @@ fresh_kinds : (place : Place) (kind : Kind) (m : ℕ) (f : Forest) → Holds m f
     → kind_at m (put_node place (nodes f) (made kind f)) ≡ kind_at m f
 fresh_kinds place kind m f h = put_kinds place (nodes f) m (made kind f) ∙ ap (λ x. x.kind) (made_old kind m f h)
 
-words_found : (place : Place) (c : ℕ) (cs : List ℕ) (n m : ℕ) (f : Forest) (said : Option (List ℕ)) → neighbour place f ≡ Some n
-    → text_of (kind_at n f) ≡ said → Holds m f → ¬ (m ≡ n) → kind_at m (put_words place (c ∷ cs) f) ≡ kind_at m f
+words_found : (place : Place) (c : ℕ) (cs : List ℕ) (n m : ℕ) (f : Forest) (said : Option (List ℕ))
+    → neighbour place f ≡ Some n → text_of (kind_at n f) ≡ said → Holds m f → ¬ (m ≡ n)
+    → kind_at m (put_words place (c ∷ cs) f) ≡ kind_at m f
 words_found place c cs n m f None e k h off =
     ap (kind_at m) (new_text_behind place c cs n f e k) ∙ fresh_kinds place (text (c ∷ cs)) m f h
 words_found place c cs n m f (Some said) e k h off = ap (kind_at m) (text_more place c cs said n f e k)
@@ -97,7 +103,7 @@ same_neighbour cs (below p) n f forest is = ap last_of (kept (λ x. x.children) 
 same_neighbour cs (before s) n f forest is =
     let e = parent_is s is.0 f forest is.1 in
     ap (one_before s) (siblings_are s is.0 (changed n (saying cs) f) (parent_kept cs n s 0 f ∙ e)
-        ∙ kept (λ x. x.children) (saying cs) n is.0 f (λ x. refl) ∙ sym (siblings_are s is.0 f e))
+    ∙ kept (λ x. x.children) (saying cs) n is.0 f (λ x. refl) ∙ sym (siblings_are s is.0 f e))
 
 -- a new text is the node right before its place
 in_behind : (n c : ℕ) (front rest : List ℕ) → IsIn n (front ++ c ∷ n ∷ rest)
@@ -112,7 +118,7 @@ still_in : (s q : ℕ) (kind : Kind) (f : Forest)
     → IsIn s (children_at q (put_node (before s) (nodes f) (made kind f))) → IsIn s (children_at q f)
 still_in s q kind f i = subst (IsIn s) (made_children kind q f) (either_in s (children_at q (made kind f))
     (in_put_before s (nodes f) s (children_at q (made kind f))
-        (subst (IsIn s) (put_in_front s (nodes f) q (made kind f)) i)))
+    (subst (IsIn s) (put_in_front s (nodes f) q (made kind f)) i)))
 
 new_children : (s p : ℕ) (front rest : List ℕ) (kind : Kind) (f : Forest) → IsForest f
     → children_at p f ≡ front ++ s ∷ rest
@@ -129,12 +135,12 @@ new_before : (s p : ℕ) (kind : Kind) (f : Forest) → IsForest f → IsIn s (c
 new_before s p kind f forest i stand =
     let g : Forest = put_node (before s) (nodes f) (made kind f) in
     let e : children_at p g ≡ stand.front ++ nodes f ∷ s ∷ stand.rest =
-        new_children s p stand.front stand.rest kind f forest stand.whole in
+    new_children s p stand.front stand.rest kind f forest stand.whole in
     let there : IsIn s (children_at p g) = subst (IsIn s) (sym e) (in_behind s (nodes f) stand.front stand.rest) in
     let parent : parent_of s g ≡ Some p = only_parent s 0 p g there (λ q j.
-        forest.single q p s (of_child q s (still_in s q kind f j)) (of_child p s i)) ∙ ap Some (add-zero p) in
+    forest.single q p s (of_child q s (still_in s q kind f j)) (of_child p s i)) ∙ ap Some (add-zero p) in
     ap (one_before s) (siblings_are s p g parent ∙ e) ∙ one_before_put s (nodes f) stand.front stand.rest
-        (not_in_front s stand.front stand.rest (subst AreDistinct stand.whole (forest.once p))) (not_new s p f forest i)
+    (not_in_front s stand.front stand.rest (subst AreDistinct stand.whole (forest.once p))) (not_new s p f forest i)
 
 more_held : (kind : Kind) (p : ℕ) (f : Forest) → Holds p f → Holds p (made kind f)
 more_held kind p f h = let e : nodes (made kind f) ≡ suc (nodes f) = made_nodes kind f in omega arith
@@ -173,13 +179,13 @@ changed_made cs ds (x ∷ f) = ap (λ g. x ∷ g) (changed_made cs ds f)
 
 new_twice : (place : Place) (cs : List ℕ) (d : ℕ) (ds : List ℕ) (f : Forest) → IsForest f → IsPlace place f
     → put_node place (nodes f) (made (text (cs ++ d ∷ ds)) f)
-        ≡ put_words place (d ∷ ds) (put_node place (nodes f) (made (text cs) f))
+    ≡ put_words place (d ∷ ds) (put_node place (nodes f) (made (text cs) f))
 new_twice place cs d ds f forest is =
     ap (put_node place (nodes f)) (sym (changed_made cs (d ∷ ds) f))
     ∙ sym (changed_put (d ∷ ds) place (nodes f) (nodes f) (made (text cs) f))
     ∙ sym (text_more place d ds cs (nodes f) (put_node place (nodes f) (made (text cs) f))
-        (new_neighbour place (text cs) f forest is)
-        (ap text_of (put_kinds place (nodes f) (nodes f) (made (text cs) f) ∙ made_new (text cs) f)))
+    (new_neighbour place (text cs) f forest is)
+    (ap text_of (put_kinds place (nodes f) (nodes f) (made (text cs) f) ∙ made_new (text cs) f)))
 
 -- texts side by side, by what stands right before their place
 on_found : (place : Place) (c : ℕ) (cs : List ℕ) (d : ℕ) (ds : List ℕ) (n : ℕ) (f : Forest) (said : Option (List ℕ))
@@ -191,7 +197,7 @@ on_found place c cs d ds n f None forest is e k = new_text_behind place c (cs ++
 on_found place c cs d ds n f (Some said) forest is e k = text_more place c (cs ++ d ∷ ds) said n f e k
     ∙ sym (changed_twice (c ∷ cs) (d ∷ ds) n f)
     ∙ sym (text_more place d ds (said ++ c ∷ cs) n (changed n (saying (c ∷ cs)) f)
-        (same_neighbour (c ∷ cs) place n f forest is ∙ e) (grown (c ∷ cs) said n f k))
+    (same_neighbour (c ∷ cs) place n f forest is ∙ e) (grown (c ∷ cs) said n f k))
     ∙ ap (put_words place (d ∷ ds)) (sym (text_more place c cs said n f e k))
 
 on_place : (place : Place) (c : ℕ) (cs : List ℕ) (d : ℕ) (ds : List ℕ) (f : Forest) (found : Option ℕ)
