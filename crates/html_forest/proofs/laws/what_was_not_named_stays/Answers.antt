@@ -1,5 +1,6 @@
 use Rattle.html_forest.proofs.LawNodes.{changed_other, made_old}
-use Rattle.html_forest.proofs.LawPlaces.{out_kinds, out_others, put_children, put_kinds, reparented_children, reparented_kinds}
+use Rattle.html_forest.proofs.LawPlaces.{out_kinds, out_others, put_children, put_kinds}
+use Rattle.html_forest.proofs.LawPlaces.{reparented_children, reparented_kinds}
 use Rattle.html_forest.proofs.LawTexts.{words_kinds}
 use Rattle.html_forest.proofs.laws.what_was_not_named_stays.Goals as goal
 
