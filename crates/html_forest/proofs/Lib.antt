@@ -1,0 +1,6 @@
+pub mod LawAlike
+pub mod LawAttributes
+pub mod LawLists
+pub mod LawNodes
+pub mod LawPlaces
+pub mod LawTexts
