@@ -5,6 +5,7 @@ mod keeping;
 mod laws;
 mod rows;
 mod sink;
+mod standing;
 
 pub use keeping::{
     a_page_alone_is_a_forest, attributes_keep_a_forest, making_keeps_a_forest,
@@ -15,3 +16,7 @@ pub use laws::{
     attributes_are_added, texts_side_by_side_are_one, what_was_not_named_stays,
 };
 pub use sink::{ElementFlags, NodeOrText, QuirksMode, TreeSink};
+pub use standing::{
+    how_many_nodes_there_are, what_a_parent_alone_is_changed_by, what_a_text_says,
+    what_was_made_may_be_put, where_children_stand,
+};
