@@ -1,0 +1,4 @@
+pub mod KeptForests
+pub mod Nodes
+pub mod Numbers
+pub mod Relations
