@@ -1,4 +1,5 @@
 pub mod KeptForests
+pub mod MovedNodes
 pub mod Nodes
 pub mod Numbers
 pub mod Relations
