@@ -7,18 +7,9 @@ use Rattle.html_forest.specs.Forest.{Forest, Holds, Node, children_at, contents_
 use Rattle.html_forest.specs.Orders.{AreDistinct, AtOrAbove, HasNoParent, IsDocument, IsForest, IsIn, IsParent, of_child, of_contents}
 use Rattle.html_forest.specs.Places.{Place, before, behind, below, in_front, put_before, put_node}
 use Rattle.html_forest.proofs.KeptForests.{IsFit, IsMoved, edges_from, moved, none_added, one_added}
-use Rattle.html_forest.proofs.Nodes.{changed_at, contents_said, contents_with, document_said, document_with, mapped_at, size_changed, size_mapped}
+use Rattle.html_forest.proofs.Nodes.{changed_has, contents_said, contents_with, document_said, document_with, mapped_at, size_changed, size_mapped}
 use Rattle.html_forest.proofs.Numbers.{distinct_append, distinct_left_out, distinct_one, distinct_put_before, in_append, in_left_out, in_one, in_put_before}
 use Rattle.html_forest.proofs.Relations.{at_or_above_in, either, with_edge}
-
--- one of two nodes stands at a place: what holds of both
-one_or_other : (P : Node → Type 0) (A : Type 0) (x y z : Node) → (x ≡ y) ⊎ (A × (x ≡ z)) → P y → (A → P z) → P x
-one_or_other P A x y z (inl e) old new = subst P (sym e) old
-one_or_other P A x y z (inr e) old new = subst P (sym e.1) (new e.0)
-
-abbrev changed_has : (P : Node → Type 0) (a p : ℕ) (h : Node → Node) (f : Forest) → P (node_at a f) → (a ≡ p → P (h (node_at a f))) →
-    P (node_at a (changed p h f))
-changed_has P a p h f = one_or_other P (a ≡ p) _ _ _ (changed_at a p h f)
 
 -- below a node
 pub below_moved : (p n : ℕ) (f : Forest) → IsForest f → HasNoParent n f → IsMoved f (changed p (behind n) f) p (λ b. b ≡ n)

@@ -1,5 +1,5 @@
 -- What stands at a node behind a change, and what a change of a kind keeps.
-use Rattle.std.proofs.Common.{◌≡◌, ℕ, zero, suc, ◌+◌, ◌<◌, ◌⊎◌, inl, inr, refl, sym, ap, ◌∙◌, List, [], ◌∷◌, ◌++◌, Option, None, Some, map, length, arith}
+use Rattle.std.proofs.Common.{◌≡◌, ℕ, zero, suc, ◌+◌, ◌<◌, ◌⊎◌, inl, inr, refl, sym, ap, subst, ◌∙◌, List, [], ◌∷◌, ◌++◌, Option, None, Some, map, length, arith}
 use Rattle.html_lexemes.specs.declared.names.Attribute.{Attribute}
 use Rattle.html_forest.specs.Changes.{changed, kind_with, made, saying_kind}
 use Rattle.html_forest.specs.Forest.{Element, Forest, Holds, Kind, Node, children_at, comment, contents_of, doctype, document, element, element_of, instruction, kind_at, node_at, nodes, text}
@@ -16,6 +16,15 @@ changed_at zero zero h (x ∷ f) = inr (refl, refl)
 changed_at zero (suc p) h (x ∷ f) = inl refl
 changed_at (suc q) zero h (x ∷ f) = inl refl
 changed_at (suc q) (suc p) h (x ∷ f) = one_further q p (changed_at q p h f)
+
+-- one of two nodes stands at a place: what holds of both
+one_or_other : (P : Node → Type 0) (A : Type 0) (x y z : Node) → (x ≡ y) ⊎ (A × (x ≡ z)) → P y → (A → P z) → P x
+one_or_other P A x y z (inl e) old new = subst P (sym e) old
+one_or_other P A x y z (inr e) old new = subst P (sym e.1) (new e.0)
+
+pub changed_has : (P : Node → Type 0) (a p : ℕ) (h : Node → Node) (f : Forest) → P (node_at a f) → (a ≡ p → P (h (node_at a f))) →
+    P (node_at a (changed p h f))
+changed_has P a p h f = one_or_other P (a ≡ p) _ _ _ (changed_at a p h f)
 
 pub mapped_at : (q : ℕ) (h : Node → Node) (f : Forest) → h (node_at q []) ≡ node_at q [] → node_at q (map h f) ≡ h (node_at q f)
 mapped_at q h [] e = sym e
