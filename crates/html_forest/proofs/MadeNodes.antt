@@ -155,8 +155,8 @@ text_kept place cs f forest there = new_kept (text cs) f forest refl place there
 add_kept : (place : Place) (c : ℕ) (cs : List ℕ) (n : ℕ) (f : Forest) → IsForest f → IsPlace place f → neighbour place f ≡ Some n →
     IsForest (put_words place (c ∷ cs) f)
 add_kept place c cs n f forest there e = either
-    (λ none. rw (e, none) (text_kept place (c ∷ cs) f forest there))
-    (λ some. rw (e, some.1) (said_kept n (c ∷ cs) f forest))
+    (λ none. rw e (rw none (text_kept place (c ∷ cs) f forest there)))
+    (λ some. rw e (rw some.1 (said_kept n (c ∷ cs) f forest)))
     (option_cases (text_of (kind_at n f)))
 
 words_kept : (place : Place) (cs : List ℕ) (f : Forest) → IsForest f → IsPlace place f → IsForest (put_words place cs f)
