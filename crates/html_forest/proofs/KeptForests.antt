@@ -1,7 +1,7 @@
 -- What a change must keep, so that nodes stay a forest.
-use Rattle.std.proofs.Common.{◌≡◌, ℕ, zero, suc, ◌+◌, ◌<◌, ◌≤◌, ◌⊎◌, inl, inr, refl, sym, ap, subst, ◌∙◌, List, [], ◌∷◌, ◌++◌, Option, None, Some, length, arith}
-use Rattle.html_forest.specs.Forest.{Forest, Holds, children_at, contents_of, document, kind_at, nodes, page_alone}
-use Rattle.html_forest.specs.Orders.{Above, AreDistinct, AtOrAbove, HasNoParent, IsDocument, IsForest, IsIn, IsParent, of_child, of_contents}
+use Rattle.std.proofs.Common.{◌≡◌, ℕ, zero, suc, ◌≤◌, ◌⊎◌, inl, inr, refl, sym, subst, ◌∙◌, Some, arith}
+use Rattle.html_forest.specs.Forest.{Forest, Holds, children_at, contents_of, nodes, page_alone}
+use Rattle.html_forest.specs.Orders.{AreDistinct, AtOrAbove, HasNoParent, IsDocument, IsForest, IsIn, IsParent, of_child, of_contents}
 use Rattle.html_forest.proofs.Relations.{acyclic_with, either, first_edge}
 
 no_child : (p c : ℕ) → ¬ (IsIn c (children_at p page_alone))
@@ -47,25 +47,37 @@ pub record IsGrown (f g : Forest) (p : ℕ) (S : ℕ → Type 0) : Type 0 where
 grown_holds : (c : ℕ) (f g : Forest) → nodes f ≤ nodes g → Holds c f → Holds c g
 grown_holds c f g h held = omega arith
 
+one_parent : (f g : Forest) (p : ℕ) (S : ℕ → Type 0) → IsForest f → IsGrown f g p S →
+    (a b c : ℕ) → IsParent g a c → IsParent g b c → a ≡ b
+one_parent f g p S forest change a b c d e =
+    let by_new : S c → a ≡ b = λ new. change.only a c new d ∙ sym (change.only b c new e) in
+    let also = change.edges b c e in
+    let by_old : IsParent f a c → a ≡ b = λ old. either (forest.single a b c old) (λ new. by_new new.1) also in
+    either by_old (λ new. by_new new.1) (change.edges a c d)
+
 pub grown : (f g : Forest) (p : ℕ) (S : ℕ → Type 0) → IsForest f → IsGrown f g p S → IsForest g
 grown f g p S forest change = record {
-  within = λ a b e. either (λ old. grown_holds b f g change.size (forest.within a b old)) (λ new. change.held b new.1) (change.edges a b e);
-  single = λ a b c d e. either
-      (λ old. either (λ also. forest.single a b c old also)
-          (λ new. change.only a c new.1 d ∙ sym (change.only b c new.1 e)) (change.edges b c e))
-      (λ new. change.only a c new.1 d ∙ sym (change.only b c new.1 e)) (change.edges a c d);
+  within = λ a b e. either (λ old. grown_holds b f g change.size (forest.within a b old))
+      (λ new. change.held b new.1) (change.edges a b e);
+  single = one_parent f g p S forest change;
   once = change.once;
   acyclic = acyclic_with (IsParent f) (IsParent g) p S change.edges forest.acyclic change.apart;
   childless = change.childless;
   contents = change.contents;
-  page = (grown_holds 0 f g change.size forest.page.0, (change.first,
-      λ a e. either (forest.page.1.1 a) (λ new. change.root new.1) (change.edges a 0 e)));
+  page = (
+    grown_holds 0 f g change.size forest.page.0,
+    (
+      change.first,
+      λ a e. either (forest.page.1.1 a) (λ new. change.root new.1) (change.edges a 0 e),
+    ),
+  );
 }
 
 pub edges_from : (f g : Forest) (p : ℕ) (S : ℕ → Type 0) → ((a : ℕ) → contents_of a g ≡ contents_of a f) →
     ((a b : ℕ) → IsIn b (children_at a g) → IsIn b (children_at a f) ⊎ ((a ≡ p) × S b)) →
     (a b : ℕ) → IsParent g a b → IsParent f a b ⊎ ((a ≡ p) × S b)
-edges_from f g p S contents children a b (of_child _ _ i) = either (λ old. inl (of_child a b old)) (λ new. inr new) (children a b i)
+edges_from f g p S contents children a b (of_child _ _ i) =
+    either (λ old. inl (of_child a b old)) (λ new. inr new) (children a b i)
 edges_from f g p S contents children a b (of_contents _ _ e) = inl (of_contents a b (sym (contents a) ∙ e))
 
 -- A change keeps all nodes and what they are, but for children more of p.
@@ -111,7 +123,8 @@ none_added f g = record {
 }
 
 -- a node without a parent gets one
-pub one_added : (f g : Forest) (p n : ℕ) → IsMoved f g p (λ b. b ≡ n) → Holds n f → HasNoParent n f → ¬ (IsDocument n f) →
+pub one_added : (f g : Forest) (p n : ℕ) → IsMoved f g p (λ b. b ≡ n) → Holds n f → HasNoParent n f →
+    ¬ (IsDocument n f) →
     ¬ (AtOrAbove (IsParent f) n p) → IsFit f g p (λ b. b ≡ n)
 one_added f g p n change held free plain apart = record {
   held = λ b s. subst (λ x. Holds x f) (sym s) held;

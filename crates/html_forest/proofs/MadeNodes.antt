@@ -1,13 +1,13 @@
 -- Nodes that are made leave a forest: one that stands alone, a template with its contents, and one that is put at once.
-use Rattle.std.proofs.Common.{◌≡◌, ℕ, zero, suc, ◌+◌, ◌<◌, ◌≤◌, ◌⊎◌, inl, inr, refl, sym, ap, subst, ◌∙◌, Bool, true, false, List, [], ◌∷◌, ◌++◌, Option, None, Some, length, arith}
+use Rattle.std.proofs.Common.{◌≡◌, ℕ, suc, ◌+◌, ◌≤◌, ◌⊎◌, inl, inr, refl, sym, ap, subst, ◌∙◌, Bool, true, false, List, [], ◌∷◌, Option, None, Some, arith}
 use Rattle.html_lexemes.specs.declared.names.Attribute.{Attribute}
 use Rattle.html_lexemes.specs.declared.names.QualName.{QualName}
-use Rattle.html_forest.specs.Changes.{changed, contents_number, made, made_element, saying}
-use Rattle.html_forest.specs.Conditions.{CanMove, CanPut, IsPlace, is_from}
-use Rattle.html_forest.specs.Forest.{Forest, Holds, Kind, children_at, contents_of, doctype, document, element, element_of, kind_at, nodes, text, text_of}
-use Rattle.html_forest.specs.Orders.{Above, AreDistinct, AtOrAbove, IsDocument, IsForest, IsIn, IsParent, of_child, of_contents}
+use Rattle.html_forest.specs.Changes.{made, made_element}
+use Rattle.html_forest.specs.Conditions.{CanPut, IsPlace, is_from}
+use Rattle.html_forest.specs.Forest.{Forest, Holds, Kind, children_at, contents_of, doctype, document, element_of, kind_at, nodes, text, text_of}
+use Rattle.html_forest.specs.Orders.{AreDistinct, AtOrAbove, IsDocument, IsForest, IsIn, IsParent, of_child, of_contents}
 use Rattle.html_forest.specs.Places.{Child, Place, before, below, neighbour, node, put, put_node, put_words, with_doctype, words}
-use Rattle.html_forest.proofs.KeptForests.{IsGrown, edges_from, grown}
+use Rattle.html_forest.proofs.KeptForests.{IsGrown, grown}
 use Rattle.html_forest.proofs.MovedNodes.{put_node_kept, said_kept}
 use Rattle.html_forest.proofs.Nodes.{children_made, contents_made, contents_made_at, holds_parent, kind_made, kind_new, size_made}
 use Rattle.html_forest.proofs.Relations.{either, first_edge}
@@ -15,7 +15,8 @@ use Rattle.html_forest.proofs.Relations.{either, first_edge}
 larger : (n m : ℕ) → m ≡ suc n → n ≤ m
 larger n m e = omega arith
 
-pub edge_made : (kind : Kind) (f : Forest) → (element_of kind).contents ≡ None → (a b : ℕ) → IsParent (made kind f) a b → IsParent f a b
+pub edge_made : (kind : Kind) (f : Forest) → (element_of kind).contents ≡ None → (a b : ℕ) →
+    IsParent (made kind f) a b → IsParent f a b
 edge_made kind f plain a b (of_child _ _ i) = of_child a b (subst (IsIn b) (children_made a kind f) i)
 edge_made kind f plain a b (of_contents _ _ e) = of_contents a b (sym (contents_made a kind f plain) ∙ e)
 
@@ -45,7 +46,8 @@ same_some : (a b : ℕ) (o : Option ℕ) → o ≡ Some a → o ≡ Some b → a
 same_some a b o e d = cc
 
 -- a template, and what holds its contents
-module _ (kind : Kind) (f : Forest) (forest : IsForest f) (template : (element_of kind).contents ≡ Some (nodes f + 1)) where
+module _ (kind : Kind) (f : Forest) (forest : IsForest f)
+    (template : (element_of kind).contents ≡ Some (nodes f + 1)) where
   abbrev both : Forest
   both = made document (made kind f)
 
@@ -61,12 +63,13 @@ module _ (kind : Kind) (f : Forest) (forest : IsForest f) (template : (element_o
       let more : Holds b (made kind f) = omega arith in
       kind_made b document (made kind f) more ∙ kind_made b kind f held
 
-  contents_both : (a b : ℕ) → contents_of a both ≡ Some b → (contents_of a f ≡ Some b) ⊎ ((a ≡ nodes f) × (b ≡ nodes f + 1))
+  contents_both : (a b : ℕ) → contents_of a both ≡ Some b →
+      (contents_of a f ≡ Some b) ⊎ ((a ≡ nodes f) × (b ≡ nodes f + 1))
   contents_both a b e =
       let here : contents_of a (made kind f) ≡ Some b = sym (contents_made a document (made kind f) refl) ∙ e in
       either (λ same. inl (sym same ∙ here))
-          (λ is. inr (is.0, same_some b (nodes f + 1) (contents_of a (made kind f)) here (is.1 ∙ template)))
-          (contents_made_at a kind f)
+      (λ is. inr (is.0, same_some b (nodes f + 1) (contents_of a (made kind f)) here (is.1 ∙ template)))
+      (contents_made_at a kind f)
 
   edge_both : (a b : ℕ) → IsParent both a b → IsParent f a b ⊎ ((a ≡ nodes f) × (b ≡ nodes f + 1))
   edge_both a b (of_child _ _ i) = inl (of_child a b (subst (IsIn b) (children_both a) i))
@@ -127,20 +130,25 @@ module _ (kind : Kind) (f : Forest) (forest : IsForest f) (plain : (element_of k
   new_apart n held (inl e) = absurd (omega arith)
   new_apart n held (inr up) =
       let edge = first_edge (IsParent (made kind f)) (nodes f) n up in
-      let there = holds_parent (nodes f) edge.0 f (edge_made kind f plain (nodes f) edge.0 edge.1) in absurd (omega arith)
+      let there = holds_parent (nodes f) edge.0 f (edge_made kind f plain (nodes f) edge.0 edge.1) in
+      absurd (omega arith)
 
   new_free : (p : ℕ) → ¬ (IsParent (made kind f) p (nodes f))
   new_free p e = let held = forest.within p (nodes f) (edge_made kind f plain p (nodes f) e) in absurd (omega arith)
 
-  pub new_kept : (place : Place) → IsPlace place f → ¬ (kind ≡ document) → IsForest (put_node place (nodes f) (made kind f))
-  new_kept place there child = put_node_kept place (nodes f) (made kind f) (leaf_kept kind f forest plain) (place_made place there) (record {
-    within = let size = size_made kind f in omega arith;
-    free = new_free;
-    is_child = λ is. child (sym (kind_new kind f) ∙ is);
-    apart = new_apart (is_from place) (from_old place there);
-  })
+  pub new_kept : (place : Place) → IsPlace place f → ¬ (kind ≡ document) →
+      IsForest (put_node place (nodes f) (made kind f))
+  new_kept place there child =
+      let kept = leaf_kept kind f forest plain in
+      put_node_kept place (nodes f) (made kind f) kept (place_made place there) (record {
+        within = let size = size_made kind f in omega arith;
+        free = new_free;
+        is_child = λ is. child (sym (kind_new kind f) ∙ is);
+        apart = new_apart (is_from place) (from_old place there);
+      })
 
-pub doctype_kept : (name public_id system_id : List ℕ) (f : Forest) → IsForest f → IsForest (with_doctype name public_id system_id f)
+pub doctype_kept : (name public_id system_id : List ℕ) (f : Forest) → IsForest f →
+    IsForest (with_doctype name public_id system_id f)
 doctype_kept name public_id system_id f forest =
     new_kept (doctype name public_id system_id) f forest refl (below 0) forest.page.0 (λ e. absurd (cc))
 
@@ -149,10 +157,12 @@ option_cases : {A : Type 0} (o : Option A) → (o ≡ None) ⊎ ((a : A) × (o �
 option_cases None = inl refl
 option_cases (Some a) = inr (a, refl)
 
-text_kept : (place : Place) (cs : List ℕ) (f : Forest) → IsForest f → IsPlace place f → IsForest (put_node place (nodes f) (made (text cs) f))
+text_kept : (place : Place) (cs : List ℕ) (f : Forest) → IsForest f → IsPlace place f →
+    IsForest (put_node place (nodes f) (made (text cs) f))
 text_kept place cs f forest there = new_kept (text cs) f forest refl place there (λ e. absurd (cc))
 
-add_kept : (place : Place) (c : ℕ) (cs : List ℕ) (n : ℕ) (f : Forest) → IsForest f → IsPlace place f → neighbour place f ≡ Some n →
+add_kept : (place : Place) (c : ℕ) (cs : List ℕ) (n : ℕ) (f : Forest) → IsForest f → IsPlace place f →
+    neighbour place f ≡ Some n →
     IsForest (put_words place (c ∷ cs) f)
 add_kept place c cs n f forest there e = either
     (λ none. rw e (rw none (text_kept place (c ∷ cs) f forest there)))
@@ -166,6 +176,7 @@ words_kept place (c ∷ cs) f forest there = either
     (λ some. add_kept place c cs some.0 f forest there some.1)
     (option_cases (neighbour place f))
 
-pub put_kept : (place : Place) (child : Child) (f : Forest) → IsForest f → CanPut place child f → IsForest (put place child f)
+pub put_kept : (place : Place) (child : Child) (f : Forest) → IsForest f → CanPut place child f →
+    IsForest (put place child f)
 put_kept place (node n) f forest can = put_node_kept place n f forest can.0 can.1
 put_kept place (words cs) f forest can = words_kept place cs f forest can

@@ -1,8 +1,8 @@
 -- What stands at a node behind a change, and what a change of a kind keeps.
-use Rattle.std.proofs.Common.{◌≡◌, ℕ, zero, suc, ◌+◌, ◌<◌, ◌⊎◌, inl, inr, refl, sym, ap, subst, ◌∙◌, List, [], ◌∷◌, ◌++◌, Option, None, Some, map, length, arith}
+use Rattle.std.proofs.Common.{◌≡◌, ℕ, zero, suc, ◌⊎◌, inl, inr, refl, sym, ap, subst, List, [], ◌∷◌, None, Some, map, arith}
 use Rattle.html_lexemes.specs.declared.names.Attribute.{Attribute}
 use Rattle.html_forest.specs.Changes.{changed, kind_with, made, saying_kind}
-use Rattle.html_forest.specs.Forest.{Element, Forest, Holds, Kind, Node, children_at, comment, contents_of, doctype, document, element, element_of, instruction, kind_at, node_at, nodes, text}
+use Rattle.html_forest.specs.Forest.{Forest, Holds, Kind, Node, children_at, comment, contents_of, doctype, document, element, element_of, instruction, kind_at, node_at, nodes, text}
 use Rattle.html_forest.specs.Orders.{IsIn, IsParent, of_child, of_contents}
 
 one_further : {A B : Type 0} (q p : ℕ) → A ⊎ ((q ≡ p) × B) → A ⊎ ((suc q ≡ suc p) × B)
@@ -22,11 +22,13 @@ one_or_other : (P : Node → Type 0) (A : Type 0) (x y z : Node) → (x ≡ y) �
 one_or_other P A x y z (inl e) old new = subst P (sym e) old
 one_or_other P A x y z (inr e) old new = subst P (sym e.1) (new e.0)
 
-pub changed_has : (P : Node → Type 0) (a p : ℕ) (h : Node → Node) (f : Forest) → P (node_at a f) → (a ≡ p → P (h (node_at a f))) →
+pub changed_has : (P : Node → Type 0) (a p : ℕ) (h : Node → Node) (f : Forest) → P (node_at a f) →
+    (a ≡ p → P (h (node_at a f))) →
     P (node_at a (changed p h f))
 changed_has P a p h f = one_or_other P (a ≡ p) _ _ _ (changed_at a p h f)
 
-pub mapped_at : (q : ℕ) (h : Node → Node) (f : Forest) → h (node_at q []) ≡ node_at q [] → node_at q (map h f) ≡ h (node_at q f)
+pub mapped_at : (q : ℕ) (h : Node → Node) (f : Forest) → h (node_at q []) ≡ node_at q [] →
+    node_at q (map h f) ≡ h (node_at q f)
 mapped_at q h [] e = sym e
 mapped_at zero h (x ∷ f) e = refl
 mapped_at (suc q) h (x ∷ f) e = mapped_at q h f e
@@ -50,7 +52,8 @@ children_made (suc q) kind [] = refl
 children_made zero kind (x ∷ f) = refl
 children_made (suc q) kind (x ∷ f) = children_made q kind f
 
-pub contents_made : (q : ℕ) (kind : Kind) (f : Forest) → (element_of kind).contents ≡ None → contents_of q (made kind f) ≡ contents_of q f
+pub contents_made : (q : ℕ) (kind : Kind) (f : Forest) → (element_of kind).contents ≡ None →
+    contents_of q (made kind f) ≡ contents_of q f
 contents_made zero kind [] e = e
 contents_made (suc q) kind [] e = refl
 contents_made zero kind (x ∷ f) e = refl
@@ -58,7 +61,8 @@ contents_made (suc q) kind (x ∷ f) e = contents_made q kind f e
 
 -- where contents are, behind a node more
 pub contents_made_at : (q : ℕ) (kind : Kind) (f : Forest) →
-    (contents_of q (made kind f) ≡ contents_of q f) ⊎ ((q ≡ nodes f) × (contents_of q (made kind f) ≡ (element_of kind).contents))
+    (contents_of q (made kind f) ≡ contents_of q f) ⊎
+    ((q ≡ nodes f) × (contents_of q (made kind f) ≡ (element_of kind).contents))
 contents_made_at zero kind [] = inr (refl, refl)
 contents_made_at (suc q) kind [] = inl refl
 contents_made_at zero kind (x ∷ f) = inl refl
@@ -95,7 +99,8 @@ holds_parent p c f (of_child _ _ i) = holds_child p c f i
 holds_parent p c f (of_contents _ _ e) = holds_contents p c f e
 
 -- characters more, and attributes more, keep what a kind says of contents and documents
-pub contents_said : (cs : List ℕ) (kind : Kind) → (element_of (saying_kind cs kind)).contents ≡ (element_of kind).contents
+pub contents_said : (cs : List ℕ) (kind : Kind) →
+    (element_of (saying_kind cs kind)).contents ≡ (element_of kind).contents
 contents_said cs (text before) = refl
 contents_said cs document = refl
 contents_said cs (doctype name public system) = refl
@@ -111,7 +116,8 @@ document_said cs (comment said) e = e
 document_said cs (instruction target said) e = e
 document_said cs (element x) e = e
 
-pub contents_with : (more : List Attribute) (kind : Kind) → (element_of (kind_with more kind)).contents ≡ (element_of kind).contents
+pub contents_with : (more : List Attribute) (kind : Kind) →
+    (element_of (kind_with more kind)).contents ≡ (element_of kind).contents
 contents_with more (text before) = refl
 contents_with more document = refl
 contents_with more (doctype name public system) = refl

@@ -28,7 +28,8 @@ pub above_in : (E F : ℕ → ℕ → Type 0) → ((a b : ℕ) → E a b → F a
 above_in E F m a b (child _ _ e) = child a b (m a b e)
 above_in E F m a b (further _ c _ up e) = further a c b (above_in E F m a c up) (m c b e)
 
-pub at_or_above_in : (E F : ℕ → ℕ → Type 0) → ((a b : ℕ) → E a b → F a b) → (a b : ℕ) → AtOrAbove E a b → AtOrAbove F a b
+pub at_or_above_in : (E F : ℕ → ℕ → Type 0) → ((a b : ℕ) → E a b → F a b) → (a b : ℕ) → AtOrAbove E a b →
+    AtOrAbove F a b
 at_or_above_in E F m a b (inl e) = inl e
 at_or_above_in E F m a b (inr up) = inr (above_in E F m a b up)
 
@@ -44,7 +45,8 @@ module _ (E F : ℕ → ℕ → Type 0) (p : ℕ) (S : ℕ → Type 0) (edges : 
   from_first a b (inl e) = inl (child a b e)
   from_first a b (inr r) = inr (record { start = inl r.0; turn = b; taken = r.1; onward = inl refl })
 
-  from_next : (a c b : ℕ) → Above E a c ⊎ IsThrough E p S a c → E c b ⊎ ((c ≡ p) × S b) → Above E a b ⊎ IsThrough E p S a b
+  from_next : (a c b : ℕ) → Above E a c ⊎ IsThrough E p S a c → E c b ⊎ ((c ≡ p) × S b) →
+      Above E a b ⊎ IsThrough E p S a b
   from_next a c b (inl up) (inl e) = inl (further a c b up e)
   from_next a c b (inr t) (inl e) =
       inr (record { start = t.start; turn = t.turn; taken = t.taken; onward = with_edge E t.turn c b t.onward e })

@@ -1,5 +1,3 @@
-use Rattle.html_forest.proofs.Nodes.{changed_at}
-use Rattle.html_forest.proofs.Numbers.{in_append}
 use Rattle.html_forest.proofs.KeptForests.{page_alone_kept}
 use Rattle.html_forest.proofs.keeping.a_page_alone_is_a_forest.Goals as goal
 
