@@ -1,6 +1,13 @@
+pub mod KeptForests
 pub mod LawAlike
 pub mod LawAttributes
 pub mod LawLists
 pub mod LawNodes
 pub mod LawPlaces
 pub mod LawTexts
+pub mod MadeNodes
+pub mod MovedNodes
+pub mod Nodes
+pub mod Numbers
+pub mod Relations
+pub mod Reparenting
