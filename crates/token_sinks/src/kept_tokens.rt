@@ -47,19 +47,14 @@ impl KeptTokens {
 impl TokenSink for KeptTokens {
     type Handle = ();
 
-    ghost use Rattle.html_lexemes.specs.declared.token.TokenSinkResult.TheVariants.{Continue};
-    ghost use Rattle.token_sinks.specs.KeptTokens.{Kept, kept_behind};
+    ghost use Rattle.token_sinks.specs.KeptTokens.{Kept, kept_meaning};
     ghost use Rattle.token_sinks.specs.KeptTokensLaws.{kept_behind-lawful};
 
     ghost Abstract = { Kept };
 
     ghost state = { λ s. s };
 
-    ghost step = { kept_behind };
-
-    ghost reply = { λ _ _. Continue };
-
-    ghost foreign = { λ s. s.is_foreign };
+    ghost means = { kept_meaning };
 
     ghost ready = { λ _. Unit {0} };
 

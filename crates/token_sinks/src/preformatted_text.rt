@@ -108,19 +108,14 @@ impl PreformattedText {
 impl TokenSink for PreformattedText {
     type Handle = ();
 
-    ghost use Rattle.html_lexemes.specs.declared.token.TokenSinkResult.TheVariants.{Continue};
-    ghost use Rattle.token_sinks.specs.PreformattedText.{HasOpen, Page, is_in_svg, page_behind};
+    ghost use Rattle.token_sinks.specs.PreformattedText.{HasOpen, Page, page_meaning};
     ghost use Rattle.token_sinks.specs.PreformattedTextLaws.{page_behind-lawful};
 
     ghost Abstract = { Page };
 
     ghost state = { λ s. s };
 
-    ghost step = { page_behind };
-
-    ghost reply = { λ _ _. Continue };
-
-    ghost foreign = { is_in_svg };
+    ghost means = { page_meaning };
 
     ghost ready = { HasOpen };
 
