@@ -7,7 +7,6 @@ use Rattle.html_lexemes.specs.declared.token.TagKind.TheVariants.{StartTag, EndT
 use Rattle.html_grammar.specs.Characters.{is_letter, shown}
 use Rattle.html_grammar.specs.Comments.{bogus_comment_slice, comment_slice}
 use Rattle.html_grammar.specs.Doctypes.{doctype_at}
-use Rattle.html_lexemes.specs.declared.token.TokenSinkResult.{TokenSinkResult}
 use Rattle.html_grammar.specs.Items.{Item, characters, comment, doctype, end_of_file, error, null_character, tag}
 use Rattle.html_grammar.specs.Kinds.{AreWelcome, AreWithin, HasMarkup, IsHearing, IsOf, IsOfTag, IsReadyFor, IsWithin, LexemeOf}
 use Rattle.html_grammar.specs.Lexemes.{Lexeme, behind_slash, cdata_lexeme, comment_lexeme, declaration, doctype_lexeme, ends_raw_text, error_unless, has_end_tags, has_references, in_kind, kind_behind, lexeme, lexeme_in, markup, one_character, ordinary_item, ordinary_lexeme, raw_lexeme, reference_lexeme, tag_lexeme, told}

@@ -3,7 +3,6 @@ use Rattle.std.proofs.Common.{◌≡◌, ℕ, zero, suc, ◌<◌, Bool, List, le
 use Rattle.std.specs.List.{fold}
 use Rattle.html_lexemes.specs.References.{References}
 use Rattle.html_lexemes.specs.declared.token.Tag.{Tag}
-use Rattle.html_lexemes.specs.declared.token.TokenSinkResult.{TokenSinkResult}
 use Rattle.html_grammar.specs.Items.{Item, tag, end_of_file}
 use Rattle.html_grammar.specs.Lexemes.{Lexeme, lexeme, nothing, told, tagged}
 use Rattle.html_grammar.specs.Meaning.{Meaning}

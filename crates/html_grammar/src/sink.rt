@@ -1,4 +1,4 @@
-ghost use Rattle.std.specs.Prelude.{◌≡◌, Bool, IfErr, IfOk};
+ghost use Rattle.std.specs.Prelude.{◌≡◌, IfErr, IfOk};
 ghost use Rattle.html_lexemes.specs.declared.fault.ParseFault.TheVariants.{Memory};
 ghost use Rattle.html_grammar.specs.Items.{Item, end_of_file, item_of};
 ghost use Rattle.html_grammar.specs.Kinds.{IsHearing};
@@ -8,9 +8,9 @@ ghost use Rattle.html_grammar.specs.Reading.{IsLawful};
 use html_lexemes::states::State;
 use html_lexemes::{LocalName, ParseFault, Token, TokenSinkResult};
 
-/// What tokens are told to. Contracts see an abstract state and a step over what was told; nothing depends on the
-/// wording of errors or on lines. A state in which a sink may be called is `ready`; what it `welcomes` there it refuses
-/// for want of memory alone.
+/// What tokens are told to. Contracts see an abstract state, and what the sink `means` by it: its step over what is
+/// told, its reply, and whether its current node is foreign; nothing depends on the wording of errors or on lines. A
+/// state in which a sink may be called is `ready`; what it `welcomes` there it refuses for want of memory alone.
 pub trait TokenSink {
     /// What stands for an element in an answer.
     type Handle: Copy;

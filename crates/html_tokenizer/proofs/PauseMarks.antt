@@ -10,8 +10,6 @@ use Rattle.html_grammar.specs.declared.modes.Mode.{Mode}
 use Rattle.lexeme_places.specs.Places.{place_lexeme}
 use Rattle.lexeme_places.specs.Turns.{IsTaken, IsUntagged, LeavesText}
 use Rattle.lexeme_places.specs.declared.place.Place.{Place}
-use Rattle.html_lexemes.specs.declared.token.TokenSinkResult.{TokenSinkResult}
-use Rattle.html_grammar.specs.Items.{Item}
 use Rattle.html_grammar.specs.Meaning.{Meaning}
 use Rattle.html_tokenizer.specs.Completes.{Completes, IsUndecided, PausesBehind, TakesEach}
 use Rattle.html_tokenizer.specs.Inside as inside

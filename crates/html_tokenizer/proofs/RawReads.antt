@@ -7,7 +7,6 @@ use Rattle.std.specs.List.{fold, list_all}
 use Rattle.html_lexemes.specs.References.{References}
 use Rattle.html_lexemes.specs.declared.states.RawKind.{RawKind}
 use Rattle.html_lexemes.specs.declared.token.TagKind.TheVariants.{EndTag}
-use Rattle.html_lexemes.specs.declared.token.TokenSinkResult.{TokenSinkResult}
 use Rattle.html_grammar.specs.Items.{Item, characters, null_character}
 use Rattle.html_grammar.specs.Lexemes.{Lexeme, cdata_lexeme, in_kind, lexeme, nothing, ordinary_item, told, tagged}
 use Rattle.html_grammar.specs.Meaning.{Meaning}

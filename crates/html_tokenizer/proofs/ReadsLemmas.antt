@@ -10,7 +10,6 @@ use Rattle.html_lexemes.specs.References.{References}
 use Rattle.html_lexemes.specs.declared.states.RawKind.{RawKind}
 use Rattle.html_lexemes.specs.declared.states.RawKind.TheVariants.{Rcdata, Rawtext, ScriptData, ScriptDataEscaped}
 use Rattle.html_lexemes.specs.declared.token.Tag.{Tag}
-use Rattle.html_lexemes.specs.declared.token.TokenSinkResult.{TokenSinkResult}
 use Rattle.html_grammar.specs.Characters.{shown}
 use Rattle.html_grammar.specs.Items.{Item, characters, null_character, tag}
 use Rattle.html_grammar.specs.Lexemes.{Lexeme, in_kind, lexeme, lexeme_in, has_references, markup, nothing, ordinary_item, reference_lexeme, told, tagged}

@@ -1,6 +1,5 @@
 -- A sink stays ready for the text that is read.
-use Rattle.std.proofs.Common.{◌≡◌, ℕ, Bool, List, [], ◌∷◌, sym, subst}
-use Rattle.html_lexemes.specs.declared.token.TokenSinkResult.{TokenSinkResult}
+use Rattle.std.proofs.Common.{◌≡◌, ℕ, List, [], ◌∷◌, sym, subst}
 use Rattle.html_lexemes.specs.declared.token.Tag.{Tag}
 use Rattle.html_grammar.specs.Items.{Item, characters, comment, doctype, end_of_file, error, null_character, tag}
 use Rattle.html_grammar.specs.Kinds.{AreWithin, HasMarkup, IsHearing, IsOf, IsReadyFor, IsWithin, LexemeOf}
