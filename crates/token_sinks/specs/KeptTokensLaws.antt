@@ -36,8 +36,8 @@ kept_behind-joins : (s : Kept) (cs ds : List ℕ)
     → kept_behind (kept_behind s (characters cs)) (characters ds) ≡ kept_behind s (characters (cs ++ ds))
 kept_behind-joins s cs ds = ap (with_items s) (kept-joins s.items cs ds)
 
-pub kept_behind-lawful : {H : Type 0} → IsLawful {H = H} kept_meaning (λ _. Unit {0})
-kept_behind-lawful = record {
+pub kept_meaning-lawful : {H : Type 0} → IsLawful {H = H} kept_meaning (λ _. Unit {0})
+kept_meaning-lawful = record {
   joins = kept_behind-joins;
   skips = λ _. refl;
   answers = λ _ _ _. refl;

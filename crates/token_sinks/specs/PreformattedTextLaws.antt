@@ -68,8 +68,8 @@ page_behind-forgets page (comment cs) h = refl
 page_behind-forgets page (doctype d) h = refl
 page_behind-forgets page end_of_file h = refl
 
-pub page_behind-lawful : {H : Type 0} → IsLawful {H = H} page_meaning HasOpen
-page_behind-lawful = record {
+pub page_meaning-lawful : {H : Type 0} → IsLawful {H = H} page_meaning HasOpen
+page_meaning-lawful = record {
   joins = said-joins;
   skips = λ _. refl;
   answers = λ _ _ _. refl;

@@ -48,7 +48,7 @@ impl TokenSink for KeptTokens {
     type Handle = ();
 
     ghost use Rattle.token_sinks.specs.KeptTokens.{Kept, kept_meaning};
-    ghost use Rattle.token_sinks.specs.KeptTokensLaws.{kept_behind-lawful};
+    ghost use Rattle.token_sinks.specs.KeptTokensLaws.{kept_meaning-lawful};
 
     ghost Abstract = { Kept };
 
@@ -62,7 +62,7 @@ impl TokenSink for KeptTokens {
 
     ghost close = { λ s. s };
 
-    ghost lawful = { kept_behind-lawful };
+    ghost lawful = { kept_meaning-lawful };
 
     ghost hearing = { record { goes_on = λ _ _ _ _ _ h. h; asks = λ _ _ _ h _. h } };
 

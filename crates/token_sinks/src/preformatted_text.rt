@@ -109,7 +109,7 @@ impl TokenSink for PreformattedText {
     type Handle = ();
 
     ghost use Rattle.token_sinks.specs.PreformattedText.{HasOpen, Page, page_meaning};
-    ghost use Rattle.token_sinks.specs.PreformattedTextLaws.{page_behind-lawful};
+    ghost use Rattle.token_sinks.specs.PreformattedTextLaws.{page_meaning-lawful};
 
     ghost Abstract = { Page };
 
@@ -123,7 +123,7 @@ impl TokenSink for PreformattedText {
 
     ghost close = { λ s. s };
 
-    ghost lawful = { page_behind-lawful };
+    ghost lawful = { page_meaning-lawful };
 
     ghost hearing = { record { goes_on = λ _ _ _ _ _ h. h; asks = λ _ _ _ h _. h } };
 
