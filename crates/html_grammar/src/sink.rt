@@ -9,8 +9,9 @@ use html_lexemes::states::State;
 use html_lexemes::{LocalName, ParseFault, Token, TokenSinkResult};
 
 /// What tokens are told to. Contracts see an abstract state, and what the sink `means` by it: its step over what is
-/// told, its reply, and whether its current node is foreign; nothing depends on the wording of errors or on lines. A
-/// state in which a sink may be called is `ready`; what it `welcomes` there it refuses for want of memory alone.
+/// told, its reply, and whether the adjusted current node is foreign; nothing depends on the wording of errors or on
+/// lines. A state in which a sink may be called is `ready`; what it `welcomes` there it refuses for want of memory
+/// alone.
 pub trait TokenSink {
     /// What stands for an element in an answer.
     type Handle: Copy;
