@@ -44,7 +44,8 @@ pub trait TokenSink {
     fn end(&mut self) -> Result<(), ParseFault>
         requires { ready (state self.old) }
         ensures closed { IfOk result (λ _. state self.new ≡ close (state self.old)) }
-        ensures refused { (before : Abstract) → welcomes before end_of_file → state self.old ≡ means.step before end_of_file →
+        ensures refused { (before : Abstract) → welcomes before end_of_file →
+            state self.old ≡ means.step before end_of_file →
             IfErr result (λ e. e ≡ Memory) };
 
     /// Whether there is an adjusted current node, and it is foreign (WHATWG HTML, 13.2.4.2): then

@@ -31,4 +31,5 @@ state_of means reader state = means.step state (characters (chars (string_bytes 
 -- What was read, and a text that goes on, does.
 abbrev pub Reads : {A H : Type 0} → References → Meaning A H → Reader → A → List ℕ → A → Type 0
 Reads table means reader state cs final =
-    Leaves table means reader.mode reader.pending.place (chars (string_bytes reader.pending.held) ++ cs) (state_of means reader state) final
+    Leaves table means reader.mode reader.pending.place (chars (string_bytes reader.pending.held) ++ cs)
+    (state_of means reader state) final

@@ -147,7 +147,8 @@ impl Reader {
         requires { IsReadyFor S.ready S.welcomes self.old.mode.text (S.state sink.old) }
         ensures memory { IfErr result (λ e. e ≡ Memory) }
         ensures ready { OnOk result (IsReadyFor S.ready S.welcomes self.new.mode.text (S.state sink.new)) }
-        ensures alike { OnOk result (IsAlike S.means (state_of S.means self.old (S.state sink.old)) (S.state sink.new)) }
+        ensures alike { OnOk result
+            (IsAlike S.means (state_of S.means self.old (S.state sink.old)) (S.state sink.new)) }
         ensures tells { OnOk result (TellsOn S.means (S.state sink.old) (S.state sink.new)) }
         ensures run { OnOk result (string_bytes self.new.run ≡ []) }
         ensures mode { self.new.mode ≡ self.old.mode }
@@ -196,7 +197,8 @@ impl Reader {
         ensures memory { IfErr result (λ e. e ≡ Memory) }
         ensures ready { OnOk result (IsReadyFor S.ready S.welcomes self.new.mode.text (S.state sink.new)) }
         ensures told { OnOk result (S.state sink.new ≡ S.means.step (S.state sink.old) (tag_item tag)) }
-        ensures mode { OnOk result (self.new.mode ≡ mode_behind self.old.mode tag (S.means.reply (S.state sink.old) (tag_item tag))) }
+        ensures mode { OnOk result
+            (self.new.mode ≡ mode_behind self.old.mode tag (S.means.reply (S.state sink.old) (tag_item tag))) }
         ensures pause { IfOk result (IsPauseOf (S.means.reply (S.state sink.old) (tag_item tag))) }
         ensures run { self.new.run ≡ self.old.run }
         ensures pending { self.new.pending ≡ self.old.pending }
@@ -350,7 +352,10 @@ impl Reader {
         ensures memory { IfErr result (λ e. e ≡ Memory) }
         ensures ready { OnOk result (IsReadyFor S.ready S.welcomes self.new.mode.text (S.state sink.new)) }
         ensures tells { OnOk result (TellsOn S.means (S.state sink.old) (S.state sink.new)) }
-        ensures told { OnOk result (state_of S.means self.new (S.state sink.new) ≡ fold S.means.step (state_of S.means self.old (S.state sink.old)) (map ordinary_item (chars (string_bytes self.old.pending.held) ++ c ∷ []))) }
+        ensures told { OnOk result
+            (state_of S.means self.new (S.state sink.new) ≡ fold S.means.step
+            (state_of S.means self.old (S.state sink.old))
+            (map ordinary_item (chars (string_bytes self.old.pending.held) ++ c ∷ []))) }
         ensures mode { OnOk result (self.new.mode ≡ self.old.mode) }
         ensures place { OnOk result (self.new.pending.place ≡ SectionPlace) }
         ensures held { OnOk result (chars (string_bytes self.new.pending.held) ≡ []) }
@@ -382,17 +387,21 @@ impl Reader {
         ensures holds { OnOk result ((foreign : Bool) (place : SeenPlace) (held : List ℕ) →
             Advances table.now foreign self.old.mode place held c advance self.old.pending.place (chars (string_bytes self.old.pending.held)) → Holds table.now self.new) }
         ensures asks { IfOk result (λ pause. (place : SeenPlace) (held : List ℕ) →
-            Advances table.now (S.means.foreign (state_of S.means self.old (S.state sink.old))) self.old.mode place held c advance self.old.pending.place (chars (string_bytes self.old.pending.held)) →
+            Advances table.now (S.means.foreign (state_of S.means self.old (S.state sink.old))) self.old.mode place held
+            c advance self.old.pending.place (chars (string_bytes self.old.pending.held)) →
             Asks S.means pause (S.state sink.old) (S.state sink.new)) }
         ensures paused { IfOk result (λ pause. IfSome pause (λ _. HoldsNothing self.new)) }
         ensures greater { IfOk result (λ pause. (place : SeenPlace) (held : List ℕ) →
-            Advances table.now (S.means.foreign (state_of S.means self.old (S.state sink.old))) self.old.mode place held c advance self.old.pending.place (chars (string_bytes self.old.pending.held)) →
+            Advances table.now (S.means.foreign (state_of S.means self.old (S.state sink.old))) self.old.mode place held
+            c advance self.old.pending.place (chars (string_bytes self.old.pending.held)) →
             IfSome pause (λ _. c ≡ greater)) }
         ensures reads { OnOk result ((place : SeenPlace) (held : List ℕ) →
-            Advances table.now (S.means.foreign (state_of S.means self.old (S.state sink.old))) self.old.mode place held c advance self.old.pending.place (chars (string_bytes self.old.pending.held)) →
+            Advances table.now (S.means.foreign (state_of S.means self.old (S.state sink.old))) self.old.mode place held
+            c advance self.old.pending.place (chars (string_bytes self.old.pending.held)) →
             (rest : List ℕ) (final : S.Abstract) →
             Reads table.now S.means self.new (S.state sink.new) rest final →
-            Leaves table.now S.means self.old.mode place (held ++ c ∷ rest) (state_of S.means self.old (S.state sink.old)) final) }
+            Leaves table.now S.means self.old.mode place (held ++ c ∷ rest)
+            (state_of S.means self.old (S.state sink.old)) final) }
     {
         match advance {
             Advance::Goes => Ok(None),
@@ -414,9 +423,11 @@ impl Reader {
         requires { IsReadyFor S.ready S.welcomes self.old.mode.text (S.state sink.old) }
         ensures memory { IfErr result (λ e. e ≡ Memory) }
         ensures ready { OnOk result (IsReadyFor S.ready S.welcomes self.new.mode.text (S.state sink.new)) }
-        ensures state { OnOk result (state_of S.means self.new (S.state sink.new) ≡ state_of S.means self.old (S.state sink.old)) }
+        ensures state { OnOk result
+            (state_of S.means self.new (S.state sink.new) ≡ state_of S.means self.old (S.state sink.old)) }
         ensures tells { OnOk result (TellsOn S.means (S.state sink.old) (S.state sink.new)) }
-        ensures foreign { IfOk result (λ f. self.old.pending.place ≡ DeclarationPlace → S.means.foreign (state_of S.means self.old (S.state sink.old)) ≡ f) }
+        ensures foreign { IfOk result (λ f. self.old.pending.place ≡ DeclarationPlace →
+            S.means.foreign (state_of S.means self.old (S.state sink.old)) ≡ f) }
         ensures mode { self.new.mode ≡ self.old.mode }
         ensures pending { self.new.pending ≡ self.old.pending }
     {
@@ -460,7 +471,9 @@ impl Reader {
         ensures memory { IfErr result (λ e. e ≡ Memory) }
         ensures ready { OnOk result (IsReadyFor S.ready S.welcomes self.new.mode.text (S.state sink.new)) }
         ensures tells { OnOk result (TellsOn S.means (S.state sink.old) (S.state sink.new)) }
-        ensures told { OnOk result (state_of S.means self.new (S.state sink.new) ≡ S.means.step (state_of S.means self.old (S.state sink.old)) (characters (c ∷ []))) }
+        ensures told { OnOk result
+            (state_of S.means self.new (S.state sink.new) ≡ S.means.step (state_of S.means self.old (S.state sink.old))
+            (characters (c ∷ []))) }
         ensures mode { self.new.mode ≡ self.old.mode }
         ensures pending { self.new.pending ≡ self.old.pending }
     {
@@ -480,7 +493,8 @@ impl Reader {
         ensures memory { IfErr result (λ e. e ≡ Memory) }
         ensures ready { OnOk result (IsReadyFor S.ready S.welcomes self.new.mode.text (S.state sink.new)) }
         ensures tells { OnOk result (TellsOn S.means (S.state sink.old) (S.state sink.new)) }
-        ensures told { OnOk result (S.state sink.new ≡ S.means.step (state_of S.means self.old (S.state sink.old)) null_character) }
+        ensures told { OnOk result
+            (S.state sink.new ≡ S.means.step (state_of S.means self.old (S.state sink.old)) null_character) }
         ensures run { OnOk result (string_bytes self.new.run ≡ []) }
         ensures mode { self.new.mode ≡ self.old.mode }
         ensures pending { self.new.pending ≡ self.old.pending }
@@ -505,12 +519,17 @@ impl Reader {
         ensures ready { OnOk result (IsReadyFor S.ready S.welcomes self.new.mode.text (S.state sink.new)) }
         ensures place { OnOk result (self.new.pending.place ≡ TextPlace) }
         ensures asks { IfOk result (λ pause. Asks S.means pause (S.state sink.old) (S.state sink.new)) }
-        ensures untagged { IfOk result (λ pause. IsUntagged (place_lexeme table.now (S.means.foreign (state_of S.means self.old (S.state sink.old))) self.old.mode place (chars (string_bytes held))) → pause ≡ None) }
+        ensures untagged { IfOk result
+            (λ pause. IsUntagged (place_lexeme table.now
+            (S.means.foreign (state_of S.means self.old (S.state sink.old))) self.old.mode place
+            (chars (string_bytes held))) → pause ≡ None) }
         ensures paused { IfOk result (λ pause. IfSome pause (λ _. HoldsNothing self.new)) }
         ensures reads { OnOk result ((follow rest : List ℕ) (final : S.Abstract) →
-            IsOver table.now (S.means.foreign (state_of S.means self.old (S.state sink.old))) self.old.mode place (chars (string_bytes held)) follow →
+            IsOver table.now (S.means.foreign (state_of S.means self.old (S.state sink.old))) self.old.mode place
+            (chars (string_bytes held)) follow →
             Reads table.now S.means self.new (S.state sink.new) (follow ++ rest) final →
-            Leaves table.now S.means self.old.mode place (chars (string_bytes held) ++ (follow ++ rest)) (state_of S.means self.old (S.state sink.old)) final) }
+            Leaves table.now S.means self.old.mode place (chars (string_bytes held) ++ (follow ++ rest))
+            (state_of S.means self.old (S.state sink.old)) final) }
     {
         place_of_a_kind();
         self.tell_run(sink)?;

@@ -184,7 +184,8 @@ impl<Sink: TokenSink> Tokenizer<Sink> {
         ensures over { self.new.is_over ≡ true }
         ensures table { self.new.table ≡ self.old.table }
         ensures holds { OnOk result (Holds self.new.table self.new.reader) }
-        ensures asks { IfOk result (λ pause. Asks Sink.means pause (Sink.state self.old.sink) (Sink.state self.new.sink)) }
+        ensures asks { IfOk result
+            (λ pause. Asks Sink.means pause (Sink.state self.old.sink) (Sink.state self.new.sink)) }
         ensures paused { IfOk result (λ pause. IfSome pause (λ _. inside.IsEmptied self.new)) }
         ensures greater { IfOk result (λ pause. IfSome pause (λ _. c ≡ greater)) }
         ensures reads { OnOk result ((rest : List ℕ) (final : Sink.Abstract) →
@@ -230,7 +231,8 @@ impl<Sink: TokenSink> Tokenizer<Sink> {
         ensures fit { IsFit Sink.state Sink.ready Sink.welcomes self.old → IsFit Sink.state Sink.ready Sink.welcomes self.new }
         ensures table { table_of self.new ≡ table_of self.old }
         ensures plain { (rest : List ℕ) (final : Sink.Abstract) → Completes Sink.state Sink.means self.new rest final →
-            Reading (table_of self.old) Sink.means (plain_mode (last_start_tag_of self.old)) (Sink.state self.old.sink) (text_left self.old rest) final }
+            Reading (table_of self.old) Sink.means (plain_mode (last_start_tag_of self.old)) (Sink.state self.old.sink)
+            (text_left self.old rest) final }
     {
         self.reader.set_plaintext();
     }
@@ -245,7 +247,8 @@ impl<Sink: TokenSink> Tokenizer<Sink> {
         ensures failed { has_failed self.old ≡ true → result ≡ Err Failed }
         ensures kept { has_failed self.old ≡ true → self.new ≡ self.old }
         ensures over { has_failed self.new ≡ true }
-        ensures completes { OnOk result (IsClosed Sink.close (Completes Sink.state Sink.means self.old []) (Sink.state self.new.sink)) }
+        ensures completes { OnOk result
+            (IsClosed Sink.close (Completes Sink.state Sink.means self.old []) (Sink.state self.new.sink)) }
     {
         if self.is_over {
             return Err(ParseFault::Failed);
