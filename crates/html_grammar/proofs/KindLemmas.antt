@@ -7,10 +7,10 @@ use Rattle.html_lexemes.specs.declared.token.TagKind.TheVariants.{StartTag, EndT
 use Rattle.html_grammar.specs.Characters.{is_letter, shown}
 use Rattle.html_grammar.specs.Comments.{bogus_comment_slice, comment_slice}
 use Rattle.html_grammar.specs.Doctypes.{doctype_at}
-use Rattle.html_lexemes.specs.declared.token.TokenSinkResult.{TokenSinkResult}
 use Rattle.html_grammar.specs.Items.{Item, characters, comment, doctype, end_of_file, error, null_character, tag}
 use Rattle.html_grammar.specs.Kinds.{AreWelcome, AreWithin, HasMarkup, IsHearing, IsOf, IsOfTag, IsReadyFor, IsWithin, LexemeOf}
 use Rattle.html_grammar.specs.Lexemes.{Lexeme, behind_slash, cdata_lexeme, comment_lexeme, declaration, doctype_lexeme, ends_raw_text, error_unless, has_end_tags, has_references, in_kind, kind_behind, lexeme, lexeme_in, markup, one_character, ordinary_item, ordinary_lexeme, raw_lexeme, reference_lexeme, tag_lexeme, told}
+use Rattle.html_grammar.specs.Meaning.{Meaning}
 use Rattle.html_grammar.specs.References.{Found, reference}
 use Rattle.html_grammar.specs.Slices.{after, begins, begins_word, cut, cut_or_all, front_while, rest_while}
 use Rattle.html_grammar.specs.Tags.{TagEnd, ends_tag_name, tag_at, tag_end, tag_of}
@@ -124,9 +124,9 @@ in_text kind table foreign mode (c ∷ cs) h = in_kind_of_text kind mode h table
 
 -- ---- sinks
 
-module _ {A H : Type 0} (step : A → Item → A) (reply : A → Item → TokenSinkResult H) (welcomes : A → Item → Type 0) (hearing : IsHearing step reply welcomes) where
+module _ {A H : Type 0} (means : Meaning A H) (welcomes : A → Item → Type 0) (hearing : IsHearing means welcomes) where
   -- items that are welcome are so behind an item that is
-  pub welcome_on : (state : A) (item : Item) (items : List Item) → IsWithin item → welcomes state item → AreWelcome welcomes state items → AreWelcome welcomes (step state item) items
+  pub welcome_on : (state : A) (item : Item) (items : List Item) → IsWithin item → welcomes state item → AreWelcome welcomes state items → AreWelcome welcomes (means.step state item) items
   welcome_on state item [] i w h = tt
   welcome_on state item (later ∷ items) i w h = ((h.0.0, hearing.goes_on state item later i w h.0.1), welcome_on state item items i w h.1)
 

@@ -3,9 +3,9 @@ use Rattle.std.specs.Prelude.{List, [], ◌∷◌}
 use Rattle.html_lexemes.specs.declared.token.Tag.{Tag}
 use Rattle.html_lexemes.specs.declared.token.TagKind.{TagKind}
 use Rattle.html_lexemes.specs.declared.token.TagKind.TheVariants.{StartTag, EndTag}
-use Rattle.html_lexemes.specs.declared.token.TokenSinkResult.{TokenSinkResult}
 use Rattle.html_grammar.specs.Items.{Item, characters, null_character, tag, comment, doctype, error, end_of_file}
 use Rattle.html_grammar.specs.Lexemes.{Lexeme, nothing, told, tagged}
+use Rattle.html_grammar.specs.Meaning.{Meaning}
 use Rattle.html_grammar.specs.Modes.{text_behind}
 use Rattle.html_grammar.specs.declared.modes.TextKind.{TextKind}
 use Rattle.html_grammar.specs.declared.modes.TextKind.TheVariants.{Ordinary, Plain, Raw}
@@ -52,12 +52,11 @@ LexemeOf kind (tagged t rest) = IsOf kind (tag t)
 
 -- What a sink that welcomes an item keeps to: what it welcomes beside an item, it welcomes behind it; and behind a tag it
 -- welcomes what is told in the text that it asked for. The end, behind which nothing is told, is left out.
-pub record IsHearing {A H : Type 0} (step : A → Item → A) (reply : A → Item → TokenSinkResult H)
-    (welcomes : A → Item → Type 0) : Type 0 where
+pub record IsHearing {A H : Type 0} (means : Meaning A H) (welcomes : A → Item → Type 0) : Type 0 where
   pub goes_on : (state : A) (item later : Item) → IsWithin item → welcomes state item → welcomes state later →
-      welcomes (step state item) later
+      welcomes (means.step state item) later
   pub asks : (state : A) (t : Tag) (later : Item) → welcomes state (tag t) →
-      IsOf (text_behind (reply state (tag t))) later → welcomes (step state (tag t)) later
+      IsOf (text_behind (means.reply state (tag t))) later → welcomes (means.step state (tag t)) later
 
 -- A sink is ready, and welcomes all that is told in a kind of text.
 pub record IsReadyFor {A : Type 0} (ready : A → Type 0) (welcomes : A → Item → Type 0) (kind : TextKind)

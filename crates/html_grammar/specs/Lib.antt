@@ -7,6 +7,7 @@ pub mod FirstMode
 pub mod Items
 pub mod Kinds
 pub mod Lexemes
+pub mod Meaning
 pub mod Modes
 pub mod PageText
 pub mod PlainRead

@@ -11,13 +11,13 @@ use crate::sink::TokenSink;
 /// A text has at most one reading, whatever the sink.
 pub fn one_reading<S: TokenSink>()
     ensures { (table : References) (mode : SeenMode) (state : S.Abstract) (text : List ℕ) (final other : S.Abstract) →
-        Reading table S.step S.reply S.foreign mode state text final → Reading table S.step S.reply S.foreign mode state text other → final ≡ other }
+        Reading table S.means mode state text final → Reading table S.means mode state text other → final ≡ other }
 {}
 
 /// Every text has a reading, whatever the sink.
 pub fn some_reading<S: TokenSink>()
     ensures { (table : References) (mode : SeenMode) (state : S.Abstract) (text : List ℕ) →
-        (final : S.Abstract) × Reading table S.step S.reply S.foreign mode state text final }
+        (final : S.Abstract) × Reading table S.means mode state text final }
 {}
 
 /// In text that isn't ordinary only characters, errors, end tags and nothing are read, and only behind a tag ordinary

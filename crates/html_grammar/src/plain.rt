@@ -32,7 +32,9 @@ pub fn read_plainly<S: TokenSink>(
 ) -> Result<(), ParseFault>
     requires { IsReadyFor S.ready S.welcomes (text_of_state opts.initial_state) (S.state sink.old) }
     ensures memory { IfErr result (λ e. e ≡ Memory) }
-    ensures told { OnOk result (IsClosed S.close (Reading table.now S.step S.reply S.foreign (first_mode opts) (S.state sink.old) (page_text opts.discard_bom (chars text.now))) (S.state sink.new)) }
+    ensures told { OnOk result (IsClosed S.close
+        (Reading table.now S.means (first_mode opts) (S.state sink.old) (page_text opts.discard_bom (chars text.now)))
+        (S.state sink.new)) }
 {
     let TokenizerOpts {
         exact_errors: _,
@@ -74,7 +76,9 @@ pub fn tell_lexemes<S: TokenSink>(
     requires { IsReadyFor S.ready S.welcomes mode.text (S.state sink.old) }
     ensures memory { IfErr result (λ e. e ≡ Memory) }
     ensures ready { OnOk result (IsReadyFor S.ready S.welcomes Plain (S.state sink.new)) }
-    ensures told { OnOk result (Reading table.now S.step S.reply S.foreign mode (S.state sink.old) (chars text.now) (S.step (S.state sink.new) end_of_file)) }
+    ensures told { OnOk result
+        (Reading table.now S.means mode (S.state sink.old) (chars text.now)
+        (S.means.step (S.state sink.new) end_of_file)) }
 {
     let mut rest = text;
     'lexemes: loop {
@@ -105,7 +109,7 @@ pub fn tell_tokens<S: TokenSink>(
     ensures memory { IfErr result (λ e. e ≡ Memory) }
     ensures ready { OnOk result (S.ready (S.state sink.new)) }
     ensures hears { OnOk result ((item : Item) → S.welcomes (S.state sink.old) item → S.welcomes (S.state sink.new) item) }
-    ensures told { OnOk result (S.state sink.new ≡ fold S.step (S.state sink.old) (items_of tokens.items)) }
+    ensures told { OnOk result (S.state sink.new ≡ fold S.means.step (S.state sink.old) (items_of tokens.items)) }
 {
     'tokens: for token in tokens {
         sink.process_token(token, line)?;
@@ -119,8 +123,9 @@ fn tell_tag<S: TokenSink>(sink: &mut S, mode: Mode, tag: Tag, line: u64) -> Resu
     requires welcome { S.welcomes (S.state sink.old) (tag_item tag) }
     ensures memory { IfErr result (λ e. e ≡ Memory) }
     ensures ready { IfOk result (λ behind. IsReadyFor S.ready S.welcomes behind.text (S.state sink.new)) }
-    ensures told { OnOk result (S.state sink.new ≡ S.step (S.state sink.old) (tag_item tag)) }
-    ensures mode { IfOk result (λ behind. behind ≡ mode_behind mode tag (S.reply (S.state sink.old) (tag_item tag))) }
+    ensures told { OnOk result (S.state sink.new ≡ S.means.step (S.state sink.old) (tag_item tag)) }
+    ensures mode { IfOk result
+        (λ behind. behind ≡ mode_behind mode tag (S.means.reply (S.state sink.old) (tag_item tag))) }
 {
     let last_start_tag = last_behind(mode.last_start_tag, &tag)?;
     let answer = sink.process_token(Token::TagToken(tag), line)?;

@@ -1,16 +1,17 @@
-ghost use Rattle.std.specs.Prelude.{◌≡◌, Bool, IfErr, IfOk};
+ghost use Rattle.std.specs.Prelude.{◌≡◌, IfErr, IfOk};
 ghost use Rattle.html_lexemes.specs.declared.fault.ParseFault.TheVariants.{Memory};
-ghost use Rattle.html_lexemes.specs.declared.token.TokenSinkResult.{TokenSinkResult as Answer};
 ghost use Rattle.html_grammar.specs.Items.{Item, end_of_file, item_of};
 ghost use Rattle.html_grammar.specs.Kinds.{IsHearing};
+ghost use Rattle.html_grammar.specs.Meaning.{Meaning};
 ghost use Rattle.html_grammar.specs.Reading.{IsLawful};
 
 use html_lexemes::states::State;
 use html_lexemes::{LocalName, ParseFault, Token, TokenSinkResult};
 
-/// What tokens are told to. Contracts see an abstract state and a step over what was told; nothing depends on the
-/// wording of errors or on lines. A state in which a sink may be called is `ready`; what it `welcomes` there it refuses
-/// for want of memory alone.
+/// What tokens are told to. Contracts see an abstract state, and what the sink `means` by it: its step over what is
+/// told, its reply, and whether the adjusted current node is foreign; nothing depends on the wording of errors or on
+/// lines. A state in which a sink may be called is `ready`; what it `welcomes` there it refuses for want of memory
+/// alone.
 pub trait TokenSink {
     /// What stands for an element in an answer.
     type Handle: Copy;
@@ -19,11 +20,7 @@ pub trait TokenSink {
 
     ghost state: { Self → Abstract };
 
-    ghost step: { Abstract → Item → Abstract };
-
-    ghost reply: { Abstract → Item → Answer Self.Handle };
-
-    ghost foreign: { Abstract → Bool };
+    ghost means: { Meaning Abstract Self.Handle };
 
     ghost ready: { Abstract → Type 0 };
 
@@ -39,26 +36,27 @@ pub trait TokenSink {
         line: u64,
     ) -> Result<TokenSinkResult<Self::Handle>, ParseFault>
         requires { ready (state self.old) }
-        ensures state { IfOk result (λ _. state self.new ≡ step (state self.old) (item_of token)) }
-        ensures reply { IfOk result (λ answer. answer ≡ reply (state self.old) (item_of token)) }
+        ensures state { IfOk result (λ _. state self.new ≡ means.step (state self.old) (item_of token)) }
+        ensures reply { IfOk result (λ answer. answer ≡ means.reply (state self.old) (item_of token)) }
         ensures refused { welcomes (state self.old) (item_of token) → IfErr result (λ e. e ≡ Memory) };
 
     /// Says that nothing more is told. It is called once, behind the end of the page.
     fn end(&mut self) -> Result<(), ParseFault>
         requires { ready (state self.old) }
         ensures closed { IfOk result (λ _. state self.new ≡ close (state self.old)) }
-        ensures refused { (before : Abstract) → welcomes before end_of_file → state self.old ≡ step before end_of_file →
+        ensures refused { (before : Abstract) → welcomes before end_of_file →
+            state self.old ≡ means.step before end_of_file →
             IfErr result (λ e. e ≡ Memory) };
 
     /// Whether there is an adjusted current node, and it is foreign (WHATWG HTML, 13.2.4.2): then
     /// `<![CDATA[` opens text.
     fn adjusted_current_node_present_but_not_in_html_namespace(&self) -> bool
         requires { ready (state self.now) }
-        ensures { result ≡ foreign (state self.now) };
+        ensures { result ≡ means.foreign (state self.now) };
 
-    ghost lawful: { IsLawful step reply foreign ready };
+    ghost lawful: { IsLawful means ready };
 
-    ghost hearing: { IsHearing step reply welcomes };
+    ghost hearing: { IsHearing means welcomes };
 }
 
 /// How a page's text is read.

@@ -10,8 +10,7 @@ use Rattle.html_grammar.specs.declared.modes.Mode.{Mode}
 use Rattle.lexeme_places.specs.Places.{place_lexeme}
 use Rattle.lexeme_places.specs.Turns.{IsTaken, IsUntagged, LeavesText}
 use Rattle.lexeme_places.specs.declared.place.Place.{Place}
-use Rattle.html_lexemes.specs.declared.token.TokenSinkResult.{TokenSinkResult}
-use Rattle.html_grammar.specs.Items.{Item}
+use Rattle.html_grammar.specs.Meaning.{Meaning}
 use Rattle.html_tokenizer.specs.Completes.{Completes, IsUndecided, PausesBehind, TakesEach}
 use Rattle.html_tokenizer.specs.Inside as inside
 use Rattle.html_tokenizer.specs.Tells.{TellsOn}
@@ -101,11 +100,11 @@ has_taken_more completes now after old between new c h t f = record {
   reads = λ rest final l. subst (λ x. completes x final) (sym (append_assoc h.taken (c ∷ []) rest)) (h.reads (c ∷ rest) final (f rest final l));
 }
 
-pub pauses_behind : {S A H : Type 0} (state : S → A) (step : A → Item → A) (reply : A → Item → TokenSinkResult H) (foreign : A → Bool) (mark c : ℕ) (begun : A)
-    (completes : List ℕ → A → Type 0) (old now after : Queue) (before : Tokenizer S) → HasTaken completes (inside.Completes state step reply foreign before) old now →
-    TellsOn step reply begun (state before.sink) → inside.IsUndecided before → Takes now (c ∷ []) after → c ≡ mark → PausesBehind state step reply foreign mark begun completes old after
+pub pauses_behind : {S A H : Type 0} (state : S → A) (means : Meaning A H) (mark c : ℕ) (begun : A)
+    (completes : List ℕ → A → Type 0) (old now after : Queue) (before : Tokenizer S) → HasTaken completes (inside.Completes state means before) old now →
+    TellsOn means begun (state before.sink) → inside.IsUndecided before → Takes now (c ∷ []) after → c ≡ mark → PausesBehind state means mark begun completes old after
 unfolding Completes IsUndecided
-pauses_behind state step reply foreign mark c begun completes old now after before h on undecided t e = record {
+pauses_behind state means mark c begun completes old now after before h on undecided t e = record {
   taken = h.taken;
   takes = each_more old h.taken now after mark h.takes (subst (λ x. Takes now (x ∷ []) after) e t);
   before = before;

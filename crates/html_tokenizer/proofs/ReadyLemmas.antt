@@ -1,10 +1,10 @@
 -- A sink stays ready for the text that is read.
-use Rattle.std.proofs.Common.{◌≡◌, ℕ, Bool, List, [], ◌∷◌, sym, subst}
-use Rattle.html_lexemes.specs.declared.token.TokenSinkResult.{TokenSinkResult}
+use Rattle.std.proofs.Common.{◌≡◌, ℕ, List, [], ◌∷◌, sym, subst}
 use Rattle.html_lexemes.specs.declared.token.Tag.{Tag}
 use Rattle.html_grammar.specs.Items.{Item, characters, comment, doctype, end_of_file, error, null_character, tag}
 use Rattle.html_grammar.specs.Kinds.{AreWithin, HasMarkup, IsHearing, IsOf, IsReadyFor, IsWithin, LexemeOf}
 use Rattle.html_grammar.specs.Lexemes.{Lexeme, told, tagged}
+use Rattle.html_grammar.specs.Meaning.{Meaning}
 use Rattle.html_grammar.specs.Reading.{IsAnswered, IsLawful}
 use Rattle.html_grammar.specs.declared.modes.Mode.{Mode}
 use Rattle.html_grammar.specs.declared.modes.TextKind.{TextKind}
@@ -13,10 +13,10 @@ use Rattle.lexeme_places.specs.declared.place.Place.{Place}
 use Rattle.lexeme_places.specs.declared.place.Place.TheVariants.{Text as NoLexeme}
 use Rattle.html_tokenizer.specs.Tells.{AreUnanswered}
 
-module _ {A H : Type 0} (step : A → Item → A) (reply : A → Item → TokenSinkResult H) (foreign : A → Bool) (ready : A → Type 0) (welcomes : A → Item → Type 0)
-    (lawful : IsLawful step reply foreign ready) (hearing : IsHearing step reply welcomes) where
+module _ {A H : Type 0} (means : Meaning A H) (ready : A → Type 0) (welcomes : A → Item → Type 0)
+    (lawful : IsLawful means ready) (hearing : IsHearing means welcomes) where
   -- behind an item that is of the text
-  pub ready_behind : (kind : TextKind) (old new : A) (item : Item) → IsReadyFor ready welcomes kind old → IsWithin item → IsOf kind item → new ≡ step old item → IsReadyFor ready welcomes kind new
+  pub ready_behind : (kind : TextKind) (old new : A) (item : Item) → IsReadyFor ready welcomes kind old → IsWithin item → IsOf kind item → new ≡ means.step old item → IsReadyFor ready welcomes kind new
   ready_behind kind old new item r w o e = subst (IsReadyFor ready welcomes kind) (sym e)
       (record { is_ready = lawful.keeps old item r.is_ready; hears = λ later i. hearing.goes_on old item later w (r.hears item o) (r.hears later i) })
 

@@ -3,9 +3,9 @@
 use Rattle.std.specs.Prelude.{◌≡◌, ℕ, Bool, false, List, [], ◌∷◌, ◌++◌, Option}
 use Rattle.html_lexemes.specs.Queue.{Queue, Takes}
 use Rattle.html_lexemes.specs.References.{References}
-use Rattle.html_lexemes.specs.declared.token.TokenSinkResult.{TokenSinkResult}
 use Rattle.html_lexemes.specs.declared.token.TokenSinkResult.TheVariants.{Script as AskedScript, EncodingIndicator as AskedEncoding}
 use Rattle.html_grammar.specs.Items.{Item}
+use Rattle.html_grammar.specs.Meaning.{Meaning}
 use Rattle.html_grammar.specs.declared.modes.Mode.{Mode}
 use Rattle.html_grammar.specs.declared.modes.TextKind.TheVariants.{Plain}
 use Rattle.html_tokenizer.specs.Fits.{IsFitReader}
@@ -26,9 +26,8 @@ IsFit state ready welcomes tokenizer =
     tokenizer.is_over ≡ false → IsFitReader ready welcomes tokenizer.reader (state tokenizer.sink)
 
 -- What it was fed with, and a rest of the page, leave its sink in a final state.
-unfoldable pub Completes : {S A H : Type 0} → (S → A) → (A → Item → A) → (A → Item → TokenSinkResult H) → (A → Bool) →
-    Tokenizer S → List ℕ → A → Type 0
-Completes state step reply foreign tokenizer rest final = inside.Completes state step reply foreign tokenizer rest final
+unfoldable pub Completes : {S A H : Type 0} → (S → A) → Meaning A H → Tokenizer S → List ℕ → A → Type 0
+Completes state means tokenizer rest final = inside.Completes state means tokenizer rest final
 
 -- the text that was read is told
 unfoldable pub HasTold : {S : Type 0} → Tokenizer S → Type 0
@@ -65,10 +64,10 @@ abbrev pub plain_mode : Option (List ℕ) → Mode
 plain_mode last = record { text = Plain; last_start_tag = last }
 
 -- What a result says of what was told: no pause was asked for, or this one, by what was told last.
-abbrev pub Answers : {A H : Type 0} → (A → Item → A) → (A → Item → TokenSinkResult H) → TokenizerResult H → A → A → Type 0
-Answers step reply Done old new = TellsOn step reply old new
-Answers step reply (Script handle) old new = TellsUpTo step reply (AskedScript handle) old new
-Answers step reply (EncodingIndicator encoding) old new = TellsUpTo step reply (AskedEncoding encoding) old new
+abbrev pub Answers : {A H : Type 0} → Meaning A H → TokenizerResult H → A → A → Type 0
+Answers means Done old new = TellsOn means old new
+Answers means (Script handle) old new = TellsUpTo means (AskedScript handle) old new
+Answers means (EncodingIndicator encoding) old new = TellsUpTo means (AskedEncoding encoding) old new
 
 -- each of the characters was taken from the front, once
 abbrev pub TakesEach : Queue → List ℕ → Queue → Type 0
@@ -81,11 +80,11 @@ pub record TakesSome (old new : Queue) : Type 0 where
 
 -- The pause is due to the mark that was taken last: what was taken before it leaves a tokenizer that was asked for no
 -- pause since its sink was in the state `begun`, and stands where no lexeme is over.
-pub record PausesBehind {S A H : Type 0} (state : S → A) (step : A → Item → A) (reply : A → Item → TokenSinkResult H)
-    (foreign : A → Bool) (mark : ℕ) (begun : A) (completes : List ℕ → A → Type 0) (old new : Queue) : Type 0 where
+pub record PausesBehind {S A H : Type 0} (state : S → A) (means : Meaning A H) (mark : ℕ) (begun : A)
+    (completes : List ℕ → A → Type 0) (old new : Queue) : Type 0 where
   pub taken : List ℕ
   pub takes : TakesEach old (taken ++ mark ∷ []) new
   pub before : Tokenizer S
-  pub on : TellsOn step reply begun (state before.sink)
+  pub on : TellsOn means begun (state before.sink)
   pub undecided : IsUndecided before
-  pub reads : (rest : List ℕ) (final : A) → Completes state step reply foreign before rest final → completes (taken ++ rest) final
+  pub reads : (rest : List ℕ) (final : A) → Completes state means before rest final → completes (taken ++ rest) final

@@ -1,9 +1,8 @@
 -- What the contracts of a tokenizer's own functions say of it.
 use Rattle.std.specs.Prelude.{◌≡◌, ℕ, Bool, ◌&&◌, ◌==◌, List, [], ◌++◌, length, IsTrue, string_bytes}
 use Rattle.html_lexemes.specs.References.{References}
-use Rattle.html_lexemes.specs.declared.token.TokenSinkResult.{TokenSinkResult}
-use Rattle.html_grammar.specs.Items.{Item}
 use Rattle.html_grammar.specs.Lexemes.{Lexeme}
+use Rattle.html_grammar.specs.Meaning.{Meaning}
 use Rattle.html_tokenizer.specs.Holdings.{HoldsNothing, held_of}
 use Rattle.lexeme_places.specs.MarkupSound.{is_begun_section_end}
 use Rattle.html_tokenizer.specs.PageRest.{page_rest}
@@ -21,9 +20,9 @@ use Rattle.html_tokenizer.specs.declared.results.TokenizerResult.TheVariants.{Sc
 use Rattle.html_tokenizer.specs.declared.tokenizer.Tokenizer.{Tokenizer}
 
 -- What it was fed with, and a rest of the page, leave its sink in a final state.
-abbrev pub Completes : {S A H : Type 0} → (S → A) → (A → Item → A) → (A → Item → TokenSinkResult H) → (A → Bool) → Tokenizer S → List ℕ → A → Type 0
-Completes state step reply foreign tokenizer rest final =
-    Reads tokenizer.table step reply foreign tokenizer.reader (state tokenizer.sink) (page_rest tokenizer.line_ends rest) final
+abbrev pub Completes : {S A H : Type 0} → (S → A) → Meaning A H → Tokenizer S → List ℕ → A → Type 0
+Completes state means tokenizer rest final =
+    Reads tokenizer.table means tokenizer.reader (state tokenizer.sink) (page_rest tokenizer.line_ends rest) final
 
 -- the text that was read is told
 abbrev pub HasTold : {S : Type 0} → Tokenizer S → Type 0

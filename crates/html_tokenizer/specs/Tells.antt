@@ -1,26 +1,28 @@
 -- What was told between two states of a sink.
-use Rattle.std.specs.Prelude.{◌≡◌, Bool, false, List, [], ◌∷◌, Option, Some, None}
+use Rattle.std.specs.Prelude.{◌≡◌, false, List, [], ◌∷◌, Option, Some, None}
 use Rattle.html_lexemes.specs.declared.token.Tag.{Tag}
 use Rattle.html_lexemes.specs.declared.token.TokenSinkResult.{TokenSinkResult}
 use Rattle.html_lexemes.specs.declared.token.TokenSinkResult.TheVariants.{Script as AskedScript, EncodingIndicator as AskedEncoding}
 use Rattle.html_grammar.specs.Items.{Item, tag}
+use Rattle.html_grammar.specs.Meaning.{Meaning}
 use Rattle.html_grammar.specs.Modes.{is_pause}
 use Rattle.html_grammar.specs.Reading.{IsAfterError, IsAnswered}
 use Rattle.html_tokenizer.specs.declared.reader.Pause.{Pause}
 use Rattle.html_tokenizer.specs.declared.reader.Pause.TheVariants.{Script, EncodingIndicator}
 
 -- Items in order, none of which is answered by asking for a pause.
-pub data TellsOn {A H : Type 0} (step : A → Item → A) (reply : A → Item → TokenSinkResult H) : A → A → Type 0 where
-  told_none : (state : A) → TellsOn step reply state state
-  told_one : (state : A) (item : Item) (final : A) → is_pause (reply state item) ≡ false → TellsOn step reply (step state item) final → TellsOn step reply state final
+pub data TellsOn {A H : Type 0} (means : Meaning A H) : A → A → Type 0 where
+  told_none : (state : A) → TellsOn means state state
+  told_one : (state : A) (item : Item) (final : A) → is_pause (means.reply state item) ≡ false →
+      TellsOn means (means.step state item) final → TellsOn means state final
 
 -- Such items, and then a tag that is answered by asking for a pause.
-pub record TellsUpTo {A H : Type 0} (step : A → Item → A) (reply : A → Item → TokenSinkResult H) (answer : TokenSinkResult H) (old new : A) : Type 0 where
+pub record TellsUpTo {A H : Type 0} (means : Meaning A H) (answer : TokenSinkResult H) (old new : A) : Type 0 where
   pub before : A
   pub asking : Tag
-  pub on : TellsOn step reply old before
-  pub asked : reply before (tag asking) ≡ answer
-  pub told : new ≡ step before (tag asking)
+  pub on : TellsOn means old before
+  pub asked : means.reply before (tag asking) ≡ answer
+  pub told : new ≡ means.step before (tag asking)
 
 -- what a pause is asked for by
 abbrev pub answer_of : {H : Type 0} → Pause H → TokenSinkResult H
@@ -32,9 +34,9 @@ IsPauseOf answer None = is_pause answer ≡ false
 IsPauseOf answer (Some pause) = answer ≡ answer_of pause
 
 -- No pause is asked for, or this one, by what is told last.
-abbrev pub Asks : {A H : Type 0} → (A → Item → A) → (A → Item → TokenSinkResult H) → Option (Pause H) → A → A → Type 0
-Asks step reply None old new = TellsOn step reply old new
-Asks step reply (Some pause) old new = TellsUpTo step reply (answer_of pause) old new
+abbrev pub Asks : {A H : Type 0} → Meaning A H → Option (Pause H) → A → A → Type 0
+Asks means None old new = TellsOn means old new
+Asks means (Some pause) old new = TellsUpTo means (answer_of pause) old new
 
 -- no tag
 abbrev pub AreUnanswered : List Item → Type 0
@@ -47,7 +49,7 @@ IsFirstAfterError [] = ⊥
 IsFirstAfterError (item ∷ items) = IsAfterError item
 
 -- Errors alone were told: what may follow them does the same to the sink.
-pub record IsAlike {A H : Type 0} (step : A → Item → A) (reply : A → Item → TokenSinkResult H) (foreign : A → Bool) (old new : A) : Type 0 where
-  pub steps : (item : Item) → IsAfterError item → step new item ≡ step old item
-  pub replies : (item : Item) → reply new item ≡ reply old item
-  pub foreigns : foreign new ≡ foreign old
+pub record IsAlike {A H : Type 0} (means : Meaning A H) (old new : A) : Type 0 where
+  pub steps : (item : Item) → IsAfterError item → means.step new item ≡ means.step old item
+  pub replies : (item : Item) → means.reply new item ≡ means.reply old item
+  pub foreigns : means.foreign new ≡ means.foreign old

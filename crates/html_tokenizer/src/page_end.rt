@@ -28,7 +28,8 @@ impl Reader {
         requires ready { IsReadyFor S.ready S.welcomes self.old.mode.text (S.state sink.old) }
         requires placed { IsPlaceOf self.old.mode.text self.old.pending.place }
         ensures memory { IfErr result (λ e. e ≡ Memory) }
-        ensures reads { OnOk result (IsClosed S.close (Reads table.now S.step S.reply S.foreign self.old (S.state sink.old) []) (S.state sink.new)) }
+        ensures reads { OnOk result
+            (IsClosed S.close (Reads table.now S.means self.old (S.state sink.old) []) (S.state sink.new)) }
     {
         self.line = self.next_line;
         let state = last_state(self.mode.text, self.pending.place());
@@ -52,7 +53,9 @@ impl Reader {
         ensures memory { IfErr result (λ e. e ≡ Memory) }
         ensures ready { OnOk result (IsReadyFor S.ready S.welcomes self.new.mode.text (S.state sink.new)) }
         ensures run { OnOk result (string_bytes self.new.run ≡ []) }
-        ensures told { OnOk result (Leaves table.now S.step S.reply S.foreign self.old.mode self.old.pending.place (chars (string_bytes self.old.pending.held)) (S.state sink.old) (S.step (S.state sink.new) end_of_file)) }
+        ensures told { OnOk result
+            (Leaves table.now S.means self.old.mode self.old.pending.place (chars (string_bytes self.old.pending.held))
+            (S.state sink.old) (S.means.step (S.state sink.new) end_of_file)) }
     {
         place_of_a_kind();
         let foreign = sink.adjusted_current_node_present_but_not_in_html_namespace();
@@ -86,7 +89,9 @@ impl Reader {
         ensures memory { IfErr result (λ e. e ≡ Memory) }
         ensures ready { OnOk result (IsReadyFor S.ready S.welcomes self.new.mode.text (S.state sink.new)) }
         ensures run { self.new.run ≡ self.old.run }
-        ensures told { OnOk result (Reading table.now S.step S.reply S.foreign self.old.mode (S.state sink.old) (chars rest.now) (S.step (S.state sink.new) end_of_file)) }
+        ensures told { OnOk result
+            (Reading table.now S.means self.old.mode (S.state sink.old) (chars rest.now)
+            (S.means.step (S.state sink.new) end_of_file)) }
     {
         let alloc = *self.run.allocator();
         let mode = mem::replace(

@@ -23,7 +23,9 @@ pub fn read_pieces<Sink: TokenSink + Drop>(
 ) -> Result<Sink, ParseFault>
     requires { IsReadyFor Sink.ready Sink.welcomes (text_of_state opts.initial_state) (Sink.state sink) }
     ensures memory { IfErr result (λ e. e ≡ Memory) }
-    ensures told { IfOk result (λ told. IsClosed Sink.close (Reading table Sink.step Sink.reply Sink.foreign (first_mode opts) (Sink.state sink) (page_text opts.discard_bom (joined pieces.items))) (Sink.state told)) }
+    ensures told { IfOk result (λ told. IsClosed Sink.close
+        (Reading table Sink.means (first_mode opts) (Sink.state sink) (page_text opts.discard_bom (joined pieces.items)))
+        (Sink.state told)) }
 {
     let mut tokenizer = Tokenizer::new(alloc, sink, opts, table);
     'pieces: for piece in pieces {

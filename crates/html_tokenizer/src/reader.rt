@@ -124,8 +124,8 @@ impl Reader {
         requires { IsReadyFor S.ready S.welcomes self.old.mode.text (S.state sink.old) }
         ensures memory { IfErr result (λ e. e ≡ Memory) }
         ensures ready { OnOk result (IsReadyFor S.ready S.welcomes self.new.mode.text (S.state sink.new)) }
-        ensures told { OnOk result (S.state sink.new ≡ state_of S.step self.old (S.state sink.old)) }
-        ensures tells { OnOk result (TellsOn S.step S.reply (S.state sink.old) (S.state sink.new)) }
+        ensures told { OnOk result (S.state sink.new ≡ state_of S.means self.old (S.state sink.old)) }
+        ensures tells { OnOk result (TellsOn S.means (S.state sink.old) (S.state sink.new)) }
         ensures run { OnOk result (string_bytes self.new.run ≡ []) }
         ensures mode { self.new.mode ≡ self.old.mode }
         ensures pending { self.new.pending ≡ self.old.pending }
@@ -147,8 +147,9 @@ impl Reader {
         requires { IsReadyFor S.ready S.welcomes self.old.mode.text (S.state sink.old) }
         ensures memory { IfErr result (λ e. e ≡ Memory) }
         ensures ready { OnOk result (IsReadyFor S.ready S.welcomes self.new.mode.text (S.state sink.new)) }
-        ensures alike { OnOk result (IsAlike S.step S.reply S.foreign (state_of S.step self.old (S.state sink.old)) (S.state sink.new)) }
-        ensures tells { OnOk result (TellsOn S.step S.reply (S.state sink.old) (S.state sink.new)) }
+        ensures alike { OnOk result
+            (IsAlike S.means (state_of S.means self.old (S.state sink.old)) (S.state sink.new)) }
+        ensures tells { OnOk result (TellsOn S.means (S.state sink.old) (S.state sink.new)) }
         ensures run { OnOk result (string_bytes self.new.run ≡ []) }
         ensures mode { self.new.mode ≡ self.old.mode }
         ensures pending { self.new.pending ≡ self.old.pending }
@@ -172,8 +173,8 @@ impl Reader {
         requires within { AreWithin self.old.mode.text (items_of tokens.items) }
         ensures memory { IfErr result (λ e. e ≡ Memory) }
         ensures ready { OnOk result (IsReadyFor S.ready S.welcomes self.new.mode.text (S.state sink.new)) }
-        ensures told { OnOk result (S.state sink.new ≡ fold S.step (S.state sink.old) (items_of tokens.items)) }
-        ensures tells { OnOk result (TellsOn S.step S.reply (S.state sink.old) (S.state sink.new)) }
+        ensures told { OnOk result (S.state sink.new ≡ fold S.means.step (S.state sink.old) (items_of tokens.items)) }
+        ensures tells { OnOk result (TellsOn S.means (S.state sink.old) (S.state sink.new)) }
         ensures run { OnOk result (string_bytes self.new.run ≡ []) }
         ensures mode { self.new.mode ≡ self.old.mode }
         ensures pending { self.new.pending ≡ self.old.pending }
@@ -195,9 +196,10 @@ impl Reader {
         requires kind { IsOf self.old.mode.text (tag_item tag) }
         ensures memory { IfErr result (λ e. e ≡ Memory) }
         ensures ready { OnOk result (IsReadyFor S.ready S.welcomes self.new.mode.text (S.state sink.new)) }
-        ensures told { OnOk result (S.state sink.new ≡ S.step (S.state sink.old) (tag_item tag)) }
-        ensures mode { OnOk result (self.new.mode ≡ mode_behind self.old.mode tag (S.reply (S.state sink.old) (tag_item tag))) }
-        ensures pause { IfOk result (IsPauseOf (S.reply (S.state sink.old) (tag_item tag))) }
+        ensures told { OnOk result (S.state sink.new ≡ S.means.step (S.state sink.old) (tag_item tag)) }
+        ensures mode { OnOk result
+            (self.new.mode ≡ mode_behind self.old.mode tag (S.means.reply (S.state sink.old) (tag_item tag))) }
+        ensures pause { IfOk result (IsPauseOf (S.means.reply (S.state sink.old) (tag_item tag))) }
         ensures run { self.new.run ≡ self.old.run }
         ensures pending { self.new.pending ≡ self.old.pending }
     {
@@ -224,12 +226,12 @@ impl Reader {
         ensures placed { OnOk result (IsPlaceOf self.new.mode.text self.new.pending.place) }
         ensures ready { OnOk result (IsReadyFor S.ready S.welcomes self.new.mode.text (S.state sink.new)) }
         ensures holds { OnOk result (Holds table.now self.new) }
-        ensures asks { IfOk result (λ pause. Asks S.step S.reply pause (S.state sink.old) (S.state sink.new)) }
+        ensures asks { IfOk result (λ pause. Asks S.means pause (S.state sink.old) (S.state sink.new)) }
         ensures paused { IfOk result (λ pause. IfSome pause (λ _. HoldsNothing self.new)) }
         ensures greater { IfOk result (λ pause. IfSome pause (λ _. c ≡ greater)) }
         ensures reads { OnOk result ((rest : List ℕ) (final : S.Abstract) →
-            Reads table.now S.step S.reply S.foreign self.new (S.state sink.new) rest final →
-            Reads table.now S.step S.reply S.foreign self.old (S.state sink.old) (c ∷ rest) final) }
+            Reads table.now S.means self.new (S.state sink.new) rest final →
+            Reads table.now S.means self.old (S.state sink.old) (c ∷ rest) final) }
     {
         if self.pending.is_text() {
             self.begin(sink, c)?;
@@ -256,12 +258,12 @@ impl Reader {
         ensures placed { OnOk result (IsPlaceOf self.new.mode.text self.new.pending.place) }
         ensures ready { OnOk result (IsReadyFor S.ready S.welcomes self.new.mode.text (S.state sink.new)) }
         ensures holds { OnOk result (Holds table.now self.new) }
-        ensures asks { IfOk result (λ pause. Asks S.step S.reply pause (S.state sink.old) (S.state sink.new)) }
+        ensures asks { IfOk result (λ pause. Asks S.means pause (S.state sink.old) (S.state sink.new)) }
         ensures paused { IfOk result (λ pause. IfSome pause (λ _. HoldsNothing self.new)) }
         ensures greater { IfOk result (λ pause. IfSome pause (λ _. c ≡ greater)) }
         ensures reads { OnOk result ((rest : List ℕ) (final : S.Abstract) →
-            Reads table.now S.step S.reply S.foreign self.new (S.state sink.new) rest final →
-            Reads table.now S.step S.reply S.foreign self.old (S.state sink.old) (c ∷ rest) final) }
+            Reads table.now S.means self.new (S.state sink.new) rest final →
+            Reads table.now S.means self.old (S.state sink.old) (c ∷ rest) final) }
     {
         self.start = self.start.behind(self.pending.place(), self.line);
         let foreign = self.is_foreign(sink)?;
@@ -286,11 +288,11 @@ impl Reader {
         ensures placed { OnOk result (IsPlaceOf self.new.mode.text self.new.pending.place) }
         ensures ready { OnOk result (IsReadyFor S.ready S.welcomes self.new.mode.text (S.state sink.new)) }
         ensures holds { (table : References) → result ≡ Ok true → Holds table self.new }
-        ensures tells { OnOk result (TellsOn S.step S.reply (S.state sink.old) (S.state sink.new)) }
+        ensures tells { OnOk result (TellsOn S.means (S.state sink.old) (S.state sink.new)) }
         ensures place { result ≡ Ok false → IsWithinMarkup self.new.pending.place }
         ensures reads { IfOk result (λ taken. (table : References) (rest : List ℕ) (final : S.Abstract) →
-            Reads table S.step S.reply S.foreign self.new (S.state sink.new) (if taken then rest else c ∷ rest) final →
-            Reads table S.step S.reply S.foreign self.old (S.state sink.old) (c ∷ rest) final) }
+            Reads table S.means self.new (S.state sink.new) (if taken then rest else c ∷ rest) final →
+            Reads table S.means self.old (S.state sink.old) (c ∷ rest) final) }
     {
         let Place::RawText(kind, place) = self.pending.place() else {
             return Ok(false);
@@ -326,10 +328,10 @@ impl Reader {
         ensures placed { OnOk result (IsPlaceOf self.new.mode.text self.new.pending.place) }
         ensures ready { OnOk result (IsReadyFor S.ready S.welcomes self.new.mode.text (S.state sink.new)) }
         ensures holds { OnOk result ((table : References) → Holds table self.new) }
-        ensures tells { OnOk result (TellsOn S.step S.reply (S.state sink.old) (S.state sink.new)) }
+        ensures tells { OnOk result (TellsOn S.means (S.state sink.old) (S.state sink.new)) }
         ensures reads { OnOk result ((table : References) (rest : List ℕ) (final : S.Abstract) →
-            Reads table S.step S.reply S.foreign self.new (S.state sink.new) rest final →
-            Reads table S.step S.reply S.foreign self.old (S.state sink.old) (c ∷ rest) final) }
+            Reads table S.means self.new (S.state sink.new) rest final →
+            Reads table S.means self.old (S.state sink.old) (c ∷ rest) final) }
     {
         match self.pending.take_in_section(c)? {
             SectionTurn::Goes | SectionTurn::Ends => Ok(()),
@@ -349,8 +351,11 @@ impl Reader {
         requires kind { HasMarkup self.old.mode.text }
         ensures memory { IfErr result (λ e. e ≡ Memory) }
         ensures ready { OnOk result (IsReadyFor S.ready S.welcomes self.new.mode.text (S.state sink.new)) }
-        ensures tells { OnOk result (TellsOn S.step S.reply (S.state sink.old) (S.state sink.new)) }
-        ensures told { OnOk result (state_of S.step self.new (S.state sink.new) ≡ fold S.step (state_of S.step self.old (S.state sink.old)) (map ordinary_item (chars (string_bytes self.old.pending.held) ++ c ∷ []))) }
+        ensures tells { OnOk result (TellsOn S.means (S.state sink.old) (S.state sink.new)) }
+        ensures told { OnOk result
+            (state_of S.means self.new (S.state sink.new) ≡ fold S.means.step
+            (state_of S.means self.old (S.state sink.old))
+            (map ordinary_item (chars (string_bytes self.old.pending.held) ++ c ∷ []))) }
         ensures mode { OnOk result (self.new.mode ≡ self.old.mode) }
         ensures place { OnOk result (self.new.pending.place ≡ SectionPlace) }
         ensures held { OnOk result (chars (string_bytes self.new.pending.held) ≡ []) }
@@ -382,17 +387,21 @@ impl Reader {
         ensures holds { OnOk result ((foreign : Bool) (place : SeenPlace) (held : List ℕ) →
             Advances table.now foreign self.old.mode place held c advance self.old.pending.place (chars (string_bytes self.old.pending.held)) → Holds table.now self.new) }
         ensures asks { IfOk result (λ pause. (place : SeenPlace) (held : List ℕ) →
-            Advances table.now (S.foreign (state_of S.step self.old (S.state sink.old))) self.old.mode place held c advance self.old.pending.place (chars (string_bytes self.old.pending.held)) →
-            Asks S.step S.reply pause (S.state sink.old) (S.state sink.new)) }
+            Advances table.now (S.means.foreign (state_of S.means self.old (S.state sink.old))) self.old.mode place held
+            c advance self.old.pending.place (chars (string_bytes self.old.pending.held)) →
+            Asks S.means pause (S.state sink.old) (S.state sink.new)) }
         ensures paused { IfOk result (λ pause. IfSome pause (λ _. HoldsNothing self.new)) }
         ensures greater { IfOk result (λ pause. (place : SeenPlace) (held : List ℕ) →
-            Advances table.now (S.foreign (state_of S.step self.old (S.state sink.old))) self.old.mode place held c advance self.old.pending.place (chars (string_bytes self.old.pending.held)) →
+            Advances table.now (S.means.foreign (state_of S.means self.old (S.state sink.old))) self.old.mode place held
+            c advance self.old.pending.place (chars (string_bytes self.old.pending.held)) →
             IfSome pause (λ _. c ≡ greater)) }
         ensures reads { OnOk result ((place : SeenPlace) (held : List ℕ) →
-            Advances table.now (S.foreign (state_of S.step self.old (S.state sink.old))) self.old.mode place held c advance self.old.pending.place (chars (string_bytes self.old.pending.held)) →
+            Advances table.now (S.means.foreign (state_of S.means self.old (S.state sink.old))) self.old.mode place held
+            c advance self.old.pending.place (chars (string_bytes self.old.pending.held)) →
             (rest : List ℕ) (final : S.Abstract) →
-            Reads table.now S.step S.reply S.foreign self.new (S.state sink.new) rest final →
-            Leaves table.now S.step S.reply S.foreign self.old.mode place (held ++ c ∷ rest) (state_of S.step self.old (S.state sink.old)) final) }
+            Reads table.now S.means self.new (S.state sink.new) rest final →
+            Leaves table.now S.means self.old.mode place (held ++ c ∷ rest)
+            (state_of S.means self.old (S.state sink.old)) final) }
     {
         match advance {
             Advance::Goes => Ok(None),
@@ -414,9 +423,11 @@ impl Reader {
         requires { IsReadyFor S.ready S.welcomes self.old.mode.text (S.state sink.old) }
         ensures memory { IfErr result (λ e. e ≡ Memory) }
         ensures ready { OnOk result (IsReadyFor S.ready S.welcomes self.new.mode.text (S.state sink.new)) }
-        ensures state { OnOk result (state_of S.step self.new (S.state sink.new) ≡ state_of S.step self.old (S.state sink.old)) }
-        ensures tells { OnOk result (TellsOn S.step S.reply (S.state sink.old) (S.state sink.new)) }
-        ensures foreign { IfOk result (λ f. self.old.pending.place ≡ DeclarationPlace → S.foreign (state_of S.step self.old (S.state sink.old)) ≡ f) }
+        ensures state { OnOk result
+            (state_of S.means self.new (S.state sink.new) ≡ state_of S.means self.old (S.state sink.old)) }
+        ensures tells { OnOk result (TellsOn S.means (S.state sink.old) (S.state sink.new)) }
+        ensures foreign { IfOk result (λ f. self.old.pending.place ≡ DeclarationPlace →
+            S.means.foreign (state_of S.means self.old (S.state sink.old)) ≡ f) }
         ensures mode { self.new.mode ≡ self.old.mode }
         ensures pending { self.new.pending ≡ self.old.pending }
     {
@@ -437,10 +448,10 @@ impl Reader {
         ensures placed { OnOk result (IsPlaceOf self.new.mode.text self.new.pending.place) }
         ensures ready { OnOk result (IsReadyFor S.ready S.welcomes self.new.mode.text (S.state sink.new)) }
         ensures holds { OnOk result ((table : References) → Holds table self.new) }
-        ensures tells { OnOk result (TellsOn S.step S.reply (S.state sink.old) (S.state sink.new)) }
+        ensures tells { OnOk result (TellsOn S.means (S.state sink.old) (S.state sink.new)) }
         ensures reads { OnOk result ((table : References) (rest : List ℕ) (final : S.Abstract) →
-            Reads table S.step S.reply S.foreign self.new (S.state sink.new) rest final →
-            Reads table S.step S.reply S.foreign self.old (S.state sink.old) (c ∷ rest) final) }
+            Reads table S.means self.new (S.state sink.new) rest final →
+            Reads table S.means self.old (S.state sink.old) (c ∷ rest) final) }
     {
         self.errors.at_text(state_of(self.mode.text), c, self.line)?;
         match first_of(&self.mode.last_start_tag, self.mode.text, c) {
@@ -459,8 +470,10 @@ impl Reader {
         requires scalar { IsScalar c }
         ensures memory { IfErr result (λ e. e ≡ Memory) }
         ensures ready { OnOk result (IsReadyFor S.ready S.welcomes self.new.mode.text (S.state sink.new)) }
-        ensures tells { OnOk result (TellsOn S.step S.reply (S.state sink.old) (S.state sink.new)) }
-        ensures told { OnOk result (state_of S.step self.new (S.state sink.new) ≡ S.step (state_of S.step self.old (S.state sink.old)) (characters (c ∷ []))) }
+        ensures tells { OnOk result (TellsOn S.means (S.state sink.old) (S.state sink.new)) }
+        ensures told { OnOk result
+            (state_of S.means self.new (S.state sink.new) ≡ S.means.step (state_of S.means self.old (S.state sink.old))
+            (characters (c ∷ []))) }
         ensures mode { self.new.mode ≡ self.old.mode }
         ensures pending { self.new.pending ≡ self.old.pending }
     {
@@ -479,8 +492,9 @@ impl Reader {
         requires kind { HasMarkup self.old.mode.text }
         ensures memory { IfErr result (λ e. e ≡ Memory) }
         ensures ready { OnOk result (IsReadyFor S.ready S.welcomes self.new.mode.text (S.state sink.new)) }
-        ensures tells { OnOk result (TellsOn S.step S.reply (S.state sink.old) (S.state sink.new)) }
-        ensures told { OnOk result (S.state sink.new ≡ S.step (state_of S.step self.old (S.state sink.old)) null_character) }
+        ensures tells { OnOk result (TellsOn S.means (S.state sink.old) (S.state sink.new)) }
+        ensures told { OnOk result
+            (S.state sink.new ≡ S.means.step (state_of S.means self.old (S.state sink.old)) null_character) }
         ensures run { OnOk result (string_bytes self.new.run ≡ []) }
         ensures mode { self.new.mode ≡ self.old.mode }
         ensures pending { self.new.pending ≡ self.old.pending }
@@ -504,13 +518,18 @@ impl Reader {
         ensures memory { IfErr result (λ e. e ≡ Memory) }
         ensures ready { OnOk result (IsReadyFor S.ready S.welcomes self.new.mode.text (S.state sink.new)) }
         ensures place { OnOk result (self.new.pending.place ≡ TextPlace) }
-        ensures asks { IfOk result (λ pause. Asks S.step S.reply pause (S.state sink.old) (S.state sink.new)) }
-        ensures untagged { IfOk result (λ pause. IsUntagged (place_lexeme table.now (S.foreign (state_of S.step self.old (S.state sink.old))) self.old.mode place (chars (string_bytes held))) → pause ≡ None) }
+        ensures asks { IfOk result (λ pause. Asks S.means pause (S.state sink.old) (S.state sink.new)) }
+        ensures untagged { IfOk result
+            (λ pause. IsUntagged (place_lexeme table.now
+            (S.means.foreign (state_of S.means self.old (S.state sink.old))) self.old.mode place
+            (chars (string_bytes held))) → pause ≡ None) }
         ensures paused { IfOk result (λ pause. IfSome pause (λ _. HoldsNothing self.new)) }
         ensures reads { OnOk result ((follow rest : List ℕ) (final : S.Abstract) →
-            IsOver table.now (S.foreign (state_of S.step self.old (S.state sink.old))) self.old.mode place (chars (string_bytes held)) follow →
-            Reads table.now S.step S.reply S.foreign self.new (S.state sink.new) (follow ++ rest) final →
-            Leaves table.now S.step S.reply S.foreign self.old.mode place (chars (string_bytes held) ++ (follow ++ rest)) (state_of S.step self.old (S.state sink.old)) final) }
+            IsOver table.now (S.means.foreign (state_of S.means self.old (S.state sink.old))) self.old.mode place
+            (chars (string_bytes held)) follow →
+            Reads table.now S.means self.new (S.state sink.new) (follow ++ rest) final →
+            Leaves table.now S.means self.old.mode place (chars (string_bytes held) ++ (follow ++ rest))
+            (state_of S.means self.old (S.state sink.old)) final) }
     {
         place_of_a_kind();
         self.tell_run(sink)?;

@@ -56,8 +56,8 @@ impl<Sink: TokenSink> Tokenizer<Sink> {
         ensures table { table_of result ≡ table }
         ensures last { last_start_tag_of result ≡ opts.last_start_tag_name }
         ensures left { (page : List ℕ) → text_left result page ≡ page_text opts.discard_bom page }
-        ensures begins { (page : List ℕ) (final : Sink.Abstract) → Completes Sink.state Sink.step Sink.reply Sink.foreign result page final →
-            Reading table Sink.step Sink.reply Sink.foreign (first_mode opts) (Sink.state sink) (page_text opts.discard_bom page) final }
+        ensures begins { (page : List ℕ) (final : Sink.Abstract) → Completes Sink.state Sink.means result page final →
+            Reading table Sink.means (first_mode opts) (Sink.state sink) (page_text opts.discard_bom page) final }
     {
         let TokenizerOpts {
             exact_errors,
@@ -100,12 +100,12 @@ impl<Sink: TokenSink> Tokenizer<Sink> {
         ensures pauses { IfOk result (λ r. (r ≡ TokenizerResult.Done → ⊥) →
             (length queue.new.text < length queue.old.text) × (IsEmptied self.new
             × ((is_text_state self.new ≡ true) × (nothing_pending self.new ≡ true)))) }
-        ensures behind { IfOk result (λ r. (r ≡ TokenizerResult.Done → ⊥) → PausesBehind Sink.state Sink.step Sink.reply Sink.foreign greater
-            (Sink.state self.old.sink) (Completes Sink.state Sink.step Sink.reply Sink.foreign self.old) queue.old queue.new) }
-        ensures asks { IfOk result (λ r. Answers Sink.step Sink.reply r (Sink.state self.old.sink) (Sink.state self.new.sink)) }
+        ensures behind { IfOk result (λ r. (r ≡ TokenizerResult.Done → ⊥) → PausesBehind Sink.state Sink.means greater
+            (Sink.state self.old.sink) (Completes Sink.state Sink.means self.old) queue.old queue.new) }
+        ensures asks { IfOk result (λ r. Answers Sink.means r (Sink.state self.old.sink) (Sink.state self.new.sink)) }
         ensures reads { OnOk result ((rest : List ℕ) (final : Sink.Abstract) →
-            Completes Sink.state Sink.step Sink.reply Sink.foreign self.new (queue.new.text ++ rest) final →
-            Completes Sink.state Sink.step Sink.reply Sink.foreign self.old (queue.old.text ++ rest) final) }
+            Completes Sink.state Sink.means self.new (queue.new.text ++ rest) final →
+            Completes Sink.state Sink.means self.old (queue.old.text ++ rest) final) }
     {
         if self.is_over {
             return Err(ParseFault::Failed);
@@ -130,8 +130,8 @@ impl<Sink: TokenSink> Tokenizer<Sink> {
         ensures takes { OnOk result (TakesSome queue.old queue.new) }
         ensures done { OnOk result ((queue.new.text ≡ []) × (HasTold self.new × IsUndecided self.new)) }
         ensures reads { OnOk result ((rest : List ℕ) (final : Sink.Abstract) →
-            Completes Sink.state Sink.step Sink.reply Sink.foreign self.new rest final →
-            Completes Sink.state Sink.step Sink.reply Sink.foreign self.old (queue.old.text ++ rest) final) }
+            Completes Sink.state Sink.means self.new rest final →
+            Completes Sink.state Sink.means self.old (queue.old.text ++ rest) final) }
     {
         'feeds: loop {
             if let TokenizerResult::Done = self.feed(queue)? {
@@ -155,12 +155,12 @@ impl<Sink: TokenSink> Tokenizer<Sink> {
         ensures pauses { IfOk result (λ r. (r ≡ TokenizerResult.Done → ⊥) →
             (length queue.new.text < length queue.old.text) × (inside.IsEmptied self.new
             × ((inside.is_text_state self.new ≡ true) × (inside.nothing_pending self.new ≡ true)))) }
-        ensures behind { IfOk result (λ r. (r ≡ TokenizerResult.Done → ⊥) → PausesBehind Sink.state Sink.step Sink.reply Sink.foreign greater
-            (Sink.state self.old.sink) (inside.Completes Sink.state Sink.step Sink.reply Sink.foreign self.old) queue.old queue.new) }
-        ensures asks { IfOk result (λ r. Answers Sink.step Sink.reply r (Sink.state self.old.sink) (Sink.state self.new.sink)) }
+        ensures behind { IfOk result (λ r. (r ≡ TokenizerResult.Done → ⊥) → PausesBehind Sink.state Sink.means greater
+            (Sink.state self.old.sink) (inside.Completes Sink.state Sink.means self.old) queue.old queue.new) }
+        ensures asks { IfOk result (λ r. Answers Sink.means r (Sink.state self.old.sink) (Sink.state self.new.sink)) }
         ensures reads { OnOk result ((rest : List ℕ) (final : Sink.Abstract) →
-            inside.Completes Sink.state Sink.step Sink.reply Sink.foreign self.new (queue.new.text ++ rest) final →
-            inside.Completes Sink.state Sink.step Sink.reply Sink.foreign self.old (queue.old.text ++ rest) final) }
+            inside.Completes Sink.state Sink.means self.new (queue.new.text ++ rest) final →
+            inside.Completes Sink.state Sink.means self.old (queue.old.text ++ rest) final) }
     {
         'characters: while let Some(c) = queue.next() {
             if let Some(pause) = self.take(c)? {
@@ -184,12 +184,13 @@ impl<Sink: TokenSink> Tokenizer<Sink> {
         ensures over { self.new.is_over ≡ true }
         ensures table { self.new.table ≡ self.old.table }
         ensures holds { OnOk result (Holds self.new.table self.new.reader) }
-        ensures asks { IfOk result (λ pause. Asks Sink.step Sink.reply pause (Sink.state self.old.sink) (Sink.state self.new.sink)) }
+        ensures asks { IfOk result
+            (λ pause. Asks Sink.means pause (Sink.state self.old.sink) (Sink.state self.new.sink)) }
         ensures paused { IfOk result (λ pause. IfSome pause (λ _. inside.IsEmptied self.new)) }
         ensures greater { IfOk result (λ pause. IfSome pause (λ _. c ≡ greater)) }
         ensures reads { OnOk result ((rest : List ℕ) (final : Sink.Abstract) →
-            inside.Completes Sink.state Sink.step Sink.reply Sink.foreign self.new rest final →
-            inside.Completes Sink.state Sink.step Sink.reply Sink.foreign self.old (c ∷ rest) final) }
+            inside.Completes Sink.state Sink.means self.new rest final →
+            inside.Completes Sink.state Sink.means self.old (c ∷ rest) final) }
     {
         let ended = self.line_ends.ended(c);
         self.line_ends = LineEnds::behind(c);
@@ -229,8 +230,9 @@ impl<Sink: TokenSink> Tokenizer<Sink> {
         ensures works { has_failed self.new ≡ has_failed self.old }
         ensures fit { IsFit Sink.state Sink.ready Sink.welcomes self.old → IsFit Sink.state Sink.ready Sink.welcomes self.new }
         ensures table { table_of self.new ≡ table_of self.old }
-        ensures plain { (rest : List ℕ) (final : Sink.Abstract) → Completes Sink.state Sink.step Sink.reply Sink.foreign self.new rest final →
-            Reading (table_of self.old) Sink.step Sink.reply Sink.foreign (plain_mode (last_start_tag_of self.old)) (Sink.state self.old.sink) (text_left self.old rest) final }
+        ensures plain { (rest : List ℕ) (final : Sink.Abstract) → Completes Sink.state Sink.means self.new rest final →
+            Reading (table_of self.old) Sink.means (plain_mode (last_start_tag_of self.old)) (Sink.state self.old.sink)
+            (text_left self.old rest) final }
     {
         self.reader.set_plaintext();
     }
@@ -245,7 +247,8 @@ impl<Sink: TokenSink> Tokenizer<Sink> {
         ensures failed { has_failed self.old ≡ true → result ≡ Err Failed }
         ensures kept { has_failed self.old ≡ true → self.new ≡ self.old }
         ensures over { has_failed self.new ≡ true }
-        ensures completes { OnOk result (IsClosed Sink.close (Completes Sink.state Sink.step Sink.reply Sink.foreign self.old []) (Sink.state self.new.sink)) }
+        ensures completes { OnOk result
+            (IsClosed Sink.close (Completes Sink.state Sink.means self.old []) (Sink.state self.new.sink)) }
     {
         if self.is_over {
             return Err(ParseFault::Failed);

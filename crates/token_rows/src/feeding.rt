@@ -24,7 +24,7 @@ pub(crate) fn fed<S: TokenSink + Drop>(
 ) -> Result<S, ParseFault>
     requires { IsReadyFor S.ready S.welcomes (text_of_state options.initial_state) (S.state sink) }
     ensures memory { IfErr result (λ e. e ≡ Memory) }
-    ensures told { IfOk result (λ told. IsClosed S.close (Reading table S.step S.reply S.foreign (first_mode options)
+    ensures told { IfOk result (λ told. IsClosed S.close (Reading table S.means (first_mode options)
         (S.state sink) (page_text options.discard_bom (joined pieces.items))) (S.state told)) }
 {
     read_pieces(alloc, sink, options, table, pieces)

@@ -50,11 +50,7 @@ impl TokenSink for Collected {
 
     ghost state = { λ s. s.foreign };
 
-    ghost step = { λ s _. s };
-
-    ghost reply = { λ _ _. Continue };
-
-    ghost foreign = { λ s. s };
+    ghost means = { record { step = λ s _. s; reply = λ _ _. Continue; foreign = λ s. s } };
 
     ghost ready = { λ _. Unit {0} };
 
@@ -143,11 +139,7 @@ impl TokenSink for Switching {
 
     ghost state = { λ s. record { rcdata = s.rcdata; script = s.script; plaintext = s.plaintext; meta = s.meta; encoding = s.encoding } };
 
-    ghost step = { λ s _. s };
-
-    ghost reply = { λ s item. asked s item };
-
-    ghost foreign = { λ _. false };
+    ghost means = { record { step = λ s _. s; reply = λ s item. asked s item; foreign = λ _. false } };
 
     ghost ready = { λ _. Unit {0} };
 
@@ -203,11 +195,7 @@ impl TokenSink for Counting {
 
     ghost state = { λ _. tt };
 
-    ghost step = { λ s _. s };
-
-    ghost reply = { λ _ _. Continue };
-
-    ghost foreign = { λ _. false };
+    ghost means = { record { step = λ s _. s; reply = λ _ _. Continue; foreign = λ _. false } };
 
     ghost ready = { λ _. Unit {0} };
 
@@ -268,11 +256,7 @@ impl TokenSink for Errors {
 
     ghost state = { λ s. s.foreign };
 
-    ghost step = { λ s _. s };
-
-    ghost reply = { λ _ _. Continue };
-
-    ghost foreign = { λ s. s };
+    ghost means = { record { step = λ s _. s; reply = λ _ _. Continue; foreign = λ s. s } };
 
     ghost ready = { λ _. Unit {0} };
 
@@ -330,11 +314,7 @@ impl TokenSink for Marked {
 
     ghost state = { λ s. s.told.foreign };
 
-    ghost step = { λ s _. s };
-
-    ghost reply = { λ _ _. Continue };
-
-    ghost foreign = { λ s. s };
+    ghost means = { record { step = λ s _. s; reply = λ _ _. Continue; foreign = λ s. s } };
 
     ghost ready = { λ _. Unit {0} };
 

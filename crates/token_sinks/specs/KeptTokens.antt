@@ -1,6 +1,8 @@
 -- What a sink that keeps its tokens has kept: texts that follow each other are one, and errors are left out.
 use Rattle.std.specs.Prelude.{ℕ, Bool, List, [], ◌∷◌, ◌++◌}
+use Rattle.html_lexemes.specs.declared.token.TokenSinkResult.TheVariants.{Continue}
 use Rattle.html_grammar.specs.Items.{Item, characters, error}
+use Rattle.html_grammar.specs.Meaning.{Meaning}
 
 -- a text behind what was kept
 abbrev pub with_text : List Item → List ℕ → List Item
@@ -22,3 +24,6 @@ pub record Kept : Type 0 where
 -- what is kept behind an item
 abbrev pub kept_behind : Kept → Item → Kept
 kept_behind s item = record s { items = kept s.items item }
+
+abbrev pub kept_meaning : {H : Type 0} → Meaning Kept H
+kept_meaning = record { step = kept_behind; reply = λ _ _. Continue; foreign = λ s. s.is_foreign }

@@ -2,9 +2,8 @@
 use Rattle.std.specs.Prelude.{◌≡◌, ℕ, List, [], ◌∷◌, ◌++◌, refl}
 use Rattle.std.proofs.Common.{sym, ap, ◌∙◌, append_assoc, append-nil}
 use Rattle.html_grammar.specs.Items.{Item, characters}
-use Rattle.html_lexemes.specs.declared.token.TokenSinkResult.TheVariants.{Continue}
 use Rattle.html_grammar.specs.Reading.{IsLawful}
-use Rattle.token_sinks.specs.KeptTokens.{Kept, kept, kept_behind, with_text}
+use Rattle.token_sinks.specs.KeptTokens.{Kept, kept, kept_behind, kept_meaning, with_text}
 
 -- a first item stays first
 first_stays : (item : Item) (items : List Item) (cs ds : List ℕ)
@@ -37,9 +36,8 @@ kept_behind-joins : (s : Kept) (cs ds : List ℕ)
     → kept_behind (kept_behind s (characters cs)) (characters ds) ≡ kept_behind s (characters (cs ++ ds))
 kept_behind-joins s cs ds = ap (with_items s) (kept-joins s.items cs ds)
 
-pub kept_behind-lawful : {H : Type 0}
-    → IsLawful {H = H} kept_behind (λ _ _. Continue) (λ s. s.is_foreign) (λ _. Unit {0})
-kept_behind-lawful = record {
+pub kept_meaning-lawful : {H : Type 0} → IsLawful {H = H} kept_meaning (λ _. Unit {0})
+kept_meaning-lawful = record {
   joins = kept_behind-joins;
   skips = λ _. refl;
   answers = λ _ _ _. refl;

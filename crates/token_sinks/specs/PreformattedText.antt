@@ -4,7 +4,9 @@ use Rattle.std.specs.Prelude.{ℕ, Bool, false, ◌==◌, ◌&&◌, if◌then◌
 use Rattle.std.specs.Str.{bytes_eq}
 use Rattle.html_lexemes.specs.declared.token.TagKind.{TagKind}
 use Rattle.html_lexemes.specs.declared.token.TagKind.TheVariants.{StartTag, EndTag}
+use Rattle.html_lexemes.specs.declared.token.TokenSinkResult.TheVariants.{Continue}
 use Rattle.html_grammar.specs.Items.{Item, characters, tag}
+use Rattle.html_grammar.specs.Meaning.{Meaning}
 
 -- the names of the open elements, the innermost first; whether a line feed is left out next; and the text
 pub record Page : Type 0 where
@@ -48,3 +50,6 @@ is_named name (innermost ∷ names) = bytes_eq innermost name
 -- the current node is foreign: here, where it is named `svg`
 abbrev pub is_in_svg : Page → Bool
 is_in_svg page = is_named (codes "svg") page.elements
+
+abbrev pub page_meaning : {H : Type 0} → Meaning Page H
+page_meaning = record { step = page_behind; reply = λ _ _. Continue; foreign = is_in_svg }

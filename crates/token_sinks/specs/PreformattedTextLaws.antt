@@ -5,10 +5,9 @@ use Rattle.std.proofs.Common.{sym, ap, ◌∙◌, append_assoc, append-nil, arit
 use Rattle.std.proofs.lemmas.Bool.{ne_eqb}
 use Rattle.html_lexemes.specs.declared.token.TagKind.{TagKind}
 use Rattle.html_lexemes.specs.declared.token.TagKind.TheVariants.{StartTag, EndTag}
-use Rattle.html_lexemes.specs.declared.token.TokenSinkResult.TheVariants.{Continue}
 use Rattle.html_grammar.specs.Items.{Item, characters, error, null_character, tag, comment, doctype, end_of_file}
 use Rattle.html_grammar.specs.Reading.{IsAfterError, IsLawful}
-use Rattle.token_sinks.specs.PreformattedText.{Page, HasOpen, settled, said, closed, behind_tag, page_behind, is_in_svg}
+use Rattle.token_sinks.specs.PreformattedText.{Page, HasOpen, settled, said, closed, behind_tag, page_behind, page_meaning}
 
 abbrev with_text : Page → List ℕ → Page
 with_text page text = record page { skips_line_feed = false; text = text }
@@ -69,8 +68,8 @@ page_behind-forgets page (comment cs) h = refl
 page_behind-forgets page (doctype d) h = refl
 page_behind-forgets page end_of_file h = refl
 
-pub page_behind-lawful : {H : Type 0} → IsLawful {H = H} page_behind (λ _ _. Continue) is_in_svg HasOpen
-page_behind-lawful = record {
+pub page_meaning-lawful : {H : Type 0} → IsLawful {H = H} page_meaning HasOpen
+page_meaning-lawful = record {
   joins = said-joins;
   skips = λ _. refl;
   answers = λ _ _ _. refl;

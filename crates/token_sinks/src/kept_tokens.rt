@@ -47,19 +47,14 @@ impl KeptTokens {
 impl TokenSink for KeptTokens {
     type Handle = ();
 
-    ghost use Rattle.html_lexemes.specs.declared.token.TokenSinkResult.TheVariants.{Continue};
-    ghost use Rattle.token_sinks.specs.KeptTokens.{Kept, kept_behind};
-    ghost use Rattle.token_sinks.specs.KeptTokensLaws.{kept_behind-lawful};
+    ghost use Rattle.token_sinks.specs.KeptTokens.{Kept, kept_meaning};
+    ghost use Rattle.token_sinks.specs.KeptTokensLaws.{kept_meaning-lawful};
 
     ghost Abstract = { Kept };
 
     ghost state = { λ s. s };
 
-    ghost step = { kept_behind };
-
-    ghost reply = { λ _ _. Continue };
-
-    ghost foreign = { λ s. s.is_foreign };
+    ghost means = { kept_meaning };
 
     ghost ready = { λ _. Unit {0} };
 
@@ -67,7 +62,7 @@ impl TokenSink for KeptTokens {
 
     ghost close = { λ s. s };
 
-    ghost lawful = { kept_behind-lawful };
+    ghost lawful = { kept_meaning-lawful };
 
     ghost hearing = { record { goes_on = λ _ _ _ _ _ h. h; asks = λ _ _ _ h _. h } };
 

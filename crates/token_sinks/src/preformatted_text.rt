@@ -108,19 +108,14 @@ impl PreformattedText {
 impl TokenSink for PreformattedText {
     type Handle = ();
 
-    ghost use Rattle.html_lexemes.specs.declared.token.TokenSinkResult.TheVariants.{Continue};
-    ghost use Rattle.token_sinks.specs.PreformattedText.{HasOpen, Page, is_in_svg, page_behind};
-    ghost use Rattle.token_sinks.specs.PreformattedTextLaws.{page_behind-lawful};
+    ghost use Rattle.token_sinks.specs.PreformattedText.{HasOpen, Page, page_meaning};
+    ghost use Rattle.token_sinks.specs.PreformattedTextLaws.{page_meaning-lawful};
 
     ghost Abstract = { Page };
 
     ghost state = { λ s. s };
 
-    ghost step = { page_behind };
-
-    ghost reply = { λ _ _. Continue };
-
-    ghost foreign = { is_in_svg };
+    ghost means = { page_meaning };
 
     ghost ready = { HasOpen };
 
@@ -128,7 +123,7 @@ impl TokenSink for PreformattedText {
 
     ghost close = { λ s. s };
 
-    ghost lawful = { page_behind-lawful };
+    ghost lawful = { page_meaning-lawful };
 
     ghost hearing = { record { goes_on = λ _ _ _ _ _ h. h; asks = λ _ _ _ h _. h } };
 

@@ -10,8 +10,8 @@ abbrev pub invariant-lexemes : goal.invariant-lexemes
 invariant-lexemes g l = record {
   text : shadow (Utf8 l.rest);
   ready : IsReadyFor g.S.TokenSink.ready g.S.TokenSink.welcomes l.mode.text (g.S.TokenSink.state l.sink);
-  leads : (final : _) → Reading l.table g.S.TokenSink.step g.S.TokenSink.reply g.S.TokenSink.foreign l.mode (g.S.TokenSink.state l.sink) (chars l.rest) final →
-      Reading l.table g.S.TokenSink.step g.S.TokenSink.reply g.S.TokenSink.foreign l.fn.mode (g.S.TokenSink.state l.fn.sink) (chars l.fn.text) final;
+  leads : (final : _) → Reading l.table g.S.TokenSink.means l.mode (g.S.TokenSink.state l.sink) (chars l.rest) final →
+      Reading l.table g.S.TokenSink.means l.fn.mode (g.S.TokenSink.state l.fn.sink) (chars l.fn.text) final;
 }
 
 abbrev pub decreases-lexemes : goal.decreases-lexemes

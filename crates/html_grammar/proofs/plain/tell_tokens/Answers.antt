@@ -20,7 +20,7 @@ tokens-preserved g c =
     let w = subst (λ (tokens : List Token). AreWelcome sink.welcomes s (items_of tokens)) taken c.tokens.invariant.welcome in
     record {
       ready = subst sink.ready e (g.met.S.TokenSink.lawful.keeps s item c.tokens.invariant.ready);
-      welcome = subst (λ x. AreWelcome sink.welcomes x left) e (welcome_on sink.step sink.reply sink.welcomes hearing s item left w.0.0 w.0.1 w.1);
+      welcome = subst (λ x. AreWelcome sink.welcomes x left) e (welcome_on sink.means sink.welcomes hearing s item left w.0.0 w.0.1 w.1);
       hears = λ later h. subst (λ x. sink.welcomes x later) e (hearing.goes_on s item later w.0.0 w.0.1 (c.tokens.invariant.hears later h));
-      told = ap (λ x. fold sink.step x left) (sym e) ∙ (ap (λ (tokens : List Token). fold sink.step s (items_of tokens)) (sym taken) ∙ c.tokens.invariant.told);
+      told = ap (λ x. fold sink.means.step x left) (sym e) ∙ (ap (λ (tokens : List Token). fold sink.means.step s (items_of tokens)) (sym taken) ∙ c.tokens.invariant.told);
     }

@@ -12,6 +12,6 @@ pub returns-clause-told : goal.returns-clause-told
 returns-clause-told g c =
     let told = c.in_ok-end.ensures.completes in
     let left : length (into_iter_items c.pieces.piece-iterator) ≡ 0 = omega (arith, c.pieces.piece-iterator.rest.ok.0, c.in-None.ensures.steps.0) in
-    let reads = subst (λ x. Completes g.Sink.TokenSink.state g.Sink.TokenSink.step g.Sink.TokenSink.reply g.Sink.TokenSink.foreign c.pieces.tokenizer x told.0)
+    let reads = subst (λ x. Completes g.Sink.TokenSink.state g.Sink.TokenSink.means c.pieces.tokenizer x told.0)
     (sym (no_pieces (into_iter_items c.pieces.piece-iterator) left)) told.1.0 in
     (told.0, (c.pieces.invariant.reads told.0 reads, told.1.1))

@@ -10,11 +10,9 @@ use Rattle.html_tokenizer.proofs.pieces.read_pieces.Given as goal
 abbrev pub invariant-pieces : goal.invariant-pieces
 invariant-pieces g l =
     let s = g.Sink.TokenSink.state in
-    let step = g.Sink.TokenSink.step in
-    let reply = g.Sink.TokenSink.reply in
-    let foreign = g.Sink.TokenSink.foreign in
+    let means = g.Sink.TokenSink.means in
     record {
       works : has_failed l.tokenizer ≡ false;
       fit : IsFit s g.Sink.TokenSink.ready g.Sink.TokenSink.welcomes l.tokenizer;
-      reads : (final : _) → Completes s step reply foreign l.tokenizer (joined (into_iter_items l.piece-iterator)) final → Reading l.fn.table step reply foreign (first_mode l.fn.opts) (s l.fn.sink) (page_text l.fn.opts.discard_bom (joined l.fn.pieces.items)) final;
+      reads : (final : _) → Completes s means l.tokenizer (joined (into_iter_items l.piece-iterator)) final → Reading l.fn.table means (first_mode l.fn.opts) (s l.fn.sink) (page_text l.fn.opts.discard_bom (joined l.fn.pieces.items)) final;
     }

@@ -22,34 +22,33 @@ pub returns-in_ok-begin-in-EndsBefore-clause-reads : goal.returns-in_ok-begin-in
 returns-in_ok-begin-in-EndsBefore-clause-reads g c = λ place held a rest final l.
     let r = c.args.self.now in
     let table = c.args.table.now in
-    let s = g.S.TokenSink.step (g.S.TokenSink.state c.args.sink.now) (characters (chars (string_bytes r.run))) in
-    let f = g.S.TokenSink.foreign s in
+    let s = g.S.TokenSink.means.step (g.S.TokenSink.state c.args.sink.now) (characters (chars (string_bytes r.run))) in
+    let f = g.S.TokenSink.means.foreign s in
     let text = chars (string_bytes c.in-EndsBefore.held) in
     let known = subst (λ x. Advances table f r.mode place held c.args.c x r.pending.place (chars (string_bytes r.pending.held))) c.in-EndsBefore.is a in
     let over : IsOver table f r.mode c.in-EndsBefore.place text (c.args.c ∷ []) =
     subst (λ x. IsOver table f r.mode x text (c.args.c ∷ [])) (sym known.0) (subst (λ x. IsOver table f r.mode place x (c.args.c ∷ [])) (sym known.1.0) known.1.1.0) in
     let further = c.in_ok-tell_lexeme-in-EndsBefore.ensures.reads (c.args.c ∷ []) rest final over (c.in_ok-begin-in-EndsBefore.ensures.reads table rest final l) in
-    subst (λ x. Leaves table g.S.TokenSink.step g.S.TokenSink.reply g.S.TokenSink.foreign r.mode place (x ++ c.args.c ∷ rest) s final) known.1.0
-    (subst (λ x. Leaves table g.S.TokenSink.step g.S.TokenSink.reply g.S.TokenSink.foreign r.mode x (text ++ c.args.c ∷ rest) s final) known.0 further)
+    subst (λ x. Leaves table g.S.TokenSink.means r.mode place (x ++ c.args.c ∷ rest) s final) known.1.0
+    (subst (λ x. Leaves table g.S.TokenSink.means r.mode x (text ++ c.args.c ∷ rest) s final) known.0 further)
 
 pub returns-in-Goes-clause-asks : goal.returns-in-Goes-clause-asks
 returns-in-Goes-clause-asks g c = λ place held a.
-    tells_same g.S.TokenSink.step g.S.TokenSink.reply (g.S.TokenSink.state c.args.sink.now) (g.S.TokenSink.state c.args.sink.now) refl
+    tells_same g.S.TokenSink.means (g.S.TokenSink.state c.args.sink.now) (g.S.TokenSink.state c.args.sink.now) refl
 
 pub returns-in_ok-begin-in-EndsBefore-clause-asks : goal.returns-in_ok-begin-in-EndsBefore-clause-asks
 returns-in_ok-begin-in-EndsBefore-clause-asks g c = λ place held a.
     let r = c.args.self.now in
     let table = c.args.table.now in
-    let step = g.S.TokenSink.step in
-    let reply = g.S.TokenSink.reply in
+    let means = g.S.TokenSink.means in
     let s0 = g.S.TokenSink.state c.args.sink.now in
     let s1 = g.S.TokenSink.state c.tell_lexeme-in-EndsBefore.new.sink in
     let s2 = g.S.TokenSink.state c.begin.new.sink in
-    let f = g.S.TokenSink.foreign (step s0 (characters (chars (string_bytes r.run)))) in
+    let f = g.S.TokenSink.means.foreign (means.step s0 (characters (chars (string_bytes r.run)))) in
     let text = chars (string_bytes c.in-EndsBefore.held) in
     let known = subst (λ x. Advances table f r.mode place held c.args.c x r.pending.place (chars (string_bytes r.pending.held))) c.in-EndsBefore.is a in
     let untagged = subst (λ x. IsUntagged (place_lexeme table f r.mode x text)) (sym known.0) (subst (λ x. IsUntagged (place_lexeme table f r.mode place x)) (sym known.1.0) known.1.1.1) in
-    tells_then step reply s0 s1 s2 (subst (λ x. Asks step reply x s0 s1) (c.in_ok-tell_lexeme-in-EndsBefore.ensures.untagged untagged) c.in_ok-tell_lexeme-in-EndsBefore.ensures.asks)
+    tells_then means s0 s1 s2 (subst (λ x. Asks means x s0 s1) (c.in_ok-tell_lexeme-in-EndsBefore.ensures.untagged untagged) c.in_ok-tell_lexeme-in-EndsBefore.ensures.asks)
     c.in_ok-begin-in-EndsBefore.ensures.tells
 
 pub tell_lexeme-requires-clause-placed : goal.tell_lexeme-requires-clause-placed
@@ -68,6 +67,6 @@ pub returns-in-Ends-clause-greater : goal.returns-in-Ends-clause-greater
 returns-in-Ends-clause-greater g c = if_ok_map c.tell_lexeme.result c.tell_lexeme.ensures.untagged (λ pause untagged place held a.
     let r = c.args.self.now in
     let table = c.args.table.now in
-    let f = g.S.TokenSink.foreign (g.S.TokenSink.step (g.S.TokenSink.state c.args.sink.now) (characters (chars (string_bytes r.run)))) in
+    let f = g.S.TokenSink.means.foreign (g.S.TokenSink.means.step (g.S.TokenSink.state c.args.sink.now) (characters (chars (string_bytes r.run)))) in
     let known = subst (λ x. Advances table f r.mode place held c.args.c x r.pending.place (chars (string_bytes r.pending.held))) c.in-Ends.is a in
     pause_mark table f r.mode place c.in-Ends.place held (chars (string_bytes c.in-Ends.held)) c.args.c pause c.tag_ends_with_its_mark.ensures known.0 known.1.left untagged)

@@ -22,15 +22,15 @@ returns-in-Goes-clause-reads g c = λ table rest final l.
     let r = c.args.self.now in
     let now = c.take_raw.new.self in
     let a = subst (λ x. RawAdvances table false r.mode c.in-RawText.kind (chars (string_bytes r.pending.held)) c.args.c x now.place (chars (string_bytes now.held))) c.in-Goes.is (c.in_ok-take_raw.ensures table false r.mode refl) in
-    raw_goes table g.S.TokenSink.step g.S.TokenSink.reply g.S.TokenSink.foreign r.mode c.in-RawText.kind c.in-RawText.place r.pending.place now.place (chars (string_bytes r.pending.held)) (chars (string_bytes now.held)) c.args.c rest
-    (g.S.TokenSink.step (g.S.TokenSink.state c.args.sink.now) (characters (chars (string_bytes r.run)))) final (sym c.place.ensures ∙ c.in-RawText.is) a.1.0 a.0 l
+    raw_goes table g.S.TokenSink.means r.mode c.in-RawText.kind c.in-RawText.place r.pending.place now.place (chars (string_bytes r.pending.held)) (chars (string_bytes now.held)) c.args.c rest
+    (g.S.TokenSink.means.step (g.S.TokenSink.state c.args.sink.now) (characters (chars (string_bytes r.run)))) final (sym c.place.ensures ∙ c.in-RawText.is) a.1.0 a.0 l
 
 pub returns-in_ok-begin-in-Before-clause-reads : goal.returns-in_ok-begin-in-Before-clause-reads
 returns-in_ok-begin-in-Before-clause-reads g c = λ table rest final l.
     let r = c.args.self.now in
     let now = c.take_raw.new.self in
     let a = subst (λ x. RawAdvances table false r.mode c.in-RawText.kind (chars (string_bytes r.pending.held)) c.args.c x now.place (chars (string_bytes now.held))) c.in-Before.is (c.in_ok-take_raw.ensures table false r.mode refl) in
-    raw_before table g.S.TokenSink.step g.S.TokenSink.reply g.S.TokenSink.foreign r.mode c.in-RawText.kind c.in-Before.behind c.in-RawText.place r.pending.place now.place (chars (string_bytes r.pending.held)) (chars (string_bytes now.held)) (chars (string_bytes c.in-Before.text)) (chars (string_bytes r.run)) (chars (string_bytes c.push_str.new.self)) c.args.c rest
+    raw_before table g.S.TokenSink.means r.mode c.in-RawText.kind c.in-Before.behind c.in-RawText.place r.pending.place now.place (chars (string_bytes r.pending.held)) (chars (string_bytes now.held)) (chars (string_bytes c.in-Before.text)) (chars (string_bytes r.run)) (chars (string_bytes c.push_str.new.self)) c.args.c rest
     (g.S.TokenSink.state c.args.sink.now) final g.met.S.TokenSink.lawful.joins g.met.S.TokenSink.lawful.skips (sym c.place.ensures ∙ c.in-RawText.is) a.0 a.1.0 a.1.1.0
     (ap chars (c.in_ok-push_str-in-Before.ensures.bytes ∙ ap (λ x. string_bytes r.run ++ x) c.as_str.ensures.value) ∙ chars-append (string_bytes r.run) (string_bytes c.in-Before.text) (IsUtf8-string_bytes r.run)) a.1.1.1
     (c.in_ok-begin-in-Before.ensures.reads table rest final l)
@@ -40,7 +40,7 @@ returns-in_ok-push_str-in-Shifts-clause-reads g c = λ table rest final l.
     let r = c.args.self.now in
     let now = c.take_raw.new.self in
     let a = subst (λ x. RawAdvances table false r.mode c.in-RawText.kind (chars (string_bytes r.pending.held)) c.args.c x now.place (chars (string_bytes now.held))) c.in-Shifts.is (c.in_ok-take_raw.ensures table false r.mode refl) in
-    raw_shifts table g.S.TokenSink.step g.S.TokenSink.reply g.S.TokenSink.foreign r.mode c.in-RawText.kind c.in-Shifts.behind c.in-RawText.place r.pending.place now.place (chars (string_bytes r.pending.held)) (chars (string_bytes now.held)) (chars c.in-Shifts.text.now) (chars (string_bytes r.run)) (chars (string_bytes c.push_str-in-Shifts.new.self)) c.args.c rest
+    raw_shifts table g.S.TokenSink.means r.mode c.in-RawText.kind c.in-Shifts.behind c.in-RawText.place r.pending.place now.place (chars (string_bytes r.pending.held)) (chars (string_bytes now.held)) (chars c.in-Shifts.text.now) (chars (string_bytes r.run)) (chars (string_bytes c.push_str-in-Shifts.new.self)) c.args.c rest
     (g.S.TokenSink.state c.args.sink.now) final g.met.S.TokenSink.lawful.joins g.met.S.TokenSink.lawful.skips (sym c.place.ensures ∙ c.in-RawText.is) a.1.0
     (ap chars c.in_ok-push_str-in-Shifts.ensures.bytes ∙ chars-append (string_bytes r.run) c.in-Shifts.text.now (IsUtf8-string_bytes r.run)) a.0 l
 
@@ -55,19 +55,19 @@ pub returns-in-EndTag-clause-reads : goal.returns-in-EndTag-clause-reads
 returns-in-EndTag-clause-reads g c = λ table rest final l.
     let r = c.args.self.now in
     let now = c.take_raw.new.self in
-    let s = g.S.TokenSink.step (g.S.TokenSink.state c.args.sink.now) (characters (chars (string_bytes r.run))) in
-    let f = g.S.TokenSink.foreign s in
+    let s = g.S.TokenSink.means.step (g.S.TokenSink.state c.args.sink.now) (characters (chars (string_bytes r.run))) in
+    let f = g.S.TokenSink.means.foreign s in
     let a = subst (λ x. RawAdvances table f r.mode c.in-RawText.kind (chars (string_bytes r.pending.held)) c.args.c x now.place (chars (string_bytes now.held))) c.in-EndTag.is (c.in_ok-take_raw.ensures table f r.mode refl) in
-    raw_end_tag table g.S.TokenSink.step g.S.TokenSink.reply g.S.TokenSink.foreign r.mode c.in-RawText.kind c.in-RawText.place r.pending.place now.place (chars (string_bytes r.pending.held)) (chars (string_bytes now.held)) c.args.c rest s final (sym c.place.ensures ∙ c.in-RawText.is) a.1 a.0 l
+    raw_end_tag table g.S.TokenSink.means r.mode c.in-RawText.kind c.in-RawText.place r.pending.place now.place (chars (string_bytes r.pending.held)) (chars (string_bytes now.held)) c.args.c rest s final (sym c.place.ensures ∙ c.in-RawText.is) a.1 a.0 l
 
 pub returns-in-Goes-clause-tells : goal.returns-in-Goes-clause-tells
-returns-in-Goes-clause-tells g c = tells_same g.S.TokenSink.step g.S.TokenSink.reply (g.S.TokenSink.state c.args.sink.now) (g.S.TokenSink.state c.args.sink.now) refl
+returns-in-Goes-clause-tells g c = tells_same g.S.TokenSink.means (g.S.TokenSink.state c.args.sink.now) (g.S.TokenSink.state c.args.sink.now) refl
 
 pub returns-in_ok-push_str-in-Shifts-clause-tells : goal.returns-in_ok-push_str-in-Shifts-clause-tells
-returns-in_ok-push_str-in-Shifts-clause-tells g c = tells_same g.S.TokenSink.step g.S.TokenSink.reply (g.S.TokenSink.state c.args.sink.now) (g.S.TokenSink.state c.args.sink.now) refl
+returns-in_ok-push_str-in-Shifts-clause-tells g c = tells_same g.S.TokenSink.means (g.S.TokenSink.state c.args.sink.now) (g.S.TokenSink.state c.args.sink.now) refl
 
 pub returns-in-EndTag-clause-tells : goal.returns-in-EndTag-clause-tells
-returns-in-EndTag-clause-tells g c = tells_same g.S.TokenSink.step g.S.TokenSink.reply (g.S.TokenSink.state c.args.sink.now) (g.S.TokenSink.state c.args.sink.now) refl
+returns-in-EndTag-clause-tells g c = tells_same g.S.TokenSink.means (g.S.TokenSink.state c.args.sink.now) (g.S.TokenSink.state c.args.sink.now) refl
 
 pub returns-in-Goes-clause-holds : goal.returns-in-Goes-clause-holds
 returns-in-Goes-clause-holds g c = λ table _.
@@ -87,7 +87,7 @@ returns-in_default g c = record {
   placed = c.requires.placed;
   ready = c.requires.ready;
   holds = λ table e. absurd (let k = e in cc);
-  tells = tells_same g.S.TokenSink.step g.S.TokenSink.reply (g.S.TokenSink.state c.args.sink.now) (g.S.TokenSink.state c.args.sink.now) refl;
+  tells = tells_same g.S.TokenSink.means (g.S.TokenSink.state c.args.sink.now) (g.S.TokenSink.state c.args.sink.now) refl;
   place = λ _. within_markup c.args.self.now.pending.place c.requires.place (λ kind place e. c.in_default.not-RawText kind place (c.place.ensures ∙ e));
   reads = λ table rest final l. l;
 }

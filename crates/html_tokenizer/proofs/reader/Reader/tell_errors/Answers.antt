@@ -7,14 +7,13 @@ use Rattle.html_tokenizer.proofs.reader.Reader.tell_errors.Goals as goal
 
 pub errors-preserved : goal.errors-preserved
 errors-preserved g c =
-    let step = g.S.TokenSink.step in
-    let reply = g.S.TokenSink.reply in
+    let means = g.S.TokenSink.means in
     let lawful = g.met.S.TokenSink.lawful in
     let before = g.S.TokenSink.state c.errors.sink in
     let after = g.S.TokenSink.state c.process_token.new.self in
     record {
-      ready = ready_behind step reply g.S.TokenSink.foreign g.S.TokenSink.ready g.S.TokenSink.welcomes lawful g.met.S.TokenSink.hearing _ before after error c.errors.invariant.ready tt tt c.in_ok-process_token.ensures.state;
-      alike = alike_more step reply g.S.TokenSink.foreign g.S.TokenSink.ready lawful
-          (step (g.S.TokenSink.state c.args.sink.now) (characters (chars (string_bytes c.args.self.now.run)))) before after c.errors.invariant.alike c.in_ok-process_token.ensures.state;
-      tells = tells_then step reply (g.S.TokenSink.state c.args.sink.now) before after c.errors.invariant.tells (tells_item step reply lawful.answers before after _ (λ h. h) c.in_ok-process_token.ensures.state);
+      ready = ready_behind means g.S.TokenSink.ready g.S.TokenSink.welcomes lawful g.met.S.TokenSink.hearing _ before after error c.errors.invariant.ready tt tt c.in_ok-process_token.ensures.state;
+      alike = alike_more means g.S.TokenSink.ready lawful
+          (means.step (g.S.TokenSink.state c.args.sink.now) (characters (chars (string_bytes c.args.self.now.run)))) before after c.errors.invariant.alike c.in_ok-process_token.ensures.state;
+      tells = tells_then means (g.S.TokenSink.state c.args.sink.now) before after c.errors.invariant.tells (tells_item means lawful.answers before after _ (λ h. h) c.in_ok-process_token.ensures.state);
     }

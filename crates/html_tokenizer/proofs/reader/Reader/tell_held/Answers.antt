@@ -57,22 +57,20 @@ pub returns-clause-told : goal.returns-clause-told
 returns-clause-told g c =
     let r = c.args.self.now in
     let table = c.args.table.now in
-    let step = g.S.TokenSink.step in
-    let reply = g.S.TokenSink.reply in
-    let foreign = g.S.TokenSink.foreign in
+    let means = g.S.TokenSink.means in
     let s = g.S.TokenSink.state c.args.sink.now in
-    let final = step (g.S.TokenSink.state c.tell_rest-in-Tagged.new.sink) end_of_file in
+    let final = means.step (g.S.TokenSink.state c.tell_rest-in-Tagged.new.sink) end_of_file in
     let rest = chars c.in-Tagged.rest.now in
     let t = c.in-Tagged.tag in
     let e = sym c.in_ok-lexeme_from.ensures.value ∙ ap (lexeme_of r.mode) c.in-Tagged.is in
     let placed = subst (λ x. place_lexeme table x c.args.self.now.mode c.take_all-place.result.0 (chars c.as_str-2.result.now) ≡ tagged t rest) c.adjusted_current_node_present_but_not_in_html_namespace-foreign.ensures e in
     let held = ap chars (c.as_str-2.ensures.value ∙ ap string_bytes c.take_all-place.ensures.held) in
-    let whole = subst (λ x. place_lexeme table (foreign s) r.mode r.pending.place x ≡ tagged t rest) held (subst (λ x. place_lexeme table (foreign s) r.mode x (chars c.as_str-2.result.now) ≡ tagged t rest) c.take_all-place.ensures.place placed) in
+    let whole = subst (λ x. place_lexeme table (means.foreign s) r.mode r.pending.place x ≡ tagged t rest) held (subst (λ x. place_lexeme table (means.foreign s) r.mode x (chars c.as_str-2.result.now) ≡ tagged t rest) c.take_all-place.ensures.place placed) in
     let alike = c.in_ok-tell_errors-in-Tagged.ensures.alike in
-    let same = ap (λ x. step s (characters x)) (ap chars c.requires.run ∙ chars-nil) ∙ g.met.S.TokenSink.lawful.skips s in
-    let stepped = c.in_ok-tell_tag-in-Tagged.ensures.told ∙ (alike.steps (tag t) tt ∙ ap (λ x. step x (tag t)) same) in
-    let replied = alike.replies (tag t) ∙ ap (λ x. reply x (tag t)) same in
-    let behind = c.in_ok-tell_tag-in-Tagged.ensures.mode ∙ (ap (λ x. mode_behind x t (reply (g.S.TokenSink.state c.tell_errors.new.sink) (tag t))) c.tell_errors.ensures.mode ∙ ap (λ x. mode_behind r.mode t x) replied) in
+    let same = ap (λ x. means.step s (characters x)) (ap chars c.requires.run ∙ chars-nil) ∙ g.met.S.TokenSink.lawful.skips s in
+    let stepped = c.in_ok-tell_tag-in-Tagged.ensures.told ∙ (alike.steps (tag t) tt ∙ ap (λ x. means.step x (tag t)) same) in
+    let replied = alike.replies (tag t) ∙ ap (λ x. means.reply x (tag t)) same in
+    let behind = c.in_ok-tell_tag-in-Tagged.ensures.mode ∙ (ap (λ x. mode_behind x t (means.reply (g.S.TokenSink.state c.tell_errors.new.sink) (tag t))) c.tell_errors.ensures.mode ∙ ap (λ x. mode_behind r.mode t x) replied) in
     on_ok_map c.tell_rest-in-Tagged.result c.tell_rest-in-Tagged.ensures.told (λ l.
-    subst (λ x. Follows table step reply foreign r.mode x s final) (sym whole)
-    (subst (λ x. Reading table step reply foreign x (step s (tag t)) rest final) behind (subst (λ x. Reading table step reply foreign c.tell_tag.new.self.mode x rest final) stepped l)))
+    subst (λ x. Follows table means r.mode x s final) (sym whole)
+    (subst (λ x. Reading table means x (means.step s (tag t)) rest final) behind (subst (λ x. Reading table means c.tell_tag.new.self.mode x rest final) stepped l)))

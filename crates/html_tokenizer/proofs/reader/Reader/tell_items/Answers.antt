@@ -15,26 +15,26 @@ use Rattle.html_tokenizer.proofs.reader.Reader.tell_items.Goals as goal
 
 pub returns-then-not-may_follow_error-clause-tells : goal.returns-then-not-may_follow_error-clause-tells
 returns-then-not-may_follow_error-clause-tells g c = on_ok_map c.tell_tokens.result c.tell_tokens.ensures.told (λ t.
-    tells_all g.S.TokenSink.step g.S.TokenSink.reply g.met.S.TokenSink.lawful.answers (g.S.TokenSink.state c.args.sink.now) (g.S.TokenSink.state c.tell_tokens.new.sink) (items_of c.args.tokens.items) c.requires.untagged t)
+    tells_all g.S.TokenSink.means g.met.S.TokenSink.lawful.answers (g.S.TokenSink.state c.args.sink.now) (g.S.TokenSink.state c.tell_tokens.new.sink) (items_of c.args.tokens.items) c.requires.untagged t)
 
 pub returns-clause-told : goal.returns-clause-told
 returns-clause-told g c =
-    let step = g.S.TokenSink.step in
+    let means = g.S.TokenSink.means in
     let old = g.S.TokenSink.state c.args.sink.now in
     let items = items_of c.args.tokens.items in
     let first = subst (λ x. IsFirstAfterError (items_of x)) c.as_slice.ensures.value (MatchBool-at_true _ _ c.if-not-may_follow_error.false c.may_follow_error.ensures) in
-    let same = ap (λ x. step old (characters x)) (ap chars c.requires.run ∙ chars-nil) ∙ g.met.S.TokenSink.lawful.skips old in
+    let same = ap (λ x. means.step old (characters x)) (ap chars c.requires.run ∙ chars-nil) ∙ g.met.S.TokenSink.lawful.skips old in
     on_ok_map c.tell_tokens-2.result c.tell_tokens-2.ensures.told (λ t.
-    t ∙ (alike_items step g.S.TokenSink.reply g.S.TokenSink.foreign (step old (characters (chars (string_bytes c.args.self.now.run)))) (g.S.TokenSink.state c.tell_errors.new.sink) items c.in_ok-tell_errors.ensures.alike first
-    ∙ ap (λ s. fold step s items) same))
+    t ∙ (alike_items means (means.step old (characters (chars (string_bytes c.args.self.now.run)))) (g.S.TokenSink.state c.tell_errors.new.sink) items c.in_ok-tell_errors.ensures.alike first
+    ∙ ap (λ s. fold means.step s items) same))
 
 pub returns-clause-tells : goal.returns-clause-tells
 returns-clause-tells g c =
     let between = g.S.TokenSink.state c.tell_errors.new.sink in
     let after = g.S.TokenSink.state c.tell_tokens-2.new.sink in
     on_ok_map c.tell_tokens-2.result c.tell_tokens-2.ensures.told (λ t.
-    tells_then g.S.TokenSink.step g.S.TokenSink.reply (g.S.TokenSink.state c.args.sink.now) between after c.in_ok-tell_errors.ensures.tells
-    (tells_all g.S.TokenSink.step g.S.TokenSink.reply g.met.S.TokenSink.lawful.answers between after (items_of c.args.tokens.items) c.requires.untagged t))
+    tells_then g.S.TokenSink.means (g.S.TokenSink.state c.args.sink.now) between after c.in_ok-tell_errors.ensures.tells
+    (tells_all g.S.TokenSink.means g.met.S.TokenSink.lawful.answers between after (items_of c.args.tokens.items) c.requires.untagged t))
 
 pub tell_tokens-requires-clause-welcome : goal.tell_tokens-requires-clause-welcome
 tell_tokens-requires-clause-welcome g c =

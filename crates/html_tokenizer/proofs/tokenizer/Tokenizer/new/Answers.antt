@@ -13,13 +13,11 @@ pub returns-clause-begins : goal.returns-clause-begins
 unfolding Completes
 returns-clause-begins g c = λ page final l.
     let s = g.Sink.TokenSink.state c.args.sink in
-    let step = g.Sink.TokenSink.step in
-    let reply = g.Sink.TokenSink.reply in
-    let foreign = g.Sink.TokenSink.foreign in
+    let means = g.Sink.TokenSink.means in
     let r = c.new.result in
     let rest = page_rest c.new-2.result page in
-    let reads = reading_of c.args.table step reply foreign r.mode r.pending.place (chars (string_bytes r.pending.held)) rest (step s (characters (chars (string_bytes r.run)))) final c.new.ensures.place (held_none r.pending c.new.ensures.place) l in
-    let same : step s (characters (chars (string_bytes r.run))) ≡ s = ap (λ x. step s (characters x)) (ap chars c.new.ensures.run ∙ chars-nil) ∙ g.met.Sink.TokenSink.lawful.skips s in
+    let reads = reading_of c.args.table means r.mode r.pending.place (chars (string_bytes r.pending.held)) rest (means.step s (characters (chars (string_bytes r.run)))) final c.new.ensures.place (held_none r.pending c.new.ensures.place) l in
+    let same : means.step s (characters (chars (string_bytes r.run))) ≡ s = ap (λ x. means.step s (characters x)) (ap chars c.new.ensures.run ∙ chars-nil) ∙ g.met.Sink.TokenSink.lawful.skips s in
     let mode : r.mode ≡ first_mode c.args.opts = c.new.ensures.mode ∙ ap (λ t. record { text = t; last_start_tag = c.args.opts.last_start_tag_name }) c.text_of_state.ensures in
-    subst (λ x. Reading c.args.table step reply foreign (first_mode c.args.opts) s x final) (c.new-2.ensures page)
-    (subst (λ m. Reading c.args.table step reply foreign m s rest final) mode (subst (λ x. Reading c.args.table step reply foreign r.mode x rest final) same reads))
+    subst (λ x. Reading c.args.table means (first_mode c.args.opts) s x final) (c.new-2.ensures page)
+    (subst (λ m. Reading c.args.table means m s rest final) mode (subst (λ x. Reading c.args.table means r.mode x rest final) same reads))

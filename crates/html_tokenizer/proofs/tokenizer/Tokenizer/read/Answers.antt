@@ -26,38 +26,37 @@ characters-preserved g c = record {
   table = c.take.ensures.table ∙ c.characters.invariant.table;
   over = c.take.ensures.over;
   holds = c.in_ok-pause.ensures.holds;
-  tells = tells_then g.Sink.TokenSink.step g.Sink.TokenSink.reply (g.Sink.TokenSink.state c.args.self.now.sink) (g.Sink.TokenSink.state c.characters.self.sink) (g.Sink.TokenSink.state c.take.new.self.sink)
-      c.characters.invariant.tells (none_asked g.Sink.TokenSink.step g.Sink.TokenSink.reply c.in_ok-pause.field-0 (g.Sink.TokenSink.state c.characters.self.sink) (g.Sink.TokenSink.state c.take.new.self.sink) c.in_default-2.not-Some c.in_ok-pause.ensures.asks);
+  tells = tells_then g.Sink.TokenSink.means (g.Sink.TokenSink.state c.args.self.now.sink) (g.Sink.TokenSink.state c.characters.self.sink) (g.Sink.TokenSink.state c.take.new.self.sink)
+      c.characters.invariant.tells (none_asked g.Sink.TokenSink.means c.in_ok-pause.field-0 (g.Sink.TokenSink.state c.characters.self.sink) (g.Sink.TokenSink.state c.take.new.self.sink) c.in_default-2.not-Some c.in_ok-pause.ensures.asks);
   shorter = omega (arith, ap length c.in-Some.ensures.takes.text, c.characters.invariant.shorter);
   takes = taken_more c.args.queue.now c.characters.queue c.next.new.self c.in-Some.c c.characters.invariant.takes c.in-Some.ensures.takes;
-  taken = has_taken_more (Completes g.Sink.TokenSink.state g.Sink.TokenSink.step g.Sink.TokenSink.reply g.Sink.TokenSink.foreign c.args.self.now) (Completes g.Sink.TokenSink.state g.Sink.TokenSink.step g.Sink.TokenSink.reply g.Sink.TokenSink.foreign c.characters.self) (Completes g.Sink.TokenSink.state g.Sink.TokenSink.step g.Sink.TokenSink.reply g.Sink.TokenSink.foreign c.take.new.self)
+  taken = has_taken_more (Completes g.Sink.TokenSink.state g.Sink.TokenSink.means c.args.self.now) (Completes g.Sink.TokenSink.state g.Sink.TokenSink.means c.characters.self) (Completes g.Sink.TokenSink.state g.Sink.TokenSink.means c.take.new.self)
       c.args.queue.now c.characters.queue c.next.new.self c.in-Some.c c.characters.invariant.taken c.in-Some.ensures.takes c.in_ok-pause.ensures.reads;
   reads = λ rest final l. c.characters.invariant.reads rest final
-      (subst (λ x. Completes g.Sink.TokenSink.state g.Sink.TokenSink.step g.Sink.TokenSink.reply g.Sink.TokenSink.foreign c.characters.self (x ++ rest) final) (sym c.in-Some.ensures.takes.text) (c.in_ok-pause.ensures.reads (c.next.new.self.text ++ rest) final l));
+      (subst (λ x. Completes g.Sink.TokenSink.state g.Sink.TokenSink.means c.characters.self (x ++ rest) final) (sym c.in-Some.ensures.takes.text) (c.in_ok-pause.ensures.reads (c.next.new.self.text ++ rest) final l));
 }
 
 pub returns-clause-reads : goal.returns-clause-reads
 returns-clause-reads g c = λ rest final l.
-    let step = g.Sink.TokenSink.step in
+    let means = g.Sink.TokenSink.means in
     let r = c.characters.self.reader in
     let now = c.tell_run.new.self in
     let after = g.Sink.TokenSink.state c.tell_run.new.sink in
     let same = ap (λ (q : Queue). q.text) c.in_default.ensures.takes.1 in
-    let told = ap (λ x. step after (characters x)) (ap chars c.in_ok-tell_run.ensures.run ∙ chars-nil) ∙ (g.met.Sink.TokenSink.lawful.skips after ∙ c.in_ok-tell_run.ensures.told) in
-    c.characters.invariant.reads rest final (subst (λ x. Completes g.Sink.TokenSink.state step g.Sink.TokenSink.reply g.Sink.TokenSink.foreign c.characters.self (x ++ rest) final) same
-    (leaves_same c.characters.self.table step g.Sink.TokenSink.reply g.Sink.TokenSink.foreign r.mode now.mode r.pending now.pending (page_rest c.characters.self.line_ends (c.next.new.self.text ++ rest))
-    (step (g.Sink.TokenSink.state c.characters.self.sink) (characters (chars (string_bytes r.run)))) (step after (characters (chars (string_bytes now.run)))) final c.tell_run.ensures.mode c.tell_run.ensures.pending told l))
+    let told = ap (λ x. means.step after (characters x)) (ap chars c.in_ok-tell_run.ensures.run ∙ chars-nil) ∙ (g.met.Sink.TokenSink.lawful.skips after ∙ c.in_ok-tell_run.ensures.told) in
+    c.characters.invariant.reads rest final (subst (λ x. Completes g.Sink.TokenSink.state means c.characters.self (x ++ rest) final) same
+    (leaves_same c.characters.self.table means r.mode now.mode r.pending now.pending (page_rest c.characters.self.line_ends (c.next.new.self.text ++ rest))
+    (means.step (g.Sink.TokenSink.state c.characters.self.sink) (characters (chars (string_bytes r.run)))) (means.step after (characters (chars (string_bytes now.run)))) final c.tell_run.ensures.mode c.tell_run.ensures.pending told l))
 
 pub returns-in-Some-2-clause-asks : goal.returns-in-Some-2-clause-asks
 returns-in-Some-2-clause-asks g c =
-    let step = g.Sink.TokenSink.step in
-    let reply = g.Sink.TokenSink.reply in
+    let means = g.Sink.TokenSink.means in
     let s0 = g.Sink.TokenSink.state c.args.self.now.sink in
     let s1 = g.Sink.TokenSink.state c.characters.self.sink in
     let s2 = g.Sink.TokenSink.state c.take.new.self.sink in
-    answers_pause step reply c.in-Some-2.pause c.result_of.result s0 s2 c.result_of.ensures
-    (asks_behind step reply (Some c.in-Some-2.pause) s0 s1 s2 c.characters.invariant.tells
-    (subst (λ p. Asks step reply p s1 s2) c.in-Some-2.is c.in_ok-pause.ensures.asks))
+    answers_pause means c.in-Some-2.pause c.result_of.result s0 s2 c.result_of.ensures
+    (asks_behind means (Some c.in-Some-2.pause) s0 s1 s2 c.characters.invariant.tells
+    (subst (λ p. Asks means p s1 s2) c.in-Some-2.is c.in_ok-pause.ensures.asks))
 
 pub returns-clause-holds : goal.returns-clause-holds
 returns-clause-holds g c =
@@ -66,7 +65,7 @@ returns-clause-holds g c =
 
 pub returns-clause-asks : goal.returns-clause-asks
 returns-clause-asks g c =
-    tells_then g.Sink.TokenSink.step g.Sink.TokenSink.reply (g.Sink.TokenSink.state c.args.self.now.sink) (g.Sink.TokenSink.state c.characters.self.sink) (g.Sink.TokenSink.state c.tell_run.new.sink)
+    tells_then g.Sink.TokenSink.means (g.Sink.TokenSink.state c.args.self.now.sink) (g.Sink.TokenSink.state c.characters.self.sink) (g.Sink.TokenSink.state c.tell_run.new.sink)
     c.characters.invariant.tells c.in_ok-tell_run.ensures.tells
 
 pub characters-init : goal.characters-init
@@ -75,10 +74,10 @@ characters-init g c = record {
   table = refl;
   over = c.requires.over;
   holds = c.requires.holds;
-  tells = tells_same g.Sink.TokenSink.step g.Sink.TokenSink.reply (g.Sink.TokenSink.state c.args.self.now.sink) (g.Sink.TokenSink.state c.args.self.now.sink) refl;
+  tells = tells_same g.Sink.TokenSink.means (g.Sink.TokenSink.state c.args.self.now.sink) (g.Sink.TokenSink.state c.args.self.now.sink) refl;
   shorter = omega arith;
   takes = record { taken = []; takes = refl };
-  taken = has_taken_none (Completes g.Sink.TokenSink.state g.Sink.TokenSink.step g.Sink.TokenSink.reply g.Sink.TokenSink.foreign c.args.self.now) c.args.queue.now;
+  taken = has_taken_none (Completes g.Sink.TokenSink.state g.Sink.TokenSink.means c.args.self.now) c.args.queue.now;
   reads = λ rest final l. l;
 }
 
@@ -101,6 +100,6 @@ returns-in-Some-2-clause-behind g c = λ _.
     let before = c.characters.self in
     let law = subst AreOpenEnded c.take.ensures.table c.going_is_no_lexeme.ensures in
     let mark = subst (λ p. IfSome p (λ _. c.in-Some.c ≡ greater)) c.in-Some-2.is c.in_ok-pause.ensures.greater in
-    pauses_behind g.Sink.TokenSink.state g.Sink.TokenSink.step g.Sink.TokenSink.reply g.Sink.TokenSink.foreign greater c.in-Some.c (g.Sink.TokenSink.state c.args.self.now.sink)
-    (Completes g.Sink.TokenSink.state g.Sink.TokenSink.step g.Sink.TokenSink.reply g.Sink.TokenSink.foreign c.args.self.now) c.args.queue.now c.characters.queue c.next.new.self before c.characters.invariant.taken c.characters.invariant.tells
+    pauses_behind g.Sink.TokenSink.state g.Sink.TokenSink.means greater c.in-Some.c (g.Sink.TokenSink.state c.args.self.now.sink)
+    (Completes g.Sink.TokenSink.state g.Sink.TokenSink.means c.args.self.now) c.args.queue.now c.characters.queue c.next.new.self before c.characters.invariant.taken c.characters.invariant.tells
     (undecided before.table before.line_ends before.reader law c.characters.invariant.holds) c.in-Some.ensures.takes mark

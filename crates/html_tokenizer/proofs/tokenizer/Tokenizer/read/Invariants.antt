@@ -13,12 +13,12 @@ invariant-characters g l = record {
   table : l.self.table ≡ l.fn.self.table;
   over : l.self.is_over ≡ true;
   holds : Holds l.self.table l.self.reader;
-  tells : TellsOn g.Sink.TokenSink.step g.Sink.TokenSink.reply (g.Sink.TokenSink.state l.fn.self.sink) (g.Sink.TokenSink.state l.self.sink);
+  tells : TellsOn g.Sink.TokenSink.means (g.Sink.TokenSink.state l.fn.self.sink) (g.Sink.TokenSink.state l.self.sink);
   shorter : length l.queue.text ≤ length l.fn.queue.text;
   takes : TakesSome l.fn.queue l.queue;
-  taken : HasTaken (Completes g.Sink.TokenSink.state g.Sink.TokenSink.step g.Sink.TokenSink.reply g.Sink.TokenSink.foreign l.fn.self) (Completes g.Sink.TokenSink.state g.Sink.TokenSink.step g.Sink.TokenSink.reply g.Sink.TokenSink.foreign l.self) l.fn.queue l.queue;
-  reads : (rest : _) (final : _) → Completes g.Sink.TokenSink.state g.Sink.TokenSink.step g.Sink.TokenSink.reply g.Sink.TokenSink.foreign l.self (l.queue.text ++ rest) final →
-      Completes g.Sink.TokenSink.state g.Sink.TokenSink.step g.Sink.TokenSink.reply g.Sink.TokenSink.foreign l.fn.self (l.fn.queue.text ++ rest) final;
+  taken : HasTaken (Completes g.Sink.TokenSink.state g.Sink.TokenSink.means l.fn.self) (Completes g.Sink.TokenSink.state g.Sink.TokenSink.means l.self) l.fn.queue l.queue;
+  reads : (rest : _) (final : _) → Completes g.Sink.TokenSink.state g.Sink.TokenSink.means l.self (l.queue.text ++ rest) final →
+      Completes g.Sink.TokenSink.state g.Sink.TokenSink.means l.fn.self (l.fn.queue.text ++ rest) final;
 }
 
 abbrev pub decreases-characters : goal.decreases-characters
