@@ -37,7 +37,7 @@ decided n m ms (inr off) (inr out) = inr none where
   none (inl e) = off e
   none (inr i) = out i
 
-decide_in : (n : ℕ) (ms : List ℕ) → IsIn n ms ⊎ ¬ (IsIn n ms)
+pub decide_in : (n : ℕ) (ms : List ℕ) → IsIn n ms ⊎ ¬ (IsIn n ms)
 decide_in n [] = inr (λ h. h)
 decide_in n (m ∷ ms) = decided n m ms (cases_eq n m) (decide_in n ms)
 

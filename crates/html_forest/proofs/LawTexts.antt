@@ -14,16 +14,16 @@ use Rattle.html_forest.proofs.LawNodes.{changed_other, kept, made_children, made
 use Rattle.html_forest.proofs.LawNodes.{only_parent, parent_is}
 use Rattle.html_forest.proofs.LawPlaces.{put_below, put_in_front, put_kinds}
 
-new_text : (place : Place) (c : ℕ) (cs : List ℕ) (f : Forest) → neighbour place f ≡ None
+pub new_text : (place : Place) (c : ℕ) (cs : List ℕ) (f : Forest) → neighbour place f ≡ None
     → put_words place (c ∷ cs) f ≡ put_node place (nodes f) (made (text (c ∷ cs)) f)
 new_text place c cs f e = rw e
 
-new_text_behind : (place : Place) (c : ℕ) (cs : List ℕ) (n : ℕ) (f : Forest) → neighbour place f ≡ Some n
+pub new_text_behind : (place : Place) (c : ℕ) (cs : List ℕ) (n : ℕ) (f : Forest) → neighbour place f ≡ Some n
     → text_of (kind_at n f) ≡ None
     → put_words place (c ∷ cs) f ≡ put_node place (nodes f) (made (text (c ∷ cs)) f)
 new_text_behind place c cs n f e k = rw (e, k)
 
-text_more : (place : Place) (c : ℕ) (cs said : List ℕ) (n : ℕ) (f : Forest) → neighbour place f ≡ Some n
+pub text_more : (place : Place) (c : ℕ) (cs said : List ℕ) (n : ℕ) (f : Forest) → neighbour place f ≡ Some n
     → text_of (kind_at n f) ≡ Some said → put_words place (c ∷ cs) f ≡ changed n (saying (c ∷ cs)) f
 text_more place c cs said n f e k = rw (e, k)
 

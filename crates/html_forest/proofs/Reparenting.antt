@@ -9,7 +9,7 @@ use Rattle.html_forest.proofs.Nodes.{changed_has, size_changed}
 use Rattle.html_forest.proofs.Numbers.{distinct_append, in_append}
 use Rattle.html_forest.proofs.Relations.{at_or_above_on, either}
 
-emptied : (p : ℕ) (f : Forest) → children_at p (changed p childless f) ≡ []
+pub emptied : (p : ℕ) (f : Forest) → children_at p (changed p childless f) ≡ []
 emptied p [] = refl
 emptied zero (x ∷ f) = refl
 emptied (suc p) (x ∷ f) = emptied p f
