@@ -70,11 +70,11 @@ stays_out x n (m ∷ ms) off i =
 -- which children there are, where a node is put
 put_to : (place : Place) (n m q : ℕ) (f : Forest) → IsForest f → IsIn m (children_at q (put_node place n f))
     → IsIn m (children_at q f) ⊎ ((m ≡ n) × (parent_at place f ≡ Some q))
-put_to (below p) n m q f forest = changed_has
+put_to (below p) n m q f forest there = changed_has
     (λ x. IsIn m x.children → IsIn m (children_at q f) ⊎ ((m ≡ n) × (Some p ≡ Some q))) q p (behind n) f
     (λ i. inl i)
     (λ e i. either (λ old. inl old) (λ new. inr (in_one m n new, ap Some (sym e)))
-    (in_append m (children_at q f) (n ∷ []) i))
+    (in_append m (children_at q f) (n ∷ []) i)) there
 put_to (before s) n m q f forest i = either (λ old. inl old) (λ new. inr (new.0, parent_is s q f forest new.1))
     (in_put_before m s n (children_at q f) (subst (IsIn m) (put_in_front s n q f) i))
 
