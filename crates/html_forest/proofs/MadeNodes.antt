@@ -9,7 +9,7 @@ use Rattle.html_forest.specs.Orders.{Above, AreDistinct, AtOrAbove, IsDocument, 
 use Rattle.html_forest.specs.Places.{Child, Place, before, below, neighbour, node, put, put_node, put_words, with_doctype, words}
 use Rattle.html_forest.proofs.KeptForests.{IsGrown, grown}
 use Rattle.html_forest.proofs.MovedNodes.{put_node_kept, said_kept}
-use Rattle.html_forest.proofs.Nodes.{children_made, contents_made, contents_made_at, holds_parent, kind_made, kind_new, size_made}
+use Rattle.html_forest.proofs.Nodes.{children_made, contents_made, contents_made_at, holds_parent, kind_made, kind_new, same_some, size_made}
 use Rattle.html_forest.proofs.Relations.{either, first_edge}
 
 larger : (n m : ℕ) → m ≡ suc n → n ≤ m
@@ -42,9 +42,6 @@ module _ (kind : Kind) (f : Forest) (forest : IsForest f) where
         same_kind a b (of_contents a b old) ∙ forest.contents a b old;
   })
 
-same_some : (a b : ℕ) (o : Option ℕ) → o ≡ Some a → o ≡ Some b → a ≡ b
-same_some a b o e d = cc
-
 place_held : (f : Forest) → IsForest f → (place : Place) → IsPlace place f → Holds (is_from place) f
 place_held f forest (below p) held = held
 place_held f forest (before s) stands = forest.within stands.0 s (of_child stands.0 s stands.1)
@@ -72,7 +69,7 @@ module _ (kind : Kind) (f : Forest) (forest : IsForest f)
   contents_both a b e =
       let here : contents_of a (made kind f) ≡ Some b = sym (contents_made a document (made kind f) refl) ∙ e in
       either (λ same. inl (sym same ∙ here))
-      (λ is. inr (is.0, same_some b (nodes f + 1) (contents_of a (made kind f)) here (is.1 ∙ template)))
+      (λ is. inr (is.0, same_some b (nodes f + 1) (sym here ∙ is.1 ∙ template)))
       (contents_made_at a kind f)
 
   edge_both : (a b : ℕ) → IsParent both a b → IsParent f a b ⊎ ((a ≡ nodes f) × (b ≡ nodes f + 1))

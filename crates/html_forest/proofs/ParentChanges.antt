@@ -6,6 +6,7 @@ use Rattle.html_forest.specs.Forest.{Forest, Kind, Node, children_at, is_in, nod
 use Rattle.html_forest.specs.Orders.{IsForest, IsIn, of_child}
 use Rattle.html_forest.specs.Places.{before, in_front, put_before, put_node}
 use Rattle.html_forest.proofs.LawLists.{decide_in, is_in_false, is_in_true, left_out_none, put_before_none}
+use Rattle.html_forest.proofs.Nodes.{node_of, same_some}
 
 -- a change of all nodes that changes none, or one alone
 mapped_same : (g : Node → Node) (f : Forest) → ((q : ℕ) → g (node_at q f) ≡ node_at q f) → map g f ≡ f
@@ -21,9 +22,6 @@ mapped_changed g (suc p) (x ∷ f) h = ap₂ (λ y t. y ∷ t)
     (h zero (λ e. let same : zero ≡ suc p = e in omega arith))
     (mapped_changed g p f (λ q off. h (suc q) (λ e. off (let same : suc q ≡ suc p = e in omega arith))))
 
-abbrev of_children : Kind → List ℕ → Node
-of_children kind ns = record { kind = kind; children = ns }
-
 -- a child stands in its parent alone
 no_child_else : (s p q : ℕ) (f : Forest) → IsForest f → IsIn s (children_at p f) → ¬ (q ≡ p)
     → ¬ (IsIn s (children_at q f))
@@ -32,13 +30,13 @@ no_child_else s p q f forest here off there = off (forest.single q p s (of_child
 pub before_alone : (s n p : ℕ) (f : Forest) → IsForest f → IsIn s (children_at p f)
     → put_node (before s) n f ≡ changed p (in_front s n) f
 before_alone s n p f forest here = mapped_changed (in_front s n) p f (λ q off.
-    ap (of_children (node_at q f).kind)
+    ap (node_of (node_at q f).kind)
     (put_before_none s n (children_at q f) (no_child_else s p q f forest here off)))
 
 pub out_alone : (n p : ℕ) (f : Forest) → IsForest f → IsIn n (children_at p f)
     → detached n f ≡ changed p (without_child n) f
 out_alone n p f forest here = mapped_changed (without_child n) p f (λ q off.
-    ap (of_children (node_at q f).kind)
+    ap (node_of (node_at q f).kind)
     (left_out_none n (children_at q f) (no_child_else n p q f forest here off)))
 
 -- a node that stands nowhere
@@ -56,7 +54,7 @@ no_child n at (suc q) (x ∷ f) e i =
 
 pub nowhere_out : (n : ℕ) (f : Forest) → parent_of n f ≡ None → detached n f ≡ f
 nowhere_out n f e = mapped_same (without_child n) f (λ q.
-    ap (of_children (node_at q f).kind) (left_out_none n (children_at q f) (no_child n 0 q f e)))
+    ap (node_of (node_at q f).kind) (left_out_none n (children_at q f) (no_child n 0 q f e)))
 
 -- a parent that is found has the node as a child
 pub record FoundParent (n at p : ℕ) (f : Forest) : Type 0 where
@@ -70,9 +68,6 @@ is_found n ms e = by (decide_in n ms) where
   by (inl i) = i
   by (inr out) = let no_one : is_in n ms ≡ false = is_in_false n ms out in absurd (cc)
 
-same_some : (p q : ℕ) → Some p ≡ Some q → q ≡ p
-same_some p q e = cc
-
 one_further : (n at p : ℕ) (x : Node) (f : Forest) → FoundParent n (suc at) p f → FoundParent n at p (x ∷ f)
 one_further n at p x f found = record {
   steps = suc found.steps;
@@ -84,7 +79,7 @@ found_by : (b : Bool) (n at p : ℕ) (x : Node) (f : Forest) → is_in n x.child
     → (if b then Some at else parent_from n (suc at) f) ≡ Some p
     → (parent_from n (suc at) f ≡ Some p → FoundParent n (suc at) p f) → FoundParent n at p (x ∷ f)
 found_by true n at p x f is e more =
-    record { steps = zero; sum = let same = same_some at p e in omega arith; holds = is_found n x.children is }
+    record { steps = zero; sum = let same : at ≡ p = same_some at p e in omega arith; holds = is_found n x.children is }
 found_by false n at p x f is e more = one_further n at p x f (more e)
 
 found_from : (n at p : ℕ) (f : Forest) → parent_from n at f ≡ Some p → FoundParent n at p f

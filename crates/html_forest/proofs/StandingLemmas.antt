@@ -10,30 +10,23 @@ use Rattle.html_forest.specs.Places.{put_node, put_words}
 use Rattle.html_forest.proofs.LawNodes.{changed_here, changed_other, parent_is}
 use Rattle.html_forest.proofs.LawPlaces.{out_children, put_below, put_in_front}
 use Rattle.html_forest.proofs.LawTexts.{text_more}
-use Rattle.html_forest.proofs.Nodes.{changed_has, size_changed, size_mapped}
+use Rattle.html_forest.proofs.Nodes.{changed_has, same_some, size_changed, size_mapped}
 use Rattle.html_forest.proofs.Numbers.{in_append, in_left_out, in_one, in_put_before}
 use Rattle.html_forest.proofs.ParentChanges.{child_of_parent}
 use Rattle.html_forest.proofs.Relations.{either}
 use Rattle.html_forest.proofs.Reparenting.{emptied}
+use Rattle.html_forest.proofs.LawLists.{in_middle}
 
 -- how many nodes there are
 pub size_put : (place : Place) (n : ℕ) (f : Forest) → nodes (put_node place n f) ≡ nodes f
 size_put (below p) n f = size_changed p (behind n) f
 size_put (before s) n f = size_mapped (in_front s n) f
 
-pub size_reparented : (old new : ℕ) (f : Forest) → nodes (reparented old new f) ≡ nodes f
-size_reparented old new f =
-    size_changed new (with_more (children_at old f)) (changed old childless f) ∙ size_changed old childless f
-
 -- numbers that stay in a list, and one that is put there
 in_first : (c : ℕ) (ms ns : List ℕ) → IsIn c ms → IsIn c (ms ++ ns)
 in_first c [] ns i = absurd i
 in_first c (m ∷ ms) ns (inl e) = inl e
 in_first c (m ∷ ms) ns (inr i) = inr (in_first c ms ns i)
-
-in_last : (c : ℕ) (ms : List ℕ) → IsIn c (ms ++ c ∷ [])
-in_last c [] = inl refl
-in_last c (m ∷ ms) = inr (in_last c ms)
 
 stays_by : (b : Bool) (x c n : ℕ) (ns rest : List ℕ) → (IsIn x ns → IsIn x rest) → IsIn x (n ∷ ns)
     → IsIn x (if b then c ∷ n ∷ ns else n ∷ rest)
@@ -85,13 +78,10 @@ put_stays (below p) n m q f i =
 put_stays (before s) n m q f i =
     subst (IsIn m) (sym (put_in_front s n q f)) (stays_put m s n (children_at q f) i)
 
-same_some : (p q : ℕ) → Some p ≡ Some q → p ≡ q
-same_some p q e = cc
-
 put_new : (place : Place) (n q : ℕ) (f : Forest) → CanPut place (node n) f → parent_at place f ≡ Some q
     → IsIn n (children_at q (put_node place n f))
 put_new (below p) n q f can e = subst (λ k. IsIn n (children_at k (put_node (below p) n f))) (same_some p q e)
-    (subst (IsIn n) (sym (put_below p n f can.0)) (in_last n (children_at p f)))
+    (subst (IsIn n) (sym (put_below p n f can.0)) (in_middle n (children_at p f) []))
 put_new (before s) n q f can e =
     subst (IsIn n) (sym (put_in_front s n q f)) (is_put s n (children_at q f) (child_of_parent s q f e))
 

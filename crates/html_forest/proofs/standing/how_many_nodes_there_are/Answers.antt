@@ -1,6 +1,7 @@
 use Rattle.html_forest.specs.Changes.{without_child}
 use Rattle.html_forest.proofs.Nodes.{size_changed, size_made, size_mapped}
-use Rattle.html_forest.proofs.StandingLemmas.{size_put, size_reparented}
+use Rattle.html_forest.proofs.Reparenting.{size_reparented}
+use Rattle.html_forest.proofs.StandingLemmas.{size_put}
 use Rattle.html_forest.proofs.standing.how_many_nodes_there_are.Goals as goal
 
 pub returns-clause-put : goal.returns-clause-put
