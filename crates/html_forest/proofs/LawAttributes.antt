@@ -2,7 +2,7 @@
 use Rattle.std.proofs.Common.{◌≡◌, ℕ, List, refl, ap, ◌∙◌}
 use Rattle.html_lexemes.specs.declared.names.Attribute.{Attribute}
 use Rattle.html_forest.specs.Changes.{kind_with, with_attributes, with_missing}
-use Rattle.html_forest.specs.Forest.{Forest, Holds, IsElement, IsElementKind, Kind, Node, attributes_of, children_at}
+use Rattle.html_forest.specs.Forest.{Forest, Holds, IsElement, IsElementKind, Kind, attributes_of, children_at}
 use Rattle.html_forest.specs.Forest.{comment, contents_of, doctype, document, element, element_of, instruction}
 use Rattle.html_forest.specs.Forest.{kind_at, name_of, text}
 use Rattle.html_forest.proofs.LawNodes.{changed_here}
@@ -35,7 +35,8 @@ names_stay n more f = kept (λ x. (element_of x.kind).name) (attributed more) n 
 
 pub contents_stay : (n : ℕ) (more : List Attribute) (f : Forest)
     → contents_of n (with_attributes n more f) ≡ contents_of n f
-contents_stay n more f = kept (λ x. (element_of x.kind).contents) (attributed more) n n f (λ x. contents_with more x.kind)
+contents_stay n more f =
+    kept (λ x. (element_of x.kind).contents) (attributed more) n n f (λ x. contents_with more x.kind)
 
 pub children_stay : (n q : ℕ) (more : List Attribute) (f : Forest)
     → children_at q (with_attributes n more f) ≡ children_at q f

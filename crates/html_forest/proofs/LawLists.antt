@@ -1,7 +1,7 @@
 -- Numbers in a list: whether one is there, one that is put before another, and one that is left out.
 use Rattle.std.proofs.Common.{◌≡◌, ℕ, Bool, true, false, ◌==◌, if◌then◌else◌, ◌⊎◌, inl, inr, List, [], ◌∷◌, ◌++◌}
 use Rattle.std.proofs.Common.{Some, refl, sym, ap, ◌∙◌, subst}
-use Rattle.std.proofs.lemmas.Bool.{cases_eq, eq-eqb, eqb-false, ne_eqb}
+use Rattle.std.proofs.lemmas.Bool.{cases_eq, eq-eqb, ne_eqb}
 use Rattle.html_forest.specs.Changes.{left_out}
 use Rattle.html_forest.specs.Forest.{is_in}
 use Rattle.html_forest.specs.Orders.{AreDistinct, IsIn}

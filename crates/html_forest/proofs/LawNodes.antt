@@ -1,8 +1,8 @@
 -- The nodes of a forest after a change.
-use Rattle.std.proofs.Common.{◌≡◌, ℕ, zero, suc, ◌+◌, if◌then◌else◌, [], ◌∷◌, map, Some, refl, sym, ap, ◌∙◌, add-zero}
+use Rattle.std.proofs.Common.{◌≡◌, ℕ, zero, suc, ◌+◌, if◌then◌else◌, [], ◌∷◌, Some, refl, sym, ap, ◌∙◌, add-zero}
 use Rattle.std.proofs.Common.{zero-add, arith}
-use Rattle.html_forest.specs.Changes.{changed, made}
-use Rattle.html_forest.specs.Forest.{Forest, Holds, Kind, Node, children_at, document, kind_at, node_at, nodes}
+use Rattle.html_forest.specs.Changes.{changed}
+use Rattle.html_forest.specs.Forest.{Forest, Holds, Node, children_at, node_at}
 use Rattle.html_forest.specs.Forest.{parent_from, parent_of}
 use Rattle.html_forest.specs.Orders.{IsForest, IsIn, of_child}
 use Rattle.html_forest.proofs.LawLists.{is_in_false, is_in_true}

@@ -1,5 +1,5 @@
 -- Characters at a place: a text that is there grows, else a new one is put.
-use Rattle.std.proofs.Common.{◌≡◌, ℕ, zero, suc, if◌then◌else◌, ◌⊎◌, inl, inr, List, [], ◌∷◌, ◌++◌, map, Option, None}
+use Rattle.std.proofs.Common.{◌≡◌, ℕ, zero, suc, if◌then◌else◌, inl, inr, List, [], ◌∷◌, ◌++◌, map, Option, None}
 use Rattle.std.proofs.Common.{Some, refl, sym, ap, ◌∙◌, subst, append-nil, append_assoc, add-zero, ◌<◌, arith}
 use Rattle.html_forest.specs.Changes.{changed, made, saying, saying_kind}
 use Rattle.html_forest.specs.Conditions.{IsPlace}

@@ -1,15 +1,20 @@
 -- Nodes that are made leave a forest: one that stands alone, a template with its contents, and one that is put at once.
-use Rattle.std.proofs.Common.{◌≡◌, ℕ, suc, ◌+◌, ◌≤◌, ◌⊎◌, inl, inr, refl, sym, ap, subst, ◌∙◌, Bool, true, false, List, [], ◌∷◌, Option, None, Some, arith}
+use Rattle.std.proofs.Common.{◌≡◌, ℕ, suc, ◌+◌, ◌≤◌, ◌⊎◌, inl, inr, refl, sym, ap, subst, ◌∙◌, Bool, true, false}
+use Rattle.std.proofs.Common.{List, [], ◌∷◌, Option, None, Some, arith}
 use Rattle.html_lexemes.specs.declared.names.Attribute.{Attribute}
 use Rattle.html_lexemes.specs.declared.names.QualName.{QualName}
 use Rattle.html_forest.specs.Changes.{made, made_element}
 use Rattle.html_forest.specs.Conditions.{CanPut, IsPlace, is_from}
-use Rattle.html_forest.specs.Forest.{Forest, Holds, Kind, children_at, contents_of, doctype, document, element_of, kind_at, nodes, text, text_of}
-use Rattle.html_forest.specs.Orders.{Above, AreDistinct, AtOrAbove, IsDocument, IsForest, IsIn, IsParent, child, further, of_child, of_contents}
-use Rattle.html_forest.specs.Places.{Child, Place, before, below, neighbour, node, put, put_node, put_words, with_doctype, words}
+use Rattle.html_forest.specs.Forest.{Forest, Holds, Kind, children_at, contents_of, doctype, document, element_of}
+use Rattle.html_forest.specs.Forest.{kind_at, nodes, text, text_of}
+use Rattle.html_forest.specs.Orders.{Above, AreDistinct, AtOrAbove, IsDocument, IsForest, IsIn, IsParent, child}
+use Rattle.html_forest.specs.Orders.{further, of_child, of_contents}
+use Rattle.html_forest.specs.Places.{Child, Place, before, below, neighbour, node, put, put_node, put_words}
+use Rattle.html_forest.specs.Places.{with_doctype, words}
 use Rattle.html_forest.proofs.KeptForests.{IsGrown, grown}
 use Rattle.html_forest.proofs.MovedNodes.{put_node_kept, said_kept}
-use Rattle.html_forest.proofs.Nodes.{children_made, contents_made, contents_made_at, holds_parent, kind_made, kind_new, same_some, size_made}
+use Rattle.html_forest.proofs.Nodes.{children_made, contents_made, contents_made_at, holds_parent, kind_made}
+use Rattle.html_forest.proofs.Nodes.{kind_new, same_some, size_made}
 use Rattle.html_forest.proofs.Relations.{either, first_edge}
 
 larger : (n m : ℕ) → m ≡ suc n → n ≤ m
@@ -42,6 +47,7 @@ module _ (kind : Kind) (f : Forest) (forest : IsForest f) where
         same_kind a b (of_contents a b old) ∙ forest.contents a b old;
   })
 
+-- the node that a place is named by is there
 place_held : (f : Forest) → IsForest f → (place : Place) → IsPlace place f → Holds (is_from place) f
 place_held f forest (below p) held = held
 place_held f forest (before s) stands = forest.within stands.0 s (of_child stands.0 s stands.1)

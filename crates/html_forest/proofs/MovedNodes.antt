@@ -3,12 +3,15 @@ use Rattle.std.proofs.Common.{◌≡◌, ℕ, ◌⊎◌, inl, inr, refl, sym, ap
 use Rattle.html_lexemes.specs.declared.names.Attribute.{Attribute}
 use Rattle.html_forest.specs.Changes.{changed, detached, kind_with, saying, saying_kind, with_attributes, without_child}
 use Rattle.html_forest.specs.Conditions.{CanMove, IsPlace}
-use Rattle.html_forest.specs.Forest.{Forest, Node, children_at, contents_of, document, element_of, kind_at, node_at}
-use Rattle.html_forest.specs.Orders.{AreDistinct, AtOrAbove, HasNoParent, IsDocument, IsForest, IsIn, IsParent, of_child, of_contents}
+use Rattle.html_forest.specs.Forest.{Forest, children_at, contents_of, document, element_of, kind_at, node_at}
+use Rattle.html_forest.specs.Orders.{AreDistinct, AtOrAbove, HasNoParent, IsDocument, IsForest, IsIn, IsParent}
+use Rattle.html_forest.specs.Orders.{of_child, of_contents}
 use Rattle.html_forest.specs.Places.{Place, before, behind, below, in_front, put_node}
 use Rattle.html_forest.proofs.KeptForests.{IsMoved, moved, none_added, one_added}
-use Rattle.html_forest.proofs.Nodes.{attributed, changed_has, contents_said, contents_with, document_said, document_with, mapped_at, size_changed, size_mapped}
-use Rattle.html_forest.proofs.Numbers.{distinct_append, distinct_left_out, distinct_one, distinct_put_before, in_append, in_left_out, in_one, in_put_before}
+use Rattle.html_forest.proofs.Nodes.{attributed, changed_has, contents_said, contents_with, document_said}
+use Rattle.html_forest.proofs.Nodes.{document_with, mapped_at, size_changed, size_mapped}
+use Rattle.html_forest.proofs.Numbers.{distinct_append, distinct_left_out, distinct_one, distinct_put_before}
+use Rattle.html_forest.proofs.Numbers.{in_append, in_left_out, in_one, in_put_before}
 use Rattle.html_forest.proofs.Relations.{at_or_above_in, either, with_edge}
 
 -- below a node

@@ -1,8 +1,10 @@
 -- What stands at a node behind a change, and what a change of a kind keeps.
-use Rattle.std.proofs.Common.{◌≡◌, ℕ, zero, suc, ◌⊎◌, inl, inr, refl, sym, ap, subst, List, [], ◌∷◌, None, Some, map, arith}
+use Rattle.std.proofs.Common.{◌≡◌, ℕ, zero, suc, ◌⊎◌, inl, inr, refl, sym, ap, subst, List, [], ◌∷◌, None, Some, map}
+use Rattle.std.proofs.Common.{arith}
 use Rattle.html_lexemes.specs.declared.names.Attribute.{Attribute}
 use Rattle.html_forest.specs.Changes.{changed, kind_with, made, saying_kind}
-use Rattle.html_forest.specs.Forest.{Forest, Holds, Kind, Node, children_at, comment, contents_of, doctype, document, element, element_of, instruction, kind_at, node_at, nodes, text}
+use Rattle.html_forest.specs.Forest.{Forest, Holds, Kind, Node, children_at, comment, contents_of, doctype, document}
+use Rattle.html_forest.specs.Forest.{element, element_of, instruction, kind_at, node_at, nodes, text}
 use Rattle.html_forest.specs.Orders.{IsIn, IsParent, of_child, of_contents}
 
 pub same_some : (a b : ℕ) → Some a ≡ Some b → a ≡ b

@@ -1,10 +1,11 @@
 -- The parent of a node is the one that has it as a child, and what happens at a child happens there alone.
-use Rattle.std.proofs.Common.{◌≡◌, ℕ, zero, suc, ◌+◌, if◌then◌else◌, Bool, true, false, ◌⊎◌, inl, inr, List, [], ◌∷◌, map}
+use Rattle.std.proofs.Common.{◌≡◌, ℕ, zero, suc, ◌+◌, if◌then◌else◌, Bool, true, false, ◌⊎◌, inl, inr, List, [], ◌∷◌}
+use Rattle.std.proofs.Common.{map}
 use Rattle.std.proofs.Common.{Option, None, Some, refl, sym, ap, ap₂, ◌∙◌, subst, add-zero, arith}
-use Rattle.html_forest.specs.Changes.{changed, detached, left_out, without_child}
-use Rattle.html_forest.specs.Forest.{Forest, Kind, Node, children_at, is_in, node_at, parent_from, parent_of}
+use Rattle.html_forest.specs.Changes.{changed, detached, without_child}
+use Rattle.html_forest.specs.Forest.{Forest, Node, children_at, is_in, node_at, parent_from, parent_of}
 use Rattle.html_forest.specs.Orders.{IsForest, IsIn, of_child}
-use Rattle.html_forest.specs.Places.{before, in_front, put_before, put_node}
+use Rattle.html_forest.specs.Places.{before, in_front, put_node}
 use Rattle.html_forest.proofs.LawLists.{decide_in, is_in_false, is_in_true, left_out_none, put_before_none}
 use Rattle.html_forest.proofs.Nodes.{node_of, same_some}
 

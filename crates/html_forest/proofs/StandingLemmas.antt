@@ -1,7 +1,8 @@
 -- Which children there are after a change, how many nodes, and what a text says.
 use Rattle.std.proofs.Common.{◌≡◌, ℕ, ◌⊎◌, ◌↔◌, inl, inr, if◌then◌else◌, Bool, true, false, ◌==◌, List, [], ◌∷◌, ◌++◌}
 use Rattle.std.proofs.Common.{Some, refl, sym, ap, ◌∙◌, subst, append-nil, arith, eq-eqb, eqb-true}
-use Rattle.html_forest.specs.Changes.{changed, childless, detached, left_out, reparented, saying, saying_kind, with_more}
+use Rattle.html_forest.specs.Changes.{changed, childless, detached, left_out, reparented, saying, saying_kind}
+use Rattle.html_forest.specs.Changes.{with_more}
 use Rattle.html_forest.specs.Conditions.{CanPut}
 use Rattle.html_forest.specs.Forest.{Forest, Holds, children_at, kind_at, nodes, parent_of, text, text_of}
 use Rattle.html_forest.specs.Orders.{IsForest, IsIn}
