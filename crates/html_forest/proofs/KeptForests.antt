@@ -1,7 +1,8 @@
 -- What a change must keep, so that nodes stay a forest.
 use Rattle.std.proofs.Common.{◌≡◌, ℕ, zero, suc, ◌≤◌, ◌⊎◌, inl, inr, refl, sym, subst, ◌∙◌, Some, arith}
 use Rattle.html_forest.specs.Forest.{Forest, Holds, children_at, contents_of, nodes, page_alone}
-use Rattle.html_forest.specs.Orders.{AreDistinct, AtOrAbove, HasNoParent, IsDocument, IsForest, IsIn, IsParent, of_child, of_contents}
+use Rattle.html_forest.specs.Orders.{AreDistinct, AtOrAbove, HasNoParent, IsDocument, IsForest, IsIn, IsParent}
+use Rattle.html_forest.specs.Orders.{of_child, of_contents}
 use Rattle.html_forest.proofs.Relations.{acyclic_with, either, first_edge}
 
 no_child : (p c : ℕ) → ¬ (IsIn c (children_at p page_alone))

@@ -5,12 +5,10 @@ use Rattle.html_forest.specs.Alike.{AreAlike, kind_by, node_by, number_by}
 use Rattle.html_forest.specs.Forest.{Element, Forest, Holds, Kind, Node, children_at, comment, doctype, document}
 use Rattle.html_forest.specs.Forest.{element, element_of, instruction, kind_at, node_at, text}
 use Rattle.html_forest.specs.Orders.{IsForest, IsIn, of_child, of_contents}
+use Rattle.html_forest.proofs.Nodes.{node_of}
 
 abbrev with_number : Element → Option ℕ → Kind
 with_number e contents = element (record e { contents = contents })
-
-abbrev node_of : Kind → List ℕ → Node
-node_of kind children = record { kind = kind; children = children }
 
 -- a forest is alike itself
 number_itself : (o : Option ℕ) → number_by (λ n. n) o ≡ o

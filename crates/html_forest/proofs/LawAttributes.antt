@@ -2,13 +2,11 @@
 use Rattle.std.proofs.Common.{◌≡◌, ℕ, List, refl, ap, ◌∙◌}
 use Rattle.html_lexemes.specs.declared.names.Attribute.{Attribute}
 use Rattle.html_forest.specs.Changes.{kind_with, with_attributes, with_missing}
-use Rattle.html_forest.specs.Forest.{Forest, Holds, IsElement, IsElementKind, Kind, Node, attributes_of, children_at}
+use Rattle.html_forest.specs.Forest.{Forest, Holds, IsElement, IsElementKind, Kind, attributes_of, children_at}
 use Rattle.html_forest.specs.Forest.{comment, contents_of, doctype, document, element, element_of, instruction}
 use Rattle.html_forest.specs.Forest.{kind_at, name_of, text}
-use Rattle.html_forest.proofs.LawNodes.{changed_here, kept}
-
-abbrev more_of : List Attribute → Node → Node
-more_of more x = record { kind = kind_with more x.kind; children = x.children }
+use Rattle.html_forest.proofs.LawNodes.{changed_here}
+use Rattle.html_forest.proofs.Nodes.{attributed, contents_with, kept}
 
 kind_attributes : (more : List Attribute) (kind : Kind) → IsElementKind kind
     → (element_of (kind_with more kind)).attributes ≡ with_missing (element_of kind).attributes more
@@ -27,27 +25,19 @@ kind_name more (comment _) = refl
 kind_name more (instruction _ _) = refl
 kind_name more (element _) = refl
 
-kind_contents : (more : List Attribute) (kind : Kind)
-    → (element_of (kind_with more kind)).contents ≡ (element_of kind).contents
-kind_contents more document = refl
-kind_contents more (doctype _ _ _) = refl
-kind_contents more (text _) = refl
-kind_contents more (comment _) = refl
-kind_contents more (instruction _ _) = refl
-kind_contents more (element _) = refl
-
 pub added : (n : ℕ) (more : List Attribute) (f : Forest) → Holds n f → IsElement n f
     → attributes_of n (with_attributes n more f) ≡ with_missing (attributes_of n f) more
-added n more f h is = ap (λ x. (element_of x.kind).attributes) (changed_here (more_of more) n f h)
+added n more f h is = ap (λ x. (element_of x.kind).attributes) (changed_here (attributed more) n f h)
     ∙ kind_attributes more (kind_at n f) is
 
 pub names_stay : (n : ℕ) (more : List Attribute) (f : Forest) → name_of n (with_attributes n more f) ≡ name_of n f
-names_stay n more f = kept (λ x. (element_of x.kind).name) (more_of more) n n f (λ x. kind_name more x.kind)
+names_stay n more f = kept (λ x. (element_of x.kind).name) (attributed more) n n f (λ x. kind_name more x.kind)
 
 pub contents_stay : (n : ℕ) (more : List Attribute) (f : Forest)
     → contents_of n (with_attributes n more f) ≡ contents_of n f
-contents_stay n more f = kept (λ x. (element_of x.kind).contents) (more_of more) n n f (λ x. kind_contents more x.kind)
+contents_stay n more f =
+    kept (λ x. (element_of x.kind).contents) (attributed more) n n f (λ x. contents_with more x.kind)
 
 pub children_stay : (n q : ℕ) (more : List Attribute) (f : Forest)
     → children_at q (with_attributes n more f) ≡ children_at q f
-children_stay n q more f = kept (λ x. x.children) (more_of more) n q f (λ x. refl)
+children_stay n q more f = kept (λ x. x.children) (attributed more) n q f (λ x. refl)

@@ -1,7 +1,7 @@
 -- Numbers in a list: whether one is there, one that is put before another, and one that is left out.
 use Rattle.std.proofs.Common.{◌≡◌, ℕ, Bool, true, false, ◌==◌, if◌then◌else◌, ◌⊎◌, inl, inr, List, [], ◌∷◌, ◌++◌}
 use Rattle.std.proofs.Common.{Some, refl, sym, ap, ◌∙◌, subst}
-use Rattle.std.proofs.lemmas.Bool.{cases_eq, eq-eqb, eqb-false, ne_eqb}
+use Rattle.std.proofs.lemmas.Bool.{cases_eq, eq-eqb, ne_eqb}
 use Rattle.html_forest.specs.Changes.{left_out}
 use Rattle.html_forest.specs.Forest.{is_in}
 use Rattle.html_forest.specs.Orders.{AreDistinct, IsIn}
@@ -37,11 +37,11 @@ decided n m ms (inr off) (inr out) = inr none where
   none (inl e) = off e
   none (inr i) = out i
 
-decide_in : (n : ℕ) (ms : List ℕ) → IsIn n ms ⊎ ¬ (IsIn n ms)
+pub decide_in : (n : ℕ) (ms : List ℕ) → IsIn n ms ⊎ ¬ (IsIn n ms)
 decide_in n [] = inr (λ h. h)
 decide_in n (m ∷ ms) = decided n m ms (cases_eq n m) (decide_in n ms)
 
-in_middle : (n : ℕ) (front rest : List ℕ) → IsIn n (front ++ n ∷ rest)
+pub in_middle : (n : ℕ) (front rest : List ℕ) → IsIn n (front ++ n ∷ rest)
 in_middle n [] rest = inl refl
 in_middle n (m ∷ front) rest = inr (in_middle n front rest)
 
@@ -78,12 +78,6 @@ put_before_none s c [] h = refl
 put_before_none s c (m ∷ ms) h = chosen_off m s (c ∷ m ∷ ms) (m ∷ put_before s c ms) (λ e. h (inl (sym e)))
     ∙ ap (λ l. m ∷ l) (put_before_none s c ms (λ i. h (inr i)))
 
-pub in_put_before : (s c n : ℕ) (ns : List ℕ) → IsIn n (put_before s c ns) → IsIn n ns ⊎ IsIn s ns
-in_put_before s c n ns h = by (decide_in s ns) where
-  by : IsIn s ns ⊎ ¬ (IsIn s ns) → IsIn n ns ⊎ IsIn s ns
-  by (inl i) = inr i
-  by (inr out) = inl (subst (IsIn n) (put_before_none s c ns out) h)
-
 -- the number right before another, and the last one
 pub one_before_put : (s c : ℕ) (front rest : List ℕ) → ¬ (IsIn s front) → ¬ (c ≡ s)
     → one_before s (front ++ c ∷ s ∷ rest) ≡ Some c
@@ -112,13 +106,3 @@ left_out_at n (m ∷ front) rest d =
     chosen_off m n (left_out n (front ++ n ∷ rest)) (m ∷ left_out n (front ++ n ∷ rest))
     (λ e. not_in_front n (m ∷ front) rest d (inl (sym e)))
     ∙ ap (λ l. m ∷ l) (left_out_at n front rest d.1)
-
-out_step : (b : Bool) (n m : ℕ) (ms : List ℕ) → (m == n) ≡ b → ¬ (IsIn n (left_out n ms))
-    → ¬ (IsIn n (if b then left_out n ms else m ∷ left_out n ms))
-out_step true n m ms e h i = h i
-out_step false n m ms e h (inl same) = eqb-false m n e (sym same)
-out_step false n m ms e h (inr i) = h i
-
-pub not_left : (n : ℕ) (ms : List ℕ) → ¬ (IsIn n (left_out n ms))
-not_left n [] h = h
-not_left n (m ∷ ms) h = out_step (m == n) n m ms refl (not_left n ms) h

@@ -6,16 +6,17 @@ use Rattle.html_forest.specs.Conditions.{CanPut}
 use Rattle.html_forest.specs.Forest.{Forest, Holds, children_at, kind_at}
 use Rattle.html_forest.specs.Orders.{AreDistinct, IsForest, IsIn, of_child}
 use Rattle.html_forest.specs.Places.{Place, before, behind, below, in_front, node, parent_at, put_before, put_node}
-use Rattle.html_forest.proofs.LawLists.{in_put_before, left_out_at, left_out_none, not_in_front, not_left}
-use Rattle.html_forest.proofs.LawLists.{put_before_at, put_before_none}
-use Rattle.html_forest.proofs.LawNodes.{changed_here, changed_other, kept, mapped, parent_is}
+use Rattle.html_forest.proofs.LawLists.{left_out_at, left_out_none, not_in_front, put_before_at, put_before_none}
+use Rattle.html_forest.proofs.LawNodes.{changed_here, changed_other, parent_is}
+use Rattle.html_forest.proofs.Nodes.{kept, mapped_at}
+use Rattle.html_forest.proofs.Numbers.{in_left_out, in_put_before}
 
 -- the children of nodes after a node is put
 pub put_below : (p n : ℕ) (f : Forest) → Holds p f → children_at p (put_node (below p) n f) ≡ children_at p f ++ n ∷ []
 put_below p n f h = ap (λ x. x.children) (changed_here (behind n) p f h)
 
 pub put_in_front : (s n p : ℕ) (f : Forest) → children_at p (put_node (before s) n f) ≡ put_before s n (children_at p f)
-put_in_front s n p f = ap (λ x. x.children) (mapped (in_front s n) p f refl)
+put_in_front s n p f = ap (λ x. x.children) (mapped_at p (in_front s n) f refl)
 
 pub put_right_before : (s n p : ℕ) (front rest : List ℕ) (f : Forest) → IsForest f
     → children_at p f ≡ front ++ s ∷ rest → children_at p (put_node (before s) n f) ≡ front ++ n ∷ s ∷ rest
@@ -30,15 +31,15 @@ put_there (below p) n q f forest can h = by (cases_eq q p) where
   by (inr off) = absurd (can.1.free q (of_child q n
       (subst (IsIn n) (ap (λ x. x.children) (changed_other (behind n) p q f off)) h)))
 put_there (before s) n q f forest can h =
-    by (in_put_before s n n (children_at q f) (subst (IsIn n) (put_in_front s n q f) h)) where
-      by : IsIn n (children_at q f) ⊎ IsIn s (children_at q f) → parent_at (before s) f ≡ Some q
+    by (in_put_before n s n (children_at q f) (subst (IsIn n) (put_in_front s n q f) h)) where
+      by : IsIn n (children_at q f) ⊎ ((n ≡ n) × IsIn s (children_at q f)) → parent_at (before s) f ≡ Some q
       by (inl i) = absurd (can.1.free q (of_child q n i))
-      by (inr i) = parent_is s q f forest i
+      by (inr i) = parent_is s q f forest i.1
 
 -- what a node that is put leaves
 pub put_kinds : (place : Place) (n m : ℕ) (f : Forest) → kind_at m (put_node place n f) ≡ kind_at m f
 put_kinds (below p) n m f = kept (λ x. x.kind) (behind n) p m f (λ x. refl)
-put_kinds (before s) n m f = ap (λ x. x.kind) (mapped (in_front s n) m f refl)
+put_kinds (before s) n m f = ap (λ x. x.kind) (mapped_at m (in_front s n) f refl)
 
 pub put_children : (place : Place) (n q : ℕ) (f : Forest) → IsForest f → ¬ (parent_at place f ≡ Some q)
     → children_at q (put_node place n f) ≡ children_at q f
@@ -48,13 +49,13 @@ put_children (before s) n q f forest h = put_in_front s n q f
 
 -- a node that is taken out
 pub out_children : (n q : ℕ) (f : Forest) → children_at q (detached n f) ≡ left_out n (children_at q f)
-out_children n q f = ap (λ x. x.children) (mapped (without_child n) q f refl)
+out_children n q f = ap (λ x. x.children) (mapped_at q (without_child n) f refl)
 
 pub out_kinds : (n m : ℕ) (f : Forest) → kind_at m (detached n f) ≡ kind_at m f
-out_kinds n m f = ap (λ x. x.kind) (mapped (without_child n) m f refl)
+out_kinds n m f = ap (λ x. x.kind) (mapped_at m (without_child n) f refl)
 
 pub out_nowhere : (n q : ℕ) (f : Forest) → ¬ (IsIn n (children_at q (detached n f)))
-out_nowhere n q f h = not_left n (children_at q f) (subst (IsIn n) (out_children n q f) h)
+out_nowhere n q f h = (in_left_out n n (children_at q f) (subst (IsIn n) (out_children n q f) h)).1 refl
 
 pub out_siblings : (n q : ℕ) (front rest : List ℕ) (f : Forest) → IsForest f → children_at q f ≡ front ++ n ∷ rest
     → children_at q (detached n f) ≡ front ++ rest

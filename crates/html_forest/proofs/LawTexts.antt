@@ -1,5 +1,5 @@
 -- Characters at a place: a text that is there grows, else a new one is put.
-use Rattle.std.proofs.Common.{◌≡◌, ℕ, zero, suc, if◌then◌else◌, ◌⊎◌, inl, inr, List, [], ◌∷◌, ◌++◌, map, Option, None}
+use Rattle.std.proofs.Common.{◌≡◌, ℕ, zero, suc, if◌then◌else◌, inl, inr, List, [], ◌∷◌, ◌++◌, map, Option, None}
 use Rattle.std.proofs.Common.{Some, refl, sym, ap, ◌∙◌, subst, append-nil, append_assoc, add-zero, ◌<◌, arith}
 use Rattle.html_forest.specs.Changes.{changed, made, saying, saying_kind}
 use Rattle.html_forest.specs.Conditions.{IsPlace}
@@ -8,28 +8,29 @@ use Rattle.html_forest.specs.Forest.{instruction, is_in, kind_at, nodes, parent_
 use Rattle.html_forest.specs.Orders.{AreDistinct, IsForest, IsIn, of_child}
 use Rattle.html_forest.specs.Places.{Place, before, behind, below, in_front, last_of, neighbour, one_before}
 use Rattle.html_forest.specs.Places.{put_before, put_node, put_words, siblings_of}
-use Rattle.html_forest.proofs.LawLists.{Standing, in_put_before, last_of_end, not_in_front, one_before_put}
-use Rattle.html_forest.proofs.LawLists.{put_before_at, standing}
-use Rattle.html_forest.proofs.LawNodes.{changed_other, kept, made_children, made_new, made_nodes, made_old}
-use Rattle.html_forest.proofs.LawNodes.{only_parent, parent_is}
+use Rattle.html_forest.proofs.LawLists.{Standing, last_of_end, not_in_front, one_before_put, put_before_at, standing}
+use Rattle.html_forest.proofs.LawNodes.{changed_other, only_parent, parent_is}
 use Rattle.html_forest.proofs.LawPlaces.{put_below, put_in_front, put_kinds}
+use Rattle.html_forest.proofs.Nodes.{children_made, kept, kind_new, node_made, node_of, size_made}
+use Rattle.html_forest.proofs.Numbers.{in_put_before}
+use Rattle.html_forest.proofs.Relations.{either}
 
-new_text : (place : Place) (c : ℕ) (cs : List ℕ) (f : Forest) → neighbour place f ≡ None
+pub new_text : (place : Place) (c : ℕ) (cs : List ℕ) (f : Forest) → neighbour place f ≡ None
     → put_words place (c ∷ cs) f ≡ put_node place (nodes f) (made (text (c ∷ cs)) f)
 new_text place c cs f e = rw e
 
-new_text_behind : (place : Place) (c : ℕ) (cs : List ℕ) (n : ℕ) (f : Forest) → neighbour place f ≡ Some n
+pub new_text_behind : (place : Place) (c : ℕ) (cs : List ℕ) (n : ℕ) (f : Forest) → neighbour place f ≡ Some n
     → text_of (kind_at n f) ≡ None
     → put_words place (c ∷ cs) f ≡ put_node place (nodes f) (made (text (c ∷ cs)) f)
 new_text_behind place c cs n f e k = rw (e, k)
 
-text_more : (place : Place) (c : ℕ) (cs said : List ℕ) (n : ℕ) (f : Forest) → neighbour place f ≡ Some n
+pub text_more : (place : Place) (c : ℕ) (cs said : List ℕ) (n : ℕ) (f : Forest) → neighbour place f ≡ Some n
     → text_of (kind_at n f) ≡ Some said → put_words place (c ∷ cs) f ≡ changed n (saying (c ∷ cs)) f
 text_more place c cs said n f e k = rw (e, k)
 
 fresh_kinds : (place : Place) (kind : Kind) (m : ℕ) (f : Forest) → Holds m f
     → kind_at m (put_node place (nodes f) (made kind f)) ≡ kind_at m f
-fresh_kinds place kind m f h = put_kinds place (nodes f) m (made kind f) ∙ ap (λ x. x.kind) (made_old kind m f h)
+fresh_kinds place kind m f h = put_kinds place (nodes f) m (made kind f) ∙ ap (λ x. x.kind) (node_made kind m f h)
 
 words_found : (place : Place) (c : ℕ) (cs : List ℕ) (n m : ℕ) (f : Forest) (said : Option (List ℕ))
     → neighbour place f ≡ Some n → text_of (kind_at n f) ≡ said → Holds m f → ¬ (m ≡ n)
@@ -60,11 +61,8 @@ kinds_twice cs ds (comment _) = refl
 kinds_twice cs ds (instruction _ _) = refl
 kinds_twice cs ds (element _) = refl
 
-abbrev of_kind : List ℕ → Kind → Node
-of_kind ns kind = record { kind = kind; children = ns }
-
 said_twice : (cs ds : List ℕ) (x : Node) → saying ds (saying cs x) ≡ saying (cs ++ ds) x
-said_twice cs ds x = ap (of_kind x.children) (kinds_twice cs ds x.kind)
+said_twice cs ds x = ap (λ kind. node_of kind x.children) (kinds_twice cs ds x.kind)
 
 changed_twice : (cs ds : List ℕ) (n : ℕ) (f : Forest)
     → changed n (saying ds) (changed n (saying cs) f) ≡ changed n (saying (cs ++ ds)) f
@@ -110,21 +108,17 @@ in_behind : (n c : ℕ) (front rest : List ℕ) → IsIn n (front ++ c ∷ n ∷
 in_behind n c [] rest = inr (inl refl)
 in_behind n c (m ∷ front) rest = inr (in_behind n c front rest)
 
-either_in : (s : ℕ) (ns : List ℕ) → IsIn s ns ⊎ IsIn s ns → IsIn s ns
-either_in s ns (inl i) = i
-either_in s ns (inr i) = i
-
 still_in : (s q : ℕ) (kind : Kind) (f : Forest)
     → IsIn s (children_at q (put_node (before s) (nodes f) (made kind f))) → IsIn s (children_at q f)
-still_in s q kind f i = subst (IsIn s) (made_children kind q f) (either_in s (children_at q (made kind f))
-    (in_put_before s (nodes f) s (children_at q (made kind f))
+still_in s q kind f i = subst (IsIn s) (children_made q kind f) (either (λ old. old) (λ new. new.1)
+    (in_put_before s s (nodes f) (children_at q (made kind f))
     (subst (IsIn s) (put_in_front s (nodes f) q (made kind f)) i)))
 
 new_children : (s p : ℕ) (front rest : List ℕ) (kind : Kind) (f : Forest) → IsForest f
     → children_at p f ≡ front ++ s ∷ rest
     → children_at p (put_node (before s) (nodes f) (made kind f)) ≡ front ++ nodes f ∷ s ∷ rest
 new_children s p front rest kind f forest e = put_in_front s (nodes f) p (made kind f)
-    ∙ ap (put_before s (nodes f)) (made_children kind p f ∙ e)
+    ∙ ap (put_before s (nodes f)) (children_made p kind f ∙ e)
     ∙ put_before_at s (nodes f) front rest (not_in_front s front rest (subst AreDistinct e (forest.once p)))
 
 not_new : (s p : ℕ) (f : Forest) → IsForest f → IsIn s (children_at p f) → ¬ (nodes f ≡ s)
@@ -143,7 +137,7 @@ new_before s p kind f forest i stand =
     (not_in_front s stand.front stand.rest (subst AreDistinct stand.whole (forest.once p))) (not_new s p f forest i)
 
 more_held : (kind : Kind) (p : ℕ) (f : Forest) → Holds p f → Holds p (made kind f)
-more_held kind p f h = let e : nodes (made kind f) ≡ suc (nodes f) = made_nodes kind f in omega arith
+more_held kind p f h = let e : nodes (made kind f) ≡ suc (nodes f) = size_made kind f in omega arith
 
 new_neighbour : (place : Place) (kind : Kind) (f : Forest) → IsForest f → IsPlace place f
     → neighbour place (put_node place (nodes f) (made kind f)) ≡ Some (nodes f)
@@ -185,7 +179,7 @@ new_twice place cs d ds f forest is =
     ∙ sym (changed_put (d ∷ ds) place (nodes f) (nodes f) (made (text cs) f))
     ∙ sym (text_more place d ds cs (nodes f) (put_node place (nodes f) (made (text cs) f))
     (new_neighbour place (text cs) f forest is)
-    (ap text_of (put_kinds place (nodes f) (nodes f) (made (text cs) f) ∙ made_new (text cs) f)))
+    (ap text_of (put_kinds place (nodes f) (nodes f) (made (text cs) f) ∙ kind_new (text cs) f)))
 
 -- texts side by side, by what stands right before their place
 on_found : (place : Place) (c : ℕ) (cs : List ℕ) (d : ℕ) (ds : List ℕ) (n : ℕ) (f : Forest) (said : Option (List ℕ))

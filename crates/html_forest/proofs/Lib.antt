@@ -9,5 +9,7 @@ pub mod MadeNodes
 pub mod MovedNodes
 pub mod Nodes
 pub mod Numbers
+pub mod ParentChanges
 pub mod Relations
 pub mod Reparenting
+pub mod StandingLemmas

@@ -1,15 +1,20 @@
 -- Nodes that are made leave a forest: one that stands alone, a template with its contents, and one that is put at once.
-use Rattle.std.proofs.Common.{◌≡◌, ℕ, suc, ◌+◌, ◌≤◌, ◌⊎◌, inl, inr, refl, sym, ap, subst, ◌∙◌, Bool, true, false, List, [], ◌∷◌, Option, None, Some, arith}
+use Rattle.std.proofs.Common.{◌≡◌, ℕ, suc, ◌+◌, ◌≤◌, ◌⊎◌, inl, inr, refl, sym, ap, subst, ◌∙◌, Bool, true, false}
+use Rattle.std.proofs.Common.{List, [], ◌∷◌, Option, None, Some, arith}
 use Rattle.html_lexemes.specs.declared.names.Attribute.{Attribute}
 use Rattle.html_lexemes.specs.declared.names.QualName.{QualName}
 use Rattle.html_forest.specs.Changes.{made, made_element}
 use Rattle.html_forest.specs.Conditions.{CanPut, IsPlace, is_from}
-use Rattle.html_forest.specs.Forest.{Forest, Holds, Kind, children_at, contents_of, doctype, document, element_of, kind_at, nodes, text, text_of}
-use Rattle.html_forest.specs.Orders.{AreDistinct, AtOrAbove, IsDocument, IsForest, IsIn, IsParent, of_child, of_contents}
-use Rattle.html_forest.specs.Places.{Child, Place, before, below, neighbour, node, put, put_node, put_words, with_doctype, words}
+use Rattle.html_forest.specs.Forest.{Forest, Holds, Kind, children_at, contents_of, doctype, document, element_of}
+use Rattle.html_forest.specs.Forest.{kind_at, nodes, text, text_of}
+use Rattle.html_forest.specs.Orders.{Above, AreDistinct, AtOrAbove, IsDocument, IsForest, IsIn, IsParent, child}
+use Rattle.html_forest.specs.Orders.{further, of_child, of_contents}
+use Rattle.html_forest.specs.Places.{Child, Place, before, below, neighbour, node, put, put_node, put_words}
+use Rattle.html_forest.specs.Places.{with_doctype, words}
 use Rattle.html_forest.proofs.KeptForests.{IsGrown, grown}
 use Rattle.html_forest.proofs.MovedNodes.{put_node_kept, said_kept}
-use Rattle.html_forest.proofs.Nodes.{children_made, contents_made, contents_made_at, holds_parent, kind_made, kind_new, size_made}
+use Rattle.html_forest.proofs.Nodes.{children_made, contents_made, contents_made_at, holds_parent, kind_made}
+use Rattle.html_forest.proofs.Nodes.{kind_new, same_some, size_made}
 use Rattle.html_forest.proofs.Relations.{either, first_edge}
 
 larger : (n m : ℕ) → m ≡ suc n → n ≤ m
@@ -42,8 +47,10 @@ module _ (kind : Kind) (f : Forest) (forest : IsForest f) where
         same_kind a b (of_contents a b old) ∙ forest.contents a b old;
   })
 
-same_some : (a b : ℕ) (o : Option ℕ) → o ≡ Some a → o ≡ Some b → a ≡ b
-same_some a b o e d = cc
+-- the node that a place is named by is there
+place_held : (f : Forest) → IsForest f → (place : Place) → IsPlace place f → Holds (is_from place) f
+place_held f forest (below p) held = held
+place_held f forest (before s) stands = forest.within stands.0 s (of_child stands.0 s stands.1)
 
 -- a template, and what holds its contents
 module _ (kind : Kind) (f : Forest) (forest : IsForest f)
@@ -68,7 +75,7 @@ module _ (kind : Kind) (f : Forest) (forest : IsForest f)
   contents_both a b e =
       let here : contents_of a (made kind f) ≡ Some b = sym (contents_made a document (made kind f) refl) ∙ e in
       either (λ same. inl (sym same ∙ here))
-      (λ is. inr (is.0, same_some b (nodes f + 1) (contents_of a (made kind f)) here (is.1 ∙ template)))
+      (λ is. inr (is.0, same_some b (nodes f + 1) (sym here ∙ is.1 ∙ template)))
       (contents_made_at a kind f)
 
   edge_both : (a b : ℕ) → IsParent both a b → IsParent f a b ⊎ ((a ≡ nodes f) × (b ≡ nodes f + 1))
@@ -111,6 +118,46 @@ module _ (kind : Kind) (f : Forest) (forest : IsForest f)
   pub template_kept : IsForest both
   template_kept = grown f both (nodes f) (λ b. b ≡ nodes f + 1) forest template_grown
 
+  place_both : (place : Place) → IsPlace place f → IsPlace place both
+  place_both (below p) held = let size = size_both in omega arith
+  place_both (before s) stands = (stands.0, subst (IsIn s) (sym (children_both stands.0)) stands.1)
+
+  template_free : (p : ℕ) → ¬ (IsParent both p (nodes f))
+  template_free p e = either (λ old. let held = forest.within p (nodes f) old in absurd (omega arith))
+      (λ new. let same = new.1 in absurd (omega arith)) (edge_both p (nodes f) e)
+
+  template_is_child : ¬ (kind ≡ document) → ¬ (IsDocument (nodes f) both)
+  template_is_child plain_kind is =
+      let size = size_made kind f in
+      let held : Holds (nodes f) (made kind f) = omega arith in
+      plain_kind (sym (kind_new kind f) ∙ sym (kind_made (nodes f) document (made kind f) held) ∙ is)
+
+  no_old_edge : (a b : ℕ) → nodes f ≤ a → ¬ (IsParent f a b)
+  no_old_edge a b far e = let held = holds_parent a b f e in absurd (omega arith)
+
+  -- a template is above what holds its contents alone
+  contents_alone : (b : ℕ) → Above (IsParent both) (nodes f) b → b ≡ nodes f + 1
+  contents_alone b (child _ _ e) =
+      either (λ old. absurd (no_old_edge (nodes f) b (omega arith) old)) (λ new. new.1) (edge_both (nodes f) b e)
+  contents_alone b (further _ c _ up e) =
+      let at = contents_alone c up in
+      either (λ old. absurd (no_old_edge c b (omega arith) old)) (λ new. new.1) (edge_both c b e)
+
+  template_apart : (n : ℕ) → Holds n f → ¬ (AtOrAbove (IsParent both) (nodes f) n)
+  template_apart n held (inl e) = absurd (omega arith)
+  template_apart n held (inr up) = let at = contents_alone n up in absurd (omega arith)
+
+  pub template_put : (place : Place) → IsPlace place f → ¬ (kind ≡ document) → CanPut place (node (nodes f)) both
+  template_put place there plain_kind = (
+    place_both place there,
+    record {
+      within = let size = size_both in omega arith;
+      free = template_free;
+      is_child = template_is_child plain_kind;
+      apart = template_apart (is_from place) (place_held f forest place there);
+    },
+  )
+
 pub element_kept : (name : QualName) (attributes : List Attribute) (is_template point : Bool) (f : Forest) →
     IsForest f → IsForest (made_element name attributes is_template point f)
 element_kept name attributes true point f forest = template_kept _ f forest refl
@@ -122,10 +169,6 @@ module _ (kind : Kind) (f : Forest) (forest : IsForest f) (plain : (element_of k
   place_made (below p) held = let size = size_made kind f in omega arith
   place_made (before s) stands = (stands.0, subst (IsIn s) (sym (children_made stands.0 kind f)) stands.1)
 
-  from_old : (place : Place) → IsPlace place f → Holds (is_from place) f
-  from_old (below p) held = held
-  from_old (before s) stands = forest.within stands.0 s (of_child stands.0 s stands.1)
-
   new_apart : (n : ℕ) → Holds n f → ¬ (AtOrAbove (IsParent (made kind f)) (nodes f) n)
   new_apart n held (inl e) = absurd (omega arith)
   new_apart n held (inr up) =
@@ -136,16 +179,31 @@ module _ (kind : Kind) (f : Forest) (forest : IsForest f) (plain : (element_of k
   new_free : (p : ℕ) → ¬ (IsParent (made kind f) p (nodes f))
   new_free p e = let held = forest.within p (nodes f) (edge_made kind f plain p (nodes f) e) in absurd (omega arith)
 
+  pub leaf_put : (place : Place) → IsPlace place f → ¬ (kind ≡ document) →
+      CanPut place (node (nodes f)) (made kind f)
+  leaf_put place there plain_kind = (
+    place_made place there,
+    record {
+      within = let size = size_made kind f in omega arith;
+      free = new_free;
+      is_child = λ is. plain_kind (sym (kind_new kind f) ∙ is);
+      apart = new_apart (is_from place) (place_held f forest place there);
+    },
+  )
+
   pub new_kept : (place : Place) → IsPlace place f → ¬ (kind ≡ document) →
       IsForest (put_node place (nodes f) (made kind f))
-  new_kept place there child =
-      let kept = leaf_kept kind f forest plain in
-      put_node_kept place (nodes f) (made kind f) kept (place_made place there) (record {
-        within = let size = size_made kind f in omega arith;
-        free = new_free;
-        is_child = λ is. child (sym (kind_new kind f) ∙ is);
-        apart = new_apart (is_from place) (from_old place there);
-      })
+  new_kept place there plain_kind =
+      let can = leaf_put place there plain_kind in
+      put_node_kept place (nodes f) (made kind f) (leaf_kept kind f forest plain) can.0 can.1
+
+pub element_put : (place : Place) (name : QualName) (attributes : List Attribute) (is_template point : Bool)
+    (f : Forest) → IsForest f → IsPlace place f →
+    CanPut place (node (nodes f)) (made_element name attributes is_template point f)
+element_put place name attributes true point f forest there =
+    template_put _ f forest refl place there (λ e. absurd (cc))
+element_put place name attributes false point f forest there =
+    leaf_put _ f forest refl place there (λ e. absurd (cc))
 
 pub doctype_kept : (name public_id system_id : List ℕ) (f : Forest) → IsForest f →
     IsForest (with_doctype name public_id system_id f)
@@ -176,7 +234,7 @@ words_kept place (c ∷ cs) f forest there = either
     (λ some. add_kept place c cs some.0 f forest there some.1)
     (option_cases (neighbour place f))
 
-pub put_kept : (place : Place) (child : Child) (f : Forest) → IsForest f → CanPut place child f →
-    IsForest (put place child f)
+pub put_kept : (place : Place) (put_child : Child) (f : Forest) → IsForest f → CanPut place put_child f →
+    IsForest (put place put_child f)
 put_kept place (node n) f forest can = put_node_kept place n f forest can.0 can.1
 put_kept place (words cs) f forest can = words_kept place cs f forest can

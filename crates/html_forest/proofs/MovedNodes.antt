@@ -3,12 +3,15 @@ use Rattle.std.proofs.Common.{◌≡◌, ℕ, ◌⊎◌, inl, inr, refl, sym, ap
 use Rattle.html_lexemes.specs.declared.names.Attribute.{Attribute}
 use Rattle.html_forest.specs.Changes.{changed, detached, kind_with, saying, saying_kind, with_attributes, without_child}
 use Rattle.html_forest.specs.Conditions.{CanMove, IsPlace}
-use Rattle.html_forest.specs.Forest.{Forest, Node, children_at, contents_of, document, element_of, kind_at, node_at}
-use Rattle.html_forest.specs.Orders.{AreDistinct, AtOrAbove, HasNoParent, IsDocument, IsForest, IsIn, IsParent, of_child, of_contents}
+use Rattle.html_forest.specs.Forest.{Forest, children_at, contents_of, document, element_of, kind_at, node_at}
+use Rattle.html_forest.specs.Orders.{AreDistinct, AtOrAbove, HasNoParent, IsDocument, IsForest, IsIn, IsParent}
+use Rattle.html_forest.specs.Orders.{of_child, of_contents}
 use Rattle.html_forest.specs.Places.{Place, before, behind, below, in_front, put_node}
 use Rattle.html_forest.proofs.KeptForests.{IsMoved, moved, none_added, one_added}
-use Rattle.html_forest.proofs.Nodes.{changed_has, contents_said, contents_with, document_said, document_with, mapped_at, size_changed, size_mapped}
-use Rattle.html_forest.proofs.Numbers.{distinct_append, distinct_left_out, distinct_one, distinct_put_before, in_append, in_left_out, in_one, in_put_before}
+use Rattle.html_forest.proofs.Nodes.{attributed, changed_has, contents_said, contents_with, document_said}
+use Rattle.html_forest.proofs.Nodes.{document_with, mapped_at, size_changed, size_mapped}
+use Rattle.html_forest.proofs.Numbers.{distinct_append, distinct_left_out, distinct_one, distinct_put_before}
+use Rattle.html_forest.proofs.Numbers.{in_append, in_left_out, in_one, in_put_before}
 use Rattle.html_forest.proofs.Relations.{at_or_above_in, either, with_edge}
 
 -- below a node
@@ -28,8 +31,8 @@ below_moved p n f forest free = record {
       (λ c i is. free a (of_child a n (subst (λ x. IsIn x (children_at a f)) (in_one c n is) i))));
 }
 
-pub put_below : (p n : ℕ) (f : Forest) → IsForest f → CanMove (below p) n f → IsForest (put_node (below p) n f)
-put_below p n f forest can =
+pub below_kept : (p n : ℕ) (f : Forest) → IsForest f → CanMove (below p) n f → IsForest (put_node (below p) n f)
+below_kept p n f forest can =
     let change = below_moved p n f forest can.free in
     moved f (changed p (behind n) f) p (λ b. b ≡ n) forest change
     (one_added f (changed p (behind n) f) p n change can.within can.free can.is_child can.apart)
@@ -49,9 +52,9 @@ front_moved p s n f forest stands free = record {
       (distinct_put_before s n (children_at a f) (λ i. free a (of_child a n i)) (forest.once a));
 }
 
-pub put_in_front : (p s n : ℕ) (f : Forest) → IsForest f → IsIn s (children_at p f) → CanMove (before s) n f →
+pub front_kept : (p s n : ℕ) (f : Forest) → IsForest f → IsIn s (children_at p f) → CanMove (before s) n f →
     IsForest (put_node (before s) n f)
-put_in_front p s n f forest stands can =
+front_kept p s n f forest stands can =
     let change = front_moved p s n f forest stands can.free in
     moved f (put_node (before s) n f) p (λ b. b ≡ n) forest change
     (one_added f (put_node (before s) n f) p n change can.within can.free can.is_child
@@ -59,8 +62,8 @@ put_in_front p s n f forest stands can =
 
 pub put_node_kept : (place : Place) (n : ℕ) (f : Forest) → IsForest f → IsPlace place f → CanMove place n f →
     IsForest (put_node place n f)
-put_node_kept (below p) n f forest place can = put_below p n f forest can
-put_node_kept (before s) n f forest place can = put_in_front place.0 s n f forest place.1 can
+put_node_kept (below p) n f forest place can = below_kept p n f forest can
+put_node_kept (before s) n f forest place can = front_kept place.0 s n f forest place.1 can
 
 -- words more of a text
 pub said_kept : (n : ℕ) (cs : List ℕ) (f : Forest) → IsForest f → IsForest (changed n (saying cs) f)
@@ -75,9 +78,6 @@ said_kept n cs f forest = moved f (changed n (saying cs) f) 0 (λ _. ⊥) forest
       (λ i. inl i) (λ _ i. inl i);
   once = λ a. changed_has (λ x. AreDistinct x.children) a n (saying cs) f (forest.once a) (λ _. forest.once a);
 }) (none_added f (changed n (saying cs) f))
-
-abbrev attributed : List Attribute → Node → Node
-attributed more x = record { kind = kind_with more x.kind; children = x.children }
 
 pub attributes_kept : (n : ℕ) (more : List Attribute) (f : Forest) → IsForest f → IsForest (with_attributes n more f)
 attributes_kept n more f forest = moved f (with_attributes n more f) 0 (λ _. ⊥) forest (record {

@@ -1,9 +1,17 @@
 -- What stands at a node behind a change, and what a change of a kind keeps.
-use Rattle.std.proofs.Common.{◌≡◌, ℕ, zero, suc, ◌⊎◌, inl, inr, refl, sym, ap, subst, List, [], ◌∷◌, None, Some, map, arith}
+use Rattle.std.proofs.Common.{◌≡◌, ℕ, zero, suc, ◌⊎◌, inl, inr, refl, sym, ap, subst, List, [], ◌∷◌, None, Some, map}
+use Rattle.std.proofs.Common.{arith}
 use Rattle.html_lexemes.specs.declared.names.Attribute.{Attribute}
 use Rattle.html_forest.specs.Changes.{changed, kind_with, made, saying_kind}
-use Rattle.html_forest.specs.Forest.{Forest, Holds, Kind, Node, children_at, comment, contents_of, doctype, document, element, element_of, instruction, kind_at, node_at, nodes, text}
+use Rattle.html_forest.specs.Forest.{Forest, Holds, Kind, Node, children_at, comment, contents_of, doctype, document}
+use Rattle.html_forest.specs.Forest.{element, element_of, instruction, kind_at, node_at, nodes, text}
 use Rattle.html_forest.specs.Orders.{IsIn, IsParent, of_child, of_contents}
+
+pub same_some : (a b : ℕ) → Some a ≡ Some b → a ≡ b
+same_some a b e = cc
+
+abbrev pub node_of : Kind → List ℕ → Node
+node_of kind children = record { kind = kind; children = children }
 
 one_further : {A B : Type 0} (q p : ℕ) → A ⊎ ((q ≡ p) × B) → A ⊎ ((suc q ≡ suc p) × B)
 one_further q p (inl a) = inl a
@@ -26,6 +34,12 @@ pub changed_has : (P : Node → Type 0) (a p : ℕ) (h : Node → Node) (f : For
     (a ≡ p → P (h (node_at a f))) →
     P (node_at a (changed p h f))
 changed_has P a p h f = one_or_other P (a ≡ p) _ _ _ (changed_at a p h f)
+
+-- what a change of nodes keeps, it keeps of each node
+pub kept : {A : Type 0} (view : Node → A) (g : Node → Node) (n m : ℕ) (f : Forest) → ((x : Node) → view (g x) ≡ view x)
+    → view (node_at m (changed n g f)) ≡ view (node_at m f)
+kept view g n m f h =
+    changed_has (λ x. view x ≡ view (node_at m f)) m n g f refl (λ _. h (node_at m f))
 
 pub mapped_at : (q : ℕ) (h : Node → Node) (f : Forest) → h (node_at q []) ≡ node_at q [] →
     node_at q (map h f) ≡ h (node_at q f)
@@ -68,10 +82,13 @@ contents_made_at (suc q) kind [] = inl refl
 contents_made_at zero kind (x ∷ f) = inl refl
 contents_made_at (suc q) kind (x ∷ f) = one_further q (nodes f) (contents_made_at q kind f)
 
+pub node_made : (kind : Kind) (q : ℕ) (f : Forest) → Holds q f → node_at q (made kind f) ≡ node_at q f
+node_made kind q [] h = absurd (omega arith)
+node_made kind zero (x ∷ f) h = refl
+node_made kind (suc q) (x ∷ f) h = node_made kind q f (omega arith)
+
 pub kind_made : (q : ℕ) (kind : Kind) (f : Forest) → Holds q f → kind_at q (made kind f) ≡ kind_at q f
-kind_made q kind [] h = absurd (omega arith)
-kind_made zero kind (x ∷ f) h = refl
-kind_made (suc q) kind (x ∷ f) h = kind_made q kind f (omega arith)
+kind_made q kind f h = ap (λ x. x.kind) (node_made kind q f h)
 
 pub kind_new : (kind : Kind) (f : Forest) → kind_at (nodes f) (made kind f) ≡ kind
 kind_new kind [] = refl
@@ -132,3 +149,6 @@ document_with more (doctype name public system) e = e
 document_with more (comment said) e = e
 document_with more (instruction target said) e = e
 document_with more (element x) e = absurd (cc)
+
+abbrev pub attributed : List Attribute → Node → Node
+attributed more x = record { kind = kind_with more x.kind; children = x.children }

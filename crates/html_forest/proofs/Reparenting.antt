@@ -1,15 +1,16 @@
 -- Children that go to another node leave a forest.
-use Rattle.std.proofs.Common.{◌≡◌, ℕ, zero, suc, ◌⊎◌, inl, inr, refl, sym, subst, ◌∙◌, [], ◌∷◌}
+use Rattle.std.proofs.Common.{[], ap, inl, inr, refl, subst, suc, sym, zero, ℕ, ◌∙◌, ◌∷◌, ◌≡◌, ◌⊎◌}
 use Rattle.html_forest.specs.Changes.{changed, childless, reparented, with_more}
 use Rattle.html_forest.specs.Conditions.{CanReparent}
-use Rattle.html_forest.specs.Forest.{Forest, children_at, contents_of, element_of, kind_at}
+use Rattle.html_forest.specs.Forest.{Forest, children_at, contents_of, element_of, nodes}
 use Rattle.html_forest.specs.Orders.{AreDistinct, IsForest, IsIn, IsParent, child, of_child, of_contents}
 use Rattle.html_forest.proofs.KeptForests.{moved}
 use Rattle.html_forest.proofs.Nodes.{changed_has, size_changed}
 use Rattle.html_forest.proofs.Numbers.{distinct_append, in_append}
 use Rattle.html_forest.proofs.Relations.{at_or_above_on, either}
+use Rattle.html_forest.proofs.LawPlaces.{reparented_kinds}
 
-emptied : (p : ℕ) (f : Forest) → children_at p (changed p childless f) ≡ []
+pub emptied : (p : ℕ) (f : Forest) → children_at p (changed p childless f) ≡ []
 emptied p [] = refl
 emptied zero (x ∷ f) = refl
 emptied (suc p) (x ∷ f) = emptied p f
@@ -32,18 +33,11 @@ child_after a b old new f = changed_has
     (in_append b (children_at a (changed old childless f)) (children_at old f) i))
 
 pub contents_after : (a old new : ℕ) (f : Forest) → contents_of a (reparented old new f) ≡ contents_of a f
-contents_after a old new f =
-    let lost : contents_of a (changed old childless f) ≡ contents_of a f
-    = changed_has (λ x. (element_of x.kind).contents ≡ contents_of a f) a old childless f refl (λ _. refl) in
-    changed_has (λ x. (element_of x.kind).contents ≡ contents_of a f) a new (with_more (children_at old f))
-    (changed old childless f) lost (λ _. lost)
+contents_after a old new f = ap (λ kind. (element_of kind).contents) (reparented_kinds old new a f)
 
-pub kind_after : (a old new : ℕ) (f : Forest) → kind_at a (reparented old new f) ≡ kind_at a f
-kind_after a old new f =
-    let lost : kind_at a (changed old childless f) ≡ kind_at a f
-    = changed_has (λ x. x.kind ≡ kind_at a f) a old childless f refl (λ _. refl) in
-    changed_has (λ x. x.kind ≡ kind_at a f) a new (with_more (children_at old f))
-    (changed old childless f) lost (λ _. lost)
+pub size_reparented : (old new : ℕ) (f : Forest) → nodes (reparented old new f) ≡ nodes f
+size_reparented old new f =
+    size_changed new (with_more (children_at old f)) (changed old childless f) ∙ size_changed old childless f
 
 module _ (old new : ℕ) (f : Forest) (forest : IsForest f) (can : CanReparent old new f) where
   distinct_left : (a : ℕ) → AreDistinct (children_at a (changed old childless f))
@@ -71,10 +65,10 @@ module _ (old new : ℕ) (f : Forest) (forest : IsForest f) (can : CanReparent o
 pub reparented_kept : (old new : ℕ) (f : Forest) → IsForest f → CanReparent old new f → IsForest (reparented old new f)
 reparented_kept old new f forest can = moved f (reparented old new f) new (λ b. IsIn b (children_at old f)) forest
     (record {
-      size = size_changed new (with_more (children_at old f)) (changed old childless f) ∙ size_changed old childless f;
+      size = size_reparented old new f;
       contents = λ a. contents_after a old new f;
-      documents = λ a is. sym (kind_after a old new f) ∙ is;
-      kept = λ a is. kind_after a old new f ∙ is;
+      documents = λ a is. sym (reparented_kinds old new a f) ∙ is;
+      kept = λ a is. reparented_kinds old new a f ∙ is;
       children = λ a b i. either (λ h. inl h.0) (λ h. inr h) (child_after a b old new f i);
       once = distinct_after old new f forest can;
     }) (record {

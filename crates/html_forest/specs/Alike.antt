@@ -1,6 +1,6 @@
 -- Forests that are equal up to the numbers of their nodes.
-use Rattle.std.specs.Prelude.{◌≡◌, ℕ, List, Option, None, Some, map}
-use Rattle.html_forest.specs.Forest.{Element, Forest, Holds, Kind, Node, comment, doctype, document, element, instruction, node_at, text}
+use Rattle.std.specs.Prelude.{◌≡◌, ℕ, Option, None, Some, map}
+use Rattle.html_forest.specs.Forest.{Forest, Holds, Kind, Node, comment, doctype, document, element, instruction, node_at, text}
 
 -- a node with other numbers for its children and its contents
 abbrev pub number_by : (ℕ → ℕ) → Option ℕ → Option ℕ

@@ -1,9 +1,9 @@
 -- Changes of nodes: a node is made, changed, taken out, or loses its children to another (WHATWG DOM, 4.2.3).
-use Rattle.std.specs.Prelude.{◌≡◌, ℕ, ◌+◌, Bool, true, false, ◌||◌, List, [], ◌∷◌, ◌++◌, Option, None, Some, map, zero, suc, ◌==◌, if◌then◌else◌}
+use Rattle.std.specs.Prelude.{ℕ, ◌+◌, Bool, true, false, ◌||◌, List, [], ◌∷◌, ◌++◌, Option, None, Some, map, zero, suc, ◌==◌, if◌then◌else◌}
 use Rattle.html_lexemes.specs.contracts.names.QualNamePartialEq.TheImpl as names
 use Rattle.html_lexemes.specs.declared.names.Attribute.{Attribute}
 use Rattle.html_lexemes.specs.declared.names.QualName.{QualName}
-use Rattle.html_forest.specs.Forest.{Element, Forest, Kind, Node, children_at, comment, doctype, document, element, instruction, nodes, text}
+use Rattle.html_forest.specs.Forest.{Forest, Kind, Node, children_at, comment, doctype, document, element, instruction, nodes, text}
 
 abbrev pub changed : ℕ → (Node → Node) → Forest → Forest
 changed n g [] = []

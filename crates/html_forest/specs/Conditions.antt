@@ -1,5 +1,5 @@
 -- What may be done to a forest, so that it stays one (WHATWG DOM, 4.2.3, "ensure pre-insert validity").
-use Rattle.std.specs.Prelude.{◌≡◌, ℕ, List}
+use Rattle.std.specs.Prelude.{ℕ}
 use Rattle.html_forest.specs.Forest.{Forest, Holds, children_at}
 use Rattle.html_forest.specs.Orders.{AtOrAbove, HasNoParent, IsDocument, IsIn, IsParent}
 use Rattle.html_forest.specs.Places.{Child, Place, below, before, node, words}

@@ -1,5 +1,5 @@
 -- Which nodes stand above which, and when nodes are a forest: each has one parent at most, and none is above itself.
-use Rattle.std.specs.Prelude.{◌≡◌, ℕ, ◌⊎◌, List, [], ◌∷◌, Option, Some}
+use Rattle.std.specs.Prelude.{◌≡◌, ℕ, ◌⊎◌, List, [], ◌∷◌, Some}
 use Rattle.html_forest.specs.Forest.{Forest, Holds, children_at, contents_of, document, kind_at}
 
 -- a number is among others, and numbers are pairwise distinct

@@ -1,6 +1,6 @@
 -- Where a node or a text is put: behind the last child of a node, or right before a child (WHATWG DOM, 4.2.3; WHATWG
 -- HTML, 13.2.6.1).
-use Rattle.std.specs.Prelude.{◌≡◌, ℕ, Bool, true, false, List, [], ◌∷◌, ◌++◌, Option, None, Some, map, ◌==◌, if◌then◌else◌}
+use Rattle.std.specs.Prelude.{ℕ, List, [], ◌∷◌, ◌++◌, Option, None, Some, map, ◌==◌, if◌then◌else◌}
 use Rattle.html_forest.specs.Changes.{changed, made, saying}
 use Rattle.html_forest.specs.Forest.{Forest, Node, children_at, doctype, kind_at, nodes, parent_of, text, text_of}
 

@@ -1,5 +1,5 @@
 -- Small forests of the worked rows.
-use Rattle.std.specs.Prelude.{ℕ, List, [], ◌∷◌, codes, false}
+use Rattle.std.specs.Prelude.{ℕ, List, [], codes, false}
 use Rattle.html_lexemes.specs.declared.names.Attribute.{Attribute}
 use Rattle.html_lexemes.specs.declared.names.Namespace.TheVariants.{Html, Other}
 use Rattle.html_lexemes.specs.declared.names.QualName.{QualName}

@@ -1,4 +1,5 @@
-use Rattle.html_forest.proofs.LawNodes.{changed_other, made_old}
+use Rattle.html_forest.proofs.LawNodes.{changed_other}
+use Rattle.html_forest.proofs.Nodes.{node_made}
 use Rattle.html_forest.proofs.LawPlaces.{out_kinds, out_others, put_children, put_kinds}
 use Rattle.html_forest.proofs.LawPlaces.{reparented_children, reparented_kinds}
 use Rattle.html_forest.proofs.LawTexts.{words_kinds}
@@ -20,7 +21,7 @@ pub returns-clause-taken_out_children : goal.returns-clause-taken_out_children
 returns-clause-taken_out_children c = out_others
 
 pub returns-clause-made : goal.returns-clause-made
-returns-clause-made c = made_old
+returns-clause-made c = node_made
 
 pub returns-clause-reparented_kinds : goal.returns-clause-reparented_kinds
 returns-clause-reparented_kinds c = reparented_kinds
