@@ -27,5 +27,6 @@ CanPut place (words cs) f = IsPlace place f
 
 -- the children of a node may go to another, which isn't the node nor below it
 pub record CanReparent (old new : ℕ) (f : Forest) : Type 0 where
+  pub given : Holds old f
   pub holds : Holds new f
   pub apart : ¬ (AtOrAbove (IsParent f) old new)

@@ -1,0 +1,10 @@
+pub mod BasedLemmas
+pub mod ChildLemmas
+pub mod GivenLemmas
+pub mod LentLemmas
+pub mod LinkLemmas
+pub mod LinkedNodes
+pub mod MissingLemmas
+pub mod NodeLemmas
+pub mod SayLemmas
+pub mod TakenBack

@@ -1,0 +1,15 @@
+use Rattle.std.proofs.Common.{refl, ap}
+use Rattle.std.proofs.lemmas.Result.{on_ok_weaker}
+use Rattle.html_forest.specs.Changes.{with_more}
+use Rattle.html_render_dom.proofs.NodeLemmas.{node_changed, node_with, same_links}
+use Rattle.html_render_dom.specs.Nodes.{kind_of}
+use Rattle.html_render_dom.proofs.nodes.Nodes.add_children.Goals as goal
+
+pub returns-clause-forest : goal.returns-clause-forest
+returns-clause-forest c = on_ok_weaker c.append.result
+    (λ h. node_changed (with_more c.args.more.now) _ _ c.index_mut.result.now _ c.index_mut.ensures.value c.requires
+    (ap (node_with (kind_of c.index_mut.result.now.data)) h))
+    c.append.ensures.ok
+
+pub returns-clause-links : goal.returns-clause-links
+returns-clause-links c = same_links _ _ c.index_mut.result.now _ c.index_mut.ensures.value refl

@@ -1,0 +1,4 @@
+pub mod Dom
+pub mod Links
+pub mod Nodes
+pub mod Numbers

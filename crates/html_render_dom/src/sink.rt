@@ -1,0 +1,212 @@
+ghost use Rattle.std.specs.Prelude.{◌≡◌, OnErr, OnOk};
+ghost use Rattle.html_forest.specs.Conditions.{CanPut};
+ghost use Rattle.html_forest.specs.Places.{based_on, before, below, put};
+ghost use Rattle.html_forest.specs.Sinks.{child_of};
+ghost use Rattle.html_render_dom.specs.Numbers.{number_of};
+
+use crate::dom::RcDom;
+use crate::node::{Handle, NodeData};
+use html_forest::{ElementFlags, NodeOrText, QuirksMode, TreeSink, where_children_stand};
+use html_lexemes::{Attribute, Attributes, ErrorMessage, ParseFault, QualName, Text};
+
+impl TreeSink for RcDom {
+    type Handle = Handle;
+
+    type Output = RcDom;
+
+    ghost use Rattle.std.proofs.Common.{refl};
+    ghost use Rattle.html_render_dom.specs.Numbers.{handle_of, number_of};
+
+    ghost number = { number_of };
+
+    ghost handle = { handle_of };
+
+    ghost forest = { λ dom. dom.forest };
+
+    ghost quirks = { λ dom. dom.quirks };
+
+    ghost tree = { λ dom. dom.forest };
+
+    ghost tree_quirks = { λ dom. dom.quirks };
+
+    ghost named = { λ target. refl };
+
+    fn finish(self) -> RcDom {
+        self
+    }
+
+    fn parse_error(&mut self, message: ErrorMessage) -> Result<(), ParseFault> {
+        self.errors.push(message)?;
+        Ok(())
+    }
+
+    fn get_document(&self) -> Handle {
+        self.document()
+    }
+
+    fn elem_name(&self, target: Handle) -> &QualName {
+        self.nodes.element_name(target)
+    }
+
+    fn create_element(
+        &mut self,
+        name: QualName,
+        attrs: Attributes,
+        flags: ElementFlags,
+    ) -> Result<Handle, ParseFault> {
+        Ok(self.nodes.make_element(name, attrs, flags)?)
+    }
+
+    fn create_comment(&mut self, text: Text) -> Result<Handle, ParseFault> {
+        Ok(self.nodes.make(NodeData::Comment { contents: text })?)
+    }
+
+    fn create_pi(&mut self, target: Text, text: Text) -> Result<Handle, ParseFault> {
+        let node = NodeData::ProcessingInstruction {
+            target,
+            contents: text,
+        };
+        Ok(self.nodes.make(node)?)
+    }
+
+    fn append(&mut self, parent: Handle, child: NodeOrText<Handle>) -> Result<(), ParseFault>
+        requires { CanPut (below (number_of parent)) (child_of number_of child) self.old.forest }
+        ensures forest { OnOk result (self.new.forest ≡ put (below (number_of parent)) (child_of number_of child) self.old.forest) }
+        ensures refused { OnErr result (self.new.forest ≡ self.old.forest) }
+        ensures quirks { self.new.quirks ≡ self.old.quirks }
+    {
+        match child {
+            NodeOrText::AppendNode(node) => self.nodes.put_below(parent, node)?,
+            NodeOrText::AppendText(text) => self.nodes.say_below(parent, text)?,
+        }
+        Ok(())
+    }
+
+    fn append_before_sibling(
+        &mut self,
+        sibling: Handle,
+        child: NodeOrText<Handle>,
+    ) -> Result<(), ParseFault>
+        requires { CanPut (before (number_of sibling)) (child_of number_of child) self.old.forest }
+        ensures forest { OnOk result (self.new.forest ≡ put (before (number_of sibling)) (child_of number_of child) self.old.forest) }
+        ensures refused { OnErr result (self.new.forest ≡ self.old.forest) }
+        ensures quirks { self.new.quirks ≡ self.old.quirks }
+    {
+        match child {
+            NodeOrText::AppendNode(node) => self.nodes.put_before(sibling, node)?,
+            NodeOrText::AppendText(text) => self.nodes.say_before(sibling, text)?,
+        }
+        Ok(())
+    }
+
+    fn append_based_on_parent_node(
+        &mut self,
+        element: Handle,
+        prev_element: Handle,
+        child: NodeOrText<Handle>,
+    ) -> Result<(), ParseFault>
+        requires { CanPut (based_on (number_of element) (number_of prev_element) self.old.forest) (child_of number_of child) self.old.forest }
+        ensures forest { OnOk result (self.new.forest ≡ put (based_on (number_of element) (number_of prev_element) self.old.forest) (child_of number_of child) self.old.forest) }
+        ensures refused { OnErr result (self.new.forest ≡ self.old.forest) }
+        ensures quirks { self.new.quirks ≡ self.old.quirks }
+    {
+        where_children_stand();
+        match self.nodes.parent(element) {
+            Some(_) => self.append_before_sibling(element, child),
+            None => self.append(prev_element, child),
+        }
+    }
+
+    fn append_doctype_to_document(
+        &mut self,
+        name: Text,
+        public_id: Text,
+        system_id: Text,
+    ) -> Result<(), ParseFault> {
+        let node = NodeData::Doctype {
+            name,
+            public_id,
+            system_id,
+        };
+        let document = self.document();
+        self.nodes.put_new_below(document, node)?;
+        Ok(())
+    }
+
+    fn add_attrs_if_missing(
+        &mut self,
+        target: Handle,
+        attrs: Attributes,
+    ) -> Result<(), ParseFault> {
+        self.nodes.add_missing_attributes(target, attrs)?;
+        Ok(())
+    }
+
+    fn associate_with_form(
+        &mut self,
+        _target: Handle,
+        _form: Handle,
+        _element: Handle,
+        _prev_element: Option<Handle>,
+    ) -> Result<(), ParseFault>
+        ensures forest { self.new.forest ≡ self.old.forest }
+        ensures quirks { self.new.quirks ≡ self.old.quirks }
+    {
+        Ok(())
+    }
+
+    fn remove_from_parent(&mut self, target: Handle) -> Result<(), ParseFault> {
+        self.nodes.detach(target);
+        Ok(())
+    }
+
+    fn reparent_children(&mut self, node: Handle, new_parent: Handle) -> Result<(), ParseFault> {
+        self.nodes.reparent(node, new_parent)?;
+        Ok(())
+    }
+
+    fn get_template_contents(&self, target: Handle) -> Handle {
+        self.nodes.template_contents(target)
+    }
+
+    fn same_node(&self, x: Handle, y: Handle) -> bool {
+        x == y
+    }
+
+    fn set_quirks_mode(&mut self, mode: QuirksMode) -> Result<(), ParseFault> {
+        self.quirks_mode = mode;
+        Ok(())
+    }
+
+    fn mark_script_already_started(&mut self, _target: Handle) -> Result<(), ParseFault> {
+        Ok(())
+    }
+
+    fn pop(&mut self, _target: Handle) -> Result<(), ParseFault> {
+        Ok(())
+    }
+
+    fn is_mathml_annotation_xml_integration_point(&self, target: Handle) -> bool {
+        self.nodes.is_integration_point(target)
+    }
+
+    fn set_current_line(&mut self, _line: u64) -> Result<(), ParseFault> {
+        Ok(())
+    }
+
+    fn attach_declarative_shadow(
+        &mut self,
+        _location: Handle,
+        _template: Handle,
+        _attrs: &[Attribute],
+    ) -> Result<bool, ParseFault> {
+        Ok(false)
+    }
+
+    fn maybe_clone_an_option_into_selectedcontent(
+        &mut self,
+        _option: Handle,
+    ) -> Result<(), ParseFault> {
+        Ok(())
+    }
+}
