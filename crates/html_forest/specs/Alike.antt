@@ -1,6 +1,7 @@
 -- Forests that are equal up to the numbers of their nodes.
 use Rattle.std.specs.Prelude.{◌≡◌, ℕ, Option, None, Some, map}
-use Rattle.html_forest.specs.Forest.{Forest, Holds, Kind, Node, comment, doctype, document, element, instruction, node_at, text}
+use Rattle.html_forest.specs.Forest.{Forest, Holds, Kind, Node, comment, doctype, document, element, instruction}
+use Rattle.html_forest.specs.Forest.{node_at, text}
 
 -- a node with other numbers for its children and its contents
 abbrev pub number_by : (ℕ → ℕ) → Option ℕ → Option ℕ

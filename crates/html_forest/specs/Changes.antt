@@ -1,9 +1,11 @@
 -- Changes of nodes: a node is made, changed, taken out, or loses its children to another (WHATWG DOM, 4.2.3).
-use Rattle.std.specs.Prelude.{ℕ, ◌+◌, Bool, true, false, ◌||◌, List, [], ◌∷◌, ◌++◌, Option, None, Some, map, zero, suc, ◌==◌, if◌then◌else◌}
+use Rattle.std.specs.Prelude.{ℕ, ◌+◌, Bool, true, false, ◌||◌, List, [], ◌∷◌, ◌++◌, Option, None, Some, map, zero}
+use Rattle.std.specs.Prelude.{suc, ◌==◌, if◌then◌else◌}
 use Rattle.html_lexemes.specs.contracts.names.QualNamePartialEq.TheImpl as names
 use Rattle.html_lexemes.specs.declared.names.Attribute.{Attribute}
 use Rattle.html_lexemes.specs.declared.names.QualName.{QualName}
-use Rattle.html_forest.specs.Forest.{Forest, Kind, Node, children_at, comment, doctype, document, element, instruction, nodes, text}
+use Rattle.html_forest.specs.Forest.{Forest, Kind, Node, children_at, comment, doctype, document, element}
+use Rattle.html_forest.specs.Forest.{instruction, nodes, text}
 
 abbrev pub changed : ℕ → (Node → Node) → Forest → Forest
 changed n g [] = []
@@ -71,7 +73,8 @@ has_name name (a ∷ rest) = names.eq-value.it name a.name || has_name name rest
 
 abbrev pub with_missing : List Attribute → List Attribute → List Attribute
 with_missing held [] = held
-with_missing held (a ∷ rest) = if has_name a.name held then with_missing held rest else with_missing (held ++ a ∷ []) rest
+with_missing held (a ∷ rest) =
+    if has_name a.name held then with_missing held rest else with_missing (held ++ a ∷ []) rest
 
 abbrev pub kind_with : List Attribute → Kind → Kind
 kind_with more (element e) = element (record e { attributes = with_missing e.attributes more })

@@ -1,5 +1,6 @@
 -- The nodes of a page, by their numbers (WHATWG DOM, 4.2 to 4.10): what each is, and its children in order.
-use Rattle.std.specs.Prelude.{ℕ, ◌<◌, Bool, true, false, List, [], ◌∷◌, Option, None, Some, length, zero, suc, ◌==◌, if◌then◌else◌}
+use Rattle.std.specs.Prelude.{ℕ, ◌<◌, Bool, true, false, List, [], ◌∷◌, Option, None, Some, length, zero, suc, ◌==◌}
+use Rattle.std.specs.Prelude.{if◌then◌else◌}
 use Rattle.html_lexemes.specs.declared.names.Attribute.{Attribute}
 use Rattle.html_lexemes.specs.declared.names.Namespace.TheVariants.{Other}
 use Rattle.html_lexemes.specs.declared.names.QualName.{QualName}
@@ -61,7 +62,12 @@ abbrev pub IsElement : ℕ → Forest → Type 0
 IsElement n f = IsElementKind (kind_at n f)
 
 abbrev pub no_element : Element
-no_element = record { name = record { ns = Other []; local = [] }; attributes = []; contents = None; integration_point = false }
+no_element = record {
+  name = record { ns = Other []; local = [] };
+  attributes = [];
+  contents = None;
+  integration_point = false;
+}
 
 abbrev pub element_of : Kind → Element
 element_of (element e) = e

@@ -15,7 +15,8 @@ pub fn a_page_alone_is_a_forest()
 
 /// A node that is made is one tree more.
 pub fn making_keeps_a_forest()
-    ensures leaf { (kind : Kind) (f : Forest) → IsForest f → (element_of kind).contents ≡ None → IsForest (made kind f) }
+    ensures leaf { (kind : Kind) (f : Forest) → IsForest f → (element_of kind).contents
+        ≡ None → IsForest (made kind f) }
     ensures element { (name : SeenQualName) (attributes : List SeenAttribute) (template point : Bool) (f : Forest) →
         IsForest f → IsForest (made_element name attributes template point f) }
     ensures doctype { (name public_id system_id : List ℕ) (f : Forest) →

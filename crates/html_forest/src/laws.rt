@@ -54,7 +54,8 @@ pub fn what_was_not_named_stays()
 pub fn attributes_are_added()
     ensures attributes { (n : ℕ) (more : List SeenAttribute) (f : Forest) → Holds n f → IsElement n f →
         attributes_of n (with_attributes n more f) ≡ with_missing (attributes_of n f) more }
-    ensures name { (n : ℕ) (more : List SeenAttribute) (f : Forest) → name_of n (with_attributes n more f) ≡ name_of n f }
+    ensures name { (n : ℕ) (more : List SeenAttribute) (f : Forest) → name_of n (with_attributes n more f)
+        ≡ name_of n f }
     ensures contents { (n : ℕ) (more : List SeenAttribute) (f : Forest) →
         contents_of n (with_attributes n more f) ≡ contents_of n f }
     ensures children { (n q : ℕ) (more : List SeenAttribute) (f : Forest) →

@@ -47,9 +47,11 @@ fn words_of_rows()
 fn attributes_of_rows()
     ensures added { attributes_of 1 (with_attributes 1 (attribute (codes "a") (codes "1") ∷ []) two)
         ≡ attribute (codes "a") (codes "1") ∷ [] }
-    ensures kept { attributes_of 1 (with_attributes 1 (attribute (codes "a") (codes "2") ∷ attribute (codes "b") [] ∷ [])
+    ensures kept { attributes_of 1 (with_attributes 1 (attribute (codes "a") (codes "2")
+        ∷ attribute (codes "b") [] ∷ [])
         (with_attributes 1 (attribute (codes "a") (codes "1") ∷ []) two))
         ≡ attribute (codes "a") (codes "1") ∷ attribute (codes "b") [] ∷ [] }
-    ensures once { attributes_of 1 (with_attributes 1 (attribute (codes "a") (codes "1") ∷ attribute (codes "a") [] ∷ []) two)
+    ensures once { attributes_of 1 (with_attributes 1 (attribute (codes "a") (codes "1")
+        ∷ attribute (codes "a") [] ∷ []) two)
         ≡ attribute (codes "a") (codes "1") ∷ [] }
 {}

@@ -25,7 +25,8 @@ pub noted_child : (held : Nodes) (n p : ℕ) → IsLinked held → Some p ≡ li
     IsIn n (children_at p (forest_of held))
 noted_child held n p linked e = linked.links.up n p (sym e)
 
-pub noted_holds : (held : Nodes) (n p : ℕ) → IsLinked held → Some p ≡ link_at n (links_of held) → Holds p (forest_of held)
+pub noted_holds : (held : Nodes) (n p : ℕ) → IsLinked held → Some p
+    ≡ link_at n (links_of held) → Holds p (forest_of held)
 noted_holds held n p linked e = holds_child p n (forest_of held) (noted_child held n p linked e)
 
 -- a node that has noted no parent stands nowhere
@@ -44,7 +45,8 @@ element_kind name attributes point contents =
 
 pub template_made : (name : QualName) (attributes : List Attribute) (is_template point : Bool) (contents : Option ℕ)
     (f : Forest) → contents ≡ contents_number is_template f → is_template ≡ true →
-    made document (made (element_kind name attributes point contents) f) ≡ made_element name attributes is_template point f
+    made document (made (element_kind name attributes point contents) f)
+    ≡ made_element name attributes is_template point f
 template_made name attributes true point contents f e is =
     ap (λ (k : Option ℕ). made document (made (element_kind name attributes point k) f)) e
 template_made name attributes false point contents f e is = absurd (let no : false ≡ true = is in cc)

@@ -71,7 +71,8 @@ pub said_linked : {E : Type 0} (r : Result Bool E) (held old : Nodes) (n : ℕ) 
     links_of held ≡ links_of old → IsLinked held
 said_linked r held old n cs linked more other err links =
     either (said_or_same r (forest_of held) (changed n (saying cs) (forest_of old)) (forest_of old) more other err) where
-      either : (forest_of held ≡ changed n (saying cs) (forest_of old)) ⊎ (forest_of held ≡ forest_of old) → IsLinked held
+      either : (forest_of held ≡ changed n (saying cs) (forest_of old)) ⊎ (forest_of held
+          ≡ forest_of old) → IsLinked held
       either (inl said) = linked_at held (changed n (saying cs) (forest_of old)) (links_of old) said links
           (said_kept n cs (forest_of old) linked.forest)
           (linked_same (forest_of old) (changed n (saying cs) (forest_of old)) (links_of old) linked.links

@@ -1,6 +1,7 @@
 -- What the nodes in memory mean: a forest, and the parent that each node has noted.
 use Rattle.std.specs.Prelude.{ℕ, List, Option, None, Some, map, option_map, slice_index_or, Bool, false, is_some}
-use Rattle.html_forest.specs.Forest.{Forest, Kind, Node, comment, doctype, document, element, instruction, kind_at, text, text_of}
+use Rattle.html_forest.specs.Forest.{Forest, Kind, Node, comment, doctype, document, element, instruction, kind_at}
+use Rattle.html_forest.specs.Forest.{text, text_of}
 use Rattle.html_render_dom.specs.Numbers.{number_of}
 use Rattle.html_render_dom.specs.declared.node.Handle.{Handle}
 use Rattle.html_render_dom.specs.declared.node.Node.{Node as HeldNode}

@@ -85,7 +85,8 @@ impl Nodes {
 
     // an element and what holds its contents, or neither
     fn push_template(&mut self, element: NodeData) -> Result<(), AllocError>
-        ensures forest { OnOk result (forest_of self.new ≡ made document (made (kind_of element) (forest_of self.old))) }
+        ensures forest { OnOk result (forest_of self.new
+            ≡ made document (made (kind_of element) (forest_of self.old))) }
         ensures links { OnOk result (links_of self.new ≡ (links_of self.old ++ None ∷ []) ++ None ∷ []) }
         ensures kept { OnErr result (forest_of self.new ≡ forest_of self.old) }
         ensures kept_links { OnErr result (links_of self.new ≡ links_of self.old) }
@@ -164,7 +165,8 @@ impl Nodes {
         requires child { ¬ (kind_of node ≡ document) }
         requires place { IsPlace (below (number_of parent)) (forest_of self.old) }
         ensures forest { OnOk result (forest_of self.new
-            ≡ put_node (below (number_of parent)) (nodes (forest_of self.old)) (made (kind_of node) (forest_of self.old))) }
+            ≡ put_node (below (number_of parent)) (nodes (forest_of self.old))
+            (made (kind_of node) (forest_of self.old))) }
         ensures kept { OnErr result (forest_of self.new ≡ forest_of self.old) }
         ensures linked { IsLinked self.new }
     {

@@ -1,4 +1,5 @@
-ghost use Rattle.std.specs.Prelude.{◌≡◌, ℕ, ◌+◌, ◌<◌, [], ◌∷◌, ◌++◌, true, false, IfOk, None, OnErr, OnOk, Option, Some};
+ghost use Rattle.std.specs.Prelude.{◌≡◌, ℕ, ◌+◌, ◌<◌, [], ◌∷◌, ◌++◌, true, false, IfOk, None, OnErr, OnOk, Option};
+ghost use Rattle.std.specs.Prelude.{Some};
 ghost use Rattle.std.specs.Prelude.{List, chars, is_some, option_map, slice_set};
 ghost use Rattle.std.specs.Bool.{nat_lt};
 ghost use Rattle.html_forest.specs.Changes.{changed, childless, has_name, made, saying};
@@ -119,7 +120,8 @@ impl Nodes {
     pub(crate) fn set_parent(&mut self, target: Handle, parent: Option<Handle>)
         requires { Holds (number_of target) (forest_of self.old) }
         ensures forest { forest_of self.new ≡ forest_of self.old }
-        ensures links { links_of self.new ≡ slice_set (links_of self.old) (number_of target) (option_map number_of parent) }
+        ensures links { links_of self.new
+            ≡ slice_set (links_of self.old) (number_of target) (option_map number_of parent) }
     {
         self.items[target.number].parent = parent;
     }

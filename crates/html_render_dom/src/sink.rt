@@ -71,7 +71,8 @@ impl TreeSink for RcDom {
 
     fn append(&mut self, parent: Handle, child: NodeOrText<Handle>) -> Result<(), ParseFault>
         requires { CanPut (below (number_of parent)) (child_of number_of child) self.old.forest }
-        ensures forest { OnOk result (self.new.forest ≡ put (below (number_of parent)) (child_of number_of child) self.old.forest) }
+        ensures forest { OnOk result (self.new.forest
+            ≡ put (below (number_of parent)) (child_of number_of child) self.old.forest) }
         ensures refused { OnErr result (self.new.forest ≡ self.old.forest) }
         ensures quirks { self.new.quirks ≡ self.old.quirks }
     {
@@ -88,7 +89,8 @@ impl TreeSink for RcDom {
         child: NodeOrText<Handle>,
     ) -> Result<(), ParseFault>
         requires { CanPut (before (number_of sibling)) (child_of number_of child) self.old.forest }
-        ensures forest { OnOk result (self.new.forest ≡ put (before (number_of sibling)) (child_of number_of child) self.old.forest) }
+        ensures forest { OnOk result (self.new.forest
+            ≡ put (before (number_of sibling)) (child_of number_of child) self.old.forest) }
         ensures refused { OnErr result (self.new.forest ≡ self.old.forest) }
         ensures quirks { self.new.quirks ≡ self.old.quirks }
     {
@@ -105,8 +107,11 @@ impl TreeSink for RcDom {
         prev_element: Handle,
         child: NodeOrText<Handle>,
     ) -> Result<(), ParseFault>
-        requires { CanPut (based_on (number_of element) (number_of prev_element) self.old.forest) (child_of number_of child) self.old.forest }
-        ensures forest { OnOk result (self.new.forest ≡ put (based_on (number_of element) (number_of prev_element) self.old.forest) (child_of number_of child) self.old.forest) }
+        requires { CanPut (based_on (number_of element) (number_of prev_element) self.old.forest)
+            (child_of number_of child) self.old.forest }
+        ensures forest { OnOk result (self.new.forest
+            ≡ put (based_on (number_of element) (number_of prev_element) self.old.forest)
+            (child_of number_of child) self.old.forest) }
         ensures refused { OnErr result (self.new.forest ≡ self.old.forest) }
         ensures quirks { self.new.quirks ≡ self.old.quirks }
     {
