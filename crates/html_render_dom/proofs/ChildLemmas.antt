@@ -6,7 +6,9 @@ use Rattle.std.specs.List.{insert, remove, slice_get}
 use Rattle.std.proofs.lemmas.Bool.{cond-true, cond-false, eq-eqb, eqb-true, eqb-false}
 use Rattle.std.proofs.lemmas.Bool.Decides.{eqb_tells}
 use Rattle.std.proofs.lemmas.List.{drop-map, drop_at, map-append, get_or-map, length-map, length-take-le, take-map}
-use Rattle.std.proofs.lemmas.List.{take_all, take_at}
+use Rattle.std.proofs.lemmas.List.{take_at, drop_more, nil_from_length}
+use Rattle.std.proofs.Common.{length-drop}
+use Rattle.html_forest.proofs.LawLists.{not_in_front}
 use Rattle.std.proofs.lemmas.Option.{slice_get-map}
 use Rattle.html_forest.specs.Changes.{left_out}
 use Rattle.html_forest.specs.Orders.{AreDistinct, IsIn}
@@ -24,31 +26,18 @@ split_at [] k d h = absurd (omega arith)
 split_at (x ∷ xs) zero d h = refl
 split_at (x ∷ xs) (suc k) d h = ap (λ v. x.number ∷ v) (split_at xs k d (omega arith))
 
-pub stands_at : (xs : List Handle) (ns : List ℕ) (n k : ℕ) (d : Handle) → map number_of xs ≡ ns → k < length xs →
-    ¬ (IsIn n (map number_of (take k xs))) → true ≡ ((slice_index_or xs k d).number == n) → FirstStandsAt n ns k
-stands_at xs ns n k d view within first is = record {
-  front = map number_of (take k xs);
-  rest = map number_of (drop (suc k) xs);
-  split = sym view ∙ split_at xs k d within
-      ∙ ap (λ m. map number_of (take k xs) ++ m ∷ map number_of (drop (suc k) xs)) (eqb-true _ n (sym is));
-  first = first;
-  counted = length-map (take k xs) number_of ∙ length-take-le k xs (omega arith);
-}
-
-none_so_far : (xs : List Handle) (k n : ℕ) (d : Handle) → k < length xs → ¬ (IsIn n (map number_of (take k xs))) →
-    ((slice_index_or xs k d).number ≡ n → ⊥) → ¬ (IsIn n (map number_of (take (suc k) xs)))
-none_so_far [] k n d h none isnt = absurd (omega arith)
-none_so_far (x ∷ xs) zero n d h none isnt = λ i. elim i [ inl e ↦ isnt (sym e) | inr i ↦ i ]
-none_so_far (x ∷ xs) (suc k) n d h none isnt =
-    λ i. elim i [ inl e ↦ none (inl e) | inr i ↦ none_so_far xs k n d (omega arith) (λ j. none (inr j)) isnt i ]
-
-pub none_yet : (xs : List Handle) (k n : ℕ) (d : Handle) → k < length xs → ¬ (IsIn n (map number_of (take k xs))) →
-    false ≡ ((slice_index_or xs k d).number == n) → ¬ (IsIn n (map number_of (take (k + 1) xs)))
-none_yet xs k n d h none isnt = rw add-one (none_so_far xs k n d h none (eqb-false _ n (sym isnt)))
-
-pub none_at_all : (xs : List Handle) (ns : List ℕ) (k n : ℕ) → map number_of xs ≡ ns → length xs ≤ k →
-    ¬ (IsIn n (map number_of (take k xs))) → ¬ (IsIn n ns)
-none_at_all xs ns k n view all none = λ i. none (subst (IsIn n) (sym (ap (map number_of) (take_all k xs all) ∙ view)) i)
+pub stands_at : (xs : List Handle) (ns : List ℕ) (n k : ℕ) (d : Handle) → map number_of xs ≡ ns → AreDistinct ns →
+    k < length xs → true ≡ ((slice_index_or xs k d).number == n) → FirstStandsAt n ns k
+stands_at xs ns n k d view distinct within is =
+    let split : ns ≡ map number_of (take k xs) ++ n ∷ map number_of (drop (suc k) xs) = sym view ∙ split_at xs k d within
+    ∙ ap (λ m. map number_of (take k xs) ++ m ∷ map number_of (drop (suc k) xs)) (eqb-true _ n (sym is)) in
+    record {
+      front = map number_of (take k xs);
+      rest = map number_of (drop (suc k) xs);
+      split = split;
+      first = not_in_front n (map number_of (take k xs)) (map number_of (drop (suc k) xs)) (subst AreDistinct split distinct);
+      counted = length-map (take k xs) number_of ∙ length-take-le k xs (omega arith);
+    }
 
 -- one is put before another
 put_before_front : (front rest : List ℕ) (s c : ℕ) → ¬ (IsIn s front) →

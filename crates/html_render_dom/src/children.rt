@@ -55,6 +55,7 @@ impl Children {
 
     /// Puts a child before another, which is one.
     pub(crate) fn insert_before(&mut self, sibling: Handle, child: Handle) -> Result<(), AllocError>
+        requires { AreDistinct self.old }
         ensures ok { OnOk result (self.new ≡ put_before (number_of sibling) (number_of child) self.old) }
         ensures err { OnErr result (self.new ≡ self.old) }
     {
@@ -96,17 +97,19 @@ impl Children {
         self.items.append(&mut other.items)
     }
 
-    // where a child first stands
+    // where a child stands, looked for from the end: what is moved mostly stands there
     fn index_of(&self, child: Handle) -> Option<usize>
+        requires { AreDistinct self.now }
         ensures found { IfSome result (FirstStandsAt (number_of child) self.now) }
         ensures missing { result ≡ None → ¬ (IsIn (number_of child) self.now) }
     {
-        let mut index = 0;
-        for item in &self.items {
-            if *item == child {
+        let items = self.as_slice();
+        let mut index = items.len();
+        while index > 0 {
+            index -= 1;
+            if items[index] == child {
                 return Some(index);
             }
-            index += 1;
         }
         None
     }

@@ -144,7 +144,8 @@ impl Nodes {
         sibling: Handle,
         child: Handle,
     ) -> Result<(), AllocError>
-        requires { Holds (number_of parent) (forest_of self.old) }
+        requires { Holds (number_of parent) (forest_of self.old)
+            × AreDistinct (children_at (number_of parent) (forest_of self.old)) }
         ensures forest { OnOk result (forest_of self.new
             ≡ changed (number_of parent) (in_front (number_of sibling) (number_of child)) (forest_of self.old)) }
         ensures kept { OnErr result (forest_of self.new ≡ forest_of self.old) }

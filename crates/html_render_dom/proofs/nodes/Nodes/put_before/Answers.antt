@@ -8,8 +8,11 @@ use Rattle.html_render_dom.proofs.LinkedNodes.{linked_at, no_child, noted_child,
 use Rattle.html_render_dom.proofs.nodes.Nodes.put_before.Goals as goal
 
 pub insert_child-requires : goal.insert_child-requires
-insert_child-requires c = noted_holds c.args.self.now (number_of c.args.sibling) (number_of c.in-Some.parent)
-    c.requires.linked c.in-Some.ensures
+insert_child-requires c = (
+  noted_holds c.args.self.now (number_of c.args.sibling) (number_of c.in-Some.parent)
+      c.requires.linked c.in-Some.ensures,
+  c.requires.linked.forest.once (number_of c.in-Some.parent),
+)
 
 pub returns-clause-linked : goal.returns-clause-linked
 returns-clause-linked c =
