@@ -1,4 +1,5 @@
-ghost use Rattle.std.specs.Prelude.{◌≡◌, ℕ, Bool, Option, Some, IfOk, OnErr, OnOk, ◌==◌};
+ghost use Rattle.std.specs.Prelude.{◌≡◌, ℕ, Bool, Option, Some, IfErr, IfOk, OnErr, OnOk, ◌==◌};
+ghost use Rattle.html_lexemes.specs.declared.fault.ParseFault.TheVariants.{Memory};
 ghost use Rattle.html_forest.specs.Changes.{detached, made, made_element, reparented, with_attributes};
 ghost use Rattle.html_forest.specs.Conditions.{CanPut, CanReparent};
 ghost use Rattle.html_forest.specs.Forest.{Forest, IsElement, comment, contents_of, instruction};
@@ -67,7 +68,8 @@ pub trait TreeSink {
     /// Takes note of a parse error.
     fn parse_error(&mut self, message: ErrorMessage) -> Result<(), ParseFault>
         ensures forest { forest self.new ≡ forest self.old }
-        ensures quirks { quirks self.new ≡ quirks self.old };
+        ensures quirks { quirks self.new ≡ quirks self.old }
+        ensures memory { IfErr result (λ e. e ≡ Memory) };
 
     /// The document.
     fn get_document(&self) -> Self::Handle
@@ -89,21 +91,24 @@ pub trait TreeSink {
         ensures forest { OnOk result (forest self.new ≡ made_element name attrs flags.template
             flags.mathml_annotation_xml_integration_point (forest self.old)) }
         ensures refused { OnErr result (forest self.new ≡ forest self.old) }
-        ensures quirks { quirks self.new ≡ quirks self.old };
+        ensures quirks { quirks self.new ≡ quirks self.old }
+        ensures memory { IfErr result (λ e. e ≡ Memory) };
 
     /// A comment more, which stands nowhere yet (WHATWG DOM, 4.14).
     fn create_comment(&mut self, text: Text) -> Result<Self::Handle, ParseFault>
         ensures number { IfOk result (λ made. number made ≡ nodes (forest self.old)) }
         ensures forest { OnOk result (forest self.new ≡ made (comment text) (forest self.old)) }
         ensures refused { OnErr result (forest self.new ≡ forest self.old) }
-        ensures quirks { quirks self.new ≡ quirks self.old };
+        ensures quirks { quirks self.new ≡ quirks self.old }
+        ensures memory { IfErr result (λ e. e ≡ Memory) };
 
     /// A processing instruction more, which stands nowhere yet (WHATWG DOM, 4.13).
     fn create_pi(&mut self, target: Text, text: Text) -> Result<Self::Handle, ParseFault>
         ensures number { IfOk result (λ made. number made ≡ nodes (forest self.old)) }
         ensures forest { OnOk result (forest self.new ≡ made (instruction target text) (forest self.old)) }
         ensures refused { OnErr result (forest self.new ≡ forest self.old) }
-        ensures quirks { quirks self.new ≡ quirks self.old };
+        ensures quirks { quirks self.new ≡ quirks self.old }
+        ensures memory { IfErr result (λ e. e ≡ Memory) };
 
     /// Puts a node or a text behind the children of a node (WHATWG DOM, 4.2.3, "append").
     fn append(
@@ -115,7 +120,8 @@ pub trait TreeSink {
         ensures forest { OnOk result (forest self.new
             ≡ put (below (number parent)) (child_of number child) (forest self.old)) }
         ensures refused { OnErr result (forest self.new ≡ forest self.old) }
-        ensures quirks { quirks self.new ≡ quirks self.old };
+        ensures quirks { quirks self.new ≡ quirks self.old }
+        ensures memory { IfErr result (λ e. e ≡ Memory) };
 
     /// Puts a node or a text right before a child (WHATWG DOM, 4.2.3, "insert").
     fn append_before_sibling(
@@ -127,7 +133,8 @@ pub trait TreeSink {
         ensures forest { OnOk result (forest self.new
             ≡ put (before (number sibling)) (child_of number child) (forest self.old)) }
         ensures refused { OnErr result (forest self.new ≡ forest self.old) }
-        ensures quirks { quirks self.new ≡ quirks self.old };
+        ensures quirks { quirks self.new ≡ quirks self.old }
+        ensures memory { IfErr result (λ e. e ≡ Memory) };
 
     /// Puts a node or a text right before an element that has a parent, else behind the children of another (WHATWG
     /// HTML, 13.2.6.1, foster parent).
@@ -143,7 +150,8 @@ pub trait TreeSink {
             ≡ put (based_on (number element) (number prev_element) (forest self.old))
             (child_of number child) (forest self.old)) }
         ensures refused { OnErr result (forest self.new ≡ forest self.old) }
-        ensures quirks { quirks self.new ≡ quirks self.old };
+        ensures quirks { quirks self.new ≡ quirks self.old }
+        ensures memory { IfErr result (λ e. e ≡ Memory) };
 
     /// Puts a doctype behind the children of the document (WHATWG DOM, 4.6).
     fn append_doctype_to_document(
@@ -154,7 +162,8 @@ pub trait TreeSink {
     ) -> Result<(), ParseFault>
         ensures forest { OnOk result (forest self.new ≡ with_doctype name public_id system_id (forest self.old)) }
         ensures refused { OnErr result (forest self.new ≡ forest self.old) }
-        ensures quirks { quirks self.new ≡ quirks self.old };
+        ensures quirks { quirks self.new ≡ quirks self.old }
+        ensures memory { IfErr result (λ e. e ≡ Memory) };
 
     /// Adds the attributes whose names an element lacks (WHATWG HTML, 13.2.6.4.7, `html` and `body`).
     fn add_attrs_if_missing(
@@ -165,7 +174,8 @@ pub trait TreeSink {
         requires { IsElement (number target) (forest self.old) }
         ensures forest { OnOk result (forest self.new ≡ with_attributes (number target) attrs (forest self.old)) }
         ensures refused { OnErr result (forest self.new ≡ forest self.old) }
-        ensures quirks { quirks self.new ≡ quirks self.old };
+        ensures quirks { quirks self.new ≡ quirks self.old }
+        ensures memory { IfErr result (λ e. e ≡ Memory) };
 
     /// Says that a control belongs to a form (WHATWG HTML, 4.10.18.3).
     fn associate_with_form(
@@ -176,13 +186,15 @@ pub trait TreeSink {
         prev_element: Option<Self::Handle>,
     ) -> Result<(), ParseFault>
         ensures forest { forest self.new ≡ forest self.old }
-        ensures quirks { quirks self.new ≡ quirks self.old };
+        ensures quirks { quirks self.new ≡ quirks self.old }
+        ensures memory { IfErr result (λ e. e ≡ Memory) };
 
     /// Takes a node out of its parent's children, where it has one (WHATWG DOM, 4.2.3, "remove").
     fn remove_from_parent(&mut self, target: Self::Handle) -> Result<(), ParseFault>
         ensures forest { OnOk result (forest self.new ≡ detached (number target) (forest self.old)) }
         ensures refused { OnErr result (forest self.new ≡ forest self.old) }
-        ensures quirks { quirks self.new ≡ quirks self.old };
+        ensures quirks { quirks self.new ≡ quirks self.old }
+        ensures memory { IfErr result (λ e. e ≡ Memory) };
 
     /// Puts all children of a node behind those of another (WHATWG HTML, 13.2.6.4.7, adoption agency).
     fn reparent_children(
@@ -194,7 +206,8 @@ pub trait TreeSink {
         ensures forest { OnOk result (forest self.new
             ≡ reparented (number node) (number new_parent) (forest self.old)) }
         ensures refused { OnErr result (forest self.new ≡ forest self.old) }
-        ensures quirks { quirks self.new ≡ quirks self.old };
+        ensures quirks { quirks self.new ≡ quirks self.old }
+        ensures memory { IfErr result (λ e. e ≡ Memory) };
 
     /// What holds a template's contents (WHATWG HTML, 4.12.3).
     fn get_template_contents(&self, target: Self::Handle) -> Self::Handle
@@ -209,19 +222,22 @@ pub trait TreeSink {
     fn set_quirks_mode(&mut self, mode: QuirksMode) -> Result<(), ParseFault>
         ensures forest { forest self.new ≡ forest self.old }
         ensures quirks { OnOk result (quirks self.new ≡ mode) }
-        ensures refused { OnErr result (quirks self.new ≡ quirks self.old) };
+        ensures refused { OnErr result (quirks self.new ≡ quirks self.old) }
+        ensures memory { IfErr result (λ e. e ≡ Memory) };
 
     /// Says that a script must not run (WHATWG HTML, 13.2.6.4.4).
     fn mark_script_already_started(&mut self, target: Self::Handle) -> Result<(), ParseFault>
         requires { IsElement (number target) (forest self.old) }
         ensures forest { forest self.new ≡ forest self.old }
-        ensures quirks { quirks self.new ≡ quirks self.old };
+        ensures quirks { quirks self.new ≡ quirks self.old }
+        ensures memory { IfErr result (λ e. e ≡ Memory) };
 
     /// Says that an element is no longer open (WHATWG HTML, 13.2.4.2).
     fn pop(&mut self, target: Self::Handle) -> Result<(), ParseFault>
         requires { IsElement (number target) (forest self.old) }
         ensures forest { forest self.new ≡ forest self.old }
-        ensures quirks { quirks self.new ≡ quirks self.old };
+        ensures quirks { quirks self.new ≡ quirks self.old }
+        ensures memory { IfErr result (λ e. e ≡ Memory) };
 
     /// Whether an element is an `annotation-xml` element whose contents are HTML.
     fn is_mathml_annotation_xml_integration_point(&self, target: Self::Handle) -> bool
@@ -231,7 +247,8 @@ pub trait TreeSink {
     /// Says which line of the page is read, from 1.
     fn set_current_line(&mut self, line: u64) -> Result<(), ParseFault>
         ensures forest { forest self.new ≡ forest self.old }
-        ensures quirks { quirks self.new ≡ quirks self.old };
+        ensures quirks { quirks self.new ≡ quirks self.old }
+        ensures memory { IfErr result (λ e. e ≡ Memory) };
 
     /// Whether a declarative shadow root was attached to an element (WHATWG HTML, 13.2.6.4.4).
     fn attach_declarative_shadow(
@@ -241,7 +258,8 @@ pub trait TreeSink {
         attrs: &[Attribute],
     ) -> Result<bool, ParseFault>
         ensures forest { forest self.new ≡ forest self.old }
-        ensures quirks { quirks self.new ≡ quirks self.old };
+        ensures quirks { quirks self.new ≡ quirks self.old }
+        ensures memory { IfErr result (λ e. e ≡ Memory) };
 
     /// Says that an option was closed, which a `selectedcontent` element may show (WHATWG HTML, 4.10.10).
     fn maybe_clone_an_option_into_selectedcontent(
@@ -249,7 +267,8 @@ pub trait TreeSink {
         option: Self::Handle,
     ) -> Result<(), ParseFault>
         ensures forest { forest self.new ≡ forest self.old }
-        ensures quirks { quirks self.new ≡ quirks self.old };
+        ensures quirks { quirks self.new ≡ quirks self.old }
+        ensures memory { IfErr result (λ e. e ≡ Memory) };
 
     ghost named: { (target : Self.Handle) → handle (number target) ≡ target };
 }

@@ -1,4 +1,5 @@
-ghost use Rattle.std.specs.Prelude.{◌≡◌, [], IfOk, IfSome, is_some, map};
+ghost use Rattle.std.specs.Prelude.{◌≡◌, [], IfErr, IfOk, IfSome, is_some, map};
+ghost use Rattle.html_lexemes.specs.declared.fault.ParseFault.TheVariants.{Memory};
 ghost use Rattle.std.specs.Bool.{nat_lt};
 ghost use Rattle.html_forest.specs.Forest.{children_at, kind_at, nodes, page_alone};
 ghost use Rattle.html_forest.specs.Orders.{IsForest};
@@ -37,7 +38,8 @@ impl Model for RcDom {
 impl RcDom {
     /// A page without nodes but its document. The error is want of memory alone.
     pub fn new(alloc: Global) -> Result<RcDom, ParseFault>
-        ensures { IfOk result (λ dom. dom ≡ record { forest = page_alone; errors = []; quirks = NoQuirks }) }
+        ensures made { IfOk result (λ dom. dom ≡ record { forest = page_alone; errors = []; quirks = NoQuirks }) }
+        ensures memory { IfErr result (λ e. e ≡ Memory) }
     {
         a_page_alone_is_a_forest();
         let mut nodes = Nodes::new(alloc);

@@ -1,4 +1,5 @@
-ghost use Rattle.std.specs.Prelude.{◌≡◌, OnErr, OnOk};
+ghost use Rattle.std.specs.Prelude.{◌≡◌, [], ◌∷◌, ◌++◌, false, IfErr, IfOk, OnErr, OnOk};
+ghost use Rattle.html_lexemes.specs.declared.fault.ParseFault.TheVariants.{Memory};
 ghost use Rattle.html_forest.specs.Conditions.{CanPut};
 ghost use Rattle.html_forest.specs.Places.{based_on, before, below, put};
 ghost use Rattle.html_forest.specs.Sinks.{child_of};
@@ -35,7 +36,13 @@ impl TreeSink for RcDom {
         self
     }
 
-    fn parse_error(&mut self, message: ErrorMessage) -> Result<(), ParseFault> {
+    fn parse_error(&mut self, message: ErrorMessage) -> Result<(), ParseFault>
+        ensures forest { self.new.forest ≡ self.old.forest }
+        ensures quirks { self.new.quirks ≡ self.old.quirks }
+        ensures memory { IfErr result (λ e. e ≡ Memory) }
+        ensures told { OnOk result (self.new.errors ≡ self.old.errors ++ message ∷ []) }
+        ensures untold { OnErr result (self.new.errors ≡ self.old.errors) }
+    {
         self.errors.push(message)?;
         Ok(())
     }
@@ -75,6 +82,7 @@ impl TreeSink for RcDom {
             ≡ put (below (number_of parent)) (child_of number_of child) self.old.forest) }
         ensures refused { OnErr result (self.new.forest ≡ self.old.forest) }
         ensures quirks { self.new.quirks ≡ self.old.quirks }
+        ensures memory { IfErr result (λ e. e ≡ Memory) }
     {
         match child {
             NodeOrText::AppendNode(node) => self.nodes.put_below(parent, node)?,
@@ -93,6 +101,7 @@ impl TreeSink for RcDom {
             ≡ put (before (number_of sibling)) (child_of number_of child) self.old.forest) }
         ensures refused { OnErr result (self.new.forest ≡ self.old.forest) }
         ensures quirks { self.new.quirks ≡ self.old.quirks }
+        ensures memory { IfErr result (λ e. e ≡ Memory) }
     {
         match child {
             NodeOrText::AppendNode(node) => self.nodes.put_before(sibling, node)?,
@@ -114,6 +123,7 @@ impl TreeSink for RcDom {
             (child_of number_of child) self.old.forest) }
         ensures refused { OnErr result (self.new.forest ≡ self.old.forest) }
         ensures quirks { self.new.quirks ≡ self.old.quirks }
+        ensures memory { IfErr result (λ e. e ≡ Memory) }
     {
         where_children_stand();
         match self.nodes.parent(element) {
@@ -156,6 +166,7 @@ impl TreeSink for RcDom {
     ) -> Result<(), ParseFault>
         ensures forest { self.new.forest ≡ self.old.forest }
         ensures quirks { self.new.quirks ≡ self.old.quirks }
+        ensures memory { IfErr result (λ e. e ≡ Memory) }
     {
         Ok(())
     }
@@ -204,7 +215,12 @@ impl TreeSink for RcDom {
         _location: Handle,
         _template: Handle,
         _attrs: &[Attribute],
-    ) -> Result<bool, ParseFault> {
+    ) -> Result<bool, ParseFault>
+        ensures forest { self.new.forest ≡ self.old.forest }
+        ensures quirks { self.new.quirks ≡ self.old.quirks }
+        ensures memory { IfErr result (λ e. e ≡ Memory) }
+        ensures never { IfOk result (λ is_attached. is_attached ≡ false) }
+    {
         Ok(false)
     }
 
