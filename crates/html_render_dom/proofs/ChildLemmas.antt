@@ -1,13 +1,12 @@
 -- Children before and behind one of them.
-use Rattle.std.proofs.Common.{◌≡◌, ℕ, ◌+◌, ◌<◌, ◌≤◌, ◌-◌, true, false, ◌==◌, List, [], ◌∷◌, ◌++◌, Option, None, Some}
+use Rattle.std.proofs.Common.{◌≡◌, ℕ, ◌<◌, ◌≤◌, ◌-◌, true, false, ◌==◌, List, [], ◌∷◌, ◌++◌, Option, None, Some}
 use Rattle.std.proofs.Common.{map, length, slice_index_or, take, drop, option_map, inl, inr, refl, sym, ap, ap₂}
-use Rattle.std.proofs.Common.{subst, ◌∙◌, zero, suc, arith, add-one}
+use Rattle.std.proofs.Common.{subst, ◌∙◌, zero, suc, arith}
 use Rattle.std.specs.List.{insert, remove, slice_get}
-use Rattle.std.proofs.lemmas.Bool.{cond-true, cond-false, eq-eqb, eqb-true, eqb-false}
+use Rattle.std.proofs.lemmas.Bool.{cond-true, cond-false, eq-eqb, eqb-true}
 use Rattle.std.proofs.lemmas.Bool.Decides.{eqb_tells}
 use Rattle.std.proofs.lemmas.List.{drop-map, drop_at, map-append, get_or-map, length-map, length-take-le, take-map}
-use Rattle.std.proofs.lemmas.List.{take_at, drop_more, nil_from_length}
-use Rattle.std.proofs.Common.{length-drop}
+use Rattle.std.proofs.lemmas.List.{take_at}
 use Rattle.html_forest.proofs.LawLists.{not_in_front}
 use Rattle.std.proofs.lemmas.Option.{slice_get-map}
 use Rattle.html_forest.specs.Changes.{left_out}

@@ -1,4 +1,4 @@
-use Rattle.std.proofs.Common.{◌≡◌, ◌-◌, arith, refl}
+use Rattle.std.proofs.Common.{◌-◌, arith}
 use Rattle.html_render_dom.specs.Numbers.{number_of}
 use Rattle.html_render_dom.proofs.ChildLemmas.{stands_at}
 use Rattle.html_render_dom.proofs.children.Children.index_of.Goals as goal

@@ -1,4 +1,4 @@
-use Rattle.std.proofs.Common.{◌≡◌, ◌≤◌, map, drop, length}
+use Rattle.std.proofs.Common.{◌≤◌, map, drop, length}
 use Rattle.html_forest.specs.Orders.{IsIn}
 use Rattle.html_render_dom.specs.Numbers.{number_of}
 use Rattle.html_render_dom.proofs.children.Children.index_of.Given as goal
