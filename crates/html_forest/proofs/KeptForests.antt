@@ -92,7 +92,7 @@ pub record IsMoved (f g : Forest) (p : ℕ) (S : ℕ → Type 0) : Type 0 where
 
 pub record IsFit (f g : Forest) (p : ℕ) (S : ℕ → Type 0) : Type 0 where
   pub held : (b : ℕ) → S b → Holds b f
-  pub is_child : (b : ℕ) → S b → ¬ (IsDocument b f)
+  pub no_document : (b : ℕ) → S b → ¬ (IsDocument b f)
   pub only : (a b : ℕ) → S b → IsParent g a b → a ≡ p
   pub apart : (b : ℕ) → S b → ¬ (AtOrAbove (IsParent f) b p)
 
@@ -106,11 +106,11 @@ moved f g p S forest change fit = grown f g p S forest (record {
   held = λ b s. grown_holds b f g (same_size f g change.size) (fit.held b s);
   only = fit.only;
   apart = fit.apart;
-  root = λ s. fit.is_child 0 s forest.page.1.0;
+  root = λ s. fit.no_document 0 s forest.page.1.0;
   first = change.kept 0 forest.page.1.0;
   once = change.once;
   childless = λ a b i is. either (λ old. forest.childless a b old (change.documents b is))
-      (λ new. fit.is_child b new.1 (change.documents b is)) (change.children a b i);
+      (λ new. fit.no_document b new.1 (change.documents b is)) (change.children a b i);
   contents = λ a b e. change.kept b (forest.contents a b (sym (change.contents a) ∙ e));
 })
 
@@ -118,7 +118,7 @@ moved f g p S forest change fit = grown f g p S forest (record {
 pub none_added : (f g : Forest) → IsFit f g 0 (λ _. ⊥)
 none_added f g = record {
   held = λ b s. absurd s;
-  is_child = λ b s. absurd s;
+  no_document = λ b s. absurd s;
   only = λ a b s. absurd s;
   apart = λ b s. absurd s;
 }
@@ -129,7 +129,7 @@ pub one_added : (f g : Forest) (p n : ℕ) → IsMoved f g p (λ b. b ≡ n) →
     ¬ (AtOrAbove (IsParent f) n p) → IsFit f g p (λ b. b ≡ n)
 one_added f g p n change held free plain apart = record {
   held = λ b s. subst (λ x. Holds x f) (sym s) held;
-  is_child = λ b s is. plain (subst (λ x. IsDocument x f) s is);
+  no_document = λ b s is. plain (subst (λ x. IsDocument x f) s is);
   only = λ a b s e. either (λ old. absurd (free a (subst (IsParent f a) s old))) (λ new. new.0)
       (edges_from f g p (λ x. x ≡ n) change.contents change.children a b e);
   apart = λ b s up. apart (subst (λ x. AtOrAbove (IsParent f) x p) s up);

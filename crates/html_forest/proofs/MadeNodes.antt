@@ -153,7 +153,7 @@ module _ (kind : Kind) (f : Forest) (forest : IsForest f)
     record {
       within = let size = size_both in omega arith;
       free = template_free;
-      is_child = template_is_child plain_kind;
+      no_document = template_is_child plain_kind;
       apart = template_apart (is_from place) (place_held f forest place there);
     },
   )
@@ -186,7 +186,7 @@ module _ (kind : Kind) (f : Forest) (forest : IsForest f) (plain : (element_of k
     record {
       within = let size = size_made kind f in omega arith;
       free = new_free;
-      is_child = λ is. plain_kind (sym (kind_new kind f) ∙ is);
+      no_document = λ is. plain_kind (sym (kind_new kind f) ∙ is);
       apart = new_apart (is_from place) (place_held f forest place there);
     },
   )

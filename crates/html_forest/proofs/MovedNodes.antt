@@ -35,7 +35,7 @@ pub below_kept : (p n : ℕ) (f : Forest) → IsForest f → CanMove (below p) n
 below_kept p n f forest can =
     let change = below_moved p n f forest can.free in
     moved f (changed p (behind n) f) p (λ b. b ≡ n) forest change
-    (one_added f (changed p (behind n) f) p n change can.within can.free can.is_child can.apart)
+    (one_added f (changed p (behind n) f) p n change can.within can.free can.no_document can.apart)
 
 -- before a node
 pub front_moved : (p s n : ℕ) (f : Forest) → IsForest f → IsIn s (children_at p f) → HasNoParent n f →
@@ -57,7 +57,7 @@ pub front_kept : (p s n : ℕ) (f : Forest) → IsForest f → IsIn s (children_
 front_kept p s n f forest stands can =
     let change = front_moved p s n f forest stands can.free in
     moved f (put_node (before s) n f) p (λ b. b ≡ n) forest change
-    (one_added f (put_node (before s) n f) p n change can.within can.free can.is_child
+    (one_added f (put_node (before s) n f) p n change can.within can.free can.no_document
     (λ up. can.apart (with_edge (IsParent f) n p s up (of_child p s stands))))
 
 pub put_node_kept : (place : Place) (n : ℕ) (f : Forest) → IsForest f → IsPlace place f → CanMove place n f →

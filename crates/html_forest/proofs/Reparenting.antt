@@ -73,7 +73,7 @@ reparented_kept old new f forest can = moved f (reparented old new f) new (λ b.
       once = distinct_after old new f forest can;
     }) (record {
       held = λ b s. forest.within old b (of_child old b s);
-      is_child = λ b s. forest.childless old b s;
+      no_document = λ b s. forest.childless old b s;
       only = only_parent old new f forest can;
       apart = λ b s up. can.apart (at_or_above_on (IsParent f) old b new (inr (child old b (of_child old b s))) up);
     })

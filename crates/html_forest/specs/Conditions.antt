@@ -18,7 +18,7 @@ IsPlace (before s) f = (p : ℕ) × IsIn s (children_at p f)
 pub record CanMove (place : Place) (n : ℕ) (f : Forest) : Type 0 where
   pub within : Holds n f
   pub free : HasNoParent n f
-  pub is_child : ¬ (IsDocument n f)
+  pub no_document : ¬ (IsDocument n f)
   pub apart : ¬ (AtOrAbove (IsParent f) n (is_from place))
 
 abbrev pub CanPut : Place → Child → Forest → Type 0
