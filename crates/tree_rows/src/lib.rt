@@ -1,0 +1,11 @@
+//! Trees that are built by every call of a tree sink. It has tests alone.
+#![tactic(auto)]
+
+#[cfg(test)]
+mod checks;
+#[cfg(test)]
+mod dump;
+#[cfg(test)]
+mod outline;
+#[cfg(test)]
+mod tests;
