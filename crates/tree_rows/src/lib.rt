@@ -8,4 +8,8 @@ mod dump;
 #[cfg(test)]
 mod outline;
 #[cfg(test)]
+mod elements;
+#[cfg(test)]
+mod moves;
+#[cfg(test)]
 mod tests;

@@ -1,7 +1,7 @@
 //! The outline of a page, built into any sink.
 ghost use Rattle.std.specs.Prelude.{◌≡◌, OnOk};
 ghost use Rattle.html_forest.specs.Forest.{page_alone};
-ghost use Rattle.tree_rows.specs.Pages.{outline_1};
+ghost use Rattle.tree_rows.specs.Pages.{outline, with_remarks};
 
 use html_lexemes::{Attributes, ParseFault, QualName, Text};
 use html_render_dom::html_forest::{ElementFlags, NodeOrText, TreeSink};
@@ -12,21 +12,45 @@ pub(crate) const PLAIN: ElementFlags = ElementFlags {
     mathml_annotation_xml_integration_point: false,
 };
 
-/// A doctype and an element with attributes below the document.
-pub(crate) fn begin<S: TreeSink>(
+/// What a doctype says.
+#[derive(Drop)]
+pub(crate) struct Declared {
+    pub(crate) name: Text,
+    pub(crate) public_id: Text,
+    pub(crate) system_id: Text,
+}
+
+/// A doctype and an element below the document, and two below the element.
+pub(crate) fn build_outline<S: TreeSink>(
     sink: &mut S,
-    doctype: Text,
-    public_id: Text,
-    system_id: Text,
-    name: QualName,
-    attrs: Attributes,
-) -> Result<S::Handle, ParseFault>
+    doctype: Declared,
+    names: (QualName, QualName, QualName),
+    attrs: (Attributes, Attributes, Attributes),
+) -> Result<(), ParseFault>
     requires { S.forest sink.old ≡ page_alone }
-    ensures { OnOk result (S.forest sink.new ≡ outline_1 doctype public_id system_id name attrs) }
+    ensures { OnOk result (S.forest sink.new ≡ outline doctype.name doctype.public_id doctype.system_id
+        (names.0, attrs.0) (names.1, attrs.1) (names.2, attrs.2)) }
 {
-    sink.append_doctype_to_document(doctype, public_id, system_id)?;
-    let html = sink.create_element(name, attrs, PLAIN)?;
     let document = sink.get_document();
+    sink.append_doctype_to_document(doctype.name, doctype.public_id, doctype.system_id)?;
+    let html = sink.create_element(names.0, attrs.0, PLAIN)?;
     sink.append(document, NodeOrText::AppendNode(html))?;
-    Ok(html)
+    let head = sink.create_element(names.1, attrs.1, PLAIN)?;
+    sink.append(html, NodeOrText::AppendNode(head))?;
+    let body = sink.create_element(names.2, attrs.2, PLAIN)?;
+    sink.append(html, NodeOrText::AppendNode(body))?;
+    Ok(())
+}
+
+/// A comment below the document, and an instruction before it.
+pub(crate) fn build_remarks<S: TreeSink>(sink: &mut S, text: Text, target: Text, said: Text) -> Result<(), ParseFault>
+    requires { S.forest sink.old ≡ page_alone }
+    ensures { OnOk result (S.forest sink.new ≡ with_remarks text target said) }
+{
+    let document = sink.get_document();
+    let comment = sink.create_comment(text)?;
+    sink.append(document, NodeOrText::AppendNode(comment))?;
+    let instruction = sink.create_pi(target, said)?;
+    sink.append_before_sibling(comment, NodeOrText::AppendNode(instruction))?;
+    Ok(())
 }

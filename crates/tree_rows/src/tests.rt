@@ -1,8 +1,11 @@
 use crate::checks::holds;
 use crate::dump::dump;
-use crate::outline::begin;
-use html_lexemes::{Attributes, LocalName, Namespace, ParseFault, QualName, Text};
+use crate::elements::{add_twice, ask, fill_template, tell_all};
+use crate::moves::{foster, move_siblings, wrap_children};
+use crate::outline::{Declared, build_outline, build_remarks};
+use html_lexemes::{Attribute, Attributes, ErrorMessage, LocalName, Namespace, ParseFault, QualName, Text};
 use html_render_dom::RcDom;
+use html_render_dom::html_forest::QuirksMode;
 use std::alloc::{AllocError, Global};
 use std::test::Fail;
 
@@ -10,18 +13,15 @@ fn html(alloc: Global, name: &str) -> Result<QualName, AllocError> {
     Ok(QualName::new(Namespace::Html, LocalName::from_str(alloc, name)?))
 }
 
-fn outline(alloc: Global) -> Result<String, ParseFault> {
+fn moved(alloc: Global) -> Result<String, ParseFault> {
     let mut dom = RcDom::new(alloc)?;
-    let doctype = Text::from_str(alloc, "html")?;
-    let public_id = Text::from_str(alloc, "")?;
-    let system_id = Text::from_str(alloc, "about:legacy-compat")?;
-    begin(&mut dom, doctype, public_id, system_id, html(alloc, "html")?, Attributes::new(alloc))?;
+    move_siblings(alloc, &mut dom, html(alloc, "a")?, html(alloc, "b")?, html(alloc, "c")?)?;
     Ok(dump(alloc, &dom)?)
 }
 
 #[test]
-fn an_outline_is_built(rt: HostRuntime) -> Result<(), Fail> {
-    let log = outline(rt.alloc())?;
-    holds(&rt, log.as_str() == "quirks NoQuirks\n doctype\thtml\t\tabout:legacy-compat\n element html\thtml", "outline");
+fn siblings_are_moved(rt: HostRuntime) -> Result<(), Fail> {
+    let log = moved(rt.alloc())?;
+    holds(&rt, log.as_str() == "quirks NoQuirks\n element html\ta\n element html\tc\n element html\tb", "siblings");
     Ok(())
 }
