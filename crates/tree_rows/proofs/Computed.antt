@@ -2,6 +2,8 @@
 use Rattle.std.proofs.Common.{◌≡◌, ℕ, zero, suc, ◌<◌, ◌⊎◌, inl, inr, refl, sym, ap, ◌∙◌, Bool, true, false, ◌==◌}
 use Rattle.std.proofs.Common.{List, Option, None, Some, arith, eqb-true, eq-eqb, if◌then◌else◌, ltb, ltb-true}
 use Rattle.std.proofs.lemmas.Bool.{cases_eq}
+use Rattle.std.specs.Prelude.{codes}
+use Rattle.std.specs.Str.{chars}
 use Rattle.html_forest.specs.Conditions.{CanMove, CanPut, CanReparent}
 use Rattle.html_forest.specs.Forest.{Forest, Holds, Kind, children_at, comment, contents_of, doctype, document, element}
 use Rattle.html_forest.specs.Forest.{instruction, is_in, kind_at, nodes, text}
@@ -181,3 +183,11 @@ reparents old new f e =
       holds = ltb-true new (nodes f) (first_so (ltb new (nodes f)) _ rest);
       apart = apart_so (nodes f) old new f (second_so (ltb new (nodes f)) _ rest);
     }
+
+pub x_codes : chars (codes "x") ≡ codes "x"
+unfolding chars
+x_codes = refl
+
+pub y_codes : chars (codes "y") ≡ codes "y"
+unfolding chars
+y_codes = refl

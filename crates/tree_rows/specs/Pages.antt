@@ -1,10 +1,10 @@
 -- Pages as they are built, step by step.
-use Rattle.std.specs.Prelude.{ℕ, List, [], false, true}
+use Rattle.std.specs.Prelude.{ℕ, List, [], codes, false, true}
 use Rattle.html_lexemes.specs.declared.names.Attribute.{Attribute}
 use Rattle.html_lexemes.specs.declared.names.QualName.{QualName}
 use Rattle.html_forest.specs.Changes.{detached, made, made_element, reparented, with_attributes}
 use Rattle.html_forest.specs.Forest.{Forest, comment, instruction, page_alone}
-use Rattle.html_forest.specs.Places.{before, below, put_node, with_doctype}
+use Rattle.html_forest.specs.Places.{before, below, put_node, put_words, with_doctype}
 
 -- an element without attributes, and one with a name and attributes
 abbrev pub plain : QualName → Forest → Forest
@@ -61,3 +61,19 @@ one_element name = put_node (below 0) 1 (plain name page_alone)
 -- an integration point, and another element
 abbrev pub point_page : (a b : QualName) → Forest
 point_page a b = plain b (made_element a [] false true page_alone)
+
+-- texts on both sides of an element, each put twice, and a text more once the element is gone
+abbrev pub said_one : QualName → Forest
+said_one name = put_words (below 0) (codes "x") (one_element name)
+
+abbrev pub said_two : QualName → Forest
+said_two name = put_words (below 0) (codes "y") (said_one name)
+
+abbrev pub said_three : QualName → Forest
+said_three name = put_words (before 1) (codes "x") (said_two name)
+
+abbrev pub said_four : QualName → Forest
+said_four name = put_words (before 1) (codes "y") (said_three name)
+
+abbrev pub said_page : QualName → Forest
+said_page name = put_words (below 0) (codes "x") (detached 1 (said_four name))

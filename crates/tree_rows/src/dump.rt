@@ -36,7 +36,11 @@ pub(crate) fn dump(alloc: Global, dom: &RcDom) -> Result<String, AllocError> {
 }
 
 // the last is pushed first, so that the first is popped first
-fn push_all(open: &mut Vec<(Handle, usize)>, nodes: &[Handle], depth: usize) -> Result<(), AllocError> {
+fn push_all(
+    open: &mut Vec<(Handle, usize)>,
+    nodes: &[Handle],
+    depth: usize,
+) -> Result<(), AllocError> {
     for i in 0..nodes.len() {
         open.push((nodes[nodes.len() - 1 - i], depth))?;
     }
@@ -46,7 +50,10 @@ fn push_all(open: &mut Vec<(Handle, usize)>, nodes: &[Handle], depth: usize) -> 
 // what holds a template's contents
 fn contents_of(data: &NodeData) -> Option<Handle> {
     match data {
-        NodeData::Element { template_contents, .. } => *template_contents,
+        NodeData::Element {
+            template_contents,
+            ..
+        } => *template_contents,
         _ => None,
     }
 }
@@ -54,7 +61,11 @@ fn contents_of(data: &NodeData) -> Option<Handle> {
 fn write_node(log: &mut String, data: &NodeData, depth: usize) -> Result<(), AllocError> {
     match data {
         NodeData::Document => begin_line(log, "document", depth),
-        NodeData::Doctype { name, public_id, system_id } => {
+        NodeData::Doctype {
+            name,
+            public_id,
+            system_id,
+        } => {
             begin_line(log, "doctype", depth)?;
             write_field(log, name.as_str())?;
             write_field(log, public_id.as_str())?;
@@ -82,7 +93,11 @@ fn write_node(log: &mut String, data: &NodeData, depth: usize) -> Result<(), All
     }
 }
 
-fn write_attributes(log: &mut String, attributes: &[Attribute], depth: usize) -> Result<(), AllocError> {
+fn write_attributes(
+    log: &mut String,
+    attributes: &[Attribute],
+    depth: usize,
+) -> Result<(), AllocError> {
     for attribute in attributes {
         begin_line(log, "attribute", depth)?;
         write_field(log, attribute.name.local.as_str())?;

@@ -6,10 +6,14 @@ mod checks;
 #[cfg(test)]
 mod dump;
 #[cfg(test)]
-mod outline;
-#[cfg(test)]
 mod elements;
+#[cfg(test)]
+mod finished;
 #[cfg(test)]
 mod moves;
 #[cfg(test)]
+mod outline;
+#[cfg(test)]
 mod tests;
+#[cfg(test)]
+mod texts;

@@ -43,7 +43,12 @@ pub(crate) fn build_outline<S: TreeSink>(
 }
 
 /// A comment below the document, and an instruction before it.
-pub(crate) fn build_remarks<S: TreeSink>(sink: &mut S, text: Text, target: Text, said: Text) -> Result<(), ParseFault>
+pub(crate) fn build_remarks<S: TreeSink>(
+    sink: &mut S,
+    text: Text,
+    target: Text,
+    said: Text,
+) -> Result<(), ParseFault>
     requires { S.forest sink.old ≡ page_alone }
     ensures { OnOk result (S.forest sink.new ≡ with_remarks text target said) }
 {

@@ -2,8 +2,10 @@
 use crate::checks::holds;
 use crate::dump::dump;
 use crate::elements::{add_twice, ask, fill_template, tell_all};
+use crate::finished::finished;
 use crate::moves::{foster, move_siblings, wrap_children};
 use crate::outline::{Declared, build_outline, build_remarks};
+use crate::texts::say_around;
 use html_lexemes::{
     Attribute, Attributes, ErrorMessage, LocalName, Namespace, ParseFault, QualName, Text,
 };
@@ -35,7 +37,11 @@ fn outlined(alloc: Global) -> Result<String, ParseFault> {
         public_id: Text::from_str(alloc, "")?,
         system_id: Text::from_str(alloc, "about:legacy-compat")?,
     };
-    let names = (html(alloc, "html")?, html(alloc, "head")?, html(alloc, "body")?);
+    let names = (
+        html(alloc, "html")?,
+        html(alloc, "head")?,
+        html(alloc, "body")?,
+    );
     let lang = attributes(alloc, &[("lang", "en"), ("id", "")])?;
     let attrs = (lang, Attributes::new(alloc), Attributes::new(alloc));
     build_outline(&mut dom, doctype, names, attrs)?;
@@ -54,7 +60,12 @@ fn an_outline_is_built(rt: HostRuntime) -> Result<(), Fail> {
 fn remarked(alloc: Global) -> Result<String, ParseFault> {
     let mut dom = RcDom::new(alloc)?;
     let target = Text::from_str(alloc, "go")?;
-    build_remarks(&mut dom, Text::from_str(alloc, "x")?, target, Text::from_str(alloc, "y z")?)?;
+    build_remarks(
+        &mut dom,
+        Text::from_str(alloc, "x")?,
+        target,
+        Text::from_str(alloc, "y z")?,
+    )?;
     Ok(dump(alloc, &dom)?)
 }
 
@@ -69,7 +80,13 @@ fn remarks_are_built(rt: HostRuntime) -> Result<(), Fail> {
 
 fn moved(alloc: Global) -> Result<String, ParseFault> {
     let mut dom = RcDom::new(alloc)?;
-    move_siblings(alloc, &mut dom, html(alloc, "a")?, html(alloc, "b")?, html(alloc, "c")?)?;
+    move_siblings(
+        alloc,
+        &mut dom,
+        html(alloc, "a")?,
+        html(alloc, "b")?,
+        html(alloc, "c")?,
+    )?;
     Ok(dump(alloc, &dom)?)
 }
 
@@ -84,7 +101,13 @@ fn siblings_are_moved(rt: HostRuntime) -> Result<(), Fail> {
 
 fn fostered(alloc: Global) -> Result<String, ParseFault> {
     let mut dom = RcDom::new(alloc)?;
-    foster(alloc, &mut dom, html(alloc, "table")?, html(alloc, "a")?, html(alloc, "b")?)?;
+    foster(
+        alloc,
+        &mut dom,
+        html(alloc, "table")?,
+        html(alloc, "a")?,
+        html(alloc, "b")?,
+    )?;
     Ok(dump(alloc, &dom)?)
 }
 
@@ -92,7 +115,11 @@ fn fostered(alloc: Global) -> Result<String, ParseFault> {
 #[test]
 fn elements_are_fostered(rt: HostRuntime) -> Result<(), Fail> {
     let log = fostered(rt.alloc())?;
-    holds(&rt, log.as_str() == "quirks NoQuirks\n element html\ta\n  element html\tb", "foster");
+    holds(
+        &rt,
+        log.as_str() == "quirks NoQuirks\n element html\ta\n  element html\tb",
+        "foster",
+    );
     Ok(())
 }
 
@@ -100,7 +127,14 @@ fn wrapped(alloc: Global) -> Result<String, ParseFault> {
     let mut dom = RcDom::new(alloc)?;
     let outer = html(alloc, "p")?;
     let first = html(alloc, "i")?;
-    wrap_children(alloc, &mut dom, outer, first, html(alloc, "u")?, html(alloc, "b")?)?;
+    wrap_children(
+        alloc,
+        &mut dom,
+        outer,
+        first,
+        html(alloc, "u")?,
+        html(alloc, "b")?,
+    )?;
     Ok(dump(alloc, &dom)?)
 }
 
@@ -108,7 +142,8 @@ fn wrapped(alloc: Global) -> Result<String, ParseFault> {
 #[test]
 fn children_go_to_another(rt: HostRuntime) -> Result<(), Fail> {
     let log = wrapped(rt.alloc())?;
-    let expected = "quirks NoQuirks\n element html\tp\n  element html\tb\n   element html\ti\n   element html\tu";
+    let expected =
+        "quirks NoQuirks\n element html\tp\n  element html\tb\n   element html\ti\n   element html\tu";
     holds(&rt, log.as_str() == expected, "children");
     Ok(())
 }
@@ -126,14 +161,21 @@ fn added(alloc: Global) -> Result<String, ParseFault> {
 #[test]
 fn missing_attributes_are_added(rt: HostRuntime) -> Result<(), Fail> {
     let log = added(rt.alloc())?;
-    let expected = "quirks NoQuirks\n element html\thtml\n  attribute\ta\t1\n  attribute\tb\t2\n  attribute\tc\t5";
+    let expected =
+        "quirks NoQuirks\n element html\thtml\n  attribute\ta\t1\n  attribute\tb\t2\n  attribute\tc\t5";
     holds(&rt, log.as_str() == expected, "attributes");
     Ok(())
 }
 
 fn filled(alloc: Global) -> Result<String, ParseFault> {
     let mut dom = RcDom::new(alloc)?;
-    fill_template(alloc, &mut dom, html(alloc, "template")?, html(alloc, "a")?, html(alloc, "b")?)?;
+    fill_template(
+        alloc,
+        &mut dom,
+        html(alloc, "template")?,
+        html(alloc, "a")?,
+        html(alloc, "b")?,
+    )?;
     Ok(dump(alloc, &dom)?)
 }
 
@@ -141,7 +183,8 @@ fn filled(alloc: Global) -> Result<String, ParseFault> {
 #[test]
 fn a_template_is_filled(rt: HostRuntime) -> Result<(), Fail> {
     let log = filled(rt.alloc())?;
-    let expected = "quirks NoQuirks\n element html\ttemplate\n  contents\n   element html\ta\n  element html\tb";
+    let expected =
+        "quirks NoQuirks\n element html\ttemplate\n  contents\n   element html\ta\n  element html\tb";
     holds(&rt, log.as_str() == expected, "a template");
     Ok(())
 }
@@ -149,8 +192,16 @@ fn a_template_is_filled(rt: HostRuntime) -> Result<(), Fail> {
 // whether a shadow root was attached, whether the one error is there, and the tree
 fn told(alloc: Global, mode: QuirksMode) -> Result<(bool, bool, String), ParseFault> {
     let mut dom = RcDom::new(alloc)?;
-    let is_attached = tell_all(alloc, &mut dom, html(alloc, "html")?, ErrorMessage::Fixed("e"), mode)?;
-    let is_told = dom.errors().len() == 1 && dom.errors()[0].as_str() == "e" && dom.quirks_mode() == mode;
+    let is_attached = tell_all(
+        alloc,
+        &mut dom,
+        html(alloc, "html")?,
+        ErrorMessage::Fixed("e"),
+        mode,
+    )?;
+    let is_told = dom.errors().len() == 1
+        && dom.errors()[0].as_str() == "e"
+        && dom.quirks_mode() == mode;
     Ok((is_attached, is_told, dump(alloc, &dom)?))
 }
 
@@ -158,16 +209,27 @@ fn told(alloc: Global, mode: QuirksMode) -> Result<(bool, bool, String), ParseFa
 fn what_is_told_changes_no_tree(rt: HostRuntime) -> Result<(), Fail> {
     let (is_attached, is_told, log) = told(rt.alloc(), QuirksMode::LimitedQuirks)?;
     holds(&rt, !is_attached && is_told, "what is told");
-    holds(&rt, log.as_str() == "quirks LimitedQuirks\n element html\thtml", "the tree");
+    holds(
+        &rt,
+        log.as_str() == "quirks LimitedQuirks\n element html\thtml",
+        "the tree",
+    );
     let (_, is_told, log) = told(rt.alloc(), QuirksMode::Quirks)?;
-    holds(&rt, is_told && log.as_str() == "quirks Quirks\n element html\thtml", "quirks");
+    holds(
+        &rt,
+        is_told && log.as_str() == "quirks Quirks\n element html\thtml",
+        "quirks",
+    );
     Ok(())
 }
 
 // whether two elements of other namespaces are told as they were made, and stand nowhere
 fn is_asked(alloc: Global) -> Result<bool, ParseFault> {
     let mut dom = RcDom::new(alloc)?;
-    let first = QualName::new(Namespace::MathMl, LocalName::from_str(alloc, "annotation-xml")?);
+    let first = QualName::new(
+        Namespace::MathMl,
+        LocalName::from_str(alloc, "annotation-xml")?,
+    );
     let copy = first.try_clone()?;
     let second = QualName::new(Namespace::Svg, LocalName::from_str(alloc, "g")?);
     let (is_point, is_other_point, is_same, is_other, name) = ask(alloc, &mut dom, first, second)?;
@@ -185,7 +247,13 @@ fn elements_are_asked_for(rt: HostRuntime) -> Result<(), Fail> {
 fn is_foreign(alloc: Global) -> Result<bool, ParseFault> {
     let page = RcDom::new(alloc)?;
     let mut larger = RcDom::new(alloc)?;
-    tell_all(alloc, &mut larger, html(alloc, "p")?, ErrorMessage::Fixed("e"), QuirksMode::Quirks)?;
+    tell_all(
+        alloc,
+        &mut larger,
+        html(alloc, "p")?,
+        ErrorMessage::Fixed("e"),
+        QuirksMode::Quirks,
+    )?;
     let is_own = matches!(page.data(page.document()), Some(NodeData::Document));
     let Some(foreign) = larger.children(larger.document()).first() else {
         return Ok(false);
@@ -197,5 +265,24 @@ fn is_foreign(alloc: Global) -> Result<bool, ParseFault> {
 #[test]
 fn a_foreign_handle_has_nothing(rt: HostRuntime) -> Result<(), Fail> {
     holds(&rt, is_foreign(rt.alloc())?, "a foreign handle");
+    Ok(())
+}
+
+fn said(alloc: Global) -> Result<String, ParseFault> {
+    let mut dom = RcDom::new(alloc)?;
+    say_around(alloc, &mut dom, html(alloc, "b")?)?;
+    let dom = finished(dom);
+    Ok(dump(alloc, &dom)?)
+}
+
+// a text joins the text right before it (WHATWG HTML, 13.2.6.1, "insert a character"); a removal joins none
+#[test]
+fn texts_are_joined(rt: HostRuntime) -> Result<(), Fail> {
+    let log = said(rt.alloc())?;
+    holds(
+        &rt,
+        log.as_str() == "quirks NoQuirks\n text\txy\n text\txyx",
+        "texts",
+    );
     Ok(())
 }
