@@ -1,13 +1,14 @@
 -- The conditions of the changes of a forest, computed on one that is written down.
-use Rattle.std.proofs.Common.{◌≡◌, ℕ, zero, suc, ◌<◌, ◌⊎◌, inl, inr, refl, sym, ap, ◌∙◌, Bool, true, false, ◌==◌}
-use Rattle.std.proofs.Common.{List, Option, None, Some, arith, eqb-true, eq-eqb, if◌then◌else◌, ltb, ltb-true}
+use Rattle.std.proofs.Common.{◌≡◌, ℕ, zero, suc, ◌<◌, ◌⊎◌, inl, inr, refl, ap, ◌∙◌, Bool, true, false, ◌==◌}
+use Rattle.std.proofs.Common.{List, Option, None, Some, arith, eq-eqb, if◌then◌else◌, ltb, ltb-true}
 use Rattle.std.proofs.lemmas.Bool.{cases_eq}
 use Rattle.std.specs.Prelude.{codes}
 use Rattle.std.specs.Str.{chars}
 use Rattle.html_forest.specs.Conditions.{CanMove, CanPut, CanReparent}
-use Rattle.html_forest.specs.Forest.{Forest, Holds, Kind, children_at, comment, contents_of, doctype, document, element}
+use Rattle.html_forest.specs.Forest.{Forest, Kind, children_at, comment, contents_of, doctype, document, element}
 use Rattle.html_forest.specs.Forest.{instruction, is_in, kind_at, nodes, text}
-use Rattle.html_forest.specs.Orders.{Above, AtOrAbove, HasNoParent, IsIn, IsParent, child, further, of_child, of_contents}
+use Rattle.html_forest.specs.Orders.{Above, AtOrAbove, HasNoParent, IsIn, IsParent, child, further}
+use Rattle.html_forest.specs.Orders.{of_child, of_contents}
 use Rattle.html_forest.specs.Places.{before, below, node, words}
 use Rattle.html_forest.proofs.LawLists.{decide_in, is_in_false, is_in_true}
 use Rattle.html_forest.proofs.Nodes.{holds_parent}
