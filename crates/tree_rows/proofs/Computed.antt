@@ -152,14 +152,14 @@ move_below p n f e =
     record {
       within = ltb-true n (nodes f) (first_so (ltb n (nodes f)) _ e);
       free = free_so n f (first_so (is_free n f) _ rest);
-      is_child = child_so (kind_at n f) (first_so (is_child_kind (kind_at n f)) _ last);
+      no_document = child_so (kind_at n f) (first_so (is_child_kind (kind_at n f)) _ last);
       apart = apart_so (nodes f) n p f (second_so (is_child_kind (kind_at n f)) _ last);
     }
 
 move_before : (s n : ℕ) (f : Forest) → may_move s n f ≡ true → CanMove (before s) n f
 move_before s n f e =
     let m = move_below s n f e in
-    record { within = m.within; free = m.free; is_child = m.is_child; apart = m.apart }
+    record { within = m.within; free = m.free; no_document = m.no_document; apart = m.apart }
 
 -- what may be put, and where children may go
 pub node_below : (p n : ℕ) (f : Forest) → ltb p (nodes f) ≡ true → may_move p n f ≡ true → CanPut (below p) (node n) f

@@ -9,6 +9,13 @@ append-requires g c =
 
 pub append_before_sibling-requires : goal.append_before_sibling-requires
 append_before_sibling-requires g c =
-    rw (c.in_ok-instruction.ensures.forest, c.in_ok-instruction.ensures.number, c.in_ok-append.ensures.forest,
-    c.in_ok-comment.ensures.forest, c.in_ok-comment.ensures.number, c.requires, c.get_document-document.ensures)
+    rw (
+      c.in_ok-instruction.ensures.forest,
+      c.in_ok-instruction.ensures.number,
+      c.in_ok-append.ensures.forest,
+      c.in_ok-comment.ensures.forest,
+      c.in_ok-comment.ensures.number,
+      c.requires,
+      c.get_document-document.ensures,
+    )
     (node_before 0 1 2 _ refl refl)
