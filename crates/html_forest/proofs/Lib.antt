@@ -1,3 +1,4 @@
+pub mod ElementLemmas
 pub mod KeptForests
 pub mod LawAlike
 pub mod LawAttributes
@@ -10,6 +11,7 @@ pub mod MovedNodes
 pub mod Nodes
 pub mod Numbers
 pub mod ParentChanges
+pub mod PathLemmas
 pub mod Relations
 pub mod Reparenting
 pub mod StandingLemmas

@@ -1,7 +1,7 @@
 -- What may be done to a forest, so that it stays one (WHATWG DOM, 4.2.3, "ensure pre-insert validity").
 use Rattle.std.specs.Prelude.{ℕ}
 use Rattle.html_forest.specs.Forest.{Forest, Holds, children_at}
-use Rattle.html_forest.specs.Orders.{AtOrAbove, HasNoParent, IsDocument, IsIn, IsParent}
+use Rattle.html_forest.specs.Orders.{Above, AtOrAbove, HasNoParent, IsDocument, IsIn, IsParent}
 use Rattle.html_forest.specs.Places.{Child, Place, below, before, node, words}
 
 -- the node that a place is named by
@@ -30,3 +30,8 @@ pub record CanReparent (old new : ℕ) (f : Forest) : Type 0 where
   pub given : Holds old f
   pub holds : Holds new f
   pub apart : ¬ (AtOrAbove (IsParent f) old new)
+
+-- a node at or above the one below which a place is
+abbrev pub IsAbovePlace : Place → ℕ → Forest → Type 0
+IsAbovePlace (below p) a f = AtOrAbove (IsParent f) a p
+IsAbovePlace (before s) a f = Above (IsParent f) a s

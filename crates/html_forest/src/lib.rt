@@ -3,6 +3,7 @@
 
 mod keeping;
 mod laws;
+mod paths;
 mod rows;
 mod sink;
 mod standing;
@@ -15,6 +16,7 @@ pub use laws::{
     a_node_stands_where_it_was_put, a_node_taken_out_stands_nowhere, alikeness_is_an_equivalence,
     attributes_are_added, texts_side_by_side_are_one, what_was_not_named_stays,
 };
+pub use paths::{elements_stay, what_stands_above_what};
 pub use sink::{ElementFlags, NodeOrText, QuirksMode, TreeSink};
 pub use standing::{
     how_many_nodes_there_are, what_a_parent_alone_is_changed_by, what_a_text_says,
