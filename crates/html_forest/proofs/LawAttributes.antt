@@ -30,13 +30,20 @@ pub added : (n : ℕ) (more : List Attribute) (f : Forest) → Holds n f → IsE
 added n more f h is = ap (λ x. (element_of x.kind).attributes) (changed_here (attributed more) n f h)
     ∙ kind_attributes more (kind_at n f) is
 
+pub name_stays : (n m : ℕ) (more : List Attribute) (f : Forest) → name_of m (with_attributes n more f) ≡ name_of m f
+name_stays n m more f = kept (λ x. (element_of x.kind).name) (attributed more) n m f (λ x. kind_name more x.kind)
+
+pub contents_stay_at : (n m : ℕ) (more : List Attribute) (f : Forest) →
+    contents_of m (with_attributes n more f) ≡ contents_of m f
+contents_stay_at n m more f =
+    kept (λ x. (element_of x.kind).contents) (attributed more) n m f (λ x. contents_with more x.kind)
+
 pub names_stay : (n : ℕ) (more : List Attribute) (f : Forest) → name_of n (with_attributes n more f) ≡ name_of n f
-names_stay n more f = kept (λ x. (element_of x.kind).name) (attributed more) n n f (λ x. kind_name more x.kind)
+names_stay n more f = name_stays n n more f
 
 pub contents_stay : (n : ℕ) (more : List Attribute) (f : Forest)
     → contents_of n (with_attributes n more f) ≡ contents_of n f
-contents_stay n more f =
-    kept (λ x. (element_of x.kind).contents) (attributed more) n n f (λ x. contents_with more x.kind)
+contents_stay n more f = contents_stay_at n n more f
 
 pub children_stay : (n q : ℕ) (more : List Attribute) (f : Forest)
     → children_at q (with_attributes n more f) ≡ children_at q f

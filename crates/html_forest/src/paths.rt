@@ -4,7 +4,7 @@ ghost use Rattle.html_lexemes.specs.declared.names.Attribute.{Attribute as SeenA
 ghost use Rattle.html_lexemes.specs.declared.names.QualName.{QualName as SeenQualName};
 ghost use Rattle.html_forest.specs.Changes.{detached, made, made_element, reparented, with_attributes};
 ghost use Rattle.html_forest.specs.Conditions.{CanPut, CanReparent, IsAbovePlace, IsPlace};
-ghost use Rattle.html_forest.specs.Forest.{Forest, Holds, IsElement, Kind, element_of, kind_at};
+ghost use Rattle.html_forest.specs.Forest.{Forest, Holds, IsElement, Kind, contents_of, element_of, kind_at, name_of};
 ghost use Rattle.html_forest.specs.Orders.{Above, AtOrAbove, IsForest, IsParent};
 ghost use Rattle.html_forest.specs.Places.{Place, node, put, put_node, words};
 
@@ -40,4 +40,8 @@ pub fn elements_stay()
         kind_at n (put place (words cs) f) ≡ kind_at n f }
     ensures attributes { (n m : ℕ) (more : List SeenAttribute) (f : Forest) → IsElement m f →
         IsElement m (with_attributes n more f) }
+    ensures attribute_names { (n m : ℕ) (more : List SeenAttribute) (f : Forest) →
+        name_of m (with_attributes n more f) ≡ name_of m f }
+    ensures attribute_contents { (n m : ℕ) (more : List SeenAttribute) (f : Forest) →
+        contents_of m (with_attributes n more f) ≡ contents_of m f }
 {}

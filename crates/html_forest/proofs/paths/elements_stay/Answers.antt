@@ -1,3 +1,4 @@
+use Rattle.html_forest.proofs.LawAttributes.{contents_stay_at, name_stays}
 use Rattle.html_forest.proofs.ElementLemmas.{element_attributes, element_held, element_words, kind_made_element}
 use Rattle.html_forest.proofs.Nodes.{kind_made}
 use Rattle.html_forest.proofs.paths.elements_stay.Goals as goal
@@ -16,3 +17,9 @@ returns-clause-words c = element_words
 
 pub returns-clause-attributes : goal.returns-clause-attributes
 returns-clause-attributes c = element_attributes
+
+pub returns-clause-attribute_names : goal.returns-clause-attribute_names
+returns-clause-attribute_names c = name_stays
+
+pub returns-clause-attribute_contents : goal.returns-clause-attribute_contents
+returns-clause-attribute_contents c = contents_stay_at
