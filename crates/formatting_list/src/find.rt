@@ -1,0 +1,131 @@
+//! Where entries stand, looked for from the end: what is asked for mostly stands there.
+ghost use Rattle.std.specs.Prelude.{◌≡◌, ℕ, ◌<◌, [], ◌∷◌, ◌++◌, IfSome, None, false, option_map, take, vec_len};
+ghost use Rattle.std.specs.List.{remove};
+ghost use Rattle.formatting_list.specs.Alike.{are_alike};
+ghost use Rattle.formatting_list.specs.Entries.{before_marker, entries_of, entry_of, is_listed, is_of, last_named};
+ghost use Rattle.formatting_list.specs.Found.{HasRoom, IsAtMarker, IsEarliest, StandsAt};
+ghost use Rattle.formatting_list.specs.declared.entry.FormatEntry.TheVariants.{Element};
+
+use crate::entry::FormatEntry;
+use html_forest::TreeSink;
+use html_lexemes::{LocalName, Tag};
+
+/// How many elements behind the last marker may be alike ("Noah's Ark clause").
+const MOST_ALIKE: usize = 3;
+
+/// Whether an entry is that of an element.
+fn is_entry_of<H: Copy, S: TreeSink<Handle = H>>(
+    entry: &FormatEntry<H>,
+    sink: &S,
+    target: H,
+) -> bool
+    ensures { result ≡ is_of (S.number target) (entry_of S.number entry.now) }
+{
+    match entry {
+        FormatEntry::Element(handle, _) => sink.same_node(*handle, target),
+        FormatEntry::Marker => false,
+    }
+}
+
+/// How many entries stand before the latest one of an element.
+pub(crate) fn position<H: Copy, S: TreeSink<Handle = H>>(
+    entries: &[FormatEntry<H>],
+    sink: &S,
+    target: H,
+) -> Option<usize>
+    ensures found { IfSome result (StandsAt S.number (S.number target) entries.now) }
+    ensures missing { result ≡ None → is_listed (S.number target) (entries_of S.number entries.now) ≡ false }
+{
+    let mut at = entries.len();
+    'back: while at > 0 {
+        at -= 1;
+        if is_entry_of(&entries[at], sink, target) {
+            return Some(at);
+        }
+    }
+    None
+}
+
+/// Takes an entry off.
+pub(crate) fn take_off<H: Copy>(entries: &mut Vec<FormatEntry<H>>, at: usize)
+    requires { at < vec_len entries.old }
+    ensures { entries.new.items ≡ remove entries.old.items at }
+{
+    entries.remove(at);
+}
+
+/// The last entry, where it is an element: its handle, its tag, and the entries before it.
+pub(crate) fn last_element<H: Copy>(
+    entries: &[FormatEntry<H>],
+) -> Option<(&H, &Tag, &[FormatEntry<H>])>
+    ensures some { IfSome result (λ last. entries.now ≡ last.2.now ++ Element last.0.now last.1.now ∷ []) }
+    ensures none { result ≡ None → IsAtMarker entries.now }
+{
+    match entries.split_last() {
+        Some((FormatEntry::Element(handle, tag), before)) => Some((handle, tag, before)),
+        Some((FormatEntry::Marker, _)) => None,
+        None => None,
+    }
+}
+
+/// The latest element behind the last marker whose tag has a name.
+pub(crate) fn last_of_name<'a, H: Copy>(
+    entries: &'a [FormatEntry<H>],
+    name: &LocalName,
+) -> Option<&'a H>
+    ensures { (number : H → ℕ) →
+        option_map (λ handle. number handle.now) result ≡ last_named name.now (entries_of number entries.now) }
+{
+    let mut rest = entries;
+    'back: while let Some((handle, tag, before)) = last_element(rest) {
+        if tag.name == *name {
+            return Some(handle);
+        }
+        rest = before;
+    }
+    None
+}
+
+/// How many entries stand before the last marker.
+pub(crate) fn count_before_marker<H: Copy>(entries: &[FormatEntry<H>]) -> usize
+    ensures { (number : H → ℕ) →
+        entries_of number (take result entries.now) ≡ before_marker (entries_of number entries.now) }
+{
+    let mut at = entries.len();
+    'back: while at > 0 {
+        at -= 1;
+        if let FormatEntry::Marker = &entries[at] {
+            return at;
+        }
+    }
+    0
+}
+
+/// Whether two tags are the same but for the order of their attributes.
+fn is_alike(held: &Tag, tag: &Tag) -> bool
+    ensures { result ≡ are_alike held.now tag.now }
+{
+    held.equiv_modulo_attr_order(tag)
+}
+
+/// Where three or more entries behind the last marker were made for such a tag: how many stand before the earliest.
+pub(crate) fn earliest_of_three<H: Copy>(entries: &[FormatEntry<H>], tag: &Tag) -> Option<usize>
+    ensures many { IfSome result (IsEarliest tag.now entries.now) }
+    ensures few { result ≡ None → HasRoom tag.now entries.now }
+{
+    let mut alike: usize = 0;
+    let mut earliest: usize = 0;
+    let mut rest = entries;
+    'back: while let Some((_, held, before)) = last_element(rest) {
+        if is_alike(held, tag) {
+            alike += 1;
+            earliest = before.len();
+        }
+        rest = before;
+    }
+    if alike >= MOST_ALIKE {
+        Some(earliest)
+    } else {
+        None
+    }
+}

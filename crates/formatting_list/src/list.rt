@@ -1,0 +1,162 @@
+ghost use Rattle.std.specs.Prelude.{◌≡◌, ℕ, [], ◌∷◌, OnErr, OnOk, length, option_map};
+ghost use Rattle.formatting_list.specs.Entries.{before_marker, entries_of, handed_over, is_listed, last_named};
+ghost use Rattle.formatting_list.specs.Entries.{marker, moved_behind, tag_in, without_entry};
+ghost use Rattle.formatting_list.specs.Pushing.{pushed};
+ghost use Rattle.formatting_list.specs.Steps.{all_of, left_of};
+
+use crate::entry::FormatEntry;
+use crate::find::{count_before_marker, earliest_of_three, last_of_name, position, take_off};
+use crate::iter::ActiveFormattingIter;
+use html_forest::TreeSink;
+use html_lexemes::{LocalName, Tag};
+use std::alloc::{AllocError, Global};
+use std::marker::Model;
+
+/// The list of active formatting elements (WHATWG HTML, 13.2.4.3). Contracts see its entries, the earliest first, and
+/// speak of them by the numbers of their elements, the latest first (`entries_of`).
+#[derive(Drop)]
+pub struct FormattingList<H> {
+    entries: Vec<FormatEntry<H>>,
+}
+
+impl<H> Model for FormattingList<H> {
+    ghost use Rattle.std.specs.Prelude.{List};
+    ghost use Rattle.formatting_list.specs.declared.entry.FormatEntry.{FormatEntry};
+
+    ghost Value = { List (FormatEntry H) };
+
+    ghost view = { λ list. list.entries.items };
+}
+
+impl<H: Copy> FormattingList<H> {
+    /// No entries. It takes no memory.
+    pub fn new(alloc: Global) -> FormattingList<H>
+        ensures { result ≡ [] }
+    {
+        FormattingList {
+            entries: Vec::new(alloc),
+        }
+    }
+
+    /// The entries, the earliest first, lent.
+    pub fn as_slice(&self) -> &[FormatEntry<H>]
+        ensures { result.now ≡ self.now }
+    {
+        self.entries.as_slice()
+    }
+
+    /// Puts a marker behind all entries ("insert a marker at the end").
+    pub fn push_marker(&mut self) -> Result<(), AllocError>
+        ensures ok { OnOk result ((number : H → ℕ) →
+            entries_of number self.new ≡ marker ∷ entries_of number self.old) }
+        ensures err { OnErr result (self.new ≡ self.old) }
+    {
+        self.entries.push(FormatEntry::Marker)?;
+        Ok(())
+    }
+
+    /// Puts an element behind all entries; of three behind the last marker that were made for such a tag the earliest
+    /// goes. It compares with the entries behind the last marker, and looks at the attributes of those of that name
+    /// alone.
+    pub fn push_element(&mut self, handle: H, tag: Tag) -> Result<(), AllocError>
+        ensures ok { OnOk result ((number : H → ℕ) →
+            entries_of number self.new ≡ pushed (number handle) tag (entries_of number self.old)) }
+        ensures err { OnErr result (self.new ≡ self.old) }
+    {
+        let earliest = earliest_of_three(self.entries.as_slice(), &tag);
+        self.entries.push(FormatEntry::Element(handle, tag))?;
+        if let Some(at) = earliest {
+            take_off(&mut self.entries, at);
+        }
+        Ok(())
+    }
+
+    /// Takes off the entries behind the last marker, and the marker ("clear the list up to the last marker").
+    pub fn clear_to_marker(&mut self)
+        ensures { (number : H → ℕ) → entries_of number self.new ≡ before_marker (entries_of number self.old) }
+    {
+        let kept = count_before_marker(self.entries.as_slice());
+        self.entries.truncate(kept);
+    }
+
+    /// The latest element behind the last marker whose tag has this name.
+    pub fn last_named(&self, name: &LocalName) -> Option<H>
+        ensures { (number : H → ℕ) → option_map number result ≡ last_named name.now (entries_of number self.now) }
+    {
+        last_of_name(self.entries.as_slice(), name).copied()
+    }
+
+    /// Whether an element is listed.
+    pub fn contains<S: TreeSink<Handle = H>>(&self, sink: &S, target: H) -> bool
+        ensures { result ≡ is_listed (S.number target) (entries_of S.number self.now) }
+    {
+        position(self.entries.as_slice(), sink, target).is_some()
+    }
+
+    /// The start tag that an element that is listed was made for.
+    pub fn tag_of<S: TreeSink<Handle = H>>(&self, sink: &S, target: H) -> Option<&Tag>
+        ensures { option_map (λ tag. tag.now) result ≡ tag_in (S.number target) (entries_of S.number self.now) }
+    {
+        let at = position(self.entries.as_slice(), sink, target)?;
+        match &self.entries[at] {
+            FormatEntry::Element(_, tag) => Some(tag),
+            FormatEntry::Marker => None,
+        }
+    }
+
+    /// Takes an element's entry off, where it is listed.
+    pub fn remove<S: TreeSink<Handle = H>>(&mut self, sink: &S, target: H)
+        ensures { entries_of S.number self.new ≡ without_entry (S.number target) (entries_of S.number self.old) }
+    {
+        if let Some(at) = position(self.entries.as_slice(), sink, target) {
+            take_off(&mut self.entries, at);
+        }
+    }
+
+    /// Gives an element's entry to another, with its tag.
+    pub fn hand_over<S: TreeSink<Handle = H>>(&mut self, sink: &S, target: H, to: H)
+        ensures { entries_of S.number self.new
+            ≡ handed_over (S.number target) (S.number to) (entries_of S.number self.old) }
+    {
+        if let Some(at) = position(self.entries.as_slice(), sink, target) {
+            if let FormatEntry::Element(handle, _) = &mut self.entries[at] {
+                *handle = to;
+            }
+        }
+    }
+
+    /// Puts an element's entry right behind that of another, and gives it to the element that has taken its place.
+    pub fn move_behind<S: TreeSink<Handle = H>>(
+        &mut self,
+        sink: &S,
+        target: H,
+        to: H,
+        after: H,
+    ) -> Result<(), AllocError>
+        ensures ok { OnOk result (entries_of S.number self.new
+            ≡ moved_behind (S.number target) (S.number to) (S.number after) (entries_of S.number self.old)) }
+        ensures err { OnErr result (self.new ≡ self.old) }
+    {
+        let Some(at) = position(self.entries.as_slice(), sink, target) else {
+            return Ok(());
+        };
+        let FormatEntry::Element(_, tag) = self.entries.remove(at) else {
+            unreachable!()
+        };
+        let place = match position(self.entries.as_slice(), sink, after) {
+            Some(before) => before + 1,
+            None => 0,
+        };
+        // this takes no memory: there is the room of the entry that was taken off
+        self.entries.insert(place, FormatEntry::Element(to, tag))?;
+        Ok(())
+    }
+
+    /// The entries behind the last marker, the latest first.
+    pub fn iter_to_marker(&self) -> ActiveFormattingIter<'_, H>
+        ensures entries { all_of result ≡ self.now }
+        ensures left { left_of result ≡ length self.now }
+    {
+        ActiveFormattingIter::new(self.entries.as_slice())
+    }
+}

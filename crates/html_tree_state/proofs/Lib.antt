@@ -1,0 +1,17 @@
+pub mod AdoptionLemmas
+pub mod CopyLemmas
+pub mod FosterLemmas
+pub mod GrownLemmas
+pub mod InsertedLemmas
+pub mod ListedAfter
+pub mod ListedLemmas
+pub mod NearerLemmas
+pub mod OpenLemmas
+pub mod PlaceLemmas
+pub mod PlacedLemmas
+pub mod PointLemmas
+pub mod ResetLemmas
+pub mod SeenLemmas
+pub mod SoundLemmas
+pub mod Stacks
+pub mod TakeOverLemmas

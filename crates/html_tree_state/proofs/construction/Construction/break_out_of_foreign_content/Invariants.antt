@@ -1,0 +1,15 @@
+use Rattle.std.proofs.Common.{◌≡◌, length}
+use Rattle.html_tree_state.specs.Building.{seen}
+use Rattle.html_tree_state.specs.Foreign.{broken_out}
+use Rattle.html_tree_state.specs.Sound.{Sound}
+use Rattle.html_tree_state.proofs.construction.Construction.break_out_of_foreign_content.Given as goal
+
+abbrev pub invariant-loop-current : goal.invariant-loop-current
+invariant-loop-current g l =
+    let tree = g.S.TreeSink in
+    let now = seen tree.number tree.forest tree.quirks l.self.held l.self.sink in
+    let first = seen tree.number tree.forest tree.quirks l.initial.self.held l.initial.self.sink in
+    record { sound : Sound now; same : broken_out now ≡ broken_out first }
+
+abbrev pub decreases-loop-current : goal.decreases-loop-current
+decreases-loop-current g l = length l.self.held.open_elements

@@ -1,0 +1,21 @@
+use Rattle.std.proofs.Common.{◌≡◌, length}
+use Rattle.html_tree_state.specs.Building.{seen, stack_of}
+use Rattle.html_tree_state.specs.OpenElements.{has_any, up_to}
+use Rattle.html_tree_state.specs.Scopes.{is_in_scope}
+use Rattle.html_tree_state.specs.Sets.{barriers_of, elements_of}
+use Rattle.html_tree_state.proofs.Stacks.{AreElements}
+use Rattle.html_tree_state.proofs.construction.Construction.in_scope.Given as goal
+
+abbrev pub invariant-loop-element : goal.invariant-loop-element
+invariant-loop-element g l =
+    let number = g.S.TreeSink.number in
+    let f = g.S.TreeSink.forest l.self.sink in
+    record {
+      elements : AreElements f (stack_of number l.open);
+      same : is_in_scope (barriers_of l.scope) (elements_of l.wanted)
+          (seen number g.S.TreeSink.forest g.S.TreeSink.quirks l.self.held l.self.sink)
+          ≡ has_any (elements_of l.wanted) f (up_to (barriers_of l.scope) f (stack_of number l.open));
+    }
+
+abbrev pub decreases-loop-element : goal.decreases-loop-element
+decreases-loop-element g l = length l.open

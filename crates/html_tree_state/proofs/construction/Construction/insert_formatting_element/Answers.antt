@@ -1,0 +1,22 @@
+use Rattle.std.proofs.Common.{sym, subst}
+use Rattle.html_forest.specs.Forest.{nodes}
+use Rattle.html_tree_state.specs.Formatting.{inserted_for}
+use Rattle.html_tree_state.specs.Building.{seen}
+use Rattle.html_tree_state.specs.Sound.{Sound}
+use Rattle.html_tree_state.proofs.ListedLemmas.{inserted_formatting_sound}
+use Rattle.html_tree_state.proofs.SeenLemmas.{seen_pushed}
+use Rattle.html_tree_state.proofs.construction.Construction.insert_formatting_element.Goals as goal
+
+pub returns-clause-seen : goal.returns-clause-seen
+returns-clause-seen g c =
+    let tree = g.S.TreeSink in
+    seen_pushed tree.number tree.forest tree.quirks c.push_formatting.new.self c.insert_element_for.new.self.held
+    c.insert_element_for.new.self.sink
+    (inserted_for c.args.tag (seen tree.number tree.forest tree.quirks c.args.self.now.held c.args.self.now.sink))
+    (tree.number c.in_ok-element.element) (nodes (tree.forest c.args.self.now.sink)) c.args.tag
+    c.push_formatting.ensures.open (c.in_ok-push_formatting.ensures.entries tree.number)
+    c.push_formatting.ensures.fostering c.in_ok-element.ensures.seen c.in_ok-element.ensures.number
+
+pub returns-clause-sound : goal.returns-clause-sound
+returns-clause-sound g c = subst Sound (sym (returns-clause-seen g c))
+    (inserted_formatting_sound c.laws_of_forests.ensures c.args.tag _ c.requires.sound c.requires.formatting)

@@ -1,0 +1,12 @@
+use Rattle.std.proofs.Common.{rules, sym, subst}
+use Rattle.html_tree_state.specs.Building.{Building, seen}
+use Rattle.html_tree_state.specs.Scopes.{popped}
+use Rattle.html_tree_state.specs.Sound.{Sound}
+use Rattle.html_tree_state.proofs.SoundLemmas.{popped_sound}
+use Rattle.html_tree_state.proofs.construction.Construction.pop.Goals as goal
+
+pub returns-clause-seen : goal.returns-clause-seen
+returns-clause-seen g c = search rules
+
+pub returns-clause-sound : goal.returns-clause-sound
+returns-clause-sound g c = subst Sound (sym (returns-clause-seen g c)) (popped_sound _ c.requires)

@@ -1,0 +1,34 @@
+-- What a tree is built from (WHATWG HTML, 13.2.4): the stack of open elements, the current node first, and the list of
+-- active formatting elements, the latest first, by the numbers of their nodes; whether foster parenting is on; the
+-- nodes, and the quirks mode.
+use Rattle.std.specs.Prelude.{ℕ, Bool, List, map, reverse}
+use Rattle.formatting_list.specs.Entries.{Entry, entries_of}
+use Rattle.formatting_list.specs.declared.entry.FormatEntry.{FormatEntry}
+use Rattle.html_forest.specs.Forest.{Forest}
+use Rattle.html_forest.specs.declared.sink.QuirksMode.{QuirksMode}
+
+pub record Building : Type 0 where
+  pub stack : List ℕ
+  pub formatting : List Entry
+  pub fostering : Bool
+  pub forest : Forest
+  pub quirks : QuirksMode
+
+-- what is held beside the nodes, in memory: open elements and entries, the earliest first
+pub record Parts (H : Type 0) : Type 0 where
+  pub open_elements : List H
+  pub entries : List (FormatEntry H)
+  pub is_fostering : Bool
+
+abbrev pub stack_of : {H : Type 0} → (H → ℕ) → List H → List ℕ
+stack_of number handles = reverse (map number handles)
+
+-- what is held and a sink, by what a sink means
+abbrev pub seen : {H S : Type 0} → (H → ℕ) → (S → Forest) → (S → QuirksMode) → Parts H → S → Building
+seen number forest quirks parts sink = record {
+  stack = stack_of number parts.open_elements;
+  formatting = entries_of number parts.entries;
+  fostering = parts.is_fostering;
+  forest = forest sink;
+  quirks = quirks sink;
+}

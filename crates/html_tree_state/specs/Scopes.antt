@@ -1,0 +1,44 @@
+-- Scopes, implied end tags, and what is popped (WHATWG HTML, 13.2.4.2 and 13.2.6.3).
+use Rattle.std.specs.Prelude.{ℕ, Bool, List, [], ◌∷◌, codes, if◌then◌else◌}
+use Rattle.html_forest.specs.Changes.{left_out}
+use Rattle.html_forest.specs.Forest.{Forest, name_of}
+use Rattle.html_lexemes.specs.ElementSets.{button_scope_barriers}
+use Rattle.html_lexemes.specs.Sets.{Elements}
+use Rattle.html_tree_state.specs.Building.{Building}
+use Rattle.html_tree_state.specs.OpenElements.{below_current, below_first, from_first, has_any, up_to}
+use Rattle.html_tree_state.specs.Sets.{is_implied, one}
+
+-- an element of a set is in scope: it stands before the first barrier, or is that barrier
+abbrev pub is_in_scope : (barriers wanted : Elements) → Building → Bool
+is_in_scope barriers wanted b = has_any wanted b.forest (up_to barriers b.forest b.stack)
+
+-- an element of a set is open
+abbrev pub is_open : Elements → Building → Bool
+is_open set b = has_any set b.forest b.stack
+
+-- the current nodes that are implied are popped, but for those of a set
+abbrev pub without_implied : Elements → Forest → List ℕ → List ℕ
+without_implied except f [] = []
+without_implied except f (n ∷ ns) = if is_implied except (name_of n f) then without_implied except f ns else n ∷ ns
+
+abbrev pub implied : Elements → Building → Building
+implied except b = record b { stack = without_implied except b.forest b.stack }
+
+-- the elements up to one of a set are popped, and it is too; or it stays
+abbrev pub popped_to : Elements → Building → Building
+popped_to set b = record b { stack = below_first set b.forest b.stack }
+
+abbrev pub popped_down_to : Elements → Building → Building
+popped_down_to set b = record b { stack = from_first set b.forest b.stack }
+
+abbrev pub popped : Building → Building
+popped b = record b { stack = below_current b.stack }
+
+-- an element is taken off the stack, wherever it stands
+abbrev pub taken_off : ℕ → Building → Building
+taken_off n b = record b { stack = left_out n b.stack }
+
+-- a p element that is in button scope is closed ("close a p element", 13.2.6.4.7)
+abbrev pub with_closed_p : Building → Building
+with_closed_p b = if is_in_scope button_scope_barriers (one (codes "p")) b
+    then popped_to (one (codes "p")) (implied (one (codes "p")) b) else b

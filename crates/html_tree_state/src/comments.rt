@@ -1,0 +1,100 @@
+//! Comments, doctypes, attributes and the quirks mode (WHATWG HTML, 13.2.6.1 and 13.2.6.4.1).
+ghost use Rattle.std.specs.Prelude.{◌≡◌, IfErr, OnOk};
+ghost use Rattle.html_forest.specs.Conditions.{IsPlace};
+ghost use Rattle.html_forest.specs.Forest.{IsElement};
+ghost use Rattle.html_forest.specs.Orders.{IsForest};
+ghost use Rattle.html_forest.specs.Places.{below};
+ghost use Rattle.html_lexemes.specs.declared.fault.ParseFault.TheVariants.{Memory};
+ghost use Rattle.html_tree_state.specs.Building.{seen};
+ghost use Rattle.html_tree_state.specs.Insertions.{commented_at, here, root_of, with_attributes_of};
+ghost use Rattle.html_tree_state.specs.Points.{place_of};
+ghost use Rattle.html_tree_state.specs.Sound.{Sound};
+
+use crate::construction::Construction;
+use crate::insertion::InsertionPoint;
+use crate::laws::laws_of_forests;
+use html_forest::{NodeOrText, QuirksMode, TreeSink};
+use html_lexemes::{Attributes, ParseFault, Text};
+
+impl<S: TreeSink> Construction<S> {
+    /// Inserts a comment at the appropriate place ("insert a comment").
+    pub fn append_comment(&mut self, text: Text) -> Result<(), ParseFault>
+        requires { Sound (seen S.number S.forest S.quirks self.old.held self.old.sink) }
+        ensures seen { OnOk result (seen S.number S.forest S.quirks self.new.held self.new.sink
+            ≡ commented_at (here (seen S.number S.forest S.quirks self.old.held self.old.sink)) text
+            (seen S.number S.forest S.quirks self.old.held self.old.sink)) }
+        ensures sound { OnOk result (Sound (seen S.number S.forest S.quirks self.new.held self.new.sink)) }
+        ensures forest { IsForest (S.forest self.new.sink) }
+        ensures memory { IfErr result (λ e. e ≡ Memory) }
+    {
+        let point = self.insertion_point();
+        self.append_comment_at(point, text)
+    }
+
+    /// Inserts a comment behind the children of the document.
+    pub fn append_comment_to_document(&mut self, text: Text) -> Result<(), ParseFault>
+        requires { Sound (seen S.number S.forest S.quirks self.old.held self.old.sink) }
+        ensures seen { OnOk result (seen S.number S.forest S.quirks self.new.held self.new.sink
+            ≡ commented_at (below 0) text (seen S.number S.forest S.quirks self.old.held self.old.sink)) }
+        ensures sound { OnOk result (Sound (seen S.number S.forest S.quirks self.new.held self.new.sink)) }
+        ensures forest { IsForest (S.forest self.new.sink) }
+        ensures memory { IfErr result (λ e. e ≡ Memory) }
+    {
+        let point = InsertionPoint::LastChild(self.sink.get_document());
+        self.append_comment_at(point, text)
+    }
+
+    // inserts a comment at a place
+    fn append_comment_at(
+        &mut self,
+        point: InsertionPoint<S::Handle>,
+        text: Text,
+    ) -> Result<(), ParseFault>
+        requires sound { Sound (seen S.number S.forest S.quirks self.old.held self.old.sink) }
+        requires place { IsPlace (place_of S.number (S.forest self.old.sink) point) (S.forest self.old.sink) }
+        ensures seen { OnOk result (seen S.number S.forest S.quirks self.new.held self.new.sink
+            ≡ commented_at (place_of S.number (S.forest self.old.sink) point) text
+            (seen S.number S.forest S.quirks self.old.held self.old.sink)) }
+        ensures sound { OnOk result (Sound (seen S.number S.forest S.quirks self.new.held self.new.sink)) }
+        ensures forest { IsForest (S.forest self.new.sink) }
+        ensures memory { IfErr result (λ e. e ≡ Memory) }
+    {
+        laws_of_forests();
+        let comment = self.sink.create_comment(text)?;
+        self.insert_at(point, NodeOrText::AppendNode(comment))?;
+        Ok(())
+    }
+
+    /// Adds the attributes that an element lacks.
+    pub fn add_attributes_if_missing(
+        &mut self,
+        target: S::Handle,
+        attrs: Attributes,
+    ) -> Result<(), ParseFault>
+        requires sound { Sound (seen S.number S.forest S.quirks self.old.held self.old.sink) }
+        requires element { IsElement (S.number target) (S.forest self.old.sink) }
+        ensures seen { OnOk result (seen S.number S.forest S.quirks self.new.held self.new.sink
+            ≡ with_attributes_of (S.number target) attrs
+            (seen S.number S.forest S.quirks self.old.held self.old.sink)) }
+        ensures sound { OnOk result (Sound (seen S.number S.forest S.quirks self.new.held self.new.sink)) }
+        ensures forest { IsForest (S.forest self.new.sink) }
+        ensures memory { IfErr result (λ e. e ≡ Memory) }
+    {
+        laws_of_forests();
+        self.sink.add_attrs_if_missing(target, attrs)?;
+        Ok(())
+    }
+
+    /// Sets the quirks mode.
+    pub fn set_quirks_mode(&mut self, mode: QuirksMode) -> Result<(), ParseFault>
+        requires { Sound (seen S.number S.forest S.quirks self.old.held self.old.sink) }
+        ensures seen { OnOk result (seen S.number S.forest S.quirks self.new.held self.new.sink
+            ≡ record (seen S.number S.forest S.quirks self.old.held self.old.sink) { quirks = mode }) }
+        ensures sound { OnOk result (Sound (seen S.number S.forest S.quirks self.new.held self.new.sink)) }
+        ensures forest { IsForest (S.forest self.new.sink) }
+        ensures memory { IfErr result (λ e. e ≡ Memory) }
+    {
+        self.sink.set_quirks_mode(mode)?;
+        Ok(())
+    }
+}

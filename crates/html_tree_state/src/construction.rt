@@ -1,0 +1,10 @@
+use crate::held::Held;
+use html_forest::TreeSink;
+
+/// A tree that is being built, in its sink.
+pub struct Construction<S: TreeSink> {
+    /// What is held beside the nodes.
+    pub held: Held<S::Handle>,
+    /// What the nodes are in.
+    pub sink: S,
+}

@@ -1,0 +1,103 @@
+//! Elements, comments and attributes that are inserted (WHATWG HTML, 13.2.6.1).
+ghost use Rattle.std.specs.Prelude.{◌≡◌, ℕ, IfErr, IfOk, OnOk, Some, true};
+ghost use Rattle.html_forest.specs.Conditions.{IsPlace};
+ghost use Rattle.html_forest.specs.Forest.{IsElement, contents_of, nodes};
+ghost use Rattle.html_forest.specs.Orders.{IsForest};
+ghost use Rattle.html_forest.specs.Places.{below};
+ghost use Rattle.html_lexemes.specs.declared.fault.ParseFault.TheVariants.{Memory};
+ghost use Rattle.html_tree_state.specs.Building.{seen};
+ghost use Rattle.html_tree_state.specs.Insertions.{commented_at, here, inserted_by, is_template, place_for, root_of};
+ghost use Rattle.html_tree_state.specs.Insertions.{with_attributes_of, with_element};
+ghost use Rattle.html_tree_state.specs.Points.{place_of};
+ghost use Rattle.html_tree_state.specs.Sound.{Sound};
+
+use crate::construction::Construction;
+use crate::insertion::InsertionPoint;
+use crate::laws::laws_of_forests;
+use html_forest::{NodeOrText, TreeSink};
+use html_lexemes::{Attributes, ParseFault, QualName, Text};
+use tree_words::element_flags;
+
+/// Whether an element that is inserted becomes the current node.
+#[derive(Clone, Copy)]
+pub enum PushFlag {
+    /// It does.
+    Push,
+    /// It doesn't: it is popped at once, as one without contents is.
+    NoPush,
+}
+
+impl<S: TreeSink> Construction<S> {
+    /// Inserts an element at the appropriate place ("insert a foreign element").
+    pub fn insert_element(
+        &mut self,
+        push: PushFlag,
+        name: QualName,
+        attrs: Attributes,
+    ) -> Result<S::Handle, ParseFault>
+        requires { Sound (seen S.number S.forest S.quirks self.old.held self.old.sink) }
+        ensures number { IfOk result (λ element. S.number element ≡ nodes (S.forest self.old.sink)) }
+        ensures seen { OnOk result (seen S.number S.forest S.quirks self.new.held self.new.sink
+            ≡ inserted_by push (here (seen S.number S.forest S.quirks self.old.held self.old.sink)) name attrs
+            (seen S.number S.forest S.quirks self.old.held self.old.sink)) }
+        ensures sound { OnOk result (Sound (seen S.number S.forest S.quirks self.new.held self.new.sink)) }
+        ensures forest { IsForest (S.forest self.new.sink) }
+        ensures memory { IfErr result (λ e. e ≡ Memory) }
+    {
+        let point = self.insertion_point();
+        self.insert_element_at(point, push, name, attrs)
+    }
+
+    // inserts an element at a place
+    fn insert_element_at(
+        &mut self,
+        point: InsertionPoint<S::Handle>,
+        push: PushFlag,
+        name: QualName,
+        attrs: Attributes,
+    ) -> Result<S::Handle, ParseFault>
+        requires sound { Sound (seen S.number S.forest S.quirks self.old.held self.old.sink) }
+        requires place { IsPlace (place_of S.number (S.forest self.old.sink) point) (S.forest self.old.sink) }
+        ensures number { IfOk result (λ element. S.number element ≡ nodes (S.forest self.old.sink)) }
+        ensures seen { OnOk result (seen S.number S.forest S.quirks self.new.held self.new.sink
+            ≡ inserted_by push (place_of S.number (S.forest self.old.sink) point) name attrs
+            (seen S.number S.forest S.quirks self.old.held self.old.sink)) }
+        ensures sound { OnOk result (Sound (seen S.number S.forest S.quirks self.new.held self.new.sink)) }
+        ensures forest { IsForest (S.forest self.new.sink) }
+        ensures memory { IfErr result (λ e. e ≡ Memory) }
+    {
+        laws_of_forests();
+        let element = self.put_element(point, name, attrs)?;
+        match push {
+            PushFlag::Push => {
+                self.held.push(element)?;
+                Ok(element)
+            }
+            PushFlag::NoPush => Ok(element),
+        }
+    }
+
+    // makes an element and puts it at a place
+    fn put_element(
+        &mut self,
+        point: InsertionPoint<S::Handle>,
+        name: QualName,
+        attrs: Attributes,
+    ) -> Result<S::Handle, ParseFault>
+        requires sound { Sound (seen S.number S.forest S.quirks self.old.held self.old.sink) }
+        requires place { IsPlace (place_of S.number (S.forest self.old.sink) point) (S.forest self.old.sink) }
+        ensures number { IfOk result (λ element. S.number element ≡ nodes (S.forest self.old.sink)) }
+        ensures seen { OnOk result (seen S.number S.forest S.quirks self.new.held self.new.sink
+            ≡ with_element (place_of S.number (S.forest self.old.sink) point) name attrs
+            (seen S.number S.forest S.quirks self.old.held self.old.sink)) }
+        ensures held { self.new.held ≡ self.old.held }
+        ensures forest { IsForest (S.forest self.new.sink) }
+        ensures memory { IfErr result (λ e. e ≡ Memory) }
+    {
+        laws_of_forests();
+        let flags = element_flags(&name, &attrs);
+        let element = self.sink.create_element(name, attrs, flags)?;
+        self.insert_at(point, NodeOrText::AppendNode(element))?;
+        Ok(element)
+    }
+}

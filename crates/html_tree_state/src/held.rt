@@ -1,0 +1,190 @@
+//! What is held beside the nodes.
+ghost use Rattle.std.specs.Prelude.{◌≡◌, ℕ, [], ◌∷◌, IfSome, None, OnErr, OnOk, false, option_map};
+ghost use Rattle.formatting_list.specs.Entries.{before_marker, entries_of, marker, without_entry};
+ghost use Rattle.formatting_list.specs.Pushing.{pushed};
+ghost use Rattle.html_forest.specs.Changes.{left_out};
+ghost use Rattle.html_forest.specs.Forest.{is_in};
+ghost use Rattle.html_forest.specs.Orders.{AreDistinct};
+ghost use Rattle.html_tree_state.specs.Building.{stack_of};
+ghost use Rattle.html_tree_state.specs.OpenAt.{IsOpenAt};
+ghost use Rattle.html_tree_state.specs.OpenElements.{below_current, first_of};
+
+use formatting_list::FormattingList;
+use html_forest::TreeSink;
+use html_lexemes::Tag;
+use std::alloc::{AllocError, Global};
+use std::marker::Model;
+
+/// What is held beside the nodes (WHATWG HTML, 13.2.4): the stack of open elements, the list of active formatting
+/// elements, and whether foster parenting is on.
+#[derive(Drop)]
+pub struct Held<H> {
+    open_elements: Vec<H>,
+    formatting: FormattingList<H>,
+    is_fostering: bool,
+}
+
+impl<H> Model for Held<H> {
+    ghost use Rattle.html_tree_state.specs.Building.{Parts};
+
+    ghost Value = { Parts H };
+
+    ghost view = { λ held. record {
+      open_elements = held.open_elements.items;
+      entries = held.formatting;
+      is_fostering = held.is_fostering;
+    } };
+}
+
+impl<H: Copy> Held<H> {
+    /// Nothing open, nothing listed, and foster parenting off. It takes no memory.
+    pub fn new(alloc: Global) -> Held<H>
+        ensures { result ≡ record { open_elements = []; entries = []; is_fostering = false } }
+    {
+        Held {
+            open_elements: Vec::new(alloc),
+            formatting: FormattingList::new(alloc),
+            is_fostering: false,
+        }
+    }
+
+    /// The open elements, the current node last, lent.
+    pub fn open_elements(&self) -> &[H]
+        ensures { result.now ≡ self.now.open_elements }
+    {
+        self.open_elements.as_slice()
+    }
+
+    /// Whether foster parenting is on (WHATWG HTML, 13.2.6.1).
+    pub fn is_fostering(&self) -> bool
+        ensures { result ≡ self.now.is_fostering }
+    {
+        self.is_fostering
+    }
+
+    /// Turns foster parenting on or off.
+    pub fn set_fostering(&mut self, is_fostering: bool)
+        ensures { self.new ≡ record self.old { is_fostering = is_fostering } }
+    {
+        self.is_fostering = is_fostering;
+    }
+
+    /// An element becomes the current node.
+    pub fn push(&mut self, element: H) -> Result<(), AllocError>
+        ensures open { OnOk result ((number : H → ℕ) → stack_of number self.new.open_elements
+            ≡ number element ∷ stack_of number self.old.open_elements) }
+        ensures entries { self.new.entries ≡ self.old.entries }
+        ensures fostering { self.new.is_fostering ≡ self.old.is_fostering }
+        ensures err { OnErr result (self.new ≡ self.old) }
+    {
+        self.open_elements.push(element)?;
+        Ok(())
+    }
+
+    /// The current node is no longer open, where an element is.
+    pub fn pop(&mut self)
+        ensures open { (number : H → ℕ) → stack_of number self.new.open_elements
+            ≡ below_current (stack_of number self.old.open_elements) }
+        ensures entries { self.new.entries ≡ self.old.entries }
+        ensures fostering { self.new.is_fostering ≡ self.old.is_fostering }
+    {
+        let _ = self.open_elements.pop();
+    }
+
+    /// The list of active formatting elements, lent.
+    pub fn formatting(&self) -> &FormattingList<H>
+        ensures { result.now ≡ self.now.entries }
+    {
+        &self.formatting
+    }
+
+    /// Puts a marker into the list.
+    pub fn push_marker(&mut self) -> Result<(), AllocError>
+        ensures open { self.new.open_elements ≡ self.old.open_elements }
+        ensures entries { OnOk result ((number : H → ℕ) →
+            entries_of number self.new.entries ≡ marker ∷ entries_of number self.old.entries) }
+        ensures fostering { self.new.is_fostering ≡ self.old.is_fostering }
+        ensures err { OnErr result (self.new ≡ self.old) }
+    {
+        self.formatting.push_marker()
+    }
+
+    /// Clears the list up to the last marker.
+    pub fn clear_to_marker(&mut self)
+        ensures open { self.new.open_elements ≡ self.old.open_elements }
+        ensures entries { (number : H → ℕ) →
+            entries_of number self.new.entries ≡ before_marker (entries_of number self.old.entries) }
+        ensures fostering { self.new.is_fostering ≡ self.old.is_fostering }
+    {
+        self.formatting.clear_to_marker();
+    }
+
+    /// Lists an element with the tag that it was made for.
+    pub fn push_formatting(&mut self, element: H, tag: Tag) -> Result<(), AllocError>
+        ensures open { self.new.open_elements ≡ self.old.open_elements }
+        ensures entries { OnOk result ((number : H → ℕ) →
+            entries_of number self.new.entries ≡ pushed (number element) tag (entries_of number self.old.entries)) }
+        ensures fostering { self.new.is_fostering ≡ self.old.is_fostering }
+        ensures err { OnErr result (self.new ≡ self.old) }
+    {
+        self.formatting.push_element(element, tag)
+    }
+
+    /// Takes an element's entry off the list.
+    pub fn unlist<S: TreeSink<Handle = H>>(&mut self, sink: &S, element: H)
+        ensures open { self.new.open_elements ≡ self.old.open_elements }
+        ensures entries { entries_of S.number self.new.entries
+            ≡ without_entry (S.number element) (entries_of S.number self.old.entries) }
+        ensures fostering { self.new.is_fostering ≡ self.old.is_fostering }
+    {
+        self.formatting.remove(sink, element);
+    }
+
+    /// Takes an element off the stack, wherever it stands.
+    pub fn take_off<S: TreeSink<Handle = H>>(&mut self, sink: &S, element: H)
+        requires { AreDistinct (stack_of S.number self.old.open_elements) }
+        ensures open { stack_of S.number self.new.open_elements
+            ≡ left_out (S.number element) (stack_of S.number self.old.open_elements) }
+        ensures entries { self.new.entries ≡ self.old.entries }
+        ensures fostering { self.new.is_fostering ≡ self.old.is_fostering }
+    {
+        leave_out(&mut self.open_elements, sink, element);
+    }
+}
+
+// takes an element off, where it is one of these
+fn leave_out<H: Copy, S: TreeSink<Handle = H>>(elements: &mut Vec<H>, sink: &S, element: H)
+    requires { AreDistinct (stack_of S.number elements.old.items) }
+    ensures { stack_of S.number elements.new.items
+        ≡ left_out (S.number element) (stack_of S.number elements.old.items) }
+{
+    if let Some(at) = position(elements.as_slice(), sink, element) {
+        elements.remove(at);
+    }
+}
+
+/// How many open elements stand before one, looked for from the current node.
+pub(crate) fn position<H: Copy, S: TreeSink<Handle = H>>(
+    elements: &[H],
+    sink: &S,
+    target: H,
+) -> Option<usize>
+    ensures found { IfSome result (IsOpenAt S.number (S.number target) elements.now) }
+    ensures missing { result ≡ None → is_in (S.number target) (stack_of S.number elements.now) ≡ false }
+{
+    let mut at = elements.len();
+    'back: while at > 0 {
+        at -= 1;
+        if sink.same_node(elements[at], target) {
+            return Some(at);
+        }
+    }
+    None
+}
+
+/// The last of some open elements.
+pub(crate) fn last_element<H: Copy>(elements: &[H]) -> Option<H>
+    ensures { (number : H → ℕ) → option_map number result ≡ first_of (stack_of number elements.now) }
+{
+    elements.last().copied()
+}

@@ -1,0 +1,28 @@
+//! The laws of forests that the words of this crate stand on, together.
+ghost use Rattle.html_tree_state.specs.Laws.{Laws};
+
+use formatting_list::at_most_three_are_alike;
+use html_forest::{
+    attributes_keep_a_forest, elements_stay, how_many_nodes_there_are, making_keeps_a_forest,
+    putting_keeps_a_forest, reparenting_keeps_a_forest, taking_out_keeps_a_forest,
+    what_stands_above_what, what_was_made_may_be_put, what_was_not_named_stays,
+    where_children_stand,
+};
+
+/// What is known of a forest and its changes.
+pub(crate) fn laws_of_forests()
+    ensures { Laws }
+{
+    putting_keeps_a_forest();
+    making_keeps_a_forest();
+    attributes_keep_a_forest();
+    what_was_made_may_be_put();
+    where_children_stand();
+    how_many_nodes_there_are();
+    taking_out_keeps_a_forest();
+    reparenting_keeps_a_forest();
+    at_most_three_are_alike();
+    what_stands_above_what();
+    elements_stay();
+    what_was_not_named_stays();
+}

@@ -1,0 +1,25 @@
+//! Open elements, scopes, insertion and the list of active formatting elements (WHATWG HTML, 13.2.4 and 13.2.6.1).
+#![tactic(auto)]
+
+mod adopting;
+mod comments;
+mod construction;
+mod elements;
+mod ends;
+mod foreign;
+mod formatting;
+mod held;
+mod insertion;
+mod laws;
+mod pops;
+mod resetting;
+mod rows;
+mod scopes;
+mod sets;
+
+pub use construction::Construction;
+pub use elements::PushFlag;
+pub use held::Held;
+pub use insertion::InsertionPoint;
+pub use resetting::html_elem;
+pub use sets::{ElementSet, Scope};

@@ -1,0 +1,97 @@
+//! What is popped off the stack of open elements (WHATWG HTML, 13.2.4.2 and 13.2.6.3).
+ghost use Rattle.std.specs.Prelude.{◌≡◌, IfErr, OnOk, option_map};
+ghost use Rattle.html_forest.specs.Orders.{IsForest};
+ghost use Rattle.html_lexemes.specs.declared.fault.ParseFault.TheVariants.{Memory};
+ghost use Rattle.html_tree_state.specs.Building.{seen};
+ghost use Rattle.html_tree_state.specs.OpenElements.{first_of};
+ghost use Rattle.html_tree_state.specs.Scopes.{implied, popped, popped_down_to, popped_to};
+ghost use Rattle.html_tree_state.specs.Sets.{elements_of};
+ghost use Rattle.html_tree_state.specs.Sound.{Sound};
+
+use crate::construction::Construction;
+use crate::sets::ElementSet;
+use html_forest::TreeSink;
+use html_lexemes::ParseFault;
+
+impl<S: TreeSink> Construction<S> {
+    /// The current node, where an element is open.
+    pub fn current_node(&self) -> Option<S::Handle>
+        ensures { option_map S.number result
+            ≡ first_of (seen S.number S.forest S.quirks self.now.held self.now.sink).stack }
+    {
+        self.held.open_elements().last().copied()
+    }
+
+    /// Pops the current node, where an element is open.
+    pub fn pop(&mut self) -> Result<(), ParseFault>
+        requires { Sound (seen S.number S.forest S.quirks self.old.held self.old.sink) }
+        ensures seen { OnOk result (seen S.number S.forest S.quirks self.new.held self.new.sink
+            ≡ popped (seen S.number S.forest S.quirks self.old.held self.old.sink)) }
+        ensures sound { OnOk result (Sound (seen S.number S.forest S.quirks self.new.held self.new.sink)) }
+        ensures forest { IsForest (S.forest self.new.sink) }
+        ensures memory { IfErr result (λ e. e ≡ Memory) }
+    {
+        let Some(element) = self.current_node() else {
+            return Ok(());
+        };
+        self.held.pop();
+        self.sink.pop(element)?;
+        Ok(())
+    }
+
+    /// Pops the current nodes whose end tags are implied, but for those of a set (WHATWG HTML, 13.2.6.3, "generate
+    /// implied end tags").
+    pub fn generate_implied_end_tags(&mut self, except: ElementSet<'_>) -> Result<(), ParseFault>
+        requires { Sound (seen S.number S.forest S.quirks self.old.held self.old.sink) }
+        ensures seen { OnOk result (seen S.number S.forest S.quirks self.new.held self.new.sink
+            ≡ implied (elements_of except.entry) (seen S.number S.forest S.quirks self.old.held self.old.sink)) }
+        ensures sound { OnOk result (Sound (seen S.number S.forest S.quirks self.new.held self.new.sink)) }
+        ensures forest { IsForest (S.forest self.new.sink) }
+        ensures memory { IfErr result (λ e. e ≡ Memory) }
+    {
+        while let Some(current) = self.current_node() {
+            if !except.lets_close(self.sink.elem_name(current)) {
+                return Ok(());
+            }
+            self.pop()?;
+        }
+        Ok(())
+    }
+
+    /// Pops the open elements up to the first one of a set, and that one.
+    pub fn pop_to(&mut self, set: ElementSet<'_>) -> Result<(), ParseFault>
+        requires { Sound (seen S.number S.forest S.quirks self.old.held self.old.sink) }
+        ensures seen { OnOk result (seen S.number S.forest S.quirks self.new.held self.new.sink
+            ≡ popped_to (elements_of set.entry) (seen S.number S.forest S.quirks self.old.held self.old.sink)) }
+        ensures sound { OnOk result (Sound (seen S.number S.forest S.quirks self.new.held self.new.sink)) }
+        ensures forest { IsForest (S.forest self.new.sink) }
+        ensures memory { IfErr result (λ e. e ≡ Memory) }
+    {
+        while let Some(current) = self.current_node() {
+            let is_last = set.contains(self.sink.elem_name(current));
+            self.pop()?;
+            if is_last {
+                return Ok(());
+            }
+        }
+        Ok(())
+    }
+
+    /// Pops the open elements up to the first one of a set, which stays.
+    pub fn pop_down_to(&mut self, set: ElementSet<'_>) -> Result<(), ParseFault>
+        requires { Sound (seen S.number S.forest S.quirks self.old.held self.old.sink) }
+        ensures seen { OnOk result (seen S.number S.forest S.quirks self.new.held self.new.sink
+            ≡ popped_down_to (elements_of set.entry) (seen S.number S.forest S.quirks self.old.held self.old.sink)) }
+        ensures sound { OnOk result (Sound (seen S.number S.forest S.quirks self.new.held self.new.sink)) }
+        ensures forest { IsForest (S.forest self.new.sink) }
+        ensures memory { IfErr result (λ e. e ≡ Memory) }
+    {
+        while let Some(current) = self.current_node() {
+            if set.contains(self.sink.elem_name(current)) {
+                return Ok(());
+            }
+            self.pop()?;
+        }
+        Ok(())
+    }
+}

@@ -1,0 +1,3 @@
+pub mod AttributeLemmas
+pub mod BeginningLemmas
+pub mod WordLemmas

@@ -1,0 +1,14 @@
+//! What names, tags and doctypes mean for tree construction (WHATWG HTML, 13.2.6): a part of html_tree_state.
+#![tactic(auto)]
+
+mod attributes;
+mod foreign;
+mod modes;
+mod quirks;
+mod rows;
+mod words;
+
+pub use attributes::{element_flags, is_hidden};
+pub use foreign::{breaks_out, stops_break_out, takes_start_as_html, takes_text_as_html};
+pub use modes::{InsertionMode, own_mode, root_mode};
+pub use quirks::quirks_mode_of;
