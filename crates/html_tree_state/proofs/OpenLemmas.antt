@@ -1,6 +1,6 @@
 -- Where an open element stands among the others, in memory and on the stack.
 use Rattle.std.proofs.Common.{◌≡◌, ℕ, zero, suc, ◌<◌, ◌≤◌, ◌==◌, Bool, true, false, ◌⊎◌, inl, inr, refl, sym, ap, subst, ◌∙◌}
-use Rattle.std.proofs.Common.{List, [], ◌∷◌, ◌++◌, length, drop, take, map, reverse, slice_index_or, arith, if◌then◌else◌}
+use Rattle.std.proofs.Common.{List, [], ◌∷◌, ◌++◌, length, drop, take, map, reverse, Some, option_map, slice_get, slice_index_or, arith, if◌then◌else◌}
 use Rattle.std.specs.List.{remove}
 use Rattle.std.proofs.lemmas.Bool.{eq-eqb, eqb-true}
 use Rattle.std.proofs.lemmas.Bool.Decides.{nat_tests}
@@ -9,7 +9,8 @@ use Rattle.html_forest.specs.Changes.{left_out}
 use Rattle.html_forest.specs.Forest.{is_in}
 use Rattle.html_forest.specs.Orders.{AreDistinct, IsIn}
 use Rattle.html_tree_state.specs.Building.{stack_of}
-use Rattle.html_tree_state.specs.OpenAt.{IsOpenAt}
+use Rattle.html_tree_state.specs.OpenAt.{IsFirstOpened, IsOpenAt}
+use Rattle.html_tree_state.specs.Insertions.{root_of}
 use Rattle.html_tree_state.specs.OpenElements.{farther, nearer}
 
 pub stack_of_both : {H : Type 0} (number : H → ℕ) (front rest : List H) →
@@ -140,3 +141,25 @@ taken_off_at number n xs k at distinct =
     ∙ ap (λ v. v ++ stack_of number (take k xs)) at.behind_it
     ∙ ap (λ v. nearer n (stack_of number xs) ++ v) at.before_it
     ∙ sym (left_out_is n (stack_of number xs) distinct)
+
+-- the element that was opened first
+root_behind : (ns : List ℕ) (n : ℕ) → root_of (ns ++ n ∷ []) ≡ n
+root_behind [] n = refl
+root_behind (m ∷ []) n = refl
+root_behind (m ∷ k ∷ ns) n = root_behind (k ∷ ns) n
+
+in_behind : (ns : List ℕ) (n : ℕ) → IsIn n (ns ++ n ∷ [])
+in_behind [] n = inl refl
+in_behind (m ∷ ns) n = inr (in_behind ns n)
+
+pub first_opened : {H : Type 0} (number : H → ℕ) (x : H) (xs : List H) →
+    IsFirstOpened (Some (number x)) (stack_of number (x ∷ xs))
+first_opened number x xs =
+    let e = stack_of_both number (x ∷ []) xs in
+    (ap root_of e ∙ root_behind (stack_of number xs) (number x),
+    subst (IsIn (number x)) (sym e) (in_behind (stack_of number xs) (number x)))
+
+pub first_get : {H : Type 0} (number : H → ℕ) (xs : List H) →
+    IsFirstOpened (option_map number (slice_get xs 0)) (stack_of number xs)
+first_get number [] = refl
+first_get number (x ∷ xs) = first_opened number x xs

@@ -11,6 +11,7 @@ ghost use Rattle.html_tree_state.specs.Points.{place_of};
 ghost use Rattle.html_tree_state.specs.Sound.{Sound};
 
 use crate::construction::Construction;
+use crate::held::first_element;
 use crate::insertion::InsertionPoint;
 use crate::laws::laws_of_forests;
 use html_forest::{NodeOrText, QuirksMode, TreeSink};
@@ -42,6 +43,34 @@ impl<S: TreeSink> Construction<S> {
     {
         let point = InsertionPoint::LastChild(self.sink.get_document());
         self.append_comment_at(point, text)
+    }
+
+    /// Inserts a comment behind the children of the root, or of the document where nothing is open.
+    pub fn append_comment_to_html(&mut self, text: Text) -> Result<(), ParseFault>
+        requires { Sound (seen S.number S.forest S.quirks self.old.held self.old.sink) }
+        ensures seen { OnOk result (seen S.number S.forest S.quirks self.new.held self.new.sink
+            ≡ commented_at (below (root_of (seen S.number S.forest S.quirks self.old.held self.old.sink).stack)) text
+            (seen S.number S.forest S.quirks self.old.held self.old.sink)) }
+        ensures sound { OnOk result (Sound (seen S.number S.forest S.quirks self.new.held self.new.sink)) }
+        ensures forest { IsForest (S.forest self.new.sink) }
+        ensures memory { IfErr result (λ e. e ≡ Memory) }
+    {
+        let point = self.root_point();
+        self.append_comment_at(point, text)
+    }
+
+    // behind the children of the root, or of the document
+    fn root_point(&self) -> InsertionPoint<S::Handle>
+        requires { Sound (seen S.number S.forest S.quirks self.now.held self.now.sink) }
+        ensures place { place_of S.number (S.forest self.now.sink) result
+            ≡ below (root_of (seen S.number S.forest S.quirks self.now.held self.now.sink).stack) }
+        ensures there { IsPlace (place_of S.number (S.forest self.now.sink) result) (S.forest self.now.sink) }
+    {
+        laws_of_forests();
+        match first_element(self.held.open_elements()) {
+            Some(root) => InsertionPoint::LastChild(root),
+            None => InsertionPoint::LastChild(self.sink.get_document()),
+        }
     }
 
     // inserts a comment at a place

@@ -6,7 +6,7 @@ ghost use Rattle.html_forest.specs.Changes.{left_out};
 ghost use Rattle.html_forest.specs.Forest.{is_in};
 ghost use Rattle.html_forest.specs.Orders.{AreDistinct};
 ghost use Rattle.html_tree_state.specs.Building.{stack_of};
-ghost use Rattle.html_tree_state.specs.OpenAt.{IsOpenAt};
+ghost use Rattle.html_tree_state.specs.OpenAt.{IsFirstOpened, IsOpenAt};
 ghost use Rattle.html_tree_state.specs.OpenElements.{below_current, first_of};
 
 use formatting_list::FormattingList;
@@ -187,4 +187,11 @@ pub(crate) fn last_element<H: Copy>(elements: &[H]) -> Option<H>
     ensures { (number : H → ℕ) → option_map number result ≡ first_of (stack_of number elements.now) }
 {
     elements.last().copied()
+}
+
+/// The first of some open elements.
+pub(crate) fn first_element<H: Copy>(elements: &[H]) -> Option<H>
+    ensures { (number : H → ℕ) → IsFirstOpened (option_map number result) (stack_of number elements.now) }
+{
+    elements.first().copied()
 }

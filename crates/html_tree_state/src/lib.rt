@@ -1,4 +1,5 @@
-//! Open elements, scopes, insertion and the list of active formatting elements (WHATWG HTML, 13.2.4 and 13.2.6.1).
+//! Open elements, scopes, insertion and the list of active formatting elements (WHATWG HTML, 13.2.4 and 13.2.6.1), over
+//! any sink of trees.
 #![tactic(auto)]
 
 mod adopting;
@@ -19,7 +20,10 @@ mod sets;
 
 pub use construction::Construction;
 pub use elements::PushFlag;
+pub use formatting_list::{ActiveFormattingIter, FormatEntry, FormattingList};
 pub use held::Held;
+pub use html_forest;
 pub use insertion::InsertionPoint;
 pub use resetting::html_elem;
 pub use sets::{ElementSet, Scope};
+pub use tree_words;
