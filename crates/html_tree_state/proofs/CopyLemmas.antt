@@ -67,42 +67,42 @@ copy_ordered n last tag b laws sound can x y a c h first second up =
     let last_in = nearer_in last n b.stack (last_nearer n last tag b can) in
     let path = laws.above_put (below m) last a c g apart.forest (apart.within, may) up in
     let to_copy : c ≡ m → ⊥ = λ e. either
-        (λ old. none_above m g apart.free a (subst (Above (IsParent g) a) e old))
-        (λ new. old_not_above tag last f g apart (held last last_in) (subst (AtOrAbove (IsParent g) last) e new.1))
-        path in
+    (λ old. none_above m g apart.free a (subst (Above (IsParent g) a) e old))
+    (λ new. old_not_above tag last f g apart (held last last_in) (subst (AtOrAbove (IsParent g) last) e new.1))
+    path in
     let from_last : a ≡ m → c ≡ y → IsNearer n y b.stack → AtOrAbove (IsParent g) last c → ⊥ = λ e k far at.
-        let on = nearer_on last n y b.stack sound.distinct (last_nearer n last tag b can) far in
-        either (λ is. not_twice last b.stack sound.distinct (subst (λ z. IsNearer last z b.stack) (sym (is ∙ k)) on))
-        (λ up. never_above f last y b.stack sound.ordered on
-            (apart.paths last y (held y (farther_in n y b.stack far)) (subst (Above (IsParent g) last) k up))) at in
+    let on = nearer_on last n y b.stack sound.distinct (last_nearer n last tag b can) far in
+    either (λ is. not_twice last b.stack sound.distinct (subst (λ z. IsNearer last z b.stack) (sym (is ∙ k)) on))
+    (λ up. never_above f last y b.stack sound.ordered on
+    (apart.paths last y (held y (farther_in n y b.stack far)) (subst (Above (IsParent g) last) k up))) at in
     let y_held : Holds y f = held y (farther_in x y b.stack h) in
     either (λ is. to_copy (second.new is))
     (λ off. let k : c ≡ y = second.old off in either
-        (λ is. either
-            (λ old. not_above_old laws tag y f g sound.forest apart y_held
-                (subst (λ z. Above (IsParent g) z y) (first.new is) (subst (Above (IsParent g) a) k old)))
-            (λ new. from_last (first.new is) k (subst (λ z. IsNearer z y b.stack) is h) new.1)
-            path)
-        (λ isnt. either
-            (λ old. never_above f x y b.stack sound.ordered h (apart.paths x y y_held
-                (subst (λ z. Above (IsParent g) z y) (first.old isnt) (subst (Above (IsParent g) a) k old))))
-            (λ new. old_not_above tag x f g apart (held x (nearer_in x y b.stack h))
-                (subst (λ z. AtOrAbove (IsParent g) z m) (first.old isnt) new.0))
-            path)
-        (is_or_isnt x n))
+    (λ is. either
+    (λ old. not_above_old laws tag y f g sound.forest apart y_held
+    (subst (λ z. Above (IsParent g) z y) (first.new is) (subst (Above (IsParent g) a) k old)))
+    (λ new. from_last (first.new is) k (subst (λ z. IsNearer z y b.stack) is h) new.1)
+    path)
+    (λ isnt. either
+    (λ old. never_above f x y b.stack sound.ordered h (apart.paths x y y_held
+    (subst (λ z. Above (IsParent g) z y) (first.old isnt) (subst (Above (IsParent g) a) k old))))
+    (λ new. old_not_above tag x f g apart (held x (nearer_in x y b.stack h))
+    (subst (λ z. AtOrAbove (IsParent g) z m) (first.old isnt) new.0))
+    path)
+    (is_or_isnt x n))
     (is_or_isnt y n)
 
 copy_distinct : (n : ℕ) (b : Building) → Laws → Sound b → (x y a : ℕ) → IsNearer x y b.stack →
     Was n (nodes b.forest) x a → Was n (nodes b.forest) y a → ⊥
 copy_distinct n b laws sound x y a h first second =
     let held : (k : ℕ) → IsIn k b.stack → k ≡ nodes b.forest → ⊥ = λ k i e.
-        not_itself k (subst (λ z. k < z) (sym e) (laws.element_there k b.forest (sound.elements k i))) in
+    not_itself k (subst (λ z. k < z) (sym e) (laws.element_there k b.forest (sound.elements k i))) in
     let twice : x ≡ y → ⊥ = λ e. not_twice x b.stack sound.distinct (subst (λ z. IsNearer x z b.stack) (sym e) h) in
     either
     (λ is. either (λ also. twice (is ∙ sym also))
-        (λ isnt. held y (farther_in x y b.stack h) (sym (second.old isnt) ∙ first.new is)) (is_or_isnt y n))
+    (λ isnt. held y (farther_in x y b.stack h) (sym (second.old isnt) ∙ first.new is)) (is_or_isnt y n))
     (λ off. either (λ also. held x (nearer_in x y b.stack h) (sym (first.old off) ∙ second.new also))
-        (λ isnt. twice (sym (first.old off) ∙ second.old isnt)) (is_or_isnt y n))
+    (λ isnt. twice (sym (first.old off) ∙ second.old isnt)) (is_or_isnt y n))
     (is_or_isnt x n)
 
 pub copied_sound : (n last : ℕ) (tag : Tag) (b : Building) → Laws → Sound b → CanCopy n last tag b →

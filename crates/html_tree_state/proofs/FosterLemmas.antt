@@ -78,17 +78,17 @@ at_step a n (Some m) f rest ns forest is first more at = cond_both (is_template 
     (if is_html (codes "table") (name_of n f) then based_on n m f else rest) leads
     (λ e. inside_leads)
     (λ e. cond_both (is_html (codes "table") (name_of n f)) (based_on n m f) rest leads
-        (λ k. either
-            (λ same. subst leads (sym same) (λ up. record { under = n; one = inl refl; over = up }))
-            (λ same. subst leads (sym same) (λ up. record { under = m; one = inr (first m refl); over = up }))
-            (based_by n m f (parent_of n f) refl))
-        (λ k up. let over = more up in record { under = over.under; one = inr over.one; over = over.over }))
+    (λ k. either
+    (λ same. subst leads (sym same) (λ up. record { under = n; one = inl refl; over = up }))
+    (λ same. subst leads (sym same) (λ up. record { under = m; one = inr (first m refl); over = up }))
+    (based_by n m f (parent_of n f) refl))
+    (λ k up. let over = more up in record { under = over.under; one = inr over.one; over = over.over }))
     at where
-  leads : Place → Type 0
-  leads place = AtOrAbove (IsParent f) a (is_from place) → IsOver a f (n ∷ ns)
+      leads : Place → Type 0
+      leads place = AtOrAbove (IsParent f) a (is_from place) → IsOver a f (n ∷ ns)
 
-  inside_leads : leads (inside n f)
-  inside_leads up = record { under = n; one = inl refl; over = from_inside a f forest is n up }
+      inside_leads : leads (inside n f)
+      inside_leads up = record { under = n; one = inl refl; over = from_inside a f forest is n up }
 
 pub from_foster : (a : ℕ) (f : Forest) (ns : List ℕ) → IsForest f → IsElement a f →
     AtOrAbove (IsParent f) a (is_from (foster_place f ns)) → IsOver a f ns
@@ -134,10 +134,10 @@ pub from_place : (a : ℕ) (us lows : List ℕ) (b : Building) → IsForest b.fo
 from_place a us [] b forest is whole plain at = absurd (cond_both (is_fostered 0 b) (foster_place b.forest b.stack)
     (inside 0 b.forest) (λ place. ¬ (AtOrAbove (IsParent b.forest) a (is_from place)))
     (λ e up. let no = page_stays b.fostering (name_of 0 b.forest) (kind_at 0 b.forest) refl forest.page.1.0 in
-        absurd (cc))
+    absurd (cc))
     (λ e up. no_page a b.forest forest is (from_inside a b.forest forest is 0 up)) at)
 from_place a us (q ∷ qs) b forest is whole plain at = cond_both (is_fostered q b) (foster_place b.forest b.stack)
     (inside q b.forest) (λ place. AtOrAbove (IsParent b.forest) a (is_from place) → IsOver a b.forest (q ∷ qs))
     (λ e up. from_foster a b.forest (q ∷ qs) forest is (subst (λ place. AtOrAbove (IsParent b.forest) a (is_from place))
-        (ap (foster_place b.forest) whole ∙ all_passed b.forest us q qs plain) up))
+    (ap (foster_place b.forest) whole ∙ all_passed b.forest us q qs plain) up))
     (λ e up. record { under = q; one = inl refl; over = from_inside a b.forest forest is q up }) at

@@ -93,7 +93,7 @@ pub record IsGrown (tag : Tag) (b c : Building) : Type 0 where
   pub distinct : (k : ℕ) → ¬ (IsNearer k k c.stack)
   pub ordered : (x y : ℕ) → IsNearer x y c.stack → ¬ (Above (IsParent c.forest) x y)
   pub listed : (k : ℕ) (held : Tag) → IsListed k held c.formatting →
-    IsListed k held b.formatting ⊎ ((k ≡ nodes b.forest) × (held ≡ tag))
+      IsListed k held b.formatting ⊎ ((k ≡ nodes b.forest) × (held ≡ tag))
   pub few : AreFew c.formatting
 
 -- what is asked of an open element
@@ -145,12 +145,12 @@ pub grown_sound : (laws : Laws) (tag : Tag) (b c : Building) → Sound b → is_
 grown_sound laws tag b c sound is grown =
     let m = nodes b.forest in
     let stays : (k : ℕ) → IsElement k b.forest → kind_at k c.forest ≡ kind_at k b.forest =
-        λ k element. grown.stays k (laws.element_there k b.forest element) in
+    λ k element. grown.stays k (laws.element_there k b.forest element) in
     let fit : (k : ℕ) → IsIn k c.stack → IsFit c.forest k = λ k i. either
-        (λ old. fit_stays k b.forest c.forest (stays k (sound.elements k old))
-            (sound.elements k old, sound.templates k old))
-        (λ new. subst (IsFit c.forest) (sym new) (fit_new tag m b.forest c.forest grown.kind))
-        (grown.within k i) in
+    (λ old. fit_stays k b.forest c.forest (stays k (sound.elements k old))
+    (sound.elements k old, sound.templates k old))
+    (λ new. subst (IsFit c.forest) (sym new) (fit_new tag m b.forest c.forest grown.kind))
+    (grown.within k i) in
     record {
       forest = grown.forest;
       elements = λ k i. (fit k i).0;
@@ -159,10 +159,10 @@ grown_sound laws tag b c sound is grown =
       templates = λ k i. (fit k i).1;
       listed = λ k held l. either
           (λ old. let was = sound.listed k held old in
-              formatting_stays k held b.forest c.forest (stays k was.element) was)
+          formatting_stays k held b.forest c.forest (stays k was.element) was)
           (λ new. subst (λ x. IsFormatting x held c.forest) (sym new.0)
-              (subst (λ t. IsFormatting m t c.forest) (sym new.1)
-              (formatting_new tag m b.forest c.forest is grown.kind)))
+          (subst (λ t. IsFormatting m t c.forest) (sym new.1)
+          (formatting_new tag m b.forest c.forest is grown.kind)))
           (grown.listed k held l);
       few = grown.few;
     }

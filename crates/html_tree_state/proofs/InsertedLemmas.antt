@@ -1,17 +1,17 @@
 -- What is inserted keeps a tree that is being built sound.
-use Rattle.std.proofs.Common.{◌≡◌, ℕ, zero, suc, ◌<◌, Bool, true, false, ◌⊎◌, inl, inr, refl, sym, ap, subst, ◌∙◌, List}
-use Rattle.std.proofs.Common.{[], ◌∷◌, ◌+◌, None, Some, arith, codes}
+use Rattle.std.proofs.Common.{◌≡◌, ℕ, ◌<◌, Bool, true, false, inl, inr, refl, sym, ap, subst, ◌∙◌, List}
+use Rattle.std.proofs.Common.{◌+◌, None, Some, arith, codes}
 use Rattle.html_forest.specs.Changes.{contents_number, made, made_element, with_attributes}
 use Rattle.html_forest.specs.Conditions.{CanPut, IsPlace}
-use Rattle.html_forest.specs.Forest.{Forest, Holds, IsElement, IsElementKind, Kind, comment, contents_of, document}
-use Rattle.html_forest.specs.Forest.{element, element_of, kind_at, name_of, nodes}
+use Rattle.html_forest.specs.Forest.{Forest, Holds, IsElement, IsElementKind, Kind, comment, document}
+use Rattle.html_forest.specs.Forest.{element, element_of, kind_at, nodes}
 use Rattle.html_forest.specs.Orders.{Above, AtOrAbove, IsForest, IsIn, IsParent}
 use Rattle.html_forest.specs.Places.{Place, node, put, put_node, words}
 use Rattle.html_lexemes.specs.Sets.{is_html}
 use Rattle.html_lexemes.specs.declared.names.Attribute.{Attribute}
 use Rattle.html_lexemes.specs.declared.names.QualName.{QualName}
 use Rattle.html_tree_state.specs.Building.{Building}
-use Rattle.html_tree_state.specs.Insertions.{commented_at, here, inserted_at, inserted_by, is_template, said}
+use Rattle.html_tree_state.specs.Insertions.{commented_at, here, inserted_at, inserted_by, said}
 use Rattle.html_tree_state.specs.Insertions.{with_attributes_of, with_element}
 use Rattle.html_tree_state.specs.Laws.{Laws}
 use Rattle.html_tree_state.specs.Points.{place_of}

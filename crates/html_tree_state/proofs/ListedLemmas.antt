@@ -1,11 +1,11 @@
 -- What is done to the list of active formatting elements keeps a tree that is being built sound.
-use Rattle.std.proofs.Common.{◌≡◌, ℕ, ◌==◌, Bool, true, false, ◌&&◌, ◌⊎◌, inl, inr, refl, sym, ap, subst, ◌∙◌, List, [], ◌∷◌}
+use Rattle.std.proofs.Common.{◌≡◌, ℕ, ◌==◌, Bool, true, false, ◌&&◌, inl, inr, sym, ap, subst, ◌∙◌, List, [], ◌∷◌}
 use Rattle.std.proofs.Common.{if◌then◌else◌, codes}
 use Rattle.std.specs.Bool.{nat_lt}
 use Rattle.formatting_list.specs.Alike.{count_alike, is_alike}
 use Rattle.formatting_list.specs.Entries.{Entry, before_marker, formatted, marker, up_to_marker}
 use Rattle.formatting_list.specs.Pushing.{pushed, without_earliest}
-use Rattle.html_forest.specs.Forest.{Forest, IsElement, IsElementKind, element_of, kind_at, name_of, nodes}
+use Rattle.html_forest.specs.Forest.{IsElementKind, element_of, nodes}
 use Rattle.html_forest.specs.Places.{Place}
 use Rattle.html_lexemes.specs.Sets.{is_html, is_one_of}
 use Rattle.html_lexemes.specs.TagSets.{formatting}

@@ -1,8 +1,8 @@
 -- Where an open element stands among the others, in memory and on the stack.
-use Rattle.std.proofs.Common.{◌≡◌, ℕ, zero, suc, ◌<◌, ◌≤◌, ◌==◌, Bool, true, false, ◌⊎◌, inl, inr, refl, sym, ap, subst, ◌∙◌}
+use Rattle.std.proofs.Common.{◌≡◌, ℕ, zero, suc, ◌<◌, ◌==◌, Bool, true, false, inl, inr, refl, sym, ap, subst, ◌∙◌}
 use Rattle.std.proofs.Common.{List, [], ◌∷◌, ◌++◌, length, drop, take, map, reverse, Some, option_map, slice_get, slice_index_or, arith, if◌then◌else◌}
 use Rattle.std.specs.List.{remove}
-use Rattle.std.proofs.lemmas.Bool.{eq-eqb, eqb-true}
+use Rattle.std.proofs.lemmas.Bool.{eqb-true}
 use Rattle.std.proofs.lemmas.Bool.Decides.{nat_tests}
 use Rattle.std.proofs.lemmas.List.{append_assoc, map-append, reverse-append}
 use Rattle.html_forest.specs.Changes.{left_out}
@@ -155,9 +155,10 @@ in_behind (m ∷ ns) n = inr (in_behind ns n)
 pub first_opened : {H : Type 0} (number : H → ℕ) (x : H) (xs : List H) →
     IsFirstOpened (Some (number x)) (stack_of number (x ∷ xs))
 first_opened number x xs =
-    let e = stack_of_both number (x ∷ []) xs in
-    (ap root_of e ∙ root_behind (stack_of number xs) (number x),
-    subst (IsIn (number x)) (sym e) (in_behind (stack_of number xs) (number x)))
+    let e = stack_of_both number (x ∷ []) xs in (
+      ap root_of e ∙ root_behind (stack_of number xs) (number x),
+      subst (IsIn (number x)) (sym e) (in_behind (stack_of number xs) (number x)),
+    )
 
 pub first_get : {H : Type 0} (number : H → ℕ) (xs : List H) →
     IsFirstOpened (option_map number (slice_get xs 0)) (stack_of number xs)

@@ -1,9 +1,9 @@
 -- Where a node is inserted there is a place for it.
-use Rattle.std.proofs.Common.{◌≡◌, ℕ, Bool, true, false, ◌⊎◌, inl, inr, refl, sym, ap, subst, ◌∙◌, List, [], ◌∷◌}
-use Rattle.std.proofs.Common.{Option, None, Some, codes, ◌&&◌, if◌then◌else◌}
+use Rattle.std.proofs.Common.{◌≡◌, ℕ, Bool, true, false, inl, inr, refl, sym, subst, List, [], ◌∷◌}
+use Rattle.std.proofs.Common.{Option, None, Some, codes, if◌then◌else◌}
 use Rattle.html_forest.specs.Conditions.{IsPlace}
-use Rattle.html_forest.specs.Forest.{Forest, Holds, IsElement, contents_of, name_of, parent_of}
-use Rattle.html_forest.specs.Orders.{IsForest, IsIn, IsParent, of_contents}
+use Rattle.html_forest.specs.Forest.{Forest, Holds, contents_of, name_of, parent_of}
+use Rattle.html_forest.specs.Orders.{IsForest, IsIn, of_contents}
 use Rattle.html_forest.specs.Places.{Place, based_on, before, below}
 use Rattle.html_lexemes.specs.Sets.{is_html}
 use Rattle.html_tree_state.specs.Building.{Building}

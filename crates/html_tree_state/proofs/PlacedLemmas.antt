@@ -50,13 +50,13 @@ module _ (last : ℕ) (uppers lows : List ℕ) (b : Building) (laws : Laws) (sou
   farther_by a i over =
       let q : ℕ = over.under in
       let far : IsNearer last q b.stack = subst (IsNearer last q) (sym can.whole)
-          (nearer_across last q uppers lows can.below_it over.one) in
+      (nearer_across last q uppers lows can.below_it over.one) in
       either (λ e. subst (λ x. IsNearer last x b.stack) (sym e) far)
       (either
-          (λ near. absurd (either (λ e. not_twice q b.stack sound.distinct (subst (λ x. IsNearer x q b.stack) e near))
-              (λ up. never_above b.forest a q b.stack sound.ordered near (laws.above_out last a q b.forest up))
-              over.over))
-          (λ on. nearer_on last q a b.stack sound.distinct far on))
+      (λ near. absurd (either (λ e. not_twice q b.stack sound.distinct (subst (λ x. IsNearer x q b.stack) e near))
+      (λ up. never_above b.forest a q b.stack sound.ordered near (laws.above_out last a q b.forest up))
+      over.over))
+      (λ on. nearer_on last q a b.stack sound.distinct far on))
       (compared a q b.stack i (low_open q over.one))
 
   farther_than_last : (a : ℕ) → IsIn a b.stack →
@@ -66,7 +66,7 @@ module _ (last : ℕ) (uppers lows : List ℕ) (b : Building) (laws : Laws) (sou
       (laws.out_keeps last b.forest sound.forest)
       (subst IsElementKind (sym (laws.out_stays last a b.forest)) (sound.elements a i)) can.whole
       (λ n j. ap (λ kind. is_html (codes "template") (element_of kind).name
-              || is_html (codes "table") (element_of kind).name) (laws.out_stays last n b.forest) ∙ can.plain n j) at)
+      || is_html (codes "table") (element_of kind).name) (laws.out_stays last n b.forest) ∙ can.plain n j) at)
 
   pub can_move_to_place : CanMove (place_for (current_of lows) (out_of_place last b)) last (detached last b.forest)
   can_move_to_place =
@@ -85,10 +85,10 @@ module _ (last : ℕ) (uppers lows : List ℕ) (b : Building) (laws : Laws) (sou
       either
       (λ old. never_above b.forest x y b.stack sound.ordered h (laws.above_out last x y b.forest old))
       (λ new.
-          let far : IsNearer last y b.stack = nearer_on last x y b.stack sound.distinct
-              (farther_than_last x (nearer_in x y b.stack h) (at_from place x g new.0)) h in
-          either (λ e. not_twice y b.stack sound.distinct (subst (λ z. IsNearer z y b.stack) e far))
-          (λ on. never_above b.forest last y b.stack sound.ordered far (laws.above_out last last y b.forest on)) new.1)
+      let far : IsNearer last y b.stack = nearer_on last x y b.stack sound.distinct
+      (farther_than_last x (nearer_in x y b.stack h) (at_from place x g new.0)) h in
+      either (λ e. not_twice y b.stack sound.distinct (subst (λ z. IsNearer z y b.stack) e far))
+      (λ on. never_above b.forest last y b.stack sound.ordered far (laws.above_out last last y b.forest on)) new.1)
       (laws.above_put place last x y g (laws.out_keeps last b.forest sound.forest) (is_place, can_move_to_place) up)
 
   pub placed_sound : Sound (placed last (current_of lows) b)

@@ -1,8 +1,8 @@
 -- A place stays where it is when a node is made.
-use Rattle.std.proofs.Common.{◌≡◌, ℕ, suc, Bool, true, false, refl, ap, ◌∙◌, List, [], ◌∷◌, ◌++◌, Option, None, Some}
+use Rattle.std.proofs.Common.{◌≡◌, ℕ, suc, Bool, true, false, refl, ap, ◌∙◌, List, [], ◌∷◌, Option, None, Some}
 use Rattle.std.proofs.Common.{if◌then◌else◌}
-use Rattle.html_forest.specs.Changes.{contents_number, made, made_element, with_contents}
-use Rattle.html_forest.specs.Forest.{Forest, Kind, Node, document, is_in, parent_from, parent_of}
+use Rattle.html_forest.specs.Changes.{made, made_element, with_contents}
+use Rattle.html_forest.specs.Forest.{Forest, Kind, document, is_in, parent_from, parent_of}
 use Rattle.html_forest.specs.Places.{Place, based_on, before, below}
 use Rattle.html_lexemes.specs.declared.names.Attribute.{Attribute}
 use Rattle.html_lexemes.specs.declared.names.QualName.{QualName}

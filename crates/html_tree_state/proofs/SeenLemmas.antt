@@ -1,5 +1,5 @@
 -- What is seen of what is held, part by part.
-use Rattle.std.proofs.Common.{◌≡◌, ℕ, Bool, List, refl, sym, ap, subst, ◌∙◌}
+use Rattle.std.proofs.Common.{◌≡◌, ℕ, Bool, List, ap, ◌∙◌}
 use Rattle.formatting_list.specs.Entries.{Entry, entries_of}
 use Rattle.formatting_list.specs.Pushing.{pushed}
 use Rattle.html_forest.specs.Forest.{Forest}

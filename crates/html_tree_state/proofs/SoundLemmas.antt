@@ -1,18 +1,16 @@
 -- What each change keeps of a tree that is being built.
-use Rattle.std.proofs.Common.{◌≡◌, ℕ, Bool, true, false, ◌⊎◌, inl, inr, refl, sym, ap, subst, ◌∙◌, List, [], ◌∷◌}
-use Rattle.std.proofs.Common.{Option, None, Some, arith, codes, Result, Ok, Err, OnErr, OnOk}
-use Rattle.html_forest.specs.Changes.{left_out}
-use Rattle.html_forest.specs.Forest.{Forest, Holds, IsElement, IsElementKind, contents_of, element_of, kind_at, name_of}
+use Rattle.std.proofs.Common.{◌≡◌, ℕ, true, ◌⊎◌, inl, inr, refl, sym, ap, subst, ◌∙◌, List, [], ◌∷◌}
+use Rattle.std.proofs.Common.{Some, codes, Result, Ok, Err, OnErr, OnOk}
+use Rattle.html_forest.specs.Forest.{Forest, IsElement, IsElementKind, contents_of, element_of, kind_at, name_of}
 use Rattle.html_forest.specs.Orders.{Above, AreDistinct, IsForest, IsIn, IsParent}
 use Rattle.html_forest.specs.declared.sink.QuirksMode.{QuirksMode}
 use Rattle.html_lexemes.specs.Sets.{is_html}
-use Rattle.html_lexemes.specs.declared.token.Tag.{Tag}
 use Rattle.html_tree_state.specs.Building.{Building}
 use Rattle.html_tree_state.specs.Insertions.{is_template}
 use Rattle.html_tree_state.specs.OpenElements.{below_current}
 use Rattle.html_tree_state.specs.Orders.{AreInOrder}
 use Rattle.html_tree_state.specs.Scopes.{popped}
-use Rattle.html_tree_state.specs.Sound.{IsFormatting, IsListed, Sound}
+use Rattle.html_tree_state.specs.Sound.{Sound}
 
 pub either : {A B C : Type 0} → (A → C) → (B → C) → A ⊎ B → C
 either f g (inl a) = f a

@@ -1,5 +1,5 @@
 -- The stack of open elements in memory, walked from its end.
-use Rattle.std.proofs.Common.{◌≡◌, ℕ, Bool, true, false, ◌⊎◌, inl, inr, refl, sym, ap, subst, ◌∙◌, List, [], ◌∷◌, ◌++◌, Some}
+use Rattle.std.proofs.Common.{◌≡◌, ℕ, true, ap, ◌∙◌, List, [], ◌∷◌, ◌++◌, Some}
 use Rattle.std.proofs.Common.{map, reverse}
 use Rattle.std.proofs.lemmas.List.{map-append, reverse-append}
 use Rattle.html_forest.specs.Forest.{Forest, IsElement, contents_of}

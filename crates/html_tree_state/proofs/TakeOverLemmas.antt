@@ -41,7 +41,7 @@ module _ (laws : Laws) (tag : Tag) (block : ℕ) (f : Forest) (forest : IsForest
 
   given_path : (a b : ℕ) → Above (IsParent (reparented block (nodes f) (made_for tag f))) a b →
       Above (IsParent (made_for tag f)) a b ⊎ (AtOrAbove (IsParent (made_for tag f)) a (nodes f)
-          × Above (IsParent (made_for tag f)) block b)
+      × Above (IsParent (made_for tag f)) block b)
   given_path a b up = laws.above_given block (nodes f) a b (made_for tag f) made.forest can_give up
 
   pub given_old : (a b : ℕ) → Holds a f → Holds b f →
@@ -83,7 +83,7 @@ module _ (laws : Laws) (tag : Tag) (block : ℕ) (f : Forest) (forest : IsForest
   taken_path : (a b : ℕ) → Above (IsParent taken) a b →
       Above (IsParent (reparented block (nodes f) (made_for tag f))) a b
       ⊎ (AtOrAbove (IsParent (reparented block (nodes f) (made_for tag f))) a block
-          × AtOrAbove (IsParent (reparented block (nodes f) (made_for tag f))) (nodes f) b)
+      × AtOrAbove (IsParent (reparented block (nodes f) (made_for tag f))) (nodes f) b)
   taken_path a b up = laws.above_put (below block) (nodes f) a b (reparented block (nodes f) (made_for tag f))
       given_forest (block_there, can_take) up
 
@@ -92,10 +92,10 @@ module _ (laws : Laws) (tag : Tag) (block : ℕ) (f : Forest) (forest : IsForest
   pub taken_old : (a b : ℕ) → Holds a f → Holds b f → Above (IsParent taken) a b → Above (IsParent f) a b
   taken_old a b h k up = either (given_old a b h k)
       (λ new.
-          let on : Above (IsParent f) block b = either (λ e. absurd (not_itself b (subst (λ n. b < n) e k)))
-              (given_new b k) new.1 in
-          either (λ e. subst (λ x. Above (IsParent f) x b) (sym e) on)
-          (λ first. above_on (IsParent f) a block b (given_old a block h held first) on) new.0)
+      let on : Above (IsParent f) block b = either (λ e. absurd (not_itself b (subst (λ n. b < n) e k)))
+      (given_new b k) new.1 in
+      either (λ e. subst (λ x. Above (IsParent f) x b) (sym e) on)
+      (λ first. above_on (IsParent f) a block b (given_old a block h held first) on) new.0)
       (taken_path a b up)
 
   pub taken_new : (b : ℕ) → Holds b f → Above (IsParent taken) (nodes f) b → Above (IsParent f) block b

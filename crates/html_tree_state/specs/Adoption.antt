@@ -4,7 +4,7 @@ use Rattle.std.specs.Prelude.{if◌then◌else◌}
 use Rattle.std.specs.Bool.{nat_lt}
 use Rattle.formatting_list.specs.Entries.{handed_over, is_listed, last_named, moved_behind, tag_in, up_to_marker}
 use Rattle.formatting_list.specs.Entries.{without_entry}
-use Rattle.html_forest.specs.Changes.{detached, left_out, made_element, reparented}
+use Rattle.html_forest.specs.Changes.{detached, left_out, reparented}
 use Rattle.html_forest.specs.Forest.{Forest, is_in, name_of, nodes}
 use Rattle.html_forest.specs.Places.{below, put_before, put_node}
 use Rattle.html_lexemes.specs.ElementSets.{scope_barriers, special_elements}

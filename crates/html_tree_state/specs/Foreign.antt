@@ -1,5 +1,5 @@
 -- Foreign content and the open elements (WHATWG HTML, 13.2.4.2, 13.2.6 and 13.2.6.5).
-use Rattle.std.specs.Prelude.{ℕ, Bool, List, [], ◌∷◌, Option, None, Some, if◌then◌else◌}
+use Rattle.std.specs.Prelude.{ℕ, List, [], ◌∷◌, Option, None, Some, if◌then◌else◌}
 use Rattle.html_forest.specs.Forest.{Forest, is_integration_point, name_of}
 use Rattle.html_tree_state.specs.Building.{Building}
 use Rattle.html_tree_state.specs.OpenElements.{first_of}

@@ -1,5 +1,5 @@
 -- The list of active formatting elements and the tree (WHATWG HTML, 13.2.4.3).
-use Rattle.std.specs.Prelude.{ℕ, Bool, true, false, List, [], ◌∷◌, codes}
+use Rattle.std.specs.Prelude.{ℕ, Bool, true, List, [], ◌∷◌, codes}
 use Rattle.std.specs.Prelude.{if◌then◌else◌}
 use Rattle.formatting_list.specs.Entries.{Entry, before_marker, formatted, marker, without_entry}
 use Rattle.formatting_list.specs.Pushing.{pushed}

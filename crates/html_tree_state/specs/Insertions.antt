@@ -1,7 +1,7 @@
 -- Where nodes and texts are inserted, and what is then there (WHATWG HTML, 13.2.6.1).
 use Rattle.std.specs.Prelude.{ℕ, Bool, ◌&&◌, List, [], ◌∷◌, Option, None, Some, codes, if◌then◌else◌}
 use Rattle.html_forest.specs.Changes.{made, made_element, with_attributes}
-use Rattle.html_forest.specs.Forest.{Forest, Kind, comment, contents_of, name_of, nodes}
+use Rattle.html_forest.specs.Forest.{Forest, comment, contents_of, name_of, nodes}
 use Rattle.html_forest.specs.Places.{Place, based_on, below, put, put_node, words}
 use Rattle.html_lexemes.specs.ElementSets.{foster_targets}
 use Rattle.html_lexemes.specs.Sets.{is_element_of, is_html}

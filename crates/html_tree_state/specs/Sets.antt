@@ -1,5 +1,5 @@
 -- The sets of elements that tree construction asks for (WHATWG HTML, 13.2.4 and 13.2.6).
-use Rattle.std.specs.Prelude.{ℕ, Bool, ◌&&◌, not, List, [], ◌∷◌, ◌++◌, codes}
+use Rattle.std.specs.Prelude.{ℕ, Bool, ◌&&◌, not, List, [], ◌∷◌, codes}
 use Rattle.html_lexemes.specs.ElementSets.{button_scope_barriers, headings, implied_end_tags, list_item_scope_barriers}
 use Rattle.html_lexemes.specs.ElementSets.{scope_barriers, table_body_context, table_cells, table_context}
 use Rattle.html_lexemes.specs.ElementSets.{table_row_context, table_scope_barriers, table_sections}

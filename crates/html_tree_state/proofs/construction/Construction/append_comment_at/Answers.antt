@@ -1,6 +1,4 @@
-use Rattle.std.proofs.Common.{sym, ap, subst}
-use Rattle.html_forest.specs.Orders.{IsForest}
-use Rattle.html_tree_state.specs.Building.{Building}
+use Rattle.std.proofs.Common.{sym, subst}
 use Rattle.html_tree_state.specs.Sound.{Sound}
 use Rattle.html_tree_state.proofs.InsertedLemmas.{can_put_comment, commented_sound, put_comment}
 use Rattle.html_tree_state.proofs.construction.Construction.append_comment_at.Goals as goal

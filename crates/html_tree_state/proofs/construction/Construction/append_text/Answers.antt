@@ -1,6 +1,4 @@
 use Rattle.std.proofs.Common.{rules}
-use Rattle.html_tree_state.specs.Building.{seen}
-use Rattle.html_tree_state.specs.Points.{place_of}
 use Rattle.html_tree_state.proofs.InsertedLemmas.{said_at, said_sound}
 use Rattle.html_tree_state.proofs.SoundLemmas.{forest_left, sound_left}
 use Rattle.html_tree_state.proofs.construction.Construction.append_text.Goals as goal

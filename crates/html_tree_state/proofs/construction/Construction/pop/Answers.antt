@@ -1,6 +1,4 @@
 use Rattle.std.proofs.Common.{rules, sym, subst}
-use Rattle.html_tree_state.specs.Building.{Building, seen}
-use Rattle.html_tree_state.specs.Scopes.{popped}
 use Rattle.html_tree_state.specs.Sound.{Sound}
 use Rattle.html_tree_state.proofs.SoundLemmas.{popped_sound}
 use Rattle.html_tree_state.proofs.construction.Construction.pop.Goals as goal

@@ -1,6 +1,6 @@
-use Rattle.std.proofs.Common.{◌≡◌, sym, ap, subst}
+use Rattle.std.proofs.Common.{sym, ap, subst}
 use Rattle.html_forest.specs.Orders.{IsForest}
-use Rattle.html_tree_state.specs.Building.{Building, seen}
+use Rattle.html_tree_state.specs.Building.{Building}
 use Rattle.html_tree_state.proofs.InsertedLemmas.{can_put_new, put_new, with_element_sound}
 use Rattle.html_tree_state.proofs.construction.Construction.put_element.Goals as goal
 

@@ -1,0 +1,13 @@
+use Rattle.html_tree_state.specs.Sound.{Sound}
+use Rattle.state_rows.proofs.begin.foster.Goals as goal
+
+pub returns : goal.returns
+returns g c = rw (c.set_fostering.ensures) (record {
+  forest = c.requires.forest;
+  elements = c.requires.elements;
+  distinct = c.requires.distinct;
+  ordered = c.requires.ordered;
+  templates = c.requires.templates;
+  listed = c.requires.listed;
+  few = c.requires.few;
+})
