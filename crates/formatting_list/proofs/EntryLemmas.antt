@@ -1,6 +1,6 @@
 -- Entries at the end and within a list of them, and the latest of an element.
-use Rattle.std.proofs.Common.{◌≡◌, ℕ, ◌+◌, ◌-◌, ◌<◌, ◌≤◌, Bool, false, true, cond, List, [], ◌∷◌, ◌++◌, None, Some}
-use Rattle.std.proofs.Common.{Bor, Option, option_map, slice_index_or, take}
+use Rattle.std.proofs.Common.{◌≡◌, ℕ, ◌+◌, ◌-◌, ◌<◌, ◌≤◌, ◌==◌, Bool, false, true, cond, List, [], ◌∷◌, ◌++◌}
+use Rattle.std.proofs.Common.{Bor, None, Option, Some, option_map, slice_index_or, take}
 use Rattle.std.specs.Option.{option_copied}
 use Rattle.std.proofs.Common.{length, map, reverse, refl, sym, ap, ◌∙◌, arith}
 use Rattle.std.proofs.lemmas.Bool.{cond-true, cond-false}
@@ -127,6 +127,53 @@ module _ {H : Type 0} (number : H → ℕ) (name : List ℕ) (xs before : List (
   pub named_before : is_named name tag ≡ false →
       last_named name (entries_of number xs) ≡ last_named name (entries_of number before)
   named_before isnt = ap (last_named name) shown ∙ cond-false (is_named name tag) _ _ isnt
+
+-- behind the last marker, and there without an entry
+without_at_marker : (m : ℕ) (es : List Entry) → up_to_marker es ≡ [] → up_to_marker (without_entry m es) ≡ []
+without_at_marker m [] e = refl
+without_at_marker m (marker ∷ es) e = refl
+without_at_marker m (formatted n tag ∷ es) e = cc
+
+module _ {H : Type 0} (number : H → ℕ) (n m : ℕ) (xs : List (FormatEntry H)) (end : IsAtMarker xs) where
+  pub none_behind_marker : is_listed n (up_to_marker (entries_of number xs)) ≡ false
+  none_behind_marker = ap (is_listed n) (end number)
+
+  pub none_behind_without : is_listed n (up_to_marker (without_entry m (entries_of number xs))) ≡ false
+  none_behind_without = ap (is_listed n) (without_at_marker m (entries_of number xs) (end number))
+
+module _ {H : Type 0} (number : H → ℕ) (n m : ℕ) (xs before : List (FormatEntry H)) (h : H) (tag : Tag)
+    (last : xs ≡ before ++ Element h tag ∷ []) where
+  shown_last : entries_of number xs ≡ formatted (number h) tag ∷ entries_of number before
+  shown_last = ap (entries_of number) last ∙ entries_of-push number before (Element h tag)
+
+  pub behind_marker_here : (number h == n) ≡ true → is_listed n (up_to_marker (entries_of number xs)) ≡ true
+  behind_marker_here is = ap (λ v. is_listed n (up_to_marker v)) shown_last ∙ cond-true (number h == n) _ _ is
+
+  pub behind_marker_before : (number h == n) ≡ false →
+      is_listed n (up_to_marker (entries_of number xs)) ≡ is_listed n (up_to_marker (entries_of number before))
+  behind_marker_before isnt =
+      ap (λ v. is_listed n (up_to_marker v)) shown_last ∙ cond-false (number h == n) _ _ isnt
+
+  pub without_it : (number h == m) ≡ true →
+      is_listed n (up_to_marker (without_entry m (entries_of number xs)))
+      ≡ is_listed n (up_to_marker (entries_of number before))
+  without_it is = ap (λ v. is_listed n (up_to_marker (without_entry m v))) shown_last
+      ∙ ap (λ v. is_listed n (up_to_marker v)) (cond-true (number h == m) _ _ is)
+
+  without_more : (number h == m) ≡ false → without_entry m (entries_of number xs)
+      ≡ formatted (number h) tag ∷ without_entry m (entries_of number before)
+  without_more isnt = ap (without_entry m) shown_last ∙ cond-false (number h == m) _ _ isnt
+
+  pub without_here : (number h == m) ≡ false → (number h == n) ≡ true →
+      is_listed n (up_to_marker (without_entry m (entries_of number xs))) ≡ true
+  without_here other is = ap (λ v. is_listed n (up_to_marker v)) (without_more other)
+      ∙ cond-true (number h == n) _ _ is
+
+  pub without_before : (number h == m) ≡ false → (number h == n) ≡ false →
+      is_listed n (up_to_marker (without_entry m (entries_of number xs)))
+      ≡ is_listed n (up_to_marker (without_entry m (entries_of number before)))
+  without_before other isnt = ap (λ v. is_listed n (up_to_marker v)) (without_more other)
+      ∙ cond-false (number h == n) _ _ isnt
 
 -- one more from the front
 pub entries_of-take : {H : Type 0} (number : H → ℕ) (xs : List (FormatEntry H)) (m : ℕ) (x : FormatEntry H) → 0 < m →

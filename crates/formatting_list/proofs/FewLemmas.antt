@@ -1,6 +1,6 @@
 -- At most three elements that are alike stand behind the last marker, whatever is done.
-use Rattle.std.proofs.Common.{◌≡◌, ℕ, ◌+◌, ◌<◌, ◌≤◌, ◌==◌, Bool, false, true, cond, ◌&&◌, List, [], ◌∷◌, ◌⊎◌, Some}
-use Rattle.std.proofs.Common.{refl, sym, ap, subst, inl, inr, ◌∙◌, arith}
+use Rattle.std.proofs.Common.{◌≡◌, ℕ, ◌+◌, ◌<◌, ◌≤◌, ◌==◌, Bool, false, true, cond, ◌&&◌, List, [], ◌∷◌, ◌++◌, ◌⊎◌}
+use Rattle.std.proofs.Common.{Some, refl, sym, ap, subst, inl, inr, ◌∙◌, arith}
 use Rattle.std.specs.Bool.{nat_lt}
 use Rattle.std.proofs.lemmas.Bool.{and_cases, and_parts, cases_Bool, cond-true, cond-false, cond_both, eqb-false}
 use Rattle.std.proofs.lemmas.Bool.Decides.{nat_tests}
@@ -139,6 +139,27 @@ few_handed n k (formatted m held ∷ es) few =
     (λ e. few_formatted k held es few.1 (λ t. omega (arith, heads-cons t m held es, few.0 t)))
     (λ e. few_formatted m held (handed_over n k es) (few_handed n k es few.1)
     (λ t. omega (arith, heads-cons t m held es, as_many_handed n k t es, few.0 t)))
+
+as_many_given : (n m : ℕ) (held t : Tag) (front back : List Entry) →
+    heads t (front ++ formatted m held ∷ back) ≡ heads t (front ++ formatted n held ∷ back)
+as_many_given n m held t [] back = heads-cons t m held back ∙ sym (heads-cons t n held back)
+as_many_given n m held t (marker ∷ front) back = refl
+as_many_given n m held t (formatted k tag ∷ front) back = omega (
+  arith,
+  heads-cons t k tag (front ++ formatted m held ∷ back),
+  heads-cons t k tag (front ++ formatted n held ∷ back),
+  as_many_given n m held t front back,
+)
+
+pub few_given : (n m : ℕ) (held : Tag) (front back : List Entry) → AreFew (front ++ formatted n held ∷ back) →
+    AreFew (front ++ formatted m held ∷ back)
+few_given n m held [] back few =
+    ((λ t. subst (λ (v : ℕ). v ≤ 3) (sym (as_many_given n m held t [] back)) (few.0 t)), few.1)
+few_given n m held (marker ∷ front) back few = (few.0, few_given n m held front back few.1)
+few_given n m held (formatted k tag ∷ front) back few = (
+  (λ t. subst (λ (v : ℕ). v ≤ 3) (sym (as_many_given n m held t (formatted k tag ∷ front) back)) (few.0 t)),
+  few_given n m held front back few.1,
+)
 
 -- an entry behind the last marker is moved behind another
 record IsTaken (n : ℕ) (es : List Entry) : Type 0 where

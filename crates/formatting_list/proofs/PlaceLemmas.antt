@@ -9,7 +9,7 @@ use Rattle.std.proofs.lemmas.Bool.{eq-eqb, eqb-true}
 use Rattle.std.proofs.lemmas.List.{append_assoc, drop_all, get_or_at, length-append, set_at, take_at}
 use Rattle.html_lexemes.specs.declared.token.Tag.{Tag}
 use Rattle.formatting_list.specs.Entries.{Entry, entries_of, entry_of, formatted, handed_over, is_listed, is_of}
-use Rattle.formatting_list.specs.Entries.{moved_behind, put_behind, tag_in, without_entry}
+use Rattle.formatting_list.specs.Entries.{given as given_entry, moved_behind, put_behind, tag_in, without_entry}
 use Rattle.formatting_list.specs.Found.{StandsAt}
 use Rattle.formatting_list.specs.declared.entry.FormatEntry.{FormatEntry}
 use Rattle.formatting_list.specs.declared.entry.FormatEntry.TheVariants.{Element, Marker}
@@ -208,3 +208,23 @@ moved number n xs items k at view x h tag value is ys rest m after new put_is = 
     ∙ ap₂ (λ v t. put_behind after (formatted m t) v) (removed number n xs k at)
     (sym (tag_at number n xs items k at view x h tag value is))
     ∙ sym (moves number n (entries_of number xs) m after at.tag (tag_is number n xs k at))
+
+-- the entry at a place goes to another element
+pub given_in : {H : Type 0} (xs items : List (FormatEntry H)) (k : ℕ) → items ≡ xs → (x : FormatEntry H) (h : H)
+    (tag : Tag) → x ≡ slice_index_or items k x → x ≡ Element h tag → (to : H) (entry : FormatEntry H)
+    (front back : List (FormatEntry H)) → xs ≡ front ++ entry ∷ back → length front ≡ k →
+    slice_set items k (Element to tag) ≡ front ++ given_entry to entry ∷ back
+given_in xs items k view x h tag value is to entry front back split counted =
+    ap (λ v. slice_set v k (Element to tag)) (view ∙ split)
+    ∙ set_at front entry back (Element to tag) k counted
+    ∙ ap (λ e. front ++ given_entry to e ∷ back) (sym is ∙ value
+    ∙ ap (λ v. slice_index_or v k x) (view ∙ split) ∙ get_or_at front entry back x k counted)
+
+pub marker_stays : {H : Type 0} (xs items : List (FormatEntry H)) (k : ℕ) → items ≡ xs → (x : FormatEntry H) →
+    x ≡ slice_index_or items k x → x ≡ Marker → (to : H) (entry : FormatEntry H)
+    (front back : List (FormatEntry H)) → xs ≡ front ++ entry ∷ back → length front ≡ k →
+    slice_set items k x ≡ front ++ given_entry to entry ∷ back
+marker_stays xs items k view x value is to entry front back split counted =
+    let e = sym is ∙ value ∙ ap (λ v. slice_index_or v k x) (view ∙ split) ∙ get_or_at front entry back x k counted in
+    ap (λ v. slice_set v k x) (view ∙ split) ∙ set_at front entry back x k counted
+    ∙ ap (λ v. front ++ v ∷ back) is ∙ ap (λ v. front ++ given_entry to v ∷ back) e

@@ -67,6 +67,10 @@ abbrev pub given_to : ℕ → Entry → Entry
 given_to m marker = marker
 given_to m (formatted n tag) = formatted m tag
 
+abbrev pub given : {H : Type 0} → H → FormatEntry H → FormatEntry H
+given to Marker = Marker
+given to (Element handle tag) = Element to tag
+
 abbrev pub handed_over : ℕ → ℕ → List Entry → List Entry
 handed_over n m [] = []
 handed_over n m (entry ∷ rest) = if is_of n entry then given_to m entry ∷ rest else entry ∷ handed_over n m rest

@@ -3,6 +3,7 @@ ghost use Rattle.std.specs.Prelude.{◌≡◌, ℕ, ◌<◌, [], ◌∷◌, ◌+
 ghost use Rattle.std.specs.List.{remove};
 ghost use Rattle.formatting_list.specs.Alike.{are_alike};
 ghost use Rattle.formatting_list.specs.Entries.{before_marker, entries_of, entry_of, is_listed, is_of, last_named};
+ghost use Rattle.formatting_list.specs.Entries.{up_to_marker, without_entry};
 ghost use Rattle.formatting_list.specs.Found.{HasRoom, IsAtMarker, IsEarliest, StandsAt};
 ghost use Rattle.formatting_list.specs.declared.entry.FormatEntry.TheVariants.{Element};
 
@@ -84,6 +85,47 @@ pub(crate) fn last_of_name<'a, H: Copy>(
         rest = before;
     }
     None
+}
+
+// whether an element stands behind the last marker
+fn is_behind_marker<H: Copy, S: TreeSink<Handle = H>>(
+    entries: &[FormatEntry<H>],
+    sink: &S,
+    target: H,
+) -> bool
+    ensures { result ≡ is_listed (S.number target) (up_to_marker (entries_of S.number entries.now)) }
+{
+    let mut rest = entries;
+    'back: while let Some((handle, _, before)) = last_element(rest) {
+        if sink.same_node(*handle, target) {
+            return true;
+        }
+        rest = before;
+    }
+    false
+}
+
+/// Whether an element stands behind the last marker, once the latest entry of another is taken off.
+pub(crate) fn is_behind_marker_without<H: Copy, S: TreeSink<Handle = H>>(
+    entries: &[FormatEntry<H>],
+    sink: &S,
+    target: H,
+    without: H,
+) -> bool
+    ensures { result ≡ is_listed (S.number target)
+        (up_to_marker (without_entry (S.number without) (entries_of S.number entries.now))) }
+{
+    let mut rest = entries;
+    'back: while let Some((handle, _, before)) = last_element(rest) {
+        if sink.same_node(*handle, without) {
+            return is_behind_marker(before, sink, target);
+        }
+        if sink.same_node(*handle, target) {
+            return true;
+        }
+        rest = before;
+    }
+    false
 }
 
 /// How many entries stand before the last marker.

@@ -1,10 +1,10 @@
 //! What is true of the list whatever is pushed.
-ghost use Rattle.std.specs.Prelude.{◌≡◌, ℕ, ◌↔◌, List, ◌∷◌, IsTrue, true};
+ghost use Rattle.std.specs.Prelude.{◌≡◌, ℕ, ◌↔◌, List, ◌∷◌, ◌++◌, IsTrue, true};
 ghost use Rattle.html_lexemes.specs.Tags.{IsEquivalent};
 ghost use Rattle.html_lexemes.specs.declared.token.Tag.{Tag as SeenTag};
 ghost use Rattle.formatting_list.specs.Alike.{AreFew, are_alike};
-ghost use Rattle.formatting_list.specs.Entries.{Entry, before_marker, handed_over, is_listed, marker, moved_behind};
-ghost use Rattle.formatting_list.specs.Entries.{up_to_marker, without_entry};
+ghost use Rattle.formatting_list.specs.Entries.{Entry, before_marker, formatted, handed_over, is_listed, marker};
+ghost use Rattle.formatting_list.specs.Entries.{moved_behind, up_to_marker, without_entry};
 ghost use Rattle.formatting_list.specs.Pushing.{pushed};
 
 /// Tags are alike exactly where they are the same but for the order of their attributes.
@@ -23,4 +23,6 @@ pub fn at_most_three_are_alike()
         is_listed n (up_to_marker entries) ≡ true →
         is_listed after (up_to_marker (without_entry n entries)) ≡ true →
         AreFew (moved_behind n m after entries) }
+    ensures given { (n m : ℕ) (tag : SeenTag) (front back : List Entry) →
+        AreFew (front ++ formatted n tag ∷ back) → AreFew (front ++ formatted m tag ∷ back) }
 {}

@@ -1,11 +1,15 @@
-ghost use Rattle.std.specs.Prelude.{◌≡◌, ℕ, [], ◌∷◌, OnErr, OnOk, length, option_map};
-ghost use Rattle.formatting_list.specs.Entries.{before_marker, entries_of, handed_over, is_listed, last_named};
-ghost use Rattle.formatting_list.specs.Entries.{marker, moved_behind, tag_in, without_entry};
+ghost use Rattle.std.specs.Prelude.{◌≡◌, ℕ, ◌<◌, List, [], ◌∷◌, ◌++◌, OnErr, OnOk, length, option_map};
+ghost use Rattle.formatting_list.specs.Entries.{before_marker, entries_of, given, handed_over, is_listed, last_named};
+ghost use Rattle.formatting_list.specs.Entries.{marker, moved_behind, tag_in, up_to_marker, without_entry};
 ghost use Rattle.formatting_list.specs.Pushing.{pushed};
 ghost use Rattle.formatting_list.specs.Steps.{all_of, left_of};
+ghost use Rattle.formatting_list.specs.declared.entry.FormatEntry.{FormatEntry};
 
 use crate::entry::FormatEntry;
-use crate::find::{count_before_marker, earliest_of_three, last_of_name, position, take_off};
+use crate::find::{
+    count_before_marker, earliest_of_three, is_behind_marker_without, last_of_name, position,
+    take_off,
+};
 use crate::iter::ActiveFormattingIter;
 use html_forest::TreeSink;
 use html_lexemes::{LocalName, Tag};
@@ -93,6 +97,19 @@ impl<H: Copy> FormattingList<H> {
         position(self.entries.as_slice(), sink, target).is_some()
     }
 
+    /// Whether an element is listed behind the last marker, once another is not listed any more.
+    pub fn stands_behind_marker<S: TreeSink<Handle = H>>(
+        &self,
+        sink: &S,
+        target: H,
+        without: H,
+    ) -> bool
+        ensures { result ≡ is_listed (S.number target)
+            (up_to_marker (without_entry (S.number without) (entries_of S.number self.now))) }
+    {
+        is_behind_marker_without(self.entries.as_slice(), sink, target, without)
+    }
+
     /// The start tag that an element that is listed was made for.
     pub fn tag_of<S: TreeSink<Handle = H>>(&self, sink: &S, target: H) -> Option<&Tag>
         ensures { option_map (λ tag. tag.now) result ≡ tag_in (S.number target) (entries_of S.number self.now) }
@@ -123,6 +140,18 @@ impl<H: Copy> FormattingList<H> {
                 *handle = to;
             }
         }
+    }
+
+    /// Gives the entry that has so many before it to another element, with its tag; a marker stays.
+    pub fn give(&mut self, index: usize, to: H)
+        requires { index < length self.old }
+        ensures { (entry : FormatEntry H) (front back : List (FormatEntry H)) → self.old ≡ front ++ entry ∷ back →
+            length front ≡ index → self.new ≡ front ++ given to entry ∷ back }
+    {
+        let FormatEntry::Element(handle, _) = &mut self.entries[index] else {
+            return;
+        };
+        *handle = to;
     }
 
     /// Puts an element's entry right behind that of another, and gives it to the element that has taken its place.

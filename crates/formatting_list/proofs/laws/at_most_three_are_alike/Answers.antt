@@ -1,4 +1,4 @@
-use Rattle.formatting_list.proofs.FewLemmas.{few_cleared, few_handed, few_moved, few_pushed, few_without}
+use Rattle.formatting_list.proofs.FewLemmas.{few_cleared, few_given, few_handed, few_moved, few_pushed, few_without}
 use Rattle.formatting_list.proofs.laws.at_most_three_are_alike.Goals as goal
 
 pub returns-clause-pushed : goal.returns-clause-pushed
@@ -15,3 +15,6 @@ returns-clause-handed_over c = few_handed
 
 pub returns-clause-moved : goal.returns-clause-moved
 returns-clause-moved c = few_moved
+
+pub returns-clause-given : goal.returns-clause-given
+returns-clause-given c = few_given
