@@ -1,9 +1,9 @@
 -- An element that is copied in the adoption agency.
-use Rattle.std.proofs.Common.{◌≡◌, ℕ, ◌<◌, ◌⊎◌, inl, inr, sym, subst, ◌∙◌, Some, ◌==◌}
+use Rattle.std.proofs.Common.{◌≡◌, ℕ, ◌<◌, ◌⊎◌, inl, inr, sym, ap, subst, ◌∙◌, Some, ◌==◌}
 use Rattle.std.proofs.lemmas.Bool.{cases_Bool, eqb-false, eqb-true}
 use Rattle.html_forest.specs.Changes.{detached}
-use Rattle.html_forest.specs.Conditions.{CanMove}
-use Rattle.html_forest.specs.Forest.{Holds, nodes}
+use Rattle.html_forest.specs.Conditions.{CanMove, CanPut}
+use Rattle.html_forest.specs.Forest.{Forest, Holds, kind_at, nodes}
 use Rattle.html_forest.specs.Orders.{Above, AtOrAbove, IsIn, IsParent}
 use Rattle.html_forest.specs.Places.{below, node}
 use Rattle.html_lexemes.specs.declared.token.Tag.{Tag}
@@ -52,6 +52,15 @@ can_move_to_copy n last tag b laws sound can =
       no_document = no_document _ _ (apart.stays last held) is_element;
       apart = old_not_above tag last f (detached last g) apart held;
     }
+
+-- the same in a sink, where the copy was made and the last node taken out
+pub can_put_copy : (n last copy : ℕ) (tag : Tag) (b : Building) (g h : Forest) → Laws → Sound b → CanCopy n last tag b →
+    copy ≡ nodes b.forest → g ≡ made_for tag b.forest → h ≡ detached last g → CanPut (below copy) (node last) h
+can_put_copy n last copy tag b g h laws sound can copy_is made_is out_is =
+    let out = detached last (made_for tag b.forest) in
+    subst (λ x. CanPut (below copy) (node last) x) (sym (out_is ∙ ap (detached last) made_is))
+    (subst (λ x. CanPut (below x) (node last) out) (sym copy_is)
+    ((copy_apart laws tag last b sound).within, can_move_to_copy n last tag b laws sound can))
 
 -- A path to or from the copy, or between others. Here g is the forest before the last node is put.
 copy_ordered : (n last : ℕ) (tag : Tag) (b : Building) → Laws → Sound b → CanCopy n last tag b →
@@ -104,6 +113,12 @@ copy_distinct n b laws sound x y a h first second =
     (λ off. either (λ also. held x (nearer_in x y b.stack h) (sym (first.old off) ∙ second.new also))
     (λ isnt. twice (sym (first.old off) ∙ second.old isnt)) (is_or_isnt y n))
     (is_or_isnt x n)
+
+pub copied_stays : (n last : ℕ) (tag : Tag) (b : Building) → Laws → Sound b → (k : ℕ) → Holds k b.forest →
+    kind_at k (copied n tag last b).forest ≡ kind_at k b.forest
+copied_stays n last tag b laws sound k held =
+    laws.put_stays (below (nodes b.forest)) last k (detached last (made_for tag b.forest))
+    ∙ (copy_apart laws tag last b sound).stays k held
 
 pub copied_sound : (n last : ℕ) (tag : Tag) (b : Building) → Laws → Sound b → CanCopy n last tag b →
     Sound (copied n tag last b)

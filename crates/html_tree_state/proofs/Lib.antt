@@ -5,6 +5,7 @@ pub mod GrownLemmas
 pub mod InsertedLemmas
 pub mod ListedAfter
 pub mod ListedLemmas
+pub mod MadeAnewLemmas
 pub mod NearerLemmas
 pub mod OpenLemmas
 pub mod PlaceLemmas
@@ -15,3 +16,5 @@ pub mod SeenLemmas
 pub mod SoundLemmas
 pub mod Stacks
 pub mod TakeOverLemmas
+pub mod WalkLemmas
+pub mod WalkLists

@@ -12,7 +12,7 @@ listed_behind k tag marker es l = l
 listed_behind k tag (formatted n held) es l = inr l
 
 -- of an entry and the others
-listed_on : (k : ℕ) (tag : Tag) (A : Type 0) (e : Entry) (es fs : List Entry) →
+pub listed_on : (k : ℕ) (tag : Tag) (A : Type 0) (e : Entry) (es fs : List Entry) →
     (IsListed k tag es → IsListed k tag fs ⊎ A) → IsListed k tag (e ∷ es) → IsListed k tag (e ∷ fs) ⊎ A
 listed_on k tag A marker es fs more l = more l
 listed_on k tag A (formatted n held) es fs more (inl h) = inl (inl h)

@@ -1,13 +1,17 @@
 -- Where an open element stands among the others, in memory and on the stack.
-use Rattle.std.proofs.Common.{◌≡◌, ℕ, zero, suc, ◌<◌, ◌==◌, Bool, true, false, inl, inr, refl, sym, ap, subst, ◌∙◌}
-use Rattle.std.proofs.Common.{List, [], ◌∷◌, ◌++◌, length, drop, take, map, reverse, Some, option_map, slice_get, slice_index_or, arith, if◌then◌else◌}
-use Rattle.std.specs.List.{remove}
+use Rattle.std.proofs.Common.{◌≡◌, ℕ, zero, suc, ◌+◌, ◌<◌, ◌==◌, Bool, true, false, inl, inr, refl, sym, ap, subst, ◌∙◌}
+use Rattle.std.proofs.Common.{List, [], ◌∷◌, ◌++◌, length, drop, take, map, reverse, Some, option_map, slice_get}
+use Rattle.std.proofs.Common.{slice_index_or, slice_set, arith, if◌then◌else◌}
+use Rattle.std.specs.List.{insert, remove}
 use Rattle.std.proofs.lemmas.Bool.{eqb-true}
 use Rattle.std.proofs.lemmas.Bool.Decides.{nat_tests}
-use Rattle.std.proofs.lemmas.List.{append_assoc, map-append, reverse-append}
+use Rattle.std.proofs.lemmas.List.{append_assoc, map-append}
+use Rattle.std.proofs.lemmas.List.{reverse-append}
 use Rattle.html_forest.specs.Changes.{left_out}
 use Rattle.html_forest.specs.Forest.{is_in}
 use Rattle.html_forest.specs.Orders.{AreDistinct, IsIn}
+use Rattle.html_forest.specs.Places.{put_before}
+use Rattle.html_tree_state.specs.Adoption.{replaced}
 use Rattle.html_tree_state.specs.Building.{stack_of}
 use Rattle.html_tree_state.specs.OpenAt.{IsFirstOpened, IsOpenAt}
 use Rattle.html_tree_state.specs.Insertions.{root_of}
@@ -141,6 +145,117 @@ taken_off_at number n xs k at distinct =
     ∙ ap (λ v. v ++ stack_of number (take k xs)) at.behind_it
     ∙ ap (λ v. nearer n (stack_of number xs) ++ v) at.before_it
     ∙ sym (left_out_is n (stack_of number xs) distinct)
+
+-- an element whose place another takes
+changed_none : (n m : ℕ) (ns : List ℕ) → ¬ (IsIn n ns) → replaced n m ns ≡ ns
+changed_none n m [] none = refl
+changed_none n m (k ∷ ns) none =
+    ap (λ b. (if b then m else k) ∷ replaced n m ns) (not_equal n k (λ e. none (inl e)))
+    ∙ ap (λ ms. k ∷ ms) (changed_none n m ns (λ i. none (inr i))) where
+      not_equal : (n k : ℕ) → ¬ (n ≡ k) → (k == n) ≡ false
+      not_equal n k h = grind (arith, nat_tests, h)
+
+pub replaced_none : (n m : ℕ) (ns : List ℕ) → is_in n ns ≡ false → replaced n m ns ≡ ns
+replaced_none n m [] none = refl
+replaced_none n m (k ∷ ns) none =
+    ap (λ b. (if b then m else k) ∷ replaced n m ns) (other_way n k (if_other (n == k) (is_in n ns) none))
+    ∙ ap (λ ms. k ∷ ms) (replaced_none n m ns (rest_false (n == k) (is_in n ns) none))
+
+rest_true : (b u : Bool) → (if b then true else u) ≡ true → b ≡ false → u ≡ true
+rest_true true u there e = absurd (cc)
+rest_true false u there e = there
+
+replaced_by : (b : Bool) (n m k : ℕ) (ns : List ℕ) → (k == n) ≡ b → ¬ (IsIn k ns) → is_in n (k ∷ ns) ≡ true →
+    (is_in n ns ≡ true → replaced n m ns ≡ nearer n ns ++ m ∷ farther n ns) →
+    (if b then m else k) ∷ replaced n m ns
+    ≡ (if b then [] else k ∷ nearer n ns) ++ m ∷ (if b then ns else farther n ns)
+replaced_by true n m k ns e none there rest =
+    ap (λ ms. m ∷ ms) (changed_none n m ns (subst (λ j. ¬ (IsIn j ns)) (eqb-true k n e) none))
+replaced_by false n m k ns e none there rest =
+    ap (λ ms. k ∷ ms) (rest (rest_true (n == k) (is_in n ns) there (other_way k n e)))
+
+pub replaced_is : (n m : ℕ) (ns : List ℕ) → AreDistinct ns → is_in n ns ≡ true →
+    replaced n m ns ≡ nearer n ns ++ m ∷ farther n ns
+replaced_is n m [] distinct there = absurd (cc)
+replaced_is n m (k ∷ ns) distinct there =
+    replaced_by (k == n) n m k ns refl distinct.0 there (replaced_is n m ns distinct.1)
+
+set_split : {A : Type 0} (xs : List A) (k : ℕ) (y : A) → k < length xs →
+    slice_set xs k y ≡ take k xs ++ y ∷ drop (suc k) xs
+set_split [] k y h = absurd (omega arith)
+set_split (x ∷ xs) zero y h = refl
+set_split (x ∷ xs) (suc k) y h = ap (λ v. x ∷ v) (set_split xs k y (omega arith))
+
+pub replaced_at : {H : Type 0} (number : H → ℕ) (n : ℕ) (xs : List H) (k : ℕ) (y : H) → IsOpenAt number n xs k →
+    AreDistinct (stack_of number xs) →
+    stack_of number (slice_set xs k y) ≡ replaced n (number y) (stack_of number xs)
+replaced_at number n xs k y at distinct =
+    let lows = stack_of number (take k xs) in
+    ap (stack_of number) (set_split xs k y at.within)
+    ∙ stack_of_both number (take k xs) (y ∷ drop (suc k) xs)
+    ∙ ap (λ v. v ++ lows) (stack_of_both number (y ∷ []) (drop (suc k) xs))
+    ∙ append_assoc _ (number y ∷ []) lows
+    ∙ ap (λ v. v ++ number y ∷ lows) at.behind_it
+    ∙ ap (λ v. nearer n (stack_of number xs) ++ number y ∷ v) at.before_it
+    ∙ sym (replaced_is n (number y) (stack_of number xs) distinct at.is_there)
+
+-- an element that is put right below another
+rest_there : (n m : ℕ) (ns : List ℕ) → (m == n) ≡ false → is_in n (m ∷ ns) ≡ true → is_in n ns ≡ true
+rest_there n m ns e there = sym (ap (λ b. if b then true else is_in n ns) (other_way m n e)) ∙ there
+
+divided_by : (b : Bool) (n m : ℕ) (ns : List ℕ) → (m == n) ≡ b → is_in n (m ∷ ns) ≡ true →
+    (is_in n ns ≡ true → ns ≡ nearer n ns ++ n ∷ farther n ns) →
+    m ∷ ns ≡ (if b then [] else m ∷ nearer n ns) ++ n ∷ (if b then ns else farther n ns)
+divided_by true n m ns e there rest = ap (λ k. k ∷ ns) (eqb-true m n e)
+divided_by false n m ns e there rest = ap (λ ms. m ∷ ms) (rest (rest_there n m ns e there))
+
+pub divided : (n : ℕ) (ns : List ℕ) → is_in n ns ≡ true → ns ≡ nearer n ns ++ n ∷ farther n ns
+divided n [] there = absurd (cc)
+divided n (m ∷ ns) there = divided_by (m == n) n m ns refl there (divided n ns)
+
+put_by : (b : Bool) (n c m : ℕ) (ns : List ℕ) → (m == n) ≡ b → is_in n (m ∷ ns) ≡ true →
+    (is_in n ns ≡ true → put_before n c ns ≡ nearer n ns ++ c ∷ n ∷ farther n ns) →
+    (if b then c ∷ m ∷ ns else m ∷ put_before n c ns)
+    ≡ (if b then [] else m ∷ nearer n ns) ++ c ∷ n ∷ (if b then ns else farther n ns)
+put_by true n c m ns e there rest = ap (λ k. c ∷ k ∷ ns) (eqb-true m n e)
+put_by false n c m ns e there rest = ap (λ ms. m ∷ ms) (rest (rest_there n m ns e there))
+
+put_before_is : (n c : ℕ) (ns : List ℕ) → is_in n ns ≡ true →
+    put_before n c ns ≡ nearer n ns ++ c ∷ n ∷ farther n ns
+put_before_is n c [] there = absurd (cc)
+put_before_is n c (m ∷ ns) there = put_by (m == n) n c m ns refl there (put_before_is n c ns)
+
+pub put_before_none : (n c : ℕ) (ns : List ℕ) → is_in n ns ≡ false → put_before n c ns ≡ ns
+put_before_none n c [] none = refl
+put_before_none n c (m ∷ ns) none =
+    ap (λ b. if b then c ∷ m ∷ ns else m ∷ put_before n c ns) (other_way n m (if_other (n == m) (is_in n ns) none))
+    ∙ ap (λ ms. m ∷ ms) (put_before_none n c ns (rest_false (n == m) (is_in n ns) none))
+
+same_behind : (xs ys zs : List ℕ) → xs ++ ys ≡ xs ++ zs → ys ≡ zs
+same_behind [] ys zs e = e
+same_behind (x ∷ xs) ys zs e = same_behind xs ys zs (let t : xs ++ ys ≡ xs ++ zs = cc in t)
+
+taken_and_dropped : {A : Type 0} (xs : List A) (k : ℕ) → xs ≡ take k xs ++ drop k xs
+taken_and_dropped xs zero = refl
+taken_and_dropped [] (suc k) = refl
+taken_and_dropped (x ∷ xs) (suc k) = ap (λ v. x ∷ v) (taken_and_dropped xs k)
+
+pub put_at : {H : Type 0} (number : H → ℕ) (n : ℕ) (xs : List H) (k : ℕ) (y : H) → IsOpenAt number n xs k →
+    stack_of number (insert xs (k + 1) y) ≡ put_before n (number y) (stack_of number xs)
+put_at number n xs k y at =
+    let tops = stack_of number (drop (suc k) xs) in
+    let up : stack_of number (take (suc k) xs) ≡ n ∷ farther n (stack_of number xs) =
+    same_behind tops _ _ (sym (stack_of_both number (take (suc k) xs) (drop (suc k) xs))
+    ∙ ap (stack_of number) (sym (taken_and_dropped xs (suc k)))
+    ∙ divided n (stack_of number xs) at.is_there
+    ∙ ap (λ v. v ++ n ∷ farther n (stack_of number xs)) (sym at.behind_it)) in
+    ap (λ j. stack_of number (insert xs j y)) (let e : k + 1 ≡ suc k = omega arith in e)
+    ∙ stack_of_both number (take (suc k) xs) (y ∷ drop (suc k) xs)
+    ∙ ap (λ v. v ++ stack_of number (take (suc k) xs)) (stack_of_both number (y ∷ []) (drop (suc k) xs))
+    ∙ append_assoc tops (number y ∷ []) (stack_of number (take (suc k) xs))
+    ∙ ap (λ v. tops ++ number y ∷ v) up
+    ∙ ap (λ v. v ++ number y ∷ n ∷ farther n (stack_of number xs)) at.behind_it
+    ∙ sym (put_before_is n (number y) (stack_of number xs) at.is_there)
 
 -- the element that was opened first
 root_behind : (ns : List ℕ) (n : ℕ) → root_of (ns ++ n ∷ []) ≡ n

@@ -1,23 +1,25 @@
 -- The last node goes to the place for inserting into the common ancestor.
-use Rattle.std.proofs.Common.{ℕ, ◌<◌, ◌||◌, refl, sym, ap, subst, ◌∙◌, List, codes}
+use Rattle.std.proofs.Common.{◌≡◌, ℕ, ◌<◌, ◌||◌, refl, sym, ap, subst, ◌∙◌, List, [], ◌∷◌, Option, None, Some, IfSome}
+use Rattle.std.proofs.Common.{codes, option_map}
 use Rattle.html_forest.specs.Changes.{detached}
-use Rattle.html_forest.specs.Conditions.{CanMove, IsPlace, is_from}
-use Rattle.html_forest.specs.Forest.{Holds, IsElementKind, element_of}
+use Rattle.html_forest.specs.Conditions.{CanMove, CanPut, IsPlace, is_from}
+use Rattle.html_forest.specs.Forest.{Forest, Holds, IsElementKind, element_of}
 use Rattle.html_forest.specs.Orders.{Above, AtOrAbove, IsIn, IsParent}
-use Rattle.html_forest.specs.Places.{node}
+use Rattle.html_forest.specs.Places.{Place, node, put_node}
+use Rattle.html_forest.specs.declared.sink.QuirksMode.{QuirksMode}
 use Rattle.html_lexemes.specs.Sets.{is_html}
-use Rattle.html_tree_state.specs.Adoption.{out_of_place, placed}
-use Rattle.html_tree_state.specs.Building.{Building}
-use Rattle.html_tree_state.specs.CanAdopt.{CanPlace}
+use Rattle.html_tree_state.specs.Adoption.{ancestor_of, out_of_place, placed}
+use Rattle.html_tree_state.specs.Building.{Building, Parts, seen}
+use Rattle.html_tree_state.specs.CanAdopt.{CanPlace, IsAncestor}
 use Rattle.html_tree_state.specs.Insertions.{place_for}
 use Rattle.html_tree_state.specs.Laws.{Laws}
-use Rattle.html_tree_state.specs.OpenElements.{current_of}
+use Rattle.html_tree_state.specs.OpenElements.{current_of, first_of}
 use Rattle.html_tree_state.specs.Sound.{Sound}
 use Rattle.html_tree_state.proofs.FosterLemmas.{IsOver, at_from, from_place}
 use Rattle.html_tree_state.proofs.GrownLemmas.{moved_sound, no_document}
 use Rattle.html_tree_state.proofs.NearerLemmas.{IsNearer, compared, in_behind, in_front_part, nearer_across, nearer_on}
 use Rattle.html_tree_state.proofs.NearerLemmas.{nearer_in, never_above, not_twice}
-use Rattle.html_tree_state.proofs.PlaceLemmas.{current_there, place_for_there}
+use Rattle.html_tree_state.proofs.PlaceLemmas.{current_there, first_in, place_for_there}
 use Rattle.html_tree_state.proofs.SoundLemmas.{either}
 
 -- a node is taken out
@@ -99,3 +101,58 @@ module _ (last : ℕ) (uppers lows : List ℕ) (b : Building) (laws : Laws) (sou
       (laws.put_keeps place (node last) g (laws.out_keeps last b.forest sound.forest) (is_place, can_move_to_place))
       (λ k. laws.put_stays place last k g ∙ laws.out_stays last k b.forest)
       placed_ordered
+
+-- the same by the common ancestor
+ancestor_is : (lows : List ℕ) (ancestor : Option ℕ) → first_of lows ≡ ancestor → current_of lows ≡ ancestor_of ancestor
+ancestor_is [] ancestor e = ap ancestor_of e
+ancestor_is (n ∷ lows) ancestor e = ap ancestor_of e
+
+pub ancestor_open : {H : Type 0} (number : H → ℕ) (ancestor : Option H) (last : ℕ) (b : Building) →
+    IsAncestor last (option_map number ancestor) b → IfSome ancestor (λ element. IsIn (number element) b.stack)
+ancestor_open number None last b is = tt
+ancestor_open number (Some element) last b is =
+    subst (IsIn (number element)) (sym is.can.whole)
+    (in_behind (number element) is.uppers is.lows (first_in (number element) is.lows is.first))
+
+pub ancestor_sound : (last : ℕ) (ancestor : Option ℕ) (b : Building) → Laws → Sound b → IsAncestor last ancestor b →
+    Sound (placed last (ancestor_of ancestor) b)
+ancestor_sound last ancestor b laws sound is =
+    subst (λ n. Sound (placed last n b)) (ancestor_is is.lows ancestor is.first)
+    (placed_sound last is.uppers is.lows b laws sound is.can)
+
+-- what is seen once the last node is taken out, and where it may then be put
+pub seen_out : {H S : Type 0} (number : H → ℕ) (forest : S → Forest) (quirks : S → QuirksMode) (p : Parts H) (s t : S)
+    (last : ℕ) → forest t ≡ detached last (forest s) → quirks t ≡ quirks s →
+    seen number forest quirks p t ≡ out_of_place last (seen number forest quirks p s)
+seen_out number forest quirks p s t last forest_is quirks_is = cc
+
+pub can_put_last : (last : ℕ) (ancestor : Option ℕ) (b out : Building) (place : Place) → Laws → Sound b →
+    IsAncestor last ancestor b → out ≡ out_of_place last b → place ≡ place_for (ancestor_of ancestor) out →
+    CanPut place (node last) out.forest
+can_put_last last ancestor b out place laws sound is out_is place_is =
+    let same = place_is ∙ ap (place_for (ancestor_of ancestor)) out_is
+    ∙ ap (λ n. place_for n (out_of_place last b)) (sym (ancestor_is is.lows ancestor is.first)) in
+    subst (λ (x : Building). CanPut place (node last) x.forest) (sym out_is)
+    (subst (λ x. CanPut x (node last) (detached last b.forest)) (sym same) (
+      is_place last is.uppers is.lows b laws sound is.can,
+      can_move_to_place last is.uppers is.lows b laws sound is.can,
+    ))
+
+-- and what is seen once it is put
+put_is : (last ancestor : ℕ) (b out : Building) (place : Place) → out ≡ out_of_place last b →
+    place ≡ place_for ancestor out →
+    (let x : Building = record out { forest = put_node place last out.forest } in x) ≡ placed last ancestor b
+put_is last ancestor b out place out_is place_is =
+    ap (λ p. let x : Building = record out { forest = put_node p last out.forest } in x) place_is
+    ∙ ap (λ (y : Building). let x : Building =
+    record y { forest = put_node (place_for ancestor y) last y.forest } in x) out_is
+
+pub seen_placed : {H S : Type 0} (number : H → ℕ) (forest : S → Forest) (quirks : S → QuirksMode) (p q : Parts H)
+    (s t : S) (last ancestor : ℕ) (b : Building) (place : Place) → seen number forest quirks p s ≡ out_of_place last b →
+    place ≡ place_for ancestor (seen number forest quirks p s) → q ≡ p →
+    forest t ≡ put_node place last (forest s) → quirks t ≡ quirks s →
+    seen number forest quirks q t ≡ placed last ancestor b
+seen_placed number forest quirks p q s t last ancestor b place out_is place_is held_is forest_is quirks_is =
+    let out = seen number forest quirks p s in
+    let changed : seen number forest quirks q t ≡ record out { forest = put_node place last (forest s) } = cc in
+    changed ∙ put_is last ancestor b out place out_is place_is

@@ -1,11 +1,11 @@
 -- A copy of the formatting element takes the children of the furthest block, and becomes its child.
-use Rattle.std.proofs.Common.{◌≡◌, ℕ, ◌<◌, true, ◌⊎◌, inl, inr, sym, subst, ◌∙◌, List, Option, None, Some}
+use Rattle.std.proofs.Common.{◌≡◌, ℕ, ◌<◌, true, ◌⊎◌, inl, inr, sym, ap₂, subst, ◌∙◌, List, Option, None, Some}
 use Rattle.std.proofs.lemmas.Bool.{cond_both}
 use Rattle.formatting_list.specs.Alike.{AreFew}
 use Rattle.formatting_list.specs.Entries.{Entry, handed_over, is_listed, moved_behind, tag_in, up_to_marker}
 use Rattle.formatting_list.specs.Entries.{without_entry}
 use Rattle.html_forest.specs.Changes.{left_out, reparented}
-use Rattle.html_forest.specs.Conditions.{CanMove, CanReparent}
+use Rattle.html_forest.specs.Conditions.{CanMove, CanPut, CanReparent}
 use Rattle.html_forest.specs.Forest.{Forest, Holds, kind_at, nodes}
 use Rattle.html_forest.specs.Orders.{Above, AtOrAbove, IsForest, IsIn, IsParent, child}
 use Rattle.html_forest.specs.Places.{below, node, put_node}
@@ -206,3 +206,31 @@ module _ (n block : ℕ) (tag : Tag) (b : Building) (laws : Laws) (sound : Sound
         listed = λ k held l. entry_listed bookmark n m k tag held b can.tagged l;
         few = entry_few laws bookmark n m b sound.few can.listed;
       })
+
+-- What is asked of the forests that are at hand, and that they are forests: the copy's number, the forest in which it
+-- was made, and those behind each change.
+module _ (laws : Laws) (block n : ℕ) (f : Forest) (can : CanReparent block n f) where
+  pub may_give : (m : ℕ) (g : Forest) → m ≡ n → g ≡ f → CanReparent block m g
+  may_give m g e is = subst (λ x. CanReparent block x g) (sym e) (subst (CanReparent block n) (sym is) can)
+
+  given_is : (m : ℕ) (g given : Forest) → m ≡ n → g ≡ f → given ≡ reparented block m g →
+      given ≡ reparented block n f
+  given_is m g given e is now = now ∙ ap₂ (λ x h. reparented block x h) e is
+
+  pub given_is_forest : (m : ℕ) (g given : Forest) → IsForest f → m ≡ n → g ≡ f →
+      given ≡ reparented block m g → IsForest given
+  given_is_forest m g given forest e is now =
+      subst IsForest (sym (given_is m g given e is now)) (laws.given_keep block n f forest can)
+
+  pub may_take : (m : ℕ) (g given : Forest) → CanMove (below block) n (reparented block n f) → m ≡ n → g ≡ f →
+      given ≡ reparented block m g → CanPut (below block) (node m) given
+  may_take m g given move e is now = subst (λ x. CanPut (below block) (node x) given) (sym e)
+      (subst (CanPut (below block) (node n)) (sym (given_is m g given e is now))
+      (subst (λ size. block < size) (sym (laws.given_size block n f)) can.given, move))
+
+  pub taken_is_forest : (m : ℕ) (g given over : Forest) → IsForest f →
+      CanMove (below block) n (reparented block n f) → m ≡ n → g ≡ f → given ≡ reparented block m g →
+      over ≡ put_node (below block) m given → IsForest over
+  taken_is_forest m g given over forest move e is now then = subst IsForest (sym then)
+      (laws.put_keeps (below block) (node m) given (given_is_forest m g given forest e is now)
+      (may_take m g given move e is now))

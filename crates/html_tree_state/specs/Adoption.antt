@@ -2,8 +2,8 @@
 use Rattle.std.specs.Prelude.{ℕ, zero, suc, ◌==◌, Bool, true, false, ◌&&◌, not, List, [], ◌∷◌, Option, None, Some, map}
 use Rattle.std.specs.Prelude.{if◌then◌else◌}
 use Rattle.std.specs.Bool.{nat_lt}
-use Rattle.formatting_list.specs.Entries.{handed_over, is_listed, last_named, moved_behind, tag_in, up_to_marker}
-use Rattle.formatting_list.specs.Entries.{without_entry}
+use Rattle.formatting_list.specs.Entries.{Entry, handed_over, is_listed, last_named, moved_behind, tag_in}
+use Rattle.formatting_list.specs.Entries.{up_to_marker, without_entry}
 use Rattle.html_forest.specs.Changes.{detached, left_out, reparented}
 use Rattle.html_forest.specs.Forest.{Forest, is_in, name_of, nodes}
 use Rattle.html_forest.specs.Places.{below, put_before, put_node}
@@ -74,6 +74,11 @@ walked block count (n ∷ ns) w =
 abbrev pub out_of_place : ℕ → Building → Building
 out_of_place n b = record b { forest = detached n b.forest }
 
+-- the common ancestor: an open element, or the document
+abbrev pub ancestor_of : Option ℕ → ℕ
+ancestor_of None = 0
+ancestor_of (Some n) = n
+
 abbrev pub placed : (last ancestor : ℕ) → Building → Building
 placed last ancestor b = record b {
   forest = put_node (place_for ancestor (out_of_place last b)) last (detached last b.forest);
@@ -82,12 +87,13 @@ placed last ancestor b = record b {
 -- A copy of the formatting element takes the children of the furthest block, and becomes its child. It is listed at the
 -- bookmark, where that is behind the last marker, else in the place of the formatting element; on the stack it stands
 -- right below the furthest block. The formatting element leaves both.
+abbrev pub entries_at : Option ℕ → (n copy : ℕ) → List Entry → List Entry
+entries_at None n copy entries = handed_over n copy entries
+entries_at (Some after) n copy entries = if is_listed after (up_to_marker (without_entry n entries))
+    then moved_behind n copy after entries else handed_over n copy entries
+
 abbrev pub with_entry_at : Option ℕ → (n copy : ℕ) → Building → Building
-with_entry_at None n copy b = record b { formatting = handed_over n copy b.formatting }
-with_entry_at (Some after) n copy b = record b {
-  formatting = if is_listed after (up_to_marker (without_entry n b.formatting))
-      then moved_behind n copy after b.formatting else handed_over n copy b.formatting;
-}
+with_entry_at bookmark n copy b = record b { formatting = entries_at bookmark n copy b.formatting }
 
 abbrev pub taken_over : (bookmark : Option ℕ) → (n block : ℕ) → Tag → Building → Building
 taken_over bookmark n block tag b = record (with_entry_at bookmark n (nodes b.forest) b) {
@@ -108,7 +114,7 @@ adopted n block tag b = finished n block (current_of (farther n b.stack)) tag
 pub data Turn : Type 0 where
   over : Building → Turn
   again : Building → Turn
-  other_end : Turn
+  other_end : Building → Turn
 
 abbrev pub popped_with : ℕ → Building → Building
 popped_with n b = record b { stack = farther n b.stack }
@@ -124,7 +130,7 @@ turn_with (Some tag) n b = if not (is_in n b.stack) then over (unlisted n b)
     else turn_with_block (furthest_block n b) n tag b
 
 abbrev pub turn_for : Option ℕ → Building → Turn
-turn_for None b = other_end
+turn_for None b = other_end b
 turn_for (Some n) b = turn_with (tag_in n b.formatting) n b
 
 abbrev pub turn : (name : List ℕ) → Building → Turn
@@ -147,7 +153,7 @@ closed_by_other_end name b = closed_with (named_before_special name b.forest b.s
 abbrev pub after_turn : Turn → (name : List ℕ) → (Building → Building) → Building → Building
 after_turn (over done) name further b = done
 after_turn (again more) name further b = further more
-after_turn other_end name further b = closed_by_other_end name b
+after_turn (other_end same) name further b = closed_by_other_end name same
 
 abbrev pub turns : ℕ → (name : List ℕ) → Building → Building
 turns zero name b = b

@@ -1,5 +1,5 @@
 -- What each part of a turn of the adoption agency asks.
-use Rattle.std.specs.Prelude.{◌≡◌, ℕ, ◌||◌, Bool, false, true, List, ◌++◌, Some, codes}
+use Rattle.std.specs.Prelude.{◌≡◌, ℕ, ◌||◌, Bool, false, true, List, ◌++◌, Option, Some, codes}
 use Rattle.formatting_list.specs.Entries.{is_listed, tag_in, up_to_marker}
 use Rattle.html_forest.specs.Forest.{Forest, name_of}
 use Rattle.html_forest.specs.Orders.{IsIn}
@@ -8,6 +8,7 @@ use Rattle.html_lexemes.specs.declared.token.Tag.{Tag}
 use Rattle.html_tree_state.specs.Adoption.{nearer}
 use Rattle.html_tree_state.specs.Building.{Building}
 use Rattle.html_tree_state.specs.Insertions.{is_template}
+use Rattle.html_tree_state.specs.OpenElements.{first_of}
 
 -- an element that is open and listed is copied, and the last node is open and nearer to the current node
 pub record CanCopy (n last : ℕ) (tag : Tag) (b : Building) : Type 0 where
@@ -25,6 +26,13 @@ pub record CanPlace (last : ℕ) (uppers lows : List ℕ) (b : Building) : Type 
   pub whole : b.stack ≡ uppers ++ lows
   pub below_it : IsIn last uppers
   pub plain : (n : ℕ) → IsIn n uppers → is_foster_stop n b.forest ≡ false
+
+-- the last node may be placed for a common ancestor
+pub record IsAncestor (last : ℕ) (ancestor : Option ℕ) (b : Building) : Type 0 where
+  pub uppers : List ℕ
+  pub lows : List ℕ
+  pub can : CanPlace last uppers lows b
+  pub first : first_of lows ≡ ancestor
 
 -- the furthest block is open, and the formatting element, which is listed behind the last marker, is another
 pub record CanTakeOver (n block : ℕ) (tag : Tag) (b : Building) : Type 0 where

@@ -1,6 +1,5 @@
 -- The list of active formatting elements and the tree (WHATWG HTML, 13.2.4.3).
-use Rattle.std.specs.Prelude.{ℕ, Bool, true, List, [], ◌∷◌, codes}
-use Rattle.std.specs.Prelude.{if◌then◌else◌}
+use Rattle.std.specs.Prelude.{ℕ, ◌-◌, Bool, true, List, [], ◌∷◌, codes, drop, if◌then◌else◌, length, take}
 use Rattle.formatting_list.specs.Entries.{Entry, before_marker, formatted, marker, without_entry}
 use Rattle.formatting_list.specs.Pushing.{pushed}
 use Rattle.html_forest.specs.Changes.{made_element}
@@ -67,3 +66,10 @@ all_made_anew (entry ∷ earlier) b = made_anew entry (all_made_anew earlier b)
 abbrev pub reconstructed : Building → Building
 reconstructed b = all_made_anew (to_make b.stack b.formatting)
     (record b { formatting = made_already b.stack b.formatting })
+
+-- the same where the entries that come first, so many, stand already
+abbrev pub made_behind : ℕ → Building → Building
+made_behind left b = all_made_anew (take left b.formatting) (record b { formatting = drop left b.formatting })
+
+abbrev pub made_from : ℕ → Building → Building
+made_from index b = made_behind (length b.formatting - index) b

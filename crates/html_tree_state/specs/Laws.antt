@@ -1,8 +1,9 @@
--- The laws of forests, and of the list of active formatting elements, that this crate stands on, as its lemmas take them.
-use Rattle.std.specs.Prelude.{◌≡◌, ℕ, ◌⊎◌, ◌↔◌, Bool, true, List, ◌∷◌, None, Some, suc}
+-- The laws of forests, and of the list of active formatting elements, that this crate stands on, as its lemmas take
+-- them.
+use Rattle.std.specs.Prelude.{◌≡◌, ℕ, ◌⊎◌, ◌↔◌, Bool, true, List, ◌∷◌, ◌++◌, None, Some, suc}
 use Rattle.formatting_list.specs.Alike.{AreFew}
-use Rattle.formatting_list.specs.Entries.{Entry, before_marker, handed_over, is_listed, marker, moved_behind}
-use Rattle.formatting_list.specs.Entries.{up_to_marker, without_entry}
+use Rattle.formatting_list.specs.Entries.{Entry, before_marker, formatted, handed_over, is_listed, marker}
+use Rattle.formatting_list.specs.Entries.{moved_behind, up_to_marker, without_entry}
 use Rattle.formatting_list.specs.Pushing.{pushed}
 use Rattle.html_forest.specs.Changes.{detached, made, made_element, reparented, with_attributes}
 use Rattle.html_forest.specs.Conditions.{CanPut, CanReparent, IsAbovePlace, IsPlace}
@@ -78,3 +79,5 @@ pub record Laws : Type 0 where
   pub few_moved : (n m after : ℕ) (entries : List Entry) → AreFew entries →
       is_listed n (up_to_marker entries) ≡ true → is_listed after (up_to_marker (without_entry n entries)) ≡ true →
       AreFew (moved_behind n m after entries)
+  pub few_given : (n m : ℕ) (tag : Tag) (front back : List Entry) → AreFew (front ++ formatted n tag ∷ back) →
+      AreFew (front ++ formatted m tag ∷ back)

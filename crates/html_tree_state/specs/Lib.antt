@@ -14,3 +14,4 @@ pub mod RowWords
 pub mod Scopes
 pub mod Sets
 pub mod Sound
+pub mod Walks

@@ -10,6 +10,7 @@ ghost use Rattle.html_tree_state.specs.Formatting.{cleared, inserted_for, insert
 ghost use Rattle.html_tree_state.specs.Scopes.{taken_off, with_closed_p};
 ghost use Rattle.html_tree_state.specs.Sound.{Sound};
 
+use crate::adopting::adopting_keeps_sound;
 use crate::construction::Construction;
 use crate::elements::PushFlag;
 use crate::laws::laws_of_forests;
@@ -58,8 +59,8 @@ impl<S: TreeSink> Construction<S> {
         self.insert_element(PushFlag::Push, name, attrs)
     }
 
-    /// Inserts a formatting element for a tag, and lists it; of three behind the last marker that are alike the earliest
-    /// goes.
+    /// Inserts a formatting element for a tag, and lists it; of three behind the last marker that are alike the
+    /// earliest goes.
     pub fn insert_formatting_element(&mut self, tag: Tag) -> Result<S::Handle, ParseFault>
         requires sound { Sound (seen S.number S.forest S.quirks self.old.held self.old.sink) }
         requires formatting { is_one_of formatting tag.name ≡ true }
@@ -79,9 +80,11 @@ impl<S: TreeSink> Construction<S> {
     /// Takes an element off the stack of open elements, wherever it stands.
     pub fn remove_from_stack(&mut self, element: S::Handle)
         requires { Sound (seen S.number S.forest S.quirks self.old.held self.old.sink) }
-        ensures { seen S.number S.forest S.quirks self.new.held self.new.sink
+        ensures seen { seen S.number S.forest S.quirks self.new.held self.new.sink
             ≡ taken_off (S.number element) (seen S.number S.forest S.quirks self.old.held self.old.sink) }
+        ensures sound { Sound (seen S.number S.forest S.quirks self.new.held self.new.sink) }
     {
+        adopting_keeps_sound();
         self.held.take_off(&self.sink, element);
     }
 

@@ -1,10 +1,14 @@
 //! What is held beside the nodes.
-ghost use Rattle.std.specs.Prelude.{◌≡◌, ℕ, [], ◌∷◌, IfSome, None, OnErr, OnOk, false, option_map};
-ghost use Rattle.formatting_list.specs.Entries.{before_marker, entries_of, marker, without_entry};
+ghost use Rattle.std.specs.Prelude.{◌≡◌, ℕ, ◌<◌, List, [], ◌∷◌, ◌++◌, IfSome, None, OnErr, OnOk, false, length};
+ghost use Rattle.std.specs.Prelude.{option_map};
+ghost use Rattle.formatting_list.specs.Entries.{before_marker, entries_of, given, handed_over, marker, without_entry};
 ghost use Rattle.formatting_list.specs.Pushing.{pushed};
+ghost use Rattle.formatting_list.specs.declared.entry.FormatEntry.{FormatEntry};
 ghost use Rattle.html_forest.specs.Changes.{left_out};
 ghost use Rattle.html_forest.specs.Forest.{is_in};
 ghost use Rattle.html_forest.specs.Orders.{AreDistinct};
+ghost use Rattle.html_forest.specs.Places.{put_before};
+ghost use Rattle.html_tree_state.specs.Adoption.{entries_at, replaced};
 ghost use Rattle.html_tree_state.specs.Building.{stack_of};
 ghost use Rattle.html_tree_state.specs.OpenAt.{IsFirstOpened, IsOpenAt};
 ghost use Rattle.html_tree_state.specs.OpenElements.{below_current, first_of};
@@ -140,6 +144,18 @@ impl<H: Copy> Held<H> {
         self.formatting.remove(sink, element);
     }
 
+    /// Gives the entry that has so many before it to another element, with its tag; a marker stays.
+    pub fn give(&mut self, index: usize, to: H)
+        requires { index < length self.old.entries }
+        ensures open { self.new.open_elements ≡ self.old.open_elements }
+        ensures entries { (entry : FormatEntry H) (front back : List (FormatEntry H)) →
+            self.old.entries ≡ front ++ entry ∷ back → length front ≡ index →
+            self.new.entries ≡ front ++ given to entry ∷ back }
+        ensures fostering { self.new.is_fostering ≡ self.old.is_fostering }
+    {
+        self.formatting.give(index, to);
+    }
+
     /// Takes an element off the stack, wherever it stands.
     pub fn take_off<S: TreeSink<Handle = H>>(&mut self, sink: &S, element: H)
         requires { AreDistinct (stack_of S.number self.old.open_elements) }
@@ -149,6 +165,67 @@ impl<H: Copy> Held<H> {
         ensures fostering { self.new.is_fostering ≡ self.old.is_fostering }
     {
         leave_out(&mut self.open_elements, sink, element);
+    }
+
+    /// Gives an element's place among the open ones to another.
+    pub fn replace<S: TreeSink<Handle = H>>(&mut self, sink: &S, element: H, to: H)
+        requires { AreDistinct (stack_of S.number self.old.open_elements) }
+        ensures open { stack_of S.number self.new.open_elements
+            ≡ replaced (S.number element) (S.number to) (stack_of S.number self.old.open_elements) }
+        ensures entries { self.new.entries ≡ self.old.entries }
+        ensures fostering { self.new.is_fostering ≡ self.old.is_fostering }
+    {
+        put_in_place_of(&mut self.open_elements, sink, element, to);
+    }
+
+    /// Opens an element right below another, that is, nearer to the current node.
+    pub fn open_below<S: TreeSink<Handle = H>>(
+        &mut self,
+        sink: &S,
+        element: H,
+        opened: H,
+    ) -> Result<(), AllocError>
+        ensures open { OnOk result (stack_of S.number self.new.open_elements
+            ≡ put_before (S.number element) (S.number opened) (stack_of S.number self.old.open_elements)) }
+        ensures entries { self.new.entries ≡ self.old.entries }
+        ensures fostering { self.new.is_fostering ≡ self.old.is_fostering }
+        ensures err { OnErr result (self.new ≡ self.old) }
+    {
+        insert_below(&mut self.open_elements, sink, element, opened)
+    }
+
+    /// Gives an element's entry to another.
+    pub fn hand_over<S: TreeSink<Handle = H>>(&mut self, sink: &S, element: H, to: H)
+        ensures open { self.new.open_elements ≡ self.old.open_elements }
+        ensures entries { entries_of S.number self.new.entries
+            ≡ handed_over (S.number element) (S.number to) (entries_of S.number self.old.entries) }
+        ensures fostering { self.new.is_fostering ≡ self.old.is_fostering }
+    {
+        self.formatting.hand_over(sink, element, to);
+    }
+
+    /// Gives an element's entry to its copy: at the bookmark, where that stands behind the last marker, else where the
+    /// entry is.
+    pub fn list_at<S: TreeSink<Handle = H>>(
+        &mut self,
+        sink: &S,
+        bookmark: Option<H>,
+        element: H,
+        copy: H,
+    ) -> Result<(), AllocError>
+        ensures open { self.new.open_elements ≡ self.old.open_elements }
+        ensures entries { OnOk result (entries_of S.number self.new.entries ≡ entries_at
+            (option_map S.number bookmark) (S.number element) (S.number copy) (entries_of S.number self.old.entries)) }
+        ensures fostering { self.new.is_fostering ≡ self.old.is_fostering }
+        ensures err { OnErr result (self.new ≡ self.old) }
+    {
+        if let Some(after) = bookmark {
+            if self.formatting.stands_behind_marker(sink, after, element) {
+                return self.formatting.move_behind(sink, element, copy, after);
+            }
+        }
+        self.formatting.hand_over(sink, element, copy);
+        Ok(())
     }
 }
 
@@ -161,6 +238,40 @@ fn leave_out<H: Copy, S: TreeSink<Handle = H>>(elements: &mut Vec<H>, sink: &S, 
     if let Some(at) = position(elements.as_slice(), sink, element) {
         elements.remove(at);
     }
+}
+
+// puts an element in the place of another, where that is one of these
+fn put_in_place_of<H: Copy, S: TreeSink<Handle = H>>(
+    elements: &mut Vec<H>,
+    sink: &S,
+    element: H,
+    to: H,
+)
+    requires { AreDistinct (stack_of S.number elements.old.items) }
+    ensures { stack_of S.number elements.new.items
+        ≡ replaced (S.number element) (S.number to) (stack_of S.number elements.old.items) }
+{
+    if let Some(at) = position(elements.as_slice(), sink, element) {
+        elements[at] = to;
+    }
+}
+
+// puts an element right behind another, where that is one of these
+fn insert_below<H: Copy, S: TreeSink<Handle = H>>(
+    elements: &mut Vec<H>,
+    sink: &S,
+    element: H,
+    opened: H,
+) -> Result<(), AllocError>
+    ensures ok { OnOk result (stack_of S.number elements.new.items
+        ≡ put_before (S.number element) (S.number opened) (stack_of S.number elements.old.items)) }
+    ensures err { OnErr result (elements.new.items ≡ elements.old.items) }
+{
+    let Some(at) = position(elements.as_slice(), sink, element) else {
+        return Ok(());
+    };
+    elements.insert(at + 1, opened)?;
+    Ok(())
 }
 
 /// How many open elements stand before one, looked for from the current node.

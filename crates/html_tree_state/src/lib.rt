@@ -3,6 +3,7 @@
 #![tactic(auto)]
 
 mod adopting;
+mod adoption_parts;
 mod comments;
 mod construction;
 mod elements;
@@ -13,6 +14,7 @@ mod held;
 mod insertion;
 mod laws;
 mod pops;
+mod reconstruction;
 mod resetting;
 mod rows;
 mod scopes;

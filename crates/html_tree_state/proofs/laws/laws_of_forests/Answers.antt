@@ -41,4 +41,5 @@ returns c = record {
   few_removed = c.at_most_three_are_alike.ensures.removed;
   few_handed = c.at_most_three_are_alike.ensures.handed_over;
   few_moved = c.at_most_three_are_alike.ensures.moved;
+  few_given = c.at_most_three_are_alike.ensures.given;
 }

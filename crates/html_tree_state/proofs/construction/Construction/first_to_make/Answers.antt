@@ -1,0 +1,16 @@
+use Rattle.std.proofs.Common.{List, ap₂, length, ◌∙◌}
+use Rattle.formatting_list.specs.Entries.{entries_of}
+use Rattle.formatting_list.specs.declared.entry.FormatEntry.{FormatEntry}
+use Rattle.html_tree_state.specs.Building.{seen, stack_of}
+use Rattle.html_tree_state.specs.Formatting.{made_already}
+use Rattle.html_tree_state.proofs.MadeAnewLemmas.{made_from_first}
+use Rattle.html_tree_state.proofs.construction.Construction.first_to_make.Goals as goal
+
+pub returns : goal.returns
+returns g c =
+    let tree = g.S.TreeSink in
+    made_from_first (seen tree.number tree.forest tree.quirks c.args.self.now.held c.args.self.now.sink)
+    c.kept_entries.result (c.kept_entries.ensures
+    ∙ ap₂ (λ (o : List g.row.S-Handle.Denot) (e : List (FormatEntry g.row.S-Handle.Denot)).
+    length (made_already (stack_of tree.number o) (entries_of tree.number e)))
+    c.open_elements.ensures (c.as_slice.ensures ∙ c.formatting.ensures))

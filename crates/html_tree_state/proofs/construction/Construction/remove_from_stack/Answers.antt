@@ -1,0 +1,10 @@
+use Rattle.std.proofs.Common.{rules, subst, sym}
+use Rattle.html_tree_state.specs.Sound.{Sound}
+use Rattle.html_tree_state.proofs.construction.Construction.remove_from_stack.Goals as goal
+
+pub returns-clause-seen : goal.returns-clause-seen
+returns-clause-seen g c = search rules
+
+pub returns-clause-sound : goal.returns-clause-sound
+returns-clause-sound g c = subst Sound (sym (returns-clause-seen g c))
+    (c.adopting_keeps_sound.ensures.taken_off (g.S.TreeSink.number c.args.element) _ c.requires)

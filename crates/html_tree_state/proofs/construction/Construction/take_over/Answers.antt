@@ -1,0 +1,96 @@
+use Rattle.std.proofs.Common.{◌∙◌, arith, option_map, subst, sym}
+use Rattle.std.proofs.lemmas.Grind.{common_steps}
+use Rattle.html_forest.specs.Forest.{nodes}
+use Rattle.html_tree_state.specs.Building.{seen}
+use Rattle.html_tree_state.specs.Formatting.{made_for}
+use Rattle.html_tree_state.specs.Sound.{Sound}
+use Rattle.html_tree_state.proofs.GrownLemmas.{made_apart}
+use Rattle.html_tree_state.proofs.TakeOverLemmas.{given_is_forest, may_give, may_take, taken_is_forest}
+use Rattle.html_tree_state.proofs.construction.Construction.take_over.Goals as goal
+
+pub reparent_children-requires : goal.reparent_children-requires
+reparent_children-requires g c =
+    let tree = g.S.TreeSink in
+    let b = seen tree.number tree.forest tree.quirks c.args.self.now.held c.args.self.now.sink in
+    let laws = c.laws_of_forests.ensures in
+    let block = tree.number c.args.block in
+    may_give laws block (nodes b.forest) (made_for c.args.tag b.forest)
+    (c.adopting_may_be_done.ensures.given (tree.number c.args.element) block c.args.tag b laws c.requires.sound
+    c.requires.can)
+    (tree.number c.in_ok-copy.copy) (tree.forest c.make_element_for.new.self.sink) c.in_ok-copy.ensures.number
+    c.in_ok-copy.ensures.forest
+
+pub append-requires : goal.append-requires
+append-requires g c =
+    let tree = g.S.TreeSink in
+    let b = seen tree.number tree.forest tree.quirks c.args.self.now.held c.args.self.now.sink in
+    let laws = c.laws_of_forests.ensures in
+    let block = tree.number c.args.block in
+    may_take laws block (nodes b.forest) (made_for c.args.tag b.forest)
+    (c.adopting_may_be_done.ensures.given (tree.number c.args.element) block c.args.tag b laws c.requires.sound
+    c.requires.can)
+    (tree.number c.in_ok-copy.copy) (tree.forest c.make_element_for.new.self.sink)
+    (tree.forest c.reparent_children.new.self)
+    (c.adopting_may_be_done.ensures.taken_over (tree.number c.args.element) block c.args.tag b laws c.requires.sound
+    c.requires.can)
+    c.in_ok-copy.ensures.number c.in_ok-copy.ensures.forest c.in_ok-reparent_children.ensures.forest
+
+pub returns-in_err-append-clause-forest : goal.returns-in_err-append-clause-forest
+returns-in_err-append-clause-forest g c =
+    let tree = g.S.TreeSink in
+    let b = seen tree.number tree.forest tree.quirks c.args.self.now.held c.args.self.now.sink in
+    let laws = c.laws_of_forests.ensures in
+    let block = tree.number c.args.block in
+    given_is_forest laws block (nodes b.forest) (made_for c.args.tag b.forest)
+    (c.adopting_may_be_done.ensures.given (tree.number c.args.element) block c.args.tag b laws c.requires.sound
+    c.requires.can)
+    (tree.number c.in_ok-copy.copy) (tree.forest c.make_element_for.new.self.sink) (tree.forest c.append.new.self)
+    (made_apart laws c.args.tag b.forest c.requires.sound.forest).forest c.in_ok-copy.ensures.number
+    c.in_ok-copy.ensures.forest (c.in_err-append.ensures.refused ∙ c.in_ok-reparent_children.ensures.forest)
+
+pub returns-in_err-list_at-clause-forest : goal.returns-in_err-list_at-clause-forest
+returns-in_err-list_at-clause-forest g c =
+    let tree = g.S.TreeSink in
+    let b = seen tree.number tree.forest tree.quirks c.args.self.now.held c.args.self.now.sink in
+    let laws = c.laws_of_forests.ensures in
+    let block = tree.number c.args.block in
+    taken_is_forest laws block (nodes b.forest) (made_for c.args.tag b.forest)
+    (c.adopting_may_be_done.ensures.given (tree.number c.args.element) block c.args.tag b laws c.requires.sound
+    c.requires.can)
+    (tree.number c.in_ok-copy.copy) (tree.forest c.make_element_for.new.self.sink)
+    (tree.forest c.reparent_children.new.self) (tree.forest c.append.new.self)
+    (made_apart laws c.args.tag b.forest c.requires.sound.forest).forest
+    (c.adopting_may_be_done.ensures.taken_over (tree.number c.args.element) block c.args.tag b laws c.requires.sound
+    c.requires.can)
+    c.in_ok-copy.ensures.number c.in_ok-copy.ensures.forest c.in_ok-reparent_children.ensures.forest
+    c.in_ok-append.ensures.forest
+
+pub returns-in_err-open_below-clause-forest : goal.returns-in_err-open_below-clause-forest
+returns-in_err-open_below-clause-forest g c =
+    let tree = g.S.TreeSink in
+    let b = seen tree.number tree.forest tree.quirks c.args.self.now.held c.args.self.now.sink in
+    let laws = c.laws_of_forests.ensures in
+    let block = tree.number c.args.block in
+    taken_is_forest laws block (nodes b.forest) (made_for c.args.tag b.forest)
+    (c.adopting_may_be_done.ensures.given (tree.number c.args.element) block c.args.tag b laws c.requires.sound
+    c.requires.can)
+    (tree.number c.in_ok-copy.copy) (tree.forest c.make_element_for.new.self.sink)
+    (tree.forest c.reparent_children.new.self) (tree.forest c.append.new.self)
+    (made_apart laws c.args.tag b.forest c.requires.sound.forest).forest
+    (c.adopting_may_be_done.ensures.taken_over (tree.number c.args.element) block c.args.tag b laws c.requires.sound
+    c.requires.can)
+    c.in_ok-copy.ensures.number c.in_ok-copy.ensures.forest c.in_ok-reparent_children.ensures.forest
+    c.in_ok-append.ensures.forest
+
+pub returns-clause-seen : goal.returns-clause-seen
+returns-clause-seen g c = grind (arith, common_steps)
+
+pub returns-clause-sound : goal.returns-clause-sound
+returns-clause-sound g c =
+    let tree = g.S.TreeSink in
+    subst Sound (sym (returns-clause-seen g c))
+    (c.adopting_keeps_sound.ensures.taken_over (option_map tree.number c.args.bookmark) (tree.number c.args.element)
+    (tree.number c.args.block) c.args.tag _ c.laws_of_forests.ensures c.requires.sound c.requires.can)
+
+pub returns-clause-forest : goal.returns-clause-forest
+returns-clause-forest g c = (returns-clause-sound g c).forest

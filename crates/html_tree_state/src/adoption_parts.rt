@@ -1,0 +1,135 @@
+//! The parts of a turn of the adoption agency (WHATWG HTML, 13.2.6.4.7).
+ghost use Rattle.std.specs.Prelude.{◌≡◌, IfErr, IfOk, IfSome, OnErr, OnOk, option_map};
+ghost use Rattle.html_forest.specs.Forest.{nodes};
+ghost use Rattle.html_forest.specs.Orders.{IsForest, IsIn};
+ghost use Rattle.html_lexemes.specs.declared.fault.ParseFault.TheVariants.{Memory};
+ghost use Rattle.html_tree_state.specs.Adoption.{ancestor_of, copied, placed, taken_over};
+ghost use Rattle.html_tree_state.specs.Building.{seen};
+ghost use Rattle.html_tree_state.specs.CanAdopt.{CanCopy, CanTakeOver, IsAncestor};
+ghost use Rattle.html_tree_state.specs.Formatting.{made_for};
+ghost use Rattle.html_tree_state.specs.Insertions.{place_for};
+ghost use Rattle.html_tree_state.specs.Points.{place_of};
+ghost use Rattle.html_tree_state.specs.Sound.{Sound};
+
+use crate::adopting::{adopting_keeps_sound, adopting_may_be_done};
+use crate::construction::Construction;
+use crate::insertion::InsertionPoint;
+use crate::laws::laws_of_forests;
+use html_forest::{NodeOrText, TreeSink};
+use html_lexemes::{Namespace, ParseFault, QualName, Tag};
+use tree_words::element_flags;
+
+impl<S: TreeSink> Construction<S> {
+    // makes an HTML element for a tag, which stands nowhere yet
+    fn make_element_for(&mut self, tag: Tag) -> Result<S::Handle, ParseFault>
+        ensures number { IfOk result (λ element. S.number element ≡ nodes (S.forest self.old.sink)) }
+        ensures forest { OnOk result (S.forest self.new.sink ≡ made_for tag (S.forest self.old.sink)) }
+        ensures refused { OnErr result (S.forest self.new.sink ≡ S.forest self.old.sink) }
+        ensures quirks { S.quirks self.new.sink ≡ S.quirks self.old.sink }
+        ensures held { self.new.held ≡ self.old.held }
+        ensures memory { IfErr result (λ e. e ≡ Memory) }
+    {
+        let name = QualName::new(Namespace::Html, tag.name);
+        let flags = element_flags(&name, &tag.attrs);
+        self.sink.create_element(name, tag.attrs, flags)
+    }
+
+    /// Copies an element for its tag: the copy takes its place among the open and the listed elements, and the last
+    /// node as its child.
+    pub(crate) fn copy_element(
+        &mut self,
+        element: S::Handle,
+        tag: Tag,
+        last: S::Handle,
+    ) -> Result<S::Handle, ParseFault>
+        requires sound { Sound (seen S.number S.forest S.quirks self.old.held self.old.sink) }
+        requires can { CanCopy (S.number element) (S.number last) tag
+            (seen S.number S.forest S.quirks self.old.held self.old.sink) }
+        ensures number { IfOk result (λ copy. S.number copy ≡ nodes (S.forest self.old.sink)) }
+        ensures seen { OnOk result (seen S.number S.forest S.quirks self.new.held self.new.sink
+            ≡ copied (S.number element) tag (S.number last)
+            (seen S.number S.forest S.quirks self.old.held self.old.sink)) }
+        ensures sound { OnOk result (Sound (seen S.number S.forest S.quirks self.new.held self.new.sink)) }
+        ensures forest { IsForest (S.forest self.new.sink) }
+        ensures memory { IfErr result (λ e. e ≡ Memory) }
+    {
+        laws_of_forests();
+        adopting_keeps_sound();
+        let copy = self.make_element_for(tag)?;
+        self.sink.remove_from_parent(last)?;
+        self.sink.append(copy, NodeOrText::AppendNode(last))?;
+        self.held.replace(&self.sink, element, copy);
+        self.held.hand_over(&self.sink, element, copy);
+        Ok(copy)
+    }
+
+    /// Puts the last node, which stands nowhere, to the appropriate place for the common ancestor: that is an open
+    /// element, or the document.
+    pub(crate) fn place_last(
+        &mut self,
+        last: S::Handle,
+        ancestor: Option<S::Handle>,
+    ) -> Result<(), ParseFault>
+        requires sound { Sound (seen S.number S.forest S.quirks self.old.held self.old.sink) }
+        requires can { IsAncestor (S.number last) (option_map S.number ancestor)
+            (seen S.number S.forest S.quirks self.old.held self.old.sink) }
+        ensures seen { OnOk result (seen S.number S.forest S.quirks self.new.held self.new.sink
+            ≡ placed (S.number last) (ancestor_of (option_map S.number ancestor))
+            (seen S.number S.forest S.quirks self.old.held self.old.sink)) }
+        ensures sound { OnOk result (Sound (seen S.number S.forest S.quirks self.new.held self.new.sink)) }
+        ensures forest { IsForest (S.forest self.new.sink) }
+        ensures memory { IfErr result (λ e. e ≡ Memory) }
+    {
+        laws_of_forests();
+        self.sink.remove_from_parent(last)?;
+        let point = self.point_for(ancestor);
+        self.insert_at(point, NodeOrText::AppendNode(last))?;
+        Ok(())
+    }
+
+    // the appropriate place for the common ancestor
+    fn point_for(&self, ancestor: Option<S::Handle>) -> InsertionPoint<S::Handle>
+        requires sound { Sound (seen S.number S.forest S.quirks self.now.held self.now.sink) }
+        requires open { IfSome ancestor (λ element. IsIn (S.number element)
+            (seen S.number S.forest S.quirks self.now.held self.now.sink).stack) }
+        ensures { place_of S.number (S.forest self.now.sink) result
+            ≡ place_for (ancestor_of (option_map S.number ancestor))
+            (seen S.number S.forest S.quirks self.now.held self.now.sink) }
+    {
+        match ancestor {
+            Some(element) => self.appropriate_place_for_insertion(element),
+            None => InsertionPoint::LastChild(self.sink.get_document()),
+        }
+    }
+
+    /// Lets a copy of the formatting element take the children of the furthest block, and become its child. It is
+    /// listed at the bookmark, and stands on the stack right below the block; the element leaves both.
+    pub(crate) fn take_over(
+        &mut self,
+        bookmark: Option<S::Handle>,
+        element: S::Handle,
+        block: S::Handle,
+        tag: Tag,
+    ) -> Result<(), ParseFault>
+        requires sound { Sound (seen S.number S.forest S.quirks self.old.held self.old.sink) }
+        requires can { CanTakeOver (S.number element) (S.number block) tag
+            (seen S.number S.forest S.quirks self.old.held self.old.sink) }
+        ensures seen { OnOk result (seen S.number S.forest S.quirks self.new.held self.new.sink
+            ≡ taken_over (option_map S.number bookmark) (S.number element) (S.number block) tag
+            (seen S.number S.forest S.quirks self.old.held self.old.sink)) }
+        ensures sound { OnOk result (Sound (seen S.number S.forest S.quirks self.new.held self.new.sink)) }
+        ensures forest { IsForest (S.forest self.new.sink) }
+        ensures memory { IfErr result (λ e. e ≡ Memory) }
+    {
+        laws_of_forests();
+        adopting_keeps_sound();
+        adopting_may_be_done();
+        let copy = self.make_element_for(tag)?;
+        self.sink.reparent_children(block, copy)?;
+        self.sink.append(block, NodeOrText::AppendNode(copy))?;
+        self.held.list_at(&self.sink, bookmark, element, copy)?;
+        self.held.take_off(&self.sink, element);
+        self.held.open_below(&self.sink, block, copy)?;
+        Ok(())
+    }
+}

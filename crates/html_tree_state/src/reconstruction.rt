@@ -1,0 +1,97 @@
+//! The list of active formatting elements is made anew (WHATWG HTML, 13.2.4.3, "reconstruct the active formatting
+//! elements").
+ghost use Rattle.std.specs.Prelude.{◌≡◌, ◌+◌, ◌<◌, IfErr, OnOk, length};
+ghost use Rattle.formatting_list.specs.Entries.{entries_of, entry_of};
+ghost use Rattle.html_forest.specs.Orders.{IsForest};
+ghost use Rattle.html_lexemes.specs.declared.fault.ParseFault.TheVariants.{Memory};
+ghost use Rattle.html_tree_state.specs.Building.{seen, stack_of};
+ghost use Rattle.html_tree_state.specs.Formatting.{is_kept, made_already, made_from, reconstructed};
+ghost use Rattle.html_tree_state.specs.Sound.{Sound};
+
+use crate::construction::Construction;
+use crate::held::position;
+use crate::laws::laws_of_forests;
+use formatting_list::FormatEntry;
+use html_forest::TreeSink;
+use html_lexemes::ParseFault;
+
+impl<S: TreeSink> Construction<S> {
+    /// Opens anew each listed element behind the last marker, and behind the last one that is open ("reconstruct the
+    /// active formatting elements").
+    pub fn reconstruct_active_formatting_elements(&mut self) -> Result<(), ParseFault>
+        requires { Sound (seen S.number S.forest S.quirks self.old.held self.old.sink) }
+        ensures seen { OnOk result (seen S.number S.forest S.quirks self.new.held self.new.sink
+            ≡ reconstructed (seen S.number S.forest S.quirks self.old.held self.old.sink)) }
+        ensures sound { OnOk result (Sound (seen S.number S.forest S.quirks self.new.held self.new.sink)) }
+        ensures forest { IsForest (S.forest self.new.sink) }
+        ensures memory { IfErr result (λ e. e ≡ Memory) }
+    {
+        let mut index = self.first_to_make();
+        'forward: while index < self.held.formatting().as_slice().len() {
+            self.make_anew(index)?;
+            index += 1;
+        }
+        Ok(())
+    }
+
+    // how many entries need not be made anew
+    fn first_to_make(&self) -> usize
+        ensures { made_from result (seen S.number S.forest S.quirks self.now.held self.now.sink)
+            ≡ reconstructed (seen S.number S.forest S.quirks self.now.held self.now.sink) }
+    {
+        kept_entries(
+            self.held.formatting().as_slice(),
+            self.held.open_elements(),
+            &self.sink,
+        )
+    }
+
+    // makes the element of an entry anew, and gives the entry to it
+    fn make_anew(&mut self, index: usize) -> Result<(), ParseFault>
+        requires sound { Sound (seen S.number S.forest S.quirks self.old.held self.old.sink) }
+        requires within { index < length self.old.held.entries }
+        ensures made { OnOk result (made_from (index + 1) (seen S.number S.forest S.quirks self.new.held self.new.sink)
+            ≡ made_from index (seen S.number S.forest S.quirks self.old.held self.old.sink)) }
+        ensures size { OnOk result (length self.new.held.entries ≡ length self.old.held.entries) }
+        ensures sound { OnOk result (Sound (seen S.number S.forest S.quirks self.new.held self.new.sink)) }
+        ensures forest { IsForest (S.forest self.new.sink) }
+        ensures memory { IfErr result (λ e. e ≡ Memory) }
+    {
+        laws_of_forests();
+        let FormatEntry::Element(_, tag) = &self.held.formatting().as_slice()[index] else {
+            return Ok(());
+        };
+        let tag = tag.try_clone()?;
+        let element = self.insert_element_for(&tag)?;
+        self.held.give(index, element);
+        Ok(())
+    }
+}
+
+// whether an entry is a marker, or that of an open element
+fn stays<H: Copy, S: TreeSink<Handle = H>>(entry: &FormatEntry<H>, elements: &[H], sink: &S) -> bool
+    ensures { result ≡ is_kept (stack_of S.number elements.now) (entry_of S.number entry.now) }
+{
+    match entry {
+        FormatEntry::Element(handle, _) => position(elements, sink, *handle).is_some(),
+        FormatEntry::Marker => true,
+    }
+}
+
+// how many entries there are up to the last of those that stay
+fn kept_entries<H: Copy, S: TreeSink<Handle = H>>(
+    entries: &[FormatEntry<H>],
+    elements: &[H],
+    sink: &S,
+) -> usize
+    ensures { result ≡ length (made_already (stack_of S.number elements.now) (entries_of S.number entries.now)) }
+{
+    let mut at = entries.len();
+    'back: while at > 0 {
+        if stays(&entries[at - 1], elements, sink) {
+            return at;
+        }
+        at -= 1;
+    }
+    0
+}
