@@ -9,8 +9,8 @@ use crate::dump::dump;
 use crate::lists::{asked_lists, changed_lists};
 use crate::made::html;
 use crate::pages::{
-    page_of_a_table, page_of_a_template, page_of_ends, page_of_paragraphs, page_of_pops,
-    page_of_svg, page_of_text,
+    page_of_a_table, page_of_a_template, page_of_ends, page_of_formatting, page_of_paragraphs,
+    page_of_pops, page_of_svg, page_of_text,
 };
 use crate::words::{is_breaking, is_hidden_as, is_html_in_svg, quirks_of};
 use html_forest::QuirksMode;
@@ -139,6 +139,27 @@ fn end_tags_close(rt: HostRuntime) -> Result<(), Fail> {
                     element html\tdiv\n    element html\tem\n   text\tx\n   element html\tem\n    \
                     element html\tdiv\n     text\ty";
     holds(&rt, log.as_str() == expected, "end tags");
+    Ok(())
+}
+
+fn formatting_page(alloc: Global) -> Result<String, ParseFault> {
+    let mut tree = begun(alloc, RcDom::new(alloc)?);
+    let built = page_of_formatting(&mut tree, alloc);
+    let Construction { held: _, sink } = tree;
+    built?;
+    Ok(dump(alloc, &sink)?)
+}
+
+// of four that are alike three are listed, and each of these is made anew (13.2.4.3)
+#[test]
+fn formatting_is_made_anew(rt: HostRuntime) -> Result<(), Fail> {
+    let log = formatting_page(rt.alloc())?;
+    let expected =
+        "quirks NoQuirks\n element html\thtml\n  element html\thead\n  element html\tbody\n   \
+                    element html\tp\n    element html\tb\n     element html\tb\n      element html\tb\n       \
+                    element html\tb\n        text\tx\n   element html\tb\n    element html\tb\n     \
+                    element html\tb\n      text\ty";
+    holds(&rt, log.as_str() == expected, "formatting");
     Ok(())
 }
 
