@@ -1,4 +1,5 @@
 pub mod AdoptionLemmas
+pub mod BlockWords
 pub mod CopyLemmas
 pub mod FosterLemmas
 pub mod GrownLemmas
@@ -16,5 +17,7 @@ pub mod SeenLemmas
 pub mod SoundLemmas
 pub mod Stacks
 pub mod TakeOverLemmas
+pub mod TurnLemmas
 pub mod WalkLemmas
 pub mod WalkLists
+pub mod WalkPlaces

@@ -39,7 +39,7 @@ if_false : (b u v : Bool) → (if b then true else u) ≡ false → (u ≡ false
 if_false true u v e h = absurd (cc)
 if_false false u v e h = h e
 
-if_other : (b u : Bool) → (if b then true else u) ≡ false → b ≡ false
+pub if_other : (b u : Bool) → (if b then true else u) ≡ false → b ≡ false
 if_other true u e = absurd (cc)
 if_other false u e = refl
 
@@ -48,13 +48,13 @@ none_behind n m [] none other = ap (λ b. if b then true else false) other
 none_behind n m (k ∷ ns) none other =
     if_false (n == k) (is_in n ns) (is_in n (ns ++ m ∷ [])) none (λ rest. none_behind n m ns rest other)
 
-other_way : (n m : ℕ) → (n == m) ≡ false → (m == n) ≡ false
+pub other_way : (n m : ℕ) → (n == m) ≡ false → (m == n) ≡ false
 other_way n m e = grind (arith, nat_tests, e)
 
 itself : (n : ℕ) → (n == n) ≡ true
 itself n = grind (arith, nat_tests)
 
-rest_false : (b u : Bool) → (if b then true else u) ≡ false → u ≡ false
+pub rest_false : (b u : Bool) → (if b then true else u) ≡ false → u ≡ false
 rest_false true u e = absurd (cc)
 rest_false false u e = e
 
@@ -81,9 +81,9 @@ is_in_of n (m ∷ tops) lows =
       either_true false = refl
 
 -- the stack around a place in memory
-around : {H : Type 0} (number : H → ℕ) (xs : List H) (k : ℕ) (x : H) → k < length xs → x ≡ slice_index_or xs k x →
+pub stack_around : {H : Type 0} (number : H → ℕ) (xs : List H) (k : ℕ) (x : H) → k < length xs → x ≡ slice_index_or xs k x →
     stack_of number xs ≡ stack_of number (drop (suc k) xs) ++ number x ∷ stack_of number (take k xs)
-around number xs k x within read =
+stack_around number xs k x within read =
     ap (stack_of number) (split_at xs k x within ∙ ap (λ v. take k xs ++ v ∷ drop (suc k) xs) (sym read))
     ∙ stack_of_both number (take k xs) (x ∷ drop (suc k) xs)
     ∙ ap (λ v. v ++ stack_of number (take k xs)) (stack_of_both number (x ∷ []) (drop (suc k) xs))
@@ -103,7 +103,7 @@ pub open_at : {H : Type 0} (number : H → ℕ) (n : ℕ) (xs : List H) (k : ℕ
 open_at number n xs k x within read is none =
     let tops = stack_of number (drop (suc k) xs) in
     let lows = stack_of number (take k xs) in
-    let whole = around number xs k x within read ∙ ap (λ m. tops ++ m ∷ lows) is in
+    let whole = stack_around number xs k x within read ∙ ap (λ m. tops ++ m ∷ lows) is in
     record {
       within = within;
       is_there = ap (is_in n) whole ∙ is_in_of n tops lows;

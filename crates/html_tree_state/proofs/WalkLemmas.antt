@@ -106,15 +106,15 @@ last_step m n f ns (Some k) is more e = inr (more e)
 last_step m n f ns None true more e = inl (let k : Some n ≡ Some m = e in cc)
 last_step m n f ns None false more e = absurd (let k : None ≡ Some m = e in cc)
 
-last_in : (m : ℕ) (f : Forest) (ns : List ℕ) → last_special f ns ≡ Some m → IsIn m ns
-last_in m f [] e = absurd (let k : None ≡ Some m = e in cc)
-last_in m f (n ∷ ns) e =
-    last_step m n f ns (last_special f ns) (is_element_of special_elements (name_of n f)) (last_in m f ns) e
+pub is_last : (m : ℕ) (f : Forest) (ns : List ℕ) → last_special f ns ≡ Some m → IsIn m ns
+is_last m f [] e = absurd (let k : None ≡ Some m = e in cc)
+is_last m f (n ∷ ns) e =
+    last_step m n f ns (last_special f ns) (is_element_of special_elements (name_of n f)) (is_last m f ns) e
 
-same_number : (n m : ℕ) → n ≡ m → (n == m) ≡ true
+pub same_number : (n m : ℕ) → n ≡ m → (n == m) ≡ true
 same_number n m e = grind (arith, nat_tests, e)
 
-in_is : (n : ℕ) (ns : List ℕ) → IsIn n ns → is_in n ns ≡ true
+pub in_is : (n : ℕ) (ns : List ℕ) → IsIn n ns → is_in n ns ≡ true
 in_is n [] i = absurd i
 in_is n (m ∷ ms) (inl e) = ap (λ b. if b then true else is_in n ms) (same_number n m e)
 in_is n (m ∷ ms) (inr i) = ap (λ b. if n == m then true else b) (in_is n ms i) ∙ both (n == m) where
@@ -129,7 +129,7 @@ pub walk_begins : (n block : ℕ) (tag : Tag) (b : Building) → Sound b → is_
     IsWalk n block tag (farther block (nearer n b.stack)) (farther n b.stack) (begun block b)
 walk_begins n block tag b sound there scope found tagged listed =
     let near = nearer n b.stack in
-    let block_there : IsIn block near = last_in block b.forest near found in
+    let block_there : IsIn block near = is_last block b.forest near found in
     let parts : near ≡ nearer block near ++ block ∷ farther block near =
     divided block near (in_is block near block_there) in
     let front = nearer block near ++ block ∷ [] in

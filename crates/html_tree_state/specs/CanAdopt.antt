@@ -1,14 +1,16 @@
 -- What each part of a turn of the adoption agency asks.
 use Rattle.std.specs.Prelude.{◌≡◌, ℕ, ◌||◌, Bool, false, true, List, ◌++◌, Option, Some, codes}
 use Rattle.formatting_list.specs.Entries.{is_listed, tag_in, up_to_marker}
-use Rattle.html_forest.specs.Forest.{Forest, name_of}
+use Rattle.html_forest.specs.Forest.{Forest, is_in, name_of}
 use Rattle.html_forest.specs.Orders.{IsIn}
+use Rattle.html_lexemes.specs.ElementSets.{scope_barriers}
 use Rattle.html_lexemes.specs.Sets.{is_html}
 use Rattle.html_lexemes.specs.declared.token.Tag.{Tag}
-use Rattle.html_tree_state.specs.Adoption.{nearer}
+use Rattle.html_tree_state.specs.Adoption.{furthest_block, nearer}
 use Rattle.html_tree_state.specs.Building.{Building}
 use Rattle.html_tree_state.specs.Insertions.{is_template}
-use Rattle.html_tree_state.specs.OpenElements.{first_of}
+use Rattle.html_tree_state.specs.OpenElements.{first_of, up_to}
+use Rattle.html_tree_state.specs.Sound.{Sound}
 
 -- an element that is open and listed is copied, and the last node is open and nearer to the current node
 pub record CanCopy (n last : ℕ) (tag : Tag) (b : Building) : Type 0 where
@@ -39,4 +41,12 @@ pub record CanTakeOver (n block : ℕ) (tag : Tag) (b : Building) : Type 0 where
   pub is_open : IsIn block b.stack
   pub other : ¬ (n ≡ block)
   pub tagged : tag_in n b.formatting ≡ Some tag
+  pub listed : is_listed n (up_to_marker b.formatting) ≡ true
+
+-- a turn with a furthest block: the formatting element is open, in scope, and listed behind the last marker
+pub record CanAdopt (n block : ℕ) (b : Building) : Type 0 where
+  pub sound : Sound b
+  pub is_open : is_in n b.stack ≡ true
+  pub in_scope : is_in n (up_to scope_barriers b.forest b.stack) ≡ true
+  pub found : furthest_block n b ≡ Some block
   pub listed : is_listed n (up_to_marker b.formatting) ≡ true

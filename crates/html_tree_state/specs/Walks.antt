@@ -1,12 +1,15 @@
 -- The walk of the adoption agency from the furthest block up to the formatting element (WHATWG HTML, 13.2.6.4.7).
-use Rattle.std.specs.Prelude.{◌≡◌, ℕ, false, true, List, ◌∷◌, ◌++◌, None, Some}
+use Rattle.std.specs.Prelude.{◌≡◌, ℕ, false, true, List, [], ◌∷◌, ◌++◌, None, Some, option_map}
 use Rattle.formatting_list.specs.Entries.{is_listed, tag_in, up_to_marker}
 use Rattle.html_forest.specs.Orders.{IsIn}
 use Rattle.html_lexemes.specs.declared.token.Tag.{Tag}
-use Rattle.html_tree_state.specs.Adoption.{Walk}
+use Rattle.html_tree_state.specs.Adoption.{Turn, Walk, again, farther, nearer, other_end, over, walked}
 use Rattle.html_tree_state.specs.Building.{Building}
 use Rattle.html_tree_state.specs.CanAdopt.{is_foster_stop}
 use Rattle.html_tree_state.specs.Sound.{Sound}
+use Rattle.html_tree_state.specs.declared.adoption.TurnOutcome.{TurnOutcome}
+use Rattle.html_tree_state.specs.declared.adoption.TurnOutcome.TheVariants.{Again, OtherEnd, Over}
+use Rattle.html_tree_state.specs.declared.adoption.WalkPoint.{WalkPoint}
 
 -- The walk at its begin.
 abbrev pub begun : (block : ℕ) → Building → Walk
@@ -25,3 +28,21 @@ pub record IsWalk (n block : ℕ) (tag : Tag) (left lows : List ℕ) (w : Walk) 
   pub plain_left : (m : ℕ) → IsIn m left → is_foster_stop m w.tree.forest ≡ false
   pub tagged : tag_in n w.tree.formatting ≡ Some tag
   pub listed : is_listed n (up_to_marker w.tree.formatting) ≡ true
+
+-- the walk has come to the formatting element
+pub record IsWalkedUp (n block : ℕ) (b : Building) (w : Walk) : Type 0 where
+  pub same : w ≡ walked block 0 (farther block (nearer n b.stack)) (begun block b)
+  pub walk : (tag : Tag) → tag_in n b.formatting ≡ Some tag → IsWalk n block tag [] (farther n b.stack) w
+
+-- where the walk stands in memory, and what a turn comes to there
+abbrev pub walk_of : {H : Type 0} → (H → ℕ) → WalkPoint H → Building → Walk
+walk_of number point b = record {
+  last = number point.last;
+  bookmark = option_map number point.bookmark;
+  tree = b;
+}
+
+abbrev pub turn_of : TurnOutcome → Building → Turn
+turn_of Over b = over b
+turn_of Again b = again b
+turn_of OtherEnd b = other_end b

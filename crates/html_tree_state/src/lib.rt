@@ -3,7 +3,9 @@
 #![tactic(auto)]
 
 mod adopting;
+mod adoption;
 mod adoption_parts;
+mod adoption_words;
 mod comments;
 mod construction;
 mod elements;

@@ -1,0 +1,22 @@
+use Rattle.std.proofs.Common.{◌≡◌, length}
+use Rattle.html_forest.specs.Forest.{is_in}
+use Rattle.html_lexemes.specs.ElementSets.{scope_barriers}
+use Rattle.html_tree_state.specs.Building.{seen, stack_of}
+use Rattle.html_tree_state.specs.OpenElements.{up_to}
+use Rattle.html_tree_state.proofs.Stacks.{AreElements}
+use Rattle.html_tree_state.proofs.construction.Construction.is_element_in_scope.Given as goal
+
+abbrev pub invariant-loop-node : goal.invariant-loop-node
+invariant-loop-node g l =
+    let tree = g.S.TreeSink in
+    let n = tree.number l.element in
+    let f = tree.forest l.self.sink in
+    record {
+      elements : AreElements f (stack_of tree.number l.open);
+      same : is_in n (up_to scope_barriers f
+          (seen tree.number tree.forest tree.quirks l.self.held l.self.sink).stack)
+          ≡ is_in n (up_to scope_barriers f (stack_of tree.number l.open));
+    }
+
+abbrev pub decreases-loop-node : goal.decreases-loop-node
+decreases-loop-node g l = length l.open

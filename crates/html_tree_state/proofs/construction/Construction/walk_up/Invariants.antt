@@ -1,0 +1,14 @@
+use Rattle.html_tree_state.specs.Building.{seen}
+use Rattle.html_tree_state.specs.Walks.{walk_of}
+use Rattle.html_tree_state.proofs.WalkPlaces.{IsWalking}
+use Rattle.html_tree_state.proofs.construction.Construction.walk_up.Given as goal
+
+abbrev pub invariant-up : goal.invariant-up
+invariant-up g l =
+    let tree = g.S.TreeSink in
+    IsWalking (tree.number l.element) (tree.number l.block)
+    (seen tree.number tree.forest tree.quirks l.initial.self.held l.initial.self.sink) l.start l.index
+    (walk_of tree.number l.walk (seen tree.number tree.forest tree.quirks l.self.held l.self.sink))
+
+abbrev pub decreases-up : goal.decreases-up
+decreases-up g l = l.index

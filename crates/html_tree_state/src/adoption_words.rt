@@ -1,0 +1,85 @@
+//! What the adoption agency asks of the open elements (WHATWG HTML, 13.2.6.4.7).
+ghost use Rattle.std.specs.Prelude.{◌≡◌, ◌<◌, ℕ, List, ◌∷◌, ◌++◌, length, option_map};
+ghost use Rattle.html_forest.specs.Forest.{is_in};
+ghost use Rattle.html_lexemes.specs.ElementSets.{scope_barriers};
+ghost use Rattle.html_tree_state.specs.Adoption.{farther, furthest_block as furthest_block_of};
+ghost use Rattle.html_tree_state.specs.Building.{seen, stack_of};
+ghost use Rattle.html_tree_state.specs.OpenElements.{first_of, up_to};
+ghost use Rattle.html_tree_state.specs.Sound.{Sound};
+
+use crate::construction::Construction;
+use crate::held::{last_element, position};
+use crate::sets::Scope;
+use html_forest::TreeSink;
+use html_lexemes::sets::is_special;
+
+impl<S: TreeSink> Construction<S> {
+    /// Whether an element is open.
+    pub(crate) fn is_open(&self, element: S::Handle) -> bool
+        ensures { result ≡ is_in (S.number element)
+            (seen S.number S.forest S.quirks self.now.held self.now.sink).stack }
+    {
+        position(self.held.open_elements(), &self.sink, element).is_some()
+    }
+
+    /// Whether an element is in scope: it stands before the first barrier, or is that barrier.
+    pub(crate) fn is_element_in_scope(&self, element: S::Handle) -> bool
+        requires { Sound (seen S.number S.forest S.quirks self.now.held self.now.sink) }
+        ensures { result ≡ is_in (S.number element) (up_to scope_barriers (S.forest self.now.sink)
+            (seen S.number S.forest S.quirks self.now.held self.now.sink).stack) }
+    {
+        let mut open = self.held.open_elements();
+        while let Some((node, lower)) = open.split_last() {
+            if self.sink.same_node(*node, element) {
+                return true;
+            }
+            if Scope::Default.ends_at(self.sink.elem_name(*node)) {
+                return false;
+            }
+            open = lower;
+        }
+        false
+    }
+
+    /// The furthest block: of the special elements that are nearer to the current node than an element, the farthest.
+    pub(crate) fn furthest_block(&self, element: S::Handle) -> Option<S::Handle>
+        requires { Sound (seen S.number S.forest S.quirks self.now.held self.now.sink) }
+        ensures { option_map S.number result ≡ furthest_block_of (S.number element)
+            (seen S.number S.forest S.quirks self.now.held self.now.sink) }
+    {
+        let mut open = self.held.open_elements();
+        let mut block = None;
+        while let Some((node, lower)) = open.split_last() {
+            if self.sink.same_node(*node, element) {
+                return block;
+            }
+            if is_special(self.sink.elem_name(*node)) {
+                block = Some(*node);
+            }
+            open = lower;
+        }
+        block
+    }
+
+    /// What an open element stands in: the open element above it, if there is one.
+    pub(crate) fn element_above(&self, element: S::Handle) -> Option<S::Handle>
+        ensures { option_map S.number result ≡ first_of (farther (S.number element)
+            (seen S.number S.forest S.quirks self.now.held self.now.sink).stack) }
+    {
+        let open = self.held.open_elements();
+        match position(open, &self.sink, element) {
+            Some(at) => last_element(&open[..at]),
+            None => None,
+        }
+    }
+
+    /// The open element that has so many before it.
+    pub(crate) fn element_at(&self, index: usize) -> S::Handle
+        requires { index < length self.now.held.open_elements }
+        ensures { (tops : List ℕ) (n : ℕ) (lows : List ℕ) →
+            (seen S.number S.forest S.quirks self.now.held self.now.sink).stack ≡ tops ++ n ∷ lows →
+            length lows ≡ index → S.number result ≡ n }
+    {
+        self.held.open_elements()[index]
+    }
+}
