@@ -10,7 +10,6 @@ pub mod OpenAt
 pub mod OpenElements
 pub mod Orders
 pub mod Points
-pub mod RowWords
 pub mod Scopes
 pub mod Sets
 pub mod Sound

@@ -18,7 +18,6 @@ mod laws;
 mod pops;
 mod reconstruction;
 mod resetting;
-mod rows;
 mod scopes;
 mod sets;
 

@@ -2,6 +2,8 @@
 #![tactic(auto)]
 
 #[cfg(test)]
+mod adoption;
+#[cfg(test)]
 mod asked;
 #[cfg(test)]
 mod begin;
@@ -15,6 +17,8 @@ mod lists;
 mod made;
 #[cfg(test)]
 mod pages;
+#[cfg(test)]
+mod parts;
 #[cfg(test)]
 mod tests;
 #[cfg(test)]

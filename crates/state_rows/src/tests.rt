@@ -1,4 +1,5 @@
 //! Trees that are built by tree construction's calls, compared with what WHATWG HTML says of each.
+use crate::adoption::PAGES;
 use crate::asked::{
     count_alike, count_marked, is_adjusted, mode_below_body, mode_of_root, scopes_behind,
     scopes_of_select, take_off,
@@ -12,6 +13,7 @@ use crate::pages::{
     page_of_a_table, page_of_a_template, page_of_ends, page_of_formatting, page_of_paragraphs,
     page_of_pops, page_of_svg, page_of_text,
 };
+use crate::parts::{Part, page_of_parts};
 use crate::words::{is_breaking, is_hidden_as, is_html_in_svg, quirks_of};
 use html_forest::QuirksMode;
 use html_lexemes::ParseFault;
@@ -160,6 +162,26 @@ fn formatting_is_made_anew(rt: HostRuntime) -> Result<(), Fail> {
                     element html\tb\n        text\tx\n   element html\tb\n    element html\tb\n     \
                     element html\tb\n      text\ty";
     holds(&rt, log.as_str() == expected, "formatting");
+    Ok(())
+}
+
+fn adoption_page(alloc: Global, parts: &[Part<'_>]) -> Result<String, ParseFault> {
+    let mut tree = begun(alloc, RcDom::new(alloc)?);
+    let built = page_of_parts(&mut tree, alloc, parts);
+    let Construction { held: _, sink } = tree;
+    built?;
+    Ok(dump(alloc, &sink)?)
+}
+
+// formatting elements are closed by end tags that are not nested well (13.2.6.4.7)
+#[test]
+fn formatting_is_adopted(rt: HostRuntime) -> Result<(), Fail> {
+    let begin =
+        "quirks NoQuirks\n element html\thtml\n  element html\thead\n  element html\tbody";
+    for page in PAGES.iter() {
+        let log = adoption_page(rt.alloc(), page.parts)?;
+        holds(&rt, log.as_str().strip_prefix(begin) == Some(page.tree), page.name);
+    }
     Ok(())
 }
 

@@ -1,6 +1,6 @@
 //! The words of tree construction, computed on worked rows: small pages, read in the body.
 ghost use Rattle.std.specs.Prelude.{◌≡◌, [], ◌∷◌, codes};
-ghost use Rattle.html_tree_state.specs.RowWords.{end, end_p, format, page, start, words};
+ghost use Rattle.building_rows.specs.RowWords.{end, end_p, format, page, start, words};
 
 // <p>1<b>2<i>3</b>4</i>5</p>
 fn misnested_formatting()
