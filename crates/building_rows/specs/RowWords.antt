@@ -3,12 +3,14 @@ use Rattle.std.specs.Prelude.{ℕ, zero, suc, false, List, [], ◌∷◌, ◌++�
 use Rattle.html_forest.specs.Forest.{Forest, Kind, children_at, comment, doctype, document, element, instruction}
 use Rattle.html_forest.specs.Forest.{kind_at, page_alone, text}
 use Rattle.html_forest.specs.declared.sink.QuirksMode.TheVariants.{NoQuirks}
+use Rattle.html_lexemes.specs.declared.names.Namespace.TheVariants.{Svg}
 use Rattle.html_lexemes.specs.declared.token.Tag.{Tag}
 use Rattle.html_lexemes.specs.declared.token.TagKind.TheVariants.{StartTag}
 use Rattle.html_tree_state.specs.Adoption.{adoption}
 use Rattle.html_tree_state.specs.Building.{Building}
+use Rattle.html_tree_state.specs.Foreign.{closed_by_foreign_end}
 use Rattle.html_tree_state.specs.Formatting.{inserted_for, inserted_formatting, reconstructed}
-use Rattle.html_tree_state.specs.Insertions.{said}
+use Rattle.html_tree_state.specs.Insertions.{inserted, said}
 use Rattle.html_tree_state.specs.Scopes.{with_closed_p}
 
 -- a tree as text, without attributes, as deep as a number
@@ -44,6 +46,8 @@ pub data Part : Type 0 where
   words : List ℕ → Part
   end : List ℕ → Part
   end_p : Part
+  foreign : List ℕ → Part
+  end_foreign : List ℕ → Part
 
 abbrev pub taken : Part → Building → Building
 taken (start name) b = inserted_for (tag_for name) (with_closed_p b)
@@ -51,6 +55,8 @@ taken (format name) b = inserted_formatting (tag_for name) (reconstructed b)
 taken (words cs) b = said cs (reconstructed b)
 taken (end name) b = adoption name b
 taken end_p b = with_closed_p b
+taken (foreign name) b = inserted (record { ns = Svg; local = name }) [] (reconstructed b)
+taken (end_foreign name) b = closed_by_foreign_end name b
 
 abbrev pub all_taken : List Part → Building → Building
 all_taken [] b = b

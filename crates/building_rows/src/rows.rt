@@ -1,6 +1,6 @@
 //! The words of tree construction, computed on worked rows: small pages, read in the body.
 ghost use Rattle.std.specs.Prelude.{◌≡◌, [], ◌∷◌, codes};
-ghost use Rattle.building_rows.specs.RowWords.{end, end_p, format, page, start, words};
+ghost use Rattle.building_rows.specs.RowWords.{end, end_foreign, end_p, foreign, format, page, start, words};
 
 // <p>1<b>2<i>3</b>4</i>5</p>
 fn misnested_formatting()
@@ -46,4 +46,15 @@ fn formatting_behind_a_table()
 fn an_end_tag_that_nothing_opened()
     ensures { page (format (codes "b") ∷ words (codes "1") ∷ end (codes "i") ∷ words (codes "2") ∷ [])
         ≡ codes "<body><b>12</b></body>" }
+{}
+
+// <svg><g>1</svg>2, <svg><foreignObject></foreignobject>1, and <b><svg></b>1 but for the rules of the mode
+fn end_tags_in_foreign_content()
+    ensures nearest { page (foreign (codes "svg") ∷ foreign (codes "g") ∷ words (codes "1") ∷ end_foreign (codes "svg")
+        ∷ words (codes "2") ∷ []) ≡ codes "<body><svg><g>1</g></svg>2</body>" }
+    ensures lower_case { page (foreign (codes "svg") ∷ foreign (codes "foreignObject")
+        ∷ end_foreign (codes "foreignobject") ∷ words (codes "1") ∷ [])
+        ≡ codes "<body><svg><foreignObject></foreignObject>1</svg></body>" }
+    ensures of_html { page (format (codes "b") ∷ foreign (codes "svg") ∷ end_foreign (codes "b") ∷ words (codes "1")
+        ∷ []) ≡ codes "<body><b><svg>1</svg></b></body>" }
 {}

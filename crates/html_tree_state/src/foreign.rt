@@ -1,15 +1,16 @@
 //! Foreign content and the open elements (WHATWG HTML, 13.2.6 and 13.2.6.5).
-ghost use Rattle.std.specs.Prelude.{◌≡◌, IfErr, OnOk, option_map};
+ghost use Rattle.std.specs.Prelude.{◌≡◌, IfErr, IfOk, OnOk, is_some, option_map};
 ghost use Rattle.html_forest.specs.Orders.{IsForest};
 ghost use Rattle.html_lexemes.specs.declared.fault.ParseFault.TheVariants.{Memory};
 ghost use Rattle.html_tree_state.specs.Building.{seen};
-ghost use Rattle.html_tree_state.specs.Foreign.{adjusted_current, broken_out};
+ghost use Rattle.html_tree_state.specs.Foreign.{adjusted_current, broken_out, closed_by_foreign_end};
+ghost use Rattle.html_tree_state.specs.Foreign.{named_foreign};
 ghost use Rattle.html_tree_state.specs.Sound.{Sound};
 
 use crate::construction::Construction;
 use html_forest::TreeSink;
-use html_lexemes::ParseFault;
-use tree_words::stops_break_out;
+use html_lexemes::{LocalName, ParseFault};
+use tree_words::{closes_foreign, is_of_html, stops_break_out};
 
 impl<S: TreeSink> Construction<S> {
     /// The adjusted current node: a fragment's context while only its root is open, else the current node.
@@ -42,5 +43,48 @@ impl<S: TreeSink> Construction<S> {
             self.pop()?;
         }
         Ok(())
+    }
+
+    /// Pops the open elements up to the first one of an end tag's name that stands before any element of HTML ("any
+    /// other end tag" in foreign content). Where there is none the answer is `false`: the rules of the insertion mode
+    /// take the tag.
+    pub fn process_end_tag_in_foreign_content(
+        &mut self,
+        name: &LocalName,
+    ) -> Result<bool, ParseFault>
+        requires { Sound (seen S.number S.forest S.quirks self.old.held self.old.sink) }
+        ensures closed { IfOk result (λ closed. closed ≡ is_some (named_foreign name.now (S.forest self.old.sink)
+            (seen S.number S.forest S.quirks self.old.held self.old.sink).stack)) }
+        ensures seen { OnOk result (seen S.number S.forest S.quirks self.new.held self.new.sink
+            ≡ closed_by_foreign_end name.now (seen S.number S.forest S.quirks self.old.held self.old.sink)) }
+        ensures sound { OnOk result (Sound (seen S.number S.forest S.quirks self.new.held self.new.sink)) }
+        ensures forest { IsForest (S.forest self.new.sink) }
+        ensures memory { IfErr result (λ e. e ≡ Memory) }
+    {
+        let Some(element) = self.foreign_element(name) else {
+            return Ok(false);
+        };
+        self.pop_with(element)?;
+        Ok(true)
+    }
+
+    // the first element of an end tag's name from the current node up, where no element of HTML stands before it
+    fn foreign_element(&self, name: &LocalName) -> Option<S::Handle>
+        requires { Sound (seen S.number S.forest S.quirks self.now.held self.now.sink) }
+        ensures { option_map S.number result ≡ named_foreign name.now (S.forest self.now.sink)
+            (seen S.number S.forest S.quirks self.now.held self.now.sink).stack }
+    {
+        let mut open = self.held.open_elements();
+        while let Some((element, lower)) = open.split_last() {
+            let found = self.sink.elem_name(*element);
+            if is_of_html(&found.ns) {
+                return None;
+            }
+            if closes_foreign(found, name) {
+                return Some(*element);
+            }
+            open = lower;
+        }
+        None
     }
 }

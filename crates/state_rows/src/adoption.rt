@@ -1,5 +1,7 @@
-//! Pages of the adoption agency, with their trees.
-use crate::parts::Part::{self, End, EndParagraph, Format, Marked, Start, Words};
+//! Pages of the adoption agency, and of end tags in foreign content, with their trees.
+use crate::parts::Part::{
+    self, End, EndForeign, EndParagraph, Foreign, Format, Marked, Start, Words,
+};
 
 /// A page in the body, and what stands in its body.
 pub(crate) struct Page<'a> {
@@ -8,8 +10,8 @@ pub(crate) struct Page<'a> {
     pub(crate) tree: &'a str,
 }
 
-/// Worked out from the standard (WHATWG HTML, 13.2.6.4.7), step by step.
-pub(crate) const PAGES: [Page<'static>; 9] = [
+/// Worked out from the standard (WHATWG HTML, 13.2.6.4.7 and 13.2.6.5), step by step.
+pub(crate) const PAGES: [Page<'static>; 12] = [
     Page {
         name: "misnested formatting",
         parts: &[
@@ -141,5 +143,37 @@ pub(crate) const PAGES: [Page<'static>; 9] = [
             Words("2"),
         ],
         tree: "\n   element html\tb\n    text\t12",
+    },
+    Page {
+        name: "an end tag in foreign content",
+        parts: &[
+            Foreign("svg"),
+            Foreign("g"),
+            Words("1"),
+            EndForeign("svg"),
+            Words("2"),
+        ],
+        tree: "\n   element svg\tsvg\n    element svg\tg\n     text\t1\n   text\t2",
+    },
+    Page {
+        name: "an end tag in lower case",
+        parts: &[
+            Foreign("svg"),
+            Foreign("foreignObject"),
+            EndForeign("foreignobject"),
+            Words("1"),
+        ],
+        tree: "\n   element svg\tsvg\n    element svg\tforeignObject\n    text\t1",
+    },
+    Page {
+        name: "an end tag of HTML in foreign content",
+        parts: &[
+            Format("b"),
+            Words("1"),
+            Foreign("svg"),
+            EndForeign("b"),
+            Words("2"),
+        ],
+        tree: "\n   element html\tb\n    text\t1\n    element svg\tsvg\n   text\t2",
     },
 ];

@@ -3,7 +3,7 @@ ghost use Rattle.std.specs.Prelude.{◌≡◌, OnOk};
 ghost use Rattle.html_tree_state.specs.Building.{seen};
 ghost use Rattle.html_tree_state.specs.Sound.{Sound};
 
-use crate::begin::{begin_body, format, open, say};
+use crate::begin::{begin_body, format, open, open_svg, say};
 use crate::made::{attribute, start, tag_with};
 use html_forest::TreeSink;
 use html_lexemes::{LocalName, ParseFault, TagKind};
@@ -23,6 +23,10 @@ pub(crate) enum Part<'a> {
     /// The end tag of a formatting element.
     End(&'a str),
     EndParagraph,
+    /// The start tag of an element of SVG.
+    Foreign(&'a str),
+    /// An end tag in foreign content.
+    EndForeign(&'a str),
 }
 
 /// A page of these parts.
@@ -76,5 +80,17 @@ fn take<S: TreeSink>(
             tree.adoption_agency(&name)
         }
         Part::EndParagraph => tree.close_p_element_in_button_scope(),
+        Part::Foreign(name) => {
+            tree.reconstruct_active_formatting_elements()?;
+            open_svg(tree, alloc, name)?;
+            Ok(())
+        }
+        Part::EndForeign(name) => {
+            let name = LocalName::from_str(alloc, name)?;
+            if tree.process_end_tag_in_foreign_content(&name)? {
+                return Ok(());
+            }
+            tree.adoption_agency(&name)
+        }
     }
 }

@@ -173,9 +173,9 @@ fn adoption_page(alloc: Global, parts: &[Part<'_>]) -> Result<String, ParseFault
     Ok(dump(alloc, &sink)?)
 }
 
-// formatting elements are closed by end tags that are not nested well (13.2.6.4.7)
+// end tags that are not nested well (13.2.6.4.7 and 13.2.6.5)
 #[test]
-fn formatting_is_adopted(rt: HostRuntime) -> Result<(), Fail> {
+fn end_tags_need_not_be_nested(rt: HostRuntime) -> Result<(), Fail> {
     let begin =
         "quirks NoQuirks\n element html\thtml\n  element html\thead\n  element html\tbody";
     for page in PAGES.iter() {

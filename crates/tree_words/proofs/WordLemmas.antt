@@ -1,4 +1,4 @@
--- A text in lower case beside a word of ASCII characters, character by character.
+-- A text in lower case beside a word, character by character.
 use Rattle.std.proofs.Common.{◌≡◌, ◌≢◌, ℕ, ◌<◌, true, false, IsTrue, List, [], ◌∷◌, ◌++◌, length, take, drop, zero}
 use Rattle.std.proofs.Common.{suc, Option, Some, None, is_some, MatchOption, eqb, Bor, IsUtf8, chars, bytes_eq, refl}
 use Rattle.std.proofs.Common.{sym, ap, subst, ◌∙◌, arith, append_assoc, append-nil, encode_utf8}
@@ -20,7 +20,7 @@ ascii_word [] h i = omega arith
 ascii_word (b ∷ bs) h zero = ltb-true b 128 (and_parts (nat_lt b 128) (is_ascii_word bs) h).0
 ascii_word (b ∷ bs) h (suc i) = ascii_word bs (and_parts (nat_lt b 128) (is_ascii_word bs) h).1 i
 
-word_chars : (word : List ℕ) → IsTrue (is_ascii_word word) → chars word ≡ word
+pub word_chars : (word : List ℕ) → IsTrue (is_ascii_word word) → chars word ≡ word
 word_chars word h = chars-IsAscii word (ascii_word word h)
 
 pub same_word : (text word : List ℕ) → IsUtf8 text → IsTrue (is_ascii_word word) →
@@ -49,13 +49,13 @@ pub record IsSpelling (text word walked left more : List ℕ) : Type 0 where
   pub text_is : in_lower_case (chars text) ≡ walked ++ in_lower_case (chars left)
   pub word_is : word ≡ walked ++ chars more
 
-pub spelling_start : (text word left more : List ℕ) → IsUtf8 text → IsTrue (is_ascii_word word) → left ≡ text →
-    more ≡ word → IsSpelling text word [] left more
+pub spelling_start : (text word left more : List ℕ) → IsUtf8 text → IsUtf8 word → left ≡ text → more ≡ word →
+    IsSpelling text (chars word) [] left more
 spelling_start text word left more u h e f = record {
   left_text = subst IsUtf8 (sym e) u;
-  more_text = subst IsUtf8 (sym f) (IsUtf8-from_ascii word (ascii_word word h));
+  more_text = subst IsUtf8 (sym f) h;
   text_is = ap (λ l. in_lower_case (chars l)) (sym e);
-  word_is = sym (word_chars word h) ∙ ap chars (sym f);
+  word_is = ap chars (sym f);
 }
 
 nothing : (bs : List ℕ) → length bs ≡ 0 → chars bs ≡ []
@@ -122,6 +122,13 @@ begins text word (Some rest) h = sym (ap (λ l. begins_with l word) h ∙ begun 
 left_over : (cs : List ℕ) → 0 < length cs → [] ≢ in_lower_case cs
 left_over [] h e = omega arith
 left_over (c ∷ cs) h e = no_cons (to_ascii_lowercase c) (in_lower_case cs) e
+
+-- a text that doesn't begin with the word isn't the word
+pub not_the_word : (text word : List ℕ) → begins_with text word ≡ false → false ≡ bytes_eq text word
+not_the_word text word h = sym (not_whole text word (λ e. true_isnt_false
+    (sym (ap (λ l. begins_with l word) (e ∙ sym (append-nil word)) ∙ begun word []) ∙ h))) where
+      true_isnt_false : ¬ (true ≡ false)
+      true_isnt_false e = cc
 
 -- the word is the whole text where nothing is left
 pub is_whole : (text word left : List ℕ) → IsUtf8 left → in_lower_case text ≡ word ++ in_lower_case (chars left) →

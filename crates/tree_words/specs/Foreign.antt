@@ -12,7 +12,7 @@ use Rattle.html_lexemes.specs.declared.names.QualName.{QualName}
 use Rattle.html_lexemes.specs.declared.token.Tag.{Tag}
 use Rattle.html_lexemes.specs.declared.token.TagKind.{TagKind}
 use Rattle.html_lexemes.specs.declared.token.TagKind.TheVariants.{EndTag, StartTag}
-use Rattle.tree_words.specs.Attributes.{has_attribute}
+use Rattle.tree_words.specs.Attributes.{has_attribute, in_lower_case}
 
 abbrev pub is_of_html : Namespace → Bool
 is_of_html Html = true
@@ -51,3 +51,7 @@ breaks_out tag = breaks_out_as tag.kind tag
 -- where breaking out stops
 abbrev pub stops_break_out : QualName → (is_point : Bool) → Bool
 stops_break_out name is_point = is_of_html name.ns || (is_element_of integration_points name || is_point)
+
+-- an end tag closes an element in foreign content where its name is that of the element in lower case
+abbrev pub is_closed_by : (tag : List ℕ) → QualName → Bool
+is_closed_by tag name = bytes_eq (in_lower_case name.local) tag

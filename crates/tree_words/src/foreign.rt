@@ -2,10 +2,10 @@
 ghost use Rattle.std.specs.Prelude.{◌≡◌, chars};
 ghost use Rattle.html_lexemes.specs.Sets.{is_one_of};
 ghost use Rattle.tree_words.specs.Attributes.{has_attribute};
-ghost use Rattle.tree_words.specs.Foreign.{breaks_out, is_annotation, is_html_place, is_of_html, stops_break_out};
-ghost use Rattle.tree_words.specs.Foreign.{styles, takes_start, takes_text};
+ghost use Rattle.tree_words.specs.Foreign.{breaks_out, is_annotation, is_closed_by, is_html_place, is_of_html};
+ghost use Rattle.tree_words.specs.Foreign.{stops_break_out, styles, takes_start, takes_text};
 
-use crate::words::is_word;
+use crate::words::{is_lower_case_of, is_word};
 use html_lexemes::{Attributes, LocalName, Namespace, QualName, Tag, TagKind, sets};
 
 /// Whether text in an element is taken by the rules for HTML: in an element of HTML, in MathML text, and where an
@@ -48,6 +48,13 @@ pub fn stops_break_out(name: &QualName, is_point: bool) -> bool
     is_of_html(&name.ns) || sets::is_integration_point(name) || is_point
 }
 
+/// Whether an end tag of a name closes an element in foreign content: the element's name in lower case is the tag's.
+pub fn closes_foreign(name: &QualName, tag: &LocalName) -> bool
+    ensures { result ≡ is_closed_by tag.now name.now }
+{
+    is_lower_case_of(tag.as_str(), name.local.as_str())
+}
+
 // a `color`, a `face` or a `size` is among the attributes
 fn has_style(attrs: &Attributes) -> bool
     ensures { result ≡ has_attribute styles attrs.now }
@@ -74,7 +81,8 @@ fn is_html_place(name: &QualName, is_point: bool) -> bool
     is_of_html(&name.ns) || sets::is_svg_html_integration_point(name) || is_point
 }
 
-fn is_of_html(namespace: &Namespace) -> bool
+/// Whether a namespace is that of HTML.
+pub fn is_of_html(namespace: &Namespace) -> bool
     ensures { result ≡ is_of_html namespace.now }
 {
     match namespace {

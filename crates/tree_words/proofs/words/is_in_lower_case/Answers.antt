@@ -1,7 +1,8 @@
-use Rattle.std.proofs.Common.{chars, ◌∙◌}
-use Rattle.tree_words.proofs.WordLemmas.{is_whole}
+use Rattle.std.proofs.Common.{ap, bytes_eq, chars, ◌∙◌}
+use Rattle.tree_words.specs.Attributes.{in_lower_case}
+use Rattle.tree_words.proofs.WordLemmas.{word_chars}
 use Rattle.tree_words.proofs.words.is_in_lower_case.Goals as goal
 
-pub returns-in-Some : goal.returns-in-Some
-returns-in-Some c = c.is_empty.ensures ∙ is_whole (chars c.args.text.now) c.args.word.now _
-    c.in-Some.ensures.utf8 c.in-Some.ensures.value
+pub returns : goal.returns
+returns c = c.is_lower_case_of.ensures
+    ∙ ap (bytes_eq (in_lower_case (chars c.args.text.now))) (word_chars c.args.word.now c.requires)
