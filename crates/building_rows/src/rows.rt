@@ -24,8 +24,8 @@ fn formatting_around_formatting_and_a_block()
 
 // <p><b><b><b><b>x</p>y
 fn three_alike_are_made_anew()
-    ensures { page (start (codes "p") ∷ format (codes "b") ∷ format (codes "b") ∷ format (codes "b") ∷ format (codes "b")
-        ∷ words (codes "x") ∷ end_p ∷ words (codes "y") ∷ [])
+    ensures { page (start (codes "p") ∷ format (codes "b") ∷ format (codes "b") ∷ format (codes "b")
+        ∷ format (codes "b") ∷ words (codes "x") ∷ end_p ∷ words (codes "y") ∷ [])
         ≡ codes "<body><p><b><b><b><b>x</b></b></b></b></p><b><b><b>y</b></b></b></body>" }
 {}
 

@@ -1,7 +1,6 @@
 -- The furthest block, looked for from the current node, and what stands above an element.
-use Rattle.std.proofs.Common.{◌≡◌, ℕ, ◌==◌, Bool, true, false, List, [], ◌∷◌, Option, None, Some, refl, ap, ◌∙◌, arith}
+use Rattle.std.proofs.Common.{◌≡◌, ℕ, ◌==◌, Bool, true, false, List, [], ◌∷◌, Option, None, Some, refl, ap, ◌∙◌}
 use Rattle.std.proofs.Common.{if◌then◌else◌}
-use Rattle.std.proofs.lemmas.Bool.Decides.{nat_tests}
 use Rattle.html_forest.specs.Forest.{Forest, is_in, name_of}
 use Rattle.html_lexemes.specs.ElementSets.{special_elements}
 use Rattle.html_lexemes.specs.Sets.{is_element_of}

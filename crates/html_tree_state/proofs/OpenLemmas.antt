@@ -81,7 +81,8 @@ is_in_of n (m ∷ tops) lows =
       either_true false = refl
 
 -- the stack around a place in memory
-pub stack_around : {H : Type 0} (number : H → ℕ) (xs : List H) (k : ℕ) (x : H) → k < length xs → x ≡ slice_index_or xs k x →
+pub stack_around : {H : Type 0} (number : H → ℕ) (xs : List H) (k : ℕ) (x : H) → k < length xs →
+    x ≡ slice_index_or xs k x →
     stack_of number xs ≡ stack_of number (drop (suc k) xs) ++ number x ∷ stack_of number (take k xs)
 stack_around number xs k x within read =
     ap (stack_of number) (split_at xs k x within ∙ ap (λ v. take k xs ++ v ∷ drop (suc k) xs) (sym read))

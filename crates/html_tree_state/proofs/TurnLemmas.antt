@@ -1,7 +1,8 @@
 -- What a turn of the adoption agency comes to.
 use Rattle.std.proofs.Common.{◌≡◌, ℕ, Bool, true, false, ◌==◌, List, [], ◌∷◌, None, Some, refl, ap, ◌∙◌}
 use Rattle.std.proofs.Common.{if◌then◌else◌}
-use Rattle.formatting_list.specs.Entries.{Entry, formatted, is_listed, is_named, last_named, marker, tag_in, up_to_marker}
+use Rattle.formatting_list.specs.Entries.{Entry, formatted, is_listed, is_named, last_named, marker, tag_in}
+use Rattle.formatting_list.specs.Entries.{up_to_marker}
 use Rattle.html_lexemes.specs.declared.token.Tag.{Tag}
 use Rattle.html_tree_state.specs.Adoption.{other_end, over, turn, turn_for, turn_with}
 use Rattle.html_tree_state.specs.Building.{Building}

@@ -1,6 +1,6 @@
 -- Where the walk of the adoption agency stands in memory.
-use Rattle.std.proofs.Common.{◌≡◌, ℕ, zero, suc, ◌+◌, ◌-◌, ◌<◌, ◌≤◌, ◌==◌, Bool, true, false, inl, inr, refl, sym, ap}
-use Rattle.std.proofs.Common.{subst, ◌∙◌, List, [], ◌∷◌, ◌++◌, None, Some, drop, length, map, slice_index_or, take}
+use Rattle.std.proofs.Common.{◌≡◌, ℕ, zero, suc, ◌-◌, ◌<◌, ◌≤◌, ◌==◌, Bool, true, false, refl, sym, ap}
+use Rattle.std.proofs.Common.{subst, ◌∙◌, List, [], ◌∷◌, ◌++◌, Some, drop, length, map, slice_index_or, take}
 use Rattle.std.proofs.Common.{arith, eqb-true, if◌then◌else◌}
 use Rattle.std.proofs.lemmas.Bool.Decides.{nat_tests}
 use Rattle.std.specs.Bool.{nat_lt}
@@ -77,7 +77,8 @@ above_block : (n block : ℕ) (stack near left : List ℕ) → AreDistinct stack
 above_block n block stack near left distinct whole parts =
     let up = nearer block near in
     let down = n ∷ farther n stack in
-    let e : stack ≡ up ++ block ∷ (left ++ down) = whole ∙ ap (λ v. v ++ down) parts ∙ append_assoc up (block ∷ left) down in
+    let e : stack ≡ up ++ block ∷ (left ++ down) =
+    whole ∙ ap (λ v. v ++ down) parts ∙ append_assoc up (block ∷ left) down in
     ap (farther block) e ∙ farther_there block up (left ++ down) (subst AreDistinct e distinct)
 
 -- So many elements are before the one that the walk comes to next; it began with so many.
@@ -123,8 +124,12 @@ module _ (n block : ℕ) (first : Building) (start index : ℕ) (w : Walk)
   rest = n ∷ farther n first.stack
 
   pub within : index ≤ length w.tree.stack
-  within = omega (arith, walking.counted, ap length walking.walk.whole,
-      length-append walking.walk.uppers (walking.left ++ rest))
+  within = omega (
+    arith,
+    walking.counted,
+    ap length walking.walk.whole,
+    length-append walking.walk.uppers (walking.left ++ rest),
+  )
 
   pub some_left : 0 < index
   some_left = omega (arith, walking.counted, length-append walking.left rest)

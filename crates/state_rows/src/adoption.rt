@@ -62,13 +62,7 @@ pub(crate) const PAGES: [Page<'static>; 12] = [
     },
     Page {
         name: "an anchor behind an anchor",
-        parts: &[
-            Format("a"),
-            Words("1"),
-            End("a"),
-            Format("a"),
-            Words("2"),
-        ],
+        parts: &[Format("a"), Words("1"), End("a"), Format("a"), Words("2")],
         tree: "\n   element html\ta\n    text\t1\n   element html\ta\n    text\t2",
     },
     Page {
@@ -127,21 +121,12 @@ pub(crate) const PAGES: [Page<'static>; 12] = [
     },
     Page {
         name: "formatting behind a table",
-        parts: &[
-            Format("b"),
-            Start("table"),
-            End("b"),
-        ],
+        parts: &[Format("b"), Start("table"), End("b")],
         tree: "\n   element html\tb\n    element html\ttable",
     },
     Page {
         name: "nothing of that name",
-        parts: &[
-            Format("b"),
-            Words("1"),
-            End("i"),
-            Words("2"),
-        ],
+        parts: &[Format("b"), Words("1"), End("i"), Words("2")],
         tree: "\n   element html\tb\n    text\t12",
     },
     Page {

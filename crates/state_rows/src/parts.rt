@@ -38,10 +38,8 @@ pub(crate) fn page_of_parts<S: TreeSink>(
     requires { Sound (seen S.number S.forest S.quirks tree.old.held tree.old.sink) }
 {
     begin_body(tree, alloc)?;
-    let mut rest = parts;
-    'parts: while let Some((part, further)) = rest.split_first() {
+    'parts: for part in parts {
         take(tree, alloc, *part)?;
-        rest = further;
     }
     Ok(())
 }

@@ -176,11 +176,14 @@ fn adoption_page(alloc: Global, parts: &[Part<'_>]) -> Result<String, ParseFault
 // end tags that are not nested well (13.2.6.4.7 and 13.2.6.5)
 #[test]
 fn end_tags_need_not_be_nested(rt: HostRuntime) -> Result<(), Fail> {
-    let begin =
-        "quirks NoQuirks\n element html\thtml\n  element html\thead\n  element html\tbody";
+    let begin = "quirks NoQuirks\n element html\thtml\n  element html\thead\n  element html\tbody";
     for page in PAGES.iter() {
         let log = adoption_page(rt.alloc(), page.parts)?;
-        holds(&rt, log.as_str().strip_prefix(begin) == Some(page.tree), page.name);
+        holds(
+            &rt,
+            log.as_str().strip_prefix(begin) == Some(page.tree),
+            page.name,
+        );
     }
     Ok(())
 }

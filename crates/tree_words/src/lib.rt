@@ -10,7 +10,8 @@ mod words;
 
 pub use attributes::{element_flags, is_hidden};
 pub use foreign::{
-    breaks_out, closes_foreign, is_of_html, stops_break_out, takes_start_as_html, takes_text_as_html,
+    breaks_out, closes_foreign, is_of_html, stops_break_out, takes_start_as_html,
+    takes_text_as_html,
 };
 pub use modes::{InsertionMode, own_mode, root_mode};
 pub use quirks::quirks_mode_of;

@@ -19,7 +19,8 @@ returns-then-to_ascii_lowercase-wanted-clause-value c = spelling_differs _ _ _ _
     (λ e. c.if-to_ascii_lowercase-wanted.true (c.to_ascii_lowercase.ensures.value ∙ e))
 
 pub returns-in_err-found-clause-value : goal.returns-in_err-found-clause-value
-returns-in_err-found-clause-value c = nothing_behind (chars c.args.text.now) (chars c.args.word.now) _ c.from_residual.ensures
+returns-in_err-found-clause-value c =
+    nothing_behind (chars c.args.text.now) (chars c.args.word.now) _ c.from_residual.ensures
     (spelling_short _ _ _ _ _ c.word.invariant _ _ c.in-Some.ensures.steps.0 c.in_err-found.ensures.steps.0.0)
 
 pub returns-clause-value : goal.returns-clause-value

@@ -1,4 +1,4 @@
-use Rattle.std.proofs.Common.{◌≡◌, ◌<◌, ap, sym, ◌∙◌, arith, if◌then◌else◌}
+use Rattle.std.proofs.Common.{◌≡◌, ap, sym, ◌∙◌, arith, if◌then◌else◌}
 use Rattle.html_tree_state.specs.Adoption.{turns}
 use Rattle.html_tree_state.specs.Building.{seen}
 use Rattle.html_tree_state.specs.Scopes.{popped}

@@ -1,4 +1,4 @@
-use Rattle.std.proofs.Common.{◌≡◌, ◌-◌, ◌<◌, ◌≤◌, List, true, false, length, refl, subst, sym, ◌∙◌, arith}
+use Rattle.std.proofs.Common.{◌≡◌, ◌-◌, List, true, false, refl, subst, sym, ◌∙◌, arith}
 use Rattle.html_forest.specs.Forest.{is_in}
 use Rattle.html_tree_state.specs.Building.{seen, stack_of}
 use Rattle.html_tree_state.specs.OpenAt.{IsOpenAt}
