@@ -8,7 +8,6 @@ pub mod Permutations
 pub mod QueueLemmas
 pub mod RunLemmas
 pub mod SameAttributes
-pub mod SetLemmas
 pub mod SortedEntries
 pub mod SoundReferences
 pub mod TableBeginnings

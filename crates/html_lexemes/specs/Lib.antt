@@ -1,6 +1,5 @@
 pub mod Counts
 pub mod Device
-pub mod ElementSets
 pub mod Json
 pub mod KnownPart
 pub mod LineEnds
@@ -10,10 +9,8 @@ pub mod QueueAnswers
 pub mod QueueParts
 pub mod References
 pub mod RowWords
-pub mod Sets
 pub mod Shown
 pub mod Table
-pub mod TagSets
 pub mod Tags
 pub mod Texts
 pub mod Tokens

@@ -5,7 +5,6 @@
 
 mod attributes;
 mod device;
-mod element_sets;
 mod fault;
 mod json;
 mod json_rows;
@@ -13,12 +12,9 @@ pub mod laws;
 mod names;
 mod queue;
 mod rows;
-mod set_rows;
-pub mod sets;
 pub mod states;
 mod table;
 mod table_error;
-mod tag_sets;
 mod text;
 mod token;
 

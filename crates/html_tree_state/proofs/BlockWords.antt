@@ -2,8 +2,8 @@
 use Rattle.std.proofs.Common.{◌≡◌, ℕ, ◌==◌, Bool, true, false, List, [], ◌∷◌, Option, None, Some, refl, ap, ◌∙◌}
 use Rattle.std.proofs.Common.{if◌then◌else◌}
 use Rattle.html_forest.specs.Forest.{Forest, is_in, name_of}
-use Rattle.html_lexemes.specs.ElementSets.{special_elements}
-use Rattle.html_lexemes.specs.Sets.{is_element_of}
+use Rattle.name_sets.specs.ElementSets.{special_elements}
+use Rattle.name_sets.specs.Sets.{is_element_of}
 use Rattle.html_tree_state.specs.Adoption.{farther, last_special, nearer, or_itself}
 use Rattle.html_tree_state.specs.OpenElements.{first_of}
 use Rattle.html_tree_state.proofs.OpenLemmas.{if_other, other_way, rest_false}

@@ -8,8 +8,8 @@ use Rattle.html_forest.specs.Forest.{name_of, parent_of}
 use Rattle.html_forest.specs.Orders.{Above, AtOrAbove, IsDocument, IsForest, IsIn, IsParent, child, further}
 use Rattle.html_forest.specs.Orders.{of_contents}
 use Rattle.html_forest.specs.Places.{Place, based_on, before, below}
-use Rattle.html_lexemes.specs.ElementSets.{foster_targets}
-use Rattle.html_lexemes.specs.Sets.{is_element_of, is_html}
+use Rattle.name_sets.specs.ElementSets.{foster_targets}
+use Rattle.name_sets.specs.Sets.{is_element_of, is_html}
 use Rattle.html_lexemes.specs.declared.names.QualName.{QualName}
 use Rattle.html_tree_state.specs.Building.{Building}
 use Rattle.html_tree_state.specs.CanAdopt.{is_foster_stop}

@@ -7,8 +7,8 @@ use Rattle.html_forest.specs.Forest.{Forest, Holds, IsElement, IsElementKind, Ki
 use Rattle.html_forest.specs.Forest.{element_of, kind_at, nodes}
 use Rattle.html_forest.specs.Orders.{Above, AtOrAbove, HasNoParent, IsForest, IsIn, IsParent, child, further}
 use Rattle.html_forest.specs.Places.{below}
-use Rattle.html_lexemes.specs.Sets.{is_html, is_one_of}
-use Rattle.html_lexemes.specs.TagSets.{formatting}
+use Rattle.name_sets.specs.Sets.{is_html, is_one_of}
+use Rattle.name_sets.specs.TagSets.{formatting}
 use Rattle.html_lexemes.specs.declared.token.Tag.{Tag}
 use Rattle.html_tree_state.specs.Building.{Building}
 use Rattle.html_tree_state.specs.Formatting.{made_for, name_for}

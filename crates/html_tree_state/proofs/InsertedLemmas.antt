@@ -7,7 +7,7 @@ use Rattle.html_forest.specs.Forest.{Forest, Holds, IsElement, IsElementKind, Ki
 use Rattle.html_forest.specs.Forest.{element, element_of, kind_at, nodes}
 use Rattle.html_forest.specs.Orders.{Above, AtOrAbove, IsForest, IsIn, IsParent}
 use Rattle.html_forest.specs.Places.{Place, node, put, put_node, words}
-use Rattle.html_lexemes.specs.Sets.{is_html}
+use Rattle.name_sets.specs.Sets.{is_html}
 use Rattle.html_lexemes.specs.declared.names.Attribute.{Attribute}
 use Rattle.html_lexemes.specs.declared.names.QualName.{QualName}
 use Rattle.html_tree_state.specs.Building.{Building}

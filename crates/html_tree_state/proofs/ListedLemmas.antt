@@ -7,8 +7,8 @@ use Rattle.formatting_list.specs.Entries.{Entry, before_marker, formatted, marke
 use Rattle.formatting_list.specs.Pushing.{pushed, without_earliest}
 use Rattle.html_forest.specs.Forest.{IsElementKind, element_of, nodes}
 use Rattle.html_forest.specs.Places.{Place}
-use Rattle.html_lexemes.specs.Sets.{is_html, is_one_of}
-use Rattle.html_lexemes.specs.TagSets.{formatting}
+use Rattle.name_sets.specs.Sets.{is_html, is_one_of}
+use Rattle.name_sets.specs.TagSets.{formatting}
 use Rattle.html_lexemes.specs.declared.token.Tag.{Tag}
 use Rattle.html_tree_state.specs.Building.{Building}
 use Rattle.html_tree_state.specs.Formatting.{cleared, inserted_for, inserted_formatting, made_for, marked, name_for}

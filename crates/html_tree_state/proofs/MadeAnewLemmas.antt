@@ -12,8 +12,8 @@ use Rattle.formatting_list.specs.declared.entry.FormatEntry.{FormatEntry}
 use Rattle.formatting_list.specs.declared.entry.FormatEntry.TheVariants.{Element, Marker}
 use Rattle.html_forest.specs.Forest.{Forest, nodes}
 use Rattle.html_forest.specs.declared.sink.QuirksMode.{QuirksMode}
-use Rattle.html_lexemes.specs.Sets.{is_one_of}
-use Rattle.html_lexemes.specs.TagSets.{formatting}
+use Rattle.name_sets.specs.Sets.{is_one_of}
+use Rattle.name_sets.specs.TagSets.{formatting}
 use Rattle.html_lexemes.specs.declared.token.Tag.{Tag}
 use Rattle.html_tree_state.specs.Building.{Building, Parts, seen}
 use Rattle.html_tree_state.specs.Formatting.{all_made_anew, inserted_for, is_kept, made_already, made_anew, made_from}

@@ -5,7 +5,7 @@ use Rattle.html_forest.specs.Conditions.{IsPlace}
 use Rattle.html_forest.specs.Forest.{Forest, Holds, contents_of, name_of, parent_of}
 use Rattle.html_forest.specs.Orders.{IsForest, IsIn, of_contents}
 use Rattle.html_forest.specs.Places.{Place, based_on, before, below}
-use Rattle.html_lexemes.specs.Sets.{is_html}
+use Rattle.name_sets.specs.Sets.{is_html}
 use Rattle.html_tree_state.specs.Building.{Building}
 use Rattle.html_tree_state.specs.Insertions.{foster_at, foster_place, here, holder, inside, is_fostered, is_template}
 use Rattle.html_tree_state.specs.Insertions.{place_for}

@@ -7,7 +7,7 @@ use Rattle.html_forest.specs.Forest.{Forest, Holds, IsElementKind, element_of}
 use Rattle.html_forest.specs.Orders.{Above, AtOrAbove, IsIn, IsParent}
 use Rattle.html_forest.specs.Places.{Place, node, put_node}
 use Rattle.html_forest.specs.declared.sink.QuirksMode.{QuirksMode}
-use Rattle.html_lexemes.specs.Sets.{is_html}
+use Rattle.name_sets.specs.Sets.{is_html}
 use Rattle.html_tree_state.specs.Adoption.{ancestor_of, out_of_place, placed}
 use Rattle.html_tree_state.specs.Building.{Building, Parts, seen}
 use Rattle.html_tree_state.specs.CanAdopt.{CanPlace, IsAncestor}

@@ -4,7 +4,7 @@ use Rattle.std.proofs.Common.{Some, codes, Result, Ok, Err, OnErr, OnOk}
 use Rattle.html_forest.specs.Forest.{Forest, IsElement, IsElementKind, contents_of, element_of, kind_at, name_of}
 use Rattle.html_forest.specs.Orders.{Above, AreDistinct, IsForest, IsIn, IsParent}
 use Rattle.html_forest.specs.declared.sink.QuirksMode.{QuirksMode}
-use Rattle.html_lexemes.specs.Sets.{is_html}
+use Rattle.name_sets.specs.Sets.{is_html}
 use Rattle.html_tree_state.specs.Building.{Building}
 use Rattle.html_tree_state.specs.Insertions.{is_template}
 use Rattle.html_tree_state.specs.OpenElements.{below_current}

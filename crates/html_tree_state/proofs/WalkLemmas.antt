@@ -9,9 +9,9 @@ use Rattle.formatting_list.specs.Entries.{is_listed, tag_in, up_to_marker}
 use Rattle.html_forest.specs.Changes.{left_out}
 use Rattle.html_forest.specs.Forest.{Forest, Holds, element_of, is_in, name_of, nodes}
 use Rattle.html_forest.specs.Orders.{AreDistinct, IsIn}
-use Rattle.html_lexemes.specs.ElementSets.{scope_barriers, special_elements}
-use Rattle.html_lexemes.specs.Sets.{is_element_of, is_html, is_one_of}
-use Rattle.html_lexemes.specs.TagSets.{formatting}
+use Rattle.name_sets.specs.ElementSets.{scope_barriers, special_elements}
+use Rattle.name_sets.specs.Sets.{is_element_of, is_html, is_one_of}
+use Rattle.name_sets.specs.TagSets.{formatting}
 use Rattle.html_lexemes.specs.declared.names.Namespace.{Namespace}
 use Rattle.html_lexemes.specs.declared.names.Namespace.TheVariants.{Html, MathMl, Svg, Other}
 use Rattle.html_lexemes.specs.declared.names.QualName.{QualName}

@@ -7,8 +7,8 @@ use Rattle.formatting_list.specs.Entries.{up_to_marker, without_entry}
 use Rattle.html_forest.specs.Changes.{detached, left_out, reparented}
 use Rattle.html_forest.specs.Forest.{Forest, is_in, name_of, nodes}
 use Rattle.html_forest.specs.Places.{below, put_before, put_node}
-use Rattle.html_lexemes.specs.ElementSets.{scope_barriers, special_elements}
-use Rattle.html_lexemes.specs.Sets.{is_element_of, is_html}
+use Rattle.name_sets.specs.ElementSets.{scope_barriers, special_elements}
+use Rattle.name_sets.specs.Sets.{is_element_of, is_html}
 use Rattle.html_lexemes.specs.declared.token.Tag.{Tag}
 use Rattle.html_tree_state.specs.Building.{Building}
 use Rattle.html_tree_state.specs.Formatting.{made_for, unlisted}
@@ -16,7 +16,7 @@ use Rattle.html_tree_state.specs.Insertions.{place_for}
 use Rattle.html_tree_state.specs.OpenElements.{current_of, up_to}
 pub use Rattle.html_tree_state.specs.OpenElements.{farther, nearer}
 use Rattle.html_tree_state.specs.Scopes.{implied, popped, taken_off}
-use Rattle.html_tree_state.specs.Sets.{one}
+use Rattle.name_sets.specs.Wanted.{one}
 
 -- the furthest block: the special element nearer than the formatting element that is farthest from the current node
 abbrev pub or_itself : Option ℕ → Bool → ℕ → Option ℕ

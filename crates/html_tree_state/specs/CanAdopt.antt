@@ -3,8 +3,8 @@ use Rattle.std.specs.Prelude.{◌≡◌, ℕ, ◌||◌, Bool, false, true, List,
 use Rattle.formatting_list.specs.Entries.{is_listed, tag_in, up_to_marker}
 use Rattle.html_forest.specs.Forest.{Forest, is_in, name_of}
 use Rattle.html_forest.specs.Orders.{IsIn}
-use Rattle.html_lexemes.specs.ElementSets.{scope_barriers}
-use Rattle.html_lexemes.specs.Sets.{is_html}
+use Rattle.name_sets.specs.ElementSets.{scope_barriers}
+use Rattle.name_sets.specs.Sets.{is_html}
 use Rattle.html_lexemes.specs.declared.token.Tag.{Tag}
 use Rattle.html_tree_state.specs.Adoption.{furthest_block, nearer}
 use Rattle.html_tree_state.specs.Building.{Building}

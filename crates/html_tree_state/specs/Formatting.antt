@@ -4,7 +4,7 @@ use Rattle.formatting_list.specs.Entries.{Entry, before_marker, formatted, marke
 use Rattle.formatting_list.specs.Pushing.{pushed}
 use Rattle.html_forest.specs.Changes.{made_element}
 use Rattle.html_forest.specs.Forest.{Forest, is_in, nodes}
-use Rattle.html_lexemes.specs.Sets.{is_html}
+use Rattle.name_sets.specs.Sets.{is_html}
 use Rattle.html_lexemes.specs.declared.names.Namespace.TheVariants.{Html}
 use Rattle.html_lexemes.specs.declared.names.QualName.{QualName}
 use Rattle.html_lexemes.specs.declared.token.Tag.{Tag}

@@ -3,8 +3,8 @@ use Rattle.std.specs.Prelude.{ℕ, Bool, ◌&&◌, List, [], ◌∷◌, Option, 
 use Rattle.html_forest.specs.Changes.{made, made_element, with_attributes}
 use Rattle.html_forest.specs.Forest.{Forest, comment, contents_of, name_of, nodes}
 use Rattle.html_forest.specs.Places.{Place, based_on, below, put, put_node, words}
-use Rattle.html_lexemes.specs.ElementSets.{foster_targets}
-use Rattle.html_lexemes.specs.Sets.{is_element_of, is_html}
+use Rattle.name_sets.specs.ElementSets.{foster_targets}
+use Rattle.name_sets.specs.Sets.{is_element_of, is_html}
 use Rattle.html_lexemes.specs.declared.names.Attribute.{Attribute}
 use Rattle.html_lexemes.specs.declared.names.QualName.{QualName}
 use Rattle.html_tree_state.specs.Building.{Building}

@@ -11,6 +11,5 @@ pub mod OpenElements
 pub mod Orders
 pub mod Points
 pub mod Scopes
-pub mod Sets
 pub mod Sound
 pub mod Walks

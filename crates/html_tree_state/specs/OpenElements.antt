@@ -2,7 +2,7 @@
 use Rattle.std.specs.Prelude.{ℕ, Bool, false, true, List, [], ◌∷◌, Option, None, Some}
 use Rattle.std.specs.Prelude.{◌==◌, if◌then◌else◌}
 use Rattle.html_forest.specs.Forest.{Forest, name_of}
-use Rattle.html_lexemes.specs.Sets.{Elements, is_element_of}
+use Rattle.name_sets.specs.Sets.{Elements, is_element_of}
 
 -- the elements up to the first one of a set, and that one
 abbrev pub up_to : Elements → Forest → List ℕ → List ℕ

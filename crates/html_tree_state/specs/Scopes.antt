@@ -2,11 +2,11 @@
 use Rattle.std.specs.Prelude.{ℕ, Bool, List, [], ◌∷◌, codes, if◌then◌else◌}
 use Rattle.html_forest.specs.Changes.{left_out}
 use Rattle.html_forest.specs.Forest.{Forest, name_of}
-use Rattle.html_lexemes.specs.ElementSets.{button_scope_barriers}
-use Rattle.html_lexemes.specs.Sets.{Elements}
+use Rattle.name_sets.specs.ElementSets.{button_scope_barriers}
+use Rattle.name_sets.specs.Sets.{Elements}
 use Rattle.html_tree_state.specs.Building.{Building}
 use Rattle.html_tree_state.specs.OpenElements.{below_current, below_first, from_first, has_any, up_to}
-use Rattle.html_tree_state.specs.Sets.{is_implied, one}
+use Rattle.name_sets.specs.Wanted.{is_implied, one}
 
 -- an element of a set is in scope: it stands before the first barrier, or is that barrier
 abbrev pub is_in_scope : (barriers wanted : Elements) → Building → Bool

@@ -4,8 +4,8 @@ use Rattle.formatting_list.specs.Alike.{AreFew}
 use Rattle.formatting_list.specs.Entries.{Entry, formatted, marker}
 use Rattle.html_forest.specs.Forest.{Forest, IsElement, contents_of, name_of}
 use Rattle.html_forest.specs.Orders.{AreDistinct, IsForest, IsIn}
-use Rattle.html_lexemes.specs.Sets.{is_one_of}
-use Rattle.html_lexemes.specs.TagSets.{formatting}
+use Rattle.name_sets.specs.Sets.{is_one_of}
+use Rattle.name_sets.specs.TagSets.{formatting}
 use Rattle.html_lexemes.specs.declared.names.Namespace.TheVariants.{Html}
 use Rattle.html_lexemes.specs.declared.token.Tag.{Tag}
 use Rattle.html_tree_state.specs.Building.{Building}

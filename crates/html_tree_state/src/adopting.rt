@@ -5,7 +5,7 @@ ghost use Rattle.html_forest.specs.Conditions.{CanMove, CanReparent, IsPlace};
 ghost use Rattle.html_forest.specs.Forest.{Forest, is_in, nodes};
 ghost use Rattle.html_forest.specs.Changes.{detached, reparented};
 ghost use Rattle.html_forest.specs.Places.{below};
-ghost use Rattle.html_lexemes.specs.ElementSets.{scope_barriers};
+ghost use Rattle.name_sets.specs.ElementSets.{scope_barriers};
 ghost use Rattle.html_lexemes.specs.declared.token.Tag.{Tag as SeenTag};
 ghost use Rattle.html_tree_state.specs.Adoption.{Walk, copied, farther, furthest_block, nearer, out_of_place, placed};
 ghost use Rattle.html_tree_state.specs.Adoption.{popped_with, stepped, taken_over};

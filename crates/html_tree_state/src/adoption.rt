@@ -15,9 +15,9 @@ use crate::adopting::adopting_keeps_sound;
 use crate::construction::Construction;
 use crate::held::position;
 use crate::laws::laws_of_forests;
-use crate::sets::ElementSet;
 use html_forest::TreeSink;
 use html_lexemes::{LocalName, ParseFault, Tag};
+use name_sets::ElementSet;
 
 // how many turns an end tag has
 const MOST_TURNS: usize = 8;

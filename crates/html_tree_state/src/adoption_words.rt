@@ -1,7 +1,7 @@
 //! What the adoption agency asks of the open elements (WHATWG HTML, 13.2.6.4.7).
 ghost use Rattle.std.specs.Prelude.{◌≡◌, ◌<◌, ℕ, List, ◌∷◌, ◌++◌, length, option_map};
 ghost use Rattle.html_forest.specs.Forest.{is_in};
-ghost use Rattle.html_lexemes.specs.ElementSets.{scope_barriers};
+ghost use Rattle.name_sets.specs.ElementSets.{scope_barriers};
 ghost use Rattle.html_tree_state.specs.Adoption.{farther, furthest_block as furthest_block_of};
 ghost use Rattle.html_tree_state.specs.Building.{seen, stack_of};
 ghost use Rattle.html_tree_state.specs.OpenElements.{first_of, up_to};
@@ -9,9 +9,8 @@ ghost use Rattle.html_tree_state.specs.Sound.{Sound};
 
 use crate::construction::Construction;
 use crate::held::{last_element, position};
-use crate::sets::Scope;
 use html_forest::TreeSink;
-use html_lexemes::sets::is_special;
+use name_sets::{Scope, is_special};
 
 impl<S: TreeSink> Construction<S> {
     /// Whether an element is open.

@@ -5,14 +5,13 @@ ghost use Rattle.html_lexemes.specs.declared.fault.ParseFault.TheVariants.{Memor
 ghost use Rattle.html_tree_state.specs.Adoption.{closed_by_other_end, named_before_special, popped_with};
 ghost use Rattle.html_tree_state.specs.Building.{seen};
 ghost use Rattle.html_tree_state.specs.Scopes.{is_open};
-ghost use Rattle.html_tree_state.specs.Sets.{elements_of};
+ghost use Rattle.name_sets.specs.Wanted.{elements_of};
 ghost use Rattle.html_tree_state.specs.Sound.{Sound};
 
 use crate::construction::Construction;
-use crate::sets::ElementSet;
 use html_forest::TreeSink;
-use html_lexemes::sets::is_special;
 use html_lexemes::{LocalName, ParseFault};
+use name_sets::{ElementSet, is_special};
 
 impl<S: TreeSink> Construction<S> {
     /// Whether an element of a set is open.

@@ -2,8 +2,8 @@
 ghost use Rattle.std.specs.Prelude.{◌≡◌, IfErr, IfOk, OnOk, true};
 ghost use Rattle.html_forest.specs.Forest.{nodes};
 ghost use Rattle.html_forest.specs.Orders.{IsForest};
-ghost use Rattle.html_lexemes.specs.Sets.{is_one_of};
-ghost use Rattle.html_lexemes.specs.TagSets.{formatting};
+ghost use Rattle.name_sets.specs.Sets.{is_one_of};
+ghost use Rattle.name_sets.specs.TagSets.{formatting};
 ghost use Rattle.html_lexemes.specs.declared.fault.ParseFault.TheVariants.{Memory};
 ghost use Rattle.html_tree_state.specs.Building.{seen};
 ghost use Rattle.html_tree_state.specs.Formatting.{cleared, inserted_for, inserted_formatting, marked};
@@ -14,9 +14,9 @@ use crate::adopting::adopting_keeps_sound;
 use crate::construction::Construction;
 use crate::elements::PushFlag;
 use crate::laws::laws_of_forests;
-use crate::sets::{ElementSet, Scope};
 use html_forest::TreeSink;
 use html_lexemes::{Namespace, ParseFault, QualName, Tag};
+use name_sets::{ElementSet, Scope};
 
 impl<S: TreeSink> Construction<S> {
     /// Puts a marker into the list.

@@ -15,8 +15,8 @@ use crate::construction::Construction;
 use crate::held::last_element;
 use crate::laws::laws_of_forests;
 use html_forest::{NodeOrText, TreeSink};
-use html_lexemes::sets::{is_foster_target, is_html};
 use html_lexemes::{ParseFault, Text};
+use name_sets::{is_foster_target, is_html};
 
 /// Where a node or a text is inserted.
 #[derive(Clone, Copy)]

@@ -19,7 +19,6 @@ mod pops;
 mod reconstruction;
 mod resetting;
 mod scopes;
-mod sets;
 
 pub use construction::Construction;
 pub use elements::PushFlag;
@@ -27,6 +26,6 @@ pub use formatting_list::{ActiveFormattingIter, FormatEntry, FormattingList};
 pub use held::Held;
 pub use html_forest;
 pub use insertion::InsertionPoint;
+pub use name_sets::{ElementSet, Scope};
 pub use resetting::html_elem;
-pub use sets::{ElementSet, Scope};
 pub use tree_words;

@@ -5,13 +5,13 @@ ghost use Rattle.html_lexemes.specs.declared.fault.ParseFault.TheVariants.{Memor
 ghost use Rattle.html_tree_state.specs.Building.{seen};
 ghost use Rattle.html_tree_state.specs.OpenElements.{first_of};
 ghost use Rattle.html_tree_state.specs.Scopes.{implied, popped, popped_down_to, popped_to};
-ghost use Rattle.html_tree_state.specs.Sets.{elements_of};
+ghost use Rattle.name_sets.specs.Wanted.{elements_of};
 ghost use Rattle.html_tree_state.specs.Sound.{Sound};
 
 use crate::construction::Construction;
-use crate::sets::ElementSet;
 use html_forest::TreeSink;
 use html_lexemes::ParseFault;
+use name_sets::ElementSet;
 
 impl<S: TreeSink> Construction<S> {
     /// The current node, where an element is open.

@@ -2,12 +2,12 @@
 ghost use Rattle.std.specs.Prelude.{◌≡◌};
 ghost use Rattle.html_tree_state.specs.Building.{seen};
 ghost use Rattle.html_tree_state.specs.Scopes.{is_in_scope};
-ghost use Rattle.html_tree_state.specs.Sets.{barriers_of, elements_of};
+ghost use Rattle.name_sets.specs.Wanted.{barriers_of, elements_of};
 ghost use Rattle.html_tree_state.specs.Sound.{Sound};
 
 use crate::construction::Construction;
-use crate::sets::{ElementSet, Scope};
 use html_forest::TreeSink;
+use name_sets::{ElementSet, Scope};
 
 impl<S: TreeSink> Construction<S> {
     /// Whether an element of a set is in a scope: from the current node up it stands before the first barrier, or is that

@@ -2,7 +2,7 @@
 use Rattle.std.proofs.Common.{◌≡◌, ℕ, ◌+◌, ◌<◌, ◌≤◌, length-drop, slice_index_or, Bool, true, false, List, [], ◌∷◌}
 use Rattle.std.proofs.Common.{length, drop, None, Some, bytes_eq, sym, ap, ◌∙◌, arith, cond}
 use Rattle.std.proofs.lemmas.List.{drop_more, nil_from_length}
-use Rattle.html_lexemes.specs.Sets.{is_one_of}
+use Rattle.name_sets.specs.Sets.{is_one_of}
 use Rattle.html_lexemes.specs.declared.names.Attribute.{Attribute}
 use Rattle.tree_words.specs.Attributes.{has_attribute, value_of}
 

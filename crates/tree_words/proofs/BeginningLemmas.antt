@@ -3,7 +3,7 @@ use Rattle.std.proofs.Common.{◌≡◌, ℕ, ◌+◌, ◌<◌, ◌≤◌, lengt
 use Rattle.std.proofs.Common.{length, drop, sym, ap, ◌∙◌, arith}
 use Rattle.std.specs.Borrow.{Bor}
 use Rattle.std.proofs.lemmas.List.{drop_more, nil_from_length}
-use Rattle.html_lexemes.specs.Sets.{words_of}
+use Rattle.name_sets.specs.Sets.{words_of}
 use Rattle.tree_words.specs.Quirks.{begins_with, begins_with_one}
 
 module _ (words : List (Bor (List ℕ))) (i : ℕ) (d : Bor (List ℕ)) (text : List ℕ) (more : i < length words) where

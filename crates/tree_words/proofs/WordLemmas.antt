@@ -11,7 +11,7 @@ use Rattle.std.proofs.lemmas.Slice.Eq.{bytes_eq-Decides}
 use Rattle.std.proofs.lemmas.Str.{chars-IsAscii, chars-nil, chars_past_char, IsUtf8-from_ascii, IsUtf8-past_char}
 use Rattle.html_lexemes.proofs.NameTests.{some_chars}
 use Rattle.html_lexemes.proofs.Utf8Order.{same_by_bytes}
-use Rattle.html_lexemes.specs.Sets.{is_ascii_word}
+use Rattle.name_sets.specs.Sets.{is_ascii_word}
 use Rattle.tree_words.specs.Attributes.{in_lower_case}
 use Rattle.tree_words.specs.Quirks.{begins_with}
 

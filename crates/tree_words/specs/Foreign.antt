@@ -2,10 +2,10 @@
 -- dispatcher"), and what ends foreign content (13.2.6.5). An element is an integration point where it is an
 -- `annotation-xml` element whose contents are HTML.
 use Rattle.std.specs.Prelude.{ℕ, Bool, false, true, ◌&&◌, ◌||◌, not, List, [], ◌∷◌, codes, bytes_eq}
-use Rattle.html_lexemes.specs.ElementSets.{integration_points, math_ml_text_integration_points}
-use Rattle.html_lexemes.specs.ElementSets.{svg_html_integration_points}
-use Rattle.html_lexemes.specs.Sets.{is_element_of, is_one_of}
-use Rattle.html_lexemes.specs.TagSets.{break_outs, math_ml_glyphs}
+use Rattle.name_sets.specs.ElementSets.{integration_points, math_ml_text_integration_points}
+use Rattle.name_sets.specs.ElementSets.{svg_html_integration_points}
+use Rattle.name_sets.specs.Sets.{is_element_of, is_one_of}
+use Rattle.name_sets.specs.TagSets.{break_outs, math_ml_glyphs}
 use Rattle.html_lexemes.specs.declared.names.Namespace.{Namespace}
 use Rattle.html_lexemes.specs.declared.names.Namespace.TheVariants.{Html, MathMl, Other, Svg}
 use Rattle.html_lexemes.specs.declared.names.QualName.{QualName}

@@ -1,8 +1,8 @@
 -- Which insertion mode the open elements ask for (WHATWG HTML, 13.2.4.1, "reset the insertion mode appropriately").
 use Rattle.std.specs.Prelude.{Bool, false, true, ◌&&◌, not, List, [], ◌∷◌, Option, None, Some, codes}
 use Rattle.std.specs.Prelude.{if◌then◌else◌}
-use Rattle.html_lexemes.specs.ElementSets.{table_cells, table_sections}
-use Rattle.html_lexemes.specs.Sets.{is_element_of, is_html}
+use Rattle.name_sets.specs.ElementSets.{table_cells, table_sections}
+use Rattle.name_sets.specs.Sets.{is_element_of, is_html}
 use Rattle.html_lexemes.specs.declared.names.QualName.{QualName}
 use Rattle.tree_words.specs.declared.modes.InsertionMode.{InsertionMode}
 use Rattle.tree_words.specs.declared.modes.InsertionMode.TheVariants.{AfterHead, BeforeHead, InBody, InCaption, InCell}

@@ -6,7 +6,7 @@ use Rattle.html_lexemes.specs.declared.token.Doctype.{Doctype}
 use Rattle.html_lexemes.specs.declared.token.Tag.{Tag}
 use Rattle.html_lexemes.specs.declared.token.TagKind.{TagKind}
 use Rattle.html_lexemes.specs.declared.token.TagKind.TheVariants.{EndTag, StartTag}
-use Rattle.html_lexemes.specs.RowWords.{html}
+use Rattle.name_sets.specs.RowWords.{html}
 use Rattle.tree_words.specs.Modes.{own_mode}
 use Rattle.tree_words.specs.declared.modes.InsertionMode.{InsertionMode}
 use Rattle.tree_words.specs.declared.modes.InsertionMode.TheVariants.{InTemplate}

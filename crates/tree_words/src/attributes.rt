@@ -1,12 +1,12 @@
 //! What an element's attributes say.
 ghost use Rattle.std.specs.Prelude.{◌≡◌, codes, option_map, IsTrue};
-ghost use Rattle.html_lexemes.specs.Sets.{is_ascii_word, is_html};
+ghost use Rattle.name_sets.specs.Sets.{is_ascii_word, is_html};
 ghost use Rattle.tree_words.specs.Attributes.{html_encodings, is_hidden, is_html_annotation, is_value_of, value_of};
 
 use crate::foreign::is_annotation;
 use crate::words::{is_in_lower_case, is_word};
 use html_forest::ElementFlags;
-use html_lexemes::{Attributes, QualName, Text, sets};
+use html_lexemes::{Attributes, QualName, Text};
 
 /// Whether an `input` with these attributes isn't shown: its `type` is `hidden`, in any ASCII case (WHATWG HTML,
 /// 13.2.6.4.7 and 13.2.6.4.9).
@@ -26,7 +26,7 @@ pub fn element_flags(name: &QualName, attrs: &Attributes) -> ElementFlags
     ensures point { result.mathml_annotation_xml_integration_point ≡ is_html_annotation name.now attrs.now }
 {
     ElementFlags {
-        template: sets::is_html(name, "template"),
+        template: name_sets::is_html(name, "template"),
         mathml_annotation_xml_integration_point: is_html_annotation(name, attrs),
     }
 }

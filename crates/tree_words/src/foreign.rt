@@ -1,19 +1,19 @@
 //! Which rules take a token in foreign content (WHATWG HTML, 13.2.6 and 13.2.6.5).
 ghost use Rattle.std.specs.Prelude.{◌≡◌, chars};
-ghost use Rattle.html_lexemes.specs.Sets.{is_one_of};
+ghost use Rattle.name_sets.specs.Sets.{is_one_of};
 ghost use Rattle.tree_words.specs.Attributes.{has_attribute};
 ghost use Rattle.tree_words.specs.Foreign.{breaks_out, is_annotation, is_closed_by, is_html_place, is_of_html};
 ghost use Rattle.tree_words.specs.Foreign.{stops_break_out, styles, takes_start, takes_text};
 
 use crate::words::{is_lower_case_of, is_word};
-use html_lexemes::{Attributes, LocalName, Namespace, QualName, Tag, TagKind, sets};
+use html_lexemes::{Attributes, LocalName, Namespace, QualName, Tag, TagKind};
 
 /// Whether text in an element is taken by the rules for HTML: in an element of HTML, in MathML text, and where an
 /// element is an integration point. `is_point` says that it is an `annotation-xml` element whose contents are HTML.
 pub fn takes_text_as_html(name: &QualName, is_point: bool) -> bool
     ensures { result ≡ takes_text name.now is_point }
 {
-    is_html_place(name, is_point) || sets::is_math_ml_text_integration_point(name)
+    is_html_place(name, is_point) || name_sets::is_math_ml_text_integration_point(name)
 }
 
 /// Whether a start tag in an element is taken by the rules for HTML: where text is, but for `mglyph` and `malignmark`
@@ -22,7 +22,8 @@ pub fn takes_start_as_html(name: &QualName, is_point: bool, tag: &LocalName) -> 
     ensures { result ≡ takes_start name.now is_point tag.now }
 {
     is_html_place(name, is_point)
-        || (sets::is_math_ml_text_integration_point(name) && !sets::is_math_ml_glyph_tag(tag))
+        || (name_sets::is_math_ml_text_integration_point(name)
+            && !name_sets::is_math_ml_glyph_tag(tag))
         || (is_annotation(name) && is_word(tag.as_str(), "svg"))
 }
 
@@ -34,7 +35,7 @@ pub fn breaks_out(tag: &Tag) -> bool
     let name = &tag.name;
     match tag.kind {
         TagKind::StartTag => {
-            sets::is_break_out_tag(name)
+            name_sets::is_break_out_tag(name)
                 || (is_word(name.as_str(), "font") && has_style(&tag.attrs))
         }
         TagKind::EndTag => is_word(name.as_str(), "br") || is_word(name.as_str(), "p"),
@@ -45,7 +46,7 @@ pub fn breaks_out(tag: &Tag) -> bool
 pub fn stops_break_out(name: &QualName, is_point: bool) -> bool
     ensures { result ≡ stops_break_out name.now is_point }
 {
-    is_of_html(&name.ns) || sets::is_integration_point(name) || is_point
+    is_of_html(&name.ns) || name_sets::is_integration_point(name) || is_point
 }
 
 /// Whether an end tag of a name closes an element in foreign content: the element's name in lower case is the tag's.
@@ -78,7 +79,7 @@ fn is_style(name: &str) -> bool
 fn is_html_place(name: &QualName, is_point: bool) -> bool
     ensures { result ≡ is_html_place name.now is_point }
 {
-    is_of_html(&name.ns) || sets::is_svg_html_integration_point(name) || is_point
+    is_of_html(&name.ns) || name_sets::is_svg_html_integration_point(name) || is_point
 }
 
 /// Whether a namespace is that of HTML.

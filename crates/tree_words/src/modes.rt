@@ -2,7 +2,7 @@
 ghost use Rattle.std.specs.Prelude.{◌≡◌, if◌then◌else◌, option_map};
 ghost use Rattle.tree_words.specs.Modes.{own_mode, root_mode};
 
-use html_lexemes::{QualName, sets};
+use html_lexemes::QualName;
 
 /// By which rules a token is taken (WHATWG HTML, 13.2.4.1 and 13.2.6.4), in the standard's order.
 #[derive(Clone, Copy, PartialEq, Eq)]
@@ -62,27 +62,27 @@ pub fn own_mode(
 ) -> Option<InsertionMode>
     ensures { result ≡ own_mode name.now is_root has_head template_mode }
 {
-    if sets::is_table_cell(name) && !is_root {
+    if name_sets::is_table_cell(name) && !is_root {
         Some(InsertionMode::InCell)
-    } else if sets::is_html(name, "tr") {
+    } else if name_sets::is_html(name, "tr") {
         Some(InsertionMode::InRow)
-    } else if sets::is_table_section(name) {
+    } else if name_sets::is_table_section(name) {
         Some(InsertionMode::InTableBody)
-    } else if sets::is_html(name, "caption") {
+    } else if name_sets::is_html(name, "caption") {
         Some(InsertionMode::InCaption)
-    } else if sets::is_html(name, "colgroup") {
+    } else if name_sets::is_html(name, "colgroup") {
         Some(InsertionMode::InColumnGroup)
-    } else if sets::is_html(name, "table") {
+    } else if name_sets::is_html(name, "table") {
         Some(InsertionMode::InTable)
-    } else if sets::is_html(name, "template") {
+    } else if name_sets::is_html(name, "template") {
         template_mode
-    } else if sets::is_html(name, "head") && !is_root {
+    } else if name_sets::is_html(name, "head") && !is_root {
         Some(InsertionMode::InHead)
-    } else if sets::is_html(name, "body") {
+    } else if name_sets::is_html(name, "body") {
         Some(InsertionMode::InBody)
-    } else if sets::is_html(name, "frameset") {
+    } else if name_sets::is_html(name, "frameset") {
         Some(InsertionMode::InFrameset)
-    } else if sets::is_html(name, "html") {
+    } else if name_sets::is_html(name, "html") {
         Some(mode_of_html(has_head))
     } else {
         None

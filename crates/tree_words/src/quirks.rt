@@ -1,6 +1,6 @@
 //! The quirks mode that a doctype asks for.
 ghost use Rattle.std.specs.Prelude.{◌≡◌, chars, IsTrue};
-ghost use Rattle.html_lexemes.specs.Sets.{are_ascii, words_of};
+ghost use Rattle.name_sets.specs.Sets.{are_ascii, words_of};
 ghost use Rattle.tree_words.specs.Attributes.{in_lower_case};
 ghost use Rattle.tree_words.specs.Quirks.{begins, begins_with_one, is_named_html, limited, limited_by_system};
 ghost use Rattle.tree_words.specs.Quirks.{quirks_of, quirky};

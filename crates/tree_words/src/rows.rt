@@ -1,7 +1,7 @@
 //! The words of this crate computed on worked rows.
 ghost use Rattle.std.specs.Prelude.{◌≡◌, [], ◌∷◌, None, Some, codes, true, false};
 ghost use Rattle.html_forest.specs.declared.sink.QuirksMode.TheVariants.{LimitedQuirks, NoQuirks, Quirks};
-ghost use Rattle.html_lexemes.specs.RowWords.{html, math_ml, svg};
+ghost use Rattle.name_sets.specs.RowWords.{html, math_ml, svg};
 ghost use Rattle.html_lexemes.specs.declared.token.TagKind.TheVariants.{EndTag, StartTag};
 ghost use Rattle.tree_words.specs.Attributes.{is_hidden, is_html_annotation};
 ghost use Rattle.tree_words.specs.Foreign.{breaks_out, stops_break_out, takes_start, takes_text};

@@ -1,7 +1,7 @@
 //! Texts beside words of ASCII characters, letters of ASCII in either case alike where it is said (WHATWG Infra, 4.5).
 ghost use Rattle.std.specs.Prelude.{◌≡◌, ◌++◌, false, bytes_eq, chars, IfSome, IsTrue, MatchOption};
 ghost use Rattle.std.specs.Str.{IsUtf8};
-ghost use Rattle.html_lexemes.specs.Sets.{is_ascii_word};
+ghost use Rattle.name_sets.specs.Sets.{is_ascii_word};
 ghost use Rattle.tree_words.specs.Attributes.{in_lower_case};
 ghost use Rattle.tree_words.specs.Quirks.{begins_with};
 

@@ -1,6 +1,6 @@
 use Rattle.std.proofs.Common.{ℕ, List, [], chars, refl, sym, ◌∙◌}
 use Rattle.std.specs.Borrow.{Bor}
-use Rattle.html_lexemes.proofs.SetLemmas.{other_words}
+use Rattle.name_sets.proofs.SetLemmas.{other_words}
 use Rattle.tree_words.specs.Attributes.{in_lower_case}
 use Rattle.tree_words.proofs.BeginningLemmas.{begins_here, begins_later, none_begins}
 use Rattle.tree_words.proofs.quirks.begins_with_one.Goals as goal

@@ -1,5 +1,5 @@
 use Rattle.std.proofs.Common.{◌≡◌, IsTrue, chars, drop}
-use Rattle.html_lexemes.specs.Sets.{are_ascii, words_of}
+use Rattle.name_sets.specs.Sets.{are_ascii, words_of}
 use Rattle.tree_words.specs.Attributes.{in_lower_case}
 use Rattle.tree_words.specs.Quirks.{begins_with_one}
 use Rattle.tree_words.proofs.quirks.begins_with_one.Given as goal

@@ -1,7 +1,7 @@
 use Rattle.std.proofs.Common.{List, ap, inr, option_map, subst, sym, ◌∙◌}
 use Rattle.html_forest.specs.Orders.{IsIn}
-use Rattle.html_lexemes.specs.ElementSets.{special_elements}
-use Rattle.html_lexemes.specs.Sets.{is_element_of}
+use Rattle.name_sets.specs.ElementSets.{special_elements}
+use Rattle.name_sets.specs.Sets.{is_element_of}
 use Rattle.html_tree_state.specs.Building.{stack_of}
 use Rattle.html_tree_state.proofs.BlockWords.{block_plain, block_special}
 use Rattle.html_tree_state.proofs.Stacks.{stack_of_last}

@@ -1,7 +1,7 @@
 use Rattle.std.proofs.Common.{◌≡◌, length}
 use Rattle.html_tree_state.specs.Building.{seen}
 use Rattle.html_tree_state.specs.Scopes.{implied}
-use Rattle.html_tree_state.specs.Sets.{elements_of}
+use Rattle.name_sets.specs.Wanted.{elements_of}
 use Rattle.html_tree_state.specs.Sound.{Sound}
 use Rattle.html_tree_state.proofs.construction.Construction.generate_implied_end_tags.Given as goal
 

@@ -2,7 +2,7 @@ use Rattle.std.proofs.Common.{◌≡◌, length}
 use Rattle.html_tree_state.specs.Building.{seen, stack_of}
 use Rattle.html_tree_state.specs.OpenElements.{has_any}
 use Rattle.html_tree_state.specs.Scopes.{is_open}
-use Rattle.html_tree_state.specs.Sets.{elements_of}
+use Rattle.name_sets.specs.Wanted.{elements_of}
 use Rattle.html_tree_state.proofs.Stacks.{AreElements}
 use Rattle.html_tree_state.proofs.construction.Construction.has_open.Given as goal
 

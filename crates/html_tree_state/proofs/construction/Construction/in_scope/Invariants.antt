@@ -2,7 +2,7 @@ use Rattle.std.proofs.Common.{◌≡◌, length}
 use Rattle.html_tree_state.specs.Building.{seen, stack_of}
 use Rattle.html_tree_state.specs.OpenElements.{has_any, up_to}
 use Rattle.html_tree_state.specs.Scopes.{is_in_scope}
-use Rattle.html_tree_state.specs.Sets.{barriers_of, elements_of}
+use Rattle.name_sets.specs.Wanted.{barriers_of, elements_of}
 use Rattle.html_tree_state.proofs.Stacks.{AreElements}
 use Rattle.html_tree_state.proofs.construction.Construction.in_scope.Given as goal
 

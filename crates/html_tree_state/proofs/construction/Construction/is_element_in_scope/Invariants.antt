@@ -1,6 +1,6 @@
 use Rattle.std.proofs.Common.{◌≡◌, length}
 use Rattle.html_forest.specs.Forest.{is_in}
-use Rattle.html_lexemes.specs.ElementSets.{scope_barriers}
+use Rattle.name_sets.specs.ElementSets.{scope_barriers}
 use Rattle.html_tree_state.specs.Building.{seen, stack_of}
 use Rattle.html_tree_state.specs.OpenElements.{up_to}
 use Rattle.html_tree_state.proofs.Stacks.{AreElements}

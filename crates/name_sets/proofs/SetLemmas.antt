@@ -7,7 +7,7 @@ use Rattle.std.proofs.lemmas.Bool.{and_parts, ltb-true}
 use Rattle.std.proofs.lemmas.List.{drop_more, nil_from_length}
 use Rattle.std.proofs.lemmas.Str.{chars-IsAscii, IsUtf8-from_ascii}
 use Rattle.html_lexemes.proofs.Utf8Order.{same_by_bytes}
-use Rattle.html_lexemes.specs.Sets.{are_ascii, is_ascii_word, is_one_of, words_of}
+use Rattle.name_sets.specs.Sets.{are_ascii, is_ascii_word, is_one_of, words_of}
 
 ascii_word : (word : List ℕ) → is_ascii_word word ≡ true → IsAscii word
 ascii_word [] h i = omega arith

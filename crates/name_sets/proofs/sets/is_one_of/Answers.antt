@@ -1,7 +1,7 @@
 use Rattle.std.proofs.Common.{[], refl, sym, ap, ◌∙◌}
-use Rattle.html_lexemes.specs.Sets.{is_one_of, words_of}
-use Rattle.html_lexemes.proofs.SetLemmas.{found, not_found, none_left, other_words}
-use Rattle.html_lexemes.proofs.sets.is_one_of.Goals as goal
+use Rattle.name_sets.specs.Sets.{is_one_of, words_of}
+use Rattle.name_sets.proofs.SetLemmas.{found, not_found, none_left, other_words}
+use Rattle.name_sets.proofs.sets.is_one_of.Goals as goal
 
 pub loop-word-init : goal.loop-word-init
 loop-word-init c = (c.requires, refl)

@@ -1,13 +1,14 @@
 //! The sets of elements that tree construction asks for.
 ghost use Rattle.std.specs.Prelude.{◌≡◌};
-ghost use Rattle.html_lexemes.specs.Sets.{is_element_of};
-ghost use Rattle.html_tree_state.specs.Sets.{barriers_of, elements_of, is_implied, one};
+ghost use Rattle.name_sets.specs.Sets.{is_element_of};
+ghost use Rattle.name_sets.specs.Wanted.{barriers_of, elements_of, is_implied, one};
 
-use html_lexemes::sets::{
-    has_implied_end_tag, is_button_scope_barrier, is_heading, is_html, is_list_item_scope_barrier,
+use crate::element_sets::{
+    has_implied_end_tag, is_button_scope_barrier, is_heading, is_list_item_scope_barrier,
     is_scope_barrier, is_table_body_context, is_table_cell, is_table_context, is_table_row_context,
     is_table_scope_barrier, is_table_section,
 };
+use crate::sets::is_html;
 use html_lexemes::{LocalName, Namespace, QualName};
 
 /// Up to where an element counts as open (WHATWG HTML, 13.2.4.2).
@@ -113,8 +114,8 @@ impl ElementSet<'_> {
         }
     }
 
-    /// Whether an element's end tag is implied and it is none of the set (13.2.6.3).
-    pub(crate) fn lets_close(self, name: &QualName) -> bool
+    /// Whether an element's end tag is implied and it is none of the set (WHATWG HTML, 13.2.6.3).
+    pub fn lets_close(self, name: &QualName) -> bool
         ensures { result ≡ is_implied (elements_of self.entry) name.now }
     {
         has_implied_end_tag(name) && !self.contains(name)

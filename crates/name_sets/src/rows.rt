@@ -1,9 +1,9 @@
 //! The sets of names, computed: how many they hold, two members, and two strangers that stand near them.
 ghost use Rattle.std.specs.Prelude.{◌≡◌, true, false, codes};
-ghost use Rattle.html_lexemes.specs.ElementSets as elements;
-ghost use Rattle.html_lexemes.specs.RowWords.{IsSetOf, html, math_ml, svg};
-ghost use Rattle.html_lexemes.specs.Sets.{is_element_of, is_html};
-ghost use Rattle.html_lexemes.specs.TagSets as tags;
+ghost use Rattle.name_sets.specs.ElementSets as elements;
+ghost use Rattle.name_sets.specs.RowWords.{IsSetOf, html, math_ml, svg};
+ghost use Rattle.name_sets.specs.Sets.{is_element_of, is_html};
+ghost use Rattle.name_sets.specs.TagSets as tags;
 
 fn tags_outside_tables_of_rows()
     ensures formatting { IsSetOf tags.formatting 14 (codes "a") (codes "u") (codes "span") (codes "p") }

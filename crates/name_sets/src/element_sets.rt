@@ -1,16 +1,16 @@
 //! Tests of an element against a set, which `sets` re-exports.
 ghost use Rattle.std.specs.Prelude.{◌≡◌};
-ghost use Rattle.html_lexemes.specs.Sets.{is_element_of, is_one_of};
-ghost use Rattle.html_lexemes.specs.ElementSets.{address_div_and_p, button_scope_barriers, foster_targets, headings};
-ghost use Rattle.html_lexemes.specs.ElementSets.{implied_end_tags, integration_points, list_item_scope_barriers};
-ghost use Rattle.html_lexemes.specs.ElementSets.{math_ml_text_integration_points, math_ml_texts, raw_text_elements};
-ghost use Rattle.html_lexemes.specs.ElementSets.{scope_barriers, special_elements, special_names, svg_contents};
-ghost use Rattle.html_lexemes.specs.ElementSets.{svg_html_integration_points, table_body_context, table_cells};
-ghost use Rattle.html_lexemes.specs.ElementSets.{table_context, table_row_context, table_scope_barriers};
-ghost use Rattle.html_lexemes.specs.ElementSets.{table_sections, table_text_places, void_elements};
+ghost use Rattle.name_sets.specs.Sets.{is_element_of, is_one_of};
+ghost use Rattle.name_sets.specs.ElementSets.{address_div_and_p, button_scope_barriers, foster_targets, headings};
+ghost use Rattle.name_sets.specs.ElementSets.{implied_end_tags, integration_points, list_item_scope_barriers};
+ghost use Rattle.name_sets.specs.ElementSets.{math_ml_text_integration_points, math_ml_texts, raw_text_elements};
+ghost use Rattle.name_sets.specs.ElementSets.{scope_barriers, special_elements, special_names, svg_contents};
+ghost use Rattle.name_sets.specs.ElementSets.{svg_html_integration_points, table_body_context, table_cells};
+ghost use Rattle.name_sets.specs.ElementSets.{table_context, table_row_context, table_scope_barriers};
+ghost use Rattle.name_sets.specs.ElementSets.{table_sections, table_text_places, void_elements};
 
-use crate::names::{LocalName, Namespace, QualName};
 use crate::sets::{is_html_one_of, is_one_of};
+use html_lexemes::{LocalName, Namespace, QualName};
 
 /// A barrier of scope (WHATWG HTML, 13.2.4.2), `select` among them.
 pub fn is_scope_barrier(name: &QualName) -> bool

@@ -1,18 +1,18 @@
 //! Tests of a tag's name against a set, which `sets` re-exports.
 ghost use Rattle.std.specs.Prelude.{◌≡◌};
-ghost use Rattle.html_lexemes.specs.Sets.{is_one_of};
-ghost use Rattle.html_lexemes.specs.ElementSets.{cell_names, heading_names, section_names};
-ghost use Rattle.html_lexemes.specs.TagSets.{block_ends, blocks, break_outs, definitions, formatting};
-ghost use Rattle.html_lexemes.specs.TagSets.{head_parts_in_table, ignored_in_body, ignored_in_caption};
-ghost use Rattle.html_lexemes.specs.TagSets.{ignored_in_cell, ignored_in_row, ignored_in_table};
-ghost use Rattle.html_lexemes.specs.TagSets.{ignored_in_table_body, kept_before_head, kept_in_head, marked_elements};
-ghost use Rattle.html_lexemes.specs.TagSets.{math_ml_glyphs, metadata, noscript_metadata, past_cell, past_row};
-ghost use Rattle.html_lexemes.specs.TagSets.{past_table_body, preformatted, rawtext_contexts, rcdata_contexts};
-ghost use Rattle.html_lexemes.specs.TagSets.{ruby_bases, ruby_texts, table_children, table_parts, table_row_parts};
-ghost use Rattle.html_lexemes.specs.TagSets.{void_metadata, void_phrases, void_sources};
+ghost use Rattle.name_sets.specs.Sets.{is_one_of};
+ghost use Rattle.name_sets.specs.ElementSets.{cell_names, heading_names, section_names};
+ghost use Rattle.name_sets.specs.TagSets.{block_ends, blocks, break_outs, definitions, formatting};
+ghost use Rattle.name_sets.specs.TagSets.{head_parts_in_table, ignored_in_body, ignored_in_caption};
+ghost use Rattle.name_sets.specs.TagSets.{ignored_in_cell, ignored_in_row, ignored_in_table};
+ghost use Rattle.name_sets.specs.TagSets.{ignored_in_table_body, kept_before_head, kept_in_head, marked_elements};
+ghost use Rattle.name_sets.specs.TagSets.{math_ml_glyphs, metadata, noscript_metadata, past_cell, past_row};
+ghost use Rattle.name_sets.specs.TagSets.{past_table_body, preformatted, rawtext_contexts, rcdata_contexts};
+ghost use Rattle.name_sets.specs.TagSets.{ruby_bases, ruby_texts, table_children, table_parts, table_row_parts};
+ghost use Rattle.name_sets.specs.TagSets.{void_metadata, void_phrases, void_sources};
 
-use crate::names::LocalName;
 use crate::sets::is_one_of;
+use html_lexemes::LocalName;
 
 /// An element with formatting (WHATWG HTML, 13.2.4.3).
 pub fn is_formatting_tag(name: &LocalName) -> bool

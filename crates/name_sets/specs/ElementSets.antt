@@ -1,6 +1,6 @@
 -- Sets of elements (WHATWG HTML, 13.2.4, 13.2.6 and 13.3; the numbers are its sections), in the standard's order.
 use Rattle.std.specs.Prelude.{ℕ, List, [], ◌∷◌, ◌++◌, codes}
-use Rattle.html_lexemes.specs.Sets.{Elements, html_elements}
+use Rattle.name_sets.specs.Sets.{Elements, html_elements}
 
 -- names of MathML elements whose contents are text (13.2.6), and names of SVG elements whose contents are HTML
 abbrev pub math_ml_texts : List (List ℕ)

@@ -1,14 +1,14 @@
 -- The sets of elements that tree construction asks for (WHATWG HTML, 13.2.4 and 13.2.6).
 use Rattle.std.specs.Prelude.{ℕ, Bool, ◌&&◌, not, List, [], ◌∷◌, codes}
-use Rattle.html_lexemes.specs.ElementSets.{button_scope_barriers, headings, implied_end_tags, list_item_scope_barriers}
-use Rattle.html_lexemes.specs.ElementSets.{scope_barriers, table_body_context, table_cells, table_context}
-use Rattle.html_lexemes.specs.ElementSets.{table_row_context, table_scope_barriers, table_sections}
-use Rattle.html_lexemes.specs.Sets.{Elements, html_elements, is_element_of}
+use Rattle.name_sets.specs.ElementSets.{button_scope_barriers, headings, implied_end_tags, list_item_scope_barriers}
+use Rattle.name_sets.specs.ElementSets.{scope_barriers, table_body_context, table_cells, table_context}
+use Rattle.name_sets.specs.ElementSets.{table_row_context, table_scope_barriers, table_sections}
+use Rattle.name_sets.specs.Sets.{Elements, html_elements, is_element_of}
 use Rattle.html_lexemes.specs.declared.names.QualName.{QualName}
-use Rattle.html_tree_state.specs.declared.sets.ElementSet.{ElementSet}
-use Rattle.html_tree_state.specs.declared.sets.ElementSet.TheVariants as sets
-use Rattle.html_tree_state.specs.declared.sets.Scope.{Scope}
-use Rattle.html_tree_state.specs.declared.sets.Scope.TheVariants as scopes
+use Rattle.name_sets.specs.declared.wanted.ElementSet.{ElementSet}
+use Rattle.name_sets.specs.declared.wanted.ElementSet.TheVariants as sets
+use Rattle.name_sets.specs.declared.wanted.Scope.{Scope}
+use Rattle.name_sets.specs.declared.wanted.Scope.TheVariants as scopes
 
 -- one element of HTML
 abbrev pub one : List ℕ → Elements

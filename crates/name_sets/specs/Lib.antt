@@ -1,0 +1,5 @@
+pub mod ElementSets
+pub mod RowWords
+pub mod Sets
+pub mod TagSets
+pub mod Wanted
