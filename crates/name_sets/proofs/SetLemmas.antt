@@ -9,12 +9,12 @@ use Rattle.std.proofs.lemmas.Str.{chars-IsAscii, IsUtf8-from_ascii}
 use Rattle.html_lexemes.proofs.Utf8Order.{same_by_bytes}
 use Rattle.name_sets.specs.Sets.{are_ascii, is_ascii_word, is_one_of, words_of}
 
-ascii_word : (word : List ℕ) → is_ascii_word word ≡ true → IsAscii word
+pub ascii_word : (word : List ℕ) → is_ascii_word word ≡ true → IsAscii word
 ascii_word [] h i = omega arith
 ascii_word (b ∷ bs) h zero = ltb-true b 128 (and_parts (nat_lt b 128) (is_ascii_word bs) h).0
 ascii_word (b ∷ bs) h (suc i) = ascii_word bs (and_parts (nat_lt b 128) (is_ascii_word bs) h).1 i
 
-same_word : (name word : List ℕ) → IsUtf8 name → IsTrue (is_ascii_word word) → bytes_eq name word ≡ bytes_eq (chars name) word
+pub same_word : (name word : List ℕ) → IsUtf8 name → IsTrue (is_ascii_word word) → bytes_eq name word ≡ bytes_eq (chars name) word
 same_word name word u h =
     let ascii = ascii_word word h in
     same_by_bytes name word u (IsUtf8-from_ascii word ascii) ∙ ap (bytes_eq (chars name)) (chars-IsAscii word ascii)

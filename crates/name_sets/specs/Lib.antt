@@ -1,3 +1,4 @@
+pub mod Counts
 pub mod ElementSets
 pub mod RowWords
 pub mod Sets

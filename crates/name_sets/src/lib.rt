@@ -2,12 +2,14 @@
 //! namespace and local name, and of a tag by its name alone; a part of `html_tree_state`.
 #![tactic(auto)]
 
+mod counts;
 mod element_sets;
 mod rows;
 mod sets;
 mod tag_sets;
 mod wanted;
 
+pub use counts::OpenCounts;
 pub use element_sets::{
     collects_table_text, has_implied_end_tag, has_raw_text, is_address_div_or_p,
     is_button_scope_barrier, is_foster_target, is_heading, is_integration_point,

@@ -1,0 +1,254 @@
+-- Counts of names, one by one.
+use Rattle.std.proofs.Common.{◌≡◌, ℕ, Bool, ◌+◌, ◌-◌, ◌<◌, ◌≤◌, slice_index_or, slice_set, refl, ◌||◌, true, false, if◌then◌else◌, IsTrue, List, [], ◌∷◌, ◌++◌, length, drop, IsUtf8, chars, bytes_eq, sym, ap, subst, ◌∙◌, arith, zero, suc, length-drop}
+use Rattle.std.specs.Borrow.{Bor}
+use Rattle.std.proofs.lemmas.Bool.{and_parts, or_parts}
+use Rattle.std.proofs.lemmas.List.{drop_more, nil_from_length}
+use Rattle.html_lexemes.specs.declared.names.QualName.{QualName}
+use Rattle.html_lexemes.specs.declared.names.Namespace.{Namespace}
+use Rattle.html_lexemes.specs.declared.names.Namespace.TheVariants.{Html, MathMl, Svg, Other}
+use Rattle.std.proofs.lemmas.Slice.Eq.{bytes_eq-Decides}
+use Rattle.name_sets.specs.Counts.{count_in, count_of, counted_names, counts_of, has_one, one_more, words_before, zeros}
+use Rattle.name_sets.specs.Sets.{are_ascii, html_elements, is_ascii_word, is_element_of, is_one_of, words_in, words_of}
+use Rattle.name_sets.specs.Wanted.{one}
+use Rattle.std.proofs.lemmas.Str.{chars-IsAscii}
+use Rattle.name_sets.proofs.SetLemmas.{ascii_word, same_word}
+
+first_before : (word : Bor (List ℕ)) (words : List (Bor (List ℕ))) (name : List ℕ) → IsUtf8 name →
+    IsTrue (are_ascii (words_of (word ∷ words))) →
+    words_before (words_of (word ∷ words)) (chars name)
+    ≡ (if bytes_eq name word.now then 0 else suc (words_before (words_of words) (chars name)))
+first_before word words name u h = ap (λ b. if b then 0 else suc (words_before (words_of words) (chars name)))
+    (sym (same_word name word.now u (and_parts (is_ascii_word word.now) (are_ascii (words_of words)) h).0))
+
+next_before : (words : List (Bor (List ℕ))) (i : ℕ) (d : Bor (List ℕ)) (name : List ℕ) → IsUtf8 name → i < length words →
+    IsTrue (are_ascii (words_of (drop i words))) →
+    words_before (words_of (drop i words)) (chars name)
+    ≡ (if bytes_eq name (slice_index_or words i d).now then 0
+    else suc (words_before (words_of (drop (i + 1) words)) (chars name)))
+next_before words i d name u more h =
+    let split = drop_more words i d more in
+    ap (λ l. words_before (words_of l) (chars name)) split
+    ∙ first_before (slice_index_or words i d) (drop (i + 1) words) name u (subst (λ l. IsTrue (are_ascii (words_of l))) split h)
+
+pub found_before : (words : List (Bor (List ℕ))) (i k : ℕ) (d : Bor (List ℕ)) (name : List ℕ) → IsUtf8 name → i < length words →
+    IsTrue (are_ascii (words_of (drop i words))) → true ≡ bytes_eq name (slice_index_or words i d).now →
+    words_before (words_of words) (chars name) ≡ k + words_before (words_of (drop i words)) (chars name) →
+    k ≡ words_before (words_of words) (chars name)
+found_before words i k d name u more h is whole =
+    let here : words_before (words_of (drop i words)) (chars name) ≡ 0 =
+    next_before words i d name u more h
+    ∙ ap (λ b. if b then 0 else suc (words_before (words_of (drop (i + 1) words)) (chars name))) (sym is) in
+    omega (arith, here, whole)
+
+pub not_before : (words : List (Bor (List ℕ))) (i k : ℕ) (d : Bor (List ℕ)) (name : List ℕ) → IsUtf8 name → i < length words →
+    IsTrue (are_ascii (words_of (drop i words))) → false ≡ bytes_eq name (slice_index_or words i d).now →
+    words_before (words_of words) (chars name) ≡ k + words_before (words_of (drop i words)) (chars name) →
+    words_before (words_of words) (chars name) ≡ k + 1 + words_before (words_of (drop (i + 1) words)) (chars name)
+not_before words i k d name u more h isnt whole =
+    let here : words_before (words_of (drop i words)) (chars name)
+    ≡ suc (words_before (words_of (drop (i + 1) words)) (chars name)) =
+    next_before words i d name u more h
+    ∙ ap (λ b. if b then 0 else suc (words_before (words_of (drop (i + 1) words)) (chars name))) (sym isnt) in
+    omega (arith, here, whole)
+
+pub behind_all : (words : List (Bor (List ℕ))) (i k : ℕ) (name : List ℕ) → length words ≤ i →
+    words_before (words_of words) (chars name) ≡ k + words_before (words_of (drop i words)) (chars name) →
+    k ≡ words_before (words_of words) (chars name)
+behind_all words i k name h whole =
+    let here : words_before (words_of (drop i words)) (chars name) ≡ 0 =
+    ap (λ l. words_before (words_of l) (chars name)) (nil_from_length (drop i words) (omega (arith, length-drop i words))) in
+    omega (arith, here, whole)
+
+-- one more, as a place of the list that is set
+pub more_is_set : (k : ℕ) (cs : List ℕ) → one_more k cs ≡ slice_set cs k (slice_index_or cs k 0 + 1)
+more_is_set k [] = refl
+more_is_set zero (c ∷ cs) = ap (λ n. n ∷ cs) (omega arith)
+more_is_set (suc k) (c ∷ cs) = ap (λ l. c ∷ l) (more_is_set k cs)
+
+more_length : (k : ℕ) (cs : List ℕ) → length (one_more k cs) ≡ length cs
+more_length k [] = refl
+more_length zero (c ∷ cs) = refl
+more_length (suc k) (c ∷ cs) = ap (λ n. suc n) (more_length k cs)
+
+more_there : (k : ℕ) (cs : List ℕ) → k < length cs →
+    slice_index_or (one_more k cs) k 0 ≡ suc (slice_index_or cs k 0)
+more_there k [] h = absurd (omega (arith, h))
+more_there zero (c ∷ cs) h = refl
+more_there (suc k) (c ∷ cs) h = more_there k cs (omega (arith, h))
+
+-- a count grows by one at most
+more_least : (j k : ℕ) (cs : List ℕ) → slice_index_or cs j 0 ≤ slice_index_or (one_more k cs) j 0
+more_least j k [] = omega arith
+more_least zero zero (c ∷ cs) = omega arith
+more_least zero (suc k) (c ∷ cs) = omega arith
+more_least (suc j) zero (c ∷ cs) = omega arith
+more_least (suc j) (suc k) (c ∷ cs) = more_least j k cs
+
+more_most : (j k : ℕ) (cs : List ℕ) → slice_index_or (one_more k cs) j 0 ≤ suc (slice_index_or cs j 0)
+more_most j k [] = omega arith
+more_most zero zero (c ∷ cs) = omega arith
+more_most zero (suc k) (c ∷ cs) = omega arith
+more_most (suc j) zero (c ∷ cs) = omega arith
+more_most (suc j) (suc k) (c ∷ cs) = more_most j k cs
+
+more_swap : (j k : ℕ) (cs : List ℕ) → one_more j (one_more k cs) ≡ one_more k (one_more j cs)
+more_swap j k [] = refl
+more_swap zero zero (c ∷ cs) = refl
+more_swap zero (suc k) (c ∷ cs) = refl
+more_swap (suc j) zero (c ∷ cs) = refl
+more_swap (suc j) (suc k) (c ∷ cs) = ap (λ l. c ∷ l) (more_swap j k cs)
+
+more_undone : (k : ℕ) (cs : List ℕ) →
+    slice_set (one_more k cs) k (slice_index_or (one_more k cs) k 0 - 1) ≡ cs
+more_undone k [] = refl
+more_undone zero (c ∷ cs) = ap (λ n. n ∷ cs) (omega arith)
+more_undone (suc k) (c ∷ cs) = ap (λ l. c ∷ l) (more_undone k cs)
+
+within_by : (is_word : Bool) (k size : ℕ) → k ≤ size → (if is_word then 0 else suc k) ≤ suc size
+within_by true k size h = omega arith
+within_by false k size h = omega (arith, h)
+
+within : (words : List (List ℕ)) (name : List ℕ) → words_before words name ≤ length words
+within [] name = omega arith
+within (word ∷ words) name = within_by (bytes_eq name word) (words_before words name) (length words) (within words name)
+
+has_count_in : (ns : Namespace) (local : List ℕ) → count_in ns local < 61
+has_count_in Html local = omega (arith, within counted_names local)
+has_count_in MathMl local = omega arith
+has_count_in Svg local = omega arith
+has_count_in (Other text) local = omega arith
+
+-- each element has a count
+pub has_count : (name : QualName) → count_of name < 61
+has_count name = has_count_in name.ns name.local
+
+pub as_many_counts : (names : List QualName) → length (counts_of names) ≡ 61
+as_many_counts [] = refl
+as_many_counts (name ∷ names) = more_length (count_of name) (counts_of names) ∙ as_many_counts names
+
+zeros_at : (size k : ℕ) → slice_index_or (zeros size) k 0 ≡ 0
+zeros_at zero k = refl
+zeros_at (suc size) zero = refl
+zeros_at (suc size) (suc k) = zeros_at size k
+
+-- no count is greater than the number of elements
+pub at_most : (names : List QualName) (k : ℕ) → slice_index_or (counts_of names) k 0 ≤ length names
+at_most [] k = omega (arith, zeros_at 61 k)
+at_most (name ∷ names) k = omega (arith, more_most k (count_of name) (counts_of names), at_most names k)
+
+-- an element that stands among others counts as the first one does
+pub in_between : (front back : List QualName) (name : QualName) →
+    counts_of (front ++ name ∷ back) ≡ one_more (count_of name) (counts_of (front ++ back))
+in_between [] back name = refl
+in_between (x ∷ front) back name = ap (one_more (count_of x)) (in_between front back name)
+    ∙ more_swap (count_of x) (count_of name) (counts_of (front ++ back))
+
+-- one element less, as a place of the list that is set
+pub taken_out : (front back : List QualName) (name : QualName) (k : ℕ) (cs : List ℕ) → k ≡ count_of name →
+    cs ≡ counts_of (front ++ name ∷ back) →
+    slice_set cs k (slice_index_or cs k 0 - 1) ≡ counts_of (front ++ back)
+taken_out front back name k cs is are =
+    let there = are ∙ in_between front back name ∙ ap (λ n. one_more n (counts_of (front ++ back))) (sym is) in
+    ap (λ l. slice_set l k (slice_index_or l k 0 - 1)) there ∙ more_undone k (counts_of (front ++ back))
+
+-- an element that is counted leaves no count of its name empty
+pub counts_one : (front back : List QualName) (name : QualName) (k : ℕ) (cs : List ℕ) → k ≡ count_of name →
+    cs ≡ counts_of (front ++ name ∷ back) → 1 ≤ slice_index_or cs k 0
+counts_one front back name k cs is are =
+    let there = are ∙ in_between front back name ∙ ap (λ n. one_more n (counts_of (front ++ back))) (sym is) in
+    omega (
+      arith,
+      ap (λ l. slice_index_or l k 0) there,
+      more_there k (counts_of (front ++ back)) (omega (arith, is, has_count name, as_many_counts (front ++ back))),
+    )
+
+-- an element more, as a place of the list that is set
+pub added : (names : List QualName) (name : QualName) (k : ℕ) (cs : List ℕ) → k ≡ count_of name →
+    cs ≡ counts_of names → slice_set cs k (slice_index_or cs k 0 + 1) ≡ counts_of (name ∷ names)
+added names name k cs is are = ap (λ l. slice_set l k (slice_index_or l k 0 + 1)) are
+    ∙ sym (more_is_set k (counts_of names)) ∙ ap (λ n. one_more n (counts_of names)) is
+
+module _ (word : List ℕ) (names : List QualName) where
+  abbrev place : ℕ
+  place = words_before counted_names word
+
+  other_word : (local : List ℕ) (is_word : Bool) → bytes_eq local word ≡ is_word →
+      slice_index_or (one_more (words_before counted_names local) (counts_of names)) place 0 ≡ 0 → is_word ≡ false
+  other_word local false is none = refl
+  other_word local true is none = absurd (omega (
+    arith,
+    none,
+    ap (λ w. slice_index_or (one_more (words_before counted_names w) (counts_of names)) place 0)
+        ((bytes_eq-Decides local word).0 is),
+    more_there place (counts_of names) (omega (arith, within counted_names word, as_many_counts names)),
+  ))
+
+  other_name : (ns : Namespace) (local : List ℕ) →
+      slice_index_or (one_more (count_in ns local) (counts_of names)) place 0 ≡ 0 →
+      is_one_of (words_in (one word) ns) local ≡ false
+  other_name Html local none = ap (λ b. b || false) (other_word local (bytes_eq local word) refl none)
+  other_name MathMl local none = refl
+  other_name Svg local none = refl
+  other_name (Other text) local none = refl
+
+-- where the count of a word is 0, no element of HTML has it for its name
+pub none_counted : (word : List ℕ) (names : List QualName) →
+    slice_index_or (counts_of names) (words_before counted_names word) 0 ≡ 0 → has_one (one word) names ≡ false
+none_counted word [] none = refl
+none_counted word (name ∷ names) none =
+    let here = other_name word names name.ns name.local none in
+    let there = none_counted word names (omega (
+      arith,
+      none,
+      more_least (words_before counted_names word) (count_of name) (counts_of names),
+    )) in
+    ap (λ b. b || has_one (one word) names) here ∙ there
+
+module _ (word : List ℕ) (words : List (List ℕ)) where
+  one_fewer_in : (ns : Namespace) (local : List ℕ) → is_one_of (words_in (one word) ns) local ≡ false →
+      is_one_of (words_in (html_elements (word ∷ words)) ns) local ≡ is_one_of (words_in (html_elements words) ns) local
+  one_fewer_in Html local isnt = ap (λ b. b || is_one_of words local) (or_parts (bytes_eq local word) false isnt).0
+  one_fewer_in MathMl local isnt = refl
+  one_fewer_in Svg local isnt = refl
+  one_fewer_in (Other text) local isnt = refl
+
+  -- a word that no element has for its name may be left out
+  pub one_fewer : (names : List QualName) → has_one (one word) names ≡ false →
+      has_one (html_elements (word ∷ words)) names ≡ has_one (html_elements words) names
+  one_fewer [] none = refl
+  one_fewer (name ∷ names) none =
+      let parts = or_parts (is_element_of (one word) name) (has_one (one word) names) none in
+      ap (λ b. b || has_one (html_elements (word ∷ words)) names) (one_fewer_in name.ns name.local parts.0)
+      ∙ ap (λ b. is_element_of (html_elements words) name || b) (one_fewer names parts.1)
+
+none_in : (ns : Namespace) (local : List ℕ) → is_one_of (words_in (html_elements []) ns) local ≡ false
+none_in Html local = refl
+none_in MathMl local = refl
+none_in Svg local = refl
+none_in (Other text) local = refl
+
+none_of_none : (names : List QualName) → has_one (html_elements []) names ≡ false
+none_of_none [] = refl
+none_of_none (name ∷ names) = ap (λ b. b || has_one (html_elements []) names) (none_in name.ns name.local)
+    ∙ none_of_none names
+
+pub fewer_left : (words : List (Bor (List ℕ))) (i : ℕ) (d : Bor (List ℕ)) (names : List QualName) → i < length words →
+    IsTrue (are_ascii (words_of (drop i words))) →
+    has_one (one (chars (slice_index_or words i d).now)) names ≡ false →
+    has_one (html_elements (words_of (drop i words))) names
+    ≡ has_one (html_elements (words_of (drop (i + 1) words))) names
+fewer_left words i d names more h none =
+    let split = drop_more words i d more in
+    let word = (slice_index_or words i d).now in
+    let ascii = ascii_word word (and_parts (is_ascii_word word) (are_ascii (words_of (drop (i + 1) words)))
+    (subst (λ l. IsTrue (are_ascii (words_of l))) split h)).0 in
+    ap (λ l. has_one (html_elements (words_of l)) names) split
+    ∙ one_fewer word (words_of (drop (i + 1) words)) names
+    (subst (λ w. has_one (one w) names ≡ false) (chars-IsAscii word ascii) none)
+
+pub none_left : (words : List (Bor (List ℕ))) (i : ℕ) (names : List QualName) → length words ≤ i →
+    has_one (html_elements (words_of (drop i words))) names ≡ false
+none_left words i names h =
+    ap (λ l. has_one (html_elements (words_of l)) names)
+    (nil_from_length (drop i words) (omega (arith, length-drop i words)))
+    ∙ none_of_none names

@@ -1,0 +1,54 @@
+-- How many elements of each name are open (WHATWG HTML, 13.2.4.2): the names that tests of scope ask about have a count
+-- each, all others one together.
+use Rattle.std.specs.Prelude.{ℕ, Bool, false, List, [], ◌∷◌, ◌||◌, bytes_eq, codes, if◌then◌else◌, zero, suc}
+use Rattle.html_lexemes.specs.declared.names.Namespace.{Namespace}
+use Rattle.html_lexemes.specs.declared.names.Namespace.TheVariants.{Html, MathMl, Svg, Other}
+use Rattle.html_lexemes.specs.declared.names.QualName.{QualName}
+use Rattle.name_sets.specs.Sets.{Elements, is_element_of}
+
+-- the names that tests of scope ask about (13.2.6.4.7 to 13.2.6.4.15), what is asked most often first
+abbrev pub counted_names : List (List ℕ)
+counted_names = codes "p" ∷ codes "div" ∷ codes "li" ∷ codes "ul" ∷ codes "a" ∷ codes "button" ∷ codes "table" ∷ codes "td"
+    ∷ codes "th" ∷ codes "tr" ∷ codes "tbody" ∷ codes "thead" ∷ codes "tfoot" ∷ codes "caption" ∷ codes "template"
+    ∷ codes "select" ∷ codes "form" ∷ codes "body" ∷ codes "html" ∷ codes "dd" ∷ codes "dt" ∷ codes "dl" ∷ codes "ol"
+    ∷ codes "h1" ∷ codes "h2" ∷ codes "h3" ∷ codes "h4" ∷ codes "h5" ∷ codes "h6" ∷ codes "nobr" ∷ codes "ruby"
+    ∷ codes "option" ∷ codes "optgroup" ∷ codes "rtc" ∷ codes "colgroup" ∷ codes "section" ∷ codes "article"
+    ∷ codes "header" ∷ codes "footer" ∷ codes "nav" ∷ codes "main" ∷ codes "aside" ∷ codes "figure"
+    ∷ codes "figcaption" ∷ codes "blockquote" ∷ codes "pre" ∷ codes "details" ∷ codes "summary" ∷ codes "fieldset"
+    ∷ codes "address" ∷ codes "center" ∷ codes "menu" ∷ codes "hgroup" ∷ codes "dialog" ∷ codes "dir"
+    ∷ codes "listing" ∷ codes "search" ∷ codes "applet" ∷ codes "marquee" ∷ codes "object" ∷ []
+
+-- how many words stand before a name; all of them where it is none of them
+abbrev pub words_before : List (List ℕ) → List ℕ → ℕ
+words_before [] name = 0
+words_before (word ∷ words) name = if bytes_eq name word then 0 else suc (words_before words name)
+
+-- which count an element has: that of its name, or the last
+abbrev pub count_in : Namespace → List ℕ → ℕ
+count_in Html name = words_before counted_names name
+count_in MathMl name = 60
+count_in Svg name = 60
+count_in (Other text) name = 60
+
+abbrev pub count_of : QualName → ℕ
+count_of name = count_in name.ns name.local
+
+-- one more in one of some counts
+abbrev pub one_more : ℕ → List ℕ → List ℕ
+one_more k [] = []
+one_more zero (count ∷ counts) = suc count ∷ counts
+one_more (suc k) (count ∷ counts) = count ∷ one_more k counts
+
+abbrev pub zeros : ℕ → List ℕ
+zeros zero = []
+zeros (suc k) = 0 ∷ zeros k
+
+-- the counts of elements of these names
+abbrev pub counts_of : List QualName → List ℕ
+counts_of [] = zeros 61
+counts_of (name ∷ names) = one_more (count_of name) (counts_of names)
+
+-- some of these names is one of a set
+abbrev pub has_one : Elements → List QualName → Bool
+has_one set [] = false
+has_one set (name ∷ names) = is_element_of set name || has_one set names

@@ -1,0 +1,211 @@
+//! How many elements of each name are open.
+ghost use Rattle.std.specs.Prelude.{◌≡◌, IsTrue, ℕ, ◌<◌, ◌++◌, true, false, List, [], ◌∷◌, chars, length};
+ghost use Rattle.html_lexemes.specs.declared.names.QualName.{QualName as SeenQualName};
+ghost use Rattle.name_sets.specs.Counts.{count_of, counted_names, counts_of, has_one, words_before};
+ghost use Rattle.name_sets.specs.Sets.{are_ascii, html_elements, words_of};
+ghost use Rattle.name_sets.specs.Wanted.{elements_of, one};
+
+use crate::wanted::ElementSet;
+use html_lexemes::{Namespace, QualName};
+use std::marker::Model;
+
+/// How many elements are open, by name (WHATWG HTML, 13.2.4.2): with it a test of scope needs no walk where no element
+/// of the name is open. The names that tests of scope ask about have a count each, all others one together.
+#[derive(Drop)]
+pub struct OpenCounts {
+    counts: [usize; 61],
+}
+
+impl Model for OpenCounts {
+    ghost use Rattle.std.specs.Prelude.{ℕ, List};
+
+    ghost Value = { List ℕ };
+
+    ghost view = { λ held. held.counts };
+}
+
+impl OpenCounts {
+    /// No element is open. It takes no memory.
+    pub fn new() -> OpenCounts
+        ensures { result ≡ counts_of [] }
+    {
+        OpenCounts { counts: [0; 61] }
+    }
+
+    /// An element more is open.
+    pub fn add(&mut self, name: &QualName)
+        requires { (names : List SeenQualName) × ((self.old ≡ counts_of names) × (length names < usize.MAX)) }
+        ensures { (names : List SeenQualName) → self.old ≡ counts_of names →
+            self.new ≡ counts_of (name.now ∷ names) }
+    {
+        let place = place_of(name);
+        self.counts[place] += 1;
+    }
+
+    /// An element is open no longer.
+    pub fn remove(&mut self, name: &QualName)
+        requires { (front back : List SeenQualName) × (self.old ≡ counts_of (front ++ name.now ∷ back)) }
+        ensures { (front back : List SeenQualName) → self.old ≡ counts_of (front ++ name.now ∷ back) →
+            self.new ≡ counts_of (front ++ back) }
+    {
+        let place = place_of(name);
+        self.counts[place] -= 1;
+    }
+
+    /// Whether it is known by the counts that no element of a set is open. Where the set is a name that has no count of its
+    /// own, this is so only where no such element is open at all.
+    pub fn has_none(&self, wanted: ElementSet<'_>) -> bool
+        ensures { (names : List SeenQualName) → self.now ≡ counts_of names → result ≡ true →
+            has_one (elements_of wanted.entry) names ≡ false }
+    {
+        match wanted {
+            ElementSet::Named(word) => self.has_no(word.as_str()),
+            ElementSet::Body => self.lacks(&["body"]),
+            ElementSet::Button => self.lacks(&["button"]),
+            ElementSet::Caption => self.lacks(&["caption"]),
+            ElementSet::ColumnGroup => self.lacks(&["colgroup"]),
+            ElementSet::DefinitionDescription => self.lacks(&["dd"]),
+            ElementSet::DefinitionTerm => self.lacks(&["dt"]),
+            ElementSet::Form => self.lacks(&["form"]),
+            ElementSet::Heading => self.lacks(&["h1", "h2", "h3", "h4", "h5", "h6"]),
+            ElementSet::Html => self.lacks(&["html"]),
+            ElementSet::ListItem => self.lacks(&["li"]),
+            ElementSet::NoBreak => self.lacks(&["nobr"]),
+            ElementSet::Nothing => self.lacks(&[]),
+            ElementSet::OptionGroup => self.lacks(&["optgroup"]),
+            ElementSet::OptionItem => self.lacks(&["option"]),
+            ElementSet::Paragraph => self.lacks(&["p"]),
+            ElementSet::Ruby => self.lacks(&["ruby"]),
+            ElementSet::RubyTextContainer => self.lacks(&["rtc"]),
+            ElementSet::Select => self.lacks(&["select"]),
+            ElementSet::Table => self.lacks(&["table"]),
+            ElementSet::TableBodyContext => {
+                self.lacks(&["tbody", "tfoot", "thead", "template", "html"])
+            }
+            ElementSet::TableCell => self.lacks(&["td", "th"]),
+            ElementSet::TableContext => self.lacks(&["table", "template", "html"]),
+            ElementSet::TableRow => self.lacks(&["tr"]),
+            ElementSet::TableRowContext => self.lacks(&["tr", "template", "html"]),
+            ElementSet::TableSection => self.lacks(&["tbody", "tfoot", "thead"]),
+            ElementSet::Template => self.lacks(&["template"]),
+        }
+    }
+
+    // no element of HTML is open whose name is one of these words
+    fn lacks(&self, words: &[&str]) -> bool
+        requires { IsTrue (are_ascii (words_of words.now)) }
+        ensures { (names : List SeenQualName) → self.now ≡ counts_of names → result ≡ true →
+            has_one (html_elements (words_of words.now)) names ≡ false }
+    {
+        for word in words {
+            if !self.has_no(word) {
+                return false;
+            }
+        }
+        true
+    }
+
+    // no element of HTML is open whose name is this word
+    fn has_no(&self, word: &str) -> bool
+        ensures { (names : List SeenQualName) → self.now ≡ counts_of names → result ≡ true →
+            has_one (one (chars word.now)) names ≡ false }
+    {
+        self.counts[words_before(word)] == 0
+    }
+}
+
+// which count an element has
+fn place_of(name: &QualName) -> usize
+    ensures { result ≡ count_of name.now }
+{
+    match name.ns {
+        Namespace::Html => words_before(name.local.as_str()),
+        Namespace::MathMl | Namespace::Svg | Namespace::Other(_) => 60,
+    }
+}
+
+// how many counted names stand before a word
+fn words_before(word: &str) -> usize
+    ensures { result ≡ words_before counted_names (chars word.now) }
+{
+    place_among(
+        word,
+        &[
+            "p",
+            "div",
+            "li",
+            "ul",
+            "a",
+            "button",
+            "table",
+            "td",
+            "th",
+            "tr",
+            "tbody",
+            "thead",
+            "tfoot",
+            "caption",
+            "template",
+            "select",
+            "form",
+            "body",
+            "html",
+            "dd",
+            "dt",
+            "dl",
+            "ol",
+            "h1",
+            "h2",
+            "h3",
+            "h4",
+            "h5",
+            "h6",
+            "nobr",
+            "ruby",
+            "option",
+            "optgroup",
+            "rtc",
+            "colgroup",
+            "section",
+            "article",
+            "header",
+            "footer",
+            "nav",
+            "main",
+            "aside",
+            "figure",
+            "figcaption",
+            "blockquote",
+            "pre",
+            "details",
+            "summary",
+            "fieldset",
+            "address",
+            "center",
+            "menu",
+            "hgroup",
+            "dialog",
+            "dir",
+            "listing",
+            "search",
+            "applet",
+            "marquee",
+            "object",
+        ],
+    )
+}
+
+// how many words stand before a word; all of them where it is none of them
+fn place_among(name: &str, words: &[&str]) -> usize
+    requires { IsTrue (are_ascii (words_of words.now)) }
+    ensures { result ≡ words_before (words_of words.now) (chars name.now) }
+{
+    let mut place = 0;
+    for word in words {
+        if name == *word {
+            return place;
+        }
+        place += 1;
+    }
+    place
+}
