@@ -20,6 +20,7 @@ left_sound b ns sound left = record {
   templates = λ n i. sound.templates n (left.within n i);
   listed = sound.listed;
   few = sound.few;
+  counted = sound.counted;
 }
 
 pub taken_off_sound : (n : ℕ) (b : Building) → Sound b → Sound (taken_off n b)
@@ -38,4 +39,5 @@ unlisted_sound n b laws sound = record {
   templates = sound.templates;
   listed = λ k tag l. sound.listed k tag (listed_without n k tag b.formatting l);
   few = laws.few_removed n b.formatting sound.few;
+  counted = sound.counted;
 }

@@ -1,18 +1,19 @@
 -- An element that is copied in the adoption agency.
-use Rattle.std.proofs.Common.{◌≡◌, ℕ, ◌<◌, ◌⊎◌, inl, inr, sym, ap, subst, ◌∙◌, Some, ◌==◌}
+use Rattle.std.proofs.Common.{◌≡◌, ℕ, ◌<◌, ◌⊎◌, inl, inr, sym, ap, subst, ◌∙◌, List, Some, ◌==◌}
 use Rattle.std.proofs.lemmas.Bool.{cases_Bool, eqb-false, eqb-true}
 use Rattle.html_forest.specs.Changes.{detached}
 use Rattle.html_forest.specs.Conditions.{CanMove, CanPut}
-use Rattle.html_forest.specs.Forest.{Forest, Holds, kind_at, nodes}
+use Rattle.html_forest.specs.Forest.{Forest, Holds, element_of, kind_at, name_of, nodes}
 use Rattle.html_forest.specs.Orders.{Above, AtOrAbove, IsIn, IsParent}
-use Rattle.html_forest.specs.Places.{below, node}
+use Rattle.html_forest.specs.Places.{below, node, put_node}
 use Rattle.html_lexemes.specs.declared.token.Tag.{Tag}
 use Rattle.html_tree_state.specs.Adoption.{copied}
-use Rattle.html_tree_state.specs.Building.{Building}
+use Rattle.html_tree_state.specs.Building.{Building, are_counted}
 use Rattle.html_tree_state.specs.CanAdopt.{CanCopy}
 use Rattle.html_tree_state.specs.Formatting.{made_for}
 use Rattle.html_tree_state.specs.Laws.{Laws}
 use Rattle.html_tree_state.specs.Sound.{Sound}
+use Rattle.html_tree_state.proofs.CountsKept.{kept_by}
 use Rattle.html_tree_state.proofs.GrownLemmas.{IsApart, grown_sound, made_apart, no_document, none_above, not_above_old}
 use Rattle.html_tree_state.proofs.GrownLemmas.{old_held, old_not_above, out_apart}
 use Rattle.html_tree_state.proofs.InsertedLemmas.{not_itself}
@@ -143,4 +144,29 @@ copied_sound n last tag b laws sound can =
           (λ new. inr (new.0, same_tag held tag (sym new.1 ∙ can.listed)))
           (listed_handed n m k held b.formatting l);
       few = laws.few_handed n m b.formatting sound.few;
+      counted = sound.counted;
     })
+
+-- the forest behind the steps of the copy
+pub copied_forest : (n last copy : ℕ) (tag : Tag) (b : Building) (g h k : Forest) → copy ≡ nodes b.forest →
+    g ≡ made_for tag b.forest → h ≡ detached last g → k ≡ put_node (below copy) last h →
+    k ≡ (copied n tag last b).forest
+copied_forest n last copy tag b g h k copy_is made_is out_is put_is = cc
+
+-- the copy has the name of the element, and the others keep theirs
+pub copied_names : (n last : ℕ) (tag : Tag) (b : Building) → Laws → Sound b → CanCopy n last tag b →
+    name_of (nodes b.forest) (copied n tag last b).forest ≡ name_of n (copied n tag last b).forest
+copied_names n last tag b laws sound can =
+    let m = nodes b.forest in
+    let apart = copy_apart laws tag last b sound in
+    let is_element = sound.elements n can.is_open in
+    ap (λ kind. (element_of kind).name)
+    (laws.put_stays (below m) last m (detached last (made_for tag b.forest)) ∙ apart.kind)
+    ∙ sym (sound.listed n tag (tag_listed n tag b.formatting can.listed)).name
+    ∙ sym (ap (λ kind. (element_of kind).name)
+    (copied_stays n last tag b laws sound n (laws.element_there n b.forest is_element)))
+
+pub copied_kept : (n last : ℕ) (tag : Tag) (counts : List ℕ) (b : Building) → Laws → Sound b →
+    are_counted counts b.stack (copied n tag last b).forest ≡ are_counted counts b.stack b.forest
+copied_kept n last tag counts b laws sound = kept_by laws counts b sound (copied n tag last b).forest
+    (λ k is. copied_stays n last tag b laws sound k (laws.element_there k b.forest is))

@@ -95,6 +95,7 @@ pub record IsGrown (tag : Tag) (b c : Building) : Type 0 where
   pub listed : (k : ℕ) (held : Tag) → IsListed k held c.formatting →
       IsListed k held b.formatting ⊎ ((k ≡ nodes b.forest) × (held ≡ tag))
   pub few : AreFew c.formatting
+  pub counted : c.counted ≡ true
 
 -- what is asked of an open element
 abbrev IsFit : Forest → ℕ → Type 0
@@ -138,6 +139,7 @@ moved_sound b g sound forest stays ordered = record {
   templates = λ k i. (fit_stays k b.forest g (stays k) (sound.elements k i, sound.templates k i)).1;
   listed = λ k tag l. formatting_stays k tag b.forest g (stays k) (sound.listed k tag l);
   few = sound.few;
+  counted = sound.counted;
 }
 
 pub grown_sound : (laws : Laws) (tag : Tag) (b c : Building) → Sound b → is_one_of formatting tag.name ≡ true →
@@ -165,4 +167,5 @@ grown_sound laws tag b c sound is grown =
           (formatting_new tag m b.forest c.forest is grown.kind)))
           (grown.listed k held l);
       few = grown.few;
+      counted = grown.counted;
     }

@@ -1,6 +1,8 @@
 pub mod AdoptionLemmas
 pub mod BlockWords
 pub mod CopyLemmas
+pub mod CountedLemmas
+pub mod CountsKept
 pub mod FosterLemmas
 pub mod GrownLemmas
 pub mod InsertedLemmas

@@ -28,6 +28,7 @@ marked_sound laws b sound = record {
   templates = sound.templates;
   listed = sound.listed;
   few = laws.few_marked b.formatting sound.few;
+  counted = sound.counted;
 }
 
 cleared_listed : (n : ℕ) (tag : Tag) (entries : List Entry) → IsListed n tag (before_marker entries) →
@@ -45,6 +46,7 @@ cleared_sound laws b sound = record {
   templates = sound.templates;
   listed = λ n tag l. sound.listed n tag (cleared_listed n tag b.formatting l);
   few = laws.few_cleared b.formatting sound.few;
+  counted = sound.counted;
 }
 
 -- a new element is listed, of which the earliest of three alike goes
@@ -114,4 +116,5 @@ inserted_formatting_sound laws tag b sound is =
       templates = inserted.templates;
       listed = pushed_listed laws tag b sound is;
       few = laws.few_pushed (nodes b.forest) tag b.formatting sound.few;
+      counted = sound.counted;
     }

@@ -120,6 +120,7 @@ renewed_sound laws later earlier n tag b cut sound =
           (new_formatting laws (here b) tag b is)))
           (listed_renewed k n m held tag later earlier l);
       few = laws.few_given n m tag later earlier (subst AreFew cut sound.few);
+      counted = sound.counted;
     }
 
 -- what is in memory
@@ -269,9 +270,9 @@ pub made_element : {H S : Type 0} (number : H → ℕ) (forest : S → Forest) (
     p.open_elements ≡ q.open_elements →
     ((entry : FormatEntry H) (front back : List (FormatEntry H)) → q.entries ≡ front ++ entry ∷ back →
     length front ≡ index → p.entries ≡ front ++ given to entry ∷ back) →
-    p.is_fostering ≡ q.is_fostering → IsMadeAnew number forest quirks index p o s t
+    p.is_fostering ≡ q.is_fostering → p.counts ≡ q.counts → IsMadeAnew number forest quirks index p o s t
 made_element number forest quirks index p q o s t x h to tag copy laws sound within read is same_tag was new open_is
-    entries_are fostering_is =
+    entries_are fostering_is counts_are =
     let b : Building = seen number forest quirks o t in
     let at = cut_at number index x o.entries within read in
     let later = entries_of number at.back in
@@ -284,7 +285,7 @@ made_element number forest quirks index p q o s t x h to tag copy laws sound wit
     ∙ ap (λ (m : ℕ). later ++ formatted m tag ∷ earlier) new in
     let whole : seen number forest quirks p s ≡ renewed later tag earlier b
     = seen_listed number forest quirks p q s (inserted_for tag b)
-    (later ++ formatted (nodes (forest t)) tag ∷ earlier) open_is entries fostering_is
+    (later ++ formatted (nodes (forest t)) tag ∷ earlier) open_is entries fostering_is counts_are
     (was ∙ ap (λ (v : Tag). inserted_for v b) same_tag) in
     record {
       made = ap (made_from (index + 1)) whole

@@ -221,7 +221,7 @@ put_by : (b : Bool) (n c m : ℕ) (ns : List ℕ) → (m == n) ≡ b → is_in n
 put_by true n c m ns e there rest = ap (λ k. c ∷ k ∷ ns) (eqb-true m n e)
 put_by false n c m ns e there rest = ap (λ ms. m ∷ ms) (rest (rest_there n m ns e there))
 
-put_before_is : (n c : ℕ) (ns : List ℕ) → is_in n ns ≡ true →
+pub put_before_is : (n c : ℕ) (ns : List ℕ) → is_in n ns ≡ true →
     put_before n c ns ≡ nearer n ns ++ c ∷ n ∷ farther n ns
 put_before_is n c [] there = absurd (cc)
 put_before_is n c (m ∷ ns) there = put_by (m == n) n c m ns refl there (put_before_is n c ns)

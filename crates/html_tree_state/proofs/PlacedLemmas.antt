@@ -15,6 +15,8 @@ use Rattle.html_tree_state.specs.Insertions.{place_for}
 use Rattle.html_tree_state.specs.Laws.{Laws}
 use Rattle.html_tree_state.specs.OpenElements.{current_of, first_of}
 use Rattle.html_tree_state.specs.Sound.{Sound}
+use Rattle.html_tree_state.proofs.CountsKept.{kept_by, out_kept}
+use Rattle.html_tree_state.proofs.SeenLemmas.{seen_changed}
 use Rattle.html_tree_state.proofs.FosterLemmas.{IsOver, at_from, from_place}
 use Rattle.html_tree_state.proofs.GrownLemmas.{moved_sound, no_document}
 use Rattle.html_tree_state.proofs.NearerLemmas.{IsNearer, compared, in_behind, in_front_part, nearer_across, nearer_on}
@@ -122,9 +124,11 @@ ancestor_sound last ancestor b laws sound is =
 
 -- what is seen once the last node is taken out, and where it may then be put
 pub seen_out : {H S : Type 0} (number : H → ℕ) (forest : S → Forest) (quirks : S → QuirksMode) (p : Parts H) (s t : S)
-    (last : ℕ) → forest t ≡ detached last (forest s) → quirks t ≡ quirks s →
-    seen number forest quirks p t ≡ out_of_place last (seen number forest quirks p s)
-seen_out number forest quirks p s t last forest_is quirks_is = cc
+    (last : ℕ) → Laws → Sound (seen number forest quirks p s) → forest t ≡ detached last (forest s) →
+    quirks t ≡ quirks s → seen number forest quirks p t ≡ out_of_place last (seen number forest quirks p s)
+seen_out number forest quirks p s t last laws sound forest_is quirks_is =
+    seen_changed number forest quirks p p s t (detached last (forest s)) refl forest_is quirks_is
+    (out_kept laws p.counts (seen number forest quirks p s) sound last)
 
 pub can_put_last : (last : ℕ) (ancestor : Option ℕ) (b out : Building) (place : Place) → Laws → Sound b →
     IsAncestor last ancestor b → out ≡ out_of_place last b → place ≡ place_for (ancestor_of ancestor) out →
@@ -148,11 +152,15 @@ put_is last ancestor b out place out_is place_is =
     record y { forest = put_node (place_for ancestor y) last y.forest } in x) out_is
 
 pub seen_placed : {H S : Type 0} (number : H → ℕ) (forest : S → Forest) (quirks : S → QuirksMode) (p q : Parts H)
-    (s t : S) (last ancestor : ℕ) (b : Building) (place : Place) → seen number forest quirks p s ≡ out_of_place last b →
+    (s t : S) (last ancestor : ℕ) (b : Building) (place : Place) → Laws → Sound (seen number forest quirks p s) →
+    seen number forest quirks p s ≡ out_of_place last b →
     place ≡ place_for ancestor (seen number forest quirks p s) → q ≡ p →
     forest t ≡ put_node place last (forest s) → quirks t ≡ quirks s →
     seen number forest quirks q t ≡ placed last ancestor b
-seen_placed number forest quirks p q s t last ancestor b place out_is place_is held_is forest_is quirks_is =
+seen_placed number forest quirks p q s t last ancestor b place laws sound out_is place_is held_is forest_is quirks_is =
     let out = seen number forest quirks p s in
-    let changed : seen number forest quirks q t ≡ record out { forest = put_node place last (forest s) } = cc in
+    let changed : seen number forest quirks q t ≡ record out { forest = put_node place last (forest s) } =
+    seen_changed number forest quirks p q s t (put_node place last (forest s)) held_is forest_is quirks_is
+    (kept_by laws p.counts out sound (put_node place last (forest s))
+    (λ n is. laws.put_stays place last n (forest s))) in
     changed ∙ put_is last ancestor b out place out_is place_is

@@ -64,6 +64,7 @@ stays_sound b g sound forest stays = record {
         kind = was.kind;
       };
   few = sound.few;
+  counted = sound.counted;
 }
 
 -- a new element becomes the current node
@@ -82,6 +83,7 @@ pushed_sound b n sound is_element new apart template = record {
       (sound.templates m);
   listed = sound.listed;
   few = sound.few;
+  counted = sound.counted;
 }
 
 -- elements are popped or taken off
@@ -106,6 +108,7 @@ popped_sound b sound = record {
   templates = λ n i. sound.templates n (tail_in n b.stack i);
   listed = sound.listed;
   few = sound.few;
+  counted = sound.counted;
 }
 
 -- what is left of the nodes by a call that may be refused
@@ -118,6 +121,10 @@ pub sound_left : {T E : Type 0} (r : Result T E) (a b : Building) → OnOk r (a 
 sound_left (Ok x) a b done sound = subst Sound (sym done) sound
 sound_left (Err e) a b done sound = tt
 
+pub on_ok : {T E : Type 0} (r : Result T E) (A B : Type 0) → (A → B) → OnOk r A → OnOk r B
+on_ok (Ok x) A B change done = change done
+on_ok (Err e) A B change done = tt
+
 pub quirks_sound : (b : Building) (mode : QuirksMode) → Sound b → Sound (record b { quirks = mode })
 quirks_sound b mode sound = record {
   forest = sound.forest;
@@ -127,4 +134,5 @@ quirks_sound b mode sound = record {
   templates = sound.templates;
   listed = sound.listed;
   few = sound.few;
+  counted = sound.counted;
 }

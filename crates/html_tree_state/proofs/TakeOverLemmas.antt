@@ -1,23 +1,24 @@
 -- A copy of the formatting element takes the children of the furthest block, and becomes its child.
-use Rattle.std.proofs.Common.{◌≡◌, ℕ, ◌<◌, true, ◌⊎◌, inl, inr, sym, ap₂, subst, ◌∙◌, List, Option, None, Some}
+use Rattle.std.proofs.Common.{◌≡◌, ℕ, ◌<◌, true, ◌⊎◌, inl, inr, sym, ap, ap₂, subst, ◌∙◌, List, Option, None, Some}
 use Rattle.std.proofs.lemmas.Bool.{cond_both}
 use Rattle.formatting_list.specs.Alike.{AreFew}
 use Rattle.formatting_list.specs.Entries.{Entry, handed_over, is_listed, moved_behind, tag_in, up_to_marker}
 use Rattle.formatting_list.specs.Entries.{without_entry}
 use Rattle.html_forest.specs.Changes.{left_out, reparented}
 use Rattle.html_forest.specs.Conditions.{CanMove, CanPut, CanReparent}
-use Rattle.html_forest.specs.Forest.{Forest, Holds, kind_at, nodes}
+use Rattle.html_forest.specs.Forest.{Forest, Holds, IsElement, IsElementKind, kind_at, nodes}
 use Rattle.html_forest.specs.Orders.{Above, AtOrAbove, IsForest, IsIn, IsParent, child}
 use Rattle.html_forest.specs.Places.{below, node, put_node}
 use Rattle.html_forest.proofs.Relations.{above_on}
 use Rattle.html_lexemes.specs.declared.token.Tag.{Tag}
 use Rattle.html_tree_state.specs.Adoption.{taken_over, with_entry_at}
-use Rattle.html_tree_state.specs.Building.{Building}
+use Rattle.html_tree_state.specs.Building.{Building, are_counted}
 use Rattle.html_tree_state.specs.CanAdopt.{CanTakeOver}
 use Rattle.html_tree_state.specs.Formatting.{made_for}
 use Rattle.html_tree_state.specs.Laws.{Laws}
 use Rattle.html_tree_state.specs.Sound.{IsListed, Sound}
 use Rattle.html_tree_state.proofs.CopyLemmas.{same_tag}
+use Rattle.html_tree_state.proofs.CountsKept.{kept_by}
 use Rattle.html_tree_state.proofs.GrownLemmas.{IsApart, grown_sound, made_apart, no_document, none_above}
 use Rattle.html_tree_state.proofs.GrownLemmas.{not_above_old, old_held, old_not_above}
 use Rattle.html_tree_state.proofs.InsertedLemmas.{not_itself}
@@ -189,6 +190,32 @@ module _ (n block : ℕ) (tag : Tag) (b : Building) (laws : Laws) (sound : Sound
   over_distinct k (inr (inl (e, inr h))) = open_old k (left.within k (farther_in block k (left_out n b.stack) h)) e
   over_distinct k (inr (inr (e, h))) = open_old k (left.within k (nearer_in k block (left_out n b.stack) h)) e
 
+  -- what is open stays what it is, and the copy is an element
+  abbrev pub over_forest : Forest
+  over_forest = put_node (below block) (nodes b.forest) (reparented block (nodes b.forest) (made_for tag b.forest))
+
+  over_kind : (k : ℕ) → Holds k b.forest →
+      kind_at k (taken laws tag block b.forest sound.forest block_held) ≡ kind_at k b.forest
+  over_kind k held = taken_stays laws tag block b.forest sound.forest block_held k
+      ∙ (made_apart laws tag b.forest sound.forest).stays k held
+
+  pub over_elements : (over : Forest) → over ≡ over_forest → (k : ℕ) →
+      IsIn k b.stack → IsElement k over
+  over_elements over is k i = subst (IsElement k) (sym is)
+      (subst IsElementKind (sym (over_kind k (open_held k i))) (sound.elements k i))
+
+  pub over_new : (over : Forest) → over ≡ over_forest → (copy : ℕ) →
+      copy ≡ nodes b.forest → IsElement copy over
+  over_new over is copy copy_is = subst (λ k. IsElement k over) (sym copy_is) (subst (IsElement (nodes b.forest)) (sym is)
+      (subst IsElementKind (sym (taken_stays laws tag block b.forest sound.forest block_held (nodes b.forest)
+      ∙ (made_apart laws tag b.forest sound.forest).kind)) tt))
+
+  pub over_kept : (over : Forest) → over ≡ over_forest → (counts : List ℕ) →
+      are_counted counts b.stack over ≡ are_counted counts b.stack b.forest
+  over_kept over is counts = ap (are_counted counts b.stack) is
+      ∙ kept_by laws counts b sound (taken laws tag block b.forest sound.forest block_held)
+      (λ k e. over_kind k (laws.element_there k b.forest e))
+
   pub taken_over_sound : (bookmark : Option ℕ) → Sound (taken_over bookmark n block tag b)
   taken_over_sound bookmark =
       let m = nodes b.forest in
@@ -205,6 +232,7 @@ module _ (n block : ℕ) (tag : Tag) (b : Building) (laws : Laws) (sound : Sound
         ordered = λ x y h. over_ordered x y (nearer_put block m x y (left_out n b.stack) h);
         listed = λ k held l. entry_listed bookmark n m k tag held b can.tagged l;
         few = entry_few laws bookmark n m b sound.few can.listed;
+        counted = sound.counted;
       })
 
 -- What is asked of the forests that are at hand, and that they are forests: the copy's number, the forest in which it
@@ -234,3 +262,9 @@ module _ (laws : Laws) (block n : ℕ) (f : Forest) (can : CanReparent block n f
   taken_is_forest m g given over forest move e is now then = subst IsForest (sym then)
       (laws.put_keeps (below block) (node m) given (given_is_forest m g given forest e is now)
       (may_take m g given move e is now))
+
+-- the forest behind the steps of the taking over
+pub taken_is : (block n m : ℕ) (tag : Tag) (f g given over : Forest) → m ≡ n → g ≡ made_for tag f →
+    given ≡ reparented block m g → over ≡ put_node (below block) m given →
+    over ≡ put_node (below block) n (reparented block n (made_for tag f))
+taken_is block n m tag f g given over e is now then = cc

@@ -26,6 +26,7 @@ pub record IsFormatting (n : ℕ) (tag : Tag) (f : Forest) : Type 0 where
 
 -- The nodes are a forest. Open elements are elements, pairwise distinct, and a template has contents; none is above one
 -- that is farther from the current node. Listed elements are formatting elements, at most three of which are alike.
+-- The counts of open elements are right.
 pub record Sound (b : Building) : Type 0 where
   pub forest : IsForest b.forest
   pub elements : (n : ℕ) → IsIn n b.stack → IsElement n b.forest
@@ -35,3 +36,4 @@ pub record Sound (b : Building) : Type 0 where
       (c : ℕ) × (contents_of n b.forest ≡ Some c)
   pub listed : (n : ℕ) (tag : Tag) → IsListed n tag b.formatting → IsFormatting n tag b.forest
   pub few : AreFew b.formatting
+  pub counted : b.counted ≡ true

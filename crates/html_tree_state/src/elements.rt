@@ -70,7 +70,7 @@ impl<S: TreeSink> Construction<S> {
         let element = self.put_element(point, name, attrs)?;
         match push {
             PushFlag::Push => {
-                self.held.push(element)?;
+                self.held.push(&self.sink, element)?;
                 Ok(element)
             }
             PushFlag::NoPush => Ok(element),

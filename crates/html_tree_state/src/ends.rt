@@ -20,6 +20,9 @@ impl<S: TreeSink> Construction<S> {
         ensures { result ≡ is_open (elements_of wanted.entry)
             (seen S.number S.forest S.quirks self.now.held self.now.sink) }
     {
+        if self.held.counts().has_none(wanted) {
+            return false;
+        }
         let mut open = self.held.open_elements();
         while let Some((element, lower)) = open.split_last() {
             if wanted.contains(self.sink.elem_name(*element)) {

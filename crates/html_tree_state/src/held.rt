@@ -1,31 +1,34 @@
 //! What is held beside the nodes.
 ghost use Rattle.std.specs.Prelude.{◌≡◌, ℕ, ◌<◌, List, [], ◌∷◌, ◌++◌, IfSome, None, OnErr, OnOk, false, length};
-ghost use Rattle.std.specs.Prelude.{option_map};
+ghost use Rattle.std.specs.Prelude.{IfOk, option_map, true};
 ghost use Rattle.formatting_list.specs.Entries.{before_marker, entries_of, given, handed_over, marker, without_entry};
 ghost use Rattle.formatting_list.specs.Pushing.{pushed};
 ghost use Rattle.formatting_list.specs.declared.entry.FormatEntry.{FormatEntry};
 ghost use Rattle.html_forest.specs.Changes.{left_out};
-ghost use Rattle.html_forest.specs.Forest.{is_in};
-ghost use Rattle.html_forest.specs.Orders.{AreDistinct};
+ghost use Rattle.html_forest.specs.Forest.{IsElement, is_in, name_of};
+ghost use Rattle.html_forest.specs.Orders.{AreDistinct, IsIn};
 ghost use Rattle.html_forest.specs.Places.{put_before};
 ghost use Rattle.html_tree_state.specs.Adoption.{entries_at, replaced};
-ghost use Rattle.html_tree_state.specs.Building.{stack_of};
+ghost use Rattle.html_tree_state.specs.Building.{are_counted, stack_of};
 ghost use Rattle.html_tree_state.specs.OpenAt.{IsFirstOpened, IsOpenAt};
 ghost use Rattle.html_tree_state.specs.OpenElements.{below_current, first_of};
+ghost use Rattle.name_sets.specs.Counts.{counts_of};
 
 use formatting_list::FormattingList;
 use html_forest::TreeSink;
 use html_lexemes::Tag;
+use name_sets::OpenCounts;
 use std::alloc::{AllocError, Global};
 use std::marker::Model;
 
 /// What is held beside the nodes (WHATWG HTML, 13.2.4): the stack of open elements, the list of active formatting
-/// elements, and whether foster parenting is on.
+/// elements, and whether foster parenting is on; and how many elements of each name are open.
 #[derive(Drop)]
 pub struct Held<H> {
     open_elements: Vec<H>,
     formatting: FormattingList<H>,
     is_fostering: bool,
+    counts: OpenCounts,
 }
 
 impl<H> Model for Held<H> {
@@ -37,18 +40,20 @@ impl<H> Model for Held<H> {
       open_elements = held.open_elements.items;
       entries = held.formatting;
       is_fostering = held.is_fostering;
+      counts = held.counts;
     } };
 }
 
 impl<H: Copy> Held<H> {
     /// Nothing open, nothing listed, and foster parenting off. It takes no memory.
     pub fn new(alloc: Global) -> Held<H>
-        ensures { result ≡ record { open_elements = []; entries = []; is_fostering = false } }
+        ensures { result ≡ record { open_elements = []; entries = []; is_fostering = false; counts = counts_of [] } }
     {
         Held {
             open_elements: Vec::new(alloc),
             formatting: FormattingList::new(alloc),
             is_fostering: false,
+            counts: OpenCounts::new(),
         }
     }
 
@@ -74,25 +79,47 @@ impl<H: Copy> Held<H> {
     }
 
     /// An element becomes the current node.
-    pub fn push(&mut self, element: H) -> Result<(), AllocError>
-        ensures open { OnOk result ((number : H → ℕ) → stack_of number self.new.open_elements
-            ≡ number element ∷ stack_of number self.old.open_elements) }
+    pub fn push<S: TreeSink<Handle = H>>(&mut self, sink: &S, element: H) -> Result<(), AllocError>
+        requires element { IsElement (S.number element) (S.forest sink.now) }
+        requires counted { are_counted self.old.counts (stack_of S.number self.old.open_elements)
+            (S.forest sink.now) ≡ true }
+        ensures open { OnOk result (stack_of S.number self.new.open_elements
+            ≡ S.number element ∷ stack_of S.number self.old.open_elements) }
         ensures entries { self.new.entries ≡ self.old.entries }
         ensures fostering { self.new.is_fostering ≡ self.old.is_fostering }
+        ensures counted { OnOk result (are_counted self.new.counts (stack_of S.number self.new.open_elements)
+            (S.forest sink.now) ≡ true) }
         ensures err { OnErr result (self.new ≡ self.old) }
     {
         self.open_elements.push(element)?;
+        self.counts
+            .add(sink.elem_name(element), self.open_elements.len());
         Ok(())
     }
 
     /// The current node is no longer open, where an element is.
-    pub fn pop(&mut self)
-        ensures open { (number : H → ℕ) → stack_of number self.new.open_elements
-            ≡ below_current (stack_of number self.old.open_elements) }
+    pub fn pop<S: TreeSink<Handle = H>>(&mut self, sink: &S)
+        requires elements { (n : ℕ) → IsIn n (stack_of S.number self.old.open_elements) →
+            IsElement n (S.forest sink.now) }
+        requires counted { are_counted self.old.counts (stack_of S.number self.old.open_elements)
+            (S.forest sink.now) ≡ true }
+        ensures open { stack_of S.number self.new.open_elements
+            ≡ below_current (stack_of S.number self.old.open_elements) }
         ensures entries { self.new.entries ≡ self.old.entries }
         ensures fostering { self.new.is_fostering ≡ self.old.is_fostering }
+        ensures counted { are_counted self.new.counts (stack_of S.number self.new.open_elements)
+            (S.forest sink.now) ≡ true }
     {
-        let _ = self.open_elements.pop();
+        if let Some(element) = self.open_elements.pop() {
+            self.counts.remove(sink.elem_name(element));
+        }
+    }
+
+    /// How many elements are open, by name.
+    pub fn counts(&self) -> &OpenCounts
+        ensures { result.now ≡ self.now.counts }
+    {
+        &self.counts
     }
 
     /// The list of active formatting elements, lent.
@@ -108,6 +135,7 @@ impl<H: Copy> Held<H> {
         ensures entries { OnOk result ((number : H → ℕ) →
             entries_of number self.new.entries ≡ marker ∷ entries_of number self.old.entries) }
         ensures fostering { self.new.is_fostering ≡ self.old.is_fostering }
+        ensures counts { self.new.counts ≡ self.old.counts }
         ensures err { OnErr result (self.new ≡ self.old) }
     {
         self.formatting.push_marker()
@@ -119,6 +147,7 @@ impl<H: Copy> Held<H> {
         ensures entries { (number : H → ℕ) →
             entries_of number self.new.entries ≡ before_marker (entries_of number self.old.entries) }
         ensures fostering { self.new.is_fostering ≡ self.old.is_fostering }
+        ensures counts { self.new.counts ≡ self.old.counts }
     {
         self.formatting.clear_to_marker();
     }
@@ -129,6 +158,7 @@ impl<H: Copy> Held<H> {
         ensures entries { OnOk result ((number : H → ℕ) →
             entries_of number self.new.entries ≡ pushed (number element) tag (entries_of number self.old.entries)) }
         ensures fostering { self.new.is_fostering ≡ self.old.is_fostering }
+        ensures counts { self.new.counts ≡ self.old.counts }
         ensures err { OnErr result (self.new ≡ self.old) }
     {
         self.formatting.push_element(element, tag)
@@ -140,6 +170,7 @@ impl<H: Copy> Held<H> {
         ensures entries { entries_of S.number self.new.entries
             ≡ without_entry (S.number element) (entries_of S.number self.old.entries) }
         ensures fostering { self.new.is_fostering ≡ self.old.is_fostering }
+        ensures counts { self.new.counts ≡ self.old.counts }
     {
         self.formatting.remove(sink, element);
     }
@@ -152,28 +183,42 @@ impl<H: Copy> Held<H> {
             self.old.entries ≡ front ++ entry ∷ back → length front ≡ index →
             self.new.entries ≡ front ++ given to entry ∷ back }
         ensures fostering { self.new.is_fostering ≡ self.old.is_fostering }
+        ensures counts { self.new.counts ≡ self.old.counts }
     {
         self.formatting.give(index, to);
     }
 
     /// Takes an element off the stack, wherever it stands.
     pub fn take_off<S: TreeSink<Handle = H>>(&mut self, sink: &S, element: H)
-        requires { AreDistinct (stack_of S.number self.old.open_elements) }
+        requires distinct { AreDistinct (stack_of S.number self.old.open_elements) }
+        requires elements { (n : ℕ) → IsIn n (stack_of S.number self.old.open_elements) →
+            IsElement n (S.forest sink.now) }
+        requires counted { are_counted self.old.counts (stack_of S.number self.old.open_elements)
+            (S.forest sink.now) ≡ true }
         ensures open { stack_of S.number self.new.open_elements
             ≡ left_out (S.number element) (stack_of S.number self.old.open_elements) }
         ensures entries { self.new.entries ≡ self.old.entries }
         ensures fostering { self.new.is_fostering ≡ self.old.is_fostering }
+        ensures counted { are_counted self.new.counts (stack_of S.number self.new.open_elements)
+            (S.forest sink.now) ≡ true }
     {
-        leave_out(&mut self.open_elements, sink, element);
+        if leave_out(&mut self.open_elements, sink, element) {
+            self.counts.remove(sink.elem_name(element));
+        }
     }
 
-    /// Gives an element's place among the open ones to another.
+    /// Gives an element's place among the open ones to another of its name.
     pub fn replace<S: TreeSink<Handle = H>>(&mut self, sink: &S, element: H, to: H)
-        requires { AreDistinct (stack_of S.number self.old.open_elements) }
+        requires distinct { AreDistinct (stack_of S.number self.old.open_elements) }
+        requires name { name_of (S.number to) (S.forest sink.now) ≡ name_of (S.number element) (S.forest sink.now) }
+        requires counted { are_counted self.old.counts (stack_of S.number self.old.open_elements)
+            (S.forest sink.now) ≡ true }
         ensures open { stack_of S.number self.new.open_elements
             ≡ replaced (S.number element) (S.number to) (stack_of S.number self.old.open_elements) }
         ensures entries { self.new.entries ≡ self.old.entries }
         ensures fostering { self.new.is_fostering ≡ self.old.is_fostering }
+        ensures counted { are_counted self.new.counts (stack_of S.number self.new.open_elements)
+            (S.forest sink.now) ≡ true }
     {
         put_in_place_of(&mut self.open_elements, sink, element, to);
     }
@@ -185,13 +230,22 @@ impl<H: Copy> Held<H> {
         element: H,
         opened: H,
     ) -> Result<(), AllocError>
+        requires element { IsElement (S.number opened) (S.forest sink.now) }
+        requires counted { are_counted self.old.counts (stack_of S.number self.old.open_elements)
+            (S.forest sink.now) ≡ true }
         ensures open { OnOk result (stack_of S.number self.new.open_elements
             ≡ put_before (S.number element) (S.number opened) (stack_of S.number self.old.open_elements)) }
         ensures entries { self.new.entries ≡ self.old.entries }
         ensures fostering { self.new.is_fostering ≡ self.old.is_fostering }
+        ensures counted { OnOk result (are_counted self.new.counts (stack_of S.number self.new.open_elements)
+            (S.forest sink.now) ≡ true) }
         ensures err { OnErr result (self.new ≡ self.old) }
     {
-        insert_below(&mut self.open_elements, sink, element, opened)
+        if insert_below(&mut self.open_elements, sink, element, opened)? {
+            self.counts
+                .add(sink.elem_name(opened), self.open_elements.len());
+        }
+        Ok(())
     }
 
     /// Gives an element's entry to another.
@@ -200,6 +254,7 @@ impl<H: Copy> Held<H> {
         ensures entries { entries_of S.number self.new.entries
             ≡ handed_over (S.number element) (S.number to) (entries_of S.number self.old.entries) }
         ensures fostering { self.new.is_fostering ≡ self.old.is_fostering }
+        ensures counts { self.new.counts ≡ self.old.counts }
     {
         self.formatting.hand_over(sink, element, to);
     }
@@ -217,6 +272,7 @@ impl<H: Copy> Held<H> {
         ensures entries { OnOk result (entries_of S.number self.new.entries ≡ entries_at
             (option_map S.number bookmark) (S.number element) (S.number copy) (entries_of S.number self.old.entries)) }
         ensures fostering { self.new.is_fostering ≡ self.old.is_fostering }
+        ensures counts { self.new.counts ≡ self.old.counts }
         ensures err { OnErr result (self.new ≡ self.old) }
     {
         if let Some(after) = bookmark {
@@ -229,15 +285,18 @@ impl<H: Copy> Held<H> {
     }
 }
 
-// takes an element off, where it is one of these
-fn leave_out<H: Copy, S: TreeSink<Handle = H>>(elements: &mut Vec<H>, sink: &S, element: H)
+// takes an element off, where it is one of these, and says whether it was
+fn leave_out<H: Copy, S: TreeSink<Handle = H>>(elements: &mut Vec<H>, sink: &S, element: H) -> bool
     requires { AreDistinct (stack_of S.number elements.old.items) }
-    ensures { stack_of S.number elements.new.items
+    ensures left { stack_of S.number elements.new.items
         ≡ left_out (S.number element) (stack_of S.number elements.old.items) }
+    ensures was_there { result ≡ is_in (S.number element) (stack_of S.number elements.old.items) }
 {
-    if let Some(at) = position(elements.as_slice(), sink, element) {
-        elements.remove(at);
-    }
+    let Some(at) = position(elements.as_slice(), sink, element) else {
+        return false;
+    };
+    elements.remove(at);
+    true
 }
 
 // puts an element in the place of another, where that is one of these
@@ -256,22 +315,23 @@ fn put_in_place_of<H: Copy, S: TreeSink<Handle = H>>(
     }
 }
 
-// puts an element right behind another, where that is one of these
+// puts an element right behind another, where that is one of these, and says whether it was
 fn insert_below<H: Copy, S: TreeSink<Handle = H>>(
     elements: &mut Vec<H>,
     sink: &S,
     element: H,
     opened: H,
-) -> Result<(), AllocError>
+) -> Result<bool, AllocError>
     ensures ok { OnOk result (stack_of S.number elements.new.items
         ≡ put_before (S.number element) (S.number opened) (stack_of S.number elements.old.items)) }
+    ensures was_there { IfOk result (λ there. there ≡ is_in (S.number element) (stack_of S.number elements.old.items)) }
     ensures err { OnErr result (elements.new.items ≡ elements.old.items) }
 {
     let Some(at) = position(elements.as_slice(), sink, element) else {
-        return Ok(());
+        return Ok(false);
     };
     elements.insert(at + 1, opened)?;
-    Ok(())
+    Ok(true)
 }
 
 /// How many open elements stand before one, looked for from the current node.

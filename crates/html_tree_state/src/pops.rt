@@ -34,7 +34,7 @@ impl<S: TreeSink> Construction<S> {
         let Some(element) = self.current_node() else {
             return Ok(());
         };
-        self.held.pop();
+        self.held.pop(&self.sink);
         self.sink.pop(element)?;
         Ok(())
     }

@@ -17,6 +17,9 @@ impl<S: TreeSink> Construction<S> {
         ensures { result ≡ is_in_scope (barriers_of scope) (elements_of wanted.entry)
             (seen S.number S.forest S.quirks self.now.held self.now.sink) }
     {
+        if self.held.counts().has_none(wanted) {
+            return false;
+        }
         let mut open = self.held.open_elements();
         while let Some((element, below)) = open.split_last() {
             let name = self.sink.elem_name(*element);

@@ -163,10 +163,12 @@ counts_one front back name k cs is are =
     )
 
 -- an element more, as a place of the list that is set
-pub added : (names : List QualName) (name : QualName) (k : ℕ) (cs : List ℕ) → k ≡ count_of name →
-    cs ≡ counts_of names → slice_set cs k (slice_index_or cs k 0 + 1) ≡ counts_of (name ∷ names)
-added names name k cs is are = ap (λ l. slice_set l k (slice_index_or l k 0 + 1)) are
-    ∙ sym (more_is_set k (counts_of names)) ∙ ap (λ n. one_more n (counts_of names)) is
+pub added : (front back : List QualName) (name : QualName) (k : ℕ) (cs : List ℕ) → k ≡ count_of name →
+    cs ≡ counts_of (front ++ back) →
+    slice_set cs k (slice_index_or cs k 0 + 1) ≡ counts_of (front ++ name ∷ back)
+added front back name k cs is are = ap (λ l. slice_set l k (slice_index_or l k 0 + 1)) are
+    ∙ sym (more_is_set k (counts_of (front ++ back))) ∙ ap (λ n. one_more n (counts_of (front ++ back))) is
+    ∙ sym (in_between front back name)
 
 module _ (word : List ℕ) (names : List QualName) where
   abbrev place : ℕ

@@ -32,13 +32,14 @@ impl OpenCounts {
         OpenCounts { counts: [0; 61] }
     }
 
-    /// An element more is open.
-    pub fn add(&mut self, name: &QualName)
-        requires { (names : List SeenQualName) × ((self.old ≡ counts_of names) × (length names < usize.MAX)) }
-        ensures { (names : List SeenQualName) → self.old ≡ counts_of names →
-            self.new ≡ counts_of (name.now ∷ names) }
+    /// An element more is open, of so many that are open now.
+    pub fn add(&mut self, name: &QualName, size: usize)
+        requires { (names : List SeenQualName) × ((self.old ≡ counts_of names) × (length names < size)) }
+        ensures { (front back : List SeenQualName) → self.old ≡ counts_of (front ++ back) →
+            self.new ≡ counts_of (front ++ name.now ∷ back) }
     {
         let place = place_of(name);
+        prove!(self.counts[place] < size);
         self.counts[place] += 1;
     }
 

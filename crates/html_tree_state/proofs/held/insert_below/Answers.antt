@@ -20,3 +20,16 @@ returns-in_default-clause-ok g c =
     c.as_slice.ensures.value (c.position.ensures.missing c.in_default.is) in
     sym (put_before_none (number c.args.element) (number c.args.opened)
     (stack_of number c.args.elements.now.items) none)
+
+pub returns-clause-was_there : goal.returns-clause-was_there
+returns-clause-was_there g c =
+    let number = g.S.TreeSink.number in
+    let at = subst (λ (xs : List g.row.H.Denot). IsOpenAt number (number c.args.element) xs c.in-Some.at)
+    c.as_slice.ensures.value c.in-Some.ensures.found in
+    sym at.is_there
+
+pub returns-in_default-clause-was_there : goal.returns-in_default-clause-was_there
+returns-in_default-clause-was_there g c =
+    let number = g.S.TreeSink.number in
+    sym (subst (λ (xs : List g.row.H.Denot). is_in (number c.args.element) (stack_of number xs) ≡ false)
+    c.as_slice.ensures.value (c.position.ensures.missing c.in_default.is))

@@ -1,10 +1,20 @@
-use Rattle.std.proofs.Common.{rules, sym, subst}
+use Rattle.std.proofs.Common.{refl, sym, subst}
+use Rattle.html_tree_state.specs.Building.{seen}
 use Rattle.html_tree_state.specs.Sound.{Sound}
+use Rattle.html_tree_state.proofs.CountsKept.{attributed_kept}
+use Rattle.html_tree_state.proofs.SeenLemmas.{seen_changed}
 use Rattle.html_tree_state.proofs.InsertedLemmas.{attributed_sound}
 use Rattle.html_tree_state.proofs.construction.Construction.add_attributes_if_missing.Goals as goal
 
 pub returns-clause-seen : goal.returns-clause-seen
-returns-clause-seen g c = search rules
+returns-clause-seen g c =
+    let tree = g.S.TreeSink in
+    let b = seen tree.number tree.forest tree.quirks c.args.self.now.held c.args.self.now.sink in
+    seen_changed tree.number tree.forest tree.quirks c.args.self.now.held c.args.self.now.held
+    c.args.self.now.sink c.add_attrs_if_missing.new.self _ refl c.in_ok-add_attrs_if_missing.ensures.forest
+    c.add_attrs_if_missing.ensures.quirks
+    (attributed_kept c.laws_of_forests.ensures c.args.self.now.held.counts b c.requires.sound
+    (tree.number c.args.target) c.args.attrs)
 
 pub returns-clause-sound : goal.returns-clause-sound
 returns-clause-sound g c = subst Sound (sym (returns-clause-seen g c))

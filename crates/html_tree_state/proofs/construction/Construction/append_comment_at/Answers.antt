@@ -1,5 +1,9 @@
-use Rattle.std.proofs.Common.{sym, subst}
+use Rattle.std.proofs.Common.{sym, subst, ◌∙◌}
+use Rattle.html_tree_state.specs.Building.{seen}
+use Rattle.html_tree_state.specs.Points.{place_of}
 use Rattle.html_tree_state.specs.Sound.{Sound}
+use Rattle.html_tree_state.proofs.CountsKept.{comment_kept}
+use Rattle.html_tree_state.proofs.SeenLemmas.{seen_changed}
 use Rattle.html_tree_state.proofs.InsertedLemmas.{can_put_comment, commented_sound, put_comment}
 use Rattle.html_tree_state.proofs.construction.Construction.append_comment_at.Goals as goal
 
@@ -11,9 +15,15 @@ insert_at-requires g c =
 
 pub returns-clause-seen : goal.returns-clause-seen
 returns-clause-seen g c =
+    let tree = g.S.TreeSink in
+    let b = seen tree.number tree.forest tree.quirks c.args.self.now.held c.args.self.now.sink in
     let forest = put_comment g.S.TreeSink.number c.args.point (g.S.TreeSink.number c.in_ok-comment.comment) _ _ _ _
     c.in_ok-insert_at.ensures.forest c.in_ok-comment.ensures.forest c.in_ok-comment.ensures.number in
-    cc (forest, c.insert_at.ensures.held, c.insert_at.ensures.quirks, c.create_comment.ensures.quirks)
+    seen_changed tree.number tree.forest tree.quirks c.args.self.now.held c.insert_at.new.self.held
+    c.args.self.now.sink c.insert_at.new.self.sink _ c.insert_at.ensures.held forest
+    (c.insert_at.ensures.quirks ∙ c.create_comment.ensures.quirks)
+    (comment_kept c.laws_of_forests.ensures c.args.self.now.held.counts b c.requires.sound
+    (place_of tree.number (tree.forest c.args.self.now.sink) c.args.point) c.args.text)
 
 pub returns-clause-sound : goal.returns-clause-sound
 returns-clause-sound g c = subst Sound (sym (returns-clause-seen g c))

@@ -1,10 +1,26 @@
-use Rattle.std.proofs.Common.{rules}
+use Rattle.std.proofs.Common.{ap, ◌∙◌}
+use Rattle.html_forest.specs.Places.{put, words}
+use Rattle.html_tree_state.specs.Building.{Building, seen}
+use Rattle.html_tree_state.specs.Points.{place_of}
+use Rattle.html_tree_state.proofs.CountsKept.{said_kept}
+use Rattle.html_tree_state.proofs.SeenLemmas.{seen_changed}
 use Rattle.html_tree_state.proofs.InsertedLemmas.{said_at, said_sound}
-use Rattle.html_tree_state.proofs.SoundLemmas.{forest_left, sound_left}
+use Rattle.html_tree_state.proofs.SoundLemmas.{forest_left, on_ok, sound_left}
 use Rattle.html_tree_state.proofs.construction.Construction.append_text.Goals as goal
 
 pub returns-clause-seen : goal.returns-clause-seen
-returns-clause-seen g c = search rules
+returns-clause-seen g c =
+    let tree = g.S.TreeSink in
+    let b = seen tree.number tree.forest tree.quirks c.args.self.now.held c.args.self.now.sink in
+    let place = place_of tree.number (tree.forest c.args.self.now.sink) c.insertion_point-point.result in
+    on_ok c.insert_at.result _ _
+    (λ forest_is. seen_changed tree.number tree.forest tree.quirks c.args.self.now.held c.insert_at.new.self.held
+    c.args.self.now.sink c.insert_at.new.self.sink (put place (words c.args.text) b.forest) c.insert_at.ensures.held
+    forest_is c.insert_at.ensures.quirks
+    (said_kept c.laws_of_forests.ensures c.args.self.now.held.counts b c.requires place c.args.text)
+    ∙ ap (λ p. let x : Building = record b { forest = put p (words c.args.text) b.forest } in x)
+    c.insertion_point-point.ensures.place)
+    c.insert_at.ensures.forest
 
 pub returns-clause-sound : goal.returns-clause-sound
 returns-clause-sound g c =

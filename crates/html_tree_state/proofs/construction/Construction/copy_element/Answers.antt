@@ -1,7 +1,10 @@
-use Rattle.std.proofs.Common.{rules, sym, subst}
-use Rattle.html_tree_state.specs.Building.{seen}
+use Rattle.std.proofs.Common.{◌≡◌, rules, sym, ap, ap₂, subst, ◌∙◌}
+use Rattle.html_tree_state.specs.Adoption.{copied}
+use Rattle.html_tree_state.specs.Building.{Parts, are_counted, seen, stack_of}
+use Rattle.html_forest.specs.Forest.{Forest, name_of}
+use Rattle.html_tree_state.proofs.SeenLemmas.{seen_is}
 use Rattle.html_tree_state.specs.Sound.{Sound}
-use Rattle.html_tree_state.proofs.CopyLemmas.{can_put_copy}
+use Rattle.html_tree_state.proofs.CopyLemmas.{can_put_copy, copied_forest, copied_kept, copied_names}
 use Rattle.html_tree_state.proofs.construction.Construction.copy_element.Goals as goal
 
 pub append-requires : goal.append-requires
@@ -13,8 +16,49 @@ append-requires g c =
     c.laws_of_forests.ensures c.requires.sound c.requires.can c.in_ok-copy.ensures.number
     c.in_ok-copy.ensures.forest c.in_ok-remove_from_parent.ensures.forest
 
+pub replace-requires-clause-name : goal.replace-requires-clause-name
+replace-requires-clause-name g c =
+    let tree = g.S.TreeSink in
+    let b = seen tree.number tree.forest tree.quirks c.args.self.now.held c.args.self.now.sink in
+    let n = tree.number c.args.element in
+    let last = tree.number c.args.last in
+    let forest_is = copied_forest n last (tree.number c.in_ok-copy.copy) c.args.tag b
+    (tree.forest c.make_element_for.new.self.sink) (tree.forest c.remove_from_parent.new.self)
+    (tree.forest c.append.new.self) c.in_ok-copy.ensures.number c.in_ok-copy.ensures.forest
+    c.in_ok-remove_from_parent.ensures.forest c.in_ok-append.ensures.forest in
+    subst (λ f. name_of (tree.number c.in_ok-copy.copy) f ≡ name_of n f) (sym forest_is)
+    (ap (λ k. name_of k (copied n c.args.tag last b).forest) c.in_ok-copy.ensures.number
+    ∙ copied_names n last c.args.tag b c.laws_of_forests.ensures c.requires.sound c.requires.can)
+
+pub replace-requires-clause-counted : goal.replace-requires-clause-counted
+replace-requires-clause-counted g c =
+    let tree = g.S.TreeSink in
+    let b = seen tree.number tree.forest tree.quirks c.args.self.now.held c.args.self.now.sink in
+    let n = tree.number c.args.element in
+    let last = tree.number c.args.last in
+    let forest_is = copied_forest n last (tree.number c.in_ok-copy.copy) c.args.tag b
+    (tree.forest c.make_element_for.new.self.sink) (tree.forest c.remove_from_parent.new.self)
+    (tree.forest c.append.new.self) c.in_ok-copy.ensures.number c.in_ok-copy.ensures.forest
+    c.in_ok-remove_from_parent.ensures.forest c.in_ok-append.ensures.forest in
+    ap₂ (λ (p : Parts g.row.S-Handle.Denot) (f : Forest). are_counted p.counts (stack_of tree.number p.open_elements) f)
+    c.make_element_for.ensures.held forest_is
+    ∙ copied_kept n last c.args.tag c.args.self.now.held.counts b c.laws_of_forests.ensures c.requires.sound
+    ∙ c.requires.sound.counted
+
 pub returns-clause-seen : goal.returns-clause-seen
-returns-clause-seen g c = search rules
+returns-clause-seen g c =
+    let tree = g.S.TreeSink in
+    let b = seen tree.number tree.forest tree.quirks c.args.self.now.held c.args.self.now.sink in
+    let n = tree.number c.args.element in
+    let last = tree.number c.args.last in
+    let forest_is = copied_forest n last (tree.number c.in_ok-copy.copy) c.args.tag b
+    (tree.forest c.make_element_for.new.self.sink) (tree.forest c.remove_from_parent.new.self)
+    (tree.forest c.append.new.self) c.in_ok-copy.ensures.number c.in_ok-copy.ensures.forest
+    c.in_ok-remove_from_parent.ensures.forest c.in_ok-append.ensures.forest in
+    seen_is tree.number tree.forest tree.quirks c.hand_over.new.self c.append.new.self (copied n c.args.tag last b)
+    (search rules) (search rules) (search rules) forest_is (search rules)
+    (ap₂ (λ counts handles. are_counted counts (stack_of tree.number handles) (tree.forest c.append.new.self))
+    c.hand_over.ensures.counts c.hand_over.ensures.open ∙ c.replace.ensures.counted ∙ sym c.requires.sound.counted)
 
 pub returns-clause-sound : goal.returns-clause-sound
 returns-clause-sound g c = subst Sound (sym (returns-clause-seen g c))

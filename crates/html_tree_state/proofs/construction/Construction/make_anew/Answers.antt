@@ -1,6 +1,7 @@
-use Rattle.std.proofs.Common.{List, ap, slice_index_or, ◌∙◌}
+use Rattle.std.proofs.Common.{List, ap, arith, length, slice_index_or, ◌∙◌}
 use Rattle.formatting_list.specs.declared.entry.FormatEntry.{FormatEntry}
-use Rattle.html_tree_state.proofs.MadeAnewLemmas.{IsMadeAnew, made_element, made_marker}
+use Rattle.html_tree_state.specs.Building.{Building}
+use Rattle.html_tree_state.proofs.MadeAnewLemmas.{IsMadeAnew, as_many, made_element, made_marker}
 use Rattle.html_tree_state.proofs.construction.Construction.make_anew.Given.{Over}
 use Rattle.html_tree_state.proofs.construction.Construction.make_anew.Goals as goal
 
@@ -25,7 +26,7 @@ made_anew g c =
     c.requires.within (c.index-as_slice-index.is
     ∙ ap (λ (v : List (FormatEntry g.row.S-Handle.Denot)). slice_index_or v c.args.index x)
     (c.as_slice.ensures ∙ c.formatting.ensures)) c.in-Element.is c.in_ok-tag.ensures c.in_ok-element.ensures.seen
-    c.in_ok-element.ensures.number c.give.ensures.open c.give.ensures.entries c.give.ensures.fostering
+    c.in_ok-element.ensures.number c.give.ensures.open c.give.ensures.entries c.give.ensures.fostering c.give.ensures.counts
 
 pub returns-clause-made : goal.returns-clause-made
 returns-clause-made g c = (made_anew g c).made
@@ -35,3 +36,14 @@ returns-clause-size g c = (made_anew g c).size
 
 pub returns-clause-sound : goal.returns-clause-sound
 returns-clause-sound g c = (made_anew g c).sound
+
+pub give-requires : goal.give-requires
+give-requires g c =
+    let number = g.S.TreeSink.number in
+    omega (
+      arith,
+      as_many number c.args.self.now.held.entries,
+      as_many number c.insert_element_for.new.self.held.entries,
+      ap (λ (x : Building). length x.formatting) c.in_ok-element.ensures.seen,
+      c.requires.within,
+    )

@@ -10,7 +10,8 @@ pub point_for-point-requires-clause-sound : goal.point_for-point-requires-clause
 point_for-point-requires-clause-sound g c =
     let tree = g.S.TreeSink in
     let out_is = seen_out tree.number tree.forest tree.quirks c.args.self.now.held c.args.self.now.sink
-    c.remove_from_parent.new.self (tree.number c.args.last) c.in_ok-remove_from_parent.ensures.forest
+    c.remove_from_parent.new.self (tree.number c.args.last) c.laws_of_forests.ensures c.requires.sound
+    c.in_ok-remove_from_parent.ensures.forest
     c.remove_from_parent.ensures.quirks in
     subst Sound (sym out_is) (out_of_place_sound (tree.number c.args.last) _ c.laws_of_forests.ensures c.requires.sound)
 
@@ -21,7 +22,8 @@ pub insert_at-requires : goal.insert_at-requires
 insert_at-requires g c =
     let tree = g.S.TreeSink in
     let out_is = seen_out tree.number tree.forest tree.quirks c.args.self.now.held c.args.self.now.sink
-    c.remove_from_parent.new.self (tree.number c.args.last) c.in_ok-remove_from_parent.ensures.forest
+    c.remove_from_parent.new.self (tree.number c.args.last) c.laws_of_forests.ensures c.requires.sound
+    c.in_ok-remove_from_parent.ensures.forest
     c.remove_from_parent.ensures.quirks in
     can_put_last (tree.number c.args.last) (option_map tree.number c.args.ancestor) _ _ _ c.laws_of_forests.ensures
     c.requires.sound c.requires.can out_is c.point_for-point.ensures
@@ -30,13 +32,15 @@ pub returns-clause-seen : goal.returns-clause-seen
 returns-clause-seen g c =
     let tree = g.S.TreeSink in
     let out_is = seen_out tree.number tree.forest tree.quirks c.args.self.now.held c.args.self.now.sink
-    c.remove_from_parent.new.self (tree.number c.args.last) c.in_ok-remove_from_parent.ensures.forest
+    c.remove_from_parent.new.self (tree.number c.args.last) c.laws_of_forests.ensures c.requires.sound
+    c.in_ok-remove_from_parent.ensures.forest
     c.remove_from_parent.ensures.quirks in
     seen_placed tree.number tree.forest tree.quirks c.args.self.now.held c.insert_at.new.self.held
     c.remove_from_parent.new.self c.insert_at.new.self.sink (tree.number c.args.last)
     (ancestor_of (option_map tree.number c.args.ancestor)) _
     (place_of tree.number (tree.forest c.remove_from_parent.new.self) c.point_for-point.result)
-    out_is c.point_for-point.ensures c.insert_at.ensures.held c.in_ok-insert_at.ensures.forest
+    c.laws_of_forests.ensures (subst Sound (sym out_is)
+    (out_of_place_sound (tree.number c.args.last) _ c.laws_of_forests.ensures c.requires.sound)) out_is c.point_for-point.ensures c.insert_at.ensures.held c.in_ok-insert_at.ensures.forest
     c.insert_at.ensures.quirks
 
 pub returns-clause-sound : goal.returns-clause-sound

@@ -1,6 +1,12 @@
-use Rattle.std.proofs.Common.{sym, ap, subst}
+use Rattle.std.proofs.Common.{◌≡◌, codes, sym, ap, subst, ◌∙◌}
 use Rattle.html_forest.specs.Orders.{IsForest}
-use Rattle.html_tree_state.specs.Building.{Building}
+use Rattle.html_tree_state.specs.Building.{Building, seen}
+use Rattle.html_tree_state.specs.Points.{place_of}
+use Rattle.html_tree_state.specs.Insertions.{with_element}
+use Rattle.html_tree_state.proofs.CountsKept.{element_kept}
+use Rattle.html_tree_state.proofs.SeenLemmas.{seen_changed}
+use Rattle.name_sets.specs.Sets.{is_html}
+use Rattle.tree_words.specs.Attributes.{is_html_annotation}
 use Rattle.html_tree_state.proofs.InsertedLemmas.{can_put_new, put_new, with_element_sound}
 use Rattle.html_tree_state.proofs.construction.Construction.put_element.Goals as goal
 
@@ -12,16 +18,18 @@ insert_at-requires g c =
 
 pub returns-clause-seen : goal.returns-clause-seen
 returns-clause-seen g c =
+    let tree = g.S.TreeSink in
+    let b = seen tree.number tree.forest tree.quirks c.args.self.now.held c.args.self.now.sink in
     let forest = put_new g.S.TreeSink.number c.args.point (g.S.TreeSink.number c.in_ok-element.element) _ _ _ _ _ _ _
     c.in_ok-insert_at.ensures.forest c.in_ok-element.ensures.forest c.in_ok-element.ensures.number in
-    cc (
-      forest,
-      c.insert_at.ensures.held,
-      c.insert_at.ensures.quirks,
-      c.create_element.ensures.quirks,
-      c.element_flags-flags.ensures.template,
-      c.element_flags-flags.ensures.point,
-    )
+    let place = place_of tree.number (tree.forest c.args.self.now.sink) c.args.point in
+    let with_flags : tree.forest c.insert_at.new.self.sink ≡ (with_element place c.args.name c.args.attrs b).forest =
+    cc (forest, c.element_flags-flags.ensures.template, c.element_flags-flags.ensures.point) in
+    seen_changed tree.number tree.forest tree.quirks c.args.self.now.held c.insert_at.new.self.held
+    c.args.self.now.sink c.insert_at.new.self.sink _ c.insert_at.ensures.held with_flags
+    (c.insert_at.ensures.quirks ∙ c.create_element.ensures.quirks)
+    (element_kept c.laws_of_forests.ensures c.args.self.now.held.counts b c.requires.sound place c.args.name
+    c.args.attrs (is_html (codes "template") c.args.name) (is_html_annotation c.args.name c.args.attrs))
 
 pub returns-clause-forest : goal.returns-clause-forest
 returns-clause-forest g c =

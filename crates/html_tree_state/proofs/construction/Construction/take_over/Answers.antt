@@ -1,11 +1,13 @@
-use Rattle.std.proofs.Common.{◌∙◌, arith, option_map, subst, sym}
+use Rattle.std.proofs.Common.{◌∙◌, List, ap, ap₂, arith, option_map, subst, sym}
 use Rattle.std.proofs.lemmas.Grind.{common_steps}
 use Rattle.html_forest.specs.Forest.{nodes}
-use Rattle.html_tree_state.specs.Building.{seen}
+use Rattle.html_forest.specs.Orders.{IsIn}
+use Rattle.html_tree_state.specs.Building.{Parts, are_counted, seen, stack_of}
 use Rattle.html_tree_state.specs.Formatting.{made_for}
 use Rattle.html_tree_state.specs.Sound.{Sound}
 use Rattle.html_tree_state.proofs.GrownLemmas.{made_apart}
-use Rattle.html_tree_state.proofs.TakeOverLemmas.{given_is_forest, may_give, may_take, taken_is_forest}
+use Rattle.html_tree_state.proofs.TakeOverLemmas.{given_is_forest, may_give, may_take, over_elements, over_kept}
+use Rattle.html_tree_state.proofs.TakeOverLemmas.{over_new, taken_is, taken_is_forest}
 use Rattle.html_tree_state.proofs.construction.Construction.take_over.Goals as goal
 
 pub reparent_children-requires : goal.reparent_children-requires
@@ -81,6 +83,54 @@ returns-in_err-open_below-clause-forest g c =
     c.requires.can)
     c.in_ok-copy.ensures.number c.in_ok-copy.ensures.forest c.in_ok-reparent_children.ensures.forest
     c.in_ok-append.ensures.forest
+
+pub take_off-requires-clause-elements : goal.take_off-requires-clause-elements
+take_off-requires-clause-elements g c k i =
+    let tree = g.S.TreeSink in
+    let b = seen tree.number tree.forest tree.quirks c.args.self.now.held c.args.self.now.sink in
+    let n = tree.number c.args.element in
+    let block = tree.number c.args.block in
+    let over = taken_is block (nodes b.forest) (tree.number c.in_ok-copy.copy) c.args.tag b.forest
+    (tree.forest c.make_element_for.new.self.sink) (tree.forest c.reparent_children.new.self)
+    (tree.forest c.append.new.self) c.in_ok-copy.ensures.number c.in_ok-copy.ensures.forest
+    c.in_ok-reparent_children.ensures.forest c.in_ok-append.ensures.forest in
+    let open_is = c.list_at.ensures.open
+    ∙ ap (λ (p : Parts g.row.S-Handle.Denot). p.open_elements) c.make_element_for.ensures.held in
+    over_elements n block c.args.tag b c.laws_of_forests.ensures c.requires.sound c.requires.can
+    (tree.forest c.append.new.self) over k
+    (subst (λ (handles : List g.row.S-Handle.Denot). IsIn k (stack_of tree.number handles)) open_is i)
+
+pub take_off-requires-clause-counted : goal.take_off-requires-clause-counted
+take_off-requires-clause-counted g c =
+    let tree = g.S.TreeSink in
+    let b = seen tree.number tree.forest tree.quirks c.args.self.now.held c.args.self.now.sink in
+    let n = tree.number c.args.element in
+    let block = tree.number c.args.block in
+    let over = taken_is block (nodes b.forest) (tree.number c.in_ok-copy.copy) c.args.tag b.forest
+    (tree.forest c.make_element_for.new.self.sink) (tree.forest c.reparent_children.new.self)
+    (tree.forest c.append.new.self) c.in_ok-copy.ensures.number c.in_ok-copy.ensures.forest
+    c.in_ok-reparent_children.ensures.forest c.in_ok-append.ensures.forest in
+    let open_is = c.list_at.ensures.open
+    ∙ ap (λ (p : Parts g.row.S-Handle.Denot). p.open_elements) c.make_element_for.ensures.held in
+    let counts_are = c.list_at.ensures.counts
+    ∙ ap (λ (p : Parts g.row.S-Handle.Denot). p.counts) c.make_element_for.ensures.held in
+    ap₂ (λ counts (handles : List g.row.S-Handle.Denot).
+    are_counted counts (stack_of tree.number handles) (tree.forest c.append.new.self)) counts_are open_is
+    ∙ over_kept n block c.args.tag b c.laws_of_forests.ensures c.requires.sound c.requires.can
+    (tree.forest c.append.new.self) over c.args.self.now.held.counts ∙ c.requires.sound.counted
+
+pub open_below-requires-clause-element : goal.open_below-requires-clause-element
+open_below-requires-clause-element g c =
+    let tree = g.S.TreeSink in
+    let b = seen tree.number tree.forest tree.quirks c.args.self.now.held c.args.self.now.sink in
+    let n = tree.number c.args.element in
+    let block = tree.number c.args.block in
+    let over = taken_is block (nodes b.forest) (tree.number c.in_ok-copy.copy) c.args.tag b.forest
+    (tree.forest c.make_element_for.new.self.sink) (tree.forest c.reparent_children.new.self)
+    (tree.forest c.append.new.self) c.in_ok-copy.ensures.number c.in_ok-copy.ensures.forest
+    c.in_ok-reparent_children.ensures.forest c.in_ok-append.ensures.forest in
+    over_new n block c.args.tag b c.laws_of_forests.ensures c.requires.sound c.requires.can
+    (tree.forest c.append.new.self) over (tree.number c.in_ok-copy.copy) c.in_ok-copy.ensures.number
 
 pub returns-clause-seen : goal.returns-clause-seen
 returns-clause-seen g c = grind (arith, common_steps)
