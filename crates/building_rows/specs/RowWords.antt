@@ -1,5 +1,5 @@
 -- Small pages of the worked rows: what is read, word by word, and the tree as text.
-use Rattle.std.specs.Prelude.{ℕ, zero, suc, false, List, [], ◌∷◌, ◌++◌, codes, flat_map}
+use Rattle.std.specs.Prelude.{ℕ, zero, suc, false, true, List, [], ◌∷◌, ◌++◌, codes, flat_map}
 use Rattle.html_forest.specs.Forest.{Forest, Kind, children_at, comment, doctype, document, element, instruction}
 use Rattle.html_forest.specs.Forest.{kind_at, page_alone, text}
 use Rattle.html_forest.specs.declared.sink.QuirksMode.TheVariants.{NoQuirks}
