@@ -10,4 +10,5 @@ returns g c = rw (c.set_fostering.ensures) (record {
   templates = c.requires.templates;
   listed = c.requires.listed;
   few = c.requires.few;
+  counted = c.requires.counted;
 })

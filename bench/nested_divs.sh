@@ -1,0 +1,30 @@
+#!/usr/bin/env bash
+# Times tree construction on nested `div` elements: 25,000, 50,000 and 100,000 of them, each of which asks for a `p` in
+# button scope. The program is no crate of the repository, so it is proved and built in a copy of the crates that it
+# stands on, in the folder BENCH, which is kept: the first time that takes minutes.
+set -eu
+here=$(cd "$(dirname "$0")" && pwd)
+folder=${BENCH:-${TMPDIR:-/tmp}/nested_divs_bench}
+crate=$folder/crates/nested_divs
+below="html_lexemes html_forest name_sets formatting_list tree_words html_tree_state html_render_dom"
+mkdir -p "$crate/src" "$crate/proofs/nest"
+for name in $below; do
+  mkdir -p "$folder/crates/$name"
+  # what was proved of the copy is kept
+  find "$folder/crates/$name" -mindepth 1 -maxdepth 1 ! -name out -exec rm -r {} +
+  find "$here/../crates/$name" -mindepth 1 -maxdepth 1 ! -name out -exec cp -r {} "$folder/crates/$name" \;
+done
+cp "$here/../HANDLES" "$folder"
+{
+  for name in $below; do grep "^$name:" "$here/../crates.txt"; done
+  echo "nested_divs: $below thiserror"
+} >"$folder/crates.txt"
+cp "$here/nested_divs/main.rt.txt" "$crate/src/main.rt"
+cp "$here/nested_divs/Invariants.antt.txt" "$crate/proofs/nest/Invariants.antt"
+: >"$crate/stdin"
+(cd "$crate" && rt run -- 10 1 >"$folder/log" 2>&1) || { tail -n 20 "$folder/log"; exit 1; }
+
+for elements in 25000 50000 100000; do
+  microseconds=$("$crate/out/nested_divs" "$elements" 8)
+  python3 -c "print(f'{$elements:7,} elements: {$microseconds / 1000:7.1f} ms, {$microseconds * 1000 / $elements:6.0f} ns each')"
+done
