@@ -26,5 +26,6 @@ cp "$here/nested_divs/Invariants.antt.txt" "$crate/proofs/nest/Invariants.antt"
 
 for elements in 25000 50000 100000; do
   microseconds=$("$crate/out/nested_divs" "$elements" 8)
-  python3 -c "print(f'{$elements:7,} elements: {$microseconds / 1000:7.1f} ms, {$microseconds * 1000 / $elements:6.0f} ns each')"
+  each=$((microseconds * 1000 / elements))
+  python3 -c "print(f'{$elements:7,} elements: {$microseconds / 1000:7.1f} ms, {$each:6} ns each')"
 done

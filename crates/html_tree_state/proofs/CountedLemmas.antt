@@ -75,7 +75,8 @@ none_by : (b u v : Bool) → (b || u) ≡ false → (u ≡ false → v ≡ false
 none_by true u v e h = e
 none_by false u v e h = h e
 
-pub none_open : (set : Elements) (f : Forest) (ns : List ℕ) → has_one set (names_in f ns) ≡ false → has_any set f ns ≡ false
+pub none_open : (set : Elements) (f : Forest) (ns : List ℕ) → has_one set (names_in f ns) ≡ false → has_any set f ns ≡
+    false
 none_open set f [] none = refl
 none_open set f (n ∷ ns) none =
     none_by (is_element_of set (name_of n f)) (has_one set (names_in f ns)) (has_any set f ns) none (none_open set f ns)

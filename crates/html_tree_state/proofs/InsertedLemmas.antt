@@ -83,7 +83,8 @@ new_leaf laws place kind f forest there plain no_document = record {
   paths = λ a b held. laws.above_leaf kind a b f plain;
 }
 
-pub new_element : (laws : Laws) (place : Place) (name : QualName) (attributes : List Attribute) (t p : Bool) (f : Forest) →
+pub new_element : (laws : Laws) (place : Place) (name : QualName) (attributes : List Attribute) (t p : Bool) (f :
+    Forest) →
     IsForest f → IsPlace place f → IsNew place f (made_element name attributes t p f)
 new_element laws place name attributes t p f forest there = record {
   forest = laws.element_keeps name attributes t p f forest;

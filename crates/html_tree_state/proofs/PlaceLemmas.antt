@@ -74,7 +74,8 @@ place_for_there laws n b sound held =
     (foster_place_there laws b.forest b.stack sound.forest (open_there laws b sound))
     (inside_place n b.forest sound.forest held)
 
-pub current_there : (f : Forest) (ns : List ℕ) → IsForest f → ((n : ℕ) → IsIn n ns → Holds n f) → Holds (current_of ns) f
+pub current_there : (f : Forest) (ns : List ℕ) → IsForest f → ((n : ℕ) → IsIn n ns → Holds n f) → Holds (current_of ns)
+    f
 current_there f [] forest held = forest.page.0
 current_there f (n ∷ ns) forest held = held n (inl refl)
 

@@ -36,7 +36,8 @@ module _ {H : Type 0} (name_at : ℕ → QualName) (number : H → ℕ) (context
       reset_mode context has_head template (map name_at (stack_of number (lower ++ last ∷ []))) ≡ mode
   reset_own lower last mode held own =
       ap (reset_mode context has_head template) (names_last name_at number lower last)
-      ∙ ap (λ o. mode_above (map name_at (stack_of number lower)) (root_mode context (name_at (number last)) has_head template) o
+      ∙ ap (λ o. mode_above (map name_at (stack_of number lower)) (root_mode context (name_at (number last)) has_head
+      template) o
       (reset_mode context has_head template (map name_at (stack_of number lower)))) own
       ∙ above_own _ _ mode _ (some_names name_at number lower held)
 
@@ -46,6 +47,7 @@ module _ {H : Type 0} (name_at : ℕ → QualName) (number : H → ℕ) (context
       ≡ reset_mode context has_head template (map name_at (stack_of number lower))
   reset_further lower last held own =
       ap (reset_mode context has_head template) (names_last name_at number lower last)
-      ∙ ap (λ o. mode_above (map name_at (stack_of number lower)) (root_mode context (name_at (number last)) has_head template) o
+      ∙ ap (λ o. mode_above (map name_at (stack_of number lower)) (root_mode context (name_at (number last)) has_head
+      template) o
       (reset_mode context has_head template (map name_at (stack_of number lower)))) own
       ∙ above_none _ _ _ (some_names name_at number lower held)

@@ -206,7 +206,8 @@ module _ (n block : ℕ) (tag : Tag) (b : Building) (laws : Laws) (sound : Sound
 
   pub over_new : (over : Forest) → over ≡ over_forest → (copy : ℕ) →
       copy ≡ nodes b.forest → IsElement copy over
-  over_new over is copy copy_is = subst (λ k. IsElement k over) (sym copy_is) (subst (IsElement (nodes b.forest)) (sym is)
+  over_new over is copy copy_is = subst (λ k. IsElement k over) (sym copy_is) (subst (IsElement (nodes b.forest)) (sym
+      is)
       (subst IsElementKind (sym (taken_stays laws tag block b.forest sound.forest block_held (nodes b.forest)
       ∙ (made_apart laws tag b.forest sound.forest).kind)) tt))
 

@@ -1,5 +1,7 @@
 -- Counts of names, one by one.
-use Rattle.std.proofs.Common.{◌≡◌, ℕ, Bool, ◌+◌, ◌-◌, ◌<◌, ◌≤◌, slice_index_or, slice_set, refl, ◌||◌, true, false, if◌then◌else◌, IsTrue, List, [], ◌∷◌, ◌++◌, length, drop, IsUtf8, chars, bytes_eq, sym, ap, subst, ◌∙◌, arith, zero, suc, length-drop}
+use Rattle.std.proofs.Common.{◌≡◌, ℕ, Bool, ◌+◌, ◌-◌, ◌<◌, ◌≤◌, slice_index_or, slice_set, refl, ◌||◌, true, false}
+use Rattle.std.proofs.Common.{if◌then◌else◌, IsTrue, List, [], ◌∷◌, ◌++◌, length, drop, IsUtf8, chars, bytes_eq, sym}
+use Rattle.std.proofs.Common.{ap, subst, ◌∙◌, arith, zero, suc, length-drop}
 use Rattle.std.specs.Borrow.{Bor}
 use Rattle.std.proofs.lemmas.Bool.{and_parts, or_parts}
 use Rattle.std.proofs.lemmas.List.{drop_more, nil_from_length}
@@ -20,7 +22,8 @@ first_before : (word : Bor (List ℕ)) (words : List (Bor (List ℕ))) (name : L
 first_before word words name u h = ap (λ b. if b then 0 else suc (words_before (words_of words) (chars name)))
     (sym (same_word name word.now u (and_parts (is_ascii_word word.now) (are_ascii (words_of words)) h).0))
 
-next_before : (words : List (Bor (List ℕ))) (i : ℕ) (d : Bor (List ℕ)) (name : List ℕ) → IsUtf8 name → i < length words →
+next_before : (words : List (Bor (List ℕ))) (i : ℕ) (d : Bor (List ℕ)) (name : List ℕ) → IsUtf8 name → i < length words
+    →
     IsTrue (are_ascii (words_of (drop i words))) →
     words_before (words_of (drop i words)) (chars name)
     ≡ (if bytes_eq name (slice_index_or words i d).now then 0
@@ -28,9 +31,11 @@ next_before : (words : List (Bor (List ℕ))) (i : ℕ) (d : Bor (List ℕ)) (na
 next_before words i d name u more h =
     let split = drop_more words i d more in
     ap (λ l. words_before (words_of l) (chars name)) split
-    ∙ first_before (slice_index_or words i d) (drop (i + 1) words) name u (subst (λ l. IsTrue (are_ascii (words_of l))) split h)
+    ∙ first_before (slice_index_or words i d) (drop (i + 1) words) name u (subst (λ l. IsTrue (are_ascii (words_of l)))
+    split h)
 
-pub found_before : (words : List (Bor (List ℕ))) (i k : ℕ) (d : Bor (List ℕ)) (name : List ℕ) → IsUtf8 name → i < length words →
+pub found_before : (words : List (Bor (List ℕ))) (i k : ℕ) (d : Bor (List ℕ)) (name : List ℕ) → IsUtf8 name → i <
+    length words →
     IsTrue (are_ascii (words_of (drop i words))) → true ≡ bytes_eq name (slice_index_or words i d).now →
     words_before (words_of words) (chars name) ≡ k + words_before (words_of (drop i words)) (chars name) →
     k ≡ words_before (words_of words) (chars name)
@@ -40,7 +45,8 @@ found_before words i k d name u more h is whole =
     ∙ ap (λ b. if b then 0 else suc (words_before (words_of (drop (i + 1) words)) (chars name))) (sym is) in
     omega (arith, here, whole)
 
-pub not_before : (words : List (Bor (List ℕ))) (i k : ℕ) (d : Bor (List ℕ)) (name : List ℕ) → IsUtf8 name → i < length words →
+pub not_before : (words : List (Bor (List ℕ))) (i k : ℕ) (d : Bor (List ℕ)) (name : List ℕ) → IsUtf8 name → i < length
+    words →
     IsTrue (are_ascii (words_of (drop i words))) → false ≡ bytes_eq name (slice_index_or words i d).now →
     words_before (words_of words) (chars name) ≡ k + words_before (words_of (drop i words)) (chars name) →
     words_before (words_of words) (chars name) ≡ k + 1 + words_before (words_of (drop (i + 1) words)) (chars name)
@@ -56,7 +62,11 @@ pub behind_all : (words : List (Bor (List ℕ))) (i k : ℕ) (name : List ℕ) �
     k ≡ words_before (words_of words) (chars name)
 behind_all words i k name h whole =
     let here : words_before (words_of (drop i words)) (chars name) ≡ 0 =
-    ap (λ l. words_before (words_of l) (chars name)) (nil_from_length (drop i words) (omega (arith, length-drop i words))) in
+    ap (λ l. words_before (words_of l) (chars name)) (nil_from_length (drop i words) (omega (
+      arith,
+      length-drop i
+          words,
+    ))) in
     omega (arith, here, whole)
 
 -- one more, as a place of the list that is set

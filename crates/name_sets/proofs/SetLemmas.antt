@@ -1,5 +1,6 @@
 -- A name is looked for among words, one after the other.
-use Rattle.std.proofs.Common.{◌≡◌, ℕ, ◌+◌, ◌<◌, ◌≤◌, length-drop, slice_index_or, true, false, ◌||◌, IsTrue, List, [], ◌∷◌, length, drop, IsUtf8, chars, bytes_eq, sym, ap, subst, ◌∙◌, arith, zero, suc}
+use Rattle.std.proofs.Common.{◌≡◌, ℕ, ◌+◌, ◌<◌, ◌≤◌, length-drop, slice_index_or, true, false, ◌||◌, IsTrue, List, []}
+use Rattle.std.proofs.Common.{◌∷◌, length, drop, IsUtf8, chars, bytes_eq, sym, ap, subst, ◌∙◌, arith, zero, suc}
 use Rattle.std.specs.Borrow.{Bor}
 use Rattle.std.specs.Bool.{nat_lt}
 use Rattle.std.specs.Str.{IsAscii}
@@ -14,7 +15,8 @@ ascii_word [] h i = omega arith
 ascii_word (b ∷ bs) h zero = ltb-true b 128 (and_parts (nat_lt b 128) (is_ascii_word bs) h).0
 ascii_word (b ∷ bs) h (suc i) = ascii_word bs (and_parts (nat_lt b 128) (is_ascii_word bs) h).1 i
 
-pub same_word : (name word : List ℕ) → IsUtf8 name → IsTrue (is_ascii_word word) → bytes_eq name word ≡ bytes_eq (chars name) word
+pub same_word : (name word : List ℕ) → IsUtf8 name → IsTrue (is_ascii_word word) → bytes_eq name word ≡ bytes_eq (chars
+    name) word
 same_word name word u h =
     let ascii = ascii_word word h in
     same_by_bytes name word u (IsUtf8-from_ascii word ascii) ∙ ap (bytes_eq (chars name)) (chars-IsAscii word ascii)
@@ -34,11 +36,13 @@ next_word : (words : List (Bor (List ℕ))) (i : ℕ) (d : Bor (List ℕ)) (name
 next_word words i d name u more h =
     let split = drop_more words i d more in
     ap (λ l. is_one_of (words_of l) (chars name)) split
-    ∙ first_word (slice_index_or words i d) (drop (i + 1) words) name u (subst (λ l. IsTrue (are_ascii (words_of l))) split h)
+    ∙ first_word (slice_index_or words i d) (drop (i + 1) words) name u (subst (λ l. IsTrue (are_ascii (words_of l)))
+    split h)
 
 pub other_words : (words : List (Bor (List ℕ))) (i : ℕ) (d : Bor (List ℕ)) → i < length words →
     IsTrue (are_ascii (words_of (drop i words))) → IsTrue (are_ascii (words_of (drop (i + 1) words)))
-other_words words i d more h = (and_parts (is_ascii_word (slice_index_or words i d).now) (are_ascii (words_of (drop (i + 1) words)))
+other_words words i d more h = (and_parts (is_ascii_word (slice_index_or words i d).now) (are_ascii (words_of (drop (i
+    + 1) words)))
     (subst (λ l. IsTrue (are_ascii (words_of l))) (drop_more words i d more) h)).1
 
 pub found : (words : List (Bor (List ℕ))) (i : ℕ) (d : Bor (List ℕ)) (name : List ℕ) → IsUtf8 name → i < length words →
@@ -47,7 +51,8 @@ pub found : (words : List (Bor (List ℕ))) (i : ℕ) (d : Bor (List ℕ)) (name
 found words i d name u more h is =
     ap (λ b. b || is_one_of (words_of (drop (i + 1) words)) (chars name)) is ∙ sym (next_word words i d name u more h)
 
-pub not_found : (words : List (Bor (List ℕ))) (i : ℕ) (d : Bor (List ℕ)) (name : List ℕ) → IsUtf8 name → i < length words →
+pub not_found : (words : List (Bor (List ℕ))) (i : ℕ) (d : Bor (List ℕ)) (name : List ℕ) → IsUtf8 name → i < length
+    words →
     IsTrue (are_ascii (words_of (drop i words))) → false ≡ bytes_eq name (slice_index_or words i d).now →
     is_one_of (words_of (drop i words)) (chars name) ≡ is_one_of (words_of (drop (i + 1) words)) (chars name)
 not_found words i d name u more h isnt = next_word words i d name u more h
@@ -56,4 +61,8 @@ not_found words i d name u more h isnt = next_word words i d name u more h
 pub none_left : (words : List (Bor (List ℕ))) (i : ℕ) (name : List ℕ) → length words ≤ i →
     false ≡ is_one_of (words_of (drop i words)) (chars name)
 none_left words i name h =
-    ap (λ l. is_one_of (words_of l) (chars name)) (sym (nil_from_length (drop i words) (omega (arith, length-drop i words))))
+    ap (λ l. is_one_of (words_of l) (chars name)) (sym (nil_from_length (drop i words) (omega (
+      arith,
+      length-drop i
+          words,
+    ))))

@@ -53,7 +53,8 @@ impl OpenCounts {
         self.counts[place] -= 1;
     }
 
-    /// Whether it is known by the counts that no element of a set is open. Where the set is a name that has no count of its
+    /// Whether it is known by the counts that no element of a set is open. Where the set is a name that has no count
+    /// of its
     /// own, this is so only where no such element is open at all.
     pub fn has_none(&self, wanted: ElementSet<'_>) -> bool
         ensures { (names : List SeenQualName) → self.now ≡ counts_of names → result ≡ true →

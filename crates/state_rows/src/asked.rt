@@ -142,7 +142,8 @@ fn ends_of<S: TreeSink>(
     (elements.len(), is_current, is_first)
 }
 
-/// How many elements stand behind the last marker, and how many entries there are: of four that are alike, with a marker
+/// How many elements stand behind the last marker, and how many entries there are: of four that are alike, with a
+/// marker
 /// behind them, with one more, and once all up to the marker is cleared.
 pub(crate) fn count_alike<S: TreeSink>(
     tree: &mut Construction<S>,

@@ -52,7 +52,8 @@ pub enum InsertionMode {
 }
 
 /// Which mode an open element asks for, if any (WHATWG HTML, 13.2.4.1, "reset the insertion mode appropriately").
-/// `is_root` says that it is the root, or the context of a fragment in the root's place; `has_head`, that the page's head
+/// `is_root` says that it is the root, or the context of a fragment in the root's place; `has_head`, that the page's
+/// head
 /// is known; `template_mode` is the mode of the template that was opened last.
 pub fn own_mode(
     name: &QualName,

@@ -9,7 +9,8 @@ use crate::words::{begins_in_lower_case, is_word};
 use html_forest::QuirksMode;
 use html_lexemes::{Doctype, Text};
 
-/// The quirks mode that a doctype asks for: by its name, and by its identifiers with letters of ASCII in either case alike
+/// The quirks mode that a doctype asks for: by its name, and by its identifiers with letters of ASCII in either case
+/// alike
 /// (WHATWG HTML, 13.2.6.4.1, with a list of identifiers of its own). A system identifier that is empty counts as one.
 pub fn quirks_mode_of(doctype: &Doctype) -> QuirksMode
     ensures { result ≡ quirks_of doctype.now }

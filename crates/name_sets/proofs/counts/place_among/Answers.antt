@@ -12,7 +12,8 @@ returns-then-eq c = found_before c.args.words.now c.loop-word.word-index _ _ _ c
 
 pub loop-word-preserved : goal.loop-word-preserved
 loop-word-preserved c = (
-  other_words c.args.words.now c.loop-word.word-index (record { ref_ptr = (0, 0); now = [] }) c.loop-word-test.true c.loop-word.invariant.0,
+  other_words c.args.words.now c.loop-word.word-index (record { ref_ptr = (0, 0); now = [] }) c.loop-word-test.true
+      c.loop-word.invariant.0,
   (
     not_before c.args.words.now c.loop-word.word-index _ _ _ c.utf8.name c.loop-word-test.true
         c.loop-word.invariant.0 c.if-eq.ensures c.loop-word.invariant.1.0,

@@ -15,7 +15,8 @@ returns-clause-seen g c =
     (inserted_for c.args.tag (seen tree.number tree.forest tree.quirks c.args.self.now.held c.args.self.now.sink))
     (tree.number c.in_ok-element.element) (nodes (tree.forest c.args.self.now.sink)) c.args.tag
     c.push_formatting.ensures.open (c.in_ok-push_formatting.ensures.entries tree.number)
-    c.push_formatting.ensures.fostering c.push_formatting.ensures.counts c.in_ok-element.ensures.seen c.in_ok-element.ensures.number
+    c.push_formatting.ensures.fostering c.push_formatting.ensures.counts c.in_ok-element.ensures.seen
+    c.in_ok-element.ensures.number
 
 pub returns-clause-sound : goal.returns-clause-sound
 returns-clause-sound g c = subst Sound (sym (returns-clause-seen g c))

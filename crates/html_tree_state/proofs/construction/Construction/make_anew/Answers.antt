@@ -26,7 +26,8 @@ made_anew g c =
     c.requires.within (c.index-as_slice-index.is
     ∙ ap (λ (v : List (FormatEntry g.row.S-Handle.Denot)). slice_index_or v c.args.index x)
     (c.as_slice.ensures ∙ c.formatting.ensures)) c.in-Element.is c.in_ok-tag.ensures c.in_ok-element.ensures.seen
-    c.in_ok-element.ensures.number c.give.ensures.open c.give.ensures.entries c.give.ensures.fostering c.give.ensures.counts
+    c.in_ok-element.ensures.number c.give.ensures.open c.give.ensures.entries c.give.ensures.fostering
+    c.give.ensures.counts
 
 pub returns-clause-made : goal.returns-clause-made
 returns-clause-made g c = (made_anew g c).made

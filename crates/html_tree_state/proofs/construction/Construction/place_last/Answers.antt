@@ -40,7 +40,8 @@ returns-clause-seen g c =
     (ancestor_of (option_map tree.number c.args.ancestor)) _
     (place_of tree.number (tree.forest c.remove_from_parent.new.self) c.point_for-point.result)
     c.laws_of_forests.ensures (subst Sound (sym out_is)
-    (out_of_place_sound (tree.number c.args.last) _ c.laws_of_forests.ensures c.requires.sound)) out_is c.point_for-point.ensures c.insert_at.ensures.held c.in_ok-insert_at.ensures.forest
+    (out_of_place_sound (tree.number c.args.last) _ c.laws_of_forests.ensures c.requires.sound)) out_is
+    c.point_for-point.ensures c.insert_at.ensures.held c.in_ok-insert_at.ensures.forest
     c.insert_at.ensures.quirks
 
 pub returns-clause-sound : goal.returns-clause-sound

@@ -9,7 +9,11 @@ invariant-loop-current g l =
     let tree = g.S.TreeSink in
     let now = seen tree.number tree.forest tree.quirks l.self.held l.self.sink in
     let first = seen tree.number tree.forest tree.quirks l.initial.self.held l.initial.self.sink in
-    record { sound : Sound now; same : popped_with (tree.number l.element) now ≡ popped_with (tree.number l.element) first }
+    record {
+      sound : Sound now;
+      same : popped_with (tree.number l.element) now ≡ popped_with (tree.number l.element)
+          first;
+    }
 
 abbrev pub decreases-loop-current : goal.decreases-loop-current
 decreases-loop-current g l = length l.self.held.open_elements

@@ -1,7 +1,8 @@
 use Rattle.std.proofs.Common.{◌≡◌, true, [], sym, subst, ap, ◌∙◌}
 use Rattle.html_forest.specs.Orders.{AreDistinct, IsIn}
 use Rattle.html_tree_state.specs.Building.{Parts, are_counted, stack_of}
-use Rattle.html_tree_state.proofs.CountedLemmas.{counted_less, divided_names, is_counted, is_in_them, left_names, names_in}
+use Rattle.html_tree_state.proofs.CountedLemmas.{counted_less, divided_names, is_counted, is_in_them, left_names}
+use Rattle.html_tree_state.proofs.CountedLemmas.{names_in}
 use Rattle.html_tree_state.proofs.CountedLemmas.{none_left_counted}
 use Rattle.html_tree_state.specs.OpenElements.{farther, nearer}
 use Rattle.html_tree_state.proofs.held.Held.take_off.Goals as goal

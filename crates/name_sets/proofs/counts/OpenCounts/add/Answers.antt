@@ -28,5 +28,6 @@ pub bounds-self-inside-place-3 : goal.bounds-self-inside-place-3
 bounds-self-inside-place-3 c = omega (arith, c.place_of-place.ensures, has_count c.args.name.now)
 
 pub returns : goal.returns
-returns c front back are = added front back c.args.name.now c.place_of-place.result c.self.inside.counts c.place_of-place.ensures
+returns c front back are = added front back c.args.name.now c.place_of-place.result c.self.inside.counts
+    c.place_of-place.ensures
     (c.self.view_is ∙ are)
