@@ -37,8 +37,14 @@ tag_for name = record {
 }
 
 abbrev pub nothing : Building
-nothing = record { stack = []; formatting = []; fostering = false; forest = page_alone; quirks = NoQuirks; counted =
-    true }
+nothing = record {
+  stack = [];
+  formatting = [];
+  fostering = false;
+  forest = page_alone;
+  quirks = NoQuirks;
+  counted = true;
+}
 
 -- a page is read in the body, by its start tags, texts and end tags
 pub data Part : Type 0 where

@@ -6,9 +6,9 @@ ghost use Rattle.html_tree_state.specs.Sound.{Sound};
 
 use crate::made::{html, start, svg};
 use html_forest::{TreeSink, a_page_alone_is_a_forest};
-use name_sets::is_formatting_tag;
 use html_lexemes::{Attributes, LocalName, ParseFault, Tag, Text};
 use html_tree_state::{Construction, Held, PushFlag};
+use name_sets::is_formatting_tag;
 use std::alloc::Global;
 
 /// Nothing open, and a page's document alone.

@@ -1,4 +1,3 @@
-use Rattle.html_tree_state.specs.Sound.{Sound}
 use Rattle.state_rows.proofs.begin.foster.Goals as goal
 
 pub returns : goal.returns

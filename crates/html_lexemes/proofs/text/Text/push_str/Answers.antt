@@ -1,4 +1,4 @@
-use Rattle.std.proofs.Common.{◌≡◌, ◌++◌, chars, string_bytes, ap, ◌∙◌}
+use Rattle.std.proofs.Common.{◌++◌, chars, string_bytes, ap, ◌∙◌}
 use Rattle.std.proofs.lemmas.Str.{chars-append, IsUtf8-string_bytes}
 use Rattle.html_lexemes.proofs.text.Text.push_str.Goals as goal
 
