@@ -4,6 +4,7 @@ use Rattle.name_sets.specs.ElementSets.{button_scope_barriers, headings, implied
 use Rattle.name_sets.specs.ElementSets.{scope_barriers, table_body_context, table_cells, table_context}
 use Rattle.name_sets.specs.ElementSets.{table_row_context, table_scope_barriers, table_sections}
 use Rattle.name_sets.specs.Sets.{Elements, html_elements, is_element_of}
+use Rattle.name_sets.specs.TagSets.{definitions}
 use Rattle.html_lexemes.specs.declared.names.QualName.{QualName}
 use Rattle.name_sets.specs.declared.wanted.ElementSet.{ElementSet}
 use Rattle.name_sets.specs.declared.wanted.ElementSet.TheVariants as sets
@@ -20,8 +21,7 @@ elements_of sets.Body = one (codes "body")
 elements_of sets.Button = one (codes "button")
 elements_of sets.Caption = one (codes "caption")
 elements_of sets.ColumnGroup = one (codes "colgroup")
-elements_of sets.DefinitionDescription = one (codes "dd")
-elements_of sets.DefinitionTerm = one (codes "dt")
+elements_of sets.Definition = html_elements definitions
 elements_of sets.Form = one (codes "form")
 elements_of sets.Heading = headings
 elements_of sets.Html = one (codes "html")

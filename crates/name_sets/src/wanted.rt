@@ -8,7 +8,7 @@ use crate::element_sets::{
     is_scope_barrier, is_table_body_context, is_table_cell, is_table_context, is_table_row_context,
     is_table_scope_barrier, is_table_section,
 };
-use crate::sets::is_html;
+use crate::sets::{is_html, is_html_one_of};
 use html_lexemes::{LocalName, Namespace, QualName};
 
 /// Up to where an element counts as open (WHATWG HTML, 13.2.4.2).
@@ -47,8 +47,8 @@ pub enum ElementSet<'a> {
     Button,
     Caption,
     ColumnGroup,
-    DefinitionDescription,
-    DefinitionTerm,
+    /// `dd` and `dt`.
+    Definition,
     Form,
     /// `h1` to `h6`.
     Heading,
@@ -89,8 +89,7 @@ impl ElementSet<'_> {
             ElementSet::Button => is_html(name, "button"),
             ElementSet::Caption => is_html(name, "caption"),
             ElementSet::ColumnGroup => is_html(name, "colgroup"),
-            ElementSet::DefinitionDescription => is_html(name, "dd"),
-            ElementSet::DefinitionTerm => is_html(name, "dt"),
+            ElementSet::Definition => is_html_one_of(name, &["dd", "dt"]),
             ElementSet::Form => is_html(name, "form"),
             ElementSet::Heading => is_heading(name),
             ElementSet::Html => is_html(name, "html"),
