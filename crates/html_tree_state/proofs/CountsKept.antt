@@ -1,8 +1,8 @@
 -- What is inserted, moved or taken out leaves the counts of open elements right: each open element keeps its name.
 use Rattle.std.proofs.Common.{◌≡◌, ℕ, Bool, ap, ◌∙◌, List}
 use Rattle.html_forest.specs.Changes.{detached, made, made_element, with_attributes}
-use Rattle.html_forest.specs.Forest.{Forest, IsElement, comment, element_of, kind_at, nodes}
-use Rattle.html_forest.specs.Places.{Place, put, put_node, words}
+use Rattle.html_forest.specs.Forest.{Forest, IsElement, comment, doctype, element_of, kind_at, nodes}
+use Rattle.html_forest.specs.Places.{Place, below, put, put_node, with_doctype, words}
 use Rattle.html_lexemes.specs.declared.names.Attribute.{Attribute}
 use Rattle.html_lexemes.specs.declared.names.QualName.{QualName}
 use Rattle.html_tree_state.specs.Building.{Building, are_counted}
@@ -23,6 +23,15 @@ module _ (laws : Laws) (counts : List ℕ) (b : Building) (sound : Sound b) wher
       let g = made_element name attributes t p b.forest in
       kept_by (put_node place (nodes b.forest) g) (λ n is. laws.put_stays place (nodes b.forest) n g
       ∙ laws.element_stays name attributes t p n b.forest (laws.element_there n b.forest is))
+
+  pub doctype_kept : (name public_id system_id : List ℕ) →
+      are_counted counts b.stack (with_doctype name public_id system_id b.forest)
+      ≡ are_counted counts b.stack b.forest
+  doctype_kept name public_id system_id =
+      let kind = doctype name public_id system_id in
+      kept_by (with_doctype name public_id system_id b.forest)
+      (λ n is. laws.put_stays (below 0) (nodes b.forest) n (made kind b.forest)
+      ∙ laws.leaf_stays kind n b.forest (laws.element_there n b.forest is))
 
   pub comment_kept : (place : Place) (cs : List ℕ) →
       are_counted counts b.stack (put_node place (nodes b.forest) (made (comment cs) b.forest))

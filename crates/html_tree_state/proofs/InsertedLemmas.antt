@@ -1,18 +1,20 @@
 -- What is inserted keeps a tree that is being built sound.
 use Rattle.std.proofs.Common.{◌≡◌, ℕ, ◌<◌, Bool, true, false, inl, inr, refl, sym, ap, subst, ◌∙◌, List}
-use Rattle.std.proofs.Common.{◌+◌, None, Some, arith, codes}
+use Rattle.std.proofs.Common.{◌+◌, [], Option, None, Some, arith, codes}
+use Rattle.std.specs.Option.{unwrap_or}
 use Rattle.html_forest.specs.Changes.{contents_number, made, made_element, with_attributes}
 use Rattle.html_forest.specs.Conditions.{CanPut, IsPlace}
-use Rattle.html_forest.specs.Forest.{Forest, Holds, IsElement, IsElementKind, Kind, comment, document}
+use Rattle.html_forest.specs.Forest.{Forest, Holds, IsElement, IsElementKind, Kind, comment, doctype, document}
 use Rattle.html_forest.specs.Forest.{element, element_of, kind_at, nodes}
 use Rattle.html_forest.specs.Orders.{Above, AtOrAbove, IsForest, IsIn, IsParent}
-use Rattle.html_forest.specs.Places.{Place, node, put, put_node, words}
+use Rattle.html_forest.specs.Places.{Place, below, node, put, put_node, with_doctype, words}
 use Rattle.name_sets.specs.Sets.{is_html}
 use Rattle.html_lexemes.specs.declared.names.Attribute.{Attribute}
 use Rattle.html_lexemes.specs.declared.names.QualName.{QualName}
+use Rattle.html_lexemes.specs.declared.token.Doctype.{Doctype}
 use Rattle.html_tree_state.specs.Building.{Building}
-use Rattle.html_tree_state.specs.Insertions.{commented_at, here, inserted_at, inserted_by, said}
-use Rattle.html_tree_state.specs.Insertions.{with_attributes_of, with_element}
+use Rattle.html_tree_state.specs.Insertions.{commented_at, here, inserted_at, inserted_by, said, text_or_none}
+use Rattle.html_tree_state.specs.Insertions.{with_attributes_of, with_doctype_of, with_element}
 use Rattle.html_tree_state.specs.Laws.{Laws}
 use Rattle.html_tree_state.specs.Points.{place_of}
 use Rattle.html_tree_state.specs.Sound.{Sound}
@@ -214,3 +216,29 @@ attributed_sound laws n attributes b sound =
       contents = λ m is. laws.attribute_contents n m attributes b.forest;
       paths = λ a m i j. laws.above_attributes n attributes a m b.forest;
     })
+
+-- a doctype
+no_doctype_document : (name public_id system_id : List ℕ) → ¬ (doctype name public_id system_id ≡ document)
+no_doctype_document name public_id system_id e = absurd (cc)
+
+pub doctyped_sound : (laws : Laws) (d : Doctype) (b : Building) → Sound b → Sound (with_doctype_of d b)
+doctyped_sound laws d b sound =
+    let kind = doctype (text_or_none d.name) (text_or_none d.public_id) (text_or_none d.system_id) in
+    put_sound laws (below 0) b (made kind b.forest) sound
+    (new_leaf laws (below 0) kind b.forest sound.forest sound.forest.page.0 refl (no_doctype_document _ _ _))
+
+-- what it doesn't name is empty
+given_or_none : (o : Option (List ℕ)) (text none : List ℕ) → text ≡ unwrap_or o none → none ≡ [] →
+    text ≡ text_or_none o
+given_or_none None text none is empty = is ∙ empty
+given_or_none (Some cs) text none is empty = is
+
+pub doctype_is : (d : Doctype) (n p s x y z : List ℕ) (f : Forest) → n ≡ unwrap_or d.name x →
+    p ≡ unwrap_or d.public_id y → s ≡ unwrap_or d.system_id z → x ≡ [] → y ≡ [] → z ≡ [] →
+    with_doctype n p s f
+    ≡ with_doctype (text_or_none d.name) (text_or_none d.public_id) (text_or_none d.system_id) f
+doctype_is d n p s x y z f n_is p_is s_is x_is y_is z_is =
+    ap (λ t. with_doctype t p s f) (given_or_none d.name n x n_is x_is)
+    ∙ ap (λ t. with_doctype (text_or_none d.name) t s f) (given_or_none d.public_id p y p_is y_is)
+    ∙ ap (λ t. with_doctype (text_or_none d.name) (text_or_none d.public_id) t f)
+    (given_or_none d.system_id s z s_is z_is)

@@ -6,6 +6,10 @@ pub mod CountsKept
 pub mod FosterLemmas
 pub mod GrownLemmas
 pub mod InsertedLemmas
+pub mod KeptAdoption
+pub mod KeptLemmas
+pub mod KeptSizes
+pub mod KeptWords
 pub mod ListedAfter
 pub mod ListedLemmas
 pub mod MadeAnewLemmas

@@ -37,7 +37,7 @@ made_cut later earlier index b cut counted =
     (drop-append_seam later earlier)
 
 -- which are to be made
-made_and_kept : (stack : List ℕ) (es : List Entry) → es ≡ to_make stack es ++ made_already stack es
+pub made_and_kept : (stack : List ℕ) (es : List Entry) → es ≡ to_make stack es ++ made_already stack es
 made_and_kept stack [] = refl
 made_and_kept stack (e ∷ es) = step (is_kept stack e) (made_and_kept stack es) where
   step : (t : Bool) → es ≡ to_make stack es ++ made_already stack es →

@@ -94,10 +94,10 @@ pub record IsLeft (ms ns : List ℕ) : Type 0 where
   pub within : (a : ℕ) → IsIn a ms → IsIn a ns
   pub nearer : (a b : ℕ) → IsNearer a b ms → IsNearer a b ns
 
-all_left : (ns : List ℕ) → IsLeft ns ns
+pub all_left : (ns : List ℕ) → IsLeft ns ns
 all_left ns = record { within = λ a i. i; nearer = λ a b h. h }
 
-left_behind : (n : ℕ) (ms ns : List ℕ) → IsLeft ms ns → IsLeft ms (n ∷ ns)
+pub left_behind : (n : ℕ) (ms ns : List ℕ) → IsLeft ms ns → IsLeft ms (n ∷ ns)
 left_behind n ms ns left = record { within = λ a i. inr (left.within a i); nearer = λ a b h. inr (left.nearer a b h) }
 
 left_with : (n : ℕ) (ms ns : List ℕ) → IsLeft ms ns → IsLeft (n ∷ ms) (n ∷ ns)

@@ -2,11 +2,12 @@
 use Rattle.std.specs.Prelude.{ℕ, Bool, ◌&&◌, List, [], ◌∷◌, Option, None, Some, codes, if◌then◌else◌}
 use Rattle.html_forest.specs.Changes.{made, made_element, with_attributes}
 use Rattle.html_forest.specs.Forest.{Forest, comment, contents_of, name_of, nodes}
-use Rattle.html_forest.specs.Places.{Place, based_on, below, put, put_node, words}
+use Rattle.html_forest.specs.Places.{Place, based_on, below, put, put_node, with_doctype, words}
 use Rattle.name_sets.specs.ElementSets.{foster_targets}
 use Rattle.name_sets.specs.Sets.{is_element_of, is_html}
 use Rattle.html_lexemes.specs.declared.names.Attribute.{Attribute}
 use Rattle.html_lexemes.specs.declared.names.QualName.{QualName}
+use Rattle.html_lexemes.specs.declared.token.Doctype.{Doctype}
 use Rattle.html_tree_state.specs.Building.{Building}
 use Rattle.html_tree_state.specs.declared.elements.PushFlag.{PushFlag}
 use Rattle.html_tree_state.specs.declared.elements.PushFlag.TheVariants.{NoPush, Push}
@@ -86,3 +87,14 @@ commented_at place cs b = record b { forest = put_node place (nodes b.forest) (m
 -- attributes that an element lacks are added
 abbrev pub with_attributes_of : ℕ → List Attribute → Building → Building
 with_attributes_of n attributes b = record b { forest = with_attributes n attributes b.forest }
+
+-- a doctype is put behind the children of the document; what it doesn't name is empty
+abbrev pub text_or_none : Option (List ℕ) → List ℕ
+text_or_none None = []
+text_or_none (Some cs) = cs
+
+abbrev pub with_doctype_of : Doctype → Building → Building
+with_doctype_of doctype b = record b {
+  forest = with_doctype (text_or_none doctype.name) (text_or_none doctype.public_id)
+      (text_or_none doctype.system_id) b.forest;
+}

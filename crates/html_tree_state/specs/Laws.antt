@@ -56,6 +56,7 @@ pub record Laws : Type 0 where
       name_of m (with_attributes n more f) ≡ name_of m f
   pub attribute_contents : (n m : ℕ) (more : List Attribute) (f : Forest) →
       contents_of m (with_attributes n more f) ≡ contents_of m f
+  pub attributes_size : (n : ℕ) (more : List Attribute) (f : Forest) → nodes (with_attributes n more f) ≡ nodes f
   pub made_leaf : (kind : Kind) (f : Forest) → kind_at (nodes f) (made kind f) ≡ kind
   pub size_leaf : (kind : Kind) (f : Forest) → nodes (made kind f) ≡ suc (nodes f)
   pub out_keeps : (n : ℕ) (f : Forest) → IsForest f → IsForest (detached n f)

@@ -13,3 +13,4 @@ pub mod Points
 pub mod Scopes
 pub mod Sound
 pub mod Walks
+pub mod Words

@@ -22,7 +22,7 @@ impl<S: TreeSink> Construction<S> {
     }
 
     /// Whether an element is in scope: it stands before the first barrier, or is that barrier.
-    pub(crate) fn is_element_in_scope(&self, element: S::Handle) -> bool
+    pub fn is_element_in_scope(&self, element: S::Handle) -> bool
         requires { Sound (seen S.number S.forest S.quirks self.now.held self.now.sink) }
         ensures { result ≡ is_in (S.number element) (up_to scope_barriers (S.forest self.now.sink)
             (seen S.number S.forest S.quirks self.now.held self.now.sink).stack) }

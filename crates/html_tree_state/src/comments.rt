@@ -6,7 +6,7 @@ ghost use Rattle.html_forest.specs.Orders.{IsForest};
 ghost use Rattle.html_forest.specs.Places.{below};
 ghost use Rattle.html_lexemes.specs.declared.fault.ParseFault.TheVariants.{Memory};
 ghost use Rattle.html_tree_state.specs.Building.{seen};
-ghost use Rattle.html_tree_state.specs.Insertions.{commented_at, here, root_of, with_attributes_of};
+ghost use Rattle.html_tree_state.specs.Insertions.{commented_at, here, root_of, with_attributes_of, with_doctype_of};
 ghost use Rattle.html_tree_state.specs.Points.{place_of};
 ghost use Rattle.html_tree_state.specs.Sound.{Sound};
 
@@ -15,7 +15,7 @@ use crate::held::first_element;
 use crate::insertion::InsertionPoint;
 use crate::laws::laws_of_forests;
 use html_forest::{NodeOrText, QuirksMode, TreeSink};
-use html_lexemes::{Attributes, ParseFault, Text};
+use html_lexemes::{Attributes, Doctype, ParseFault, Text};
 
 impl<S: TreeSink> Construction<S> {
     /// Inserts a comment at the appropriate place ("insert a comment").
@@ -57,6 +57,25 @@ impl<S: TreeSink> Construction<S> {
     {
         let point = self.root_point();
         self.append_comment_at(point, text)
+    }
+
+    /// Puts a doctype behind the children of the document. What it doesn't name is the empty text.
+    pub fn append_doctype_to_document(&mut self, doctype: Doctype) -> Result<(), ParseFault>
+        requires { Sound (seen S.number S.forest S.quirks self.old.held self.old.sink) }
+        ensures seen { OnOk result (seen S.number S.forest S.quirks self.new.held self.new.sink
+            ≡ with_doctype_of doctype (seen S.number S.forest S.quirks self.old.held self.old.sink)) }
+        ensures sound { OnOk result (Sound (seen S.number S.forest S.quirks self.new.held self.new.sink)) }
+        ensures forest { IsForest (S.forest self.new.sink) }
+        ensures memory { IfErr result (λ e. e ≡ Memory) }
+    {
+        laws_of_forests();
+        let alloc = *self.held.open_elements.allocator();
+        let name = doctype.name.unwrap_or(Text::from(String::new(alloc)));
+        let public_id = doctype.public_id.unwrap_or(Text::from(String::new(alloc)));
+        let system_id = doctype.system_id.unwrap_or(Text::from(String::new(alloc)));
+        self.sink
+            .append_doctype_to_document(name, public_id, system_id)?;
+        Ok(())
     }
 
     // behind the children of the root, or of the document

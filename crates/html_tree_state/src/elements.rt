@@ -48,8 +48,9 @@ impl<S: TreeSink> Construction<S> {
         self.insert_element_at(point, push, name, attrs)
     }
 
-    // inserts an element at a place
-    fn insert_element_at(
+    /// Inserts an element at a place, which may be another than the appropriate one. Its number is that of the next
+    /// node; where it is pushed, it becomes the current node.
+    pub fn insert_element_at(
         &mut self,
         point: InsertionPoint<S::Handle>,
         push: PushFlag,

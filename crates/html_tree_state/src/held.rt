@@ -25,7 +25,7 @@ use std::marker::Model;
 /// elements, and whether foster parenting is on; and how many elements of each name are open.
 #[derive(Drop)]
 pub struct Held<H> {
-    open_elements: Vec<H>,
+    pub(crate) open_elements: Vec<H>,
     formatting: FormattingList<H>,
     is_fostering: bool,
     counts: OpenCounts,

@@ -1,5 +1,6 @@
-//! The laws of forests that the words of this crate stand on, together.
+//! The laws of forests that the words of this crate stand on, together; and what these words keep.
 ghost use Rattle.html_tree_state.specs.Laws.{Laws};
+ghost use Rattle.html_tree_state.specs.Words.{Words};
 
 use formatting_list::at_most_three_are_alike;
 use html_forest::{
@@ -25,4 +26,11 @@ pub(crate) fn laws_of_forests()
     what_stands_above_what();
     elements_stay();
     what_was_not_named_stays();
+}
+
+/// Each word of tree construction keeps a sound tree sound, and takes no node away.
+pub fn words_keep_a_tree_sound()
+    ensures { Words }
+{
+    laws_of_forests();
 }

@@ -26,6 +26,7 @@ pub use formatting_list::{ActiveFormattingIter, FormatEntry, FormattingList};
 pub use held::Held;
 pub use html_forest;
 pub use insertion::InsertionPoint;
+pub use laws::words_keep_a_tree_sound;
 pub use name_sets::{ElementSet, Scope};
 pub use resetting::html_elem;
 pub use tree_words;

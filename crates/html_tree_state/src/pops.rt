@@ -4,14 +4,15 @@ ghost use Rattle.html_forest.specs.Orders.{IsForest};
 ghost use Rattle.html_lexemes.specs.declared.fault.ParseFault.TheVariants.{Memory};
 ghost use Rattle.html_tree_state.specs.Building.{seen};
 ghost use Rattle.html_tree_state.specs.OpenElements.{first_of};
-ghost use Rattle.html_tree_state.specs.Scopes.{implied, popped, popped_down_to, popped_to};
+ghost use Rattle.html_tree_state.specs.Scopes.{has_item as is_item_open, implied, popped, popped_down_to, popped_to};
+ghost use Rattle.html_tree_state.specs.Scopes.{with_closed_item};
 ghost use Rattle.name_sets.specs.Wanted.{elements_of};
 ghost use Rattle.html_tree_state.specs.Sound.{Sound};
 
 use crate::construction::Construction;
 use html_forest::TreeSink;
 use html_lexemes::ParseFault;
-use name_sets::ElementSet;
+use name_sets::{ElementSet, is_address_div_or_p, is_special};
 
 impl<S: TreeSink> Construction<S> {
     /// The current node, where an element is open.
@@ -93,5 +94,42 @@ impl<S: TreeSink> Construction<S> {
             self.pop()?;
         }
         Ok(())
+    }
+
+    /// Closes the list item or the definition of a set that stands before any special element but `address`, `div` and
+    /// `p`, where there is one (WHATWG HTML, 13.2.6.4.7, start tags "li", "dd" and "dt").
+    pub fn close_item(&mut self, set: ElementSet<'_>) -> Result<(), ParseFault>
+        requires { Sound (seen S.number S.forest S.quirks self.old.held self.old.sink) }
+        ensures seen { OnOk result (seen S.number S.forest S.quirks self.new.held self.new.sink
+            ≡ with_closed_item (elements_of set.entry) (seen S.number S.forest S.quirks self.old.held self.old.sink)) }
+        ensures sound { OnOk result (Sound (seen S.number S.forest S.quirks self.new.held self.new.sink)) }
+        ensures forest { IsForest (S.forest self.new.sink) }
+        ensures memory { IfErr result (λ e. e ≡ Memory) }
+    {
+        if self.has_item(set) {
+            self.generate_implied_end_tags(set)?;
+            self.pop_to(set)?;
+        }
+        Ok(())
+    }
+
+    // whether an element of a set stands before any special element but those three
+    fn has_item(&self, set: ElementSet<'_>) -> bool
+        requires { Sound (seen S.number S.forest S.quirks self.now.held self.now.sink) }
+        ensures { result ≡ is_item_open (elements_of set.entry) (S.forest self.now.sink)
+            (seen S.number S.forest S.quirks self.now.held self.now.sink).stack }
+    {
+        let mut open = self.held.open_elements();
+        while let Some((element, lower)) = open.split_last() {
+            let name = self.sink.elem_name(*element);
+            if set.contains(name) {
+                return true;
+            }
+            if is_special(name) && !is_address_div_or_p(name) {
+                return false;
+            }
+            open = lower;
+        }
+        false
     }
 }

@@ -24,6 +24,7 @@ returns c = record {
   attribute_names = c.elements_stay.ensures.attribute_names;
   attribute_contents = c.elements_stay.ensures.attribute_contents;
   size_leaf = c.how_many_nodes_there_are.ensures.made;
+  attributes_size = c.how_many_nodes_there_are.ensures.attributes;
   made_leaf = c.what_was_made_may_be_put.ensures.kind;
   out_keeps = c.taking_out_keeps_a_forest.ensures.forest;
   out_free = c.taking_out_keeps_a_forest.ensures.free;

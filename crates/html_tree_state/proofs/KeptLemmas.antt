@@ -1,0 +1,163 @@
+-- What is popped, inserted or listed keeps a sound tree sound, and no node goes.
+use Rattle.std.proofs.Common.{◌≡◌, ℕ, ◌≤◌, Bool, true, false, inl, inr, refl, arith, if◌then◌else◌, List, [], ◌∷◌, codes}
+use Rattle.std.proofs.Common.{Option, None, Some}
+use Rattle.std.proofs.lemmas.Bool.{cond_both}
+use Rattle.html_forest.specs.Forest.{Forest, Holds, comment, doctype, name_of, nodes}
+use Rattle.html_forest.specs.Conditions.{IsPlace}
+use Rattle.html_forest.specs.Orders.{IsForest, IsIn}
+use Rattle.html_forest.specs.Places.{Place, below}
+use Rattle.html_lexemes.specs.declared.names.Attribute.{Attribute}
+use Rattle.html_lexemes.specs.declared.names.QualName.{QualName}
+use Rattle.html_lexemes.specs.declared.token.Doctype.{Doctype}
+use Rattle.html_lexemes.specs.declared.token.Tag.{Tag}
+use Rattle.html_tree_state.specs.Adoption.{closed_by_other_end, closed_with, named_before_special, popped_with}
+use Rattle.html_tree_state.specs.Building.{Building}
+use Rattle.html_tree_state.specs.Formatting.{inserted_for, inserted_formatting, name_for}
+use Rattle.html_tree_state.specs.Insertions.{commented_at, here, inserted_at, root_of, said, with_doctype_of}
+use Rattle.html_tree_state.specs.Insertions.{with_element}
+use Rattle.html_tree_state.specs.Laws.{Laws}
+use Rattle.html_tree_state.specs.OpenElements.{below_first, from_first}
+use Rattle.html_tree_state.specs.Scopes.{has_item, implied, is_in_scope, popped_down_to, popped_to, with_closed_item}
+use Rattle.html_tree_state.specs.Scopes.{with_closed_p, without_implied}
+use Rattle.html_tree_state.specs.Sound.{Sound}
+use Rattle.html_tree_state.specs.Words.{IsKept, Keeps}
+use Rattle.html_tree_state.proofs.AdoptionLemmas.{left_sound, popped_with_sound}
+use Rattle.html_tree_state.proofs.InsertedLemmas.{commented_sound, doctyped_sound, inserted_sound, said_sound}
+use Rattle.html_tree_state.proofs.InsertedLemmas.{with_element_sound}
+use Rattle.html_tree_state.proofs.KeptSizes.{element_grows, no_fewer, put_grows, put_leaf_grows, words_grow}
+use Rattle.html_tree_state.proofs.ListedLemmas.{inserted_formatting_sound}
+use Rattle.html_tree_state.proofs.NearerLemmas.{IsLeft, all_left, left_behind}
+use Rattle.name_sets.specs.ElementSets.{button_scope_barriers}
+use Rattle.name_sets.specs.Sets.{Elements, is_element_of, is_one_of}
+use Rattle.name_sets.specs.TagSets.{formatting}
+use Rattle.name_sets.specs.Wanted.{is_implied, one}
+
+-- two steps, one of two, and none
+pub kept_on : (a b c : Building) → IsKept a b → IsKept b c → IsKept a c
+kept_on a b c one two = record { sound = two.sound; size = no_fewer a.forest b.forest c.forest one.size two.size }
+
+pub kept_itself : Keeps (λ b. b)
+kept_itself b sound = record { sound = sound; size = omega arith }
+
+pub kept_if : (t : Bool) (b x y : Building) → IsKept b x → IsKept b y → IsKept b (if t then x else y)
+kept_if true b x y h k = h
+kept_if false b x y h k = k
+
+-- the nodes stay
+pub kept_nodes : (b c : Building) → nodes c.forest ≡ nodes b.forest → Sound c → IsKept b c
+kept_nodes b c same sound = record { sound = sound; size = omega (arith, same) }
+
+-- elements are popped
+kept_left : (b : Building) (ns : List ℕ) → Sound b → IsLeft ns b.stack → IsKept b (record b { stack = ns })
+kept_left b ns sound left = kept_nodes b _ refl (left_sound b ns sound left)
+
+implied_left : (except : Elements) (f : Forest) (ns : List ℕ) → IsLeft (without_implied except f ns) ns
+implied_left except f [] = all_left []
+implied_left except f (n ∷ ns) = cond_both (is_implied except (name_of n f)) (without_implied except f ns) (n ∷ ns)
+    (λ l. IsLeft l (n ∷ ns)) (λ e. left_behind n (without_implied except f ns) ns (implied_left except f ns))
+    (λ e. all_left (n ∷ ns))
+
+below_left : (set : Elements) (f : Forest) (ns : List ℕ) → IsLeft (below_first set f ns) ns
+below_left set f [] = all_left []
+below_left set f (n ∷ ns) = cond_both (is_element_of set (name_of n f)) ns (below_first set f ns)
+    (λ l. IsLeft l (n ∷ ns)) (λ e. left_behind n ns ns (all_left ns))
+    (λ e. left_behind n (below_first set f ns) ns (below_left set f ns))
+
+from_left : (set : Elements) (f : Forest) (ns : List ℕ) → IsLeft (from_first set f ns) ns
+from_left set f [] = all_left []
+from_left set f (n ∷ ns) = cond_both (is_element_of set (name_of n f)) (n ∷ ns) (from_first set f ns)
+    (λ l. IsLeft l (n ∷ ns)) (λ e. all_left (n ∷ ns))
+    (λ e. left_behind n (from_first set f ns) ns (from_left set f ns))
+
+pub implied_kept : (except : Elements) → Keeps (implied except)
+implied_kept except b sound = kept_left b _ sound (implied_left except b.forest b.stack)
+
+pub popped_to_kept : (set : Elements) → Keeps (popped_to set)
+popped_to_kept set b sound = kept_left b _ sound (below_left set b.forest b.stack)
+
+pub popped_down_kept : (set : Elements) → Keeps (popped_down_to set)
+popped_down_kept set b sound = kept_left b _ sound (from_left set b.forest b.stack)
+
+closed_kept : (set : Elements) → Keeps (λ b. popped_to set (implied set b))
+closed_kept set b sound =
+    let first = implied_kept set b sound in
+    kept_on b (implied set b) (popped_to set (implied set b)) first (popped_to_kept set (implied set b) first.sound)
+
+pub closed_p_kept : Keeps with_closed_p
+closed_p_kept b sound =
+    let p = one (codes "p") in
+    kept_if (is_in_scope button_scope_barriers p b) b (popped_to p (implied p b)) b (closed_kept p b sound)
+    (kept_itself b sound)
+
+pub closed_item_kept : (set : Elements) → Keeps (with_closed_item set)
+closed_item_kept set b sound =
+    kept_if (has_item set b.forest b.stack) b (popped_to set (implied set b)) b (closed_kept set b sound)
+    (kept_itself b sound)
+
+other_end_kept : (found : Option ℕ) (name : List ℕ) → Keeps (closed_with found name)
+other_end_kept None name b sound = kept_itself b sound
+other_end_kept (Some n) name b sound =
+    let first = implied_kept (one name) b sound in
+    kept_on b (implied (one name) b) (popped_with n (implied (one name) b)) first
+    (kept_nodes (implied (one name) b) _ refl (popped_with_sound n (implied (one name) b) first.sound))
+
+pub closed_other_kept : (name : List ℕ) → Keeps (closed_by_other_end name)
+closed_other_kept name b sound = other_end_kept (named_before_special name b.forest b.stack) name b sound
+
+-- what is inserted
+root_there : (f : Forest) (ns : List ℕ) → IsForest f → ((n : ℕ) → IsIn n ns → Holds n f) → Holds (root_of ns) f
+root_there f [] forest held = forest.page.0
+root_there f (n ∷ []) forest held = held n (inl refl)
+root_there f (n ∷ m ∷ ns) forest held = root_there f (m ∷ ns) forest (λ k i. held k (inr i))
+
+module _ (laws : Laws) where
+  element_size : (place : Place) (name : QualName) (attributes : List Attribute) (b : Building) →
+      nodes b.forest ≤ nodes (with_element place name attributes b).forest
+  element_size place name attributes b =
+      put_grows laws place (nodes b.forest) b.forest _ (element_grows laws name attributes _ _ b.forest)
+
+  pub inserted_kept : (place : Place) (name : QualName) (attributes : List Attribute) (b : Building) → Sound b →
+      IsPlace place b.forest → IsKept b (inserted_at place name attributes b)
+  inserted_kept place name attributes b sound there = record {
+    sound = inserted_sound laws place name attributes b sound there;
+    size = element_size place name attributes b;
+  }
+
+  pub with_element_kept : (place : Place) (name : QualName) (attributes : List Attribute) (b : Building) → Sound b →
+      IsPlace place b.forest → IsKept b (with_element place name attributes b)
+  with_element_kept place name attributes b sound there = record {
+    sound = with_element_sound laws place name attributes b sound there;
+    size = element_size place name attributes b;
+  }
+
+  pub inserted_for_size : (tag : Tag) (b : Building) → nodes b.forest ≤ nodes (inserted_for tag b).forest
+  inserted_for_size tag b = element_size (here b) (name_for tag) tag.attrs b
+
+  pub formatting_kept : (tag : Tag) → is_one_of formatting tag.name ≡ true → Keeps (inserted_formatting tag)
+  formatting_kept tag is b sound = record {
+    sound = inserted_formatting_sound laws tag b sound is;
+    size = inserted_for_size tag b;
+  }
+
+  pub said_kept : (cs : List ℕ) → Keeps (said cs)
+  said_kept cs b sound = record {
+    sound = said_sound laws cs b sound;
+    size = words_grow laws (here b) cs b.forest;
+  }
+
+  pub commented_kept : (place : Place) (cs : List ℕ) (b : Building) → Sound b → IsPlace place b.forest →
+      IsKept b (commented_at place cs b)
+  commented_kept place cs b sound there = record {
+    sound = commented_sound laws place cs b sound there;
+    size = put_leaf_grows laws place (comment cs) b.forest;
+  }
+
+  pub root_place : (b : Building) → Sound b → IsPlace (below (root_of b.stack)) b.forest
+  root_place b sound = root_there b.forest b.stack sound.forest
+      (λ n i. laws.element_there n b.forest (sound.elements n i))
+
+  pub doctyped_kept : (d : Doctype) → Keeps (with_doctype_of d)
+  doctyped_kept d b sound = record {
+    sound = doctyped_sound laws d b sound;
+    size = put_leaf_grows laws (below 0) (doctype _ _ _) b.forest;
+  }

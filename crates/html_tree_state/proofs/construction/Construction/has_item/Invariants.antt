@@ -1,0 +1,19 @@
+use Rattle.std.proofs.Common.{◌≡◌, length}
+use Rattle.html_tree_state.specs.Building.{seen, stack_of}
+use Rattle.html_tree_state.specs.Scopes.{has_item}
+use Rattle.name_sets.specs.Wanted.{elements_of}
+use Rattle.html_tree_state.proofs.Stacks.{AreElements}
+use Rattle.html_tree_state.proofs.construction.Construction.has_item.Given as goal
+
+abbrev pub invariant-loop-element : goal.invariant-loop-element
+invariant-loop-element g l =
+    let tree = g.S.TreeSink in
+    let f = tree.forest l.self.sink in
+    record {
+      elements : AreElements f (stack_of tree.number l.open);
+      same : has_item (elements_of l.set) f (seen tree.number tree.forest tree.quirks l.self.held l.self.sink).stack
+          ≡ has_item (elements_of l.set) f (stack_of tree.number l.open);
+    }
+
+abbrev pub decreases-loop-element : goal.decreases-loop-element
+decreases-loop-element g l = length l.open
