@@ -1,15 +1,16 @@
 -- Counts of names, one by one.
 use Rattle.std.proofs.Common.{◌≡◌, ℕ, Bool, ◌+◌, ◌-◌, ◌<◌, ◌≤◌, slice_index_or, slice_set, refl, ◌||◌, true, false}
 use Rattle.std.proofs.Common.{if◌then◌else◌, IsTrue, List, [], ◌∷◌, ◌++◌, length, drop, IsUtf8, chars, bytes_eq, sym}
-use Rattle.std.proofs.Common.{ap, subst, ◌∙◌, arith, zero, suc, length-drop}
+use Rattle.std.proofs.Common.{ap, subst, ◌∙◌, arith, zero, suc, length-drop, ◌==◌, ◌&&◌}
 use Rattle.std.specs.Borrow.{Bor}
-use Rattle.std.proofs.lemmas.Bool.{and_parts, or_parts}
+use Rattle.std.proofs.lemmas.Bool.{and_parts, eqb-false, eqb-true, false≢true, or_parts}
 use Rattle.std.proofs.lemmas.List.{drop_more, nil_from_length}
 use Rattle.html_lexemes.specs.declared.names.QualName.{QualName}
 use Rattle.html_lexemes.specs.declared.names.Namespace.{Namespace}
 use Rattle.html_lexemes.specs.declared.names.Namespace.TheVariants.{Html, MathMl, Svg, Other}
 use Rattle.std.proofs.lemmas.Slice.Eq.{bytes_eq-Decides}
-use Rattle.name_sets.specs.Counts.{count_in, count_of, counted_names, counts_of, has_one, one_more, words_before, zeros}
+use Rattle.name_sets.specs.Counts.{count_in, count_of, counted_names, counts_of, has_counts, has_one, one_more}
+use Rattle.name_sets.specs.Counts.{words_before, zeros}
 use Rattle.name_sets.specs.Sets.{are_ascii, html_elements, is_ascii_word, is_element_of, is_one_of, words_in, words_of}
 use Rattle.name_sets.specs.Wanted.{one}
 use Rattle.std.proofs.lemmas.Str.{chars-IsAscii}
@@ -264,3 +265,122 @@ none_left words i names h =
     ap (λ l. has_one (html_elements (words_of l)) names)
     (nil_from_length (drop i words) (omega (arith, length-drop i words)))
     ∙ none_of_none names
+
+-- a word that has a count of its own
+same_first : (w word local : List ℕ) (ws : List (List ℕ)) (a b : Bool) → bytes_eq word w ≡ a → bytes_eq local w ≡ b →
+    (is_one_of ws word ≡ true → words_before ws local ≡ words_before ws word → local ≡ word) →
+    (a || is_one_of ws word) ≡ true →
+    (if b then 0 else suc (words_before ws local)) ≡ (if a then 0 else suc (words_before ws word)) → local ≡ word
+same_first w word local ws true true e k more there same =
+    (bytes_eq-Decides local w).0 k ∙ sym ((bytes_eq-Decides word w).0 e)
+same_first w word local ws true false e k more there same = absurd (omega (arith, same))
+same_first w word local ws false true e k more there same = absurd (omega (arith, same))
+same_first w word local ws false false e k more there same = more there (omega (arith, same))
+
+same_place : (words : List (List ℕ)) (word local : List ℕ) → is_one_of words word ≡ true →
+    words_before words local ≡ words_before words word → local ≡ word
+same_place [] word local there same = absurd (false≢true there)
+same_place (w ∷ ws) word local there same = same_first w word local ws (bytes_eq word w) (bytes_eq local w) refl refl
+    (same_place ws word local) there same
+
+within_first : (a : Bool) (ws : List (List ℕ)) (word : List ℕ) →
+    (is_one_of ws word ≡ true → words_before ws word < length ws) → (a || is_one_of ws word) ≡ true →
+    (if a then 0 else suc (words_before ws word)) < suc (length ws)
+within_first true ws word more there = omega arith
+within_first false ws word more there = omega (arith, more there)
+
+found_within : (words : List (List ℕ)) (word : List ℕ) → is_one_of words word ≡ true →
+    words_before words word < length words
+found_within [] word there = absurd (false≢true there)
+found_within (w ∷ ws) word there = within_first (bytes_eq word w) ws word (found_within ws word) there
+
+more_elsewhere : (j k : ℕ) (cs : List ℕ) → ¬ (j ≡ k) → slice_index_or (one_more k cs) j 0 ≡ slice_index_or cs j 0
+more_elsewhere j k [] off = refl
+more_elsewhere zero zero (c ∷ cs) off = absurd (off refl)
+more_elsewhere zero (suc k) (c ∷ cs) off = refl
+more_elsewhere (suc j) zero (c ∷ cs) off = refl
+more_elsewhere (suc j) (suc k) (c ∷ cs) off = more_elsewhere j k cs (λ e. off (ap suc e))
+
+or_else : (a b : Bool) → b ≡ true → (a || b) ≡ true
+or_else true b e = refl
+or_else false b e = e
+
+module _ (word : List ℕ) (counted : is_one_of counted_names word ≡ true) where
+  -- an element that is counted with it has it for its name
+  named_so : (ns : Namespace) (local : List ℕ) → words_before counted_names word ≡ count_in ns local →
+      is_one_of (words_in (one word) ns) local ≡ true
+  named_so Html local e = ap (λ b. b || false)
+      ((bytes_eq-Decides local word).1 (same_place counted_names word local counted (sym e)))
+  named_so MathMl local e = absurd (omega (arith, e, found_within counted_names word counted))
+  named_so Svg local e = absurd (omega (arith, e, found_within counted_names word counted))
+  named_so (Other text) local e = absurd (omega (arith, e, found_within counted_names word counted))
+
+  some_by : (t : Bool) (name : QualName) (names : List QualName) →
+      (words_before counted_names word == count_of name) ≡ t →
+      (¬ (slice_index_or (counts_of names) (words_before counted_names word) 0 ≡ 0) → has_one (one word) names ≡ true) →
+      ¬ (slice_index_or (one_more (count_of name) (counts_of names)) (words_before counted_names word) 0 ≡ 0) →
+      (is_element_of (one word) name || has_one (one word) names) ≡ true
+  some_by true name names e more some = ap (λ b. b || has_one (one word) names)
+      (named_so name.ns name.local (eqb-true (words_before counted_names word) (count_of name) e))
+  some_by false name names e more some = or_else (is_element_of (one word) name) (has_one (one word) names)
+      (more (λ none. some (more_elsewhere (words_before counted_names word) (count_of name) (counts_of names)
+      (eqb-false (words_before counted_names word) (count_of name) e) ∙ none)))
+
+  -- where its count is not 0, an element of HTML has it for its name
+  pub some_counted : (names : List QualName) →
+      ¬ (slice_index_or (counts_of names) (words_before counted_names word) 0 ≡ 0) → has_one (one word) names ≡ true
+  some_counted [] some = absurd (some (zeros_at 61 (words_before counted_names word)))
+  some_counted (name ∷ names) some = some_by (words_before counted_names word == count_of name) name names refl
+      (some_counted names) some
+
+-- more words leave no element out
+module _ (word : List ℕ) (words : List (List ℕ)) where
+  named_still : (ns : Namespace) (local : List ℕ) → is_one_of (words_in (one word) ns) local ≡ true →
+      is_one_of (words_in (html_elements (word ∷ words)) ns) local ≡ true
+  named_still Html local is = first (bytes_eq local word) is where
+    first : (a : Bool) → (a || false) ≡ true → (a || is_one_of words local) ≡ true
+    first true e = refl
+    first false e = absurd (false≢true e)
+  named_still MathMl local is = is
+  named_still Svg local is = is
+  named_still (Other text) local is = is
+
+  one_by : (a b c d : Bool) → (a ≡ true → c ≡ true) → (b ≡ true → d ≡ true) → (a || b) ≡ true → (c || d) ≡ true
+  one_by true b c d f g is = ap (λ x. x || d) (f refl)
+  one_by false b c d f g is = or_else c d (g is)
+
+  one_among : (names : List QualName) → has_one (one word) names ≡ true →
+      has_one (html_elements (word ∷ words)) names ≡ true
+  one_among [] is = absurd (false≢true is)
+  one_among (name ∷ names) is = one_by (is_element_of (one word) name) (has_one (one word) names)
+      (is_element_of (html_elements (word ∷ words)) name) (has_one (html_elements (word ∷ words)) names)
+      (named_still name.ns name.local) (one_among names) is
+
+-- what is left of some words has counts as these have, and where one of its first is open, one of them is
+pub counts_left : (words : List (Bor (List ℕ))) (i : ℕ) (d : Bor (List ℕ)) → i < length words →
+    has_counts (html_elements (words_of (drop i words))) ≡ true →
+    has_counts (one (slice_index_or words i d).now) ≡ true
+    × (has_counts (html_elements (words_of (drop (i + 1) words))) ≡ true)
+counts_left words i d more h =
+    let word = (slice_index_or words i d).now in
+    let rest = words_of (drop (i + 1) words) in
+    let parts = and_parts (is_one_of counted_names word) (has_counts (html_elements rest))
+    (subst (λ l. has_counts (html_elements (words_of l)) ≡ true) (drop_more words i d more) h) in
+    (ap (λ b. b && true) parts.0, parts.1)
+
+pub one_left : (words : List (Bor (List ℕ))) (i : ℕ) (d : Bor (List ℕ)) (names : List QualName) → i < length words →
+    IsTrue (are_ascii (words_of (drop i words))) →
+    (has_counts (one (chars (slice_index_or words i d).now)) ≡ true →
+    has_one (one (chars (slice_index_or words i d).now)) names ≡ true) →
+    has_counts (html_elements (words_of (drop i words))) ≡ true →
+    has_one (html_elements (words_of (drop i words))) names ≡ true
+one_left words i d names more h is counts =
+    let split = drop_more words i d more in
+    let word = (slice_index_or words i d).now in
+    let ascii = ascii_word word (and_parts (is_ascii_word word) (are_ascii (words_of (drop (i + 1) words)))
+    (subst (λ l. IsTrue (are_ascii (words_of l))) split h)).0 in
+    let same = chars-IsAscii word ascii in
+    ap (λ l. has_one (html_elements (words_of l)) names) split
+    ∙ one_among word (words_of (drop (i + 1) words)) names
+    (subst (λ w. has_one (one w) names ≡ true) same
+    (is (subst (λ w. has_counts (one w) ≡ true) (sym same) (counts_left words i d more counts).0)))

@@ -1,16 +1,16 @@
 -- How many elements of each name are open (WHATWG HTML, 13.2.4.2): the names that tests of scope ask about have a count
 -- each, all others one together.
 use Rattle.std.specs.Prelude.{ℕ, Bool, false, List, [], ◌∷◌, ◌||◌, bytes_eq, codes, if◌then◌else◌, zero, suc}
+use Rattle.std.specs.List.{list_all}
 use Rattle.html_lexemes.specs.declared.names.Namespace.{Namespace}
 use Rattle.html_lexemes.specs.declared.names.Namespace.TheVariants.{Html, MathMl, Svg, Other}
 use Rattle.html_lexemes.specs.declared.names.QualName.{QualName}
-use Rattle.name_sets.specs.Sets.{Elements, is_element_of}
+use Rattle.name_sets.specs.Sets.{Elements, is_element_of, is_one_of}
 
 -- the names that tests of scope ask about (13.2.6.4.7 to 13.2.6.4.15), what is asked most often first
 abbrev pub counted_names : List (List ℕ)
-counted_names = codes "p" ∷ codes "div" ∷ codes "li" ∷ codes "ul" ∷ codes "a" ∷ codes "button" ∷ codes "table" ∷ codes
-    "td"
-    ∷ codes "th" ∷ codes "tr" ∷ codes "tbody" ∷ codes "thead" ∷ codes "tfoot" ∷ codes "caption" ∷ codes "template"
+counted_names = codes "p" ∷ codes "div" ∷ codes "li" ∷ codes "ul" ∷ codes "a" ∷ codes "button" ∷ codes "table"
+    ∷ codes "td" ∷ codes "th" ∷ codes "tr" ∷ codes "tbody" ∷ codes "thead" ∷ codes "tfoot" ∷ codes "caption" ∷ codes "template"
     ∷ codes "select" ∷ codes "form" ∷ codes "body" ∷ codes "html" ∷ codes "dd" ∷ codes "dt" ∷ codes "dl" ∷ codes "ol"
     ∷ codes "h1" ∷ codes "h2" ∷ codes "h3" ∷ codes "h4" ∷ codes "h5" ∷ codes "h6" ∷ codes "nobr" ∷ codes "ruby"
     ∷ codes "option" ∷ codes "optgroup" ∷ codes "rtc" ∷ codes "colgroup" ∷ codes "section" ∷ codes "article"
@@ -53,3 +53,7 @@ counts_of (name ∷ names) = one_more (count_of name) (counts_of names)
 abbrev pub has_one : Elements → List QualName → Bool
 has_one set [] = false
 has_one set (name ∷ names) = is_element_of set name || has_one set names
+
+-- each word of a set of elements of HTML has a count of its own
+abbrev pub has_counts : Elements → Bool
+has_counts set = list_all (is_one_of counted_names) set.html

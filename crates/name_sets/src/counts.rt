@@ -1,7 +1,7 @@
 //! How many elements of each name are open.
 ghost use Rattle.std.specs.Prelude.{◌≡◌, IsTrue, ℕ, ◌<◌, ◌++◌, true, false, List, [], ◌∷◌, chars, length};
 ghost use Rattle.html_lexemes.specs.declared.names.QualName.{QualName as SeenQualName};
-ghost use Rattle.name_sets.specs.Counts.{count_of, counted_names, counts_of, has_one, words_before};
+ghost use Rattle.name_sets.specs.Counts.{count_of, counted_names, counts_of, has_counts, has_one, words_before};
 ghost use Rattle.name_sets.specs.Sets.{are_ascii, html_elements, words_of};
 ghost use Rattle.name_sets.specs.Wanted.{elements_of, one};
 
@@ -53,12 +53,13 @@ impl OpenCounts {
         self.counts[place] -= 1;
     }
 
-    /// Whether it is known by the counts that no element of a set is open. Where the set is a name that has no count
-    /// of its
-    /// own, this is so only where no such element is open at all.
+    /// Whether it is known by the counts that no element of a set is open. Where each word of the set has a count of its
+    /// own, they say it exactly; of another name, which shares its count with others, `false` says nothing.
     pub fn has_none(&self, wanted: ElementSet<'_>) -> bool
-        ensures { (names : List SeenQualName) → self.now ≡ counts_of names → result ≡ true →
+        ensures none { (names : List SeenQualName) → self.now ≡ counts_of names → result ≡ true →
             has_one (elements_of wanted.entry) names ≡ false }
+        ensures some { (names : List SeenQualName) → self.now ≡ counts_of names → result ≡ false →
+            has_counts (elements_of wanted.entry) ≡ true → has_one (elements_of wanted.entry) names ≡ true }
     {
         match wanted {
             ElementSet::Named(word) => self.has_no(word.as_str()),
@@ -95,8 +96,11 @@ impl OpenCounts {
     // no element of HTML is open whose name is one of these words
     fn lacks(&self, words: &[&str]) -> bool
         requires { IsTrue (are_ascii (words_of words.now)) }
-        ensures { (names : List SeenQualName) → self.now ≡ counts_of names → result ≡ true →
+        ensures none { (names : List SeenQualName) → self.now ≡ counts_of names → result ≡ true →
             has_one (html_elements (words_of words.now)) names ≡ false }
+        ensures some { (names : List SeenQualName) → self.now ≡ counts_of names → result ≡ false →
+            has_counts (html_elements (words_of words.now)) ≡ true →
+            has_one (html_elements (words_of words.now)) names ≡ true }
     {
         for word in words {
             if !self.has_no(word) {
@@ -108,8 +112,10 @@ impl OpenCounts {
 
     // no element of HTML is open whose name is this word
     fn has_no(&self, word: &str) -> bool
-        ensures { (names : List SeenQualName) → self.now ≡ counts_of names → result ≡ true →
+        ensures none { (names : List SeenQualName) → self.now ≡ counts_of names → result ≡ true →
             has_one (one (chars word.now)) names ≡ false }
+        ensures some { (names : List SeenQualName) → self.now ≡ counts_of names → result ≡ false →
+            has_counts (one (chars word.now)) ≡ true → has_one (one (chars word.now)) names ≡ true }
     {
         self.counts[words_before(word)] == 0
     }

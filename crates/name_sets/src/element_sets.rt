@@ -78,8 +78,8 @@ pub fn is_special(name: &QualName) -> bool
     }
 }
 
-/// An integration point by its name alone (WHATWG HTML,
-/// 13.2.6): breaking out of foreign content stops there (13.2.6.5).
+/// An integration point by its name alone (WHATWG HTML, 13.2.6): breaking out of foreign content stops there
+/// (13.2.6.5).
 pub fn is_integration_point(name: &QualName) -> bool
     ensures { result ≡ is_element_of integration_points name.now }
 {
@@ -240,9 +240,8 @@ pub fn is_table_scope_barrier(name: &QualName) -> bool
     is_html_one_of(name, &["html", "table", "template"])
 }
 
-/// An `address`, `div` or `p`: special,
-/// and yet passed over where a list item or a definition looks for its like (WHATWG
-/// HTML, 13.2.6.4.7).
+/// An `address`, `div` or `p`: special, and yet passed over where a list item or a definition looks for its like
+/// (WHATWG HTML, 13.2.6.4.7).
 pub fn is_address_div_or_p(name: &QualName) -> bool
     ensures { result ≡ is_element_of address_div_and_p name.now }
 {

@@ -1,6 +1,6 @@
 //! The sets of names, computed: how many they hold, two members, and two strangers that stand near them.
 ghost use Rattle.std.specs.Prelude.{◌≡◌, ◌+◌, true, false, [], ◌∷◌, codes, length, slice_index_or};
-ghost use Rattle.name_sets.specs.Counts.{count_of, counted_names, counts_of, has_one};
+ghost use Rattle.name_sets.specs.Counts.{count_of, counted_names, counts_of, has_counts, has_one};
 ghost use Rattle.name_sets.specs.Wanted.{one};
 ghost use Rattle.name_sets.specs.ElementSets as elements;
 ghost use Rattle.name_sets.specs.RowWords.{IsSetOf, html, math_ml, svg};
@@ -137,5 +137,7 @@ fn counts_of_rows()
     ensures one_other { slice_index_or (counts_of (html (codes "p") ∷ svg (codes "p") ∷ [])) 60 0 ≡ 1 }
     ensures as_many { length (counts_of []) ≡ length counted_names + 1 }
     ensures no_list_item { has_one (one (codes "li")) (html (codes "p") ∷ svg (codes "li") ∷ []) ≡ false }
+    ensures counted_set { has_counts elements.table_body_context ≡ true }
+    ensures other_name { has_counts (one (codes "span")) ≡ false }
     ensures a_paragraph { has_one (one (codes "p")) (svg (codes "li") ∷ html (codes "p") ∷ []) ≡ true }
 {}

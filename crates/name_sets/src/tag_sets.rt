@@ -174,9 +174,8 @@ pub fn is_marker_tag(name: &LocalName) -> bool
     is_one_of(name, &["applet", "marquee", "object"])
 }
 
-/// An element without contents that takes up formatting; `input` is one too,
-/// where its type doesn't hide it (WHATWG HTML,
-/// 13.2.6.4.7).
+/// An element without contents that takes up formatting; `input` is one too, where its type doesn't hide it (WHATWG
+/// HTML, 13.2.6.4.7).
 pub fn is_void_phrase_tag(name: &LocalName) -> bool
     ensures { result ≡ is_one_of void_phrases name.now }
 {
