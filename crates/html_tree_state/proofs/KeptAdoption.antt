@@ -8,11 +8,10 @@ use Rattle.html_forest.specs.Changes.{detached, reparented}
 use Rattle.html_forest.specs.Forest.{is_in, nodes}
 use Rattle.html_forest.specs.Places.{below}
 use Rattle.html_lexemes.specs.declared.token.Tag.{Tag}
-use Rattle.html_tree_state.specs.Adoption.{Turn, Walk, adopted, adoption, after_turn, again, closed_by_other_end, farther}
-use Rattle.html_tree_state.specs.Adoption.{furthest_block}
-use Rattle.html_tree_state.specs.Adoption.{is_current_unlisted, nearer, other_end, out_of_place, over, placed}
-use Rattle.html_tree_state.specs.Adoption.{popped_with, stepped, taken_over, turn, turn_for, turn_with}
-use Rattle.html_tree_state.specs.Adoption.{turn_with_block, turns, walked}
+use Rattle.html_tree_state.specs.Adoption.{Turn, Walk, adopted, adoption, after_turn, again, closed_by_other_end}
+use Rattle.html_tree_state.specs.Adoption.{farther, furthest_block, is_current_unlisted, nearer, other_end}
+use Rattle.html_tree_state.specs.Adoption.{out_of_place, over, placed, popped_with, stepped, taken_over, turn}
+use Rattle.html_tree_state.specs.Adoption.{turn_for, turn_with, turn_with_block, turns, walked}
 use Rattle.html_tree_state.specs.Building.{Building}
 use Rattle.html_tree_state.specs.Formatting.{made_already, made_for, made_from, name_for, reconstructed}
 use Rattle.html_tree_state.specs.Formatting.{to_make, unlisted}

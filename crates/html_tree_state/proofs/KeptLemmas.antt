@@ -1,6 +1,6 @@
 -- What is popped, inserted or listed keeps a sound tree sound, and no node goes.
-use Rattle.std.proofs.Common.{◌≡◌, ℕ, ◌≤◌, Bool, true, false, inl, inr, refl, arith, if◌then◌else◌, List, [], ◌∷◌, codes}
-use Rattle.std.proofs.Common.{Option, None, Some}
+use Rattle.std.proofs.Common.{◌≡◌, ℕ, ◌≤◌, Bool, true, false, inl, inr, refl, arith, if◌then◌else◌, List, [], ◌∷◌}
+use Rattle.std.proofs.Common.{Option, None, Some, codes}
 use Rattle.std.proofs.lemmas.Bool.{cond_both}
 use Rattle.html_forest.specs.Forest.{Forest, Holds, comment, doctype, name_of, nodes}
 use Rattle.html_forest.specs.Conditions.{IsPlace}

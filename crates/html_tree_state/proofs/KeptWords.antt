@@ -1,6 +1,8 @@
 -- Each word of tree construction keeps a sound tree sound, and no node goes.
-use Rattle.std.proofs.Common.{Bool, refl}
+use Rattle.std.proofs.Common.{ℕ, Bool, refl}
+use Rattle.html_forest.specs.Changes.{detached}
 use Rattle.html_forest.specs.Places.{below}
+use Rattle.html_tree_state.specs.Adoption.{out_of_place}
 use Rattle.html_tree_state.specs.Formatting.{cleared, marked, unlisted}
 use Rattle.html_tree_state.specs.Insertions.{here, root_of, with_attributes_of}
 use Rattle.html_tree_state.specs.Laws.{Laws}
@@ -15,7 +17,7 @@ use Rattle.html_tree_state.proofs.KeptLemmas.{popped_down_kept, popped_to_kept, 
 use Rattle.html_tree_state.proofs.KeptLemmas.{with_element_kept}
 use Rattle.html_tree_state.proofs.ListedLemmas.{cleared_sound, marked_sound}
 use Rattle.html_tree_state.proofs.PlaceLemmas.{here_there}
-use Rattle.html_tree_state.proofs.SoundLemmas.{popped_sound, quirks_sound}
+use Rattle.html_tree_state.proofs.SoundLemmas.{by_kinds, popped_sound, quirks_sound, stays_sound}
 
 fostering_kept : (is_on : Bool) → Keeps (λ b. record b { fostering = is_on })
 fostering_kept is_on b sound = kept_nodes b _ refl (record {
@@ -28,6 +30,12 @@ fostering_kept is_on b sound = kept_nodes b _ refl (record {
   few = sound.few;
   counted = sound.counted;
 })
+
+taken_out_kept : Laws → (n : ℕ) → Keeps (out_of_place n)
+taken_out_kept laws n b sound = kept_nodes b (out_of_place n b) (laws.out_size n b.forest)
+    (stays_sound b (detached n b.forest) sound (laws.out_keeps n b.forest sound.forest)
+    (by_kinds b.forest (detached n b.forest) b.stack (λ m is. laws.out_stays n m b.forest)
+    (λ a c i j up. laws.above_out n a c b.forest up)))
 
 pub words_kept : Laws → Words
 words_kept laws = record {
@@ -53,6 +61,7 @@ words_kept laws = record {
   takes_attributes = λ n attributes b sound is.
       kept_nodes b (with_attributes_of n attributes b) (laws.attributes_size n attributes b.forest)
       (attributed_sound laws n attributes b sound);
+  takes_out = taken_out_kept laws;
   marks = λ b sound. kept_nodes b (marked b) refl (marked_sound laws b sound);
   clears = λ b sound. kept_nodes b (cleared b) refl (cleared_sound laws b sound);
   lists = formatting_kept laws;

@@ -7,7 +7,7 @@ use Rattle.html_lexemes.specs.declared.names.Attribute.{Attribute}
 use Rattle.html_lexemes.specs.declared.names.QualName.{QualName}
 use Rattle.html_lexemes.specs.declared.token.Doctype.{Doctype}
 use Rattle.html_lexemes.specs.declared.token.Tag.{Tag}
-use Rattle.html_tree_state.specs.Adoption.{adoption, closed_by_other_end}
+use Rattle.html_tree_state.specs.Adoption.{adoption, closed_by_other_end, out_of_place}
 use Rattle.html_tree_state.specs.Building.{Building}
 use Rattle.html_tree_state.specs.Formatting.{cleared, inserted_formatting, marked, reconstructed, unlisted}
 use Rattle.html_tree_state.specs.Insertions.{commented_at, here, inserted, inserted_at, inserted_void, root_of, said}
@@ -47,6 +47,7 @@ pub record Words : Type 0 where
   pub takes_a_doctype : (doctype : Doctype) → Keeps (with_doctype_of doctype)
   pub takes_attributes : (n : ℕ) (attributes : List Attribute) (b : Building) → Sound b → IsElement n b.forest →
       IsKept b (with_attributes_of n attributes b)
+  pub takes_out : (n : ℕ) → Keeps (out_of_place n)
   pub marks : Keeps marked
   pub clears : Keeps cleared
   pub lists : (tag : Tag) → is_one_of formatting tag.name ≡ true → Keeps (inserted_formatting tag)

@@ -226,8 +226,8 @@ impl<S: TreeSink> Construction<S> {
         })
     }
 
-    // takes an element's entry off the list
-    fn remove_from_list(&mut self, element: S::Handle)
+    /// Takes an element's entry off the list of active formatting elements.
+    pub fn remove_from_list(&mut self, element: S::Handle)
         requires { Sound (seen S.number S.forest S.quirks self.old.held self.old.sink) }
         ensures seen { seen S.number S.forest S.quirks self.new.held self.new.sink
             ≡ unlisted (S.number element) (seen S.number S.forest S.quirks self.old.held self.old.sink) }

@@ -14,7 +14,7 @@ use name_sets::{Scope, is_special};
 
 impl<S: TreeSink> Construction<S> {
     /// Whether an element is open.
-    pub(crate) fn is_open(&self, element: S::Handle) -> bool
+    pub fn is_open(&self, element: S::Handle) -> bool
         ensures { result ≡ is_in (S.number element)
             (seen S.number S.forest S.quirks self.now.held self.now.sink).stack }
     {

@@ -77,8 +77,7 @@ impl<S: TreeSink> Construction<S> {
     }
 
     /// The appropriate place for inserting a node into a target: fostered where foster parenting is on and the target
-    /// is
-    /// a part of a table.
+    /// is a part of a table.
     pub fn appropriate_place_for_insertion(&self, target: S::Handle) -> InsertionPoint<S::Handle>
         requires sound { Sound (seen S.number S.forest S.quirks self.now.held self.now.sink) }
         requires element { IsElement (S.number target) (S.forest self.now.sink) }

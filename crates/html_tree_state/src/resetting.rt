@@ -20,9 +20,8 @@ pub fn html_elem<H>(open_elems: &[H]) -> &H
 
 impl<S: TreeSink> Construction<S> {
     /// The insertion mode that the open elements ask for ("reset the insertion mode appropriately"). `context` is the
-    /// name
-    /// of a fragment's context, `has_head` says that the page's head is known, and `template_mode` is the mode of the
-    /// template that was opened last.
+    /// name of a fragment's context, `has_head` says that the page's head is known, and `template_mode` is the mode of
+    /// the template that was opened last.
     pub fn reset_insertion_mode(
         &self,
         context: Option<&QualName>,

@@ -11,8 +11,7 @@ use name_sets::{ElementSet, Scope};
 
 impl<S: TreeSink> Construction<S> {
     /// Whether an element of a set is in a scope: from the current node up it stands before the first barrier, or is
-    /// that
-    /// barrier.
+    /// that barrier.
     pub fn in_scope(&self, scope: Scope, wanted: ElementSet<'_>) -> bool
         requires { Sound (seen S.number S.forest S.quirks self.now.held self.now.sink) }
         ensures { result ≡ is_in_scope (barriers_of scope) (elements_of wanted.entry)

@@ -31,6 +31,13 @@ pub fn element_flags(name: &QualName, attrs: &Attributes) -> ElementFlags
     }
 }
 
+/// The value of the first `charset`, which names an encoding (WHATWG HTML, 13.2.6.4.4).
+pub fn charset(attrs: &Attributes) -> Option<&Text>
+    ensures { option_map (λ value. value.now) result ≡ value_of (codes "charset") attrs.now }
+{
+    value_of(attrs, "charset")
+}
+
 // an `annotation-xml` element whose contents are HTML
 fn is_html_annotation(name: &QualName, attrs: &Attributes) -> bool
     ensures { result ≡ is_html_annotation name.now attrs.now }

@@ -8,7 +8,7 @@ mod quirks;
 mod rows;
 mod words;
 
-pub use attributes::{element_flags, is_hidden};
+pub use attributes::{charset, element_flags, is_hidden};
 pub use foreign::{
     breaks_out, closes_foreign, is_of_html, stops_break_out, takes_start_as_html,
     takes_text_as_html,
