@@ -1,0 +1,8 @@
+//! What each insertion mode makes of marks.
+mod answers;
+mod body;
+mod frames;
+mod head;
+mod phrases;
+mod table_rows;
+mod tables;

@@ -1,0 +1,11 @@
+//! The rule table of tree construction (WHATWG HTML, 13.2.6): from an insertion mode and what is told to what is done; a
+//! part of `html_tree_builder`.
+#![tactic(auto)]
+
+mod laws;
+mod options;
+mod target;
+
+pub use laws::{actions_keep_what_is_ready, open_elements_are_elements, texts_join};
+pub use options::TreeBuilderOpts;
+pub use target::Target;
