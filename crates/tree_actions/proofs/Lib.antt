@@ -1,0 +1,2 @@
+pub mod ActionLemmas
+pub mod OpenedLemmas

@@ -1,0 +1,24 @@
+-- What a tree builder's fields mean: the state of tree construction.
+use Rattle.std.specs.Prelude.{ℕ, option_map, reverse}
+use Rattle.html_forest.specs.Forest.{Forest}
+use Rattle.html_forest.specs.declared.sink.QuirksMode.{QuirksMode}
+use Rattle.tree_actions.specs.declared.kept.Kept.{Kept}
+use Rattle.html_tree_state.specs.Building.{Parts, seen}
+use Rattle.tree_rules.specs.State.{State}
+
+abbrev pub parsed : {H S : Type 0} → (H → ℕ) → (S → Forest) → (S → QuirksMode) → Kept H → Parts H → S → State
+parsed number forest quirks kept held sink = record {
+  options = kept.options;
+  mode = kept.mode;
+  original = kept.original;
+  template_modes = reverse kept.template_modes.items;
+  head = option_map number kept.head;
+  form = option_map number kept.form;
+  context = option_map number kept.context;
+  frameset_ok = kept.frameset_ok;
+  skip_lf = kept.skip_lf;
+  pending = kept.pending;
+  quirks = kept.quirks;
+  is_over = kept.is_over;
+  tree = seen number forest quirks held sink;
+}
