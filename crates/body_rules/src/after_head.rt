@@ -1,0 +1,95 @@
+//! The "after head" insertion mode (WHATWG HTML, 13.2.6.4.6).
+ghost use Rattle.std.specs.Prelude.{◌≡◌, IfErr, IfOk, OnOk};
+ghost use Rattle.html_lexemes.specs.declared.fault.ParseFault.TheVariants.{Memory};
+ghost use Rattle.tree_actions.specs.Outcomes.{came_to, outcome};
+ghost use Rattle.tree_actions.specs.Parsed.{parsed};
+ghost use Rattle.tree_rules.specs.Settling.{Ready};
+ghost use Rattle.tree_rules.specs.Built.{is_built};
+ghost use Rattle.std.specs.Prelude.{true};
+ghost use Rattle.tree_rules.specs.AfterHead.{after_head_end, after_head_start, body_made};
+ghost use Rattle.tree_rules.specs.Rows.{again};
+
+use crate::html_tag::html_start;
+use crate::in_head::{in_head_start, template_end};
+use html_forest::TreeSink;
+use html_lexemes::{ParseFault, Tag};
+use tag_groups::TagGroup;
+use tree_actions::{Flow, Parse};
+use tree_rules::Target;
+use tree_words::InsertionMode;
+
+/// A start tag.
+pub fn after_head_start<S: TreeSink>(
+    page: &mut Parse<S>,
+    group: TagGroup,
+    tag: &Tag,
+) -> Result<Flow<S::Handle>, ParseFault>
+    requires ready { Ready (parsed S.number S.forest S.quirks page.old.kept page.old.tree.held page.old.tree.sink) }
+    ensures came { IfOk result (λ flow.
+        came_to flow (parsed S.number S.forest S.quirks page.new.kept page.new.tree.held page.new.tree.sink)
+        ≡ outcome S.handle (after_head_start group tag.now
+        (parsed S.number S.forest S.quirks page.old.kept page.old.tree.held page.old.tree.sink))
+        (parsed S.number S.forest S.quirks page.old.kept page.old.tree.held page.old.tree.sink)) }
+    ensures ready { OnOk result (Ready
+        (parsed S.number S.forest S.quirks page.new.kept page.new.tree.held page.new.tree.sink)) }
+    ensures refused { is_built group ≡ true → IfErr result (λ e. e ≡ Memory) }
+{
+    match group {
+        TagGroup::Html => html_start(page, tag),
+        TagGroup::Body => {
+            page.insert(tag)?;
+            page.refuse_frameset();
+            page.go_to(InsertionMode::InBody);
+            Ok(Flow::Done)
+        }
+        TagGroup::Base
+        | TagGroup::Link
+        | TagGroup::Meta
+        | TagGroup::Noframes
+        | TagGroup::Script
+        | TagGroup::Style
+        | TagGroup::Title => in_head_start(page, Target::IntoHead, group, tag),
+        // framesets and templates are not built yet
+        TagGroup::Frameset | TagGroup::Template => Err(ParseFault::Failed),
+        TagGroup::Head => Ok(Flow::Done),
+        _ => make_body(page),
+    }
+}
+
+/// An end tag.
+pub fn after_head_end<S: TreeSink>(
+    page: &mut Parse<S>,
+    group: TagGroup,
+) -> Result<Flow<S::Handle>, ParseFault>
+    requires ready { Ready (parsed S.number S.forest S.quirks page.old.kept page.old.tree.held page.old.tree.sink) }
+    ensures came { IfOk result (λ flow.
+        came_to flow (parsed S.number S.forest S.quirks page.new.kept page.new.tree.held page.new.tree.sink)
+        ≡ outcome S.handle (after_head_end group
+        (parsed S.number S.forest S.quirks page.old.kept page.old.tree.held page.old.tree.sink))
+        (parsed S.number S.forest S.quirks page.old.kept page.old.tree.held page.old.tree.sink)) }
+    ensures ready { OnOk result (Ready
+        (parsed S.number S.forest S.quirks page.new.kept page.new.tree.held page.new.tree.sink)) }
+    ensures memory { IfErr result (λ e. e ≡ Memory) }
+{
+    match group {
+        TagGroup::Template => template_end(page),
+        TagGroup::Body | TagGroup::Html | TagGroup::LineBreak => make_body(page),
+        _ => Ok(Flow::Done),
+    }
+}
+
+/// Anything else: the body is made.
+pub fn make_body<S: TreeSink>(page: &mut Parse<S>) -> Result<Flow<S::Handle>, ParseFault>
+    requires ready { Ready (parsed S.number S.forest S.quirks page.old.kept page.old.tree.held page.old.tree.sink) }
+    ensures came { IfOk result (λ flow.
+        came_to flow (parsed S.number S.forest S.quirks page.new.kept page.new.tree.held page.new.tree.sink)
+        ≡ outcome S.handle (again body_made)
+        (parsed S.number S.forest S.quirks page.old.kept page.old.tree.held page.old.tree.sink)) }
+    ensures ready { OnOk result (Ready
+        (parsed S.number S.forest S.quirks page.new.kept page.new.tree.held page.new.tree.sink)) }
+    ensures memory { IfErr result (λ e. e ≡ Memory) }
+{
+    page.insert_named("body")?;
+    page.go_to(InsertionMode::InBody);
+    Ok(Flow::Again)
+}

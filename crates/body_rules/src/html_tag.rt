@@ -1,0 +1,36 @@
+//! The start tag "html" (WHATWG HTML, 13.2.6.4.7), which nearly all modes take alike.
+ghost use Rattle.std.specs.Prelude.{◌≡◌, IfErr, IfOk, OnOk};
+ghost use Rattle.html_lexemes.specs.declared.fault.ParseFault.TheVariants.{Memory};
+ghost use Rattle.tree_actions.specs.Outcomes.{came_to, outcome};
+ghost use Rattle.tree_actions.specs.Parsed.{parsed};
+ghost use Rattle.tree_rules.specs.Settling.{Ready};
+ghost use Rattle.tree_rules.specs.HtmlTag.{html_start};
+
+use html_forest::TreeSink;
+use html_lexemes::{ParseFault, Tag};
+use tree_actions::{Flow, Parse};
+
+/// The root takes the attributes that it lacks, where no template is open.
+pub fn html_start<S: TreeSink>(
+    page: &mut Parse<S>,
+    tag: &Tag,
+) -> Result<Flow<S::Handle>, ParseFault>
+    requires ready { Ready (parsed S.number S.forest S.quirks page.old.kept page.old.tree.held page.old.tree.sink) }
+    ensures came { IfOk result (λ flow.
+        came_to flow (parsed S.number S.forest S.quirks page.new.kept page.new.tree.held page.new.tree.sink)
+        ≡ outcome S.handle (html_start tag.now
+        (parsed S.number S.forest S.quirks page.old.kept page.old.tree.held page.old.tree.sink))
+        (parsed S.number S.forest S.quirks page.old.kept page.old.tree.held page.old.tree.sink)) }
+    ensures ready { OnOk result (Ready
+        (parsed S.number S.forest S.quirks page.new.kept page.new.tree.held page.new.tree.sink)) }
+    ensures memory { IfErr result (λ e. e ≡ Memory) }
+{
+    if page.has_template() {
+        return Ok(Flow::Done);
+    }
+    let Some(root) = page.root() else {
+        return Ok(Flow::Done);
+    };
+    page.add_attributes(root, &tag.attrs)?;
+    Ok(Flow::Done)
+}

@@ -1,0 +1,194 @@
+//! The "in head" insertion mode (WHATWG HTML, 13.2.6.4.4).
+ghost use Rattle.std.specs.Prelude.{◌≡◌, IfErr, IfOk, OnOk};
+ghost use Rattle.html_lexemes.specs.declared.fault.ParseFault.TheVariants.{Memory};
+ghost use Rattle.tree_actions.specs.Outcomes.{came_to, outcome};
+ghost use Rattle.tree_actions.specs.Parsed.{parsed};
+ghost use Rattle.tree_rules.specs.Settling.{Ready};
+ghost use Rattle.tree_rules.specs.Built.{is_built};
+ghost use Rattle.std.specs.Prelude.{true};
+ghost use Rattle.std.specs.Prelude.{[], ◌∷◌};
+ghost use Rattle.tree_rules.specs.Actions.{insert, insert_void};
+ghost use Rattle.tree_rules.specs.InHead.{asks_encoding, head_closed, in_head_end, in_head_start, noscript_start};
+ghost use Rattle.tree_rules.specs.InHead.{template_end};
+ghost use Rattle.tree_rules.specs.Rows.{again, reads_raw};
+ghost use Rattle.std.specs.Prelude.{codes};
+ghost use Rattle.tree_words.specs.Attributes.{value_of};
+
+use crate::html_tag::html_start;
+use crate::raw_text::read_raw;
+use html_forest::TreeSink;
+use html_lexemes::states::RawKind;
+use html_lexemes::{ParseFault, Tag, TokenSinkResult};
+use name_sets::ElementSet;
+use tag_groups::TagGroup;
+use tree_actions::{Flow, Parse};
+use tree_rules::Target;
+use tree_words::{InsertionMode, charset};
+
+/// A start tag, whose element is inserted at the appropriate place or into the head.
+pub fn in_head_start<S: TreeSink>(
+    page: &mut Parse<S>,
+    target: Target,
+    group: TagGroup,
+    tag: &Tag,
+) -> Result<Flow<S::Handle>, ParseFault>
+    requires ready { Ready (parsed S.number S.forest S.quirks page.old.kept page.old.tree.held page.old.tree.sink) }
+    ensures came { IfOk result (λ flow.
+        came_to flow (parsed S.number S.forest S.quirks page.new.kept page.new.tree.held page.new.tree.sink)
+        ≡ outcome S.handle (in_head_start target group tag.now
+        (parsed S.number S.forest S.quirks page.old.kept page.old.tree.held page.old.tree.sink))
+        (parsed S.number S.forest S.quirks page.old.kept page.old.tree.held page.old.tree.sink)) }
+    ensures ready { OnOk result (Ready
+        (parsed S.number S.forest S.quirks page.new.kept page.new.tree.held page.new.tree.sink)) }
+    ensures refused { is_built group ≡ true → IfErr result (λ e. e ≡ Memory) }
+{
+    match group {
+        TagGroup::Html => html_start(page, tag),
+        TagGroup::Base | TagGroup::Link => {
+            page.insert_void_at(target, tag)?;
+            Ok(Flow::Done)
+        }
+        TagGroup::Meta => meta_start(page, target, tag),
+        TagGroup::Title => raw_start(page, target, tag, RawKind::Rcdata),
+        TagGroup::Noscript => noscript_in_head(page, target, tag),
+        TagGroup::Noframes | TagGroup::Style => raw_start(page, target, tag, RawKind::Rawtext),
+        TagGroup::Script => raw_start(page, target, tag, RawKind::ScriptData),
+        // templates are not built yet
+        TagGroup::Template => Err(ParseFault::Failed),
+        TagGroup::Head => Ok(Flow::Done),
+        _ => close_head(page),
+    }
+}
+
+/// "meta": one that names an encoding asks for a look at it.
+pub fn meta_start<S: TreeSink>(
+    page: &mut Parse<S>,
+    target: Target,
+    tag: &Tag,
+) -> Result<Flow<S::Handle>, ParseFault>
+    requires ready { Ready (parsed S.number S.forest S.quirks page.old.kept page.old.tree.held page.old.tree.sink) }
+    ensures came { IfOk result (λ flow.
+        came_to flow (parsed S.number S.forest S.quirks page.new.kept page.new.tree.held page.new.tree.sink)
+        ≡ outcome S.handle (asks_encoding (value_of (codes "charset") tag.now.attrs) (insert_void target tag.now ∷ []))
+        (parsed S.number S.forest S.quirks page.old.kept page.old.tree.held page.old.tree.sink)) }
+    ensures ready { OnOk result (Ready
+        (parsed S.number S.forest S.quirks page.new.kept page.new.tree.held page.new.tree.sink)) }
+    ensures memory { IfErr result (λ e. e ≡ Memory) }
+{
+    page.insert_void_at(target, tag)?;
+    let Some(encoding) = charset(&tag.attrs) else {
+        return Ok(Flow::Done);
+    };
+    let encoding = encoding.try_clone()?;
+    Ok(Flow::Asks(TokenSinkResult::EncodingIndicator(encoding)))
+}
+
+/// An element whose contents are text.
+pub fn raw_start<S: TreeSink>(
+    page: &mut Parse<S>,
+    target: Target,
+    tag: &Tag,
+    kind: RawKind,
+) -> Result<Flow<S::Handle>, ParseFault>
+    requires ready { Ready (parsed S.number S.forest S.quirks page.old.kept page.old.tree.held page.old.tree.sink) }
+    ensures came { IfOk result (λ flow.
+        came_to flow (parsed S.number S.forest S.quirks page.new.kept page.new.tree.held page.new.tree.sink)
+        ≡ outcome S.handle (reads_raw kind (insert target tag.now ∷ []))
+        (parsed S.number S.forest S.quirks page.old.kept page.old.tree.held page.old.tree.sink)) }
+    ensures ready { OnOk result (Ready
+        (parsed S.number S.forest S.quirks page.new.kept page.new.tree.held page.new.tree.sink)) }
+    ensures memory { IfErr result (λ e. e ≡ Memory) }
+{
+    page.insert_at(target, tag)?;
+    Ok(read_raw(page, kind))
+}
+
+/// "noscript", whose contents are text where scripts would run.
+pub fn noscript_in_head<S: TreeSink>(
+    page: &mut Parse<S>,
+    target: Target,
+    tag: &Tag,
+) -> Result<Flow<S::Handle>, ParseFault>
+    requires ready { Ready (parsed S.number S.forest S.quirks page.old.kept page.old.tree.held page.old.tree.sink) }
+    ensures came { IfOk result (λ flow.
+        came_to flow (parsed S.number S.forest S.quirks page.new.kept page.new.tree.held page.new.tree.sink)
+        ≡ outcome S.handle (noscript_start (parsed S.number S.forest S.quirks page.old.kept page.old.tree.held
+        page.old.tree.sink).options.scripting_enabled target tag.now)
+        (parsed S.number S.forest S.quirks page.old.kept page.old.tree.held page.old.tree.sink)) }
+    ensures ready { OnOk result (Ready
+        (parsed S.number S.forest S.quirks page.new.kept page.new.tree.held page.new.tree.sink)) }
+    ensures memory { IfErr result (λ e. e ≡ Memory) }
+{
+    if page.kept.options.scripting_enabled {
+        return raw_start(page, target, tag, RawKind::Rawtext);
+    }
+    page.insert_at(target, tag)?;
+    page.go_to(InsertionMode::InHeadNoscript);
+    Ok(Flow::Done)
+}
+
+/// An end tag.
+pub fn in_head_end<S: TreeSink>(
+    page: &mut Parse<S>,
+    group: TagGroup,
+) -> Result<Flow<S::Handle>, ParseFault>
+    requires ready { Ready (parsed S.number S.forest S.quirks page.old.kept page.old.tree.held page.old.tree.sink) }
+    ensures came { IfOk result (λ flow.
+        came_to flow (parsed S.number S.forest S.quirks page.new.kept page.new.tree.held page.new.tree.sink)
+        ≡ outcome S.handle (in_head_end group
+        (parsed S.number S.forest S.quirks page.old.kept page.old.tree.held page.old.tree.sink))
+        (parsed S.number S.forest S.quirks page.old.kept page.old.tree.held page.old.tree.sink)) }
+    ensures ready { OnOk result (Ready
+        (parsed S.number S.forest S.quirks page.new.kept page.new.tree.held page.new.tree.sink)) }
+    ensures memory { IfErr result (λ e. e ≡ Memory) }
+{
+    match group {
+        TagGroup::Head => {
+            page.pop()?;
+            page.go_to(InsertionMode::AfterHead);
+            Ok(Flow::Done)
+        }
+        TagGroup::Body | TagGroup::Html | TagGroup::LineBreak => close_head(page),
+        TagGroup::Template => template_end(page),
+        _ => Ok(Flow::Done),
+    }
+}
+
+/// An end tag "template".
+pub fn template_end<S: TreeSink>(page: &mut Parse<S>) -> Result<Flow<S::Handle>, ParseFault>
+    requires ready { Ready (parsed S.number S.forest S.quirks page.old.kept page.old.tree.held page.old.tree.sink) }
+    ensures came { IfOk result (λ flow.
+        came_to flow (parsed S.number S.forest S.quirks page.new.kept page.new.tree.held page.new.tree.sink)
+        ≡ outcome S.handle (template_end
+        (parsed S.number S.forest S.quirks page.old.kept page.old.tree.held page.old.tree.sink))
+        (parsed S.number S.forest S.quirks page.old.kept page.old.tree.held page.old.tree.sink)) }
+    ensures ready { OnOk result (Ready
+        (parsed S.number S.forest S.quirks page.new.kept page.new.tree.held page.new.tree.sink)) }
+    ensures memory { IfErr result (λ e. e ≡ Memory) }
+{
+    if !page.has_template() {
+        return Ok(Flow::Done);
+    }
+    page.imply_but(ElementSet::Nothing)?;
+    page.pop_to(ElementSet::Template)?;
+    page.clear_to_marker();
+    page.pop_template_mode();
+    page.reset();
+    Ok(Flow::Done)
+}
+
+/// Anything else: the head is closed.
+pub fn close_head<S: TreeSink>(page: &mut Parse<S>) -> Result<Flow<S::Handle>, ParseFault>
+    requires ready { Ready (parsed S.number S.forest S.quirks page.old.kept page.old.tree.held page.old.tree.sink) }
+    ensures came { IfOk result (λ flow.
+        came_to flow (parsed S.number S.forest S.quirks page.new.kept page.new.tree.held page.new.tree.sink)
+        ≡ outcome S.handle (again head_closed)
+        (parsed S.number S.forest S.quirks page.old.kept page.old.tree.held page.old.tree.sink)) }
+    ensures ready { OnOk result (Ready
+        (parsed S.number S.forest S.quirks page.new.kept page.new.tree.held page.new.tree.sink)) }
+    ensures memory { IfErr result (λ e. e ≡ Memory) }
+{
+    page.pop()?;
+    page.go_to(InsertionMode::AfterHead);
+    Ok(Flow::Again)
+}
