@@ -2,7 +2,7 @@
 use Rattle.std.proofs.Common.{◌≡◌, ℕ, ◌≤◌, Bool, true, false, inl, inr, refl, arith, if◌then◌else◌, List, [], ◌∷◌}
 use Rattle.std.proofs.Common.{Option, None, Some, codes}
 use Rattle.std.proofs.lemmas.Bool.{cond_both}
-use Rattle.html_forest.specs.Forest.{Forest, Holds, comment, doctype, name_of, nodes}
+use Rattle.html_forest.specs.Forest.{Forest, Holds, comment, doctype, is_integration_point, name_of, nodes}
 use Rattle.html_forest.specs.Conditions.{IsPlace}
 use Rattle.html_forest.specs.Orders.{IsForest, IsIn}
 use Rattle.html_forest.specs.Places.{Place, below}
@@ -12,6 +12,7 @@ use Rattle.html_lexemes.specs.declared.token.Doctype.{Doctype}
 use Rattle.html_lexemes.specs.declared.token.Tag.{Tag}
 use Rattle.html_tree_state.specs.Adoption.{closed_by_other_end, closed_with, named_before_special, popped_with}
 use Rattle.html_tree_state.specs.Building.{Building}
+use Rattle.html_tree_state.specs.Foreign.{broken_out, closed_by_foreign_end, from_html, named_foreign, popped_with_any}
 use Rattle.html_tree_state.specs.Formatting.{inserted_for, inserted_formatting, name_for}
 use Rattle.html_tree_state.specs.Insertions.{commented_at, here, inserted_at, root_of, said, with_doctype_of}
 use Rattle.html_tree_state.specs.Insertions.{with_element}
@@ -31,6 +32,7 @@ use Rattle.name_sets.specs.ElementSets.{button_scope_barriers}
 use Rattle.name_sets.specs.Sets.{Elements, is_element_of, is_one_of}
 use Rattle.name_sets.specs.TagSets.{formatting}
 use Rattle.name_sets.specs.Wanted.{is_implied, one}
+use Rattle.tree_words.specs.Foreign.{stops_break_out}
 
 -- two steps, one of two, and none
 pub kept_on : (a b c : Building) → IsKept a b → IsKept b c → IsKept a c
@@ -103,6 +105,23 @@ other_end_kept (Some n) name b sound =
 
 pub closed_other_kept : (name : List ℕ) → Keeps (closed_by_other_end name)
 closed_other_kept name b sound = other_end_kept (named_before_special name b.forest b.stack) name b sound
+
+-- elements of foreign content are popped
+html_left : (f : Forest) (ns : List ℕ) → IsLeft (from_html f ns) ns
+html_left f [] = all_left []
+html_left f (n ∷ ns) = cond_both (stops_break_out (name_of n f) (is_integration_point n f)) (n ∷ ns) (from_html f ns)
+    (λ l. IsLeft l (n ∷ ns)) (λ e. all_left (n ∷ ns))
+    (λ e. left_behind n (from_html f ns) ns (html_left f ns))
+
+pub broken_out_kept : Keeps broken_out
+broken_out_kept b sound = kept_left b _ sound (html_left b.forest b.stack)
+
+foreign_end_kept : (found : Option ℕ) → Keeps (popped_with_any found)
+foreign_end_kept None b sound = kept_itself b sound
+foreign_end_kept (Some n) b sound = kept_nodes b _ refl (popped_with_sound n b sound)
+
+pub closed_foreign_kept : (name : List ℕ) → Keeps (closed_by_foreign_end name)
+closed_foreign_kept name b sound = foreign_end_kept (named_foreign name b.forest b.stack) b sound
 
 -- what is inserted
 root_there : (f : Forest) (ns : List ℕ) → IsForest f → ((n : ℕ) → IsIn n ns → Holds n f) → Holds (root_of ns) f

@@ -9,14 +9,17 @@ use Rattle.html_tree_state.specs.Laws.{Laws}
 use Rattle.html_tree_state.specs.Scopes.{popped, taken_off}
 use Rattle.html_tree_state.specs.Words.{Keeps, Words}
 use Rattle.html_tree_state.proofs.AdoptionLemmas.{taken_off_sound, unlisted_sound}
+use Rattle.html_tree_state.proofs.CalmLemmas.{reconstructed_once}
 use Rattle.html_tree_state.proofs.InsertedLemmas.{attributed_sound}
 use Rattle.html_tree_state.proofs.KeptAdoption.{adoption_kept, reconstructed_kept}
+use Rattle.html_tree_state.proofs.KeptLemmas.{broken_out_kept, closed_foreign_kept}
 use Rattle.html_tree_state.proofs.KeptLemmas.{closed_item_kept, closed_other_kept, closed_p_kept, commented_kept}
 use Rattle.html_tree_state.proofs.KeptLemmas.{doctyped_kept, formatting_kept, implied_kept, inserted_kept, kept_nodes}
 use Rattle.html_tree_state.proofs.KeptLemmas.{popped_down_kept, popped_to_kept, root_place, said_kept}
 use Rattle.html_tree_state.proofs.KeptLemmas.{with_element_kept}
 use Rattle.html_tree_state.proofs.ListedLemmas.{cleared_sound, marked_sound}
 use Rattle.html_tree_state.proofs.PlaceLemmas.{here_there}
+use Rattle.html_tree_state.proofs.SaidLemmas.{said_as_one}
 use Rattle.html_tree_state.proofs.SoundLemmas.{by_kinds, popped_sound, quirks_sound, stays_sound}
 
 fostering_kept : (is_on : Bool) → Keeps (λ b. record b { fostering = is_on })
@@ -69,6 +72,11 @@ words_kept laws = record {
   reconstructs = reconstructed_kept laws;
   adopts = adoption_kept laws;
   closes_other = closed_other_kept;
+  breaks_out = broken_out_kept;
+  closes_foreign = closed_foreign_kept;
   fosters = fostering_kept;
   takes_quirks = λ mode b sound. kept_nodes b _ refl (quirks_sound b mode sound);
+  says_as_one = said_as_one laws;
+  says_elsewhere = λ cs n b sound i. laws.words_stay (here b) cs n b.forest (sound.elements n i);
+  reconstructs_once = reconstructed_once;
 }

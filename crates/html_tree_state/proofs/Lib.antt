@@ -1,5 +1,6 @@
 pub mod AdoptionLemmas
 pub mod BlockWords
+pub mod CalmLemmas
 pub mod CopyLemmas
 pub mod CountedLemmas
 pub mod CountsKept
@@ -19,6 +20,7 @@ pub mod PlaceLemmas
 pub mod PlacedLemmas
 pub mod PointLemmas
 pub mod ResetLemmas
+pub mod SaidLemmas
 pub mod SeenLemmas
 pub mod SoundLemmas
 pub mod Stacks

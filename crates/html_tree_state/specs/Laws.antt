@@ -48,6 +48,8 @@ pub record Laws : Type 0 where
   pub element_stays : (name : QualName) (attributes : List Attribute) (template point : Bool) (n : ℕ)
       (f : Forest) → Holds n f → kind_at n (made_element name attributes template point f) ≡ kind_at n f
   pub put_stays : (place : Place) (n m : ℕ) (f : Forest) → kind_at m (put_node place n f) ≡ kind_at m f
+  pub texts_as_one : (place : Place) (cs ds : List ℕ) (f : Forest) → IsForest f → IsPlace place f →
+      put place (words (cs ++ ds)) f ≡ put place (words ds) (put place (words cs) f)
   pub words_stay : (place : Place) (cs : List ℕ) (n : ℕ) (f : Forest) → IsElement n f →
       kind_at n (put place (words cs) f) ≡ kind_at n f
   pub attributes_stay : (n m : ℕ) (more : List Attribute) (f : Forest) → IsElement m f →

@@ -1,6 +1,8 @@
--- What the words of tree construction keep: a sound tree stays sound, and no node goes.
-use Rattle.std.specs.Prelude.{◌≡◌, ℕ, ◌≤◌, Bool, true, List}
-use Rattle.html_forest.specs.Forest.{Holds, IsElement, nodes}
+-- What the words of tree construction keep: a sound tree stays sound, and no node goes; and how characters and
+-- reconstruction follow on one another.
+use Rattle.std.specs.Prelude.{◌≡◌, ℕ, ◌≤◌, Bool, true, List, ◌++◌}
+use Rattle.html_forest.specs.Forest.{Holds, IsElement, kind_at, nodes}
+use Rattle.html_forest.specs.Orders.{IsIn}
 use Rattle.html_forest.specs.Places.{below}
 use Rattle.html_forest.specs.declared.sink.QuirksMode.{QuirksMode}
 use Rattle.html_lexemes.specs.declared.names.Attribute.{Attribute}
@@ -9,6 +11,7 @@ use Rattle.html_lexemes.specs.declared.token.Doctype.{Doctype}
 use Rattle.html_lexemes.specs.declared.token.Tag.{Tag}
 use Rattle.html_tree_state.specs.Adoption.{adoption, closed_by_other_end, out_of_place}
 use Rattle.html_tree_state.specs.Building.{Building}
+use Rattle.html_tree_state.specs.Foreign.{broken_out, closed_by_foreign_end}
 use Rattle.html_tree_state.specs.Formatting.{cleared, inserted_formatting, marked, reconstructed, unlisted}
 use Rattle.html_tree_state.specs.Insertions.{commented_at, here, inserted, inserted_at, inserted_void, root_of, said}
 use Rattle.html_tree_state.specs.Insertions.{with_attributes_of, with_doctype_of, with_element}
@@ -55,5 +58,15 @@ pub record Words : Type 0 where
   pub reconstructs : Keeps reconstructed
   pub adopts : (name : List ℕ) → Keeps (adoption name)
   pub closes_other : (name : List ℕ) → Keeps (closed_by_other_end name)
+  pub breaks_out : Keeps broken_out
+  pub closes_foreign : (name : List ℕ) → Keeps (closed_by_foreign_end name)
   pub fosters : (is_on : Bool) → Keeps (λ b. record b { fostering = is_on })
   pub takes_quirks : (mode : QuirksMode) → Keeps (λ b. record b { quirks = mode })
+  -- characters behind characters are inserted as if they had come together, and open elements but for their children
+  -- are what they were
+  pub says_as_one : (cs ds : List ℕ) (b : Building) → Sound b → said ds (said cs b) ≡ said (cs ++ ds) b
+  pub says_elsewhere : (cs : List ℕ) (n : ℕ) (b : Building) → Sound b → IsIn n b.stack →
+      kind_at n (said cs b).forest ≡ kind_at n b.forest
+  -- what was reconstructed is not reconstructed again, with characters inserted between or with none
+  pub reconstructs_once : (cs : List ℕ) (b : Building) →
+      reconstructed (said cs (reconstructed b)) ≡ said cs (reconstructed b)

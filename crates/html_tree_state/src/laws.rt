@@ -6,8 +6,8 @@ use formatting_list::at_most_three_are_alike;
 use html_forest::{
     attributes_keep_a_forest, elements_stay, how_many_nodes_there_are, making_keeps_a_forest,
     putting_keeps_a_forest, reparenting_keeps_a_forest, taking_out_keeps_a_forest,
-    what_stands_above_what, what_was_made_may_be_put, what_was_not_named_stays,
-    where_children_stand,
+    texts_side_by_side_are_one, what_stands_above_what, what_was_made_may_be_put,
+    what_was_not_named_stays, where_children_stand,
 };
 
 /// What is known of a forest and its changes.
@@ -26,9 +26,11 @@ pub(crate) fn laws_of_forests()
     what_stands_above_what();
     elements_stay();
     what_was_not_named_stays();
+    texts_side_by_side_are_one();
 }
 
-/// Each word of tree construction keeps a sound tree sound, and takes no node away.
+/// Each word of tree construction keeps a sound tree sound, and takes no node away. Characters that are inserted one
+/// after another are inserted as if they had come together, and behind them nothing is reconstructed twice.
 pub fn words_keep_a_tree_sound()
     ensures { Words }
 {

@@ -19,6 +19,7 @@ returns c = record {
   leaf_stays = c.elements_stay.ensures.made;
   element_stays = c.elements_stay.ensures.made_element;
   put_stays = c.what_was_not_named_stays.ensures.put_kinds;
+  texts_as_one = c.texts_side_by_side_are_one.ensures;
   words_stay = c.elements_stay.ensures.words;
   attributes_stay = c.elements_stay.ensures.attributes;
   attribute_names = c.elements_stay.ensures.attribute_names;
