@@ -10,6 +10,7 @@ use Rattle.html_forest.specs.declared.sink.QuirksMode.TheVariants.{NoQuirks}
 use Rattle.html_grammar.specs.Items.{Item}
 use Rattle.html_grammar.specs.Items as items
 use Rattle.html_lexemes.specs.declared.names.Attribute.{Attribute}
+use Rattle.html_lexemes.specs.declared.names.Namespace.{Namespace}
 use Rattle.html_lexemes.specs.declared.names.Namespace.TheVariants.{Other}
 use Rattle.html_lexemes.specs.declared.names.QualName.{QualName}
 use Rattle.html_lexemes.specs.declared.token.Tag.{Tag}
@@ -88,25 +89,26 @@ abbrev pub dropping_doctypes : State
 dropping_doctypes = record begun { options = record default_options { drop_doctype = true } }
 
 -- what stands before a fragment: the root is node 1, the context, which has a name, node 2
-abbrev pub plain_element : List ℕ → Element
-plain_element name = record {
-  name = in_html name;
-  attributes = [];
-  contents = None;
-  integration_point = false;
-}
+abbrev pub plain_element : QualName → Element
+plain_element name = record { name = name; attributes = []; contents = None; integration_point = false }
 
-abbrev pub root_and_context : List ℕ → Forest
+abbrev pub root_and_context : QualName → Forest
 root_and_context name = record { kind = document; children = 1 ∷ [] }
-    ∷ record { kind = element (plain_element (codes "html")); children = [] }
+    ∷ record { kind = element (plain_element (in_html (codes "html"))); children = [] }
     ∷ record { kind = element (plain_element name); children = [] } ∷ []
 
-abbrev pub fragment_of : (context : List ℕ) → List InsertionMode → State
-fragment_of name modes = act reset (record begun {
+abbrev pub fragment_at : (context : QualName) → List InsertionMode → State
+fragment_at name modes = act reset (record begun {
   template_modes = modes;
   context = Some 2;
   tree = record begun.tree { stack = 1 ∷ []; forest = root_and_context name };
 })
+
+abbrev pub fragment_of : (context : List ℕ) → List InsertionMode → State
+fragment_of name modes = fragment_at (in_html name) modes
+
+abbrev pub foreign_fragment_of : Namespace → (context : List ℕ) → State
+foreign_fragment_of ns name = fragment_at (record { ns = ns; local = name }) []
 
 -- what is told: a start tag, with an attribute, or with a slash; an end tag; text; NUL; a comment
 abbrev pub start : List ℕ → Item

@@ -2,6 +2,7 @@
 #![tactic(auto)]
 
 mod cases;
+mod foreign;
 mod fragments;
 mod modes;
 mod pages;

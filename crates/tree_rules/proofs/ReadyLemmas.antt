@@ -15,7 +15,7 @@ use Rattle.name_sets.specs.Sets.{Elements, is_one_of}
 use Rattle.name_sets.specs.TagSets.{formatting}
 use Rattle.tree_rules.specs.Actions.{Action, act, add_attributes, adopt, adopt_in_scope}
 use Rattle.tree_rules.specs.Actions.{adopted_in_scope, append_doctype, clear_to_marker, close_item}
-use Rattle.tree_rules.specs.Actions.{close_other, close_p, comment_to_document, comment_to_root, forget_form}
+use Rattle.tree_rules.specs.Actions.{break_out, close_foreign, close_other, close_p, comment_to_document, comment_to_root, forget_form}
 use Rattle.tree_rules.specs.Actions.{forget_pending, foster, given_attributes, go_back, go_to, hold_mode}
 use Rattle.tree_rules.specs.Actions.{imply_but, in_html, insert, insert_comment, insert_foreign}
 use Rattle.tree_rules.specs.Actions.{insert_formatting, insert_named, insert_void, inserted_and_listed}
@@ -23,7 +23,7 @@ use Rattle.tree_rules.specs.Actions.{inserted_foreign, inserted_into, inserted_v
 use Rattle.tree_rules.specs.Actions.{keep_form, keep_head, keep_pending, pop, pop_down_to, pop_if}
 use Rattle.tree_rules.specs.Actions.{pop_template_mode, pop_to, popped_if, push_template_mode, put_marker}
 use Rattle.tree_rules.specs.Actions.{reconstruct, refuse_frameset, reset, say, set_quirks, skip_next_line_feed}
-use Rattle.tree_rules.specs.Actions.{stop, take_off, take_out, unlist}
+use Rattle.tree_rules.specs.Actions.{take_off, take_out, unlist}
 use Rattle.tree_rules.specs.Settling.{Ready}
 use Rattle.tree_rules.specs.State.{State}
 use Rattle.tree_rules.specs.declared.target.Target.TheVariants as targets
@@ -144,6 +144,8 @@ act_ready words there (imply_but set) s ready = by_word s _ ready (words.implies
 act_ready words there close_p s ready = by_word s _ ready words.closes_p
 act_ready words there (close_item set) s ready = by_word s _ ready (words.closes_item set)
 act_ready words there (close_other name) s ready = by_word s _ ready (words.closes_other name)
+act_ready words there break_out s ready = by_word s _ ready words.breaks_out
+act_ready words there (close_foreign name) s ready = by_word s _ ready (words.closes_foreign name)
 act_ready words there (insert_formatting tag) s ready = by_word s _ ready (listed_kept words tag)
 act_ready words there reconstruct s ready = by_word s _ ready words.reconstructs
 act_ready words there put_marker s ready = by_word s _ ready words.marks
@@ -171,4 +173,3 @@ act_ready words there skip_next_line_feed s ready =
     record { sound = ready.sound; head = ready.head; page = ready.page }
 act_ready words there (keep_pending c) s ready = record { sound = ready.sound; head = ready.head; page = ready.page }
 act_ready words there forget_pending s ready = record { sound = ready.sound; head = ready.head; page = ready.page }
-act_ready words there stop s ready = record { sound = ready.sound; head = ready.head; page = ready.page }

@@ -13,6 +13,7 @@ use Rattle.html_lexemes.specs.declared.token.Tag.{Tag}
 use Rattle.html_lexemes.specs.declared.token.TagKind.TheVariants.{StartTag}
 use Rattle.html_tree_state.specs.Adoption.{adoption, closed_by_other_end, out_of_place}
 use Rattle.html_tree_state.specs.Building.{Building}
+use Rattle.html_tree_state.specs.Foreign.{broken_out, closed_by_foreign_end}
 use Rattle.html_tree_state.specs.Formatting.{cleared, inserted_for, inserted_formatting, marked, name_for, reconstructed}
 use Rattle.html_tree_state.specs.Formatting.{unlisted}
 use Rattle.html_tree_state.specs.Insertions.{commented_at, here, inserted, inserted_at, inserted_void, root_of, said}
@@ -30,6 +31,7 @@ use Rattle.tree_rules.specs.declared.target.Target.{Target}
 use Rattle.tree_rules.specs.declared.target.Target.TheVariants as targets
 use Rattle.tree_words.specs.Modes.{reset_mode}
 use Rattle.tree_words.specs.declared.modes.InsertionMode.{InsertionMode}
+use Rattle.tree_words.specs.declared.modes.InsertionMode.TheVariants.{InBody, InTableText, Text}
 
 -- an element is inserted at the appropriate place, or, behind the head, into the head
 abbrev pub at_place : Target
@@ -63,6 +65,8 @@ pub data Action : Type 0 where
   close_p : Action
   close_item : Elements → Action
   close_other : List ℕ → Action
+  break_out : Action
+  close_foreign : List ℕ → Action
   -- the list of active formatting elements (13.2.4.3)
   insert_formatting : Tag → Action
   reconstruct : Action
@@ -86,7 +90,6 @@ pub data Action : Type 0 where
   skip_next_line_feed : Action
   keep_pending : ℕ → Action
   forget_pending : Action
-  stop : Action
 
 abbrev pub with_tree : (Building → Building) → State → State
 with_tree word s = record s { tree = word s.tree }
@@ -157,6 +160,23 @@ abbrev pub mode_by_elements : State → InsertionMode
 mode_by_elements s = reset_mode (option_map (λ n. name_of n s.tree.forest) s.context) (is_known s.head)
     (first_mode s.template_modes) (names_of s.tree)
 
+-- What asks for the text of an element alone leads to the mode "text", and no mode of text is gone back to: an action
+-- that says so leads into the body. (No rule says so.)
+abbrev pub is_text : InsertionMode → Bool
+is_text Text = true
+is_text _ = false
+
+abbrev pub is_of_text : InsertionMode → Bool
+is_of_text Text = true
+is_of_text InTableText = true
+is_of_text _ = false
+
+abbrev pub but_text : InsertionMode → InsertionMode
+but_text mode = if is_text mode then InBody else mode
+
+abbrev pub out_of_text : InsertionMode → InsertionMode
+out_of_text mode = if is_of_text mode then InBody else mode
+
 -- A whole table: goals cite it by its name.
 unfoldable pub act : Action → State → State
 act (insert targets.AtPlace tag) s = with_tree (inserted_for tag) s
@@ -183,6 +203,8 @@ act (imply_but set) s = with_tree (implied set) s
 act close_p s = with_tree with_closed_p s
 act (close_item set) s = with_tree (with_closed_item set) s
 act (close_other name) s = with_tree (closed_by_other_end name) s
+act break_out s = with_tree broken_out s
+act (close_foreign name) s = with_tree (closed_by_foreign_end name) s
 act (insert_formatting tag) s = with_tree (inserted_and_listed tag) s
 act reconstruct s = with_tree reconstructed s
 act put_marker s = with_tree marked s
@@ -190,12 +212,12 @@ act clear_to_marker s = with_tree cleared s
 act (unlist n) s = with_tree (unlisted n) s
 act (adopt name) s = with_tree (adoption name) s
 act (adopt_in_scope name) s = with_tree (adopted_in_scope name) s
-act (go_to mode) s = record s { mode = mode }
+act (go_to mode) s = record s { mode = but_text mode }
 act hold_mode s = record s { original = s.mode }
-act go_back s = record s { mode = s.original }
+act go_back s = record s { mode = out_of_text s.original }
 act (push_template_mode mode) s = record s { template_modes = mode ∷ s.template_modes }
 act pop_template_mode s = record s { template_modes = later_modes s.template_modes }
-act reset s = record s { mode = mode_by_elements s }
+act reset s = record s { mode = but_text (mode_by_elements s) }
 act keep_head s = record s { head = first_of s.tree.stack }
 act keep_form s = record s { form = first_of s.tree.stack }
 act forget_form s = record s { form = None }
@@ -203,7 +225,6 @@ act refuse_frameset s = record s { frameset_ok = false }
 act skip_next_line_feed s = record s { skip_lf = true }
 act (keep_pending c) s = record s { pending = s.pending ++ c ∷ [] }
 act forget_pending s = record s { pending = [] }
-act stop s = record s { is_over = true }
 
 -- one after the other
 abbrev pub act_all : List Action → State → State

@@ -3,10 +3,10 @@ use Rattle.std.specs.Prelude.{ℕ, Bool, false, true, List, [], ◌∷◌, if◌
 use Rattle.html_lexemes.specs.declared.token.Tag.{Tag}
 use Rattle.tag_groups.specs.declared.group.TagGroup.{TagGroup}
 use Rattle.tag_groups.specs.declared.group.TagGroup.TheVariants as groups
-use Rattle.tree_rules.specs.Actions.{Action, comment_to_document, comment_to_root, go_to, is_known, stop}
+use Rattle.tree_rules.specs.Actions.{Action, comment_to_document, comment_to_root, go_to, is_known}
 use Rattle.tree_rules.specs.HtmlTag.{html_start}
 use Rattle.tree_rules.specs.InBody.{in_body_text}
-use Rattle.tree_rules.specs.Rows.{Row, TextRow, again, done, ignored, then_again}
+use Rattle.tree_rules.specs.Rows.{Row, TextRow, again, done, ignored, stopped, then_again}
 use Rattle.tree_rules.specs.State.{State}
 use Rattle.tree_words.specs.declared.modes.InsertionMode.TheVariants.{AfterAfterBody, InBody}
 
@@ -31,7 +31,7 @@ after_body_end groups.Html s = if is_known s.context then ignored else done (go_
 after_body_end _ s = again body_again
 
 abbrev pub after_body_end_of_file : Row
-after_body_end_of_file = done (stop ∷ [])
+after_body_end_of_file = stopped
 
 abbrev pub after_after_body_text : (is_space : Bool) → TextRow
 after_after_body_text is_space = after_body_text is_space
@@ -46,4 +46,4 @@ abbrev pub after_after_body_end : Row
 after_after_body_end = again body_again
 
 abbrev pub after_after_body_end_of_file : Row
-after_after_body_end_of_file = done (stop ∷ [])
+after_after_body_end_of_file = stopped

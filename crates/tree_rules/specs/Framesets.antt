@@ -7,11 +7,11 @@ use Rattle.tag_groups.specs.declared.group.TagGroup.TheVariants as groups
 use Rattle.std.specs.Prelude.{ℕ}
 use Rattle.name_sets.specs.Wanted.{one}
 use Rattle.tree_rules.specs.Actions.{at_place, comment_to_document, go_to, insert, insert_void, is_current}
-use Rattle.tree_rules.specs.Actions.{is_known, pop, stop}
+use Rattle.tree_rules.specs.Actions.{is_known, pop}
 use Rattle.tree_rules.specs.HtmlTag.{html_start}
 use Rattle.tree_rules.specs.InBody.{in_body_text}
 use Rattle.tree_rules.specs.InHead.{in_head_start}
-use Rattle.tree_rules.specs.Rows.{Row, TextRow, done, dropped, ignored, said_behind}
+use Rattle.tree_rules.specs.Rows.{Row, TextRow, done, dropped, ignored, said_behind, stopped}
 use Rattle.tree_rules.specs.State.{State}
 use Rattle.tree_words.specs.declared.modes.InsertionMode.TheVariants.{AfterAfterFrameset, AfterFrameset}
 
@@ -57,4 +57,4 @@ after_after_frameset_text true = in_body_text true
 after_after_frameset_text false = dropped
 
 abbrev pub frameset_end_of_file : Row
-frameset_end_of_file = done (stop ∷ [])
+frameset_end_of_file = stopped

@@ -6,7 +6,7 @@ use Rattle.name_sets.specs.Wanted.{one}
 use Rattle.tag_groups.specs.declared.group.TagGroup.{TagGroup}
 use Rattle.tag_groups.specs.declared.group.TagGroup.TheVariants as groups
 use Rattle.tree_rules.specs.Actions.{at_place, clear_to_marker, pop_template_mode, pop_to, reconstruct}
-use Rattle.tree_rules.specs.Actions.{refuse_frameset, reset, stop}
+use Rattle.tree_rules.specs.Actions.{refuse_frameset, reset}
 use Rattle.tree_rules.specs.Asking.{has_template}
 use Rattle.tree_rules.specs.HtmlTag.{html_start}
 use Rattle.tree_rules.specs.InBodyBlocks.{block_start, body_start, button_start, definition_start, form_start}
@@ -14,7 +14,7 @@ use Rattle.tree_rules.specs.InBodyBlocks.{frameset_start, heading_start, list_it
 use Rattle.tree_rules.specs.InBodyBlocks.{preformatted_start, table_start}
 use Rattle.tree_rules.specs.InBodyPhrases.{in_body_phrase}
 use Rattle.tree_rules.specs.InHead.{in_head_start}
-use Rattle.tree_rules.specs.Rows.{Row, TextRow, again, done, ignored, said_behind}
+use Rattle.tree_rules.specs.Rows.{Row, TextRow, again, ignored, said_behind, stopped}
 use Rattle.tree_rules.specs.State.{State}
 
 abbrev pub in_body_text : (is_space : Bool) → TextRow
@@ -57,7 +57,7 @@ in_body_start group t s = in_body_phrase group t s
 abbrev pub in_template_end_of_file : State → Row
 in_template_end_of_file s = if has_template s
     then again (pop_to (one (codes "template")) ∷ clear_to_marker ∷ pop_template_mode ∷ reset ∷ [])
-    else done (stop ∷ [])
+    else stopped
 
 abbrev pub in_body_end_of_file : State → Row
 in_body_end_of_file s = in_template_end_of_file s

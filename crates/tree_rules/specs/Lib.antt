@@ -4,8 +4,8 @@ pub mod AfterHead
 pub mod Asking
 pub mod BeforeHead
 pub mod BeforeHtml
-pub mod Built
 pub mod Defaults
+pub mod ForeignContent
 pub mod Framesets
 pub mod HtmlTag
 pub mod InBody
@@ -22,8 +22,11 @@ pub mod InTable
 pub mod InTableBody
 pub mod InTemplate
 pub mod Initial
+pub mod Rank
 pub mod Rows
+pub mod Rule
 pub mod Settling
 pub mod State
 pub mod Table
 pub mod TextMode
+pub mod Welcome

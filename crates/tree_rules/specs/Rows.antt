@@ -2,9 +2,8 @@
 -- taken by the mode that stands ("reprocess the token").
 use Rattle.std.specs.Prelude.{ℕ, Bool, false, true, ◌||◌, ◌==◌, List, [], ◌∷◌, ◌++◌}
 use Rattle.html_lexemes.specs.declared.states.RawKind.{RawKind}
-use Rattle.tree_rules.specs.Actions.{Action, foster, go_to, hold_mode, keep_pending, say}
+use Rattle.tree_rules.specs.Actions.{Action, foster, keep_pending, say}
 use Rattle.tree_rules.specs.State.{Ask, raw}
-use Rattle.tree_words.specs.declared.modes.InsertionMode.TheVariants.{Text}
 
 pub data Row : Type 0 where
   done : List Action → Row
@@ -15,9 +14,13 @@ pub data Row : Type 0 where
 abbrev pub ignored : Row
 ignored = done []
 
--- an element whose text follows (13.2.6.2): its insertion, and then the mode "text"
+-- "Stop parsing": nothing is told behind the end.
+abbrev pub stopped : Row
+stopped = done []
+
+-- an element whose text follows (13.2.6.2): its insertion, behind which the mode is "text"
 abbrev pub reads_raw : RawKind → List Action → Row
-reads_raw kind actions = asks (raw kind) (actions ++ hold_mode ∷ go_to Text ∷ [])
+reads_raw kind actions = asks (raw kind) actions
 
 -- actions before those of a row
 abbrev pub after : List Action → Row → Row

@@ -1,6 +1,6 @@
 -- What a mark comes to, and what a page's items do: what tree construction means to a tokenizer.
-use Rattle.std.specs.Prelude.{◌≡◌, ℕ, zero, suc, ◌+◌, ◌*◌, ◌==◌, ◌&&◌, Bool, false, not, fold}
-use Rattle.std.specs.Prelude.{Option, None, Some, if◌then◌else◌, length}
+use Rattle.std.specs.Prelude.{◌≡◌, ℕ, zero, suc, ◌==◌, ◌&&◌, Bool, false, true, not, fold}
+use Rattle.std.specs.Prelude.{Option, None, Some, if◌then◌else◌}
 use Rattle.html_forest.specs.Forest.{Forest, Holds, name_of}
 use Rattle.html_grammar.specs.Items.{Item}
 use Rattle.html_grammar.specs.Items as items
@@ -13,34 +13,41 @@ use Rattle.html_lexemes.specs.declared.token.TokenSinkResult.TheVariants as answ
 use Rattle.html_tree_state.specs.Foreign.{adjusted_current}
 use Rattle.html_tree_state.specs.Sound.{Sound}
 use Rattle.tree_rules.specs.Actions.{act_all}
+use Rattle.tree_rules.specs.Rank.{rank}
 use Rattle.tree_rules.specs.Rows.{Row, again, asks, done}
+use Rattle.tree_rules.specs.Rule.{rule}
 use Rattle.tree_rules.specs.State.{Ask, Mark, State, character, comment, doctype, encoding, end_of_file, finish, nothing}
 use Rattle.tree_rules.specs.State.{null, plaintext, raw, script, start}
-use Rattle.tree_rules.specs.Table.{row}
 use Rattle.tree_words.specs.Foreign.{is_of_html}
+use Rattle.tree_words.specs.declared.modes.InsertionMode.TheVariants.{Text}
 
 -- a state, and what is asked of the tokenizer
 pub record Settled : Type 0 where
   pub ask : Ask
   pub state : State
 
+-- behind what asks for the text of an element the mode is "text", which goes back to the one that stood (13.2.6.2)
+abbrev pub entered : Ask → State → State
+entered nothing s = s
+entered plaintext s = s
+entered (raw kind) s = record s { original = s.mode; mode = Text }
+entered (script n) s = s
+entered (encoding name) s = s
+
 -- what a row gives; a mark that is taken again goes to the mode that stands then
 abbrev pub given_by : Row → State → (State → Settled) → Settled
 given_by (done actions) s further = record { ask = nothing; state = act_all actions s }
-given_by (asks ask actions) s further = record { ask = ask; state = act_all actions s }
+given_by (asks ask actions) s further = record { ask = ask; state = entered ask (act_all actions s) }
 given_by (again actions) s further = further (act_all actions s)
 
--- at most so many modes take a mark
+-- at most so many rules take a mark
 abbrev pub settle : ℕ → Mark → State → Settled
 settle zero mark s = record { ask = nothing; state = s }
-settle (suc k) mark s = given_by (row s.mode mark s) s (settle k mark)
+settle (suc k) mark s = given_by (rule mark s) s (settle k mark)
 
--- No mark is taken again so often: each time fewer elements are open, or the mode is one further on.
-abbrev pub limit : State → ℕ
-limit s = 8 * length s.tree.stack + 64
-
+-- The rank falls each time, so this is as often as it takes.
 abbrev pub taken : Mark → State → Settled
-taken mark s = settle (limit s) mark s
+taken mark s = settle (suc (rank mark s)) mark s
 
 -- a line feed right behind some start tags is left out (13.2.6.4.7); anything that is told ends this
 abbrev pub past_tag : State → State
@@ -56,6 +63,10 @@ mark_by EndTag t = finish t
 abbrev pub taken_tag : Tag → State → Settled
 taken_tag t s = taken (mark_by t.kind t) (past_tag s)
 
+-- behind the end nothing is taken
+abbrev pub over : State → State
+over s = record s { is_over = true }
+
 -- a page's items, one after the other
 abbrev pub step : State → Item → State
 step s (items.characters cs) = fold taken_character s cs
@@ -64,7 +75,7 @@ step s (items.tag t) = (taken_tag t s).state
 step s (items.comment cs) = (taken (comment cs) (past_tag s)).state
 step s (items.doctype d) = (taken (doctype d) (past_tag s)).state
 step s items.error = past_tag s
-step s items.end_of_file = (taken end_of_file (past_tag s)).state
+step s items.end_of_file = over (taken end_of_file (past_tag s)).state
 
 abbrev pub answer_of : {H : Type 0} → (ℕ → H) → Ask → TokenSinkResult H
 answer_of handle nothing = answers.Continue

@@ -1,0 +1,26 @@
+-- When tree construction may be told an item of a page, and what it takes then: anything before the end; in the mode
+-- "text" what is told in an element's text.
+use Rattle.std.specs.Prelude.{◌≡◌, Bool, false, true}
+use Rattle.html_grammar.specs.Items.{Item}
+use Rattle.html_grammar.specs.Kinds.{IsOf}
+use Rattle.html_grammar.specs.declared.modes.TextKind.TheVariants.{Plain}
+use Rattle.tree_rules.specs.Actions.{Action, act, is_text}
+use Rattle.tree_rules.specs.Settling.{Ready}
+use Rattle.tree_rules.specs.State.{State}
+
+-- a law: each action keeps what holds between two items
+abbrev pub ActionsKeep : Type 0
+ActionsKeep = (action : Action) (s : State) → Ready s → Ready (act action s)
+
+-- what holds between two items, and by which law it stays so
+pub record IsReady (s : State) : Type 0 where
+  pub ready : Ready s
+  pub actions : ActionsKeep
+
+abbrev pub IsHeard : (is_in_text : Bool) → Item → Type 0
+IsHeard true item = IsOf Plain item
+IsHeard false item = Unit {0}
+
+pub record IsWelcome (s : State) (item : Item) : Type 0 where
+  pub goes_on : s.is_over ≡ false
+  pub heard : IsHeard (is_text s.mode) item
