@@ -4,8 +4,6 @@ ghost use Rattle.html_lexemes.specs.declared.fault.ParseFault.TheVariants.{Memor
 ghost use Rattle.tree_actions.specs.Outcomes.{came_to, outcome};
 ghost use Rattle.tree_actions.specs.Parsed.{parsed};
 ghost use Rattle.tree_rules.specs.Settling.{Ready};
-ghost use Rattle.tree_rules.specs.Built.{is_built};
-ghost use Rattle.std.specs.Prelude.{true};
 ghost use Rattle.tree_rules.specs.AfterHead.{after_head_end, after_head_start, body_made};
 ghost use Rattle.tree_rules.specs.Rows.{again};
 
@@ -32,7 +30,7 @@ pub fn after_head_start<S: TreeSink>(
         (parsed S.number S.forest S.quirks page.old.kept page.old.tree.held page.old.tree.sink)) }
     ensures ready { OnOk result (Ready
         (parsed S.number S.forest S.quirks page.new.kept page.new.tree.held page.new.tree.sink)) }
-    ensures refused { is_built group ≡ true → IfErr result (λ e. e ≡ Memory) }
+    ensures memory { IfErr result (λ e. e ≡ Memory) }
 {
     match group {
         TagGroup::Html => html_start(page, tag),
@@ -42,15 +40,19 @@ pub fn after_head_start<S: TreeSink>(
             page.go_to(InsertionMode::InBody);
             Ok(Flow::Done)
         }
+        TagGroup::Frameset => {
+            page.insert(tag)?;
+            page.go_to(InsertionMode::InFrameset);
+            Ok(Flow::Done)
+        }
         TagGroup::Base
         | TagGroup::Link
         | TagGroup::Meta
         | TagGroup::Noframes
         | TagGroup::Script
         | TagGroup::Style
+        | TagGroup::Template
         | TagGroup::Title => in_head_start(page, Target::IntoHead, group, tag),
-        // framesets and templates are not built yet
-        TagGroup::Frameset | TagGroup::Template => Err(ParseFault::Failed),
         TagGroup::Head => Ok(Flow::Done),
         _ => make_body(page),
     }

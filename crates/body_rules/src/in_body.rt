@@ -4,8 +4,6 @@ ghost use Rattle.html_lexemes.specs.declared.fault.ParseFault.TheVariants.{Memor
 ghost use Rattle.tree_actions.specs.Outcomes.{came_to, outcome};
 ghost use Rattle.tree_actions.specs.Parsed.{parsed};
 ghost use Rattle.tree_rules.specs.Settling.{Ready};
-ghost use Rattle.tree_rules.specs.Built.{is_built};
-ghost use Rattle.std.specs.Prelude.{true};
 ghost use Rattle.tag_groups.specs.Groups.{tag_group};
 ghost use Rattle.tree_rules.specs.InBody.{in_body_start};
 ghost use Rattle.tree_rules.specs.InBodyEnds.{in_body_end};
@@ -13,8 +11,8 @@ ghost use Rattle.tree_rules.specs.InBodyPhrases.{in_body_phrase};
 
 use crate::html_tag::html_start;
 use crate::in_body_blocks::{
-    block_start, body_start, button_start, definition_start, form_start, heading_start,
-    list_item_start, plaintext_start, preformatted_start, table_start,
+    block_start, body_start, button_start, definition_start, form_start, frameset_start,
+    heading_start, list_item_start, plaintext_start, preformatted_start, table_start,
 };
 use crate::in_body_ends::{
     block_end, body_end, definition_end, form_end, formatting_end, heading_end, html_end,
@@ -22,9 +20,9 @@ use crate::in_body_ends::{
 };
 use crate::in_body_phrases::{
     anchor_start, formatting_start, iframe_start, image_start, input_start, marked_start,
-    no_break_start, noembed_start, noscript_start, option_group_start, option_start, other_start,
-    ruby_base_start, ruby_text_start, rule_start, select_start, textarea_start, void_phrase_start,
-    void_source_start, xmp_start,
+    math_start, no_break_start, noembed_start, noscript_start, option_group_start, option_start,
+    other_start, ruby_base_start, ruby_text_start, rule_start, select_start, svg_start,
+    textarea_start, void_phrase_start, void_source_start, xmp_start,
 };
 use crate::in_head::{in_head_start, template_end};
 use html_forest::TreeSink;
@@ -48,7 +46,7 @@ pub fn in_body_start<S: TreeSink>(
         (parsed S.number S.forest S.quirks page.old.kept page.old.tree.held page.old.tree.sink)) }
     ensures ready { OnOk result (Ready
         (parsed S.number S.forest S.quirks page.new.kept page.new.tree.held page.new.tree.sink)) }
-    ensures refused { is_built group ≡ true → IfErr result (λ e. e ≡ Memory) }
+    ensures memory { IfErr result (λ e. e ≡ Memory) }
 {
     match group {
         TagGroup::Html => html_start(page, tag),
@@ -58,10 +56,10 @@ pub fn in_body_start<S: TreeSink>(
         | TagGroup::Noframes
         | TagGroup::Script
         | TagGroup::Style
+        | TagGroup::Template
         | TagGroup::Title => in_head_start(page, Target::AtPlace, group, tag),
         TagGroup::Body => body_start(page, tag),
-        // templates and framesets are not built yet
-        TagGroup::Template | TagGroup::Frameset => Err(ParseFault::Failed),
+        TagGroup::Frameset => frameset_start(page, tag),
         TagGroup::Block | TagGroup::Paragraph => block_start(page, tag),
         TagGroup::Heading => heading_start(page, tag),
         TagGroup::Preformatted => preformatted_start(page, tag),
@@ -120,7 +118,7 @@ pub fn phrase_start<S: TreeSink>(
         (parsed S.number S.forest S.quirks page.old.kept page.old.tree.held page.old.tree.sink)) }
     ensures ready { OnOk result (Ready
         (parsed S.number S.forest S.quirks page.new.kept page.new.tree.held page.new.tree.sink)) }
-    ensures refused { is_built group ≡ true → IfErr result (λ e. e ≡ Memory) }
+    ensures memory { IfErr result (λ e. e ≡ Memory) }
 {
     formatting_groups_are_formatting();
     match group {
@@ -143,8 +141,8 @@ pub fn phrase_start<S: TreeSink>(
         TagGroup::OptionGroup => option_group_start(page, tag),
         TagGroup::RubyBase => ruby_base_start(page, tag),
         TagGroup::RubyText => ruby_text_start(page, tag),
-        // foreign content is not built yet
-        TagGroup::Math | TagGroup::Svg => Err(ParseFault::Failed),
+        TagGroup::Math => math_start(page, tag),
+        TagGroup::Svg => svg_start(page, tag),
         _ => other_start(page, tag),
     }
 }

@@ -4,7 +4,8 @@ ghost use Rattle.html_lexemes.specs.declared.fault.ParseFault.TheVariants.{Memor
 ghost use Rattle.tree_actions.specs.Outcomes.{came_to, outcome};
 ghost use Rattle.tree_actions.specs.Parsed.{parsed};
 ghost use Rattle.tree_rules.specs.Settling.{Ready};
-ghost use Rattle.tree_rules.specs.InBodyBlocks.{block_start, body_start, button_start, definition_start, form_start, heading_start};
+ghost use Rattle.tree_rules.specs.InBodyBlocks.{block_start, body_start, button_start, definition_start, form_start};
+ghost use Rattle.tree_rules.specs.InBodyBlocks.{frameset_start, heading_start};
 ghost use Rattle.tree_rules.specs.InBodyBlocks.{list_item_start, plaintext_start, preformatted_start, table_start};
 
 use html_forest::{QuirksMode, TreeSink};
@@ -240,5 +241,33 @@ pub fn body_start<S: TreeSink>(
     };
     page.add_attributes(body, &tag.attrs)?;
     page.refuse_frameset();
+    Ok(Flow::Done)
+}
+
+/// "frameset": it takes the place of a body that holds nothing yet.
+pub fn frameset_start<S: TreeSink>(
+    page: &mut Parse<S>,
+    tag: &Tag,
+) -> Result<Flow<S::Handle>, ParseFault>
+    requires ready { Ready (parsed S.number S.forest S.quirks page.old.kept page.old.tree.held page.old.tree.sink) }
+    ensures came { IfOk result (λ flow.
+        came_to flow (parsed S.number S.forest S.quirks page.new.kept page.new.tree.held page.new.tree.sink)
+        ≡ outcome S.handle (frameset_start tag.now
+        (parsed S.number S.forest S.quirks page.old.kept page.old.tree.held page.old.tree.sink))
+        (parsed S.number S.forest S.quirks page.old.kept page.old.tree.held page.old.tree.sink)) }
+    ensures ready { OnOk result (Ready
+        (parsed S.number S.forest S.quirks page.new.kept page.new.tree.held page.new.tree.sink)) }
+    ensures memory { IfErr result (λ e. e ≡ Memory) }
+{
+    if !page.kept.frameset_ok {
+        return Ok(Flow::Done);
+    }
+    let Some(body) = page.body() else {
+        return Ok(Flow::Done);
+    };
+    page.take_out(body)?;
+    page.pop_down_to(ElementSet::Html)?;
+    page.insert(tag)?;
+    page.go_to(InsertionMode::InFrameset);
     Ok(Flow::Done)
 }

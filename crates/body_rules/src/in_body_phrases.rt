@@ -9,15 +9,15 @@ ghost use Rattle.std.specs.Prelude.{true};
 ghost use Rattle.name_sets.specs.Sets.{is_one_of};
 ghost use Rattle.name_sets.specs.TagSets.{formatting};
 ghost use Rattle.tree_rules.specs.InBodyPhrases.{anchor_start, formatting_start, iframe_start, image_start, input_start};
-ghost use Rattle.tree_rules.specs.InBodyPhrases.{marked_start, no_break_start, noembed_start, noscript_in_body};
+ghost use Rattle.tree_rules.specs.InBodyPhrases.{marked_start, math_start, no_break_start, noembed_start, noscript_in_body};
 ghost use Rattle.tree_rules.specs.InBodyPhrases.{option_group_start, option_start, other_start, ruby_base_start};
 ghost use Rattle.tree_rules.specs.InBodyPhrases.{ruby_text_start, rule_start, select_start, textarea_start};
-ghost use Rattle.tree_rules.specs.InBodyPhrases.{void_phrase_start, void_source_start, xmp_start};
+ghost use Rattle.tree_rules.specs.InBodyPhrases.{svg_start, void_phrase_start, void_source_start, xmp_start};
 
 use crate::raw_text::read_raw;
 use html_forest::TreeSink;
 use html_lexemes::states::RawKind;
-use html_lexemes::{ParseFault, Tag};
+use html_lexemes::{Namespace, ParseFault, Tag};
 use name_sets::ElementSet;
 use tree_actions::{Flow, Parse};
 use tree_words::is_hidden;
@@ -451,5 +451,40 @@ pub fn other_start<S: TreeSink>(
 {
     page.reconstruct()?;
     page.insert(tag)?;
+    Ok(Flow::Done)
+}
+
+/// "math".
+pub fn math_start<S: TreeSink>(
+    page: &mut Parse<S>,
+    tag: &Tag,
+) -> Result<Flow<S::Handle>, ParseFault>
+    requires ready { Ready (parsed S.number S.forest S.quirks page.old.kept page.old.tree.held page.old.tree.sink) }
+    ensures came { IfOk result (λ flow.
+        came_to flow (parsed S.number S.forest S.quirks page.new.kept page.new.tree.held page.new.tree.sink)
+        ≡ outcome S.handle (math_start tag.now)
+        (parsed S.number S.forest S.quirks page.old.kept page.old.tree.held page.old.tree.sink)) }
+    ensures ready { OnOk result (Ready
+        (parsed S.number S.forest S.quirks page.new.kept page.new.tree.held page.new.tree.sink)) }
+    ensures memory { IfErr result (λ e. e ≡ Memory) }
+{
+    page.reconstruct()?;
+    page.insert_foreign(Namespace::MathMl, tag)?;
+    Ok(Flow::Done)
+}
+
+/// "svg".
+pub fn svg_start<S: TreeSink>(page: &mut Parse<S>, tag: &Tag) -> Result<Flow<S::Handle>, ParseFault>
+    requires ready { Ready (parsed S.number S.forest S.quirks page.old.kept page.old.tree.held page.old.tree.sink) }
+    ensures came { IfOk result (λ flow.
+        came_to flow (parsed S.number S.forest S.quirks page.new.kept page.new.tree.held page.new.tree.sink)
+        ≡ outcome S.handle (svg_start tag.now)
+        (parsed S.number S.forest S.quirks page.old.kept page.old.tree.held page.old.tree.sink)) }
+    ensures ready { OnOk result (Ready
+        (parsed S.number S.forest S.quirks page.new.kept page.new.tree.held page.new.tree.sink)) }
+    ensures memory { IfErr result (λ e. e ≡ Memory) }
+{
+    page.reconstruct()?;
+    page.insert_foreign(Namespace::Svg, tag)?;
     Ok(Flow::Done)
 }

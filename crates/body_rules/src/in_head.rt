@@ -1,11 +1,10 @@
 //! The "in head" insertion mode (WHATWG HTML, 13.2.6.4.4).
 ghost use Rattle.std.specs.Prelude.{◌≡◌, IfErr, IfOk, OnOk};
 ghost use Rattle.html_lexemes.specs.declared.fault.ParseFault.TheVariants.{Memory};
+ghost use Rattle.tag_groups.specs.declared.group.TagGroup.TheVariants.{Template};
 ghost use Rattle.tree_actions.specs.Outcomes.{came_to, outcome};
 ghost use Rattle.tree_actions.specs.Parsed.{parsed};
 ghost use Rattle.tree_rules.specs.Settling.{Ready};
-ghost use Rattle.tree_rules.specs.Built.{is_built};
-ghost use Rattle.std.specs.Prelude.{true};
 ghost use Rattle.std.specs.Prelude.{[], ◌∷◌};
 ghost use Rattle.tree_rules.specs.Actions.{insert, insert_void};
 ghost use Rattle.tree_rules.specs.InHead.{asks_encoding, head_closed, in_head_end, in_head_start, noscript_start};
@@ -40,7 +39,7 @@ pub fn in_head_start<S: TreeSink>(
         (parsed S.number S.forest S.quirks page.old.kept page.old.tree.held page.old.tree.sink)) }
     ensures ready { OnOk result (Ready
         (parsed S.number S.forest S.quirks page.new.kept page.new.tree.held page.new.tree.sink)) }
-    ensures refused { is_built group ≡ true → IfErr result (λ e. e ≡ Memory) }
+    ensures memory { IfErr result (λ e. e ≡ Memory) }
 {
     match group {
         TagGroup::Html => html_start(page, tag),
@@ -53,8 +52,7 @@ pub fn in_head_start<S: TreeSink>(
         TagGroup::Noscript => noscript_in_head(page, target, tag),
         TagGroup::Noframes | TagGroup::Style => raw_start(page, target, tag, RawKind::Rawtext),
         TagGroup::Script => raw_start(page, target, tag, RawKind::ScriptData),
-        // templates are not built yet
-        TagGroup::Template => Err(ParseFault::Failed),
+        TagGroup::Template => template_start(page, target, tag),
         TagGroup::Head => Ok(Flow::Done),
         _ => close_head(page),
     }
@@ -124,6 +122,30 @@ pub fn noscript_in_head<S: TreeSink>(
     }
     page.insert_at(target, tag)?;
     page.go_to(InsertionMode::InHeadNoscript);
+    Ok(Flow::Done)
+}
+
+/// "template": its contents are taken by modes of their own.
+pub fn template_start<S: TreeSink>(
+    page: &mut Parse<S>,
+    target: Target,
+    tag: &Tag,
+) -> Result<Flow<S::Handle>, ParseFault>
+    requires ready { Ready (parsed S.number S.forest S.quirks page.old.kept page.old.tree.held page.old.tree.sink) }
+    ensures came { IfOk result (λ flow.
+        came_to flow (parsed S.number S.forest S.quirks page.new.kept page.new.tree.held page.new.tree.sink)
+        ≡ outcome S.handle (in_head_start target Template tag.now
+        (parsed S.number S.forest S.quirks page.old.kept page.old.tree.held page.old.tree.sink))
+        (parsed S.number S.forest S.quirks page.old.kept page.old.tree.held page.old.tree.sink)) }
+    ensures ready { OnOk result (Ready
+        (parsed S.number S.forest S.quirks page.new.kept page.new.tree.held page.new.tree.sink)) }
+    ensures memory { IfErr result (λ e. e ≡ Memory) }
+{
+    page.insert_at(target, tag)?;
+    page.put_marker()?;
+    page.refuse_frameset();
+    page.go_to(InsertionMode::InTemplate);
+    page.push_template_mode(InsertionMode::InTemplate)?;
     Ok(Flow::Done)
 }
 

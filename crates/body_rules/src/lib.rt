@@ -21,8 +21,8 @@ pub use before_html::{before_html_end, before_html_start, make_html};
 pub use html_tag::html_start;
 pub use in_body::{in_body_end, in_body_start, phrase_start};
 pub use in_body_blocks::{
-    block_start, body_start, button_start, definition_start, form_start, heading_start,
-    list_item_start, plaintext_start, preformatted_start, table_start,
+    block_start, body_start, button_start, definition_start, form_start, frameset_start,
+    heading_start, list_item_start, plaintext_start, preformatted_start, table_start,
 };
 pub use in_body_ends::{
     block_end, body_end, definition_end, form_end, formatting_end, heading_end, html_end,
@@ -30,12 +30,13 @@ pub use in_body_ends::{
 };
 pub use in_body_phrases::{
     anchor_start, formatting_start, iframe_start, image_start, input_start, marked_start,
-    no_break_start, noembed_start, noscript_start, option_group_start, option_start, other_start,
-    ruby_base_start, ruby_text_start, rule_start, select_start, textarea_start, void_phrase_start,
-    void_source_start, xmp_start,
+    math_start, no_break_start, noembed_start, noscript_start, option_group_start, option_start,
+    other_start, ruby_base_start, ruby_text_start, rule_start, select_start, svg_start,
+    textarea_start, void_phrase_start, void_source_start, xmp_start,
 };
 pub use in_head::{
     close_head, in_head_end, in_head_start, meta_start, noscript_in_head, raw_start, template_end,
+    template_start,
 };
 pub use in_head_noscript::{close_noscript, in_head_noscript_end, in_head_noscript_start};
 pub use initial::{initial_comment, initial_doctype, initial_other};

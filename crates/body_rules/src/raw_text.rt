@@ -3,9 +3,8 @@ ghost use Rattle.std.specs.Prelude.{◌≡◌};
 ghost use Rattle.html_lexemes.specs.declared.token.TokenSinkResult.TheVariants.{RawData};
 ghost use Rattle.tree_actions.specs.Parsed.{parsed};
 ghost use Rattle.tree_actions.specs.declared.flow.Flow.TheVariants.{Asks};
-ghost use Rattle.tree_rules.specs.Actions.{act, go_to, hold_mode};
-ghost use Rattle.tree_rules.specs.Settling.{Ready};
-ghost use Rattle.tree_words.specs.declared.modes.InsertionMode.TheVariants.{Text};
+ghost use Rattle.tree_rules.specs.Settling.{Ready, entered};
+ghost use Rattle.tree_rules.specs.State.{raw};
 
 use html_forest::TreeSink;
 use html_lexemes::TokenSinkResult;
@@ -18,11 +17,11 @@ pub fn read_raw<S: TreeSink>(page: &mut Parse<S>, kind: RawKind) -> Flow<S::Hand
     requires ready { Ready (parsed S.number S.forest S.quirks page.old.kept page.old.tree.held page.old.tree.sink) }
     ensures asks { result ≡ Asks (RawData kind) }
     ensures seen { parsed S.number S.forest S.quirks page.new.kept page.new.tree.held page.new.tree.sink
-        ≡ act (go_to Text) (act hold_mode
-        (parsed S.number S.forest S.quirks page.old.kept page.old.tree.held page.old.tree.sink)) }
+        ≡ entered (raw kind)
+        (parsed S.number S.forest S.quirks page.old.kept page.old.tree.held page.old.tree.sink) }
     ensures ready { Ready (parsed S.number S.forest S.quirks page.new.kept page.new.tree.held page.new.tree.sink) }
 {
-    page.hold_mode();
-    page.go_to(InsertionMode::Text);
+    page.kept.original = page.kept.mode;
+    page.kept.mode = InsertionMode::Text;
     Flow::Asks(TokenSinkResult::RawData(kind))
 }

@@ -1,10 +1,13 @@
 -- What calls on the fields say of actions.
 use Rattle.std.proofs.Common.{◌≡◌, ℕ, ◌-◌, true, if◌then◌else◌, List, [], ◌∷◌, ◌++◌, Option, None, Some, MatchOption}
-use Rattle.std.proofs.Common.{option_to_list, append_assoc, fold, reverse, take, sym, ap, ◌∙◌}
+use Rattle.std.proofs.Common.{option_to_list, append_assoc, ap₂, bytes_eq, fold, map, refl, reverse, take, sym, ap, ◌∙◌}
 use Rattle.std.proofs.lemmas.List.{reverse-append, append-nil}
+use Rattle.html_forest.specs.Forest.{Forest, element_of, kind_at, name_of}
+use Rattle.html_lexemes.specs.declared.names.QualName.{QualName}
 use Rattle.html_lexemes.specs.declared.token.Tag.{Tag}
-use Rattle.html_tree_state.specs.Building.{Building}
+use Rattle.html_tree_state.specs.Building.{Building, are_counted}
 use Rattle.html_tree_state.specs.Formatting.{inserted_for, inserted_formatting}
+use Rattle.name_sets.specs.Counts.{counts_of}
 use Rattle.name_sets.specs.Sets.{is_one_of}
 use Rattle.name_sets.specs.TagSets.{formatting}
 use Rattle.tree_rules.specs.Actions.{act, inserted_and_listed, keep_pending, later_modes}
@@ -42,3 +45,15 @@ unfolding act
 kept_pending [] s = sym (with_pending s (append-nil s.pending))
 kept_pending (c ∷ cs) s = kept_pending cs (record s { pending = s.pending ++ c ∷ [] })
     ∙ with_pending s (append_assoc s.pending (c ∷ []) cs)
+
+-- what names the nodes have is all that the counts of open elements read of a forest
+pub same_names : (f g : Forest) → ((n : ℕ) → kind_at n g ≡ kind_at n f) → (ns : List ℕ) →
+    map (λ n. name_of n g) ns ≡ map (λ n. name_of n f) ns
+same_names f g same [] = refl
+same_names f g same (n ∷ ns) =
+    ap₂ (λ (name : QualName) (names : List QualName). name ∷ names) (ap (λ k. (element_of k).name) (same n))
+    (same_names f g same ns)
+
+pub out_counted : (counts stack : List ℕ) (f g : Forest) → ((n : ℕ) → kind_at n g ≡ kind_at n f) →
+    are_counted counts stack g ≡ are_counted counts stack f
+out_counted counts stack f g same = ap (λ names. bytes_eq counts (counts_of names)) (same_names f g same stack)

@@ -6,7 +6,7 @@ use Rattle.tree_actions.specs.declared.flow.Flow.{Flow}
 use Rattle.tree_actions.specs.declared.flow.Flow.TheVariants as flows
 use Rattle.tree_rules.specs.Actions.{act_all}
 use Rattle.tree_rules.specs.Rows.{Row, again, asks, done}
-use Rattle.tree_rules.specs.Settling.{answer_of}
+use Rattle.tree_rules.specs.Settling.{answer_of, entered}
 use Rattle.tree_rules.specs.State.{State}
 
 -- it is taken, with an answer to the tokenizer, or the mode that stands takes it
@@ -21,5 +21,5 @@ came_to flows.Again s = goes_on s
 
 abbrev pub outcome : {H : Type 0} → (ℕ → H) → Row → State → Outcome H
 outcome handle (done actions) s = finished Continue (act_all actions s)
-outcome handle (asks ask actions) s = finished (answer_of handle ask) (act_all actions s)
+outcome handle (asks ask actions) s = finished (answer_of handle ask) (entered ask (act_all actions s))
 outcome handle (again actions) s = goes_on (act_all actions s)

@@ -5,12 +5,12 @@ ghost use Rattle.tree_actions.specs.Parsed.{parsed};
 ghost use Rattle.tree_rules.specs.Settling.{Ready};
 ghost use Rattle.tree_rules.specs.Actions.{act, forget_form, forget_pending, go_back, go_to, hold_mode, keep_form};
 ghost use Rattle.tree_rules.specs.Actions.{keep_head, keep_pending, mode_by_elements, pop_template_mode};
-ghost use Rattle.tree_rules.specs.Actions.{push_template_mode, refuse_frameset, reset, skip_next_line_feed, stop};
+ghost use Rattle.tree_rules.specs.Actions.{push_template_mode, refuse_frameset, reset, skip_next_line_feed};
 
 use crate::parse::Parse;
 use html_forest::TreeSink;
 use html_lexemes::{ParseFault, Text};
-use tree_rules::actions_keep_what_is_ready;
+use tree_rules::{actions_keep_what_is_ready, but_text, out_of_text};
 use tree_words::InsertionMode;
 
 impl<S: TreeSink> Parse<S> {
@@ -24,7 +24,7 @@ impl<S: TreeSink> Parse<S> {
         ensures ready { Ready (parsed S.number S.forest S.quirks self.new.kept self.new.tree.held self.new.tree.sink) }
     {
         actions_keep_what_is_ready();
-        self.kept.mode = mode;
+        self.kept.mode = but_text(mode);
     }
 
     /// The mode is kept as the original one.
@@ -50,7 +50,7 @@ impl<S: TreeSink> Parse<S> {
         ensures ready { Ready (parsed S.number S.forest S.quirks self.new.kept self.new.tree.held self.new.tree.sink) }
     {
         actions_keep_what_is_ready();
-        self.kept.mode = self.kept.original;
+        self.kept.mode = out_of_text(self.kept.original);
     }
 
     /// A template is opened that has a mode.
@@ -148,19 +148,6 @@ impl<S: TreeSink> Parse<S> {
         self.kept.skip_lf = true;
     }
 
-    /// The page is over.
-    #[tactic(auto, unfolding(tree_rules::specs::Actions::act))]
-    pub fn stop(&mut self)
-        requires ready { Ready (parsed S.number S.forest S.quirks self.old.kept self.old.tree.held self.old.tree.sink) }
-        ensures seen { parsed S.number S.forest S.quirks self.new.kept self.new.tree.held self.new.tree.sink
-            ≡ act stop
-            (parsed S.number S.forest S.quirks self.old.kept self.old.tree.held self.old.tree.sink) }
-        ensures ready { Ready (parsed S.number S.forest S.quirks self.new.kept self.new.tree.held self.new.tree.sink) }
-    {
-        actions_keep_what_is_ready();
-        self.kept.is_over = true;
-    }
-
     /// The mode is reset to what the open elements ask for (WHATWG HTML, 13.2.4.1).
     #[tactic(auto, unfolding(tree_rules::specs::Actions::act))]
     pub fn reset(&mut self)
@@ -171,7 +158,7 @@ impl<S: TreeSink> Parse<S> {
         ensures ready { Ready (parsed S.number S.forest S.quirks self.new.kept self.new.tree.held self.new.tree.sink) }
     {
         actions_keep_what_is_ready();
-        self.kept.mode = self.mode_by_elements();
+        self.kept.mode = but_text(self.mode_by_elements());
     }
 
     // the mode that the open elements ask for

@@ -6,6 +6,7 @@ mod asking;
 mod changes;
 mod elements;
 mod flow;
+mod foreign;
 mod kept;
 mod parse;
 mod stack;

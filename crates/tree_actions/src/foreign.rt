@@ -1,0 +1,90 @@
+//! What the rules for foreign content and framesets do to the tree (WHATWG HTML, 13.2.6.1, 13.2.6.4.7 and 13.2.6.5).
+ghost use Rattle.std.specs.Prelude.{◌≡◌, IfErr, OnOk};
+ghost use Rattle.html_lexemes.specs.declared.fault.ParseFault.TheVariants.{Memory};
+ghost use Rattle.tree_actions.specs.Parsed.{parsed};
+ghost use Rattle.tree_rules.specs.Settling.{Ready};
+ghost use Rattle.tree_rules.specs.Actions.{act, break_out, close_foreign, insert_foreign, take_out};
+
+use crate::parse::Parse;
+use html_forest::{TreeSink, what_was_not_named_stays};
+use html_lexemes::{LocalName, Namespace, ParseFault, QualName, Tag};
+use html_tree_state::PushFlag;
+use tree_rules::actions_keep_what_is_ready;
+
+impl<S: TreeSink> Parse<S> {
+    /// An element is inserted for a tag in a namespace; one that closes itself is popped at once.
+    #[tactic(auto, unfolding(tree_rules::specs::Actions::act))]
+    pub fn insert_foreign(&mut self, ns: Namespace, tag: &Tag) -> Result<(), ParseFault>
+        requires ready { Ready (parsed S.number S.forest S.quirks self.old.kept self.old.tree.held self.old.tree.sink) }
+        ensures seen { OnOk result (
+            parsed S.number S.forest S.quirks self.new.kept self.new.tree.held self.new.tree.sink
+            ≡ act (insert_foreign ns tag.now)
+            (parsed S.number S.forest S.quirks self.old.kept self.old.tree.held self.old.tree.sink)) }
+        ensures ready { OnOk result
+            (Ready (parsed S.number S.forest S.quirks self.new.kept self.new.tree.held self.new.tree.sink)) }
+        ensures memory { IfErr result (λ e. e ≡ Memory) }
+    {
+        actions_keep_what_is_ready();
+        let name = QualName::new(ns, tag.name.try_clone()?);
+        let attrs = tag.attrs.try_clone()?;
+        let push = if tag.self_closing {
+            PushFlag::NoPush
+        } else {
+            PushFlag::Push
+        };
+        self.tree.insert_element(push, name, attrs)?;
+        Ok(())
+    }
+
+    /// Elements are popped until breaking out of foreign content stops.
+    #[tactic(auto, unfolding(tree_rules::specs::Actions::act))]
+    pub fn break_out(&mut self) -> Result<(), ParseFault>
+        requires ready { Ready (parsed S.number S.forest S.quirks self.old.kept self.old.tree.held self.old.tree.sink) }
+        ensures seen { OnOk result (
+            parsed S.number S.forest S.quirks self.new.kept self.new.tree.held self.new.tree.sink
+            ≡ act break_out
+            (parsed S.number S.forest S.quirks self.old.kept self.old.tree.held self.old.tree.sink)) }
+        ensures ready { OnOk result
+            (Ready (parsed S.number S.forest S.quirks self.new.kept self.new.tree.held self.new.tree.sink)) }
+        ensures memory { IfErr result (λ e. e ≡ Memory) }
+    {
+        actions_keep_what_is_ready();
+        self.tree.break_out_of_foreign_content()?;
+        Ok(())
+    }
+
+    /// An element of foreign content is closed that has a name.
+    #[tactic(auto, unfolding(tree_rules::specs::Actions::act))]
+    pub fn close_foreign(&mut self, name: &LocalName) -> Result<(), ParseFault>
+        requires ready { Ready (parsed S.number S.forest S.quirks self.old.kept self.old.tree.held self.old.tree.sink) }
+        ensures seen { OnOk result (
+            parsed S.number S.forest S.quirks self.new.kept self.new.tree.held self.new.tree.sink
+            ≡ act (close_foreign name.now)
+            (parsed S.number S.forest S.quirks self.old.kept self.old.tree.held self.old.tree.sink)) }
+        ensures ready { OnOk result
+            (Ready (parsed S.number S.forest S.quirks self.new.kept self.new.tree.held self.new.tree.sink)) }
+        ensures memory { IfErr result (λ e. e ≡ Memory) }
+    {
+        actions_keep_what_is_ready();
+        self.tree.process_end_tag_in_foreign_content(name)?;
+        Ok(())
+    }
+
+    /// A node is taken out of the tree; it stays open.
+    #[tactic(auto, unfolding(tree_rules::specs::Actions::act))]
+    pub fn take_out(&mut self, element: S::Handle) -> Result<(), ParseFault>
+        requires ready { Ready (parsed S.number S.forest S.quirks self.old.kept self.old.tree.held self.old.tree.sink) }
+        ensures seen { OnOk result (
+            parsed S.number S.forest S.quirks self.new.kept self.new.tree.held self.new.tree.sink
+            ≡ act (take_out (S.number element))
+            (parsed S.number S.forest S.quirks self.old.kept self.old.tree.held self.old.tree.sink)) }
+        ensures ready { OnOk result
+            (Ready (parsed S.number S.forest S.quirks self.new.kept self.new.tree.held self.new.tree.sink)) }
+        ensures memory { IfErr result (λ e. e ≡ Memory) }
+    {
+        actions_keep_what_is_ready();
+        what_was_not_named_stays();
+        self.tree.sink.remove_from_parent(element)?;
+        Ok(())
+    }
+}
