@@ -1,0 +1,2 @@
+pub mod FosterLemmas
+pub mod PendingLemmas

@@ -1,0 +1,142 @@
+//! The "in row" insertion mode (WHATWG HTML, 13.2.6.4.14).
+ghost use Rattle.std.specs.Prelude.{◌≡◌, IfErr, IfOk, OnOk};
+ghost use Rattle.html_lexemes.specs.declared.fault.ParseFault.TheVariants.{Memory};
+ghost use Rattle.tree_actions.specs.Outcomes.{came_to, outcome};
+ghost use Rattle.tree_actions.specs.Parsed.{parsed};
+ghost use Rattle.tree_rules.specs.Settling.{Ready};
+ghost use Rattle.tag_groups.specs.Groups.{tag_group};
+ghost use Rattle.tag_groups.specs.declared.group.TagGroup.TheVariants as groups;
+ghost use Rattle.tree_rules.specs.Actions.{act_all};
+ghost use Rattle.tree_rules.specs.InRow.{in_row_end, in_row_start, past_row, row_closed};
+
+use crate::in_table::{in_table_end, in_table_start};
+use html_forest::TreeSink;
+use html_lexemes::{ParseFault, Tag};
+use name_sets::ElementSet;
+use tag_groups::TagGroup;
+use tree_actions::{Flow, Parse};
+use tree_words::InsertionMode;
+
+/// A start tag.
+pub fn in_row_start<S: TreeSink>(
+    page: &mut Parse<S>,
+    group: TagGroup,
+    tag: &Tag,
+) -> Result<Flow<S::Handle>, ParseFault>
+    requires ready { Ready (parsed S.number S.forest S.quirks page.old.kept page.old.tree.held page.old.tree.sink) }
+    requires group { tag_group tag.now.name ≡ group }
+    ensures came { IfOk result (λ flow.
+        came_to flow (parsed S.number S.forest S.quirks page.new.kept page.new.tree.held page.new.tree.sink)
+        ≡ outcome S.handle (in_row_start group tag.now
+        (parsed S.number S.forest S.quirks page.old.kept page.old.tree.held page.old.tree.sink))
+        (parsed S.number S.forest S.quirks page.old.kept page.old.tree.held page.old.tree.sink)) }
+    ensures ready { OnOk result (Ready
+        (parsed S.number S.forest S.quirks page.new.kept page.new.tree.held page.new.tree.sink)) }
+    ensures memory { IfErr result (λ e. e ≡ Memory) }
+{
+    match group {
+        TagGroup::Cell => cell_in_row(page, tag),
+        TagGroup::Caption
+        | TagGroup::Column
+        | TagGroup::ColumnGroup
+        | TagGroup::Section
+        | TagGroup::Row => past_row(page),
+        _ => in_table_start(page, group, tag),
+    }
+}
+
+/// An end tag.
+pub fn in_row_end<S: TreeSink>(
+    page: &mut Parse<S>,
+    group: TagGroup,
+    tag: &Tag,
+) -> Result<Flow<S::Handle>, ParseFault>
+    requires ready { Ready (parsed S.number S.forest S.quirks page.old.kept page.old.tree.held page.old.tree.sink) }
+    ensures came { IfOk result (λ flow.
+        came_to flow (parsed S.number S.forest S.quirks page.new.kept page.new.tree.held page.new.tree.sink)
+        ≡ outcome S.handle (in_row_end group tag.now
+        (parsed S.number S.forest S.quirks page.old.kept page.old.tree.held page.old.tree.sink))
+        (parsed S.number S.forest S.quirks page.old.kept page.old.tree.held page.old.tree.sink)) }
+    ensures ready { OnOk result (Ready
+        (parsed S.number S.forest S.quirks page.new.kept page.new.tree.held page.new.tree.sink)) }
+    ensures memory { IfErr result (λ e. e ≡ Memory) }
+{
+    match group {
+        TagGroup::Row => {
+            if !page.in_table_scope(ElementSet::TableRow) {
+                return Ok(Flow::Done);
+            }
+            close_row(page)?;
+            Ok(Flow::Done)
+        }
+        TagGroup::Table => past_row(page),
+        TagGroup::Section => {
+            if !page.in_table_scope(ElementSet::Named(&tag.name)) {
+                return Ok(Flow::Done);
+            }
+            past_row(page)
+        }
+        TagGroup::Body
+        | TagGroup::Caption
+        | TagGroup::Column
+        | TagGroup::ColumnGroup
+        | TagGroup::Html
+        | TagGroup::Cell => Ok(Flow::Done),
+        _ => in_table_end(page, group, tag),
+    }
+}
+
+// "td", "th".
+fn cell_in_row<S: TreeSink>(page: &mut Parse<S>, tag: &Tag) -> Result<Flow<S::Handle>, ParseFault>
+    requires ready { Ready (parsed S.number S.forest S.quirks page.old.kept page.old.tree.held page.old.tree.sink) }
+    ensures came { IfOk result (λ flow.
+        came_to flow (parsed S.number S.forest S.quirks page.new.kept page.new.tree.held page.new.tree.sink)
+        ≡ outcome S.handle (in_row_start groups.Cell tag.now
+        (parsed S.number S.forest S.quirks page.old.kept page.old.tree.held page.old.tree.sink))
+        (parsed S.number S.forest S.quirks page.old.kept page.old.tree.held page.old.tree.sink)) }
+    ensures ready { OnOk result (Ready
+        (parsed S.number S.forest S.quirks page.new.kept page.new.tree.held page.new.tree.sink)) }
+    ensures memory { IfErr result (λ e. e ≡ Memory) }
+{
+    page.pop_down_to(ElementSet::TableRowContext)?;
+    page.insert(tag)?;
+    page.go_to(InsertionMode::InCell);
+    page.put_marker()?;
+    Ok(Flow::Done)
+}
+
+/// The row is closed.
+pub fn close_row<S: TreeSink>(page: &mut Parse<S>) -> Result<(), ParseFault>
+    requires ready { Ready (parsed S.number S.forest S.quirks page.old.kept page.old.tree.held page.old.tree.sink) }
+    ensures seen { OnOk result (
+        parsed S.number S.forest S.quirks page.new.kept page.new.tree.held page.new.tree.sink
+        ≡ act_all row_closed
+        (parsed S.number S.forest S.quirks page.old.kept page.old.tree.held page.old.tree.sink)) }
+    ensures ready { OnOk result (Ready
+        (parsed S.number S.forest S.quirks page.new.kept page.new.tree.held page.new.tree.sink)) }
+    ensures memory { IfErr result (λ e. e ≡ Memory) }
+{
+    page.pop_down_to(ElementSet::TableRowContext)?;
+    page.pop()?;
+    page.go_to(InsertionMode::InTableBody);
+    Ok(())
+}
+
+/// A tag that no row holds: an open one is closed, and the section takes the tag.
+pub fn past_row<S: TreeSink>(page: &mut Parse<S>) -> Result<Flow<S::Handle>, ParseFault>
+    requires ready { Ready (parsed S.number S.forest S.quirks page.old.kept page.old.tree.held page.old.tree.sink) }
+    ensures came { IfOk result (λ flow.
+        came_to flow (parsed S.number S.forest S.quirks page.new.kept page.new.tree.held page.new.tree.sink)
+        ≡ outcome S.handle (past_row
+        (parsed S.number S.forest S.quirks page.old.kept page.old.tree.held page.old.tree.sink))
+        (parsed S.number S.forest S.quirks page.old.kept page.old.tree.held page.old.tree.sink)) }
+    ensures ready { OnOk result (Ready
+        (parsed S.number S.forest S.quirks page.new.kept page.new.tree.held page.new.tree.sink)) }
+    ensures memory { IfErr result (λ e. e ≡ Memory) }
+{
+    if !page.in_table_scope(ElementSet::TableRow) {
+        return Ok(Flow::Done);
+    }
+    close_row(page)?;
+    Ok(Flow::Again)
+}

@@ -1,0 +1,314 @@
+//! The "in table" insertion mode (WHATWG HTML, 13.2.6.4.9).
+ghost use Rattle.std.specs.Prelude.{◌≡◌, IfErr, IfOk, OnOk};
+ghost use Rattle.html_lexemes.specs.declared.fault.ParseFault.TheVariants.{Memory};
+ghost use Rattle.tree_actions.specs.Outcomes.{came_to, outcome};
+ghost use Rattle.tree_actions.specs.Parsed.{parsed};
+ghost use Rattle.tree_rules.specs.Settling.{Ready};
+ghost use Rattle.tag_groups.specs.Groups.{tag_group};
+ghost use Rattle.tag_groups.specs.declared.group.TagGroup.TheVariants as groups;
+ghost use Rattle.std.specs.Prelude.{[], ◌∷◌, codes};
+ghost use Rattle.tree_rules.specs.Actions.{act_all, go_to, insert_named};
+ghost use Rattle.tree_rules.specs.InBody.{in_body_start};
+ghost use Rattle.tree_rules.specs.InBodyEnds.{in_body_end};
+ghost use Rattle.tree_rules.specs.InTable.{clear_to_table, form_in_table, in_table_end, in_table_start, input_in_table};
+ghost use Rattle.tree_rules.specs.InTable.{table_closed};
+ghost use Rattle.tree_rules.specs.Rows.{again, fostered};
+ghost use Rattle.tree_words.specs.declared.modes.InsertionMode.TheVariants.{InColumnGroup, InTableBody};
+
+use body_rules::{in_body_end, in_body_start, in_head_end, in_head_start};
+use html_forest::TreeSink;
+use html_lexemes::{ParseFault, Tag};
+use name_sets::ElementSet;
+use tag_groups::TagGroup;
+use tree_actions::{Flow, Parse};
+use tree_rules::Target;
+use tree_words::{InsertionMode, is_hidden};
+
+/// A start tag.
+pub fn in_table_start<S: TreeSink>(
+    page: &mut Parse<S>,
+    group: TagGroup,
+    tag: &Tag,
+) -> Result<Flow<S::Handle>, ParseFault>
+    requires ready { Ready (parsed S.number S.forest S.quirks page.old.kept page.old.tree.held page.old.tree.sink) }
+    requires group { tag_group tag.now.name ≡ group }
+    ensures came { IfOk result (λ flow.
+        came_to flow (parsed S.number S.forest S.quirks page.new.kept page.new.tree.held page.new.tree.sink)
+        ≡ outcome S.handle (in_table_start group tag.now
+        (parsed S.number S.forest S.quirks page.old.kept page.old.tree.held page.old.tree.sink))
+        (parsed S.number S.forest S.quirks page.old.kept page.old.tree.held page.old.tree.sink)) }
+    ensures ready { OnOk result (Ready
+        (parsed S.number S.forest S.quirks page.new.kept page.new.tree.held page.new.tree.sink)) }
+    ensures memory { IfErr result (λ e. e ≡ Memory) }
+{
+    match group {
+        TagGroup::Caption => caption_in_table(page, tag),
+        TagGroup::ColumnGroup => column_group_in_table(page, tag),
+        TagGroup::Column => make_column_group(page),
+        TagGroup::Section => section_in_table(page, tag),
+        TagGroup::Cell | TagGroup::Row => make_section(page),
+        TagGroup::Table => {
+            if !page.in_table_scope(ElementSet::Table) {
+                return Ok(Flow::Done);
+            }
+            close_table(page)?;
+            Ok(Flow::Again)
+        }
+        TagGroup::Style | TagGroup::Script | TagGroup::Template => {
+            in_head_start(page, Target::AtPlace, group, tag)
+        }
+        TagGroup::Input => input_in_table(page, tag),
+        TagGroup::Form => form_in_table(page, tag),
+        _ => start_in_body_fostered(page, group, tag),
+    }
+}
+
+/// An end tag.
+pub fn in_table_end<S: TreeSink>(
+    page: &mut Parse<S>,
+    group: TagGroup,
+    tag: &Tag,
+) -> Result<Flow<S::Handle>, ParseFault>
+    requires ready { Ready (parsed S.number S.forest S.quirks page.old.kept page.old.tree.held page.old.tree.sink) }
+    ensures came { IfOk result (λ flow.
+        came_to flow (parsed S.number S.forest S.quirks page.new.kept page.new.tree.held page.new.tree.sink)
+        ≡ outcome S.handle (in_table_end group tag.now
+        (parsed S.number S.forest S.quirks page.old.kept page.old.tree.held page.old.tree.sink))
+        (parsed S.number S.forest S.quirks page.old.kept page.old.tree.held page.old.tree.sink)) }
+    ensures ready { OnOk result (Ready
+        (parsed S.number S.forest S.quirks page.new.kept page.new.tree.held page.new.tree.sink)) }
+    ensures memory { IfErr result (λ e. e ≡ Memory) }
+{
+    match group {
+        TagGroup::Table => {
+            if !page.in_table_scope(ElementSet::Table) {
+                return Ok(Flow::Done);
+            }
+            close_table(page)?;
+            Ok(Flow::Done)
+        }
+        TagGroup::Body
+        | TagGroup::Caption
+        | TagGroup::Column
+        | TagGroup::ColumnGroup
+        | TagGroup::Html
+        | TagGroup::Section
+        | TagGroup::Cell
+        | TagGroup::Row => Ok(Flow::Done),
+        TagGroup::Template => in_head_end(page, group),
+        _ => end_in_body_fostered(page, group, tag),
+    }
+}
+
+// "caption".
+fn caption_in_table<S: TreeSink>(
+    page: &mut Parse<S>,
+    tag: &Tag,
+) -> Result<Flow<S::Handle>, ParseFault>
+    requires ready { Ready (parsed S.number S.forest S.quirks page.old.kept page.old.tree.held page.old.tree.sink) }
+    ensures came { IfOk result (λ flow.
+        came_to flow (parsed S.number S.forest S.quirks page.new.kept page.new.tree.held page.new.tree.sink)
+        ≡ outcome S.handle (in_table_start groups.Caption tag.now
+        (parsed S.number S.forest S.quirks page.old.kept page.old.tree.held page.old.tree.sink))
+        (parsed S.number S.forest S.quirks page.old.kept page.old.tree.held page.old.tree.sink)) }
+    ensures ready { OnOk result (Ready
+        (parsed S.number S.forest S.quirks page.new.kept page.new.tree.held page.new.tree.sink)) }
+    ensures memory { IfErr result (λ e. e ≡ Memory) }
+{
+    page.pop_down_to(ElementSet::TableContext)?;
+    page.put_marker()?;
+    page.insert(tag)?;
+    page.go_to(InsertionMode::InCaption);
+    Ok(Flow::Done)
+}
+
+// "colgroup".
+fn column_group_in_table<S: TreeSink>(
+    page: &mut Parse<S>,
+    tag: &Tag,
+) -> Result<Flow<S::Handle>, ParseFault>
+    requires ready { Ready (parsed S.number S.forest S.quirks page.old.kept page.old.tree.held page.old.tree.sink) }
+    ensures came { IfOk result (λ flow.
+        came_to flow (parsed S.number S.forest S.quirks page.new.kept page.new.tree.held page.new.tree.sink)
+        ≡ outcome S.handle (in_table_start groups.ColumnGroup tag.now
+        (parsed S.number S.forest S.quirks page.old.kept page.old.tree.held page.old.tree.sink))
+        (parsed S.number S.forest S.quirks page.old.kept page.old.tree.held page.old.tree.sink)) }
+    ensures ready { OnOk result (Ready
+        (parsed S.number S.forest S.quirks page.new.kept page.new.tree.held page.new.tree.sink)) }
+    ensures memory { IfErr result (λ e. e ≡ Memory) }
+{
+    page.pop_down_to(ElementSet::TableContext)?;
+    page.insert(tag)?;
+    page.go_to(InsertionMode::InColumnGroup);
+    Ok(Flow::Done)
+}
+
+// "col": its group is made.
+fn make_column_group<S: TreeSink>(page: &mut Parse<S>) -> Result<Flow<S::Handle>, ParseFault>
+    requires ready { Ready (parsed S.number S.forest S.quirks page.old.kept page.old.tree.held page.old.tree.sink) }
+    ensures came { IfOk result (λ flow.
+        came_to flow (parsed S.number S.forest S.quirks page.new.kept page.new.tree.held page.new.tree.sink)
+        ≡ outcome S.handle (again
+        (clear_to_table ∷ insert_named (codes "colgroup") ∷ go_to InColumnGroup ∷ []))
+        (parsed S.number S.forest S.quirks page.old.kept page.old.tree.held page.old.tree.sink)) }
+    ensures ready { OnOk result (Ready
+        (parsed S.number S.forest S.quirks page.new.kept page.new.tree.held page.new.tree.sink)) }
+    ensures memory { IfErr result (λ e. e ≡ Memory) }
+{
+    page.pop_down_to(ElementSet::TableContext)?;
+    page.insert_named("colgroup")?;
+    page.go_to(InsertionMode::InColumnGroup);
+    Ok(Flow::Again)
+}
+
+// "tbody", "tfoot", "thead".
+fn section_in_table<S: TreeSink>(
+    page: &mut Parse<S>,
+    tag: &Tag,
+) -> Result<Flow<S::Handle>, ParseFault>
+    requires ready { Ready (parsed S.number S.forest S.quirks page.old.kept page.old.tree.held page.old.tree.sink) }
+    ensures came { IfOk result (λ flow.
+        came_to flow (parsed S.number S.forest S.quirks page.new.kept page.new.tree.held page.new.tree.sink)
+        ≡ outcome S.handle (in_table_start groups.Section tag.now
+        (parsed S.number S.forest S.quirks page.old.kept page.old.tree.held page.old.tree.sink))
+        (parsed S.number S.forest S.quirks page.old.kept page.old.tree.held page.old.tree.sink)) }
+    ensures ready { OnOk result (Ready
+        (parsed S.number S.forest S.quirks page.new.kept page.new.tree.held page.new.tree.sink)) }
+    ensures memory { IfErr result (λ e. e ≡ Memory) }
+{
+    page.pop_down_to(ElementSet::TableContext)?;
+    page.insert(tag)?;
+    page.go_to(InsertionMode::InTableBody);
+    Ok(Flow::Done)
+}
+
+// "td", "th", "tr": their section is made.
+fn make_section<S: TreeSink>(page: &mut Parse<S>) -> Result<Flow<S::Handle>, ParseFault>
+    requires ready { Ready (parsed S.number S.forest S.quirks page.old.kept page.old.tree.held page.old.tree.sink) }
+    ensures came { IfOk result (λ flow.
+        came_to flow (parsed S.number S.forest S.quirks page.new.kept page.new.tree.held page.new.tree.sink)
+        ≡ outcome S.handle (again
+        (clear_to_table ∷ insert_named (codes "tbody") ∷ go_to InTableBody ∷ []))
+        (parsed S.number S.forest S.quirks page.old.kept page.old.tree.held page.old.tree.sink)) }
+    ensures ready { OnOk result (Ready
+        (parsed S.number S.forest S.quirks page.new.kept page.new.tree.held page.new.tree.sink)) }
+    ensures memory { IfErr result (λ e. e ≡ Memory) }
+{
+    page.pop_down_to(ElementSet::TableContext)?;
+    page.insert_named("tbody")?;
+    page.go_to(InsertionMode::InTableBody);
+    Ok(Flow::Again)
+}
+
+/// The table is closed.
+pub fn close_table<S: TreeSink>(page: &mut Parse<S>) -> Result<(), ParseFault>
+    requires ready { Ready (parsed S.number S.forest S.quirks page.old.kept page.old.tree.held page.old.tree.sink) }
+    ensures seen { OnOk result (
+        parsed S.number S.forest S.quirks page.new.kept page.new.tree.held page.new.tree.sink
+        ≡ act_all table_closed
+        (parsed S.number S.forest S.quirks page.old.kept page.old.tree.held page.old.tree.sink)) }
+    ensures ready { OnOk result (Ready
+        (parsed S.number S.forest S.quirks page.new.kept page.new.tree.held page.new.tree.sink)) }
+    ensures memory { IfErr result (λ e. e ≡ Memory) }
+{
+    page.pop_to(ElementSet::Table)?;
+    page.reset();
+    Ok(())
+}
+
+/// "input": one that isn't shown stays in the table.
+pub fn input_in_table<S: TreeSink>(
+    page: &mut Parse<S>,
+    tag: &Tag,
+) -> Result<Flow<S::Handle>, ParseFault>
+    requires ready { Ready (parsed S.number S.forest S.quirks page.old.kept page.old.tree.held page.old.tree.sink) }
+    requires group { tag_group tag.now.name ≡ groups.Input }
+    ensures came { IfOk result (λ flow.
+        came_to flow (parsed S.number S.forest S.quirks page.new.kept page.new.tree.held page.new.tree.sink)
+        ≡ outcome S.handle (input_in_table tag.now
+        (parsed S.number S.forest S.quirks page.old.kept page.old.tree.held page.old.tree.sink))
+        (parsed S.number S.forest S.quirks page.old.kept page.old.tree.held page.old.tree.sink)) }
+    ensures ready { OnOk result (Ready
+        (parsed S.number S.forest S.quirks page.new.kept page.new.tree.held page.new.tree.sink)) }
+    ensures memory { IfErr result (λ e. e ≡ Memory) }
+{
+    if is_hidden(&tag.attrs) {
+        page.insert_void(tag)?;
+        return Ok(Flow::Done);
+    }
+    start_in_body_fostered(page, TagGroup::Input, tag)
+}
+
+/// "form": it is empty, and known.
+pub fn form_in_table<S: TreeSink>(
+    page: &mut Parse<S>,
+    tag: &Tag,
+) -> Result<Flow<S::Handle>, ParseFault>
+    requires ready { Ready (parsed S.number S.forest S.quirks page.old.kept page.old.tree.held page.old.tree.sink) }
+    ensures came { IfOk result (λ flow.
+        came_to flow (parsed S.number S.forest S.quirks page.new.kept page.new.tree.held page.new.tree.sink)
+        ≡ outcome S.handle (form_in_table tag.now
+        (parsed S.number S.forest S.quirks page.old.kept page.old.tree.held page.old.tree.sink))
+        (parsed S.number S.forest S.quirks page.old.kept page.old.tree.held page.old.tree.sink)) }
+    ensures ready { OnOk result (Ready
+        (parsed S.number S.forest S.quirks page.new.kept page.new.tree.held page.new.tree.sink)) }
+    ensures memory { IfErr result (λ e. e ≡ Memory) }
+{
+    if page.has_template() {
+        return Ok(Flow::Done);
+    }
+    if page.kept.form.is_some() {
+        return Ok(Flow::Done);
+    }
+    page.insert(tag)?;
+    page.keep_form();
+    page.pop()?;
+    Ok(Flow::Done)
+}
+
+/// Any other start tag: it is taken as in a body, with foster parenting.
+#[tactic(auto, using(crate::proofs::FosterLemmas::started_fostered))]
+pub fn start_in_body_fostered<S: TreeSink>(
+    page: &mut Parse<S>,
+    group: TagGroup,
+    tag: &Tag,
+) -> Result<Flow<S::Handle>, ParseFault>
+    requires ready { Ready (parsed S.number S.forest S.quirks page.old.kept page.old.tree.held page.old.tree.sink) }
+    requires group { tag_group tag.now.name ≡ group }
+    ensures came { IfOk result (λ flow.
+        came_to flow (parsed S.number S.forest S.quirks page.new.kept page.new.tree.held page.new.tree.sink)
+        ≡ outcome S.handle (fostered (in_body_start group tag.now
+        (parsed S.number S.forest S.quirks page.old.kept page.old.tree.held page.old.tree.sink)))
+        (parsed S.number S.forest S.quirks page.old.kept page.old.tree.held page.old.tree.sink)) }
+    ensures ready { OnOk result (Ready
+        (parsed S.number S.forest S.quirks page.new.kept page.new.tree.held page.new.tree.sink)) }
+    ensures memory { IfErr result (λ e. e ≡ Memory) }
+{
+    page.set_fostering(true);
+    let flow = in_body_start(page, group, tag)?;
+    page.set_fostering(false);
+    Ok(flow)
+}
+
+/// Any other end tag: it is taken as in a body, with foster parenting.
+#[tactic(auto, using(crate::proofs::FosterLemmas::ended_fostered))]
+pub fn end_in_body_fostered<S: TreeSink>(
+    page: &mut Parse<S>,
+    group: TagGroup,
+    tag: &Tag,
+) -> Result<Flow<S::Handle>, ParseFault>
+    requires ready { Ready (parsed S.number S.forest S.quirks page.old.kept page.old.tree.held page.old.tree.sink) }
+    ensures came { IfOk result (λ flow.
+        came_to flow (parsed S.number S.forest S.quirks page.new.kept page.new.tree.held page.new.tree.sink)
+        ≡ outcome S.handle (fostered (in_body_end group tag.now
+        (parsed S.number S.forest S.quirks page.old.kept page.old.tree.held page.old.tree.sink)))
+        (parsed S.number S.forest S.quirks page.old.kept page.old.tree.held page.old.tree.sink)) }
+    ensures ready { OnOk result (Ready
+        (parsed S.number S.forest S.quirks page.new.kept page.new.tree.held page.new.tree.sink)) }
+    ensures memory { IfErr result (λ e. e ≡ Memory) }
+{
+    page.set_fostering(true);
+    let flow = in_body_end(page, group, tag)?;
+    page.set_fostering(false);
+    Ok(flow)
+}

@@ -1,0 +1,106 @@
+//! The "in table text" insertion mode (WHATWG HTML, 13.2.6.4.10): the text of a table, and what ends it.
+ghost use Rattle.std.specs.Prelude.{◌≡◌, IfErr, IfOk, OnOk};
+ghost use Rattle.html_lexemes.specs.declared.fault.ParseFault.TheVariants.{Memory};
+ghost use Rattle.tree_actions.specs.Outcomes.{came_to, outcome};
+ghost use Rattle.tree_actions.specs.Parsed.{parsed};
+ghost use Rattle.tree_rules.specs.Settling.{Ready};
+ghost use Rattle.std.specs.Prelude.{[], ◌∷◌, chars};
+ghost use Rattle.tree_rules.specs.Actions.{act, act_all, forget_pending, go_to, hold_mode};
+ghost use Rattle.tree_rules.specs.Asking.{all_are};
+ghost use Rattle.tree_rules.specs.InTable.{in_table_text_other, pending_said};
+ghost use Rattle.tree_rules.specs.Rows.{again, is_white_space};
+ghost use Rattle.tree_words.specs.declared.modes.InsertionMode.TheVariants.{InTableText};
+
+use html_forest::TreeSink;
+use html_lexemes::{ParseFault, Text};
+use tree_actions::{Flow, Parse};
+use tree_rules::actions_keep_what_is_ready;
+use tree_words::InsertionMode;
+
+/// Text of a table: its characters are collected.
+pub fn collect_text<S: TreeSink>(page: &mut Parse<S>) -> Result<Flow<S::Handle>, ParseFault>
+    requires ready { Ready (parsed S.number S.forest S.quirks page.old.kept page.old.tree.held page.old.tree.sink) }
+    ensures came { IfOk result (λ flow.
+        came_to flow (parsed S.number S.forest S.quirks page.new.kept page.new.tree.held page.new.tree.sink)
+        ≡ outcome S.handle (again (forget_pending ∷ hold_mode ∷ go_to InTableText ∷ []))
+        (parsed S.number S.forest S.quirks page.old.kept page.old.tree.held page.old.tree.sink)) }
+    ensures ready { OnOk result (Ready
+        (parsed S.number S.forest S.quirks page.new.kept page.new.tree.held page.new.tree.sink)) }
+    ensures memory { IfErr result (λ e. e ≡ Memory) }
+{
+    page.forget_pending();
+    page.hold_mode();
+    page.go_to(InsertionMode::InTableText);
+    Ok(Flow::Again)
+}
+
+/// Anything but a character: the pending characters are inserted, and the mode that stood takes the token.
+pub fn in_table_text_other<S: TreeSink>(page: &mut Parse<S>) -> Result<Flow<S::Handle>, ParseFault>
+    requires ready { Ready (parsed S.number S.forest S.quirks page.old.kept page.old.tree.held page.old.tree.sink) }
+    ensures came { IfOk result (λ flow.
+        came_to flow (parsed S.number S.forest S.quirks page.new.kept page.new.tree.held page.new.tree.sink)
+        ≡ outcome S.handle (in_table_text_other
+        (parsed S.number S.forest S.quirks page.old.kept page.old.tree.held page.old.tree.sink))
+        (parsed S.number S.forest S.quirks page.old.kept page.old.tree.held page.old.tree.sink)) }
+    ensures ready { OnOk result (Ready
+        (parsed S.number S.forest S.quirks page.new.kept page.new.tree.held page.new.tree.sink)) }
+    ensures memory { IfErr result (λ e. e ≡ Memory) }
+{
+    let text = take_pending(page);
+    say_pending(page, text)?;
+    page.go_back();
+    Ok(Flow::Again)
+}
+
+// The pending characters. None are left.
+#[tactic(auto, unfolding(tree_rules::specs::Actions::act))]
+fn take_pending<S: TreeSink>(page: &mut Parse<S>) -> Text
+    requires ready { Ready (parsed S.number S.forest S.quirks page.old.kept page.old.tree.held page.old.tree.sink) }
+    ensures text { result ≡
+        (parsed S.number S.forest S.quirks page.old.kept page.old.tree.held page.old.tree.sink).pending }
+    ensures seen { parsed S.number S.forest S.quirks page.new.kept page.new.tree.held page.new.tree.sink
+        ≡ act forget_pending
+        (parsed S.number S.forest S.quirks page.old.kept page.old.tree.held page.old.tree.sink) }
+    ensures ready { Ready (parsed S.number S.forest S.quirks page.new.kept page.new.tree.held page.new.tree.sink) }
+{
+    actions_keep_what_is_ready();
+    let none = Text::from(String::new(*page.kept.template_modes.allocator()));
+    std::mem::replace(&mut page.kept.pending, none)
+}
+
+// White space alone is inserted; other text as in a body, with foster parenting.
+fn say_pending<S: TreeSink>(page: &mut Parse<S>, text: Text) -> Result<(), ParseFault>
+    requires ready { Ready (parsed S.number S.forest S.quirks page.old.kept page.old.tree.held page.old.tree.sink) }
+    ensures seen { OnOk result (
+        parsed S.number S.forest S.quirks page.new.kept page.new.tree.held page.new.tree.sink
+        ≡ act_all (pending_said text)
+        (parsed S.number S.forest S.quirks page.old.kept page.old.tree.held page.old.tree.sink)) }
+    ensures ready { OnOk result (Ready
+        (parsed S.number S.forest S.quirks page.new.kept page.new.tree.held page.new.tree.sink)) }
+    ensures memory { IfErr result (λ e. e ≡ Memory) }
+{
+    if is_all_white_space(text.as_str()) {
+        page.say(text)?;
+        return Ok(());
+    }
+    page.set_fostering(true);
+    page.reconstruct()?;
+    page.say(text)?;
+    page.refuse_frameset();
+    page.set_fostering(false);
+    Ok(())
+}
+
+// whether a text is nothing but TAB, LF, FF, CR and SPACE
+fn is_all_white_space(text: &str) -> bool
+    ensures { result ≡ all_are is_white_space (chars text.now) }
+{
+    text.chars().all(|c| is_white_space(c))
+}
+
+// TAB, LF, FF, CR and SPACE
+fn is_white_space(c: char) -> bool
+    ensures { result ≡ is_white_space c }
+{
+    matches!(c, '\t' | '\n' | '\x0c' | '\r' | ' ')
+}
