@@ -1,0 +1,115 @@
+//! The "after body" insertion mode (WHATWG HTML, 13.2.6.4.17).
+ghost use Rattle.std.specs.Prelude.{◌≡◌, IfErr, IfOk, OnOk};
+ghost use Rattle.html_lexemes.specs.declared.fault.ParseFault.TheVariants.{Memory};
+ghost use Rattle.tree_actions.specs.Outcomes.{came_to, outcome};
+ghost use Rattle.tree_actions.specs.Parsed.{parsed};
+ghost use Rattle.tree_rules.specs.Settling.{Ready};
+ghost use Rattle.tree_rules.specs.AfterBody.{after_body_comment, after_body_end, after_body_end_of_file};
+ghost use Rattle.tree_rules.specs.AfterBody.{after_body_start, body_again};
+ghost use Rattle.tree_rules.specs.Rows.{again};
+
+use crate::page_end::stop_parsing;
+use body_rules::html_start;
+use html_forest::TreeSink;
+use html_lexemes::{ParseFault, Tag, Text};
+use tag_groups::TagGroup;
+use tree_actions::{Flow, Parse};
+use tree_words::InsertionMode;
+
+/// Anything else: the body goes on.
+pub fn body_again<S: TreeSink>(page: &mut Parse<S>) -> Result<Flow<S::Handle>, ParseFault>
+    requires ready { Ready (parsed S.number S.forest S.quirks page.old.kept page.old.tree.held page.old.tree.sink) }
+    ensures came { IfOk result (λ flow.
+        came_to flow (parsed S.number S.forest S.quirks page.new.kept page.new.tree.held page.new.tree.sink)
+        ≡ outcome S.handle (again body_again)
+        (parsed S.number S.forest S.quirks page.old.kept page.old.tree.held page.old.tree.sink)) }
+    ensures ready { OnOk result (Ready
+        (parsed S.number S.forest S.quirks page.new.kept page.new.tree.held page.new.tree.sink)) }
+    ensures memory { IfErr result (λ e. e ≡ Memory) }
+{
+    page.go_to(InsertionMode::InBody);
+    Ok(Flow::Again)
+}
+
+/// A comment goes to the root.
+pub fn after_body_comment<S: TreeSink>(
+    page: &mut Parse<S>,
+    text: Text,
+) -> Result<Flow<S::Handle>, ParseFault>
+    requires ready { Ready (parsed S.number S.forest S.quirks page.old.kept page.old.tree.held page.old.tree.sink) }
+    ensures came { IfOk result (λ flow.
+        came_to flow (parsed S.number S.forest S.quirks page.new.kept page.new.tree.held page.new.tree.sink)
+        ≡ outcome S.handle (after_body_comment text)
+        (parsed S.number S.forest S.quirks page.old.kept page.old.tree.held page.old.tree.sink)) }
+    ensures ready { OnOk result (Ready
+        (parsed S.number S.forest S.quirks page.new.kept page.new.tree.held page.new.tree.sink)) }
+    ensures memory { IfErr result (λ e. e ≡ Memory) }
+{
+    page.comment_to_root(text)?;
+    Ok(Flow::Done)
+}
+
+/// A start tag.
+pub fn after_body_start<S: TreeSink>(
+    page: &mut Parse<S>,
+    group: TagGroup,
+    tag: &Tag,
+) -> Result<Flow<S::Handle>, ParseFault>
+    requires ready { Ready (parsed S.number S.forest S.quirks page.old.kept page.old.tree.held page.old.tree.sink) }
+    ensures came { IfOk result (λ flow.
+        came_to flow (parsed S.number S.forest S.quirks page.new.kept page.new.tree.held page.new.tree.sink)
+        ≡ outcome S.handle (after_body_start group tag.now
+        (parsed S.number S.forest S.quirks page.old.kept page.old.tree.held page.old.tree.sink))
+        (parsed S.number S.forest S.quirks page.old.kept page.old.tree.held page.old.tree.sink)) }
+    ensures ready { OnOk result (Ready
+        (parsed S.number S.forest S.quirks page.new.kept page.new.tree.held page.new.tree.sink)) }
+    ensures memory { IfErr result (λ e. e ≡ Memory) }
+{
+    match group {
+        TagGroup::Html => html_start(page, tag),
+        _ => body_again(page),
+    }
+}
+
+/// An end tag. In a fragment "html" is ignored.
+pub fn after_body_end<S: TreeSink>(
+    page: &mut Parse<S>,
+    group: TagGroup,
+) -> Result<Flow<S::Handle>, ParseFault>
+    requires ready { Ready (parsed S.number S.forest S.quirks page.old.kept page.old.tree.held page.old.tree.sink) }
+    ensures came { IfOk result (λ flow.
+        came_to flow (parsed S.number S.forest S.quirks page.new.kept page.new.tree.held page.new.tree.sink)
+        ≡ outcome S.handle (after_body_end group
+        (parsed S.number S.forest S.quirks page.old.kept page.old.tree.held page.old.tree.sink))
+        (parsed S.number S.forest S.quirks page.old.kept page.old.tree.held page.old.tree.sink)) }
+    ensures ready { OnOk result (Ready
+        (parsed S.number S.forest S.quirks page.new.kept page.new.tree.held page.new.tree.sink)) }
+    ensures memory { IfErr result (λ e. e ≡ Memory) }
+{
+    match group {
+        TagGroup::Html => {
+            if page.kept.context.is_some() {
+                return Ok(Flow::Done);
+            }
+            page.go_to(InsertionMode::AfterAfterBody);
+            Ok(Flow::Done)
+        }
+        _ => body_again(page),
+    }
+}
+
+/// The end of the page.
+pub fn after_body_end_of_file<S: TreeSink>(
+    page: &mut Parse<S>,
+) -> Result<Flow<S::Handle>, ParseFault>
+    requires ready { Ready (parsed S.number S.forest S.quirks page.old.kept page.old.tree.held page.old.tree.sink) }
+    ensures came { IfOk result (λ flow.
+        came_to flow (parsed S.number S.forest S.quirks page.new.kept page.new.tree.held page.new.tree.sink)
+        ≡ outcome S.handle after_body_end_of_file
+        (parsed S.number S.forest S.quirks page.old.kept page.old.tree.held page.old.tree.sink)) }
+    ensures ready { OnOk result (Ready
+        (parsed S.number S.forest S.quirks page.new.kept page.new.tree.held page.new.tree.sink)) }
+    ensures memory { IfErr result (λ e. e ≡ Memory) }
+{
+    Ok(stop_parsing())
+}

@@ -1,0 +1,95 @@
+//! The "after frameset" and "after after frameset" insertion modes (WHATWG HTML, 13.2.6.4.19 and 13.2.6.4.21).
+ghost use Rattle.std.specs.Prelude.{◌≡◌, IfErr, IfOk, OnOk};
+ghost use Rattle.html_lexemes.specs.declared.fault.ParseFault.TheVariants.{Memory};
+ghost use Rattle.tree_actions.specs.Outcomes.{came_to, outcome};
+ghost use Rattle.tree_actions.specs.Parsed.{parsed};
+ghost use Rattle.tree_rules.specs.Settling.{Ready};
+ghost use Rattle.tree_rules.specs.Framesets.{after_after_frameset_comment, after_frameset_end, after_frameset_start};
+ghost use Rattle.tree_rules.specs.Framesets.{frameset_end_of_file};
+
+use crate::page_end::stop_parsing;
+use body_rules::{html_start, in_head_start};
+use html_forest::TreeSink;
+use html_lexemes::{ParseFault, Tag, Text};
+use tag_groups::TagGroup;
+use tree_actions::{Flow, Parse};
+use tree_rules::Target;
+use tree_words::InsertionMode;
+
+/// A start tag, in both modes.
+pub fn after_frameset_start<S: TreeSink>(
+    page: &mut Parse<S>,
+    group: TagGroup,
+    tag: &Tag,
+) -> Result<Flow<S::Handle>, ParseFault>
+    requires ready { Ready (parsed S.number S.forest S.quirks page.old.kept page.old.tree.held page.old.tree.sink) }
+    ensures came { IfOk result (λ flow.
+        came_to flow (parsed S.number S.forest S.quirks page.new.kept page.new.tree.held page.new.tree.sink)
+        ≡ outcome S.handle (after_frameset_start group tag.now
+        (parsed S.number S.forest S.quirks page.old.kept page.old.tree.held page.old.tree.sink))
+        (parsed S.number S.forest S.quirks page.old.kept page.old.tree.held page.old.tree.sink)) }
+    ensures ready { OnOk result (Ready
+        (parsed S.number S.forest S.quirks page.new.kept page.new.tree.held page.new.tree.sink)) }
+    ensures memory { IfErr result (λ e. e ≡ Memory) }
+{
+    match group {
+        TagGroup::Html => html_start(page, tag),
+        TagGroup::Noframes => in_head_start(page, Target::AtPlace, group, tag),
+        _ => Ok(Flow::Done),
+    }
+}
+
+/// An end tag behind the outermost frameset.
+pub fn after_frameset_end<S: TreeSink>(
+    page: &mut Parse<S>,
+    group: TagGroup,
+) -> Result<Flow<S::Handle>, ParseFault>
+    requires ready { Ready (parsed S.number S.forest S.quirks page.old.kept page.old.tree.held page.old.tree.sink) }
+    ensures came { IfOk result (λ flow.
+        came_to flow (parsed S.number S.forest S.quirks page.new.kept page.new.tree.held page.new.tree.sink)
+        ≡ outcome S.handle (after_frameset_end group)
+        (parsed S.number S.forest S.quirks page.old.kept page.old.tree.held page.old.tree.sink)) }
+    ensures ready { OnOk result (Ready
+        (parsed S.number S.forest S.quirks page.new.kept page.new.tree.held page.new.tree.sink)) }
+    ensures memory { IfErr result (λ e. e ≡ Memory) }
+{
+    match group {
+        TagGroup::Html => {
+            page.go_to(InsertionMode::AfterAfterFrameset);
+            Ok(Flow::Done)
+        }
+        _ => Ok(Flow::Done),
+    }
+}
+
+/// A comment behind a page of frames: it goes to the document.
+pub fn after_after_frameset_comment<S: TreeSink>(
+    page: &mut Parse<S>,
+    text: Text,
+) -> Result<Flow<S::Handle>, ParseFault>
+    requires ready { Ready (parsed S.number S.forest S.quirks page.old.kept page.old.tree.held page.old.tree.sink) }
+    ensures came { IfOk result (λ flow.
+        came_to flow (parsed S.number S.forest S.quirks page.new.kept page.new.tree.held page.new.tree.sink)
+        ≡ outcome S.handle (after_after_frameset_comment text)
+        (parsed S.number S.forest S.quirks page.old.kept page.old.tree.held page.old.tree.sink)) }
+    ensures ready { OnOk result (Ready
+        (parsed S.number S.forest S.quirks page.new.kept page.new.tree.held page.new.tree.sink)) }
+    ensures memory { IfErr result (λ e. e ≡ Memory) }
+{
+    page.comment_to_document(text)?;
+    Ok(Flow::Done)
+}
+
+/// The end of a page of frames, in all modes of framesets.
+pub fn frameset_end_of_file<S: TreeSink>(page: &mut Parse<S>) -> Result<Flow<S::Handle>, ParseFault>
+    requires ready { Ready (parsed S.number S.forest S.quirks page.old.kept page.old.tree.held page.old.tree.sink) }
+    ensures came { IfOk result (λ flow.
+        came_to flow (parsed S.number S.forest S.quirks page.new.kept page.new.tree.held page.new.tree.sink)
+        ≡ outcome S.handle frameset_end_of_file
+        (parsed S.number S.forest S.quirks page.old.kept page.old.tree.held page.old.tree.sink)) }
+    ensures ready { OnOk result (Ready
+        (parsed S.number S.forest S.quirks page.new.kept page.new.tree.held page.new.tree.sink)) }
+    ensures memory { IfErr result (λ e. e ≡ Memory) }
+{
+    Ok(stop_parsing())
+}

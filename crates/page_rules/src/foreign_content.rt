@@ -1,0 +1,158 @@
+//! Foreign content: by which rules a token is taken (WHATWG HTML, 13.2.6, "tree construction dispatcher"), and the
+//! rules for foreign content (13.2.6.5).
+ghost use Rattle.std.specs.Prelude.{◌≡◌, IfErr, IfOk, OnOk};
+ghost use Rattle.html_lexemes.specs.declared.fault.ParseFault.TheVariants.{Memory};
+ghost use Rattle.tree_actions.specs.Outcomes.{came_to, outcome};
+ghost use Rattle.tree_actions.specs.Parsed.{parsed};
+ghost use Rattle.tree_rules.specs.Settling.{Ready};
+ghost use Rattle.std.specs.Prelude.{ℕ, List, IfSome, if◌then◌else◌, is_some, option_map};
+ghost use Rattle.html_forest.specs.Forest.{IsElement};
+ghost use Rattle.html_lexemes.specs.declared.token.Doctype.{Doctype};
+ghost use Rattle.html_lexemes.specs.declared.token.Tag.{Tag as AnyTag};
+ghost use Rattle.html_tree_state.specs.Foreign.{named_foreign};
+ghost use Rattle.tree_rules.specs.Actions.{act, close_foreign, is_text};
+ghost use Rattle.tree_rules.specs.ForeignContent.{foreign_start, is_by_mode, namespace_at, node_here};
+ghost use Rattle.tree_rules.specs.State.{character, comment, doctype, finish, null, start};
+
+use html_forest::TreeSink;
+use html_lexemes::{Namespace, ParseFault, Tag};
+use tree_actions::{Flow, Parse};
+use tree_rules::{actions_keep_what_is_ready, open_elements_are_elements};
+use tree_words::{InsertionMode, is_of_html, takes_start_as_html, takes_text_as_html};
+
+/// Whether the mode takes text, by the rules for HTML.
+pub fn takes_text_here<S: TreeSink>(page: &Parse<S>) -> bool
+    requires ready { Ready (parsed S.number S.forest S.quirks page.now.kept page.now.tree.held page.now.tree.sink) }
+    ensures text { (c : ℕ) → result ≡ is_by_mode (character c)
+        (parsed S.number S.forest S.quirks page.now.kept page.now.tree.held page.now.tree.sink) }
+    ensures null { result ≡ is_by_mode null
+        (parsed S.number S.forest S.quirks page.now.kept page.now.tree.held page.now.tree.sink) }
+{
+    if is_text(page.kept.mode) {
+        return true;
+    }
+    let Some(node) = node_here(page) else {
+        return true;
+    };
+    let is_point = page
+        .tree
+        .sink
+        .is_mathml_annotation_xml_integration_point(node);
+    takes_text_as_html(page.tree.sink.elem_name(node), is_point)
+}
+
+/// Whether the mode takes a start tag, by the rules for HTML.
+pub fn takes_start_here<S: TreeSink>(page: &Parse<S>, tag: &Tag) -> bool
+    requires ready { Ready (parsed S.number S.forest S.quirks page.now.kept page.now.tree.held page.now.tree.sink) }
+    ensures { result ≡ is_by_mode (start tag.now)
+        (parsed S.number S.forest S.quirks page.now.kept page.now.tree.held page.now.tree.sink) }
+{
+    if is_text(page.kept.mode) {
+        return true;
+    }
+    let Some(node) = node_here(page) else {
+        return true;
+    };
+    let is_point = page
+        .tree
+        .sink
+        .is_mathml_annotation_xml_integration_point(node);
+    takes_start_as_html(page.tree.sink.elem_name(node), is_point, &tag.name)
+}
+
+/// Whether the mode takes comments, doctypes and end tags, by the rules for HTML.
+pub fn is_html_here<S: TreeSink>(page: &Parse<S>) -> bool
+    requires ready { Ready (parsed S.number S.forest S.quirks page.now.kept page.now.tree.held page.now.tree.sink) }
+    ensures comment { (cs : List ℕ) → result ≡ is_by_mode (comment cs)
+        (parsed S.number S.forest S.quirks page.now.kept page.now.tree.held page.now.tree.sink) }
+    ensures doctype { (d : Doctype) → result ≡ is_by_mode (doctype d)
+        (parsed S.number S.forest S.quirks page.now.kept page.now.tree.held page.now.tree.sink) }
+    ensures finish { (t : AnyTag) → result ≡ is_by_mode (finish t)
+        (parsed S.number S.forest S.quirks page.now.kept page.now.tree.held page.now.tree.sink) }
+{
+    if is_text(page.kept.mode) {
+        return true;
+    }
+    let Some(node) = node_here(page) else {
+        return true;
+    };
+    is_of_html(&page.tree.sink.elem_name(node).ns)
+}
+
+/// A start tag that does not break out: its element is of the adjusted current node's namespace.
+pub fn foreign_start<S: TreeSink>(
+    page: &mut Parse<S>,
+    tag: &Tag,
+) -> Result<Flow<S::Handle>, ParseFault>
+    requires ready { Ready (parsed S.number S.forest S.quirks page.old.kept page.old.tree.held page.old.tree.sink) }
+    ensures came { IfOk result (λ flow.
+        came_to flow (parsed S.number S.forest S.quirks page.new.kept page.new.tree.held page.new.tree.sink)
+        ≡ outcome S.handle (foreign_start tag.now
+        (parsed S.number S.forest S.quirks page.old.kept page.old.tree.held page.old.tree.sink))
+        (parsed S.number S.forest S.quirks page.old.kept page.old.tree.held page.old.tree.sink)) }
+    ensures ready { OnOk result (Ready
+        (parsed S.number S.forest S.quirks page.new.kept page.new.tree.held page.new.tree.sink)) }
+    ensures memory { IfErr result (λ e. e ≡ Memory) }
+{
+    let ns = namespace_here(page)?;
+    page.insert_foreign(ns, tag)?;
+    Ok(Flow::Done)
+}
+
+/// An end tag that does not break out: an element of its name is closed, before any element of HTML. Where there is
+/// none nothing changes, and the mode takes the tag.
+#[tactic(auto, unfolding(tree_rules::specs::Actions::act))]
+pub fn close_foreign_end<S: TreeSink>(page: &mut Parse<S>, tag: &Tag) -> Result<bool, ParseFault>
+    requires ready { Ready (parsed S.number S.forest S.quirks page.old.kept page.old.tree.held page.old.tree.sink) }
+    ensures closed { IfOk result (λ closed. closed ≡ is_some (named_foreign tag.now.name
+        (parsed S.number S.forest S.quirks page.old.kept page.old.tree.held page.old.tree.sink).tree.forest
+        (parsed S.number S.forest S.quirks page.old.kept page.old.tree.held page.old.tree.sink).tree.stack)) }
+    ensures seen { IfOk result (λ closed.
+        parsed S.number S.forest S.quirks page.new.kept page.new.tree.held page.new.tree.sink
+        ≡ (if closed then act (close_foreign tag.now.name)
+        (parsed S.number S.forest S.quirks page.old.kept page.old.tree.held page.old.tree.sink)
+        else parsed S.number S.forest S.quirks page.old.kept page.old.tree.held page.old.tree.sink)) }
+    ensures ready { OnOk result (Ready
+        (parsed S.number S.forest S.quirks page.new.kept page.new.tree.held page.new.tree.sink)) }
+    ensures memory { IfErr result (λ e. e ≡ Memory) }
+{
+    actions_keep_what_is_ready();
+    let closed = page.tree.process_end_tag_in_foreign_content(&tag.name)?;
+    Ok(closed)
+}
+
+// the namespace of the adjusted current node
+fn namespace_here<S: TreeSink>(page: &Parse<S>) -> Result<Namespace, ParseFault>
+    requires ready { Ready (parsed S.number S.forest S.quirks page.now.kept page.now.tree.held page.now.tree.sink) }
+    ensures namespace { IfOk result (λ ns. ns ≡ namespace_at
+        (parsed S.number S.forest S.quirks page.now.kept page.now.tree.held page.now.tree.sink).tree.forest
+        (node_here (parsed S.number S.forest S.quirks page.now.kept page.now.tree.held page.now.tree.sink))) }
+    ensures memory { IfErr result (λ e. e ≡ Memory) }
+{
+    let Some(node) = node_here(page) else {
+        return Ok(Namespace::Html);
+    };
+    let ns = page.tree.sink.elem_name(node).ns.try_clone()?;
+    Ok(ns)
+}
+
+// the adjusted current node
+fn node_here<S: TreeSink>(page: &Parse<S>) -> Option<S::Handle>
+    requires ready { Ready (parsed S.number S.forest S.quirks page.now.kept page.now.tree.held page.now.tree.sink) }
+    ensures node { option_map S.number result ≡ node_here
+        (parsed S.number S.forest S.quirks page.now.kept page.now.tree.held page.now.tree.sink) }
+    ensures there { IfSome result (λ node. IsElement (S.number node) (S.forest page.now.tree.sink)) }
+{
+    open_elements_are_elements();
+    page.tree.adjusted_current_node(page.kept.context)
+}
+
+// in an element whose contents are text alone the current node is an element of HTML
+fn is_text(mode: InsertionMode) -> bool
+    ensures { result ≡ is_text mode }
+{
+    match mode {
+        InsertionMode::Text => true,
+        _ => false,
+    }
+}

@@ -1,0 +1,91 @@
+//! The "in template" insertion mode (WHATWG HTML, 13.2.6.4.16).
+ghost use Rattle.std.specs.Prelude.{◌≡◌, IfErr, IfOk, OnOk};
+ghost use Rattle.html_lexemes.specs.declared.fault.ParseFault.TheVariants.{Memory};
+ghost use Rattle.tree_actions.specs.Outcomes.{came_to, outcome};
+ghost use Rattle.tree_actions.specs.Parsed.{parsed};
+ghost use Rattle.tree_rules.specs.Settling.{Ready};
+ghost use Rattle.tree_rules.specs.InTemplate.{becomes, in_template_end, in_template_start};
+
+use body_rules::{in_head_start, template_end};
+use html_forest::TreeSink;
+use html_lexemes::{ParseFault, Tag};
+use tag_groups::TagGroup;
+use tree_actions::{Flow, Parse};
+use tree_rules::Target;
+use tree_words::InsertionMode;
+
+/// A start tag: by the first one, the template's contents are those of another mode.
+pub fn in_template_start<S: TreeSink>(
+    page: &mut Parse<S>,
+    group: TagGroup,
+    tag: &Tag,
+) -> Result<Flow<S::Handle>, ParseFault>
+    requires ready { Ready (parsed S.number S.forest S.quirks page.old.kept page.old.tree.held page.old.tree.sink) }
+    ensures came { IfOk result (λ flow.
+        came_to flow (parsed S.number S.forest S.quirks page.new.kept page.new.tree.held page.new.tree.sink)
+        ≡ outcome S.handle (in_template_start group tag.now
+        (parsed S.number S.forest S.quirks page.old.kept page.old.tree.held page.old.tree.sink))
+        (parsed S.number S.forest S.quirks page.old.kept page.old.tree.held page.old.tree.sink)) }
+    ensures ready { OnOk result (Ready
+        (parsed S.number S.forest S.quirks page.new.kept page.new.tree.held page.new.tree.sink)) }
+    ensures memory { IfErr result (λ e. e ≡ Memory) }
+{
+    match group {
+        TagGroup::Base
+        | TagGroup::Link
+        | TagGroup::Meta
+        | TagGroup::Noframes
+        | TagGroup::Script
+        | TagGroup::Style
+        | TagGroup::Template
+        | TagGroup::Title => in_head_start(page, Target::AtPlace, group, tag),
+        TagGroup::Caption | TagGroup::ColumnGroup | TagGroup::Section => {
+            becomes(page, InsertionMode::InTable)
+        }
+        TagGroup::Column => becomes(page, InsertionMode::InColumnGroup),
+        TagGroup::Row => becomes(page, InsertionMode::InTableBody),
+        TagGroup::Cell => becomes(page, InsertionMode::InRow),
+        _ => becomes(page, InsertionMode::InBody),
+    }
+}
+
+/// The template's contents are those of another mode.
+pub fn becomes<S: TreeSink>(
+    page: &mut Parse<S>,
+    mode: InsertionMode,
+) -> Result<Flow<S::Handle>, ParseFault>
+    requires ready { Ready (parsed S.number S.forest S.quirks page.old.kept page.old.tree.held page.old.tree.sink) }
+    ensures came { IfOk result (λ flow.
+        came_to flow (parsed S.number S.forest S.quirks page.new.kept page.new.tree.held page.new.tree.sink)
+        ≡ outcome S.handle (becomes mode)
+        (parsed S.number S.forest S.quirks page.old.kept page.old.tree.held page.old.tree.sink)) }
+    ensures ready { OnOk result (Ready
+        (parsed S.number S.forest S.quirks page.new.kept page.new.tree.held page.new.tree.sink)) }
+    ensures memory { IfErr result (λ e. e ≡ Memory) }
+{
+    page.pop_template_mode();
+    page.push_template_mode(mode)?;
+    page.go_to(mode);
+    Ok(Flow::Again)
+}
+
+/// An end tag.
+pub fn in_template_end<S: TreeSink>(
+    page: &mut Parse<S>,
+    group: TagGroup,
+) -> Result<Flow<S::Handle>, ParseFault>
+    requires ready { Ready (parsed S.number S.forest S.quirks page.old.kept page.old.tree.held page.old.tree.sink) }
+    ensures came { IfOk result (λ flow.
+        came_to flow (parsed S.number S.forest S.quirks page.new.kept page.new.tree.held page.new.tree.sink)
+        ≡ outcome S.handle (in_template_end group
+        (parsed S.number S.forest S.quirks page.old.kept page.old.tree.held page.old.tree.sink))
+        (parsed S.number S.forest S.quirks page.old.kept page.old.tree.held page.old.tree.sink)) }
+    ensures ready { OnOk result (Ready
+        (parsed S.number S.forest S.quirks page.new.kept page.new.tree.held page.new.tree.sink)) }
+    ensures memory { IfErr result (λ e. e ≡ Memory) }
+{
+    match group {
+        TagGroup::Template => template_end(page),
+        _ => Ok(Flow::Done),
+    }
+}

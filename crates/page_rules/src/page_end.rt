@@ -1,0 +1,42 @@
+//! The end of the page, in the body and in templates (WHATWG HTML, 13.2.6.4.7 and 13.2.6.4.16).
+ghost use Rattle.std.specs.Prelude.{◌≡◌, IfErr, IfOk, OnOk};
+ghost use Rattle.html_lexemes.specs.declared.fault.ParseFault.TheVariants.{Memory};
+ghost use Rattle.tree_actions.specs.Outcomes.{came_to, outcome};
+ghost use Rattle.tree_actions.specs.Parsed.{parsed};
+ghost use Rattle.tree_rules.specs.Settling.{Ready};
+ghost use Rattle.tree_actions.specs.declared.flow.Flow.TheVariants.{Done};
+ghost use Rattle.tree_rules.specs.InBody.{in_template_end_of_file};
+
+use html_forest::TreeSink;
+use html_lexemes::ParseFault;
+use name_sets::ElementSet;
+use tree_actions::{Flow, Parse};
+
+/// A template that is open is closed, and the mode that stands then takes the end of the page.
+pub fn end_of_file<S: TreeSink>(page: &mut Parse<S>) -> Result<Flow<S::Handle>, ParseFault>
+    requires ready { Ready (parsed S.number S.forest S.quirks page.old.kept page.old.tree.held page.old.tree.sink) }
+    ensures came { IfOk result (λ flow.
+        came_to flow (parsed S.number S.forest S.quirks page.new.kept page.new.tree.held page.new.tree.sink)
+        ≡ outcome S.handle (in_template_end_of_file
+        (parsed S.number S.forest S.quirks page.old.kept page.old.tree.held page.old.tree.sink))
+        (parsed S.number S.forest S.quirks page.old.kept page.old.tree.held page.old.tree.sink)) }
+    ensures ready { OnOk result (Ready
+        (parsed S.number S.forest S.quirks page.new.kept page.new.tree.held page.new.tree.sink)) }
+    ensures memory { IfErr result (λ e. e ≡ Memory) }
+{
+    if !page.has_template() {
+        return Ok(stop_parsing());
+    }
+    page.pop_to(ElementSet::Template)?;
+    page.clear_to_marker();
+    page.pop_template_mode();
+    page.reset();
+    Ok(Flow::Again)
+}
+
+/// "Stop parsing": nothing is told behind the end.
+pub(crate) fn stop_parsing<H>() -> Flow<H>
+    ensures { result ≡ Done }
+{
+    Flow::Done
+}

@@ -1,0 +1,86 @@
+//! The "text" insertion mode (WHATWG HTML, 13.2.6.4.8).
+ghost use Rattle.std.specs.Prelude.{◌≡◌, IfErr, IfOk, OnOk};
+ghost use Rattle.html_lexemes.specs.declared.fault.ParseFault.TheVariants.{Memory};
+ghost use Rattle.tree_actions.specs.Outcomes.{came_to, outcome};
+ghost use Rattle.tree_actions.specs.Parsed.{parsed};
+ghost use Rattle.tree_rules.specs.Settling.{Ready};
+ghost use Rattle.html_tree_state.specs.OpenElements.{current_of};
+ghost use Rattle.tree_rules.specs.Actions.{act, go_back, pop};
+ghost use Rattle.tree_rules.specs.TextMode.{text_mode_end, text_mode_end_of_file};
+
+use html_forest::TreeSink;
+use html_lexemes::{ParseFault, TokenSinkResult};
+use tag_groups::TagGroup;
+use tree_actions::{Flow, Parse};
+
+/// An end tag: the element is over. A script is then run.
+pub fn text_mode_end<S: TreeSink>(
+    page: &mut Parse<S>,
+    group: TagGroup,
+) -> Result<Flow<S::Handle>, ParseFault>
+    requires ready { Ready (parsed S.number S.forest S.quirks page.old.kept page.old.tree.held page.old.tree.sink) }
+    ensures came { IfOk result (λ flow.
+        came_to flow (parsed S.number S.forest S.quirks page.new.kept page.new.tree.held page.new.tree.sink)
+        ≡ outcome S.handle (text_mode_end group
+        (parsed S.number S.forest S.quirks page.old.kept page.old.tree.held page.old.tree.sink))
+        (parsed S.number S.forest S.quirks page.old.kept page.old.tree.held page.old.tree.sink)) }
+    ensures ready { OnOk result (Ready
+        (parsed S.number S.forest S.quirks page.new.kept page.new.tree.held page.new.tree.sink)) }
+    ensures memory { IfErr result (λ e. e ≡ Memory) }
+{
+    match group {
+        TagGroup::Script => {
+            let script = current(page);
+            end_text(page)?;
+            Ok(Flow::Asks(TokenSinkResult::Script(script)))
+        }
+        _ => {
+            end_text(page)?;
+            Ok(Flow::Done)
+        }
+    }
+}
+
+/// The end of the page: the mode that stood takes it.
+pub fn text_mode_end_of_file<S: TreeSink>(
+    page: &mut Parse<S>,
+) -> Result<Flow<S::Handle>, ParseFault>
+    requires ready { Ready (parsed S.number S.forest S.quirks page.old.kept page.old.tree.held page.old.tree.sink) }
+    ensures came { IfOk result (λ flow.
+        came_to flow (parsed S.number S.forest S.quirks page.new.kept page.new.tree.held page.new.tree.sink)
+        ≡ outcome S.handle text_mode_end_of_file
+        (parsed S.number S.forest S.quirks page.old.kept page.old.tree.held page.old.tree.sink)) }
+    ensures ready { OnOk result (Ready
+        (parsed S.number S.forest S.quirks page.new.kept page.new.tree.held page.new.tree.sink)) }
+    ensures memory { IfErr result (λ e. e ≡ Memory) }
+{
+    end_text(page)?;
+    Ok(Flow::Again)
+}
+
+// the element is popped, and the mode that stood is gone back to
+fn end_text<S: TreeSink>(page: &mut Parse<S>) -> Result<(), ParseFault>
+    requires ready { Ready (parsed S.number S.forest S.quirks page.old.kept page.old.tree.held page.old.tree.sink) }
+    ensures seen { OnOk result (
+        parsed S.number S.forest S.quirks page.new.kept page.new.tree.held page.new.tree.sink
+        ≡ act go_back (act pop
+        (parsed S.number S.forest S.quirks page.old.kept page.old.tree.held page.old.tree.sink))) }
+    ensures ready { OnOk result (Ready
+        (parsed S.number S.forest S.quirks page.new.kept page.new.tree.held page.new.tree.sink)) }
+    ensures memory { IfErr result (λ e. e ≡ Memory) }
+{
+    page.pop()?;
+    page.go_back();
+    Ok(())
+}
+
+// the current node; the document where nothing is open
+fn current<S: TreeSink>(page: &Parse<S>) -> S::Handle
+    ensures { S.number result ≡ current_of
+        (parsed S.number S.forest S.quirks page.now.kept page.now.tree.held page.now.tree.sink).tree.stack }
+{
+    match page.tree.current_node() {
+        Some(current) => current,
+        None => page.tree.sink.get_document(),
+    }
+}
