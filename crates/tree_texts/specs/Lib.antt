@@ -1,0 +1,2 @@
+pub mod TextClasses
+pub mod TextRuns

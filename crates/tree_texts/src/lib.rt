@@ -1,0 +1,9 @@
+//! Runs of text in tree construction: what characters come to that an insertion mode treats alike, as laws (WHATWG HTML,
+//! 13.2.6.1 and 13.2.6.4); a part of `html_tree_builder`.
+#![tactic(auto)]
+
+mod laws;
+mod text_class;
+
+pub use laws::runs_of_text;
+pub use text_class::TextClass;
