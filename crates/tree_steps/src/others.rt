@@ -1,0 +1,142 @@
+//! By the insertion mode, what the end of the page, a comment and a doctype come to (WHATWG HTML, 13.2.6.4).
+ghost use Rattle.std.specs.Prelude.{◌≡◌, IfErr, IfOk, OnOk};
+ghost use Rattle.html_lexemes.specs.declared.fault.ParseFault.TheVariants.{Memory};
+ghost use Rattle.tree_actions.specs.Outcomes.{came_to, outcome};
+ghost use Rattle.tree_actions.specs.Parsed.{parsed};
+ghost use Rattle.tree_rules.specs.Settling.{Ready};
+ghost use Rattle.tree_rules.specs.Table.{comment_row, doctype_row, end_of_file_row};
+
+use body_rules::{
+    close_head, close_noscript, initial_comment, initial_doctype, initial_other, make_body,
+    make_head, make_html,
+};
+use html_forest::TreeSink;
+use html_lexemes::{Doctype, ParseFault, Text};
+use page_rules::{
+    after_after_body_comment, after_after_body_end_of_file, after_after_frameset_comment,
+    after_body_comment, after_body_end_of_file, end_of_file, frameset_end_of_file,
+    text_mode_end_of_file,
+};
+use table_rules::in_table_text_other;
+use tree_actions::{Flow, Parse};
+use tree_words::InsertionMode;
+
+/// The end of the page.
+pub fn page_end<S: TreeSink>(page: &mut Parse<S>) -> Result<Flow<S::Handle>, ParseFault>
+    requires ready { Ready (parsed S.number S.forest S.quirks page.old.kept page.old.tree.held page.old.tree.sink) }
+    ensures came { IfOk result (λ flow.
+        came_to flow (parsed S.number S.forest S.quirks page.new.kept page.new.tree.held page.new.tree.sink)
+        ≡ outcome S.handle (end_of_file_row (parsed S.number S.forest S.quirks page.old.kept page.old.tree.held page.old.tree.sink).mode
+        (parsed S.number S.forest S.quirks page.old.kept page.old.tree.held page.old.tree.sink))
+        (parsed S.number S.forest S.quirks page.old.kept page.old.tree.held page.old.tree.sink)) }
+    ensures ready { OnOk result (Ready
+        (parsed S.number S.forest S.quirks page.new.kept page.new.tree.held page.new.tree.sink)) }
+    ensures memory { IfErr result (λ e. e ≡ Memory) }
+{
+    match page.kept.mode {
+        InsertionMode::Initial => initial_other(page),
+        InsertionMode::BeforeHtml => make_html(page),
+        InsertionMode::BeforeHead => make_head(page),
+        InsertionMode::InHead => close_head(page),
+        InsertionMode::InHeadNoscript => close_noscript(page),
+        InsertionMode::AfterHead => make_body(page),
+        InsertionMode::InBody => end_of_file(page),
+        InsertionMode::Text => text_mode_end_of_file(page),
+        InsertionMode::InTable => end_of_file(page),
+        InsertionMode::InTableText => in_table_text_other(page),
+        InsertionMode::InCaption => end_of_file(page),
+        InsertionMode::InColumnGroup => end_of_file(page),
+        InsertionMode::InTableBody => end_of_file(page),
+        InsertionMode::InRow => end_of_file(page),
+        InsertionMode::InCell => end_of_file(page),
+        InsertionMode::InTemplate => end_of_file(page),
+        InsertionMode::AfterBody => after_body_end_of_file(page),
+        InsertionMode::InFrameset => frameset_end_of_file(page),
+        InsertionMode::AfterFrameset => frameset_end_of_file(page),
+        InsertionMode::AfterAfterBody => after_after_body_end_of_file(page),
+        InsertionMode::AfterAfterFrameset => frameset_end_of_file(page),
+    }
+}
+
+/// A comment.
+pub fn comment<S: TreeSink>(page: &mut Parse<S>, text: &Text) -> Result<Flow<S::Handle>, ParseFault>
+    requires ready { Ready (parsed S.number S.forest S.quirks page.old.kept page.old.tree.held page.old.tree.sink) }
+    ensures came { IfOk result (λ flow.
+        came_to flow (parsed S.number S.forest S.quirks page.new.kept page.new.tree.held page.new.tree.sink)
+        ≡ outcome S.handle (comment_row (parsed S.number S.forest S.quirks page.old.kept page.old.tree.held page.old.tree.sink).mode text.now
+        (parsed S.number S.forest S.quirks page.old.kept page.old.tree.held page.old.tree.sink))
+        (parsed S.number S.forest S.quirks page.old.kept page.old.tree.held page.old.tree.sink)) }
+    ensures ready { OnOk result (Ready
+        (parsed S.number S.forest S.quirks page.new.kept page.new.tree.held page.new.tree.sink)) }
+    ensures memory { IfErr result (λ e. e ≡ Memory) }
+{
+    match page.kept.mode {
+        InsertionMode::Initial => initial_comment(page, text.try_clone()?),
+        InsertionMode::BeforeHtml => {
+            page.comment_to_document(text.try_clone()?)?;
+            Ok(Flow::Done)
+        }
+        InsertionMode::InTableText => in_table_text_other(page),
+        InsertionMode::AfterBody => after_body_comment(page, text.try_clone()?),
+        InsertionMode::AfterAfterBody => after_after_body_comment(page, text.try_clone()?),
+        InsertionMode::AfterAfterFrameset => after_after_frameset_comment(page, text.try_clone()?),
+        InsertionMode::BeforeHead
+        | InsertionMode::InHead
+        | InsertionMode::InHeadNoscript
+        | InsertionMode::AfterHead
+        | InsertionMode::InBody
+        | InsertionMode::Text
+        | InsertionMode::InTable
+        | InsertionMode::InCaption
+        | InsertionMode::InColumnGroup
+        | InsertionMode::InTableBody
+        | InsertionMode::InRow
+        | InsertionMode::InCell
+        | InsertionMode::InTemplate
+        | InsertionMode::InFrameset
+        | InsertionMode::AfterFrameset => {
+            page.insert_comment(text.try_clone()?)?;
+            Ok(Flow::Done)
+        }
+    }
+}
+
+/// A doctype.
+pub fn doctype<S: TreeSink>(
+    page: &mut Parse<S>,
+    doctype: &Doctype,
+) -> Result<Flow<S::Handle>, ParseFault>
+    requires ready { Ready (parsed S.number S.forest S.quirks page.old.kept page.old.tree.held page.old.tree.sink) }
+    ensures came { IfOk result (λ flow.
+        came_to flow (parsed S.number S.forest S.quirks page.new.kept page.new.tree.held page.new.tree.sink)
+        ≡ outcome S.handle (doctype_row (parsed S.number S.forest S.quirks page.old.kept page.old.tree.held page.old.tree.sink).mode doctype.now
+        (parsed S.number S.forest S.quirks page.old.kept page.old.tree.held page.old.tree.sink))
+        (parsed S.number S.forest S.quirks page.old.kept page.old.tree.held page.old.tree.sink)) }
+    ensures ready { OnOk result (Ready
+        (parsed S.number S.forest S.quirks page.new.kept page.new.tree.held page.new.tree.sink)) }
+    ensures memory { IfErr result (λ e. e ≡ Memory) }
+{
+    match page.kept.mode {
+        InsertionMode::Initial => initial_doctype(page, doctype.try_clone()?),
+        InsertionMode::InTableText => in_table_text_other(page),
+        InsertionMode::BeforeHtml
+        | InsertionMode::BeforeHead
+        | InsertionMode::InHead
+        | InsertionMode::InHeadNoscript
+        | InsertionMode::AfterHead
+        | InsertionMode::InBody
+        | InsertionMode::Text
+        | InsertionMode::InTable
+        | InsertionMode::InCaption
+        | InsertionMode::InColumnGroup
+        | InsertionMode::InTableBody
+        | InsertionMode::InRow
+        | InsertionMode::InCell
+        | InsertionMode::InTemplate
+        | InsertionMode::AfterBody
+        | InsertionMode::InFrameset
+        | InsertionMode::AfterFrameset
+        | InsertionMode::AfterAfterBody
+        | InsertionMode::AfterAfterFrameset => Ok(Flow::Done),
+    }
+}

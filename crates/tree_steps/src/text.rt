@@ -1,0 +1,211 @@
+//! Text, in runs that a mode treats alike (WHATWG HTML, 13.2.6.1 and 13.2.6.4).
+ghost use Rattle.std.specs.Prelude.{◌≡◌, false, ℕ, ◌<◌, ◌∷◌, List, [], IfErr, IfOk, OnOk, chars, true, length};
+ghost use Rattle.std.specs.Str.{IsUtf8};
+ghost use Rattle.html_lexemes.specs.declared.fault.ParseFault.TheVariants.{Memory};
+ghost use Rattle.html_grammar.specs.Slices.{first_passes};
+ghost use Rattle.tree_actions.specs.Parsed.{parsed};
+ghost use Rattle.tree_rules.specs.Rows.{is_white_space};
+ghost use Rattle.tree_rules.specs.Settling.{Ready};
+ghost use Rattle.tree_rules.specs.Table.{text_row};
+ghost use Rattle.tree_steps.specs.Runs.{is_alike};
+ghost use Rattle.tree_texts.specs.TextClasses.{AreByMode, AreOfClass, IsHandedOn, IsSettled};
+ghost use Rattle.tree_texts.specs.TextRuns.{IsCalm, IsPassedOn, told, took};
+ghost use Rattle.tree_texts.specs.declared.text_class.TextClass.TheVariants.{HandedOn};
+
+use crate::runs::{are_white_space, first_is_white_space, is_without_characters, split_alike};
+use crate::text_classes::{is_handed_on_class, is_same_class, text_class};
+use crate::text_rules::hand_text_on;
+use html_forest::TreeSink;
+use html_lexemes::{ParseFault, Text};
+use page_rules::takes_text_here;
+use tree_actions::Parse;
+use tree_texts::{TextClass, runs_of_text};
+
+/// Characters of text, where no line feed is left out.
+pub fn take_text<S: TreeSink>(page: &mut Parse<S>, text: &str) -> Result<(), ParseFault>
+    requires calm { IsCalm (parsed S.number S.forest S.quirks page.old.kept page.old.tree.held page.old.tree.sink) }
+    ensures seen { OnOk result (
+        parsed S.number S.forest S.quirks page.new.kept page.new.tree.held page.new.tree.sink
+        ≡ took (chars text.now)
+        (parsed S.number S.forest S.quirks page.old.kept page.old.tree.held page.old.tree.sink)) }
+    ensures calm { OnOk result (IsCalm
+        (parsed S.number S.forest S.quirks page.new.kept page.new.tree.held page.new.tree.sink)) }
+    ensures memory { IfErr result (λ e. e ≡ Memory) }
+{
+    let mut rest = text;
+    'runs: while !is_without_characters(rest) {
+        rest = take_run(page, rest)?;
+    }
+    Ok(())
+}
+
+// The longest run in front that the mode which takes the first character treats alike; the answer is what is left.
+fn take_run<'a, S: TreeSink>(page: &mut Parse<S>, text: &'a str) -> Result<&'a str, ParseFault>
+    requires calm { IsCalm (parsed S.number S.forest S.quirks page.old.kept page.old.tree.held page.old.tree.sink) }
+    requires some { chars text.now ≡ [] → ⊥ }
+    ensures seen { IfOk result (λ left. took (chars left.now)
+        (parsed S.number S.forest S.quirks page.new.kept page.new.tree.held page.new.tree.sink)
+        ≡ took (chars text.now)
+        (parsed S.number S.forest S.quirks page.old.kept page.old.tree.held page.old.tree.sink)) }
+    ensures less { IfOk result (λ left. length (chars left.now) < length (chars text.now)) }
+    ensures utf8 { IfOk result (λ left. IsUtf8 left.now) }
+    ensures calm { OnOk result (IsCalm
+        (parsed S.number S.forest S.quirks page.new.kept page.new.tree.held page.new.tree.sink)) }
+    ensures memory { IfErr result (λ e. e ≡ Memory) }
+{
+    let is_space = first_is_white_space(text);
+    hand_on(page, is_space)?;
+    let left = take_front(page, text, is_space)?;
+    Ok(left)
+}
+
+// the longest run in front that the mode treats alike, which takes the first character
+fn take_front<'a, S: TreeSink>(
+    page: &mut Parse<S>,
+    text: &'a str,
+    is_space: bool,
+) -> Result<&'a str, ParseFault>
+    requires calm { IsCalm (parsed S.number S.forest S.quirks page.old.kept page.old.tree.held page.old.tree.sink) }
+    requires settled { IsSettled is_space
+        (parsed S.number S.forest S.quirks page.old.kept page.old.tree.held page.old.tree.sink) }
+    requires first { first_passes (is_alike is_space) (chars text.now) ≡ true }
+    ensures seen { IfOk result (λ left. took (chars left.now)
+        (parsed S.number S.forest S.quirks page.new.kept page.new.tree.held page.new.tree.sink)
+        ≡ took (chars text.now)
+        (parsed S.number S.forest S.quirks page.old.kept page.old.tree.held page.old.tree.sink)) }
+    ensures less { IfOk result (λ left. length (chars left.now) < length (chars text.now)) }
+    ensures utf8 { IfOk result (λ left. IsUtf8 left.now) }
+    ensures calm { OnOk result (IsCalm
+        (parsed S.number S.forest S.quirks page.new.kept page.new.tree.held page.new.tree.sink)) }
+    ensures memory { IfErr result (λ e. e ≡ Memory) }
+{
+    runs_of_text();
+    if !takes_text_here(page) {
+        say_told(page, text)?;
+        return Ok("");
+    }
+    let class = text_class(page, is_space);
+    if is_same_class(text_class(page, !is_space), class) {
+        say_as(page, class, text)?;
+        return Ok("");
+    }
+    let (run, behind) = split_alike(text, is_space);
+    say_as(page, class, run)?;
+    Ok(behind)
+}
+
+// text goes from mode to mode, up to one that takes it
+fn hand_on<S: TreeSink>(page: &mut Parse<S>, is_space: bool) -> Result<(), ParseFault>
+    requires calm { IsCalm (parsed S.number S.forest S.quirks page.old.kept page.old.tree.held page.old.tree.sink) }
+    ensures same { OnOk result ((c : ℕ) (cs : List ℕ) → is_white_space c ≡ is_space → took (c ∷ cs)
+        (parsed S.number S.forest S.quirks page.new.kept page.new.tree.held page.new.tree.sink)
+        ≡ took (c ∷ cs)
+        (parsed S.number S.forest S.quirks page.old.kept page.old.tree.held page.old.tree.sink)) }
+    ensures settled { OnOk result (IsSettled is_space
+        (parsed S.number S.forest S.quirks page.new.kept page.new.tree.held page.new.tree.sink)) }
+    ensures calm { OnOk result (IsCalm
+        (parsed S.number S.forest S.quirks page.new.kept page.new.tree.held page.new.tree.sink)) }
+    ensures memory { IfErr result (λ e. e ≡ Memory) }
+{
+    'rules: while is_handed_on(page, is_space) {
+        pass_on(page, is_space)?;
+    }
+    Ok(())
+}
+
+// the mode hands text on once
+fn pass_on<S: TreeSink>(page: &mut Parse<S>, is_space: bool) -> Result<(), ParseFault>
+    requires calm { IsCalm (parsed S.number S.forest S.quirks page.old.kept page.old.tree.held page.old.tree.sink) }
+    requires mode { AreByMode (parsed S.number S.forest S.quirks page.old.kept page.old.tree.held page.old.tree.sink) }
+    requires handed { IsHandedOn (text_row
+        (parsed S.number S.forest S.quirks page.old.kept page.old.tree.held page.old.tree.sink).mode is_space
+        (parsed S.number S.forest S.quirks page.old.kept page.old.tree.held page.old.tree.sink)) }
+    ensures passed { OnOk result (IsPassedOn is_space
+        (parsed S.number S.forest S.quirks page.old.kept page.old.tree.held page.old.tree.sink)
+        (parsed S.number S.forest S.quirks page.new.kept page.new.tree.held page.new.tree.sink)) }
+    ensures ready { OnOk result (Ready
+        (parsed S.number S.forest S.quirks page.new.kept page.new.tree.held page.new.tree.sink)) }
+    ensures memory { IfErr result (λ e. e ≡ Memory) }
+{
+    runs_of_text();
+    hand_text_on(page, is_space)?;
+    Ok(())
+}
+
+// whether the mode hands text on
+fn is_handed_on<S: TreeSink>(page: &Parse<S>, is_space: bool) -> bool
+    requires ready { Ready (parsed S.number S.forest S.quirks page.now.kept page.now.tree.held page.now.tree.sink) }
+    ensures yes { result ≡ true → AreByMode
+        (parsed S.number S.forest S.quirks page.now.kept page.now.tree.held page.now.tree.sink)
+        × IsHandedOn (text_row
+        (parsed S.number S.forest S.quirks page.now.kept page.now.tree.held page.now.tree.sink).mode is_space
+        (parsed S.number S.forest S.quirks page.now.kept page.now.tree.held page.now.tree.sink)) }
+    ensures no { result ≡ false → IsSettled is_space
+        (parsed S.number S.forest S.quirks page.now.kept page.now.tree.held page.now.tree.sink) }
+{
+    if !takes_text_here(page) {
+        return false;
+    }
+    is_handed_on_class(text_class(page, is_space))
+}
+
+// characters are inserted; others than white space refuse framesets
+fn say_told<S: TreeSink>(page: &mut Parse<S>, run: &str) -> Result<(), ParseFault>
+    requires ready { Ready (parsed S.number S.forest S.quirks page.old.kept page.old.tree.held page.old.tree.sink) }
+    ensures seen { OnOk result (
+        parsed S.number S.forest S.quirks page.new.kept page.new.tree.held page.new.tree.sink
+        ≡ told (chars run.now)
+        (parsed S.number S.forest S.quirks page.old.kept page.old.tree.held page.old.tree.sink)) }
+    ensures ready { OnOk result (Ready
+        (parsed S.number S.forest S.quirks page.new.kept page.new.tree.held page.new.tree.sink)) }
+    ensures memory { IfErr result (λ e. e ≡ Memory) }
+{
+    let alloc = *page.kept.template_modes.allocator();
+    page.say(Text::from_str(alloc, run)?)?;
+    if are_white_space(run) {
+        return Ok(());
+    }
+    page.refuse_frameset();
+    Ok(())
+}
+
+// a run by the mode
+fn say_as<S: TreeSink>(page: &mut Parse<S>, class: TextClass, run: &str) -> Result<(), ParseFault>
+    requires calm { IsCalm (parsed S.number S.forest S.quirks page.old.kept page.old.tree.held page.old.tree.sink) }
+    requires mode { AreByMode (parsed S.number S.forest S.quirks page.old.kept page.old.tree.held page.old.tree.sink) }
+    requires all { AreOfClass class (chars run.now)
+        (parsed S.number S.forest S.quirks page.old.kept page.old.tree.held page.old.tree.sink) }
+    requires some { chars run.now ≡ [] → ⊥ }
+    requires apart { class ≡ HandedOn → ⊥ }
+    ensures seen { OnOk result (
+        parsed S.number S.forest S.quirks page.new.kept page.new.tree.held page.new.tree.sink
+        ≡ took (chars run.now)
+        (parsed S.number S.forest S.quirks page.old.kept page.old.tree.held page.old.tree.sink)) }
+    ensures calm { OnOk result (IsCalm
+        (parsed S.number S.forest S.quirks page.new.kept page.new.tree.held page.new.tree.sink)) }
+    ensures memory { IfErr result (λ e. e ≡ Memory) }
+{
+    runs_of_text();
+    match class {
+        TextClass::Dropped => {
+            return Ok(());
+        }
+        TextClass::HandedOn => {
+            return Ok(());
+        }
+        TextClass::Inserted => {
+            let alloc = *page.kept.template_modes.allocator();
+            page.say(Text::from_str(alloc, run)?)?;
+            return Ok(());
+        }
+        TextClass::InBody => {
+            page.reconstruct()?;
+            say_told(page, run)?;
+            return Ok(());
+        }
+        TextClass::Kept => {
+            page.keep_pending(run)?;
+            return Ok(());
+        }
+    }
+}
