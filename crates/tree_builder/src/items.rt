@@ -1,0 +1,132 @@
+//! What the items of a page do to a tree that is being built: each is the step of the rule table (WHATWG HTML, 13.2.6).
+ghost use Rattle.std.specs.Prelude.{◌≡◌, IfErr, IfOk, OnOk, chars, string_bytes};
+ghost use Rattle.html_grammar.specs.Items.{characters, comment as comment_item, doctype as doctype_item, end_of_file, error, null_character, tag as tag_item};
+ghost use Rattle.html_lexemes.specs.declared.fault.ParseFault.TheVariants.{Memory};
+ghost use Rattle.tree_actions.specs.Parsed.{parsed};
+ghost use Rattle.tree_rules.specs.Settling.{Ready, reply, step};
+
+use html_forest::TreeSink;
+use html_grammar::slices::first_and_rest;
+use html_lexemes::{Doctype, ErrorMessage, ParseFault, Tag, Text, TokenSinkResult};
+use tree_actions::Parse;
+use tree_steps::{take_comment, take_doctype, take_null, take_page_end, take_tag, take_text};
+
+/// Characters of text. Without any nothing changes; a line feed right behind some start tags is left out.
+pub(crate) fn tell_characters<S: TreeSink>(
+    page: &mut Parse<S>,
+    text: Text,
+) -> Result<(), ParseFault>
+    requires ready { Ready (parsed S.number S.forest S.quirks page.old.kept page.old.tree.held page.old.tree.sink) }
+    ensures seen { OnOk result (
+        parsed S.number S.forest S.quirks page.new.kept page.new.tree.held page.new.tree.sink
+        ≡ step (parsed S.number S.forest S.quirks page.old.kept page.old.tree.held page.old.tree.sink)
+        (characters text)) }
+    ensures memory { IfErr result (λ e. e ≡ Memory) }
+{
+    let text = text.as_str();
+    let Some((first, rest)) = first_and_rest(text) else {
+        return Ok(());
+    };
+    let is_left_out = page.kept.skip_lf && first == '\n';
+    page.kept.skip_lf = false;
+    if is_left_out {
+        return take_text(page, rest);
+    }
+    take_text(page, text)
+}
+
+/// NUL.
+pub(crate) fn tell_null<S: TreeSink>(page: &mut Parse<S>) -> Result<(), ParseFault>
+    requires ready { Ready (parsed S.number S.forest S.quirks page.old.kept page.old.tree.held page.old.tree.sink) }
+    ensures seen { OnOk result (
+        parsed S.number S.forest S.quirks page.new.kept page.new.tree.held page.new.tree.sink
+        ≡ step (parsed S.number S.forest S.quirks page.old.kept page.old.tree.held page.old.tree.sink)
+        null_character) }
+    ensures memory { IfErr result (λ e. e ≡ Memory) }
+{
+    page.kept.skip_lf = false;
+    take_null(page)?;
+    Ok(())
+}
+
+/// A comment.
+pub(crate) fn tell_comment<S: TreeSink>(page: &mut Parse<S>, text: Text) -> Result<(), ParseFault>
+    requires ready { Ready (parsed S.number S.forest S.quirks page.old.kept page.old.tree.held page.old.tree.sink) }
+    ensures seen { OnOk result (
+        parsed S.number S.forest S.quirks page.new.kept page.new.tree.held page.new.tree.sink
+        ≡ step (parsed S.number S.forest S.quirks page.old.kept page.old.tree.held page.old.tree.sink)
+        (comment_item text)) }
+    ensures memory { IfErr result (λ e. e ≡ Memory) }
+{
+    page.kept.skip_lf = false;
+    take_comment(page, &text)?;
+    Ok(())
+}
+
+/// A doctype.
+pub(crate) fn tell_doctype<S: TreeSink>(
+    page: &mut Parse<S>,
+    doctype: Doctype,
+) -> Result<(), ParseFault>
+    requires ready { Ready (parsed S.number S.forest S.quirks page.old.kept page.old.tree.held page.old.tree.sink) }
+    ensures seen { OnOk result (
+        parsed S.number S.forest S.quirks page.new.kept page.new.tree.held page.new.tree.sink
+        ≡ step (parsed S.number S.forest S.quirks page.old.kept page.old.tree.held page.old.tree.sink)
+        (doctype_item doctype)) }
+    ensures memory { IfErr result (λ e. e ≡ Memory) }
+{
+    page.kept.skip_lf = false;
+    take_doctype(page, &doctype)?;
+    Ok(())
+}
+
+/// A parse error: it ends the rule of the line feed.
+pub(crate) fn tell_error<S: TreeSink>(
+    page: &mut Parse<S>,
+    message: ErrorMessage,
+) -> Result<(), ParseFault>
+    requires ready { Ready (parsed S.number S.forest S.quirks page.old.kept page.old.tree.held page.old.tree.sink) }
+    ensures seen { OnOk result (
+        parsed S.number S.forest S.quirks page.new.kept page.new.tree.held page.new.tree.sink
+        ≡ step (parsed S.number S.forest S.quirks page.old.kept page.old.tree.held page.old.tree.sink)
+        error) }
+    ensures memory { IfErr result (λ e. e ≡ Memory) }
+{
+    page.kept.skip_lf = false;
+    page.tree.sink.parse_error(message)?;
+    Ok(())
+}
+
+/// The end of the page.
+pub(crate) fn tell_end<S: TreeSink>(page: &mut Parse<S>) -> Result<(), ParseFault>
+    requires ready { Ready (parsed S.number S.forest S.quirks page.old.kept page.old.tree.held page.old.tree.sink) }
+    ensures seen { OnOk result (
+        parsed S.number S.forest S.quirks page.new.kept page.new.tree.held page.new.tree.sink
+        ≡ step (parsed S.number S.forest S.quirks page.old.kept page.old.tree.held page.old.tree.sink)
+        end_of_file) }
+    ensures memory { IfErr result (λ e. e ≡ Memory) }
+{
+    page.kept.skip_lf = false;
+    take_page_end(page)?;
+    page.kept.is_over = true;
+    Ok(())
+}
+
+/// A tag, with the answer to it.
+pub(crate) fn tell_tag<S: TreeSink>(
+    page: &mut Parse<S>,
+    tag: Tag,
+) -> Result<TokenSinkResult<S::Handle>, ParseFault>
+    requires ready { Ready (parsed S.number S.forest S.quirks page.old.kept page.old.tree.held page.old.tree.sink) }
+    ensures seen { OnOk result (
+        parsed S.number S.forest S.quirks page.new.kept page.new.tree.held page.new.tree.sink
+        ≡ step (parsed S.number S.forest S.quirks page.old.kept page.old.tree.held page.old.tree.sink)
+        (tag_item tag)) }
+    ensures reply { IfOk result (λ answer. answer ≡ reply S.handle
+        (parsed S.number S.forest S.quirks page.old.kept page.old.tree.held page.old.tree.sink)
+        (tag_item tag)) }
+    ensures memory { IfErr result (λ e. e ≡ Memory) }
+{
+    page.kept.skip_lf = false;
+    take_tag(page, &tag)
+}

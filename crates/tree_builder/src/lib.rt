@@ -1,0 +1,10 @@
+//! The tree builder: a sink of tokens that builds the tree of a page in any sink of trees (WHATWG HTML, 13.2.6); a part
+//! of `html_tree_builder`.
+#![tactic(auto)]
+
+mod builder;
+mod items;
+mod sink;
+
+pub use builder::TreeBuilder;
+pub use tree_rules::TreeBuilderOpts;
