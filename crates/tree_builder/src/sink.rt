@@ -49,8 +49,8 @@ impl<S: TreeSink> TokenSink for TreeBuilder<S> {
     ghost hearing = { meaning-hearing S.handle };
 
     /// Takes a token by the rules of tree construction. What isn't text, an error, an end tag or the end is refused as
-    /// `Failed` while an element's text is read, and so is anything behind the end and behind a refusal; else the error is
-    /// want of memory.
+    /// `Failed` while an element's text is read, and so is anything behind the end; else the error is want of memory,
+    /// behind which nothing is known of the builder.
     fn process_token(
         &mut self,
         token: Token,
