@@ -1,5 +1,6 @@
 pub mod Emptied
 pub mod GoingLemmas
+pub mod OtherSinkLemmas
 pub mod PauseMarks
 pub mod PendingLemmas
 pub mod QueueTaken

@@ -4,6 +4,7 @@ pub mod Fits
 pub mod GoingProp
 pub mod Holdings
 pub mod Inside
+pub mod OtherSinks
 pub mod PageRest
 pub mod Pieces
 pub mod Reads

@@ -3,6 +3,7 @@
 #![tactic(auto)]
 
 mod errors;
+mod laws;
 mod line_ends;
 mod page_end;
 mod pending;
@@ -13,6 +14,7 @@ mod tokenizer;
 
 pub use html_grammar::{TokenSink, TokenizerOpts, read_plainly};
 pub use html_lexemes;
+pub use laws::a_sink_may_change_but_for_its_state;
 pub use pieces::read_pieces;
 pub use results::TokenizerResult;
 pub use tokenizer::Tokenizer;
