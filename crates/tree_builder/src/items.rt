@@ -1,13 +1,13 @@
 //! What the items of a page do to a tree that is being built: each is the step of the rule table (WHATWG HTML, 13.2.6).
 ghost use Rattle.std.specs.Prelude.{◌≡◌, IfErr, IfOk, OnOk, chars, string_bytes};
-ghost use Rattle.html_grammar.specs.Items.{characters, comment as comment_item, doctype as doctype_item, end_of_file, error, null_character, tag as tag_item};
+ghost use Rattle.html_grammar.specs.Items.{characters, comment as comment_item, doctype as doctype_item, end_of_file, error, item_of, null_character, tag as tag_item};
 ghost use Rattle.html_lexemes.specs.declared.fault.ParseFault.TheVariants.{Memory};
 ghost use Rattle.tree_actions.specs.Parsed.{parsed};
 ghost use Rattle.tree_rules.specs.Settling.{Ready, reply, step};
 
 use html_forest::TreeSink;
 use html_grammar::slices::first_and_rest;
-use html_lexemes::{Doctype, ErrorMessage, ParseFault, Tag, Text, TokenSinkResult};
+use html_lexemes::{Doctype, ErrorMessage, ParseFault, Tag, Text, Token, TokenSinkResult};
 use tree_actions::Parse;
 use tree_steps::{take_comment, take_doctype, take_null, take_page_end, take_tag, take_text};
 
@@ -129,4 +129,33 @@ pub(crate) fn tell_tag<S: TreeSink>(
 {
     page.kept.skip_lf = false;
     take_tag(page, &tag)
+}
+
+/// An item of a page, with the answer to it; and the line in which it stands.
+pub(crate) fn tell<S: TreeSink>(
+    page: &mut Parse<S>,
+    token: Token,
+    line: u64,
+) -> Result<TokenSinkResult<S::Handle>, ParseFault>
+    requires ready { Ready (parsed S.number S.forest S.quirks page.old.kept page.old.tree.held page.old.tree.sink) }
+    ensures seen { OnOk result (
+        parsed S.number S.forest S.quirks page.new.kept page.new.tree.held page.new.tree.sink
+        ≡ step (parsed S.number S.forest S.quirks page.old.kept page.old.tree.held page.old.tree.sink)
+        (item_of token)) }
+    ensures reply { IfOk result (λ answer. answer ≡ reply S.handle
+        (parsed S.number S.forest S.quirks page.old.kept page.old.tree.held page.old.tree.sink)
+        (item_of token)) }
+    ensures memory { IfErr result (λ e. e ≡ Memory) }
+{
+    page.tree.sink.set_current_line(line)?;
+    match token {
+        Token::CharacterTokens(text) => tell_characters(page, text)?,
+        Token::NullCharacterToken => tell_null(page)?,
+        Token::TagToken(tag) => return tell_tag(page, tag),
+        Token::CommentToken(text) => tell_comment(page, text)?,
+        Token::DoctypeToken(doctype) => tell_doctype(page, doctype)?,
+        Token::ParseError(message) => tell_error(page, message)?,
+        Token::EOFToken => tell_end(page)?,
+    }
+    Ok(TokenSinkResult::Continue)
 }

@@ -1,21 +1,19 @@
 //! A tree builder as a sink of tokens.
-ghost use Rattle.std.specs.Prelude.{◌≡◌, ℕ, IfErr, OnOk, false, true};
+ghost use Rattle.std.specs.Prelude.{◌≡◌, ℕ, Err, IfErr, IfOk, OnErr, OnOk, false, true};
 ghost use Rattle.html_forest.specs.Forest.{IsElement};
 ghost use Rattle.html_forest.specs.Orders.{IsIn};
 ghost use Rattle.html_grammar.specs.Items.{item_of};
 ghost use Rattle.html_grammar.specs.Kinds.{IsOf};
 ghost use Rattle.html_grammar.specs.declared.modes.TextKind.TheVariants.{Plain};
-ghost use Rattle.html_lexemes.specs.declared.fault.ParseFault.TheVariants.{Memory};
+ghost use Rattle.html_lexemes.specs.declared.fault.ParseFault.TheVariants.{Failed, Memory};
 ghost use Rattle.html_tree_state.specs.Building.{stack_of};
 ghost use Rattle.tree_actions.specs.Parsed.{parsed};
 ghost use Rattle.tree_rules.specs.Actions.{is_text};
-ghost use Rattle.tree_rules.specs.Settling.{Ready};
-ghost use Rattle.tree_rules.specs.Welcome.{IsHeard};
+ghost use Rattle.tree_rules.specs.Settling.{Ready, reply, step};
+ghost use Rattle.tree_rules.specs.Welcome.{IsHeard, IsReady, IsWelcome};
 
 use crate::builder::TreeBuilder;
-use crate::items::{
-    tell_characters, tell_comment, tell_doctype, tell_end, tell_error, tell_null, tell_tag,
-};
+use crate::items::tell;
 use html_forest::TreeSink;
 use html_grammar::TokenSink;
 use html_lexemes::{ParseFault, TagKind, Token, TokenSinkResult};
@@ -49,30 +47,44 @@ impl<S: TreeSink> TokenSink for TreeBuilder<S> {
     ghost hearing = { meaning-hearing S.handle };
 
     /// Takes a token by the rules of tree construction. What isn't text, an error, an end tag or the end is refused as
-    /// `Failed` while an element's text is read, and so is anything behind the end; else the error is want of memory,
-    /// behind which nothing is known of the builder.
+    /// `Failed` while an element's text is read; else the error is want of memory. Behind a refused token, and behind the
+    /// end, every token is refused as `Failed`.
     fn process_token(
         &mut self,
         token: Token,
         line: u64,
-    ) -> Result<TokenSinkResult<S::Handle>, ParseFault> {
+    ) -> Result<TokenSinkResult<S::Handle>, ParseFault>
+        requires { IsReady
+            (parsed S.number S.forest S.quirks self.old.page.kept self.old.page.tree.held self.old.page.tree.sink) }
+        ensures state { IfOk result (λ _.
+            parsed S.number S.forest S.quirks self.new.page.kept self.new.page.tree.held self.new.page.tree.sink
+            ≡ step (parsed S.number S.forest S.quirks self.old.page.kept self.old.page.tree.held self.old.page.tree.sink)
+            (item_of token)) }
+        ensures reply { IfOk result (λ answer. answer ≡ reply S.handle
+            (parsed S.number S.forest S.quirks self.old.page.kept self.old.page.tree.held self.old.page.tree.sink)
+            (item_of token)) }
+        ensures refused { IsWelcome
+            (parsed S.number S.forest S.quirks self.old.page.kept self.old.page.tree.held self.old.page.tree.sink)
+            (item_of token) → IfErr result (λ e. e ≡ Memory) }
+        ensures failed { self.old.page.kept.is_over ≡ true → result ≡ Err Failed }
+        ensures misplaced { ¬ (IsHeard (is_text self.old.page.kept.mode) (item_of token)) → result ≡ Err Failed }
+        ensures over { OnErr result (self.new.page.kept.is_over ≡ true) }
+    {
         if self.page.kept.is_over {
             return Err(ParseFault::Failed);
         }
         if is_out_of_place(self.page.kept.mode, &token) {
+            self.page.kept.is_over = true;
             return Err(ParseFault::Failed);
         }
-        self.page.tree.sink.set_current_line(line)?;
-        match token {
-            Token::CharacterTokens(text) => tell_characters(&mut self.page, text)?,
-            Token::NullCharacterToken => tell_null(&mut self.page)?,
-            Token::TagToken(tag) => return tell_tag(&mut self.page, tag),
-            Token::CommentToken(text) => tell_comment(&mut self.page, text)?,
-            Token::DoctypeToken(doctype) => tell_doctype(&mut self.page, doctype)?,
-            Token::ParseError(message) => tell_error(&mut self.page, message)?,
-            Token::EOFToken => tell_end(&mut self.page)?,
+        match tell(&mut self.page, token, line) {
+            Ok(answer) => Ok(answer),
+            Err(fault) => {
+                // a refused call leaves it so
+                self.page.kept.is_over = true;
+                Err(fault)
+            }
         }
-        Ok(TokenSinkResult::Continue)
     }
 
     /// Tells the sink of trees that the open elements are so no longer, from the current node on. The error is want of
