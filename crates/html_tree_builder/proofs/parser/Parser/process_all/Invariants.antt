@@ -1,0 +1,21 @@
+use Rattle.std.proofs.Common.{◌≡◌, ◌++◌, ℕ, List, false}
+use Rattle.std.specs.Vec.Iter.{into_iter_items}
+use Rattle.html_tokenizer.specs.Pieces.{joined}
+use Rattle.html_tree_builder.specs.Parsers.{Completes, IsFit, has_failed}
+use Rattle.html_tree_builder.proofs.parser.Parser.process_all.Given as goal
+use Rattle.tree_rules.specs.State.{State}
+
+-- what is left of the pieces, read by the parser as it stands, is what the parser made of them at first
+abbrev pub invariant-pieces : goal.invariant-pieces
+invariant-pieces g l =
+    let number = g.S.TreeSink.number in
+    let handle = g.S.TreeSink.handle in
+    let forest = g.S.TreeSink.forest in
+    let quirks = g.S.TreeSink.quirks in
+    record {
+      fit : IsFit number forest quirks l.self;
+      works : has_failed l.fn.self ≡ false → has_failed l.self ≡ false;
+      reads : (rest : List ℕ) (final : State) →
+          Completes number handle forest quirks l.self (joined (into_iter_items l.piece-iterator) ++ rest) final →
+          Completes number handle forest quirks l.fn.self (joined l.fn.pieces.items ++ rest) final;
+    }

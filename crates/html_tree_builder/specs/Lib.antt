@@ -1,0 +1,3 @@
+pub mod Defaults
+pub mod Grown
+pub mod Parsers

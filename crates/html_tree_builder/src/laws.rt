@@ -1,0 +1,37 @@
+//! A law of trees of pages.
+ghost use Rattle.std.specs.Prelude.{◌≡◌, ℕ, List};
+ghost use Rattle.html_forest.specs.Forest.{Forest};
+ghost use Rattle.html_forest.specs.declared.sink.QuirksMode.{QuirksMode as Quirks};
+ghost use Rattle.html_tokenizer.specs.OtherSinks.{GoesOnAs, HoldsIn, with_sink};
+ghost use Rattle.html_tokenizer.specs.declared.tokenizer.Tokenizer.{Tokenizer};
+ghost use Rattle.html_tree_builder.specs.Grown.{Beginning, IsTreeOfPage};
+ghost use Rattle.html_tree_builder.specs.Parsers.{state_in};
+ghost use Rattle.tree_builder.specs.declared.builder.TreeBuilder.{TreeBuilder};
+ghost use Rattle.tree_rules.specs.Settling.{meaning};
+ghost use Rattle.tree_rules.specs.Welcome.{IsReady, IsWelcome};
+
+use html_forest::TreeSink;
+use html_grammar::laws::one_reading;
+use html_tokenizer::a_sink_may_change_but_for_its_state;
+use tree_builder::TreeBuilder;
+
+/// A page has one tree: whoever parses equal texts with equal options, in whatever pieces, has equal forests.
+pub fn a_page_has_one_tree<S: TreeSink>()
+    ensures forest { (from : Beginning) (text : List ℕ) (one other : Forest) (mode second : Quirks) →
+        IsTreeOfPage S.handle from text one mode → IsTreeOfPage S.handle from text other second → one ≡ other }
+    ensures quirks { (from : Beginning) (text : List ℕ) (one other : Forest) (mode second : Quirks) →
+        IsTreeOfPage S.handle from text one mode → IsTreeOfPage S.handle from text other second → mode ≡ second }
+{
+    one_reading::<TreeBuilder<S>>();
+}
+
+/// Somebody else may change a builder behind its tokenizer, if the state of tree construction stays.
+pub(crate) fn a_builder_may_change_but_for_its_state<S: TreeSink>()
+    ensures { (tokenizer : Tokenizer (TreeBuilder S S.Handle S.Output)) (builder : TreeBuilder S S.Handle S.Output)
+        (holds : HoldsIn tokenizer) →
+        state_in S.number S.forest S.quirks builder ≡ state_in S.number S.forest S.quirks tokenizer.sink →
+        GoesOnAs (state_in S.number S.forest S.quirks) (meaning S.handle) IsReady IsWelcome
+        tokenizer (with_sink builder tokenizer holds) }
+{
+    a_sink_may_change_but_for_its_state::<TreeBuilder<S>>();
+}

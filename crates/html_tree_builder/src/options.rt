@@ -1,0 +1,27 @@
+//! How a page is parsed.
+ghost use Rattle.std.specs.Prelude.{◌≡◌};
+
+use html_tokenizer::TokenizerOpts;
+use tree_builder::TreeBuilderOpts;
+
+/// How a page is parsed.
+#[derive(Drop)]
+pub struct ParseOpts {
+    /// How its text is read.
+    pub tokenizer: TokenizerOpts,
+    /// How its tree is built.
+    pub tree_builder: TreeBuilderOpts,
+}
+
+impl Default for ParseOpts {
+    ghost use Rattle.html_tree_builder.specs.Defaults.{default_parse};
+
+    ghost is_default = { λ opts. opts ≡ default_parse };
+
+    fn default() -> ParseOpts {
+        ParseOpts {
+            tokenizer: TokenizerOpts::default(),
+            tree_builder: TreeBuilderOpts::default(),
+        }
+    }
+}
