@@ -1,0 +1,56 @@
+use crate::error::Error;
+use crate::escapes::{NO_TEXT, unescaped};
+use html_tree_builder::{ParseOpts, TokenizerOpts, TreeBuilderOpts};
+use std::alloc::Global;
+
+/// A page, and how it is parsed.
+#[derive(Drop)]
+pub(crate) struct Case {
+    // whether scripts would run
+    scripting: bool,
+    /// Its text.
+    pub(crate) text: String,
+}
+
+impl Case {
+    /// The case of a line: three fields with tabs between them, of which the first is `\N` for a whole page.
+    pub(crate) fn from_line(alloc: Global, line: &str) -> Result<Case, Error> {
+        let (context, behind) = first_field(line)?;
+        let (scripting, text) = first_field(behind)?;
+        if text.contains('\t') {
+            return Err(Error::Case("more than three fields"));
+        }
+        if context != NO_TEXT {
+            return Err(Error::Case("a fragment, and no whole page"));
+        }
+        Ok(Case {
+            scripting: is_scripting(scripting)?,
+            text: unescaped(alloc, text)?,
+        })
+    }
+
+    /// How it is parsed.
+    pub(crate) fn options(&self) -> ParseOpts {
+        let mut tree_builder = TreeBuilderOpts::default();
+        tree_builder.scripting_enabled = self.scripting;
+        ParseOpts {
+            tokenizer: TokenizerOpts::default(),
+            tree_builder,
+        }
+    }
+}
+
+/// What stands before the first tab, and what behind it.
+fn first_field(fields: &str) -> Result<(&str, &str), Error> {
+    fields
+        .split_once('\t')
+        .ok_or(Error::Case("fewer than three fields"))
+}
+
+fn is_scripting(field: &str) -> Result<bool, Error> {
+    match field {
+        "scripting" => Ok(true),
+        "-" => Ok(false),
+        _ => Err(Error::Case("neither scripting nor -")),
+    }
+}

@@ -1,0 +1,72 @@
+//! The ways in which a case is told.
+use crate::case::Case;
+use crate::dump::lines_of;
+use crate::error::Error;
+use html_render_dom::RcDom;
+use html_tree_builder::html_lexemes::ReferenceTable;
+use html_tree_builder::parse_pieces;
+use std::alloc::{AllocError, Global};
+
+/// The table of references: the basic one, or that of a JSON text.
+pub(crate) fn table_of(alloc: Global, json: &Option<String>) -> Result<ReferenceTable, Error> {
+    match json {
+        Some(text) => Ok(ReferenceTable::from_json(alloc, text.as_str())?),
+        None => Ok(ReferenceTable::basic(alloc)?),
+    }
+}
+
+/// The lines on the tree of a case, which is the same whether the page comes whole or a character at a time.
+pub(crate) fn lines_told(
+    alloc: Global,
+    case: &Case,
+    json: &Option<String>,
+) -> Result<String, Error> {
+    let text = case.text.as_str();
+    let lines = lines_fed(alloc, case, table_of(alloc, json)?, whole(alloc, text)?)?;
+    if lines_fed(
+        alloc,
+        case,
+        table_of(alloc, json)?,
+        characters(alloc, text)?,
+    )? != lines
+    {
+        return Err(Error::Differs);
+    }
+    Ok(lines)
+}
+
+/// The lines on the tree of a page that comes in pieces.
+fn lines_fed(
+    alloc: Global,
+    case: &Case,
+    table: ReferenceTable,
+    pieces: Vec<String>,
+) -> Result<String, Error> {
+    let dom = tree_fed(alloc, case, table, pieces)?;
+    Ok(lines_of(alloc, &dom)?)
+}
+
+fn tree_fed(
+    alloc: Global,
+    case: &Case,
+    table: ReferenceTable,
+    pieces: Vec<String>,
+) -> Result<RcDom, Error> {
+    let sink = RcDom::new(alloc)?;
+    Ok(parse_pieces(alloc, sink, case.options(), table, pieces)?)
+}
+
+fn whole(alloc: Global, text: &str) -> Result<Vec<String>, AllocError> {
+    let text = String::from_str(alloc, text)?;
+    Ok(vec![in alloc; text]?)
+}
+
+fn characters(alloc: Global, text: &str) -> Result<Vec<String>, AllocError> {
+    let mut pieces = Vec::new(alloc);
+    for c in text.chars() {
+        let mut piece = String::new(alloc);
+        piece.push(c)?;
+        pieces.push(piece)?;
+    }
+    Ok(pieces)
+}
