@@ -1,0 +1,2 @@
+pub mod KeptText
+pub mod PageTexts

@@ -1,0 +1,7 @@
+//! The text of a page is kept in its tree (WHATWG HTML, 13.2.6): a law of the rule table, a part of
+//! `html_tree_builder`.
+#![tactic(auto)]
+
+mod laws;
+
+pub use laws::{text_is_kept, the_text_of_a_page_is_kept};
