@@ -1,0 +1,52 @@
+-- A page begins where the laws of its items ask it to.
+use Rattle.std.proofs.Common.{◌≡◌, ℕ, ◌+◌, true, List, refl, subst, sym, None, Some}
+use Rattle.html_forest.specs.Forest.{Forest}
+use Rattle.html_forest.specs.Orders.{IsForest}
+use Rattle.html_forest.specs.declared.sink.QuirksMode.{QuirksMode}
+use Rattle.html_tree_builder.specs.Grown.{Beginning, IsTreeOfPage}
+use Rattle.html_tree_state.specs.Sound.{Sound}
+use Rattle.kept_text.specs.KeptText.{IsAtBeginning, TellsPlainTags, in_texts, in_told, is_kept}
+use Rattle.kept_text.specs.PageTexts.{KeepsTextOfPage, items_of}
+use Rattle.page_laws.specs.Trees.{KeepsTextOfTree}
+use Rattle.tree_builder.specs.Begun.{begun}
+use Rattle.tree_rules.specs.Settling.{Ready}
+use Rattle.tree_rules.specs.declared.options.TreeBuilderOpts.{TreeBuilderOpts}
+
+pub begun_ready : (options : TreeBuilderOpts) (forest : Forest) (quirks : QuirksMode) → IsForest forest →
+    Ready (begun options forest quirks)
+begun_ready options forest quirks is_forest = record {
+  sound = record {
+    forest = is_forest;
+    elements = λ n h. absurd h;
+    distinct = tt;
+    ordered = tt;
+    templates = λ n h e. absurd h;
+    listed = λ n tag h. absurd h;
+    few = tt;
+    counted = refl;
+  };
+  head = λ n e. absurd (let k : None ≡ Some n = e in cc);
+  page = refl;
+}
+
+pub begun_at_beginning : (options : TreeBuilderOpts) (forest : Forest) (quirks : QuirksMode) → IsForest forest →
+    IsAtBeginning (begun options forest quirks)
+begun_at_beginning options forest quirks is_forest = record {
+  ready = begun_ready options forest quirks is_forest;
+  mode = refl;
+  original = refl;
+  templates = refl;
+  head = refl;
+  form = refl;
+  pending = refl;
+  goes_on = refl;
+  stack = refl;
+  formatting = refl;
+  fostering = refl;
+}
+
+pub tree_keeps_text : {H : Type 0} (handle : ℕ → H) → KeepsTextOfPage H → KeepsTextOfTree handle
+tree_keeps_text handle law from text forest quirks tree is_forest plain c kept =
+    let in_final = law from.table handle _ _ _ tree.final tree.reading
+    (begun_at_beginning from.options.tree_builder from.forest from.quirks is_forest) plain c kept in
+    subst (λ f. in_texts c f ≡ in_texts c from.forest + in_told c (items_of tree.reading)) (sym tree.nodes) in_final

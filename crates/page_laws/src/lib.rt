@@ -1,0 +1,6 @@
+//! What holds of the tree of every page, said without the rule table: laws, beside `html_tree_builder`.
+#![tactic(auto)]
+
+mod laws;
+
+pub use laws::a_tree_keeps_the_text_of_its_page;
