@@ -1,13 +1,14 @@
 #!/usr/bin/env bash
-# Runs the built page_tokens and named_references with each request for memory refused in turn: page_tokens on every thirtieth of its
-# cases, named_references on a table of three names. A run must write what the unhindered run writes; or a beginning of it, say
-# that memory ran out, and end with status 1.
+# Runs the built page_tokens, page_trees and named_references with each request for memory refused in turn: page_tokens on
+# every thirtieth of its cases, page_trees on every forty-sixth, named_references on a table of three names. A run must
+# write what the unhindered run writes; or a beginning of it, say that memory ran out, and end with status 1.
 set -eu
 here=$(cd "$(dirname "$0")" && pwd)
 room=$(mktemp -d)
 trap 'rm -rf "$room"' EXIT
 cc -shared -fPIC -o "$room/refuse.so" "$here/refuse.c" -ldl
 sed -n '1~30p' "$here/../crates/page_tokens/stdin" >"$room/page_tokens.in"
+sed -n '1~46p' "$here/../crates/page_trees/stdin" >"$room/page_trees.in"
 echo '{"&amp":{"codepoints":[38]},"&lt;":{"codepoints":[60]},"&not":{"codepoints":[172]}}' >"$room/named_references.in"
 
 # refuse PROGRAM WORDS..: each request of a run refused in turn, up to one that the run does not make
@@ -33,4 +34,5 @@ refuse() {
 }
 
 refuse page_tokens
+refuse page_trees
 refuse named_references amp

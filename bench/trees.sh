@@ -1,0 +1,46 @@
+#!/usr/bin/env bash
+# Times whole pages into `RcDom`: markup of four sizes, and of each kind of page that could take longer than in step with
+# its size, 25,000, 50,000 and 100,000 of it. The program is no crate of the repository, so it is proved and built in a
+# copy of the crates, in the folder BENCH, which is kept: the first time that takes long.
+set -eu
+here=$(cd "$(dirname "$0")" && pwd)
+folder=${BENCH:-${TMPDIR:-/tmp}/count_trees_bench}
+crate=$folder/crates/count_trees
+mkdir -p "$crate/src" "$crate/proofs/pieces_of"
+for name in $(grep -oE '^[a-z_0-9]+' "$here/../crates.txt"); do
+  mkdir -p "$folder/crates/$name"
+  # what was proved of the copy is kept
+  find "$folder/crates/$name" -mindepth 1 -maxdepth 1 ! -name out -exec rm -r {} +
+  find "$here/../crates/$name" -mindepth 1 -maxdepth 1 ! -name out -exec cp -r {} "$folder/crates/$name" \;
+done
+cp "$here/../HANDLES" "$folder"
+{
+  cat "$here/../crates.txt"
+  echo "count_trees: html_forest html_tree_builder html_render_dom thiserror"
+} >"$folder/crates.txt"
+cp "$here/count_trees/main.rt.txt" "$crate/src/main.rt"
+echo '<p>' >"$crate/stdin"
+(cd "$crate" && rt run -- 64 1 >"$folder/log" 2>&1) || { tail -n 20 "$folder/log"; exit 1; }
+
+tell() {
+  bytes=$(stat -c %s "$folder/page")
+  rm -f "$folder/times.new"
+  # the program takes the time itself, and tells the best of its readings in microseconds
+  for _ in 1 2 3; do
+    /usr/bin/time -f %M -o "$folder/memory" "$crate/out/count_trees" 64 3 <"$folder/page" >>"$folder/times.new"
+  done
+  read -r _ microseconds < <(sort -n -k 2 "$folder/times.new")
+  read -r kilobytes <"$folder/memory"
+  python3 -c "print(f'$1: {$microseconds / 1000:8.1f} ms, {$bytes / $microseconds:6.2f} MB/s, peak {$kilobytes / 1000:6.1f} MB, {$kilobytes * 1000 / $bytes:5.1f} bytes a byte')"
+}
+
+for size in 1 2 4 8; do
+  python3 "$here/make_tokens.py" markup "$size" >"$folder/page"
+  tell "markup, $size MB"
+done
+for kind in div i li p cells a attributes; do
+  for count in 25000 50000 100000; do
+    python3 "$here/make_nested.py" "$kind" "$count" >"$folder/page"
+    tell "$kind, $count"
+  done
+done
