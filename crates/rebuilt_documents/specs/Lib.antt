@@ -1,0 +1,5 @@
+pub mod Contents
+pub mod Planted
+pub mod Parts
+pub mod Rebuilt
+pub mod Rows
