@@ -13,7 +13,8 @@ use Rattle.rebuilt_documents.specs.Contents.{tokens}
 use Rattle.rebuilt_documents.specs.Parts.{AllUnder, BlocksRebuild, HoldBlocks, HoldsItems, InlinesRebuild, IsInBody}
 use Rattle.rebuilt_documents.specs.Parts.{holders_of_blocks}
 use Rattle.rebuilt_documents.specs.Planted.{planted}
-use Rattle.rebuilt_documents.proofs.BlockNames.{IsOuterName, ol_list, outer, outer_body, outer_div, outer_html, outer_li}
+use Rattle.rebuilt_documents.proofs.BlockNames.{IsOuterName, ol_list, outer, outer_body, outer_div, outer_html}
+use Rattle.rebuilt_documents.proofs.BlockNames.{outer_li}
 use Rattle.rebuilt_documents.proofs.BlockNames.{outer_ol, outer_ul, ul_list}
 use Rattle.rebuilt_documents.proofs.BlockSteps.{AreOuter}
 use Rattle.rebuilt_documents.proofs.Blocks.{IsAbove, blocks_come}
