@@ -11,14 +11,14 @@ use Rattle.tree_rules.specs.Asking.{in_table_scope}
 use Rattle.tree_rules.specs.InBodyEnds.{in_body_end}
 use Rattle.tree_rules.specs.InRow.{is_in_row, past_row}
 use Rattle.tree_rules.specs.InTable.{in_table_end}
-use Rattle.tree_rules.specs.InCell.{outer_end}
+use Rattle.tree_rules.specs.InCell.{outer_end, past_cell}
 use Rattle.tree_rules.specs.Rows.{ignored}
 use Rattle.tree_rules.specs.State.{State}
 use Rattle.tree_rules.specs.Table.{comment_row, doctype_row, end_of_file_row, end_row}
 use Rattle.tree_words.specs.declared.modes.InsertionMode.{InsertionMode}
 use Rattle.tree_words.specs.declared.modes.InsertionMode.TheVariants as modes
 use Rattle.kept_text.proofs.MildRows.{body_end_mild, file_end_mild, mild_fostered, mild_if, template_mild}
-use Rattle.kept_text.proofs.MildStarts.{initial_mild, past_body_mild, past_caption_mild, past_row_mild}
+use Rattle.kept_text.proofs.MildStarts.{initial_mild, past_body_mild, past_caption_mild, past_cell_mild, past_row_mild}
 use Rattle.kept_text.proofs.PlainStates.{IsMildRow}
 use Rattle.kept_text.proofs.UsualModes.{is_usual}
 
@@ -112,7 +112,7 @@ in_row_mild groups.Cell t s = tt
 in_row_mild group t s = in_table_mild group t s
 
 outer_mild : (t : Tag) (s : State) → IsMildRow (outer_end t s)
-outer_mild t s = mild_if (in_table_scope (one t.name) s) _ ignored (tt, (tt, (tt, (refl, tt)))) tt
+outer_mild t s = mild_if (in_table_scope (one t.name) s) (past_cell s) ignored (past_cell_mild s) tt
 
 in_cell_mild : (group : TagGroup) (t : Tag) (s : State) → IsMildRow (end_row modes.InCell group t s)
 in_cell_mild groups.Cell t s = mild_if (in_table_scope (one t.name) s) _ ignored (tt, (tt, (tt, (refl, tt)))) tt

@@ -128,9 +128,8 @@ pub fn outer_end<S: TreeSink>(page: &mut Parse<S>, tag: &Tag) -> Result<Flow<S::
         (parsed S.number S.forest S.quirks page.new.kept page.new.tree.held page.new.tree.sink)) }
     ensures memory { IfErr result (λ e. e ≡ Memory) }
 {
-    if page.in_table_scope(ElementSet::Named(&tag.name)) {
-        close_cell(page, ElementSet::TableCell)?;
-        return Ok(Flow::Again);
+    if !page.in_table_scope(ElementSet::Named(&tag.name)) {
+        return Ok(Flow::Done);
     }
-    Ok(Flow::Done)
+    past_cell(page)
 }

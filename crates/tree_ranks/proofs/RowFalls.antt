@@ -109,8 +109,8 @@ pub outer_end_falls : Facts → (p : InsertionMode → ℕ) (old : InsertionMode
     s.mode ≡ old →
     p modes.InRow < p old → FallsAt p s (outer_end t s)
 outer_end_falls facts p old t s ready was less =
-    falls_if p s (in_table_scope (one t.name) s) (again (cell_closed table_cells)) ignored
-    (λ is. cell_closed_falls facts p old s ready was less) tt
+    falls_if p s (in_table_scope (one t.name) s) (past_cell s) ignored
+    (λ is. past_cell_falls facts p old s ready was less) tt
 
 pub past_caption_falls : Facts → (p : InsertionMode → ℕ) (old : InsertionMode) (s : State) → Ready s → s.mode ≡ old →
     p modes.InTable < p old → FallsAt p s (past_caption s)

@@ -33,7 +33,7 @@ in_cell_start group t s = in_body_start group t s
 
 -- an end tag of what the cell stands in
 abbrev pub outer_end : Tag → State → Row
-outer_end t s = if in_table_scope (one t.name) s then again (cell_closed table_cells) else ignored
+outer_end t s = if in_table_scope (one t.name) s then past_cell s else ignored
 
 abbrev pub in_cell_end : TagGroup → Tag → State → Row
 in_cell_end groups.Cell t s = if in_table_scope (one t.name) s then done (cell_closed (one t.name)) else ignored
