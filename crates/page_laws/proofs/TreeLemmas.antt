@@ -7,7 +7,8 @@ use Rattle.html_tree_builder.specs.Grown.{Beginning, IsTreeOfPage}
 use Rattle.html_tree_state.specs.Sound.{Sound}
 use Rattle.kept_text.specs.KeptText.{IsAtBeginning, TellsPlainTags, in_texts, in_told, is_kept}
 use Rattle.kept_text.specs.PageTexts.{KeepsTextOfPage, items_of}
-use Rattle.page_laws.specs.Trees.{KeepsTextOfTree}
+use Rattle.page_laws.specs.Trees.{HasSkeletonOfTree, KeepsTextOfTree}
+use Rattle.page_skeleton.specs.Skeleton.{HasSkeletonOfPage, IsSkeleton}
 use Rattle.tree_builder.specs.Begun.{begun}
 use Rattle.tree_rules.specs.Settling.{Ready}
 use Rattle.tree_rules.specs.declared.options.TreeBuilderOpts.{TreeBuilderOpts}
@@ -50,3 +51,9 @@ tree_keeps_text handle law from text forest quirks tree is_forest plain c kept =
     let in_final = law from.table handle _ _ _ tree.final tree.reading
     (begun_at_beginning from.options.tree_builder from.forest from.quirks is_forest) plain c kept in
     subst (λ f. in_texts c f ≡ in_texts c from.forest + in_told c (items_of tree.reading)) (sym tree.nodes) in_final
+
+pub tree_has_skeleton : {H : Type 0} (handle : ℕ → H) → HasSkeletonOfPage H → HasSkeletonOfTree handle
+tree_has_skeleton handle law from text forest quirks tree is_forest bare is_framed unframed =
+    subst (IsSkeleton is_framed) (sym tree.nodes)
+    (law from.table handle _ _ _ tree.final tree.reading
+    (begun_at_beginning from.options.tree_builder from.forest from.quirks is_forest) bare is_framed unframed)

@@ -1,11 +1,12 @@
 -- What holds of the tree of every page.
-use Rattle.std.specs.Prelude.{◌≡◌, ℕ, ◌+◌, true, List}
+use Rattle.std.specs.Prelude.{◌≡◌, ℕ, ◌+◌, Bool, true, false, List, []}
 use Rattle.html_forest.specs.Forest.{Forest}
 use Rattle.html_forest.specs.Orders.{IsForest}
 use Rattle.html_forest.specs.declared.sink.QuirksMode.{QuirksMode}
 use Rattle.html_tree_builder.specs.Grown.{Beginning, IsTreeOfPage}
 use Rattle.kept_text.specs.KeptText.{TellsPlainTags, in_texts, in_told, is_kept}
 use Rattle.kept_text.specs.PageTexts.{items_of}
+use Rattle.page_skeleton.specs.Skeleton.{IsSkeleton, TellsNoFrames, child_elements}
 
 -- text is kept, each character as often as it was told
 abbrev pub KeepsTextOfTree : {H : Type 0} → (ℕ → H) → Type 0
@@ -13,3 +14,10 @@ KeepsTextOfTree handle = (from : Beginning) (text : List ℕ) (forest : Forest) 
     (tree : IsTreeOfPage handle from text forest quirks) → IsForest from.forest →
     TellsPlainTags (items_of tree.reading) → (c : ℕ) → is_kept c ≡ true →
     in_texts c forest ≡ in_texts c from.forest + in_told c (items_of tree.reading)
+
+-- the document has one child element, `html`, which begins with its head and its body (WHATWG HTML, 4.1.1)
+abbrev pub HasSkeletonOfTree : {H : Type 0} → (ℕ → H) → Type 0
+HasSkeletonOfTree handle = (from : Beginning) (text : List ℕ) (forest : Forest) (quirks : QuirksMode)
+    (tree : IsTreeOfPage handle from text forest quirks) → IsForest from.forest →
+    child_elements 0 from.forest ≡ [] →
+    (is_framed : Bool) → (is_framed ≡ false → TellsNoFrames (items_of tree.reading)) → IsSkeleton is_framed forest
