@@ -1,0 +1,9 @@
+pub mod EntryLemmas
+pub mod EscapeLaws
+pub mod EscapeLemmas
+pub mod FuelLemmas
+pub mod GrowthLemmas
+pub mod LentLemmas
+pub mod MeansLemmas
+pub mod TagLemmas
+pub mod WalkLemmas
