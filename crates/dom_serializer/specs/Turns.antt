@@ -1,0 +1,46 @@
+-- What is still to be told of a forest, the last turn first.
+use Rattle.std.specs.Prelude.{Bool, true, false, List, [], ◌∷◌, ◌++◌}
+use Rattle.html_forest.specs.Forest.{Forest, IsElement, Kind, comment, doctype, document, element, instruction}
+use Rattle.html_forest.specs.Forest.{name_of, nodes, text}
+use Rattle.html_forest.specs.Orders.{IsDocument}
+use Rattle.html_render_dom.specs.Numbers.{number_of}
+use Rattle.html_render_dom.specs.declared.node.Handle.{Handle}
+use Rattle.html_serializer.specs.Calls.{Call, finish}
+use Rattle.html_serializer.specs.Walks.{calls_within}
+use Rattle.dom_serializer.specs.declared.turn.Turn.{Turn}
+use Rattle.dom_serializer.specs.declared.turn.Turn.TheVariants.{End, Visit}
+
+-- the calls of a turn
+abbrev pub calls_of_turn : Forest → Turn → List Call
+calls_of_turn f (Visit n) = calls_within (nodes f) f (number_of n)
+calls_of_turn f (End n) = finish (name_of (number_of n) f) ∷ []
+
+-- the calls of turns, of which the last comes first, and others behind them
+abbrev pub pending_before : Forest → List Turn → List Call → List Call
+pending_before f [] later = later
+pending_before f (t ∷ ts) later = pending_before f ts (calls_of_turn f t ++ later)
+
+abbrev pub pending : Forest → List Turn → List Call
+pending f ts = pending_before f ts []
+
+-- a node that is to be told is no document, and what ends is an element
+abbrev pub IsReady : Forest → Turn → Type 0
+IsReady f (Visit n) = ¬ (IsDocument (number_of n) f)
+IsReady f (End n) = IsElement (number_of n) f
+
+abbrev pub AreReady : Forest → List Turn → Type 0
+AreReady f [] = Unit {0}
+AreReady f (t ∷ ts) = IsReady f t × AreReady f ts
+
+-- nodes that are to be told, the first one last
+abbrev pub visits : List Handle → List Turn
+visits [] = []
+visits (n ∷ ns) = visits ns ++ Visit n ∷ []
+
+abbrev pub is_document : Kind → Bool
+is_document document = true
+is_document (doctype name public system) = false
+is_document (text cs) = false
+is_document (comment cs) = false
+is_document (instruction target cs) = false
+is_document (element e) = false
