@@ -8,6 +8,7 @@ use html_serializer::{Serialize, SerializeFault, Serializer, TraversalScope};
 use std::alloc::Global;
 
 /// A tree with one of its nodes, which can be told to a serializer (WHATWG HTML, 13.3).
+#[derive(Drop)]
 pub struct SerializableHandle<'a> {
     dom: &'a RcDom,
     node: Handle,
