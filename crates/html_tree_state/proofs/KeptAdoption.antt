@@ -1,4 +1,4 @@
--- Reconstructing formatting elements and the adoption agency keep a sound tree sound, and no node goes.
+-- Reconstructing formatting elements and the adoption agency keep a sound tree sound, and its elements.
 use Rattle.std.proofs.Common.{◌≡◌, ℕ, ◌+◌, ◌≤◌, Bool, true, false, not, refl, sym, ap, subst, arith, zero}
 use Rattle.std.proofs.Common.{suc, if◌then◌else◌, List, [], ◌∷◌, ◌++◌, Option, None, Some, length}
 use Rattle.std.proofs.lemmas.List.{length-append}
@@ -21,11 +21,11 @@ use Rattle.html_tree_state.specs.OpenElements.{current_of, up_to}
 use Rattle.html_tree_state.specs.Scopes.{popped}
 use Rattle.html_tree_state.specs.Sound.{Sound}
 use Rattle.html_tree_state.specs.Walks.{IsWalk, begun}
-use Rattle.html_tree_state.specs.Words.{IsKept, Keeps}
+use Rattle.html_tree_state.specs.Words.{HasGrown, IsKept, Keeps}
 use Rattle.html_tree_state.proofs.AdoptionLemmas.{popped_with_sound, unlisted_sound}
-use Rattle.html_tree_state.proofs.KeptLemmas.{closed_other_kept, inserted_for_size, kept_if, kept_itself, kept_nodes}
+use Rattle.html_tree_state.proofs.KeptLemmas.{closed_other_kept, inserted_for_grows, kept_if, kept_itself, kept_nodes}
 use Rattle.html_tree_state.proofs.KeptLemmas.{kept_on}
-use Rattle.html_tree_state.proofs.KeptSizes.{as_many, element_grows, no_fewer, put_grows}
+use Rattle.html_tree_state.proofs.KeptSizes.{element_grows, grown_itself, grown_on, kinds_stay, out_grows, put_grows}
 use Rattle.html_tree_state.proofs.MadeAnewLemmas.{made_and_kept, made_from_end, made_from_first, marker_from, renewed}
 use Rattle.html_tree_state.proofs.MadeAnewLemmas.{renewed_from, renewed_sound}
 use Rattle.html_tree_state.proofs.PlacedLemmas.{placed_sound}
@@ -79,7 +79,7 @@ module _ (laws : Laws) where
       let c : Building = renewed later tag earlier b in
       let step : IsKept b c = record {
         sound = renewed_sound laws later earlier n tag b cut sound;
-        size = inserted_for_size laws tag b;
+        grown = inserted_for_grows laws tag b;
       } in
       let size : length c.formatting ≡ index + 1 + left
       = omega (arith, length-append later (formatted (nodes b.forest) tag ∷ earlier), before_it, behind_it) in
@@ -105,24 +105,24 @@ module _ (laws : Laws) where
 
 -- the walk of the adoption agency
 module _ (laws : Laws) (n block : ℕ) (tag : Tag) (lows : List ℕ) where
-  step_size : (t : Option Tag) (is_late : Bool) (m : ℕ) (w : Walk) →
-      nodes w.tree.forest ≤ nodes (stepped t is_late block m w).tree.forest
-  step_size None is_late m w = omega arith
-  step_size (Some held) true m w = omega arith
-  step_size (Some held) false m w =
+  step_grown : (t : Option Tag) (is_late : Bool) (m : ℕ) (w : Walk) →
+      HasGrown w.tree.forest (stepped t is_late block m w).tree.forest
+  step_grown None is_late m w = grown_itself w.tree.forest
+  step_grown (Some held) true m w = grown_itself w.tree.forest
+  step_grown (Some held) false m w =
       let f = w.tree.forest in
       let made_one = made_for held f in
       put_grows laws (below (nodes f)) w.last f (detached w.last made_one)
-      (no_fewer f made_one (detached w.last made_one) (element_grows laws (name_for held) held.attrs _ _ f)
-      (as_many made_one (detached w.last made_one) (laws.out_size w.last made_one)))
+      (grown_on f made_one (detached w.last made_one) (element_grows laws (name_for held) held.attrs _ _ f)
+      (out_grows laws w.last made_one))
 
   record IsWalkedOn (first last : Walk) : Type 0 where
     walk : IsWalk n block tag [] lows last
-    size : nodes first.tree.forest ≤ nodes last.tree.forest
+    grown : HasGrown first.tree.forest last.tree.forest
 
   walked_on : (left : List ℕ) (count : ℕ) (w : Walk) → IsWalk n block tag left lows w →
       IsWalkedOn w (walked block count left w)
-  walked_on [] count w walk = record { walk = walk; size = omega arith }
+  walked_on [] count w walk = record { walk = walk; grown = grown_itself w.tree.forest }
   walked_on (m ∷ left) count w walk =
       let t = tag_in m w.tree.formatting in
       let is_late = nat_lt 2 count in
@@ -130,27 +130,28 @@ module _ (laws : Laws) (n block : ℕ) (tag : Tag) (lows : List ℕ) where
       let rest = walked_on left (suc count) next (walk_goes_on n block m tag left lows w laws walk is_late) in
       record {
         walk = rest.walk;
-        size = no_fewer w.tree.forest next.tree.forest (walked block (suc count) left next).tree.forest
-            (step_size t is_late m w) rest.size;
+        grown = grown_on w.tree.forest next.tree.forest (walked block (suc count) left next).tree.forest
+            (step_grown t is_late m w) rest.grown;
       }
 
 -- the parts of a turn
 module _ (laws : Laws) where
-  placed_size : (last ancestor : ℕ) (b : Building) → nodes b.forest ≤ nodes (placed last ancestor b).forest
-  placed_size last ancestor b =
+  placed_grown : (last ancestor : ℕ) (b : Building) → HasGrown b.forest (placed last ancestor b).forest
+  placed_grown last ancestor b =
       let f = b.forest in
       put_grows laws (place_for ancestor (out_of_place last b)) last f (detached last f)
-      (as_many f (detached last f) (laws.out_size last f))
+      (out_grows laws last f)
 
-  taken_over_size : (bookmark : Option ℕ) (n block : ℕ) (tag : Tag) (b : Building) →
-      nodes b.forest ≤ nodes (taken_over bookmark n block tag b).forest
-  taken_over_size bookmark n block tag b =
+  taken_over_grown : (bookmark : Option ℕ) (n block : ℕ) (tag : Tag) (b : Building) →
+      HasGrown b.forest (taken_over bookmark n block tag b).forest
+  taken_over_grown bookmark n block tag b =
       let f = b.forest in
       let made_one = made_for tag f in
       let given = reparented block (nodes f) made_one in
       put_grows laws (below block) (nodes f) f given
-      (no_fewer f made_one given (element_grows laws (name_for tag) tag.attrs _ _ f)
-      (as_many made_one given (laws.given_size block (nodes f) made_one)))
+      (grown_on f made_one given (element_grows laws (name_for tag) tag.attrs _ _ f)
+      (kinds_stay made_one given (laws.given_size block (nodes f) made_one)
+      (λ m. laws.given_stay block (nodes f) m made_one)))
 
   adopted_kept : (n block : ℕ) (tag : Tag) (b : Building) → Sound b → is_in n b.stack ≡ true →
       is_in n (up_to scope_barriers b.forest b.stack) ≡ true → furthest_block n b ≡ Some block →
@@ -167,9 +168,9 @@ module _ (laws : Laws) where
       (may_place n block tag lows w on.walk) in
       record {
         sound = taken_over_sound n block tag c laws put (may_take_over n block tag lows w on.walk c.forest) w.bookmark;
-        size = no_fewer b.forest w.tree.forest (adopted n block tag b).forest on.size
-            (no_fewer w.tree.forest c.forest (adopted n block tag b).forest
-            (placed_size w.last (current_of lows) w.tree) (taken_over_size w.bookmark n block tag c));
+        grown = grown_on b.forest w.tree.forest (adopted n block tag b).forest on.grown
+            (grown_on w.tree.forest c.forest (adopted n block tag b).forest
+            (placed_grown w.last (current_of lows) w.tree) (taken_over_grown w.bookmark n block tag c));
       }
 
 -- what a turn leaves

@@ -1,6 +1,6 @@
--- What is popped, inserted or listed keeps a sound tree sound, and no node goes.
+-- What is popped, inserted or listed keeps a sound tree sound, and its elements.
 use Rattle.std.proofs.Common.{◌≡◌, ℕ, ◌≤◌, Bool, true, false, inl, inr, refl, arith, if◌then◌else◌, List, [], ◌∷◌}
-use Rattle.std.proofs.Common.{Option, None, Some, codes}
+use Rattle.std.proofs.Common.{Option, None, Some, codes, subst, sym}
 use Rattle.std.proofs.lemmas.Bool.{cond_both}
 use Rattle.html_forest.specs.Forest.{Forest, Holds, comment, doctype, is_integration_point, name_of, nodes}
 use Rattle.html_forest.specs.Conditions.{IsPlace}
@@ -21,11 +21,12 @@ use Rattle.html_tree_state.specs.OpenElements.{below_first, from_first}
 use Rattle.html_tree_state.specs.Scopes.{has_item, implied, is_in_scope, popped_down_to, popped_to, with_closed_item}
 use Rattle.html_tree_state.specs.Scopes.{with_closed_p, without_implied}
 use Rattle.html_tree_state.specs.Sound.{Sound}
-use Rattle.html_tree_state.specs.Words.{IsKept, Keeps}
+use Rattle.html_tree_state.specs.Words.{HasGrown, IsKept, Keeps}
 use Rattle.html_tree_state.proofs.AdoptionLemmas.{left_sound, popped_with_sound}
 use Rattle.html_tree_state.proofs.InsertedLemmas.{commented_sound, doctyped_sound, inserted_sound, said_sound}
 use Rattle.html_tree_state.proofs.InsertedLemmas.{with_element_sound}
-use Rattle.html_tree_state.proofs.KeptSizes.{element_grows, no_fewer, put_grows, put_leaf_grows, words_grow}
+use Rattle.html_tree_state.proofs.KeptSizes.{element_grows, grown_itself, grown_on, put_grows, put_leaf_grows}
+use Rattle.html_tree_state.proofs.KeptSizes.{words_grow}
 use Rattle.html_tree_state.proofs.ListedLemmas.{inserted_formatting_sound}
 use Rattle.html_tree_state.proofs.NearerLemmas.{IsLeft, all_left, left_behind}
 use Rattle.name_sets.specs.ElementSets.{button_scope_barriers}
@@ -36,18 +37,24 @@ use Rattle.tree_words.specs.Foreign.{stops_break_out}
 
 -- two steps, one of two, and none
 pub kept_on : (a b c : Building) → IsKept a b → IsKept b c → IsKept a c
-kept_on a b c one two = record { sound = two.sound; size = no_fewer a.forest b.forest c.forest one.size two.size }
+kept_on a b c one two = record {
+  sound = two.sound;
+  grown = grown_on a.forest b.forest c.forest one.grown two.grown;
+}
 
 pub kept_itself : Keeps (λ b. b)
-kept_itself b sound = record { sound = sound; size = omega arith }
+kept_itself b sound = record { sound = sound; grown = grown_itself b.forest }
 
 pub kept_if : (t : Bool) (b x y : Building) → IsKept b x → IsKept b y → IsKept b (if t then x else y)
 kept_if true b x y h k = h
 kept_if false b x y h k = k
 
 -- the nodes stay
-pub kept_nodes : (b c : Building) → nodes c.forest ≡ nodes b.forest → Sound c → IsKept b c
-kept_nodes b c same sound = record { sound = sound; size = omega (arith, same) }
+pub kept_nodes : (b c : Building) → c.forest ≡ b.forest → Sound c → IsKept b c
+kept_nodes b c same sound = record {
+  sound = sound;
+  grown = subst (HasGrown b.forest) (sym same) (grown_itself b.forest);
+}
 
 -- elements are popped
 kept_left : (b : Building) (ns : List ℕ) → Sound b → IsLeft ns b.stack → IsKept b (record b { stack = ns })
@@ -130,45 +137,45 @@ root_there f (n ∷ []) forest held = held n (inl refl)
 root_there f (n ∷ m ∷ ns) forest held = root_there f (m ∷ ns) forest (λ k i. held k (inr i))
 
 module _ (laws : Laws) where
-  element_size : (place : Place) (name : QualName) (attributes : List Attribute) (b : Building) →
-      nodes b.forest ≤ nodes (with_element place name attributes b).forest
-  element_size place name attributes b =
+  element_grown : (place : Place) (name : QualName) (attributes : List Attribute) (b : Building) →
+      HasGrown b.forest (with_element place name attributes b).forest
+  element_grown place name attributes b =
       put_grows laws place (nodes b.forest) b.forest _ (element_grows laws name attributes _ _ b.forest)
 
   pub inserted_kept : (place : Place) (name : QualName) (attributes : List Attribute) (b : Building) → Sound b →
       IsPlace place b.forest → IsKept b (inserted_at place name attributes b)
   inserted_kept place name attributes b sound there = record {
     sound = inserted_sound laws place name attributes b sound there;
-    size = element_size place name attributes b;
+    grown = element_grown place name attributes b;
   }
 
   pub with_element_kept : (place : Place) (name : QualName) (attributes : List Attribute) (b : Building) → Sound b →
       IsPlace place b.forest → IsKept b (with_element place name attributes b)
   with_element_kept place name attributes b sound there = record {
     sound = with_element_sound laws place name attributes b sound there;
-    size = element_size place name attributes b;
+    grown = element_grown place name attributes b;
   }
 
-  pub inserted_for_size : (tag : Tag) (b : Building) → nodes b.forest ≤ nodes (inserted_for tag b).forest
-  inserted_for_size tag b = element_size (here b) (name_for tag) tag.attrs b
+  pub inserted_for_grows : (tag : Tag) (b : Building) → HasGrown b.forest (inserted_for tag b).forest
+  inserted_for_grows tag b = element_grown (here b) (name_for tag) tag.attrs b
 
   pub formatting_kept : (tag : Tag) → is_one_of formatting tag.name ≡ true → Keeps (inserted_formatting tag)
   formatting_kept tag is b sound = record {
     sound = inserted_formatting_sound laws tag b sound is;
-    size = inserted_for_size tag b;
+    grown = inserted_for_grows tag b;
   }
 
   pub said_kept : (cs : List ℕ) → Keeps (said cs)
   said_kept cs b sound = record {
     sound = said_sound laws cs b sound;
-    size = words_grow laws (here b) cs b.forest;
+    grown = words_grow laws (here b) cs b.forest;
   }
 
   pub commented_kept : (place : Place) (cs : List ℕ) (b : Building) → Sound b → IsPlace place b.forest →
       IsKept b (commented_at place cs b)
   commented_kept place cs b sound there = record {
     sound = commented_sound laws place cs b sound there;
-    size = put_leaf_grows laws place (comment cs) b.forest;
+    grown = put_leaf_grows laws place (comment cs) b.forest;
   }
 
   pub root_place : (b : Building) → Sound b → IsPlace (below (root_of b.stack)) b.forest
@@ -178,5 +185,5 @@ module _ (laws : Laws) where
   pub doctyped_kept : (d : Doctype) → Keeps (with_doctype_of d)
   doctyped_kept d b sound = record {
     sound = doctyped_sound laws d b sound;
-    size = put_leaf_grows laws (below 0) (doctype _ _ _) b.forest;
+    grown = put_leaf_grows laws (below 0) (doctype _ _ _) b.forest;
   }

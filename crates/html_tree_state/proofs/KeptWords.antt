@@ -1,4 +1,4 @@
--- Each word of tree construction keeps a sound tree sound, and no node goes.
+-- Each word of tree construction keeps a sound tree sound, and its elements.
 use Rattle.std.proofs.Common.{ℕ, Bool, refl}
 use Rattle.html_forest.specs.Changes.{detached}
 use Rattle.html_forest.specs.Places.{below}
@@ -17,6 +17,7 @@ use Rattle.html_tree_state.proofs.KeptLemmas.{closed_item_kept, closed_other_kep
 use Rattle.html_tree_state.proofs.KeptLemmas.{doctyped_kept, formatting_kept, implied_kept, inserted_kept, kept_nodes}
 use Rattle.html_tree_state.proofs.KeptLemmas.{popped_down_kept, popped_to_kept, root_place, said_kept}
 use Rattle.html_tree_state.proofs.KeptLemmas.{with_element_kept}
+use Rattle.html_tree_state.proofs.KeptSizes.{attributes_grow, out_grows}
 use Rattle.html_tree_state.proofs.ListedLemmas.{cleared_sound, marked_sound}
 use Rattle.html_tree_state.proofs.PlaceLemmas.{here_there}
 use Rattle.html_tree_state.proofs.SaidLemmas.{said_as_one}
@@ -35,10 +36,12 @@ fostering_kept is_on b sound = kept_nodes b _ refl (record {
 })
 
 taken_out_kept : Laws → (n : ℕ) → Keeps (out_of_place n)
-taken_out_kept laws n b sound = kept_nodes b (out_of_place n b) (laws.out_size n b.forest)
-    (stays_sound b (detached n b.forest) sound (laws.out_keeps n b.forest sound.forest)
-    (by_kinds b.forest (detached n b.forest) b.stack (λ m is. laws.out_stays n m b.forest)
-    (λ a c i j up. laws.above_out n a c b.forest up)))
+taken_out_kept laws n b sound = record {
+  sound = stays_sound b (detached n b.forest) sound (laws.out_keeps n b.forest sound.forest)
+      (by_kinds b.forest (detached n b.forest) b.stack (λ m is. laws.out_stays n m b.forest)
+      (λ a c i j up. laws.above_out n a c b.forest up));
+  grown = out_grows laws n b.forest;
+}
 
 pub words_kept : Laws → Words
 words_kept laws = record {
@@ -61,9 +64,10 @@ words_kept laws = record {
   comments_the_root = λ cs b sound. commented_kept laws (below (root_of b.stack)) cs b sound
       (root_place laws b sound);
   takes_a_doctype = doctyped_kept laws;
-  takes_attributes = λ n attributes b sound is.
-      kept_nodes b (with_attributes_of n attributes b) (laws.attributes_size n attributes b.forest)
-      (attributed_sound laws n attributes b sound);
+  takes_attributes = λ n attributes b sound is. record {
+    sound = attributed_sound laws n attributes b sound;
+    grown = attributes_grow laws n attributes b.forest;
+  };
   takes_out = taken_out_kept laws;
   marks = λ b sound. kept_nodes b (marked b) refl (marked_sound laws b sound);
   clears = λ b sound. kept_nodes b (cleared b) refl (cleared_sound laws b sound);

@@ -6,10 +6,10 @@ use Rattle.html_tree_state.specs.Building.{Building}
 use Rattle.html_tree_state.specs.OpenElements.{first_of}
 use Rattle.tree_words.specs.Foreign.{is_closed_by, is_of_html, stops_break_out}
 
--- the adjusted current node: the context of a fragment, while only its root is open, else the current node
+-- the adjusted current node: the context of a fragment, while no more than its root is open, else the current node
 abbrev pub adjusted_current : (context : Option ℕ) → List ℕ → Option ℕ
 adjusted_current None stack = first_of stack
-adjusted_current (Some context) [] = None
+adjusted_current (Some context) [] = Some context
 adjusted_current (Some context) (n ∷ []) = Some context
 adjusted_current (Some context) (n ∷ m ∷ ns) = Some n
 

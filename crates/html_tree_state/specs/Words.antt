@@ -1,7 +1,7 @@
--- What the words of tree construction keep: a sound tree stays sound, and no node goes; and how characters and
--- reconstruction follow on one another.
+-- What the words of tree construction keep: a sound tree stays sound, no node goes, and an element stays one; and how
+-- characters and reconstruction follow on one another.
 use Rattle.std.specs.Prelude.{◌≡◌, ℕ, ◌≤◌, Bool, true, List, ◌++◌}
-use Rattle.html_forest.specs.Forest.{Holds, IsElement, kind_at, nodes}
+use Rattle.html_forest.specs.Forest.{Forest, Holds, IsElement, kind_at, nodes}
 use Rattle.html_forest.specs.Orders.{IsIn}
 use Rattle.html_forest.specs.Places.{below}
 use Rattle.html_forest.specs.declared.sink.QuirksMode.{QuirksMode}
@@ -21,10 +21,15 @@ use Rattle.html_tree_state.specs.Sound.{Sound}
 use Rattle.name_sets.specs.Sets.{Elements, is_one_of}
 use Rattle.name_sets.specs.TagSets.{formatting}
 
+-- no node goes, and an element stays one
+pub record HasGrown (old new : Forest) : Type 0 where
+  pub size : nodes old ≤ nodes new
+  pub elements : (n : ℕ) → IsElement n old → IsElement n new
+
 -- one step from a sound tree
 pub record IsKept (old new : Building) : Type 0 where
   pub sound : Sound new
-  pub size : nodes old.forest ≤ nodes new.forest
+  pub grown : HasGrown old.forest new.forest
 
 abbrev pub Keeps : (Building → Building) → Type 0
 Keeps word = (b : Building) → Sound b → IsKept b (word b)

@@ -13,13 +13,13 @@ use html_lexemes::{LocalName, ParseFault};
 use tree_words::{closes_foreign, is_of_html, stops_break_out};
 
 impl<S: TreeSink> Construction<S> {
-    /// The adjusted current node: a fragment's context while only its root is open, else the current node.
+    /// The adjusted current node: a fragment's context while no more than its root is open, else the current node.
     pub fn adjusted_current_node(&self, context: Option<S::Handle>) -> Option<S::Handle>
         ensures { option_map S.number result ≡ adjusted_current (option_map S.number context)
             (seen S.number S.forest S.quirks self.now.held self.now.sink).stack }
     {
         match context {
-            Some(context) if self.held.open_elements().len() == 1 => Some(context),
+            Some(context) if self.held.open_elements().len() <= 1 => Some(context),
             _ => self.current_node(),
         }
     }
