@@ -6,6 +6,9 @@ use std::io;
 /// Why nothing, or not all, was written.
 #[derive(Debug, Drop, thiserror::Error)]
 pub(crate) enum Error {
+    /// The words of the command line.
+    #[error("usage: html_serialize [--fragment NAME]")]
+    Words,
     /// A growth was refused for want of memory.
     #[error("out of memory")]
     Memory(#[from] AllocError),

@@ -1,19 +1,23 @@
-//! A small program: parses the page on standard input and writes its tree back as HTML (WHATWG HTML, 13.3). The page is
-//! UTF-8 text, and its table of references is the basic one.
+//! A small program: parses the page on standard input and writes its tree back as HTML (WHATWG HTML, 13.3), or, with
+//! `--fragment NAME`, a fragment in an element of HTML of that name. The page is UTF-8 text, and its table of references
+//! is the basic one.
 #![tactic(auto)]
 
 mod error;
 
 use dom_serializer::SerializableHandle;
-use dom_serializer::html_render_dom::RcDom;
-use dom_serializer::html_serializer::{SerializeOpts, serialize};
+use dom_serializer::html_render_dom::{Handle, RcDom};
+use dom_serializer::html_serializer::{SerializeOpts, TraversalScope, serialize};
 use error::Error;
-use html_tree_builder::html_lexemes::{Device, ReferenceTable};
-use html_tree_builder::{ParseOpts, parse_document};
+use html_tree_builder::html_lexemes::{
+    Attributes, Device, LocalName, Namespace, QualName, ReferenceTable,
+};
+use html_tree_builder::{ParseOpts, parse_fragment_pieces, parse_pieces};
 use std::alloc::Global;
-use std::io;
 use std::io::{BufWriter, Write};
 use std::process::ExitCode;
+use std::rt::Env;
+use std::{env, io};
 
 /// Ends with status 0 where the whole tree was written, and else 1 with a text on standard error.
 fn main(rt: HostRuntime) -> ExitCode {
@@ -26,19 +30,80 @@ fn main(rt: HostRuntime) -> ExitCode {
     }
 }
 
-fn rewrite<R: Input + Print + AllocGlobal>(rt: &R) -> Result<(), Error> {
+fn rewrite<R: Env + Input + Print + AllocGlobal>(rt: &R) -> Result<(), Error> {
     let alloc = rt.alloc();
+    let context = context_of(rt)?;
     let page = io::read_to_string(alloc, rt.reader())?;
-    let dom = tree_of(alloc, page)?;
+    let pieces = vec![in alloc; page]?;
     let mut output = Device::new(BufWriter::new(alloc, io::writer(rt))?);
-    let document = SerializableHandle::new(&dom, dom.document());
-    serialize(alloc, &mut output, &document, SerializeOpts::default())?;
+    match context {
+        None => write_page(alloc, pieces, &mut output)?,
+        Some(name) => write_fragment(alloc, name, pieces, &mut output)?,
+    }
     output.into_inner().flush()?;
     Ok(())
 }
 
-fn tree_of(alloc: Global, page: String) -> Result<RcDom, Error> {
+/// The name of the element that a fragment stands in, where the command line has one.
+fn context_of<R: Env + AllocGlobal>(rt: &R) -> Result<Option<QualName>, Error> {
+    let mut words = env::args(rt)?.skip(1);
+    let Some(option) = words.next() else {
+        return Ok(None);
+    };
+    if option.as_str() != "--fragment" {
+        return Err(Error::Words);
+    }
+    let (Some(name), None) = (words.next(), words.next()) else {
+        return Err(Error::Words);
+    };
+    let local = LocalName::from_str(rt.alloc(), name.as_str())?;
+    Ok(Some(QualName::new(Namespace::Html, local)))
+}
+
+fn write_page<W: Write>(
+    alloc: Global,
+    pieces: Vec<String>,
+    output: &mut Device<W>,
+) -> Result<(), Error> {
     let table = ReferenceTable::basic(alloc)?;
     let sink = RcDom::new(alloc)?;
-    Ok(parse_document(alloc, sink, ParseOpts::default(), table).one(page)?)
+    let dom = parse_pieces(alloc, sink, ParseOpts::default(), table, pieces)?;
+    let document = SerializableHandle::new(&dom, dom.document());
+    serialize(alloc, output, &document, SerializeOpts::default())?;
+    Ok(())
+}
+
+/// Writes what stands in a fragment's root, as within its context.
+fn write_fragment<W: Write>(
+    alloc: Global,
+    name: QualName,
+    pieces: Vec<String>,
+    output: &mut Device<W>,
+) -> Result<(), Error> {
+    let mut opts = SerializeOpts::default();
+    opts.traversal_scope = TraversalScope::ChildrenOnly(Some(name.try_clone()?));
+    let dom = tree_of_fragment(alloc, name, pieces)?;
+    let root = SerializableHandle::new(&dom, root_of(&dom));
+    serialize(alloc, output, &root, opts)?;
+    Ok(())
+}
+
+fn tree_of_fragment(alloc: Global, name: QualName, pieces: Vec<String>) -> Result<RcDom, Error> {
+    let table = ReferenceTable::basic(alloc)?;
+    let sink = RcDom::new(alloc)?;
+    let attrs = Attributes::new(alloc);
+    let opts = ParseOpts::default();
+    let scripting = opts.tree_builder.scripting_enabled;
+    Ok(parse_fragment_pieces(
+        alloc, sink, opts, table, name, attrs, scripting, pieces,
+    )?)
+}
+
+/// The root, which is the document's one child.
+fn root_of(dom: &RcDom) -> Handle {
+    let document = dom.document();
+    match dom.children(document).first() {
+        Some(root) => *root,
+        None => document,
+    }
 }

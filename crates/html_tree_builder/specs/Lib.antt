@@ -1,3 +1,4 @@
 pub mod Defaults
+pub mod Fragments
 pub mod Grown
 pub mod Parsers

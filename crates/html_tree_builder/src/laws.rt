@@ -4,6 +4,7 @@ ghost use Rattle.html_forest.specs.Forest.{Forest};
 ghost use Rattle.html_forest.specs.declared.sink.QuirksMode.{QuirksMode as Quirks};
 ghost use Rattle.html_tokenizer.specs.OtherSinks.{GoesOnAs, HoldsIn, with_sink};
 ghost use Rattle.html_tokenizer.specs.declared.tokenizer.Tokenizer.{Tokenizer};
+ghost use Rattle.html_tree_builder.specs.Fragments.{Fragment, IsTreeOfFragment};
 ghost use Rattle.html_tree_builder.specs.Grown.{Beginning, IsTreeOfPage};
 ghost use Rattle.html_tree_builder.specs.Parsers.{state_in};
 ghost use Rattle.tree_builder.specs.declared.builder.TreeBuilder.{TreeBuilder};
@@ -21,6 +22,19 @@ pub fn a_page_has_one_tree<S: TreeSink>()
         IsTreeOfPage S.handle from text one mode → IsTreeOfPage S.handle from text other second → one ≡ other }
     ensures quirks { (from : Beginning) (text : List ℕ) (one other : Forest) (mode second : Quirks) →
         IsTreeOfPage S.handle from text one mode → IsTreeOfPage S.handle from text other second → mode ≡ second }
+{
+    one_reading::<TreeBuilder<S>>();
+}
+
+/// A fragment has one tree: whoever parses equal texts for equal contexts, with equal options, in whatever pieces, has
+/// equal forests.
+pub fn a_fragment_has_one_tree<S: TreeSink>()
+    ensures forest { (from : Beginning) (fragment : Fragment) (text : List ℕ) (one other : Forest)
+        (mode second : Quirks) → IsTreeOfFragment S.handle from fragment text one mode →
+        IsTreeOfFragment S.handle from fragment text other second → one ≡ other }
+    ensures quirks { (from : Beginning) (fragment : Fragment) (text : List ℕ) (one other : Forest)
+        (mode second : Quirks) → IsTreeOfFragment S.handle from fragment text one mode →
+        IsTreeOfFragment S.handle from fragment text other second → mode ≡ second }
 {
     one_reading::<TreeBuilder<S>>();
 }

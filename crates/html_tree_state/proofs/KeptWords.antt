@@ -81,6 +81,6 @@ words_kept laws = record {
   fosters = fostering_kept;
   takes_quirks = λ mode b sound. kept_nodes b _ refl (quirks_sound b mode sound);
   says_as_one = said_as_one laws;
-  says_elsewhere = λ cs n b sound i. laws.words_stay (here b) cs n b.forest (sound.elements n i);
+  says_elsewhere = λ cs n b is. laws.words_stay (here b) cs n b.forest is;
   reconstructs_once = reconstructed_once;
 }

@@ -2,7 +2,6 @@
 -- characters and reconstruction follow on one another.
 use Rattle.std.specs.Prelude.{◌≡◌, ℕ, ◌≤◌, Bool, true, List, ◌++◌}
 use Rattle.html_forest.specs.Forest.{Forest, Holds, IsElement, kind_at, nodes}
-use Rattle.html_forest.specs.Orders.{IsIn}
 use Rattle.html_forest.specs.Places.{below}
 use Rattle.html_forest.specs.declared.sink.QuirksMode.{QuirksMode}
 use Rattle.html_lexemes.specs.declared.names.Attribute.{Attribute}
@@ -67,10 +66,10 @@ pub record Words : Type 0 where
   pub closes_foreign : (name : List ℕ) → Keeps (closed_by_foreign_end name)
   pub fosters : (is_on : Bool) → Keeps (λ b. record b { fostering = is_on })
   pub takes_quirks : (mode : QuirksMode) → Keeps (λ b. record b { quirks = mode })
-  -- characters behind characters are inserted as if they had come together, and open elements but for their children
-  -- are what they were
+  -- characters behind characters are inserted as if they had come together, and elements but for their children are what
+  -- they were
   pub says_as_one : (cs ds : List ℕ) (b : Building) → Sound b → said ds (said cs b) ≡ said (cs ++ ds) b
-  pub says_elsewhere : (cs : List ℕ) (n : ℕ) (b : Building) → Sound b → IsIn n b.stack →
+  pub says_elsewhere : (cs : List ℕ) (n : ℕ) (b : Building) → IsElement n b.forest →
       kind_at n (said cs b).forest ≡ kind_at n b.forest
   -- what was reconstructed is not reconstructed again, with characters inserted between or with none
   pub reconstructs_once : (cs : List ℕ) (b : Building) →

@@ -45,7 +45,7 @@ all_ready keep (action ∷ actions) s ready = all_ready keep actions (act action
 entered_ready : (ask : Ask) (s : State) → Ready s → Ready (entered ask s)
 entered_ready nothing s ready = ready
 entered_ready plaintext s ready = ready
-entered_ready (raw kind) s ready = record { sound = ready.sound; head = ready.head; page = ready.page }
+entered_ready (raw kind) s ready = record { sound = ready.sound; head = ready.head; context = ready.context }
 entered_ready (script n) s ready = ready
 entered_ready (encoding name) s ready = ready
 
@@ -106,7 +106,7 @@ module _ (facts : Facts) where
 
 -- a flag that is turned
 pub past_ready : (s : State) → Ready s → Ready (past_tag s)
-past_ready s ready = record { sound = ready.sound; head = ready.head; page = ready.page }
+past_ready s ready = record { sound = ready.sound; head = ready.head; context = ready.context }
 
 pub past_plain : (s : State) → IsPlain s → IsPlain (past_tag s)
 past_plain s (usually usual) = usually (record {
@@ -166,7 +166,7 @@ from_past cs s s' keeps = record {
 
 to_over : (cs : List ℕ) (s s' : State) → Keeps cs s s' → Keeps cs s (over s')
 to_over cs s s' keeps = record {
-  ready = record { sound = keeps.ready.sound; head = keeps.ready.head; page = keeps.ready.page };
+  ready = record { sound = keeps.ready.sound; head = keeps.ready.head; context = keeps.ready.context };
   comes = record { plain = over_plain s' keeps.comes.plain; grows = keeps.comes.grows };
 }
 
@@ -271,7 +271,7 @@ no_open_elements s (n ∷ ns) e = absurd (let k : n ∷ ns ≡ [] = e in cc)
 pub beginning_plain : (s : State) → IsAtBeginning s → IsPlain s
 beginning_plain s begins = usually (record {
   modes = record {
-    page = begins.ready.page;
+    page = begins.page;
     mode = ap is_usual begins.mode;
     original = ap is_usual begins.original;
     pending = begins.pending;

@@ -66,6 +66,7 @@ TellsPlainTags (item ∷ more) = (is_plain item ≡ true) × TellsPlainTags more
 -- before the first item of a page
 pub record IsAtBeginning (s : State) : Type 0 where
   pub ready : Ready s
+  pub page : s.context ≡ None
   pub mode : s.mode ≡ Initial
   pub original : s.original ≡ Initial
   pub templates : s.template_modes ≡ []

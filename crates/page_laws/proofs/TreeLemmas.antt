@@ -27,13 +27,14 @@ begun_ready options forest quirks is_forest = record {
     counted = refl;
   };
   head = λ n e. absurd (let k : None ≡ Some n = e in cc);
-  page = refl;
+  context = λ n e. absurd (let k : None ≡ Some n = e in cc);
 }
 
 pub begun_at_beginning : (options : TreeBuilderOpts) (forest : Forest) (quirks : QuirksMode) → IsForest forest →
     IsAtBeginning (begun options forest quirks)
 begun_at_beginning options forest quirks is_forest = record {
   ready = begun_ready options forest quirks is_forest;
+  page = refl;
   mode = refl;
   original = refl;
   templates = refl;

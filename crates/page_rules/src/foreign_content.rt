@@ -17,7 +17,7 @@ ghost use Rattle.tree_rules.specs.State.{character, comment, doctype, finish, nu
 use html_forest::TreeSink;
 use html_lexemes::{Namespace, ParseFault, Tag};
 use tree_actions::{Flow, Parse};
-use tree_rules::{actions_keep_what_is_ready, open_elements_are_elements};
+use tree_rules::actions_keep_what_is_ready;
 use tree_words::{InsertionMode, is_of_html, takes_start_as_html, takes_text_as_html};
 
 /// Whether the mode takes text, by the rules for HTML.
@@ -143,8 +143,7 @@ fn node_here<S: TreeSink>(page: &Parse<S>) -> Option<S::Handle>
         (parsed S.number S.forest S.quirks page.now.kept page.now.tree.held page.now.tree.sink) }
     ensures there { IfSome result (λ node. IsElement (S.number node) (S.forest page.now.tree.sink)) }
 {
-    open_elements_are_elements();
-    page.tree.adjusted_current_node(page.kept.context)
+    page.adjusted_current_node()
 }
 
 // in an element whose contents are text alone the current node is an element of HTML

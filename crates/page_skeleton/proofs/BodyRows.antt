@@ -30,6 +30,7 @@ use Rattle.page_skeleton.proofs.Steady.{IsSteady, Keeps, all_steady, row_keeps}
 use Rattle.tag_groups.specs.Groups.{tag_group}
 use Rattle.tag_groups.specs.declared.group.TagGroup.{TagGroup}
 use Rattle.tag_groups.specs.declared.group.TagGroup.TheVariants as groups
+use Rattle.page_skeleton.proofs.PageReady.{ActionsKeep, Ready}
 use Rattle.tree_rules.specs.Actions.{Action, act, act_all, at_place, break_out, close_p, go_to, insert, is_text}
 use Rattle.tree_rules.specs.Actions.{pop_down_to, push_template_mode, put_marker, refuse_frameset, take_out}
 use Rattle.tree_rules.specs.Asking.{body_of, if_body, is_quirky}
@@ -38,10 +39,8 @@ use Rattle.tree_rules.specs.InBodyBlocks.{frameset_start, in_place_of_body, tabl
 use Rattle.tree_rules.specs.InHead.{in_head_start}
 use Rattle.tree_rules.specs.Rows.{Row, again, asks, done, ignored}
 use Rattle.tree_rules.specs.Rule.{rule}
-use Rattle.tree_rules.specs.Settling.{Ready}
 use Rattle.tree_rules.specs.State.{Mark, State, character, comment, doctype, end_of_file, finish, null, start}
 use Rattle.tree_rules.specs.Table.{row}
-use Rattle.tree_rules.specs.Welcome.{ActionsKeep}
 use Rattle.tree_words.specs.declared.modes.InsertionMode.{InsertionMode}
 use Rattle.tree_words.specs.declared.modes.InsertionMode.TheVariants as modes
 

@@ -8,11 +8,10 @@ use Rattle.html_tree_state.specs.Formatting.{name_for}
 use Rattle.html_tree_state.specs.Insertions.{here, with_element}
 use Rattle.kept_text.proofs.ForestTexts.{element_new, new_then, put_follows}
 use Rattle.name_sets.specs.Sets.{is_html}
+use Rattle.page_skeleton.proofs.PageReady.{ActionsKeep, Ready}
 use Rattle.tree_rules.specs.Actions.{Action, act, act_all, forget_form, insert, insert_void, inserted_into}
 use Rattle.tree_rules.specs.Actions.{inserted_void_into, keep_form, keep_head}
-use Rattle.tree_rules.specs.Settling.{Ready}
 use Rattle.tree_rules.specs.State.{State}
-use Rattle.tree_rules.specs.Welcome.{ActionsKeep}
 use Rattle.tree_rules.specs.declared.target.Target.TheVariants as targets
 use Rattle.html_lexemes.specs.declared.names.Attribute.{Attribute}
 use Rattle.html_lexemes.specs.declared.names.QualName.{QualName}

@@ -47,6 +47,7 @@ pub mod GuardedTexts
 pub mod GuardedWords
 pub mod Guards
 pub mod NoscriptRows
+pub mod PageReady
 pub mod PastHeadRows
 pub mod PhaseRules
 pub mod Phases

@@ -20,16 +20,16 @@ use Rattle.page_skeleton.proofs.Phases.{doctype_to_come, going_on, head_to_come,
 use Rattle.page_skeleton.proofs.Phases.{past_head, root_to_come, template_open, text_of_head}
 use Rattle.page_skeleton.proofs.Phases.{text_of_noscript, text_past_head}
 use Rattle.page_skeleton.proofs.RootRows.{before_head_row}
+use Rattle.page_skeleton.proofs.PageReady.{ActionsKeep, Ready}
 use Rattle.tree_rules.specs.Actions.{act_all, in_html, is_text}
 use Rattle.tree_rules.specs.ForeignContent.{is_by_mode, is_taken_at, node_here, takes}
 use Rattle.tree_rules.specs.Rows.{Row, again, asks, done}
 use Rattle.tree_rules.specs.Rule.{foreign_row, rule}
-use Rattle.tree_rules.specs.Settling.{Ready, Settled, entered, given_by, settle}
+use Rattle.tree_rules.specs.Settling.{Settled, entered, given_by, settle}
 use Rattle.tree_rules.specs.State.{Ask, Mark, State, character, comment}
 use Rattle.tree_rules.specs.State.{doctype, encoding, end_of_file, finish, nothing}
 use Rattle.tree_rules.specs.State.{null, plaintext, raw, script, start}
 use Rattle.tree_rules.specs.Table.{row}
-use Rattle.tree_rules.specs.Welcome.{ActionsKeep}
 use Rattle.tree_words.specs.declared.modes.InsertionMode.{InsertionMode}
 use Rattle.tree_words.specs.declared.modes.InsertionMode.TheVariants as modes
 use Rattle.page_skeleton.proofs.Steady.{IsSteady}

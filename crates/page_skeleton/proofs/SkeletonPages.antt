@@ -33,15 +33,15 @@ use Rattle.tag_groups.specs.Groups.{tag_group}
 use Rattle.tag_groups.specs.declared.group.TagGroup.{TagGroup}
 use Rattle.tag_groups.specs.declared.group.TagGroup.TheVariants as groups
 use Rattle.tree_ranks.specs.Falls.{Falls}
+use Rattle.page_skeleton.proofs.PageReady.{ActionsKeep, Ready, of_page}
 use Rattle.tree_rules.specs.Actions.{act_all}
 use Rattle.tree_rules.specs.Rank.{rank}
 use Rattle.tree_rules.specs.Rows.{Row, again, asks, done}
 use Rattle.tree_rules.specs.Rule.{rule}
-use Rattle.tree_rules.specs.Settling.{Ready, Settled, given_by, mark_by, meaning, over, past_tag, step, taken}
+use Rattle.tree_rules.specs.Settling.{Settled, given_by, mark_by, meaning, over, past_tag, step, taken}
 use Rattle.tree_rules.specs.Settling.{taken_character}
 use Rattle.tree_rules.specs.State.{Mark, State, character, end_of_file, null}
 use Rattle.tree_rules.specs.State as marks
-use Rattle.tree_rules.specs.Welcome.{ActionsKeep}
 use Rattle.std.proofs.Common.{◌⊎◌}
 use Rattle.html_forest.specs.Forest.{Forest}
 use Rattle.page_skeleton.proofs.BodyPlanting.{third_guard}
@@ -329,7 +329,7 @@ module _ (is_framed : Bool) (facts : Facts) where
 
   beginning_on : (s : State) → IsAtBeginning s → child_elements 0 s.tree.forest ≡ [] → On s
   beginning_on s begins none = record {
-    ready = begins.ready;
+    ready = of_page s begins.ready begins.page;
     formed = λ n e. absurd (let k : None ≡ Some n = sym begins.form ∙ e in cc);
     phase = doctype_to_come begins.mode (record {
       stack = begins.stack;

@@ -7,6 +7,7 @@ use Rattle.html_forest.specs.Orders.{IsIn}
 use Rattle.formatting_list.specs.Entries.{marker}
 use Rattle.html_lexemes.specs.declared.token.Tag.{Tag}
 use Rattle.html_tree_state.specs.Building.{Building}
+use Rattle.page_skeleton.proofs.PageReady.{ActionsKeep, Ready}
 use Rattle.tree_rules.specs.declared.target.Target.TheVariants as targets
 use Rattle.html_tree_state.specs.Insertions.{is_template}
 use Rattle.name_sets.specs.Sets.{is_html}
@@ -24,9 +25,7 @@ use Rattle.page_skeleton.proofs.TemplateLists.{templates_in}
 use Rattle.tree_rules.specs.Actions.{act, act_all, go_to, in_html, insert, inserted_into, is_of_text, is_text}
 use Rattle.tree_rules.specs.Actions.{push_template_mode, put_marker}
 use Rattle.tree_rules.specs.Actions.{refuse_frameset}
-use Rattle.tree_rules.specs.Settling.{Ready}
 use Rattle.tree_rules.specs.State.{State}
-use Rattle.tree_rules.specs.Welcome.{ActionsKeep}
 use Rattle.tree_rules.specs.declared.target.Target.{Target}
 use Rattle.tree_words.specs.declared.modes.InsertionMode.TheVariants as modes
 use Rattle.tag_groups.specs.Groups.{tag_group}

@@ -3,27 +3,33 @@ use crate::escapes::{NO_TEXT, unescaped};
 use html_tree_builder::{ParseOpts, TokenizerOpts, TreeBuilderOpts};
 use std::alloc::Global;
 
-/// A page, and how it is parsed.
+/// A page or a fragment, and how it is parsed.
 #[derive(Drop)]
 pub(crate) struct Case {
-    // whether scripts would run
-    scripting: bool,
+    /// The name of a fragment's context, behind `svg:` or `mathml:` where it is an element of these; none of a page.
+    pub(crate) context: Option<String>,
+    /// Whether scripts would run.
+    pub(crate) scripting: bool,
     /// Its text.
     pub(crate) text: String,
 }
 
 impl Case {
-    /// The case of a line: three fields with tabs between them, of which the first is `\N` for a whole page.
+    /// The case of a line: three fields with tabs between them. The first is a fragment's context, or `\N` for a whole
+    /// page.
     pub(crate) fn from_line(alloc: Global, line: &str) -> Result<Case, Error> {
         let (context, behind) = first_field(line)?;
         let (scripting, text) = first_field(behind)?;
         if text.contains('\t') {
             return Err(Error::Case("more than three fields"));
         }
-        if context != NO_TEXT {
-            return Err(Error::Case("a fragment, and no whole page"));
-        }
+        let context = if context == NO_TEXT {
+            None
+        } else {
+            Some(String::from_str(alloc, context)?)
+        };
         Ok(Case {
+            context,
             scripting: is_scripting(scripting)?,
             text: unescaped(alloc, text)?,
         })

@@ -12,12 +12,17 @@ struct Coming {
     level: usize,
 }
 
-/// A line for the quirks mode and for each node, in order, one space before it for each level, and an empty line.
-pub(crate) fn lines_of(alloc: Global, dom: &RcDom) -> Result<String, AllocError> {
+/// A line for the quirks mode, of a page alone, and for each node, in order, one space before it for each level, and an
+/// empty line.
+pub(crate) fn lines_of(
+    alloc: Global,
+    dom: &RcDom,
+    is_fragment: bool,
+) -> Result<String, AllocError> {
     let mut lines = String::new(alloc);
-    lines.push_str("quirks")?;
-    push_field(&mut lines, word_of(dom.quirks_mode()))?;
-    lines.push('\n')?;
+    if !is_fragment {
+        push_quirks(&mut lines, dom)?;
+    }
     let mut coming = Vec::new(alloc);
     push_children(&mut coming, dom, dom.document(), 0)?;
     for _ in 0..u64::MAX {
@@ -28,6 +33,12 @@ pub(crate) fn lines_of(alloc: Global, dom: &RcDom) -> Result<String, AllocError>
     }
     lines.push('\n')?;
     Ok(lines)
+}
+
+fn push_quirks(lines: &mut String, dom: &RcDom) -> Result<(), AllocError> {
+    lines.push_str("quirks")?;
+    push_field(lines, word_of(dom.quirks_mode()))?;
+    lines.push('\n')
 }
 
 fn word_of(mode: QuirksMode) -> &'static str {

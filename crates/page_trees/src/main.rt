@@ -1,5 +1,5 @@
-//! Tells the trees of pages. Standard input has a page a line, and standard output gets the nodes of each page's tree,
-//! one a line, with an empty line behind each page. Each page is parsed whole and a character at a time, and both trees
+//! Tells the trees of pages and fragments. Standard input has one a line, and standard output gets the nodes of each
+//! tree, one a line, with an empty line behind each tree. Each is parsed whole and a character at a time, and both trees
 //! must agree. The table of references is the basic one, or with `--references FILE` the one that a file has, in the
 //! form in which the standard publishes it (WHATWG HTML, 13.5).
 #![tactic(auto)]

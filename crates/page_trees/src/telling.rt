@@ -3,8 +3,10 @@ use crate::case::Case;
 use crate::dump::lines_of;
 use crate::error::Error;
 use html_render_dom::RcDom;
-use html_tree_builder::html_lexemes::ReferenceTable;
-use html_tree_builder::parse_pieces;
+use html_tree_builder::html_lexemes::{
+    Attributes, LocalName, Namespace, QualName, ReferenceTable,
+};
+use html_tree_builder::{parse_fragment_pieces, parse_pieces};
 use std::alloc::{AllocError, Global};
 
 /// The table of references: the basic one, or that of a JSON text.
@@ -43,7 +45,7 @@ fn lines_fed(
     pieces: Vec<String>,
 ) -> Result<String, Error> {
     let dom = tree_fed(alloc, case, table, pieces)?;
-    Ok(lines_of(alloc, &dom)?)
+    Ok(lines_of(alloc, &dom, case.context.is_some())?)
 }
 
 fn tree_fed(
@@ -53,7 +55,36 @@ fn tree_fed(
     pieces: Vec<String>,
 ) -> Result<RcDom, Error> {
     let sink = RcDom::new(alloc)?;
-    Ok(parse_pieces(alloc, sink, case.options(), table, pieces)?)
+    let Some(context) = &case.context else {
+        return Ok(parse_pieces(alloc, sink, case.options(), table, pieces)?);
+    };
+    let name = context_name(alloc, context.as_str())?;
+    let attrs = Attributes::new(alloc);
+    let scripting = case.scripting;
+    Ok(parse_fragment_pieces(
+        alloc,
+        sink,
+        case.options(),
+        table,
+        name,
+        attrs,
+        scripting,
+        pieces,
+    )?)
+}
+
+/// The name of a context as a line has it.
+fn context_name(alloc: Global, context: &str) -> Result<QualName, AllocError> {
+    if let Some(local) = context.strip_prefix("svg:") {
+        let local = LocalName::from_str(alloc, local)?;
+        return Ok(QualName::new(Namespace::Svg, local));
+    }
+    if let Some(local) = context.strip_prefix("mathml:") {
+        let local = LocalName::from_str(alloc, local)?;
+        return Ok(QualName::new(Namespace::MathMl, local));
+    }
+    let local = LocalName::from_str(alloc, context)?;
+    Ok(QualName::new(Namespace::Html, local))
 }
 
 fn whole(alloc: Global, text: &str) -> Result<Vec<String>, AllocError> {

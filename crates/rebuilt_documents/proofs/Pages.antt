@@ -132,7 +132,7 @@ begins : (s : State) → IsAtBeginning s → s.tree.forest ≡ page_alone →
 unfolding page_at built page_of
 begins s is alone =
     ap (λ m. page_of s m s.context s.tree.stack s.tree.formatting s.tree.fostering s.tree.forest) is.mode
-    ∙ ap (λ c. page_of s modes.Initial c s.tree.stack s.tree.formatting s.tree.fostering s.tree.forest) is.ready.page
+    ∙ ap (λ c. page_of s modes.Initial c s.tree.stack s.tree.formatting s.tree.fostering s.tree.forest) is.page
     ∙ ap (λ ns. page_of s modes.Initial None ns s.tree.formatting s.tree.fostering s.tree.forest) is.stack
     ∙ ap (λ es. page_of s modes.Initial None [] es s.tree.fostering s.tree.forest) is.formatting
     ∙ ap (λ b. page_of s modes.Initial None [] [] b s.tree.forest) is.fostering

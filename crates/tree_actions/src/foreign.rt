@@ -1,6 +1,8 @@
 //! What the rules for foreign content and framesets do to the tree (WHATWG HTML, 13.2.6.1, 13.2.6.4.7 and 13.2.6.5).
-ghost use Rattle.std.specs.Prelude.{◌≡◌, IfErr, OnOk};
+ghost use Rattle.std.specs.Prelude.{◌≡◌, IfErr, IfSome, OnOk, option_map};
+ghost use Rattle.html_forest.specs.Forest.{IsElement};
 ghost use Rattle.html_lexemes.specs.declared.fault.ParseFault.TheVariants.{Memory};
+ghost use Rattle.html_tree_state.specs.Foreign.{adjusted_current};
 ghost use Rattle.tree_actions.specs.Parsed.{parsed};
 ghost use Rattle.tree_rules.specs.Settling.{Ready};
 ghost use Rattle.tree_rules.specs.Actions.{act, break_out, close_foreign, insert_foreign, take_out};
@@ -9,9 +11,23 @@ use crate::parse::Parse;
 use html_forest::{TreeSink, what_was_not_named_stays};
 use html_lexemes::{LocalName, Namespace, ParseFault, QualName, Tag};
 use html_tree_state::PushFlag;
-use tree_rules::actions_keep_what_is_ready;
+use tree_rules::{actions_keep_what_is_ready, adjusted_current_nodes_are_elements};
 
 impl<S: TreeSink> Parse<S> {
+    /// The adjusted current node: a fragment's context while no more than its root is open, else the current node
+    /// (WHATWG HTML, 13.2.4.2).
+    pub fn adjusted_current_node(&self) -> Option<S::Handle>
+        requires ready { Ready (parsed S.number S.forest S.quirks self.now.kept self.now.tree.held self.now.tree.sink) }
+        ensures node { option_map S.number result ≡ adjusted_current
+            (parsed S.number S.forest S.quirks self.now.kept self.now.tree.held self.now.tree.sink).context
+            (parsed S.number S.forest S.quirks self.now.kept self.now.tree.held self.now.tree.sink).tree.stack }
+        ensures there { IfSome result (λ node. IsElement (S.number node) (S.forest self.now.tree.sink)) }
+    {
+        adjusted_current_nodes_are_elements();
+        let node = self.tree.adjusted_current_node(self.kept.context)?;
+        Some(node)
+    }
+
     /// An element is inserted for a tag in a namespace; one that closes itself is popped at once.
     #[tactic(auto, unfolding(tree_rules::specs::Actions::act))]
     pub fn insert_foreign(&mut self, ns: Namespace, tag: &Tag) -> Result<(), ParseFault>

@@ -3,8 +3,10 @@
 #![tactic(auto)]
 
 mod builder;
+mod fragment;
 mod items;
 mod sink;
 
 pub use builder::TreeBuilder;
+pub use fragment::context_state;
 pub use tree_rules::TreeBuilderOpts;

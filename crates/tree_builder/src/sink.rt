@@ -94,7 +94,7 @@ impl<S: TreeSink> TokenSink for TreeBuilder<S> {
     }
 
     fn adjusted_current_node_present_but_not_in_html_namespace(&self) -> bool {
-        match self.page.tree.adjusted_current_node(self.page.kept.context) {
+        match self.page.adjusted_current_node() {
             Some(node) => !is_of_html(&self.page.tree.sink.elem_name(node).ns),
             None => false,
         }

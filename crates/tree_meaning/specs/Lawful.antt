@@ -22,13 +22,13 @@ use Rattle.tree_rules.specs.Welcome.{IsReady}
 -- flags and modes are not read by what holds between two items
 past_tag-ready : (s : State) → IsReady s → IsReady (past_tag s)
 past_tag-ready s r = record {
-  ready = record { sound = r.ready.sound; head = r.ready.head; page = r.ready.page };
+  ready = record { sound = r.ready.sound; head = r.ready.head; context = r.ready.context };
   actions = r.actions;
 }
 
 over-ready : (s : State) → IsReady s → IsReady (over s)
 over-ready s r = record {
-  ready = record { sound = r.ready.sound; head = r.ready.head; page = r.ready.page };
+  ready = record { sound = r.ready.sound; head = r.ready.head; context = r.ready.context };
   actions = r.actions;
 }
 
@@ -36,7 +36,7 @@ entered-ready : (ask : Ask) (s : State) → IsReady s → IsReady (entered ask s
 entered-ready nothing s r = r
 entered-ready plaintext s r = r
 entered-ready (raw kind) s r = record {
-  ready = record { sound = r.ready.sound; head = r.ready.head; page = r.ready.page };
+  ready = record { sound = r.ready.sound; head = r.ready.head; context = r.ready.context };
   actions = r.actions;
 }
 entered-ready (script n) s r = r

@@ -7,6 +7,7 @@ use Rattle.html_lexemes.specs.declared.names.Attribute.{Attribute}
 use Rattle.html_lexemes.specs.declared.names.Namespace.{Namespace}
 use Rattle.html_lexemes.specs.declared.token.Tag.{Tag}
 use Rattle.html_tree_state.specs.Building.{Building}
+use Rattle.html_tree_state.specs.Foreign.{adjusted_current}
 use Rattle.html_tree_state.specs.Formatting.{name_for}
 use Rattle.html_tree_state.specs.OpenElements.{first_of}
 use Rattle.html_tree_state.specs.Sound.{Sound}
@@ -36,14 +37,17 @@ still_holds : (n : ℕ) (f g : Forest) → Holds n f → nodes f ≤ nodes g →
 still_holds n f g h le = omega arith
 
 same : (b : Building) → Sound b → IsKept b b
-same b sound = record { sound = sound; size = omega arith }
+same b sound = record {
+  sound = sound;
+  grown = record { size = omega arith; elements = λ n is. is };
+}
 
 -- a step of the tree alone
 stepped : (s : State) (b : Building) → Ready s → IsKept s.tree b → Ready (record s { tree = b })
 stepped s b ready kept = record {
   sound = kept.sound;
-  head = λ n e. still_holds n s.tree.forest b.forest (ready.head n e) kept.size;
-  page = ready.page;
+  head = λ n e. still_holds n s.tree.forest b.forest (ready.head n e) kept.grown.size;
+  context = λ n e. kept.grown.elements n (ready.context n e);
 }
 
 by_word : (s : State) (word : Building → Building) → Ready s → Keeps word → Ready (record s { tree = word s.tree })
@@ -94,7 +98,13 @@ listed_kept words tag b sound = by_test (is_one_of formatting tag.name) b _ _
     (λ e. words.lists tag e b sound) (λ e. words.inserts (name_for tag) tag.attrs b sound)
 
 on : (a b c : Building) → IsKept a b → IsKept b c → IsKept a c
-on a b c k l = record { sound = l.sound; size = both (nodes a.forest) (nodes b.forest) (nodes c.forest) k.size l.size } where
+on a b c k l = record {
+  sound = l.sound;
+  grown = record {
+    size = both (nodes a.forest) (nodes b.forest) (nodes c.forest) k.grown.size l.grown.size;
+    elements = λ n is. l.grown.elements n (k.grown.elements n is);
+  };
+} where
   both : (x y z : ℕ) → x ≤ y → y ≤ z → x ≤ z
   both x y z h i = omega arith
 
@@ -130,7 +140,7 @@ act_ready words there (comment_to_root cs) s ready = by_word s _ ready (words.co
 act_ready words there (append_doctype doctype) s ready = by_word s _ ready (words.takes_a_doctype doctype)
 act_ready words there (set_quirks mode) s ready =
     let r : Ready _ = by_word s _ ready (words.takes_quirks mode) in
-    record { sound = r.sound; head = r.head; page = r.page }
+    record { sound = r.sound; head = r.head; context = r.context }
 act_ready words there (say cs) s ready = by_word s _ ready (words.says cs)
 act_ready words there (add_attributes n attributes) s ready = by_word s _ ready (given_kept words n attributes)
 act_ready words there (take_out n) s ready = by_word s _ ready (words.takes_out n)
@@ -153,23 +163,46 @@ act_ready words there clear_to_marker s ready = by_word s _ ready words.clears
 act_ready words there (unlist n) s ready = by_word s _ ready (words.unlists n)
 act_ready words there (adopt name) s ready = by_word s _ ready (words.adopts name)
 act_ready words there (adopt_in_scope name) s ready = by_word s _ ready (adopted_kept words name)
-act_ready words there (go_to mode) s ready = record { sound = ready.sound; head = ready.head; page = ready.page }
-act_ready words there hold_mode s ready = record { sound = ready.sound; head = ready.head; page = ready.page }
-act_ready words there go_back s ready = record { sound = ready.sound; head = ready.head; page = ready.page }
+act_ready words there (go_to mode) s ready = record { sound = ready.sound; head = ready.head; context = ready.context }
+act_ready words there hold_mode s ready = record { sound = ready.sound; head = ready.head; context = ready.context }
+act_ready words there go_back s ready = record { sound = ready.sound; head = ready.head; context = ready.context }
 act_ready words there (push_template_mode mode) s ready =
-    record { sound = ready.sound; head = ready.head; page = ready.page }
+    record { sound = ready.sound; head = ready.head; context = ready.context }
 act_ready words there pop_template_mode s ready =
-    record { sound = ready.sound; head = ready.head; page = ready.page }
-act_ready words there reset s ready = record { sound = ready.sound; head = ready.head; page = ready.page }
+    record { sound = ready.sound; head = ready.head; context = ready.context }
+act_ready words there reset s ready = record { sound = ready.sound; head = ready.head; context = ready.context }
 act_ready words there keep_head s ready = record {
   sound = ready.sound;
   head = first_holds there s.tree ready.sound s.tree.stack refl;
-  page = ready.page;
+  context = ready.context;
 }
-act_ready words there keep_form s ready = record { sound = ready.sound; head = ready.head; page = ready.page }
-act_ready words there forget_form s ready = record { sound = ready.sound; head = ready.head; page = ready.page }
-act_ready words there refuse_frameset s ready = record { sound = ready.sound; head = ready.head; page = ready.page }
+act_ready words there keep_form s ready = record { sound = ready.sound; head = ready.head; context = ready.context }
+act_ready words there forget_form s ready = record { sound = ready.sound; head = ready.head; context = ready.context }
+act_ready words there refuse_frameset s ready = record { sound = ready.sound; head = ready.head; context = ready.context }
 act_ready words there skip_next_line_feed s ready =
-    record { sound = ready.sound; head = ready.head; page = ready.page }
-act_ready words there (keep_pending c) s ready = record { sound = ready.sound; head = ready.head; page = ready.page }
-act_ready words there forget_pending s ready = record { sound = ready.sound; head = ready.head; page = ready.page }
+    record { sound = ready.sound; head = ready.head; context = ready.context }
+act_ready words there (keep_pending c) s ready = record { sound = ready.sound; head = ready.head; context = ready.context }
+act_ready words there forget_pending s ready = record { sound = ready.sound; head = ready.head; context = ready.context }
+
+-- the adjusted current node is an element
+same_node : (m n : ℕ) → Some m ≡ Some n → m ≡ n
+same_node m n e = cc
+
+open_element : (m n : ℕ) (f : Forest) → IsElement m f → Some m ≡ Some n → IsElement n f
+open_element m n f is e = subst (λ k. IsElement k f) (same_node m n e) is
+
+adjusted_by : (n : ℕ) (s : State) → Ready s → (context : Option ℕ) (stack : List ℕ) → s.context ≡ context →
+    s.tree.stack ≡ stack → adjusted_current context stack ≡ Some n → IsElement n s.tree.forest
+adjusted_by n s ready None [] is open_now e = absurd (let k : None ≡ Some n = e in cc)
+adjusted_by n s ready None (m ∷ ms) is open_now e =
+    open_element m n s.tree.forest (ready.sound.elements m (subst (IsIn m) (sym open_now) (inl refl))) e
+adjusted_by n s ready (Some c) [] is open_now e =
+    open_element c n s.tree.forest (ready.context c is) e
+adjusted_by n s ready (Some c) (m ∷ []) is open_now e =
+    open_element c n s.tree.forest (ready.context c is) e
+adjusted_by n s ready (Some c) (m ∷ k ∷ ms) is open_now e =
+    open_element m n s.tree.forest (ready.sound.elements m (subst (IsIn m) (sym open_now) (inl refl))) e
+
+pub adjusted_element : (n : ℕ) (s : State) → Ready s → adjusted_current s.context s.tree.stack ≡ Some n →
+    IsElement n s.tree.forest
+adjusted_element n s ready e = adjusted_by n s ready s.context s.tree.stack refl refl e

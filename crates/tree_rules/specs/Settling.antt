@@ -1,7 +1,7 @@
 -- What a mark comes to, and what a page's items do: what tree construction means to a tokenizer.
 use Rattle.std.specs.Prelude.{◌≡◌, ℕ, zero, suc, ◌==◌, ◌&&◌, Bool, false, true, not, fold}
 use Rattle.std.specs.Prelude.{Option, None, Some, if◌then◌else◌}
-use Rattle.html_forest.specs.Forest.{Forest, Holds, name_of}
+use Rattle.html_forest.specs.Forest.{Forest, Holds, IsElement, name_of}
 use Rattle.html_grammar.specs.Items.{Item}
 use Rattle.html_grammar.specs.Items as items
 use Rattle.html_grammar.specs.Meaning.{Meaning}
@@ -99,8 +99,9 @@ foreign s = is_foreign s.tree.forest (adjusted_current s.context s.tree.stack)
 abbrev pub meaning : {H : Type 0} → (ℕ → H) → Meaning State H
 meaning handle = record { step = step; reply = reply handle; foreign = foreign }
 
--- What holds between two items of a page: the tree is sound, and the head is one of its nodes.
+-- What holds between two items of a page: the tree is sound, the head is one of its nodes, and a fragment's context is
+-- an element.
 pub record Ready (s : State) : Type 0 where
   pub sound : Sound s.tree
   pub head : (n : ℕ) → s.head ≡ Some n → Holds n s.tree.forest
-  pub page : s.context ≡ None
+  pub context : (n : ℕ) → s.context ≡ Some n → IsElement n s.tree.forest

@@ -1,8 +1,8 @@
 -- Runs of text, by what a mode makes of their characters.
 use Rattle.std.proofs.Common.{◌≡◌, ℕ, ◌⊎◌, inl, inr, ◌==◌, ◌&&◌, ◌||◌, Bool, true, false, if◌then◌else◌, List, [], ◌∷◌, codes}
-use Rattle.std.proofs.Common.{◌++◌, ◌<◌, append_assoc, fold, refl, sym, ap, ◌∙◌, subst}
+use Rattle.std.proofs.Common.{◌++◌, ◌<◌, append_assoc, fold, refl, sym, ap, ◌∙◌, subst, Option, None, Some}
 use Rattle.std.proofs.lemmas.List.{append-nil}
-use Rattle.html_forest.specs.Forest.{Forest, element_of, is_integration_point, kind_at, name_of}
+use Rattle.html_forest.specs.Forest.{Forest, Holds, IsElement, Kind, element_of, is_integration_point, kind_at, name_of}
 use Rattle.html_forest.specs.declared.sink.QuirksMode.TheVariants.{Quirks}
 use Rattle.html_forest.specs.Orders.{IsIn}
 use Rattle.html_lexemes.specs.declared.names.QualName.{QualName}
@@ -65,12 +65,20 @@ foreign_rule s c e = ap (λ (b : Bool). if b then row s.mode (character c) s els
 abbrev ahead : List ℕ → Bool → State → State
 ahead cs ok s = record s { frameset_ok = ok; tree = said cs s.tree }
 
--- the open elements stay what they are
-taken_same : (mark : Mark) (f g : Forest) (stack : List ℕ) → ((n : ℕ) → IsIn n stack → kind_at n g ≡ kind_at n f) →
-    is_taken_at mark g (first_of stack) ≡ is_taken_at mark f (first_of stack)
-taken_same mark f g [] same = refl
-taken_same mark f g (n ∷ ns) same =
-    ap (λ k. takes mark (element_of k).name (element_of k).integration_point) (same n (inl refl))
+-- by what a node is
+abbrev takes_by : Mark → Kind → Bool
+takes_by mark k = takes mark (element_of k).name (element_of k).integration_point
+
+-- the open elements and a fragment's context stay what they are
+taken_same : (mark : Mark) (f g : Forest) (context : Option ℕ) (stack : List ℕ) →
+    ((n : ℕ) → IsIn n stack → kind_at n g ≡ kind_at n f) →
+    ((n : ℕ) → context ≡ Some n → kind_at n g ≡ kind_at n f) →
+    is_taken_at mark g (adjusted_current context stack) ≡ is_taken_at mark f (adjusted_current context stack)
+taken_same mark f g None [] same named = refl
+taken_same mark f g None (n ∷ ns) same named = ap (takes_by mark) (same n (inl refl))
+taken_same mark f g (Some c) [] same named = ap (takes_by mark) (named c refl)
+taken_same mark f g (Some c) (n ∷ []) same named = ap (takes_by mark) (named c refl)
+taken_same mark f g (Some c) (n ∷ m ∷ ns) same named = ap (takes_by mark) (same n (inl refl))
 
 current_same : (set : Elements) (b c : Building) (stack : List ℕ) →
     ((n : ℕ) → IsIn n stack → kind_at n c.forest ≡ kind_at n b.forest) →
@@ -103,13 +111,12 @@ text_same m b s t o c g = refl
 -- a state before a run, and the same with characters inserted
 module _ (laws : TextLaws) (s : State) (ready : Ready s) where
   stays : (ds : List ℕ) (n : ℕ) → IsIn n s.tree.stack → kind_at n (said ds s.tree).forest ≡ kind_at n s.tree.forest
-  stays ds n there = laws.words.says_elsewhere ds n s.tree ready.sound there
+  stays ds n there = laws.words.says_elsewhere ds n s.tree (ready.sound.elements n there)
 
   by_mode_same : (ds : List ℕ) (ok : Bool) (c : ℕ) → is_by_mode (character c) (ahead ds ok s) ≡ is_by_mode (character c) s
   by_mode_same ds ok c = ap (λ (b : Bool). is_text s.mode || b)
-      (ap (λ o. is_taken_at (character c) (said ds s.tree).forest (adjusted_current o s.tree.stack)) ready.page
-      ∙ (taken_same (character c) s.tree.forest (said ds s.tree).forest s.tree.stack (stays ds)
-      ∙ sym (ap (λ o. is_taken_at (character c) s.tree.forest (adjusted_current o s.tree.stack)) ready.page)))
+      (taken_same (character c) s.tree.forest (said ds s.tree).forest s.context s.tree.stack (stays ds)
+      (λ n is. laws.words.says_elsewhere ds n s.tree (ready.context n is)))
 
   row_same : (ds : List ℕ) (ok b : Bool) → text_row s.mode b (ahead ds ok s) ≡ text_row s.mode b s
   row_same ds ok b = text_same s.mode b s (ahead ds ok s) refl
@@ -120,7 +127,7 @@ module _ (laws : TextLaws) (s : State) (ready : Ready s) where
   unfolding act
   ahead_ready ds ok =
       let said_ready : Ready (record s { tree = said ds s.tree }) = laws.actions (say ds) s ready in
-      record { sound = said_ready.sound; head = said_ready.head; page = said_ready.page }
+      record { sound = said_ready.sound; head = said_ready.head; context = said_ready.context }
 
   -- a further character is inserted
   further : (ds : List ℕ) (ok more : Bool) (c : ℕ) →
@@ -237,26 +244,49 @@ anew_ready : TextLaws → (s : State) → Ready s → Ready (anew s)
 unfolding act
 anew_ready laws s ready = laws.actions reconstruct s ready
 
+or_true : (a b : Bool) → b ≡ true → (a || b) ≡ true
+or_true true b e = refl
+or_true false b e = e
+
+-- the new current node is an element of HTML
+by_new_top : (s : State) (c : ℕ) → (new : IsTopped s.tree (reconstructed s.tree)) →
+    (is_text s.mode || is_taken_at (character c) (reconstructed s.tree).forest (Some new.top)) ≡ true
+by_new_top s c new = or_true (is_text s.mode) _
+    (ap (λ (name : QualName). takes (character c) name
+    (is_integration_point new.top (reconstructed s.tree).forest)) new.name)
+
+-- where it alone is open in a fragment, nothing was open before, and the context is what it was
+by_top : NodeLaws → (s : State) (c : ℕ) → Ready s → (new : IsTopped s.tree (reconstructed s.tree)) →
+    (context : Option ℕ) (rest : List ℕ) → s.context ≡ context → new.rest ≡ rest →
+    is_by_mode (character c) s ≡ true →
+    (is_text s.mode || is_taken_at (character c) (reconstructed s.tree).forest
+    (adjusted_current context (new.top ∷ rest))) ≡ true
+by_top laws s c ready new None rest is alone e = by_new_top s c new
+by_top laws s c ready new (Some n) [] is alone e =
+    let first = new.alone alone in
+    let there : Holds n s.tree.forest = laws.element_there n s.tree.forest (ready.context n is) in
+    ap (λ k. is_text s.mode || takes_by (character c) k) (first.kinds n there)
+    ∙ (sym (ap (λ o. is_text s.mode || is_taken_at (character c) s.tree.forest (adjusted_current o s.tree.stack)) is
+    ∙ ap (λ stack. is_text s.mode || is_taken_at (character c) s.tree.forest (adjusted_current (Some n) stack))
+    first.stack) ∙ e)
+by_top laws s c ready new (Some n) (m ∷ ms) is alone e = by_new_top s c new
+
 -- text is taken by the mode behind a reconstruction too
-by_anew : (s : State) (c : ℕ) → Ready s → IsSame s.tree (reconstructed s.tree) ⊎ IsTopped (reconstructed s.tree) →
+by_anew : NodeLaws → (s : State) (c : ℕ) → Ready s →
+    IsSame s.tree (reconstructed s.tree) ⊎ IsTopped s.tree (reconstructed s.tree) →
     is_by_mode (character c) s ≡ true → is_by_mode (character c) (anew s) ≡ true
-by_anew s c ready (inl same) e =
+by_anew laws s c ready (inl same) e =
     ap (λ stack. is_text s.mode || is_taken_at (character c) (reconstructed s.tree).forest
     (adjusted_current s.context stack)) same.stack
     ∙ (ap (λ f. is_text s.mode || is_taken_at (character c) f (adjusted_current s.context s.tree.stack)) same.forest
     ∙ e)
-by_anew s c ready (inr new) e = or_true (is_text s.mode) _
-    (ap (λ o. is_taken_at (character c) (reconstructed s.tree).forest
-    (adjusted_current o (reconstructed s.tree).stack)) ready.page
-    ∙ (ap (λ stack. is_taken_at (character c) (reconstructed s.tree).forest (first_of stack)) new.stack
-    ∙ ap (λ (name : QualName). takes (character c) name
-    (is_integration_point new.top (reconstructed s.tree).forest)) new.name)) where
-      or_true : (a b : Bool) → b ≡ true → (a || b) ≡ true
-      or_true true b e = refl
-      or_true false b e = e
+by_anew laws s c ready (inr new) e =
+    ap (λ stack. is_text s.mode || is_taken_at (character c) (reconstructed s.tree).forest
+    (adjusted_current s.context stack)) new.stack
+    ∙ by_top laws s c ready new s.context new.rest refl refl e
 
 -- it is no table's behind one either
-collects_anew : (s : State) → IsSame s.tree (reconstructed s.tree) ⊎ IsTopped (reconstructed s.tree) →
+collects_anew : (s : State) → IsSame s.tree (reconstructed s.tree) ⊎ IsTopped s.tree (reconstructed s.tree) →
     collects_text s ≡ false → collects_text (anew s) ≡ false
 collects_anew s (inl same) e =
     ap (is_current table_text_places (reconstructed s.tree)) same.stack
@@ -291,7 +321,7 @@ row_anew modes.InColumnGroup false s t o c e = absurd (by (is_in_column_group s)
 row_anew m b s t o c e = e
 
 module _ (laws : TextLaws) (s : State) (ready : Ready s) where
-  top : IsSame s.tree (reconstructed s.tree) ⊎ IsTopped (reconstructed s.tree)
+  top : IsSame s.tree (reconstructed s.tree) ⊎ IsTopped s.tree (reconstructed s.tree)
   top = reconstructed_top laws.nodes s.tree ready.sound
 
   body_step : (flag : s.skip_lf ≡ false) (c : ℕ) (ds : List ℕ) (ok : Bool) → is_by_mode (character c) s ≡ true →
@@ -305,7 +335,7 @@ module _ (laws : TextLaws) (s : State) (ready : Ready s) where
       let base : Ready (anew s) = anew_ready laws s ready in
       body_taken laws (is_white_space c) (ahead ds ok (anew s)) c
       (record { ready = ahead_ready laws (anew s) base ds ok; flag = flag })
-      (mode_rule (ahead ds ok (anew s)) c (by_mode_same laws (anew s) base ds ok c ∙ by_anew s c ready top by)
+      (mode_rule (ahead ds ok (anew s)) c (by_mode_same laws (anew s) base ds ok c ∙ by_anew laws.nodes s c ready top by)
       ∙ ap (for_character c) (row_same laws (anew s) base ds ok (is_white_space c)
       ∙ row_anew s.mode (is_white_space c) s (anew s) refl (collects_anew s top) is))
       ∙ ap (λ (b : Building). record (ahead ds ok (anew s)) {

@@ -12,5 +12,6 @@ returns c = all_runs (record {
     leaf_stays = c.elements_stay.ensures.made;
     made_leaf = c.what_was_made_may_be_put.ensures.kind;
     size_leaf = c.how_many_nodes_there_are.ensures.made;
+    element_there = c.elements_stay.ensures.there;
   };
 })

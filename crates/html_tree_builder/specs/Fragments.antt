@@ -1,0 +1,47 @@
+-- The tree of a fragment (WHATWG HTML, 13.4): what the rule table makes, from a context in a sink of trees on, of what the
+-- fragment's text tells.
+use Rattle.std.specs.Prelude.{ℕ, Bool, List, Option, Some, codes}
+use Rattle.html_forest.specs.Changes.{made_element}
+use Rattle.html_forest.specs.Forest.{Forest, name_of}
+use Rattle.html_forest.specs.declared.sink.QuirksMode.{QuirksMode}
+use Rattle.html_grammar.specs.Modes.{text_of_state}
+use Rattle.html_grammar.specs.PageText.{page_text}
+use Rattle.html_grammar.specs.Reading.{Reading}
+use Rattle.html_grammar.specs.declared.modes.Mode.{Mode}
+use Rattle.html_grammar.specs.declared.sink.TokenizerOpts.{TokenizerOpts}
+use Rattle.html_lexemes.specs.declared.names.Attribute.{Attribute}
+use Rattle.html_lexemes.specs.declared.names.QualName.{QualName}
+use Rattle.html_tree_builder.specs.Grown.{Beginning, IsGrown}
+use Rattle.name_sets.specs.Sets.{is_html}
+use Rattle.tree_builder.specs.Begun.{begun_fragment, context_state}
+use Rattle.tree_rules.specs.Settling.{meaning}
+use Rattle.tree_rules.specs.State.{State}
+use Rattle.tree_words.specs.Attributes.{is_html_annotation}
+
+-- its context, an element; the form that this stands in; and whether scripts would run there
+pub record Fragment : Type 0 where
+  pub context : ℕ
+  pub form : Option ℕ
+  pub scripting : Bool
+
+-- its text begins as the context says, whatever state the options name
+abbrev pub fragment_mode : TokenizerOpts → (scripting : Bool) → (context : QualName) → Mode
+fragment_mode options scripting context = record {
+  text = text_of_state (Some (context_state scripting context));
+  last_start_tag = options.last_start_tag_name;
+}
+
+abbrev pub FragmentReadsTo : {H : Type 0} → (ℕ → H) → Beginning → Fragment → (text : List ℕ) → State → Type 0
+FragmentReadsTo handle from fragment text final = Reading from.table (meaning handle)
+    (fragment_mode from.options.tokenizer fragment.scripting (name_of fragment.context from.forest))
+    (begun_fragment from.options.tree_builder fragment.context fragment.form from.forest from.quirks)
+    (page_text from.options.tokenizer.discard_bom text) final
+
+abbrev pub IsTreeOfFragment : {H : Type 0} → (ℕ → H) → Beginning → Fragment → (text : List ℕ) → Forest → QuirksMode →
+    Type 0
+IsTreeOfFragment handle from fragment text forest quirks = IsGrown (FragmentReadsTo handle from fragment text) forest quirks
+
+-- a context of a name and attributes, which stands nowhere
+abbrev pub made_context : QualName → List Attribute → Forest → Forest
+made_context name attributes f =
+    made_element name attributes (is_html (codes "template") name) (is_html_annotation name attributes) f

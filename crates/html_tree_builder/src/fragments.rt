@@ -1,0 +1,137 @@
+//! Fragments of pages.
+ghost use Rattle.std.specs.Prelude.{◌≡◌, ℕ, List, None, IfErr, IfOk, false, option_map};
+ghost use Rattle.html_forest.specs.Forest.{IsElement, nodes};
+ghost use Rattle.html_forest.specs.Orders.{IsForest};
+ghost use Rattle.html_lexemes.specs.declared.fault.ParseFault.TheVariants.{Memory};
+ghost use Rattle.html_tokenizer.specs.Pieces.{joined};
+ghost use Rattle.html_tree_builder.specs.Fragments.{FragmentReadsTo, IsTreeOfFragment, made_context};
+ghost use Rattle.html_tree_builder.specs.Grown.{beginning};
+ghost use Rattle.html_tree_builder.specs.Parsers.{Completes, IsFit, has_failed};
+ghost use Rattle.tree_rules.specs.State.{State};
+
+use crate::options::ParseOpts;
+use crate::parser::Parser;
+use html_forest::{
+    TreeSink, elements_stay, how_many_nodes_there_are, making_keeps_a_forest, what_was_made_may_be_put,
+};
+use html_lexemes::{Attributes, BufferQueue, ParseFault, QualName, ReferenceTable};
+use html_tokenizer::Tokenizer;
+use std::alloc::Global;
+use tree_builder::{TreeBuilder, context_state};
+use tree_words::element_flags;
+
+/// A parser of a fragment, for a context that is an element of the sink (WHATWG HTML, 13.4): what is parsed stands in
+/// an element `html` in the document. `scripting` says whether scripts would run where the context stands, and `form`
+/// is the form that it stands in, if there is one. The sink's nodes are a forest, whose document has no children yet.
+/// The error is want of memory.
+#[tactic(auto, unfolding(crate::specs::Parsers::has_failed, crate::specs::Parsers::IsFit, crate::specs::Parsers::Completes))]
+pub fn parse_fragment_for_element<S: TreeSink + Drop>(
+    alloc: Global,
+    sink: S,
+    opts: ParseOpts,
+    table: ReferenceTable,
+    context: S::Handle,
+    scripting: bool,
+    form: Option<S::Handle>,
+) -> Result<Parser<S>, ParseFault>
+    requires forest { IsForest (S.forest sink) }
+    requires context { IsElement (S.number context) (S.forest sink) }
+    ensures memory { IfErr result (λ e. e ≡ Memory) }
+    ensures fit { IfOk result (λ parser. IsFit S.number S.forest S.quirks parser) }
+    ensures works { IfOk result (λ parser. has_failed parser ≡ false) }
+    ensures begins { IfOk result (λ parser. (text : List ℕ) (final : State) →
+        Completes S.number S.handle S.forest S.quirks parser text final →
+        FragmentReadsTo S.handle (beginning table opts (S.forest sink) (S.quirks sink))
+        (record { context = S.number context; form = option_map S.number form; scripting = scripting }) text final) }
+{
+    let ParseOpts {
+        mut tokenizer,
+        tree_builder,
+    } = opts;
+    tokenizer.initial_state = Some(context_state(sink.elem_name(context), scripting));
+    let builder = TreeBuilder::new_for_fragment(alloc, sink, context, form, tree_builder)?;
+    Ok(Parser {
+        tokenizer: Tokenizer::new(alloc, builder, tokenizer, table),
+        input_buffer: BufferQueue::new(alloc),
+        is_over: false,
+    })
+}
+
+/// A parser of a fragment, for a context of this name and these attributes, which is made for it and stands in no form
+/// (WHATWG HTML, 13.4): what is parsed stands in an element `html` in the document. `scripting` says whether scripts
+/// would run where the context stands. The sink's nodes are a forest, whose document has no children yet. The error is
+/// want of memory.
+pub fn parse_fragment<S: TreeSink + Drop>(
+    alloc: Global,
+    sink: S,
+    opts: ParseOpts,
+    table: ReferenceTable,
+    name: QualName,
+    attrs: Attributes,
+    scripting: bool,
+) -> Result<Parser<S>, ParseFault>
+    requires forest { IsForest (S.forest sink) }
+    ensures memory { IfErr result (λ e. e ≡ Memory) }
+    ensures fit { IfOk result (λ parser. IsFit S.number S.forest S.quirks parser) }
+    ensures works { IfOk result (λ parser. has_failed parser ≡ false) }
+    ensures begins { IfOk result (λ parser. (text : List ℕ) (final : State) →
+        Completes S.number S.handle S.forest S.quirks parser text final →
+        FragmentReadsTo S.handle (beginning table opts (made_context name attrs (S.forest sink)) (S.quirks sink))
+        (record { context = nodes (S.forest sink); form = None; scripting = scripting }) text final) }
+{
+    let (sink, context) = with_context(sink, name, attrs)?;
+    parse_fragment_for_element(alloc, sink, opts, table, context, scripting, None)
+}
+
+/// The tree of a fragment that comes in pieces, for a context as in `parse_fragment`: that of the rule table over the
+/// reading of the fragment's whole text, however it is cut. The error is want of memory.
+pub fn parse_fragment_pieces<S: TreeSink + Drop>(
+    alloc: Global,
+    sink: S,
+    opts: ParseOpts,
+    table: ReferenceTable,
+    name: QualName,
+    attrs: Attributes,
+    scripting: bool,
+    pieces: Vec<String>,
+) -> Result<S::Output, ParseFault>
+    requires { IsForest (S.forest sink) }
+    ensures memory { IfErr result (λ e. e ≡ Memory) }
+    ensures grown { IfOk result (λ output. IsTreeOfFragment S.handle
+        (beginning table opts (made_context name attrs (S.forest sink)) (S.quirks sink))
+        (record { context = nodes (S.forest sink); form = None; scripting = scripting }) (joined pieces.items)
+        (S.tree output) (S.tree_quirks output)) }
+{
+    let mut parser = parse_fragment(alloc, sink, opts, table, name, attrs, scripting)?;
+    match parser.process_all(pieces) {
+        Ok(()) => parser.finish(),
+        Err(fault) => {
+            let _sink = parser.into_sink();
+            Err(fault)
+        }
+    }
+}
+
+// a sink with a context more, which stands nowhere
+fn with_context<S: TreeSink + Drop>(
+    sink: S,
+    name: QualName,
+    attrs: Attributes,
+) -> Result<(S, S::Handle), ParseFault>
+    requires { IsForest (S.forest sink) }
+    ensures memory { IfErr result (λ e. e ≡ Memory) }
+    ensures number { IfOk result (λ made. S.number made.1 ≡ nodes (S.forest sink)) }
+    ensures forest { IfOk result (λ made. S.forest made.0 ≡ made_context name attrs (S.forest sink)) }
+    ensures quirks { IfOk result (λ made. S.quirks made.0 ≡ S.quirks sink) }
+    ensures keeps { IfOk result (λ made. IsForest (S.forest made.0)) }
+    ensures element { IfOk result (λ made. IsElement (S.number made.1) (S.forest made.0)) }
+{
+    making_keeps_a_forest();
+    elements_stay();
+    how_many_nodes_there_are();
+    what_was_made_may_be_put();
+    let mut sink = sink;
+    let flags = element_flags(&name, &attrs);
+    let context = sink.create_element(name, attrs, flags)?;
+    Ok((sink, context))
+}
