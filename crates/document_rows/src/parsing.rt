@@ -1,10 +1,17 @@
 //! Trees of pages, by the calls of a parser.
 ghost use Rattle.html_forest.specs.Orders.{IsForest};
 
-use html_forest::{TreeSink, a_page_alone_is_a_forest};
+use html_forest::{
+    ElementFlags, TreeSink, a_page_alone_is_a_forest, elements_stay, making_keeps_a_forest,
+    what_was_made_may_be_put,
+};
 use html_render_dom::RcDom;
-use html_tree_builder::html_lexemes::{ParseFault, ReferenceTable};
-use html_tree_builder::{ParseOpts, parse_document, parse_pieces};
+use html_tree_builder::html_lexemes::{
+    Attributes, LocalName, Namespace, ParseFault, QualName, ReferenceTable,
+};
+use html_tree_builder::{
+    ParseOpts, parse_document, parse_fragment_for_element, parse_fragment_pieces, parse_pieces,
+};
 use std::alloc::{AllocError, Global};
 
 /// The tree of a page that comes in pieces.
@@ -50,6 +57,72 @@ fn tree_in<S: TreeSink + Drop>(
         Some(piece) => parser.one(piece),
         None => parser.finish(),
     }
+}
+
+/// The tree of a fragment that comes in pieces, in a context of this name.
+pub(crate) fn tree_of_fragment(
+    alloc: Global,
+    context: QualName,
+    pieces: Vec<String>,
+) -> Result<RcDom, ParseFault> {
+    a_page_alone_is_a_forest();
+    let table = ReferenceTable::basic(alloc)?;
+    let sink = RcDom::new(alloc)?;
+    let attrs = Attributes::new(alloc);
+    parse_fragment_pieces(
+        alloc,
+        sink,
+        ParseOpts::default(),
+        table,
+        context,
+        attrs,
+        true,
+        pieces,
+    )
+}
+
+/// The tree of a fragment in a context that stands in a form.
+pub(crate) fn tree_in_a_form(alloc: Global, piece: String) -> Result<RcDom, ParseFault> {
+    a_page_alone_is_a_forest();
+    fragment_in_a_form(alloc, RcDom::new(alloc)?, piece)
+}
+
+// the same in any sink
+fn fragment_in_a_form<S: TreeSink + Drop>(
+    alloc: Global,
+    sink: S,
+    piece: String,
+) -> Result<S::Output, ParseFault>
+    requires { IsForest (S.forest sink) }
+{
+    making_keeps_a_forest();
+    what_was_made_may_be_put();
+    elements_stay();
+    let mut sink = sink;
+    let form = html_name(alloc, "form")?;
+    let attrs = Attributes::new(alloc);
+    let form = sink.create_element(form, attrs, PLAIN)?;
+    let context = html_name(alloc, "div")?;
+    let attrs = Attributes::new(alloc);
+    let context = sink.create_element(context, attrs, PLAIN)?;
+    let table = ReferenceTable::basic(alloc)?;
+    let opts = ParseOpts::default();
+    let parser = parse_fragment_for_element(alloc, sink, opts, table, context, true, Some(form))?;
+    parser.one(piece)
+}
+
+// of no template, and of no element of MathML
+const PLAIN: ElementFlags = ElementFlags {
+    template: false,
+    mathml_annotation_xml_integration_point: false,
+};
+
+/// The name of an element of HTML.
+pub(crate) fn html_name(alloc: Global, word: &str) -> Result<QualName, AllocError> {
+    Ok(QualName::new(
+        Namespace::Html,
+        LocalName::from_str(alloc, word)?,
+    ))
 }
 
 /// A text whole.

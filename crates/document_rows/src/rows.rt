@@ -103,3 +103,25 @@ pub(crate) static PAGES: [(&str, &str); 8] = [
         "<html><head></head><body>a<template></template></body></html>",
     ),
 ];
+
+/// Fragments, each behind the name of its context, an element of HTML, and what then stands in the root (13.4).
+pub(crate) static FRAGMENTS: [(&str, &str, &str); 12] = [
+    ("ul", "<li>a<li>b", "<li>a</li><li>b</li>"),
+    // text that the context holds as text
+    ("title", "a<b>c", "a<b>c"),
+    ("textarea", "<p>&amp;", "<p>&"),
+    ("style", "a<b>&amp;", "a<b>&amp;"),
+    ("script", "<!--<b>", "<!--<b>"),
+    ("plaintext", "a</plaintext>", "a</plaintext>"),
+    // the mode is reset by the context
+    ("tr", "<td>a</tr>b<td>c", "<td>ab</td><td>c</td>"),
+    ("table", "a<tr>", "a<tbody><tr></tr></tbody>"),
+    ("template", "<td>a</td>", "<td>a</td>"),
+    ("frameset", "<frame>x", "<frame></frame>"),
+    (
+        "html",
+        "<title>a</title>",
+        "<head><title>a</title></head><body></body>",
+    ),
+    ("body", "</body>a", "a"),
+];

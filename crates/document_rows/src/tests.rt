@@ -1,6 +1,8 @@
 use crate::checks::holds;
-use crate::parsing::{characters, halves, tree_by_calls, tree_of, whole};
-use crate::rows::{BODIES, PAGES};
+use crate::parsing::{
+    characters, halves, html_name, tree_by_calls, tree_in_a_form, tree_of, tree_of_fragment, whole,
+};
+use crate::rows::{BODIES, FRAGMENTS, PAGES};
 use crate::walk::walk;
 use html_render_dom::html_forest::QuirksMode;
 use std::alloc::Global;
@@ -48,6 +50,47 @@ fn pages_are_those_of_the_rules(rt: HostRuntime) -> Result<(), Fail> {
     for (page, expected) in &PAGES {
         check(&rt, page, expected)?;
     }
+    Ok(())
+}
+
+// whether what some pieces of a fragment make is written so
+fn is_fragment_parsed(
+    alloc: Global,
+    context: &str,
+    pieces: Vec<String>,
+    expected: &str,
+) -> Result<bool, Fail> {
+    let context = html_name(alloc, context)?;
+    let dom = tree_of_fragment(alloc, context, pieces)?;
+    Ok(walk(alloc, &dom)?.as_str() == expected)
+}
+
+#[test]
+fn fragments_are_those_of_the_rules(rt: HostRuntime) -> Result<(), Fail> {
+    let alloc = rt.alloc();
+    for (context, text, inner) in &FRAGMENTS {
+        let mut expected = String::from_str(alloc, "<html>")?;
+        expected.push_str(inner)?;
+        expected.push_str("</html>")?;
+        let expected = expected.as_str();
+        let at_once = is_fragment_parsed(alloc, context, whole(alloc, text)?, expected)?;
+        holds(&rt, at_once, text);
+        let by_one = is_fragment_parsed(alloc, context, characters(alloc, text)?, expected)?;
+        holds(&rt, by_one, text);
+        for count in 0..=text.chars().count() {
+            let cut = is_fragment_parsed(alloc, context, halves(alloc, text, count)?, expected)?;
+            holds(&rt, cut, text);
+        }
+    }
+    Ok(())
+}
+
+// a form in a form is left out, also where the outer one holds the context
+#[test]
+fn a_context_stands_in_a_form(rt: HostRuntime) -> Result<(), Fail> {
+    let alloc = rt.alloc();
+    let dom = tree_in_a_form(alloc, String::from_str(alloc, "<form>a")?)?;
+    holds(&rt, walk(alloc, &dom)?.as_str() == "<html>a</html>", "form");
     Ok(())
 }
 

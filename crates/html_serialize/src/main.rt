@@ -1,11 +1,11 @@
 //! A small program: parses the page on standard input and writes its tree back as HTML (WHATWG HTML, 13.3), or, with
-//! `--fragment NAME`, a fragment in an element of HTML of that name. The page is UTF-8 text, and its table of references
-//! is the basic one.
+//! `--fragment NAME`, a fragment in an element of HTML of that name. The page is UTF-8 text; its table of references is
+//! the basic one.
 #![tactic(auto)]
 
 mod error;
 
-use dom_serializer::SerializableHandle;
+use dom_serializer::{SerializableHandle, SerializeDom};
 use dom_serializer::html_render_dom::{Handle, RcDom};
 use dom_serializer::html_serializer::{SerializeOpts, TraversalScope, serialize};
 use error::Error;
@@ -13,7 +13,7 @@ use html_tree_builder::html_lexemes::{
     Attributes, Device, LocalName, Namespace, QualName, ReferenceTable,
 };
 use html_tree_builder::{ParseOpts, parse_fragment_pieces, parse_pieces};
-use std::alloc::Global;
+use std::alloc::{AllocError, Global};
 use std::io::{BufWriter, Write};
 use std::process::ExitCode;
 use std::rt::Env;
@@ -34,7 +34,7 @@ fn rewrite<R: Env + Input + Print + AllocGlobal>(rt: &R) -> Result<(), Error> {
     let alloc = rt.alloc();
     let context = context_of(rt)?;
     let page = io::read_to_string(alloc, rt.reader())?;
-    let pieces = vec![in alloc; page]?;
+    let pieces = alone(alloc, page)?;
     let mut output = Device::new(BufWriter::new(alloc, io::writer(rt))?);
     match context {
         None => write_page(alloc, pieces, &mut output)?,
@@ -42,6 +42,11 @@ fn rewrite<R: Env + Input + Print + AllocGlobal>(rt: &R) -> Result<(), Error> {
     }
     output.into_inner().flush()?;
     Ok(())
+}
+
+/// A page that comes in one piece.
+fn alone(alloc: Global, page: String) -> Result<Vec<String>, AllocError> {
+    Ok(vec![in alloc; page]?)
 }
 
 /// The name of the element that a fragment stands in, where the command line has one.
@@ -68,8 +73,7 @@ fn write_page<W: Write>(
     let table = ReferenceTable::basic(alloc)?;
     let sink = RcDom::new(alloc)?;
     let dom = parse_pieces(alloc, sink, ParseOpts::default(), table, pieces)?;
-    let document = SerializableHandle::new(&dom, dom.document());
-    serialize(alloc, output, &document, SerializeOpts::default())?;
+    dom.serialize(alloc, output)?;
     Ok(())
 }
 

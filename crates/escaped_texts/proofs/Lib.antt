@@ -1,0 +1,4 @@
+mod BasicTable
+mod NamedReferences
+mod ReadTexts
+mod ReadValues

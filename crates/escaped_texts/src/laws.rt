@@ -1,0 +1,42 @@
+//! Escaped text is read back.
+ghost use Rattle.std.specs.Prelude.{◌≡◌, ◌↔◌, ◌∷◌, ◌++◌, ℕ, false, true, List, Some};
+ghost use Rattle.escaped_texts.specs.Escaped.{HasNoNul, KnowsEscapes, ReadsReferences};
+ghost use Rattle.html_grammar.specs.Items.{characters};
+ghost use Rattle.html_grammar.specs.Reading.{Reading};
+ghost use Rattle.html_grammar.specs.References.{value_of};
+ghost use Rattle.html_grammar.specs.Tags.{written_value};
+ghost use Rattle.html_grammar.specs.declared.modes.Mode.{Mode as SeenMode};
+ghost use Rattle.html_lexemes.specs.References.{References, basic};
+ghost use Rattle.html_serializer.specs.Escapes.{escaped};
+
+use html_grammar::TokenSink;
+use html_grammar::laws::{one_reading, some_reading};
+use html_serializer::an_escape_holds_no_markup;
+
+/// The reading of an escaped text, whatever follows it, tells the text: in ordinary text, and in that of a title or a
+/// text area, for every sink.
+pub fn an_escaped_text_is_read_back<S: TokenSink>()
+    ensures { (table : References) (mode : SeenMode) (state : S.Abstract) (cs rest : List ℕ) (final : S.Abstract) →
+        KnowsEscapes table → HasNoNul cs → ReadsReferences mode.text →
+        Reading table S.means mode state (escaped false cs ++ rest) final
+        ↔ Reading table S.means mode (S.means.step state (characters cs)) rest final }
+{
+    one_reading::<S>();
+    some_reading::<S>();
+}
+
+/// An escaped value, between the quotes in which it is written, ends at the second one, whatever follows, and its
+/// reading is the value.
+pub fn an_escaped_value_is_read_back()
+    ensures slice { (cs rest : List ℕ) → written_value (34 ∷ escaped true cs ++ 34 ∷ rest)
+        ≡ Some (record { slice = escaped true cs; rest = rest }) }
+    ensures value { (table : References) (cs : List ℕ) → KnowsEscapes table → HasNoNul cs →
+        value_of table (escaped true cs) ≡ cs }
+{
+    an_escape_holds_no_markup();
+}
+
+/// The table of the five basic references is one by which escaped text is read back.
+pub fn the_basic_table_knows_escapes()
+    ensures { KnowsEscapes basic }
+{}
