@@ -10,19 +10,19 @@ ghost use Rattle.tree_rules.specs.Actions.{insert, insert_void};
 ghost use Rattle.tree_rules.specs.InHead.{asks_encoding, head_closed, in_head_end, in_head_start, noscript_start};
 ghost use Rattle.tree_rules.specs.InHead.{template_end};
 ghost use Rattle.tree_rules.specs.Rows.{again, reads_raw};
-ghost use Rattle.std.specs.Prelude.{codes};
-ghost use Rattle.tree_words.specs.Attributes.{value_of};
+ghost use Rattle.meta_encodings.specs.Encodings.{named_encoding};
 
 use crate::html_tag::html_start;
 use crate::raw_text::read_raw;
 use html_forest::TreeSink;
 use html_lexemes::states::RawKind;
-use html_lexemes::{ParseFault, Tag, TokenSinkResult};
+use html_lexemes::{ParseFault, Tag, Text, TokenSinkResult};
+use meta_encodings::named_encoding;
 use name_sets::ElementSet;
 use tag_groups::TagGroup;
 use tree_actions::{Flow, Parse};
 use tree_rules::Target;
-use tree_words::{InsertionMode, charset};
+use tree_words::InsertionMode;
 
 /// A start tag, whose element is inserted at the appropriate place or into the head.
 pub fn in_head_start<S: TreeSink>(
@@ -67,17 +67,17 @@ pub fn meta_start<S: TreeSink>(
     requires ready { Ready (parsed S.number S.forest S.quirks page.old.kept page.old.tree.held page.old.tree.sink) }
     ensures came { IfOk result (λ flow.
         came_to flow (parsed S.number S.forest S.quirks page.new.kept page.new.tree.held page.new.tree.sink)
-        ≡ outcome S.handle (asks_encoding (value_of (codes "charset") tag.now.attrs) (insert_void target tag.now ∷ []))
+        ≡ outcome S.handle (asks_encoding (named_encoding tag.now.attrs) (insert_void target tag.now ∷ []))
         (parsed S.number S.forest S.quirks page.old.kept page.old.tree.held page.old.tree.sink)) }
     ensures ready { OnOk result (Ready
         (parsed S.number S.forest S.quirks page.new.kept page.new.tree.held page.new.tree.sink)) }
     ensures memory { IfErr result (λ e. e ≡ Memory) }
 {
     page.insert_void_at(target, tag)?;
-    let Some(encoding) = charset(&tag.attrs) else {
+    let Some(encoding) = named_encoding(&tag.attrs) else {
         return Ok(Flow::Done);
     };
-    let encoding = encoding.try_clone()?;
+    let encoding = Text::from_str(*page.kept.template_modes.allocator(), encoding)?;
     Ok(Flow::Asks(TokenSinkResult::EncodingIndicator(encoding)))
 }
 

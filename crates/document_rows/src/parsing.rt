@@ -119,10 +119,7 @@ const PLAIN: ElementFlags = ElementFlags {
 
 /// The name of an element of HTML.
 pub(crate) fn html_name(alloc: Global, word: &str) -> Result<QualName, AllocError> {
-    Ok(QualName::new(
-        Namespace::Html,
-        LocalName::from_str(alloc, word)?,
-    ))
+    Ok(QualName::new(Namespace::Html, LocalName::from_str(alloc, word)?))
 }
 
 /// A text whole.

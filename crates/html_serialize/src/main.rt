@@ -5,9 +5,9 @@
 
 mod error;
 
-use dom_serializer::{SerializableHandle, SerializeDom};
 use dom_serializer::html_render_dom::{Handle, RcDom};
 use dom_serializer::html_serializer::{SerializeOpts, TraversalScope, serialize};
+use dom_serializer::{SerializableHandle, SerializeDom};
 use error::Error;
 use html_tree_builder::html_lexemes::{
     Attributes, Device, LocalName, Namespace, QualName, ReferenceTable,
@@ -98,9 +98,7 @@ fn tree_of_fragment(alloc: Global, name: QualName, pieces: Vec<String>) -> Resul
     let attrs = Attributes::new(alloc);
     let opts = ParseOpts::default();
     let scripting = opts.tree_builder.scripting_enabled;
-    Ok(parse_fragment_pieces(
-        alloc, sink, opts, table, name, attrs, scripting, pieces,
-    )?)
+    Ok(parse_fragment_pieces(alloc, sink, opts, table, name, attrs, scripting, pieces)?)
 }
 
 /// The root, which is the document's one child.

@@ -1,5 +1,5 @@
--- The tree of a fragment (WHATWG HTML, 13.4): what the rule table makes, from a context in a sink of trees on, of what the
--- fragment's text tells.
+-- The tree of a fragment (WHATWG HTML, 13.4): what the rule table makes, from a context in a sink of trees on, of what
+-- the fragment's text tells.
 use Rattle.std.specs.Prelude.{ℕ, Bool, List, Option, Some, codes}
 use Rattle.html_forest.specs.Changes.{made_element}
 use Rattle.html_forest.specs.Forest.{Forest, name_of}
@@ -11,6 +11,7 @@ use Rattle.html_grammar.specs.declared.modes.Mode.{Mode}
 use Rattle.html_grammar.specs.declared.sink.TokenizerOpts.{TokenizerOpts}
 use Rattle.html_lexemes.specs.declared.names.Attribute.{Attribute}
 use Rattle.html_lexemes.specs.declared.names.QualName.{QualName}
+use Rattle.html_lexemes.specs.declared.states.State.{State as TextState}
 use Rattle.html_tree_builder.specs.Grown.{Beginning, IsGrown}
 use Rattle.name_sets.specs.Sets.{is_html}
 use Rattle.tree_builder.specs.Begun.{begun_fragment, context_state}
@@ -24,12 +25,15 @@ pub record Fragment : Type 0 where
   pub form : Option ℕ
   pub scripting : Bool
 
--- its text begins as the context says, whatever state the options name
-abbrev pub fragment_mode : TokenizerOpts → (scripting : Bool) → (context : QualName) → Mode
-fragment_mode options scripting context = record {
-  text = text_of_state (Some (context_state scripting context));
+abbrev pub mode_from : TextState → TokenizerOpts → Mode
+mode_from state options = record {
+  text = text_of_state (Some state);
   last_start_tag = options.last_start_tag_name;
 }
+
+-- its text begins as the context says, whatever state the options name
+abbrev pub fragment_mode : TokenizerOpts → (scripting : Bool) → (context : QualName) → Mode
+fragment_mode options scripting context = mode_from (context_state scripting context) options
 
 abbrev pub FragmentReadsTo : {H : Type 0} → (ℕ → H) → Beginning → Fragment → (text : List ℕ) → State → Type 0
 FragmentReadsTo handle from fragment text final = Reading from.table (meaning handle)
@@ -39,7 +43,8 @@ FragmentReadsTo handle from fragment text final = Reading from.table (meaning ha
 
 abbrev pub IsTreeOfFragment : {H : Type 0} → (ℕ → H) → Beginning → Fragment → (text : List ℕ) → Forest → QuirksMode →
     Type 0
-IsTreeOfFragment handle from fragment text forest quirks = IsGrown (FragmentReadsTo handle from fragment text) forest quirks
+IsTreeOfFragment handle from fragment text forest quirks =
+    IsGrown (FragmentReadsTo handle from fragment text) forest quirks
 
 -- a context of a name and attributes, which stands nowhere
 abbrev pub made_context : QualName → List Attribute → Forest → Forest

@@ -4,10 +4,16 @@ ghost use Rattle.html_forest.specs.Forest.{IsElement, nodes};
 ghost use Rattle.html_forest.specs.Orders.{IsForest};
 ghost use Rattle.html_lexemes.specs.declared.fault.ParseFault.TheVariants.{Memory};
 ghost use Rattle.html_tokenizer.specs.Pieces.{joined};
-ghost use Rattle.html_tree_builder.specs.Fragments.{FragmentReadsTo, IsTreeOfFragment, made_context};
+ghost use Rattle.html_grammar.specs.Items.{Item};
+ghost use Rattle.html_grammar.specs.PageText.{page_text};
+ghost use Rattle.html_grammar.specs.Reading.{Reading};
+ghost use Rattle.html_lexemes.specs.declared.states.State.{State as SeenTextState};
+ghost use Rattle.html_tree_builder.specs.Fragments.{FragmentReadsTo, IsTreeOfFragment, made_context, mode_from};
 ghost use Rattle.html_tree_builder.specs.Grown.{beginning};
-ghost use Rattle.html_tree_builder.specs.Parsers.{Completes, IsFit, has_failed};
+ghost use Rattle.html_tree_builder.specs.Parsers.{Completes, IsFit, has_failed, state_in};
+ghost use Rattle.tree_rules.specs.Settling.{meaning};
 ghost use Rattle.tree_rules.specs.State.{State};
+ghost use Rattle.tree_rules.specs.Welcome.{IsReady, IsWelcome};
 
 use crate::options::ParseOpts;
 use crate::parser::Parser;
@@ -15,7 +21,8 @@ use html_forest::{
     TreeSink, elements_stay, how_many_nodes_there_are, making_keeps_a_forest, what_was_made_may_be_put,
 };
 use html_lexemes::{Attributes, BufferQueue, ParseFault, QualName, ReferenceTable};
-use html_tokenizer::Tokenizer;
+use html_lexemes::states::State as TextState;
+use html_tokenizer::{Tokenizer, TokenizerOpts};
 use std::alloc::Global;
 use tree_builder::{TreeBuilder, context_state};
 use tree_words::element_flags;
@@ -24,7 +31,6 @@ use tree_words::element_flags;
 /// an element `html` in the document. `scripting` says whether scripts would run where the context stands, and `form`
 /// is the form that it stands in, if there is one. The sink's nodes are a forest, whose document has no children yet.
 /// The error is want of memory.
-#[tactic(auto, unfolding(crate::specs::Parsers::has_failed, crate::specs::Parsers::IsFit, crate::specs::Parsers::Completes))]
 pub fn parse_fragment_for_element<S: TreeSink + Drop>(
     alloc: Global,
     sink: S,
@@ -45,16 +51,39 @@ pub fn parse_fragment_for_element<S: TreeSink + Drop>(
         (record { context = S.number context; form = option_map S.number form; scripting = scripting }) text final) }
 {
     let ParseOpts {
-        mut tokenizer,
+        tokenizer,
         tree_builder,
     } = opts;
-    tokenizer.initial_state = Some(context_state(sink.elem_name(context), scripting));
+    let first = context_state(sink.elem_name(context), scripting);
     let builder = TreeBuilder::new_for_fragment(alloc, sink, context, form, tree_builder)?;
-    Ok(Parser {
-        tokenizer: Tokenizer::new(alloc, builder, tokenizer, table),
+    Ok(parser_from(alloc, builder, tokenizer, first, table))
+}
+
+// a parser whose text begins in a state, whatever state the options name
+#[tactic(auto, unfolding(crate::specs::Parsers::has_failed, crate::specs::Parsers::IsFit, crate::specs::Parsers::Completes))]
+fn parser_from<S: TreeSink>(
+    alloc: Global,
+    builder: TreeBuilder<S>,
+    opts: TokenizerOpts,
+    first: TextState,
+    table: ReferenceTable,
+) -> Parser<S>
+    requires ready { IsReady (state_in S.number S.forest S.quirks builder) }
+    requires hears { (item : Item) → IsWelcome (state_in S.number S.forest S.quirks builder) item }
+    ensures fit { IsFit S.number S.forest S.quirks result }
+    ensures works { has_failed result ≡ false }
+    ensures begins { (begun : State) (state : SeenTextState) → state_in S.number S.forest S.quirks builder ≡ begun →
+        first ≡ state → (text : List ℕ) (final : State) →
+        Completes S.number S.handle S.forest S.quirks result text final →
+        Reading table (meaning S.handle) (mode_from state opts) begun (page_text opts.discard_bom text) final }
+{
+    let mut opts = opts;
+    opts.initial_state = Some(first);
+    Parser {
+        tokenizer: Tokenizer::new(alloc, builder, opts, table),
         input_buffer: BufferQueue::new(alloc),
         is_over: false,
-    })
+    }
 }
 
 /// A parser of a fragment, for a context of this name and these attributes, which is made for it and stands in no form

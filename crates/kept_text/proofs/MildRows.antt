@@ -4,6 +4,7 @@ use Rattle.std.proofs.Common.{◌≡◌, ℕ, Bool, true, false, if◌then◌els
 use Rattle.std.proofs.Common.{refl}
 use Rattle.formatting_list.specs.Entries.{last_named}
 use Rattle.html_lexemes.specs.declared.token.Tag.{Tag}
+use Rattle.meta_encodings.specs.Encodings.{named_encoding}
 use Rattle.name_sets.specs.ElementSets.{headings}
 use Rattle.name_sets.specs.Wanted.{one}
 use Rattle.tag_groups.specs.declared.group.TagGroup.{TagGroup}
@@ -20,7 +21,7 @@ use Rattle.tree_rules.specs.InHead.{asks_encoding, in_head_start, noscript_start
 use Rattle.tree_rules.specs.Rows.{Row, again, asks, between_fosters, done, fostered, ignored}
 use Rattle.tree_rules.specs.State.{State}
 use Rattle.tree_rules.specs.declared.target.Target.{Target}
-use Rattle.tree_words.specs.Attributes.{is_hidden, value_of}
+use Rattle.tree_words.specs.Attributes.{is_hidden}
 use Rattle.kept_text.proofs.CleanLists.{is_barred}
 use Rattle.kept_text.proofs.PlainStates.{IsMildRow}
 use Rattle.kept_text.proofs.UsualModes.{AreMild}
@@ -66,7 +67,7 @@ encoding_mild None actions are = are
 encoding_mild (Some name) actions are = are
 
 pub meta_mild : (at : Target) (t : Tag) (s : State) → IsMildRow (in_head_start at groups.Meta t s)
-meta_mild at t s = encoding_mild (value_of (codes "charset") t.attrs) (insert_void at t ∷ []) (tt, tt)
+meta_mild at t s = encoding_mild (named_encoding t.attrs) (insert_void at t ∷ []) (tt, tt)
 
 pub noscript_mild : (scripting : Bool) (at : Target) (t : Tag) → is_barred (in_html t.name) ≡ false →
     IsMildRow (noscript_start scripting at t)

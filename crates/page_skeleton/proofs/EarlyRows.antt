@@ -10,6 +10,7 @@ use Rattle.html_lexemes.specs.declared.names.Attribute.{Attribute}
 use Rattle.html_lexemes.specs.declared.states.RawKind.TheVariants.{Rawtext, Rcdata, ScriptData}
 use Rattle.html_tree_state.specs.Building.{Building}
 use Rattle.kept_text.proofs.ForestTexts.{IsNew, element_new, new_then, put_follows}
+use Rattle.meta_encodings.specs.Encodings.{named_encoding}
 use Rattle.tree_rules.specs.Actions.{is_text}
 use Rattle.tree_words.specs.Attributes.{is_html_annotation}
 use Rattle.html_lexemes.specs.declared.states.RawKind.{RawKind}
@@ -38,7 +39,6 @@ use Rattle.tree_rules.specs.Settling.{entered}
 use Rattle.tree_rules.specs.State.{State, raw}
 use Rattle.tree_rules.specs.declared.target.Target.{Target}
 use Rattle.tree_rules.specs.declared.target.Target.TheVariants as targets
-use Rattle.tree_words.specs.Attributes.{value_of}
 use Rattle.tree_words.specs.declared.modes.InsertionMode.{InsertionMode}
 use Rattle.tree_words.specs.declared.modes.InsertionMode.TheVariants as modes
 
@@ -190,7 +190,7 @@ module _ (is_framed : Bool) (root head : ℕ) where
   head_start_comes at groups.Base t s is early stack apart place = void_comes at t s early stack place
   head_start_comes at groups.Link t s is early stack apart place = void_comes at t s early stack place
   head_start_comes at groups.Meta t s is early stack apart place =
-      meta_by (value_of (codes "charset") t.attrs) at t s early stack place
+      meta_by (named_encoding t.attrs) at t s early stack place
   head_start_comes at groups.Title t s is early stack apart place = raw_comes Rcdata at t s early stack apart place
   head_start_comes at groups.Noframes t s is early stack apart place = raw_comes Rawtext at t s early stack apart place
   head_start_comes at groups.Style t s is early stack apart place = raw_comes Rawtext at t s early stack apart place

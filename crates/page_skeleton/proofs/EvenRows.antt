@@ -5,6 +5,7 @@ use Rattle.std.proofs.Common.{refl}
 use Rattle.formatting_list.specs.Entries.{last_named}
 use Rattle.html_lexemes.specs.declared.token.Tag.{Tag}
 use Rattle.html_tree_state.specs.Formatting.{name_for}
+use Rattle.meta_encodings.specs.Encodings.{named_encoding}
 use Rattle.name_sets.specs.ElementSets.{headings}
 use Rattle.name_sets.specs.Sets.{is_html}
 use Rattle.name_sets.specs.Wanted.{one}
@@ -27,7 +28,7 @@ use Rattle.tree_rules.specs.InHead.{asks_encoding, in_head_start}
 use Rattle.tree_rules.specs.Rows.{Row, again, asks, between_fosters, done, fostered, ignored}
 use Rattle.tree_rules.specs.State.{State}
 use Rattle.tree_rules.specs.declared.target.Target.{Target}
-use Rattle.tree_words.specs.Attributes.{is_hidden, value_of}
+use Rattle.tree_words.specs.Attributes.{is_hidden}
 
 -- an action that opens no template, and leaves the modes of templates as they are
 abbrev pub IsEven : Action → Type 0
@@ -111,7 +112,7 @@ encoding_even None actions are = are
 encoding_even (Some name) actions are = are
 
 pub meta_even : (at : Target) (t : Tag) (s : State) → IsEvenRow (in_head_start at groups.Meta t s)
-meta_even at t s = encoding_even (value_of (codes "charset") t.attrs) (insert_void at t ∷ []) (tt, tt)
+meta_even at t s = encoding_even (named_encoding t.attrs) (insert_void at t ∷ []) (tt, tt)
 
 -- "body"
 body_given_even : (body : Option ℕ) (t : Tag) → IsEvenRow (given_to_body body t)

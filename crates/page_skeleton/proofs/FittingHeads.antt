@@ -1,6 +1,7 @@
 -- Start tags that are taken as in the head, the start tag "html", and the end of a template (WHATWG HTML, 13.2.6.4.4).
 use Rattle.std.proofs.Common.{◌≡◌, ℕ, Bool, true, false, List, [], ◌∷◌, Option, None, Some, codes, refl}
 use Rattle.html_lexemes.specs.declared.token.Tag.{Tag}
+use Rattle.meta_encodings.specs.Encodings.{named_encoding}
 use Rattle.name_sets.specs.Sets.{html_elements, is_one_of}
 use Rattle.name_sets.specs.Wanted.{one}
 use Rattle.page_skeleton.proofs.Fits.{CanBuild, ClosesTemplate, FitAll, Fits, FitsRow, MayReset}
@@ -20,7 +21,6 @@ use Rattle.tree_rules.specs.InHead.{asks_encoding, in_head_start, template_end}
 use Rattle.tree_rules.specs.Rows.{ignored}
 use Rattle.tree_rules.specs.State.{State}
 use Rattle.tree_rules.specs.declared.target.Target.{Target}
-use Rattle.tree_words.specs.Attributes.{value_of}
 use Rattle.tree_words.specs.declared.modes.InsertionMode.TheVariants as modes
 
 -- What some groups ask beside: a table and a template may be built, and no frameset may come.
@@ -71,7 +71,7 @@ pub head_start_fits : (g : Guard) → RowFacts g → (at : Target) (group : TagG
 head_start_fits g facts at groups.Base t s e part grant = (void_fits g at t s, tt)
 head_start_fits g facts at groups.Link t s e part grant = (void_fits g at t s, tt)
 head_start_fits g facts at groups.Meta t s e part grant =
-    encoding_fits g s (value_of (codes "charset") t.attrs) (insert_void at t ∷ []) (void_fits g at t s, tt)
+    encoding_fits g s (named_encoding t.attrs) (insert_void at t ∷ []) (void_fits g at t s, tt)
 head_start_fits g facts at groups.Noframes t s e part grant =
     ((insert_fits g at t s (group_unbarred g facts t groups.Noframes e refl), tt), refl)
 head_start_fits g facts at groups.Script t s e part grant =

@@ -3,9 +3,7 @@ use crate::case::Case;
 use crate::dump::lines_of;
 use crate::error::Error;
 use html_render_dom::RcDom;
-use html_tree_builder::html_lexemes::{
-    Attributes, LocalName, Namespace, QualName, ReferenceTable,
-};
+use html_tree_builder::html_lexemes::{Attributes, LocalName, Namespace, QualName, ReferenceTable};
 use html_tree_builder::{parse_fragment_pieces, parse_pieces};
 use std::alloc::{AllocError, Global};
 

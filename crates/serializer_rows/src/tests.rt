@@ -10,10 +10,7 @@ use std::test::Fail;
 const ANCHOR: &str = "<a x=\"&quot;&lt;&amp;&gt;\">&lt;&gt;\"&amp;&nbsp;</a>";
 
 fn html_name(alloc: Global, word: &str) -> Result<QualName, AllocError> {
-    Ok(QualName::new(
-        Namespace::Html,
-        LocalName::from_str(alloc, word)?,
-    ))
+    Ok(QualName::new(Namespace::Html, LocalName::from_str(alloc, word)?))
 }
 
 fn tell_anchor<S: Serializer>(alloc: Global, serializer: &mut S) -> Result<(), SerializeFault> {
@@ -84,7 +81,11 @@ fn a_second_end_tag_finds_no_parent(rt: HostRuntime) -> Result<(), Fail> {
     holds(&rt, is_for_want_of_a_parent(second), "an end tag");
     holds(&rt, is_for_want_of_a_parent(text), "a text");
     holds(&rt, is_for_want_of_a_parent(start), "a start tag");
-    holds(&rt, written.as_slice() == "</p>".as_bytes(), "the first end tag");
+    holds(
+        &rt,
+        written.as_slice() == "</p>".as_bytes(),
+        "the first end tag",
+    );
     Ok(())
 }
 

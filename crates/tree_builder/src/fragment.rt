@@ -2,12 +2,13 @@
 ghost use Rattle.std.specs.Prelude.{◌≡◌, IfErr, IfOk, OnOk, option_map};
 ghost use Rattle.html_forest.specs.Forest.{IsElement, name_of};
 ghost use Rattle.html_forest.specs.Orders.{IsForest};
+ghost use Rattle.html_grammar.specs.Items.{Item};
 ghost use Rattle.html_lexemes.specs.declared.fault.ParseFault.TheVariants.{Memory};
 ghost use Rattle.tree_actions.specs.Parsed.{parsed};
 ghost use Rattle.tree_builder.specs.Begun.{begun_fragment, context_state, root_actions, state_for, with_context};
 ghost use Rattle.tree_rules.specs.Actions.{act_all};
 ghost use Rattle.tree_rules.specs.Settling.{Ready};
-ghost use Rattle.tree_rules.specs.Welcome.{IsReady};
+ghost use Rattle.tree_rules.specs.Welcome.{IsReady, IsWelcome};
 
 use crate::builder::TreeBuilder;
 use html_forest::TreeSink;
@@ -23,7 +24,8 @@ use tree_words::{InsertionMode, is_of_html};
 impl<S: TreeSink + Drop> TreeBuilder<S> {
     /// Before the first token of a fragment: its root, an element `html`, is put into the document and opened. The
     /// context is an element of the sink, and `form` the form that it stands in, if there is one. The sink's nodes are
-    /// a forest, whose document has no children yet. The error is want of memory.
+    /// a forest, whose document has no children yet. Any token may be told first. The error is want of memory.
+    #[tactic(auto, using(crate::proofs::FragmentLemmas::made_welcomes))]
     pub fn new_for_fragment(
         alloc: Global,
         sink: S,
@@ -38,6 +40,8 @@ impl<S: TreeSink + Drop> TreeBuilder<S> {
             (S.quirks sink)) }
         ensures ready { IfOk result (λ made. IsReady (parsed S.number S.forest S.quirks made.page.kept
             made.page.tree.held made.page.tree.sink)) }
+        ensures hears { IfOk result (λ made. (item : Item) → IsWelcome (parsed S.number S.forest S.quirks
+            made.page.kept made.page.tree.held made.page.tree.sink) item) }
         ensures memory { IfErr result (λ e. e ≡ Memory) }
     {
         let is_template = is_html(sink.elem_name(context), "template");

@@ -3,6 +3,7 @@
 use Rattle.std.proofs.Common.{ℕ, Bool, true, false, List, [], ◌∷◌, Option, None, Some, codes}
 use Rattle.formatting_list.specs.Entries.{last_named}
 use Rattle.html_lexemes.specs.declared.token.Tag.{Tag}
+use Rattle.meta_encodings.specs.Encodings.{named_encoding}
 use Rattle.name_sets.specs.ElementSets.{headings}
 use Rattle.name_sets.specs.Wanted.{one}
 use Rattle.tag_groups.specs.declared.group.TagGroup.{TagGroup}
@@ -19,7 +20,6 @@ use Rattle.tree_rules.specs.InHead.{asks_encoding, noscript_start, template_end}
 use Rattle.tree_rules.specs.Rows.{ignored}
 use Rattle.tree_rules.specs.State.{State}
 use Rattle.tree_rules.specs.declared.target.Target.{Target}
-use Rattle.tree_words.specs.Attributes.{value_of}
 use Rattle.tag_groups.specs.declared.group.TagGroup.TheVariants as groups
 
 given_once : (root : Option ℕ) (t : Tag) → IsTakenAtOnce (given_to root t)
@@ -35,8 +35,8 @@ encoding_once None actions = tt
 encoding_once (Some name) actions = tt
 
 pub meta_once : (at : Target) (t : Tag) →
-    IsTakenAtOnce (asks_encoding (value_of (codes "charset") t.attrs) (insert_void at t ∷ []))
-meta_once at t = encoding_once (value_of (codes "charset") t.attrs) (insert_void at t ∷ [])
+    IsTakenAtOnce (asks_encoding (named_encoding t.attrs) (insert_void at t ∷ []))
+meta_once at t = encoding_once (named_encoding t.attrs) (insert_void at t ∷ [])
 
 pub noscript_once : (scripting : Bool) (at : Target) (t : Tag) → IsTakenAtOnce (noscript_start scripting at t)
 noscript_once true at t = tt

@@ -3,6 +3,7 @@
 use Rattle.std.specs.Prelude.{ℕ, Bool, false, true, List, [], ◌∷◌, Option, None, Some, codes, if◌then◌else◌}
 use Rattle.html_lexemes.specs.declared.states.RawKind.TheVariants.{Rcdata, Rawtext, ScriptData}
 use Rattle.html_lexemes.specs.declared.token.Tag.{Tag}
+use Rattle.meta_encodings.specs.Encodings.{named_encoding}
 use Rattle.name_sets.specs.Sets.{html_elements}
 use Rattle.name_sets.specs.Wanted.{one}
 use Rattle.tag_groups.specs.declared.group.TagGroup.{TagGroup}
@@ -15,7 +16,6 @@ use Rattle.tree_rules.specs.HtmlTag.{html_start}
 use Rattle.tree_rules.specs.Rows.{Row, TextRow, again, asks, done, ignored, reads_raw, said_behind, then_again}
 use Rattle.tree_rules.specs.declared.target.Target.{Target}
 use Rattle.tree_rules.specs.State.{State, encoding}
-use Rattle.tree_words.specs.Attributes.{value_of}
 use Rattle.tree_words.specs.declared.modes.InsertionMode.TheVariants.{AfterHead, InHeadNoscript, InTemplate}
 
 -- the head is closed
@@ -26,7 +26,7 @@ abbrev pub in_head_text : (is_space : Bool) → TextRow
 in_head_text true = said_behind []
 in_head_text false = then_again head_closed
 
--- a `meta` whose `charset` names an encoding asks for a look at it
+-- a `meta` that names an encoding asks for a look at it
 abbrev pub asks_encoding : Option (List ℕ) → List Action → Row
 asks_encoding None actions = done actions
 asks_encoding (Some name) actions = asks (encoding name) actions
@@ -40,7 +40,7 @@ abbrev pub in_head_start : Target → TagGroup → Tag → State → Row
 in_head_start at groups.Html t s = html_start t s
 in_head_start at groups.Base t s = done (insert_void at t ∷ [])
 in_head_start at groups.Link t s = done (insert_void at t ∷ [])
-in_head_start at groups.Meta t s = asks_encoding (value_of (codes "charset") t.attrs) (insert_void at t ∷ [])
+in_head_start at groups.Meta t s = asks_encoding (named_encoding t.attrs) (insert_void at t ∷ [])
 in_head_start at groups.Title t s = reads_raw Rcdata (insert at t ∷ [])
 in_head_start at groups.Noscript t s = noscript_start s.options.scripting_enabled at t
 in_head_start at groups.Noframes t s = reads_raw Rawtext (insert at t ∷ [])

@@ -31,13 +31,6 @@ pub fn element_flags(name: &QualName, attrs: &Attributes) -> ElementFlags
     }
 }
 
-/// The value of the first `charset`, which names an encoding (WHATWG HTML, 13.2.6.4.4).
-pub fn charset(attrs: &Attributes) -> Option<&Text>
-    ensures { option_map (λ value. value.now) result ≡ value_of (codes "charset") attrs.now }
-{
-    value_of(attrs, "charset")
-}
-
 // an `annotation-xml` element whose contents are HTML
 fn is_html_annotation(name: &QualName, attrs: &Attributes) -> bool
     ensures { result ≡ is_html_annotation name.now attrs.now }
@@ -58,8 +51,8 @@ fn has_html_encoding(attrs: &Attributes) -> bool
     }
 }
 
-// the value of the first attribute with this local name
-fn value_of<'a>(attrs: &'a Attributes, word: &str) -> Option<&'a Text>
+/// The value of the first attribute with this local name, a word of ASCII characters.
+pub fn value_of<'a>(attrs: &'a Attributes, word: &str) -> Option<&'a Text>
     requires { IsTrue (is_ascii_word word.now) }
     ensures { option_map (λ value. value.now) result ≡ value_of word.now attrs.now }
 {

@@ -13,8 +13,8 @@ pub(crate) fn is_word(text: &str, word: &str) -> bool
     text == word
 }
 
-/// Whether a text in lower case is this word.
-pub(crate) fn is_in_lower_case(text: &str, word: &str) -> bool
+/// Whether a text, its ASCII letters in lower case, is this word of ASCII characters.
+pub fn is_in_lower_case(text: &str, word: &str) -> bool
     requires { IsTrue (is_ascii_word word.now) }
     ensures { result ≡ bytes_eq (in_lower_case (chars text.now)) word.now }
 {
