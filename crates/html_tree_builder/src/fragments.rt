@@ -9,7 +9,7 @@ ghost use Rattle.html_grammar.specs.PageText.{page_text};
 ghost use Rattle.html_grammar.specs.Reading.{Reading};
 ghost use Rattle.html_lexemes.specs.declared.states.State.{State as SeenTextState};
 ghost use Rattle.html_tree_builder.specs.Fragments.{FragmentReadsTo, IsTreeOfFragment, made_context, mode_from};
-ghost use Rattle.html_tree_builder.specs.Grown.{beginning};
+ghost use Rattle.html_tree_builder.specs.Grown.{IsGrown, beginning};
 ghost use Rattle.html_tree_builder.specs.Parsers.{Completes, IsFit, has_failed, state_in};
 ghost use Rattle.tree_rules.specs.Settling.{meaning};
 ghost use Rattle.tree_rules.specs.State.{State};
@@ -18,10 +18,11 @@ ghost use Rattle.tree_rules.specs.Welcome.{IsReady, IsWelcome};
 use crate::options::ParseOpts;
 use crate::parser::Parser;
 use html_forest::{
-    TreeSink, elements_stay, how_many_nodes_there_are, making_keeps_a_forest, what_was_made_may_be_put,
+    TreeSink, elements_stay, how_many_nodes_there_are, making_keeps_a_forest,
+    what_was_made_may_be_put,
 };
-use html_lexemes::{Attributes, BufferQueue, ParseFault, QualName, ReferenceTable};
 use html_lexemes::states::State as TextState;
+use html_lexemes::{Attributes, BufferQueue, ParseFault, QualName, ReferenceTable};
 use html_tokenizer::{Tokenizer, TokenizerOpts};
 use std::alloc::Global;
 use tree_builder::{TreeBuilder, context_state};
@@ -131,7 +132,23 @@ pub fn parse_fragment_pieces<S: TreeSink + Drop>(
         (record { context = nodes (S.forest sink); form = None; scripting = scripting }) (joined pieces.items)
         (S.tree output) (S.tree_quirks output)) }
 {
-    let mut parser = parse_fragment(alloc, sink, opts, table, name, attrs, scripting)?;
+    let parser = parse_fragment(alloc, sink, opts, table, name, attrs, scripting)?;
+    tree_fed(parser, pieces)
+}
+
+// the tree of what a parser is fed with
+fn tree_fed<S: TreeSink + Drop>(
+    parser: Parser<S>,
+    pieces: Vec<String>,
+) -> Result<S::Output, ParseFault>
+    requires fit { IsFit S.number S.forest S.quirks parser }
+    requires works { has_failed parser ≡ false }
+    ensures memory { IfErr result (λ e. e ≡ Memory) }
+    ensures grown { IfOk result (λ output. IsGrown
+        (Completes S.number S.handle S.forest S.quirks parser (joined pieces.items))
+        (S.tree output) (S.tree_quirks output)) }
+{
+    let mut parser = parser;
     match parser.process_all(pieces) {
         Ok(()) => parser.finish(),
         Err(fault) => {

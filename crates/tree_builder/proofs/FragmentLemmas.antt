@@ -28,9 +28,8 @@ unfolding act
 opened_welcomes true s item e = record { goes_on = e; heard = heard _ item (no_text _) }
 opened_welcomes false s item e = record { goes_on = e; heard = heard _ item (no_text _) }
 
-pub made_welcomes : (options : TreeBuilderOpts) (context : ℕ) (form : Option ℕ) (forest : Forest)
-    (quirks : QuirksMode) (s : State) → s ≡ begun_fragment options context form forest quirks →
-    (item : Item) → IsWelcome s item
-made_welcomes options context form forest quirks s e item = subst (λ t. IsWelcome t item) (sym e)
-    (opened_welcomes (is_html (codes "template") (name_of context forest))
-    (with_context context form (begun options forest quirks)) item refl)
+pub fragment_welcomes : (options : TreeBuilderOpts) (context : ℕ) (form : Option ℕ) (forest : Forest)
+    (quirks : QuirksMode) (item : Item) → IsWelcome (begun_fragment options context form forest quirks) item
+fragment_welcomes options context form forest quirks item =
+    opened_welcomes (is_html (codes "template") (name_of context forest))
+    (with_context context form (begun options forest quirks)) item refl

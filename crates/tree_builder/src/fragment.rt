@@ -25,7 +25,6 @@ impl<S: TreeSink + Drop> TreeBuilder<S> {
     /// Before the first token of a fragment: its root, an element `html`, is put into the document and opened. The
     /// context is an element of the sink, and `form` the form that it stands in, if there is one. The sink's nodes are
     /// a forest, whose document has no children yet. Any token may be told first. The error is want of memory.
-    #[tactic(auto, using(crate::proofs::FragmentLemmas::made_welcomes))]
     pub fn new_for_fragment(
         alloc: Global,
         sink: S,

@@ -1,0 +1,16 @@
+use Rattle.std.proofs.Common.{option_map, rules, subst, sym}
+use Rattle.html_grammar.specs.Items.{Item}
+use Rattle.tree_builder.proofs.FragmentLemmas.{fragment_welcomes}
+use Rattle.tree_builder.proofs.builder.TreeBuilder.new_for_fragment.Goals as goal
+use Rattle.tree_rules.specs.State.{State}
+use Rattle.tree_rules.specs.Welcome.{IsWelcome}
+
+pub returns-in-Ok-clause-begun : goal.returns-in-Ok-clause-begun
+returns-in-Ok-clause-begun g c = search rules
+
+pub returns-in-Ok-clause-hears : goal.returns-in-Ok-clause-hears
+returns-in-Ok-clause-hears g c =
+    let tree = g.S.TreeSink in
+    subst (λ (s : State). (item : Item) → IsWelcome s item) (sym (returns-in-Ok-clause-begun g c))
+    (fragment_welcomes c.args.opts (tree.number c.args.context) (option_map tree.number c.args.form)
+    (tree.forest c.args.sink) (tree.quirks c.args.sink))
