@@ -4,12 +4,12 @@ use Rattle.std.specs.Prelude.{All, Any, false, ◌||◌, if◌then◌else◌}
 use Rattle.std.proofs.lemmas.List.Elements.{All-nil, All-cons, All-append}
 use Rattle.std.proofs.lemmas.List.{map-append, length-map, get_or-map}
 use Rattle.std.proofs.lemmas.Str.{chars-nil}
-use Rattle.text_decorators.specs.Tagged.{Item, tagged, characters, line_items, line_text, elements_items, elements_text}
-use Rattle.text_decorators.specs.declared.tagged_line.TaggedLine.{TaggedLine}
-use Rattle.text_decorators.specs.declared.tagged_string.TaggedLineElement.{TaggedLineElement}
-use Rattle.text_decorators.specs.declared.tagged_string.TaggedLineElement.TheVariants.{Str, FragmentStart}
+use Rattle.tagged_lines.specs.Tagged.{Item, tagged, characters, line_items, line_text, elements_items, elements_text}
+use Rattle.tagged_lines.specs.declared.tagged_line.TaggedLine.{TaggedLine}
+use Rattle.tagged_lines.specs.declared.tagged_string.TaggedLineElement.{TaggedLineElement}
+use Rattle.tagged_lines.specs.declared.tagged_string.TaggedLineElement.TheVariants.{Str, FragmentStart}
 use Rattle.html2text.specs.LinesText.{lines_have_content}
-use Rattle.text_block_renderer.specs.Units.{is_filled}
+use Rattle.text_wrapping.specs.Units.{is_filled}
 use Rattle.html2text.specs.PageLines.{Plain, PlainItems, FitsWidth, has_content, block_start, AreLinesBehind, AreParagraphLines}
 
 characters-tagged : {S : Type 0} (cs : List ℕ) (tag : S) (rest : List (Item S)) → characters (tagged cs tag ++ rest) ≡ cs ++ characters rest

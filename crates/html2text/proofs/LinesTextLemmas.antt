@@ -2,10 +2,10 @@
 use Rattle.std.proofs.Common.{◌≡◌, ℕ, List, [], ◌∷◌, ◌++◌, map, refl, ap, ◌∙◌, append_assoc, sym, rules, IsUtf8}
 use Rattle.std.specs.Str.{chars}
 use Rattle.std.proofs.lemmas.Str.{chars-nil, chars-append, IsUtf8-string_bytes, IsUtf8-append, IsUtf8-nil}
-use Rattle.text_decorators.specs.Tagged.{characters, element_text, elements_text, line_items, line_text}
-use Rattle.text_decorators.specs.declared.tagged_line.TaggedLine.{TaggedLine}
-use Rattle.text_decorators.specs.declared.tagged_string.TaggedLineElement.{TaggedLineElement}
-use Rattle.text_decorators.specs.declared.tagged_string.TaggedLineElement.TheVariants.{Str, FragmentStart}
+use Rattle.tagged_lines.specs.Tagged.{characters, element_text, elements_text, line_items, line_text}
+use Rattle.tagged_lines.specs.declared.tagged_line.TaggedLine.{TaggedLine}
+use Rattle.tagged_lines.specs.declared.tagged_string.TaggedLineElement.{TaggedLineElement}
+use Rattle.tagged_lines.specs.declared.tagged_string.TaggedLineElement.TheVariants.{Str, FragmentStart}
 use Rattle.html2text.specs.LinesText.{elements_bytes, line_bytes, lines_bytes, newline}
 use Rattle.html2text.specs.PageLines.{lines_text}
 use Rattle.html2text.proofs.LayoutLemmas.{characters-line}

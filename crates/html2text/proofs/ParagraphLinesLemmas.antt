@@ -2,12 +2,12 @@
 use Rattle.std.proofs.Common.{◌≡◌, ℕ, false, List, [], ◌∷◌, ◌++◌, map, refl, sym, ap, subst, ◌∙◌, ◌≤◌, append-nil}
 use Rattle.std.specs.Prelude.{All}
 use Rattle.std.proofs.lemmas.List.Elements.{All-map}
-use Rattle.text_decorators.specs.Tagged.{characters, line_items, line_text, line_columns}
-use Rattle.text_decorators.specs.declared.tagged_line.TaggedLine.{TaggedLine}
-use Rattle.text_block_renderer.specs.Units.{Letter, lettered}
-use Rattle.text_block_renderer.specs.Layout.{AreLinesOf, NeverFits, HasNoLayout, marks}
-use Rattle.text_block_renderer.specs.declared.fault.BlockError.{BlockError}
-use Rattle.text_block_renderer.specs.declared.fault.BlockError.TheVariants as blocks
+use Rattle.tagged_lines.specs.Tagged.{characters, line_items, line_text, line_columns}
+use Rattle.tagged_lines.specs.declared.tagged_line.TaggedLine.{TaggedLine}
+use Rattle.text_wrapping.specs.Units.{Letter, lettered}
+use Rattle.text_wrapping.specs.Layout.{AreLinesOf, NeverFits, HasNoLayout, marks}
+use Rattle.text_wrapping.specs.declared.fault.BlockError.{BlockError}
+use Rattle.text_wrapping.specs.declared.fault.BlockError.TheVariants as blocks
 use Rattle.html2text.specs.declared.error.Error.TheVariants as errors
 use Rattle.html2text.specs.Errors.{error_of_block}
 use Rattle.html2text.specs.PageLines.{Plain, FitsWidth, AreParagraphLines, IsWiderText}

@@ -2,7 +2,7 @@
 use Rattle.std.proofs.Common.{ℕ, List, Vec, map, Option, None, Some, IfSome}
 use Rattle.std.specs.Io.KnownBytes.{Appends}
 use Rattle.html_lexemes.specs.KnownPart.{AppendsPart}
-use Rattle.text_decorators.specs.declared.tagged_line.TaggedLine.{TaggedLine}
+use Rattle.tagged_lines.specs.declared.tagged_line.TaggedLine.{TaggedLine}
 use Rattle.html2text.specs.LinesText.{lines_bytes, plain_items, plain_seen}
 use Rattle.html2text.specs.PageLines.{ArePageLines}
 use Rattle.html2text.specs.Written.{WritesPage, WritesPart}

@@ -1,10 +1,10 @@
 -- The text of lines: what the program writes.
 use Rattle.std.specs.Prelude.{ℕ, Bool, List, [], ◌∷◌, ◌++◌, map, flat_map, chars, string_bytes, String, Vec}
 use Rattle.std.specs.List.{list_any}
-use Rattle.text_decorators.specs.Tagged.{element_text, line_elements, line_items, line_text}
-use Rattle.text_decorators.specs.declared.tagged_line.TaggedLine.{TaggedLine}
-use Rattle.text_decorators.specs.declared.tagged_string.TaggedLineElement.{TaggedLineElement}
-use Rattle.text_block_renderer.specs.Units.{is_filled}
+use Rattle.tagged_lines.specs.Tagged.{element_text, line_elements, line_items, line_text}
+use Rattle.tagged_lines.specs.declared.tagged_line.TaggedLine.{TaggedLine}
+use Rattle.tagged_lines.specs.declared.tagged_string.TaggedLineElement.{TaggedLineElement}
+use Rattle.text_wrapping.specs.Units.{is_filled}
 use Rattle.html2text.specs.PageLines.{Plain, PlainItems}
 
 -- a newline

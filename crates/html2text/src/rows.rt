@@ -1,7 +1,7 @@
 //! The definitions of a page's text and lines, computed on worked rows. What is a relation is computed by the calls whose
 //! contract it is, in the tests.
 ghost use Rattle.std.specs.Prelude.{◌≡◌, [], ◌∷◌, true, false, codes};
-ghost use Rattle.text_decorators.specs.Tagged.{character, marker};
+ghost use Rattle.tagged_lines.specs.Tagged.{character, marker};
 ghost use Rattle.html2text.specs.PageLines.{Plain, page_text, has_content, block_start, lines_text};
 
 #[tactic(auto, unfolding(crate::specs::ReplacedText::replaced_text, crate::specs::ReplacedText::text_of_parts))]

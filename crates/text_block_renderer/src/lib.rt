@@ -1,18 +1,11 @@
-//! Text laid out in blocks: words wrapped into lines of at most the block's width.
+//! Text laid out in blocks.
 #![tactic(auto)]
 
-mod block;
-mod fault;
-mod filling;
-mod layout_laws;
-mod units_laws;
-mod units_rows;
-mod white_space;
-
-pub use block::WrappedBlock;
-pub use fault::{BlockError, TooNarrow};
-pub use layout_laws::{fewest_lines, lines_keep_the_width, one_fullest_layout};
 pub use text_decorators::{
-    Columns, EqualCopy, PlainDecorator, TaggedLine, TaggedLineElement, TaggedString, UnicodeColumns,
+    Columns, EqualCopy, LineChars, PlainDecorator, TaggedLine, TaggedLineElement, TaggedString,
+    TaggedStrings, UnicodeColumns,
 };
-pub use white_space::WhiteSpace;
+pub use text_wrapping::{
+    BlockError, TooNarrow, WhiteSpace, WrappedBlock, fewest_lines, lines_keep_the_width,
+    one_fullest_layout,
+};

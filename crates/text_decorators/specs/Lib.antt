@@ -1,6 +1,2 @@
-pub mod Columns
-pub mod Copies
-pub mod Elements
-pub mod Equality
-pub mod Iterating
-pub mod Tagged
+pub mod Marks
+pub mod Texts

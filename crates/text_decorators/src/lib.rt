@@ -1,19 +1,16 @@
-//! Columns of characters, tagged text, and the decorators that mark it: what a line of laid out text is
-//! made of.
+//! The decorators that mark text, and what a line of laid out text is made of.
 #![tactic(auto)]
 
-mod columns;
-mod equal_copy;
-mod joining;
-pub mod laws;
-mod line_iterators;
+mod annotation;
+mod colour;
+mod decorator;
 mod plain;
-mod tagged_line;
-mod tagged_string;
 
-pub use columns::{Columns, UnicodeColumns};
-pub use equal_copy::EqualCopy;
-pub use line_iterators::{LineChars, TaggedStrings};
+pub use annotation::RichAnnotation;
+pub use colour::Colour;
+pub use decorator::{SteadyPrefixes, TextDecorator};
 pub use plain::PlainDecorator;
-pub use tagged_line::TaggedLine;
-pub use tagged_string::{TaggedLineElement, TaggedString};
+pub use tagged_lines::{
+    Columns, EqualCopy, LineChars, TaggedLine, TaggedLineElement, TaggedString, TaggedStrings,
+    UnicodeColumns, laws,
+};

@@ -2,10 +2,10 @@
 use Rattle.std.proofs.Common.{◌≡◌, ℕ, ◌+◌, ◌<◌, List, [], ◌∷◌, ◌++◌, length, get_or, take, drop, sym, ap, ◌∙◌, refl, subst, append_assoc}
 use Rattle.std.specs.Prelude.{Result, Err, false, chars, string_bytes}
 use Rattle.std.proofs.lemmas.List.{append-nil, take_more, take-append-drop}
-use Rattle.text_decorators.specs.declared.tagged_string.TaggedString.{TaggedString}
-use Rattle.text_block_renderer.specs.Units.{lettered}
-use Rattle.text_block_renderer.specs.Layout.{NeverFits}
-use Rattle.text_block_renderer.proofs.BlockFinal.{never_before}
+use Rattle.tagged_lines.specs.declared.tagged_string.TaggedString.{TaggedString}
+use Rattle.text_wrapping.specs.Units.{lettered}
+use Rattle.text_wrapping.specs.Layout.{NeverFits}
+use Rattle.text_wrapping.proofs.BlockFinal.{never_before}
 use Rattle.text_rows.specs.Letters.{letters_of}
 
 letters_of-append : {T S : Type 0} (seen : T → S) (xs ys : List (TaggedString T))

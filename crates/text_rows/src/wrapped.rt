@@ -1,6 +1,6 @@
 ghost use Rattle.std.specs.Prelude.{◌≡◌, ◌⊎◌, false, map, All, ◌≤◌, IfOk, IfErr};
-ghost use Rattle.text_decorators.specs.Tagged.{line_items, line_columns, IsJoined};
-ghost use Rattle.text_block_renderer.specs.Layout.{AreLinesOf, NeverFits};
+ghost use Rattle.tagged_lines.specs.Tagged.{line_items, line_columns, IsJoined};
+ghost use Rattle.text_wrapping.specs.Layout.{AreLinesOf, NeverFits};
 ghost use Rattle.text_rows.specs.Letters.{letters_of};
 
 use std::alloc::Global;

@@ -1,6 +1,6 @@
 use Rattle.std.proofs.Common.{◌≡◌, ◌++◌, string_bytes}
 use Rattle.std.specs.Slice.Iter.{iter_rest}
-use Rattle.text_decorators.specs.Tagged.{line_elements}
+use Rattle.tagged_lines.specs.Tagged.{line_elements}
 use Rattle.html2text.specs.LinesText.{elements_bytes}
 use Rattle.html2text.proofs.layout.push_line.Given as goal
 

@@ -1,11 +1,11 @@
 use Rattle.std.proofs.Common.{false, ◌++◌, take, chars, subst, sym, ap, ◌∙◌}
 use Rattle.std.specs.Prelude.{Err}
 use Rattle.std.proofs.lemmas.Result.{err_from_is_err_and}
-use Rattle.text_block_renderer.specs.Units.{lettered}
-use Rattle.text_block_renderer.specs.Layout.{NeverFits}
-use Rattle.text_block_renderer.specs.Block.{HasRead}
+use Rattle.text_wrapping.specs.Units.{lettered}
+use Rattle.text_wrapping.specs.Layout.{NeverFits}
+use Rattle.text_wrapping.specs.Block.{HasRead}
 use Rattle.text_rows.specs.Letters.{letters_of}
-use Rattle.text_block_renderer.proofs.BlockFinal.{if_ok_map}
+use Rattle.text_wrapping.proofs.BlockFinal.{if_ok_map}
 use Rattle.text_rows.proofs.Pieces.{letters_more, pieces_never, same_error}
 use Rattle.text_rows.proofs.wrapped.wrapped_lines.Goals as goal
 

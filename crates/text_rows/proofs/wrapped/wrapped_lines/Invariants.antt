@@ -1,6 +1,6 @@
 use Rattle.std.proofs.Common.{◌≡◌, take}
 use Rattle.std.specs.Prelude.{None}
-use Rattle.text_block_renderer.specs.Block.{HasRead, padding_of}
+use Rattle.text_wrapping.specs.Block.{HasRead, padding_of}
 use Rattle.text_rows.specs.Letters.{letters_of}
 use Rattle.text_rows.proofs.wrapped.wrapped_lines.Given as goal
 

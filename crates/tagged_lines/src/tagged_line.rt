@@ -1,0 +1,212 @@
+ghost use Rattle.std.specs.Prelude.{◌≡◌, ◌↔◌, [], ◌∷◌, ◌++◌, length, chars, string_bytes, IfOk, OnOk, OnErr, IsTrue};
+ghost use Rattle.std.specs.Slice.Iter.{iter_rest};
+ghost use Rattle.std.specs.Vec.Iter.{into_iter_items, into_iter_len};
+ghost use Rattle.tagged_lines.specs.Columns.{text_columns};
+ghost use Rattle.tagged_lines.specs.Elements.{elements_text};
+
+use crate::columns::{Columns, UnicodeColumns};
+use crate::equal_copy::EqualCopy;
+use crate::joining::{push_character, push_elements, push_text};
+use crate::line_iterators::{LineChars, TaggedStrings};
+use crate::tagged_string::{TaggedLineElement, columns_of};
+use std::alloc::{AllocError, Global};
+use std::{slice, vec};
+
+/// A line of tagged text. What is pushed joins the text before it where their tags are equal.
+#[derive(Drop, PartialEq)]
+pub struct TaggedLine<T> {
+    elements: Vec<TaggedLineElement<T>>,
+    columns: usize,
+    ghost counted: { columns ≡ text_columns (elements_text elements.items) },
+}
+
+impl<T: EqualCopy + Drop> TaggedLine<T> {
+    ghost use Rattle.tagged_lines.specs.Tagged.{line_items, element_items, element_text, tagged, line_columns, IsJoined};
+
+    /// A line without text.
+    pub fn new(alloc: Global) -> TaggedLine<T>
+        ensures items { line_items T.seen result ≡ [] }
+        ensures joined { IsJoined T.seen result }
+    {
+        TaggedLine {
+            elements: Vec::new(alloc),
+            columns: 0,
+        }
+    }
+
+    /// A line of one text. The error is want of memory alone.
+    pub fn from_string(alloc: Global, s: String, tag: &T) -> Result<TaggedLine<T>, AllocError>
+        ensures items { IfOk result (λ line. line_items T.seen line
+            ≡ tagged (chars (string_bytes s)) (T.seen tag.now)) }
+        ensures joined { IfOk result (IsJoined T.seen) }
+    {
+        let mut line = TaggedLine::new(alloc);
+        line.push_str(s.as_str(), tag)?;
+        Ok(line)
+    }
+
+    /// Whether the line holds neither text nor marker.
+    pub fn is_empty(&self) -> bool
+        ensures { IsTrue result ↔ (line_items T.seen self.now ≡ []) }
+    {
+        self.elements.iter().all(|element| element.is_empty())
+    }
+
+    /// The columns of the line's text, the sum over its characters.
+    pub fn width(&self) -> usize
+        ensures { result ≡ line_columns (line_items T.seen self.now) }
+    {
+        self.columns
+    }
+
+    /// Takes everything off the line; it takes no memory.
+    pub fn clear(&mut self)
+        ensures items { line_items T.seen self.new ≡ [] }
+        ensures joined { IsJoined T.seen self.new }
+    {
+        self.elements.clear();
+        self.columns = 0;
+    }
+
+    /// Adds a text at the end. The error is want of memory alone, and leaves the line as it was.
+    pub fn push_str(&mut self, text: &str, tag: &T) -> Result<(), AllocError>
+        ensures ok { OnOk result (line_items T.seen self.new
+            ≡ line_items T.seen self.old ++ tagged (chars text.now) (T.seen tag.now)) }
+        ensures err { OnErr result (line_items T.seen self.new ≡ line_items T.seen self.old) }
+        ensures joined { IsJoined T.seen self.old → IsJoined T.seen self.new }
+    {
+        self.push_counted(text, columns_of(text), tag)
+    }
+
+    /// Adds a character at the end. The error is want of memory alone, and leaves the line as it was.
+    pub fn push_char(&mut self, c: char, tag: &T) -> Result<(), AllocError>
+        ensures ok { OnOk result (line_items T.seen self.new
+            ≡ line_items T.seen self.old ++ tagged (c ∷ []) (T.seen tag.now)) }
+        ensures err { OnErr result (line_items T.seen self.new ≡ line_items T.seen self.old) }
+        ensures joined { IsJoined T.seen self.old → IsJoined T.seen self.new }
+    {
+        let wider = self
+            .columns
+            .checked_add(UnicodeColumns::columns(c).unwrap_or(0))
+            .ok_or(AllocError)?;
+        push_character(&mut self.elements, c, tag)?;
+        self.columns = wider;
+        Ok(())
+    }
+
+    /// Adds another line at the end. The error is want of memory alone, and leaves the line as it was.
+    pub fn push_line(&mut self, other: &TaggedLine<T>) -> Result<(), AllocError>
+        ensures ok { OnOk result (line_items T.seen self.new
+            ≡ line_items T.seen self.old ++ line_items T.seen other.now) }
+        ensures err { OnErr result (line_items T.seen self.new ≡ line_items T.seen self.old) }
+        ensures joined { IsJoined T.seen self.old → IsJoined T.seen self.new }
+    {
+        let total = self.columns.checked_add(other.columns).ok_or(AllocError)?;
+        push_elements(&mut self.elements, &other.elements)?;
+        self.columns = total;
+        Ok(())
+    }
+
+    // Adds a text, which has that many columns, at the end.
+    fn push_counted(&mut self, text: &str, columns: usize, tag: &T) -> Result<(), AllocError>
+        requires { columns ≡ text_columns (chars text.now) }
+        ensures ok { OnOk result (line_items T.seen self.new
+            ≡ line_items T.seen self.old ++ tagged (chars text.now) (T.seen tag.now)) }
+        ensures err { OnErr result (line_items T.seen self.new ≡ line_items T.seen self.old) }
+        ensures joined { IsJoined T.seen self.old → IsJoined T.seen self.new }
+    {
+        // No memory holds a text of more columns than a `usize` counts.
+        let columns = self.columns.checked_add(columns).ok_or(AllocError)?;
+        push_text(&mut self.elements, text, tag)?;
+        self.columns = columns;
+        Ok(())
+    }
+}
+
+impl<T> TaggedLine<T> {
+    ghost use Rattle.tagged_lines.specs.Tagged.{line_elements, line_text, line_strings};
+    ghost use Rattle.tagged_lines.specs.Iterating.{chars_left, strings_left};
+
+    /// The texts and markers, in order.
+    pub fn iter(&self) -> slice::Iter<'_, TaggedLineElement<T>>
+        ensures { iter_rest result ≡ line_elements self.now }
+    {
+        self.elements.iter()
+    }
+
+    /// The characters of the texts, in order; markers are left out.
+    pub fn chars(&self) -> LineChars<'_, T>
+        ensures { chars_left result ≡ line_text self.now }
+    {
+        LineChars::new(&self.elements)
+    }
+
+    /// The texts with their tags, in order; markers are left out.
+    pub fn tagged_strings(&self) -> TaggedStrings<'_, T>
+        ensures { strings_left result ≡ line_strings self.now }
+    {
+        TaggedStrings::new(&self.elements)
+    }
+}
+
+impl<T: Drop> TaggedLine<T> {
+    ghost use Rattle.tagged_lines.specs.Elements.{MapsTags};
+    ghost use Rattle.tagged_lines.specs.Tagged.{line_elements};
+
+    /// The same line, with what `f` makes of each text's tag; texts whose tags become equal stay apart. The
+    /// error is want of memory alone.
+    pub fn map_tag<U: Drop, F: Fn(T) -> U>(self, f: &F) -> Result<TaggedLine<U>, AllocError>
+        requires { F.IsAlwaysCallable f.now }
+        ensures { IfOk result (λ line. MapsTags (F.post f.now) (line_elements self) (line_elements line)) }
+    {
+        let TaggedLine { elements, columns } = self;
+        let mut mapped = Vec::new(*elements.allocator());
+        for element in elements {
+            mapped.push(element.map_tag(f))?;
+        }
+        Ok(TaggedLine {
+            elements: mapped,
+            columns,
+        })
+    }
+}
+
+impl<T: EqualCopy + Drop> TaggedLine<T> {
+    ghost use Rattle.tagged_lines.specs.Elements.{CopiesAll};
+    ghost use Rattle.tagged_lines.specs.Tagged.{line_elements, line_items, IsJoined};
+
+    /// An equal line. The error is want of memory alone.
+    pub fn try_clone(&self) -> Result<TaggedLine<T>, AllocError>
+        ensures elements { IfOk result (λ copy. CopiesAll T.seen (line_elements self.now) (line_elements copy)) }
+        ensures items { IfOk result (λ copy. line_items T.seen copy ≡ line_items T.seen self.now) }
+        ensures joined { IsJoined T.seen self.now → IfOk result (IsJoined T.seen) }
+    {
+        let mut elements = Vec::new(*self.elements.allocator());
+        for element in &self.elements {
+            elements.push(element.try_clone()?)?;
+        }
+        Ok(TaggedLine {
+            elements,
+            columns: self.columns,
+        })
+    }
+}
+
+impl<T: Drop> IntoIterator for TaggedLine<T> {
+    ghost use Rattle.tagged_lines.specs.Tagged.{line_elements};
+
+    type Item = TaggedLineElement<T>;
+
+    type IntoIter = vec::IntoIter<TaggedLineElement<T>>;
+
+    ghost into_iter_gives = { λ line it. (into_iter_items it ≡ line_elements line)
+        × (into_iter_len it ≡ length (line_elements line)) };
+
+    fn into_iter(self) -> vec::IntoIter<TaggedLineElement<T>> {
+        let TaggedLine {
+            elements,
+            columns: _,
+        } = self;
+        elements.into_iter()
+    }
+}

@@ -1,0 +1,69 @@
+-- The texts of the three decorators, and what they note beside them.
+use Rattle.std.specs.Prelude.{◌≡◌, ℕ, suc, Bool, true, false, List, [], ◌∷◌, ◌++◌, map, replicate, codes, chars, string_bytes}
+use Rattle.std.specs.Fmt.{decimal, signed_decimal}
+use Rattle.tagged_lines.specs.Tagged.{Item, tagged, line_items}
+use Rattle.tagged_lines.specs.declared.tagged_line.TaggedLine.{TaggedLine}
+use Rattle.text_decorators.specs.Marks.{Mark, link_start, link_end, emphasis_start, strong_start, strikeout_start, code_start, superscript_start, superscript_end, image, preformat_first, preformat_further, header, quote, unordered_item, ordered_item, colour_start, background_start}
+use Rattle.text_decorators.specs.declared.annotation.RichAnnotation.{RichAnnotation}
+use Rattle.text_decorators.specs.declared.annotation.RichAnnotation.TheVariants.{Default, Link, Image, Emphasis, Strong, Strikeout, Code, Preformat, Colour, BgColour}
+
+-- Superscripts are marked as TeX does, headings, quotes and items as Markdown does.
+abbrev pub superscript_text : Mark → List ℕ
+superscript_text superscript_start = codes "^{"
+superscript_text superscript_end = codes "}"
+superscript_text _ = []
+
+abbrev pub prefix_text : Mark → List ℕ
+prefix_text (header level) = replicate level 0x23 ++ codes " "
+prefix_text quote = codes "> "
+prefix_text unordered_item = codes "* "
+prefix_text (ordered_item number) = signed_decimal number ++ codes ". "
+prefix_text m = superscript_text m
+
+-- plain text: brackets round a link and round an image's title
+abbrev pub plain_text : Mark → List ℕ
+plain_text (link_start target) = codes "["
+plain_text link_end = codes "]"
+plain_text (image source title) = codes "[" ++ title ++ codes "]"
+plain_text m = prefix_text m
+
+-- no marks but those of superscripts
+abbrev pub trivial_text : Mark → List ℕ
+trivial_text (image source title) = title
+trivial_text m = superscript_text m
+
+-- rich text: the annotations tell what plain text has marks for, but for prefixes
+abbrev pub rich_text : Mark → List ℕ
+rich_text (image source title) = title
+rich_text m = prefix_text m
+
+-- the annotation that rich text notes at a mark
+abbrev pub IsRich : Mark → RichAnnotation → Type 0
+IsRich (link_start target) (Link told) = chars (string_bytes told) ≡ target
+IsRich (image source title) (Image told) = chars (string_bytes told) ≡ source
+IsRich emphasis_start Emphasis = Unit {0}
+IsRich strong_start Strong = Unit {0}
+IsRich strikeout_start Strikeout = Unit {0}
+IsRich code_start Code = Unit {0}
+IsRich superscript_start Default = Unit {0}
+IsRich preformat_first (Preformat further) = further ≡ false
+IsRich preformat_further (Preformat further) = further ≡ true
+IsRich (colour_start c) (Colour told) = told ≡ c
+IsRich (background_start c) (BgColour told) = told ≡ c
+IsRich _ _ = ⊥
+
+-- where rich text notes one of a colour
+abbrev pub is_colour : Mark → Bool
+is_colour (colour_start c) = true
+is_colour (background_start c) = true
+is_colour _ = false
+
+-- `[n]: ` and the target, for each target in order
+abbrev pub footnote_texts : ℕ → List (List ℕ) → List (List ℕ)
+footnote_texts n [] = []
+footnote_texts n (target ∷ targets) = (codes "[" ++ decimal n ++ codes "]: " ++ target) ∷ footnote_texts (suc n) targets
+
+-- The lines of a page's footnotes, numbered from 1, all under one tag.
+abbrev pub AreFootnotes : {T S : Type 0} → (T → S) → S → List (List ℕ) → List (TaggedLine T) → Type 0
+AreFootnotes seen tag targets lines = map (line_items seen) lines ≡ map (λ text. tagged text tag)
+    (footnote_texts 1 targets)
