@@ -6,8 +6,8 @@ use Rattle.tagged_lines.specs.Tagged.{characters, line_items, line_text, line_co
 use Rattle.tagged_lines.specs.declared.tagged_line.TaggedLine.{TaggedLine}
 use Rattle.text_wrapping.specs.Units.{Letter, lettered}
 use Rattle.text_wrapping.specs.Layout.{AreLinesOf, NeverFits, HasNoLayout, marks}
-use Rattle.text_wrapping.specs.declared.fault.BlockError.{BlockError}
-use Rattle.text_wrapping.specs.declared.fault.BlockError.TheVariants as blocks
+use Rattle.preserved_text.specs.declared.fault.BlockError.{BlockError}
+use Rattle.preserved_text.specs.declared.fault.BlockError.TheVariants as blocks
 use Rattle.html2text.specs.declared.error.Error.TheVariants as errors
 use Rattle.html2text.specs.Errors.{error_of_block}
 use Rattle.html2text.specs.PageLines.{Plain, FitsWidth, AreParagraphLines, IsWiderText}

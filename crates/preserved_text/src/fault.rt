@@ -1,5 +1,5 @@
 ghost use Rattle.std.specs.Prelude.{◌≡◌};
-ghost use Rattle.text_wrapping.specs.declared.fault.BlockError.TheVariants as errors;
+ghost use Rattle.preserved_text.specs.declared.fault.BlockError.TheVariants as errors;
 
 use std::alloc::{AllocError, AllocFailed};
 use std::error::Error;

@@ -1,0 +1,5 @@
+pub mod LawWords
+pub mod Modes
+pub mod Preserved
+pub mod RowWords
+pub mod Sources

@@ -1,0 +1,33 @@
+-- What is laid out: characters with their tags, and markers between them.
+use Rattle.std.specs.Prelude.{ℕ, Bool, not, ◌&&◌, ◌||◌, ◌==◌, List, [], ◌∷◌, map, flat_map, chars, string_bytes}
+use Rattle.std.specs.Char.{is_whitespace}
+use Rattle.preserved_text.specs.declared.piece.Piece.{Piece}
+use Rattle.preserved_text.specs.declared.piece.Piece.TheVariants.{Text, Fragment}
+
+-- White space: std's, other than U+00A0.
+abbrev pub is_white_space : ℕ → Bool
+is_white_space c = is_whitespace c && not (c == 0xA0)
+
+-- A break point: U+200B or such white space.
+abbrev pub is_break_point : ℕ → Bool
+is_break_point c = (c == 0x200B) || is_white_space c
+
+-- a character with its tag and the one that it has on a preserved line from where it was wrapped; or a marker, with the
+-- name of the fragment that starts there
+pub data Source (S : Type 0) : Type 0 where
+  letter : ℕ → S → S → Source S
+  fragment : List ℕ → Source S
+
+-- a text, each character with the tags
+abbrev pub sourced : {S : Type 0} → List ℕ → S → S → List (Source S)
+sourced cs main further = map (λ c. letter c main further) cs
+
+abbrev pub fragments : {S : Type 0} → List (List ℕ) → List (Source S)
+fragments names = map (λ name. fragment name) names
+
+abbrev pub piece_sources : {T S : Type 0} → (T → S) → Piece T → List (Source S)
+piece_sources seen (Text piece) = sourced (chars (string_bytes piece.text)) (seen piece.main_tag) (seen piece.wrap_tag)
+piece_sources seen (Fragment name) = fragment (chars (string_bytes name)) ∷ []
+
+abbrev pub sources_of : {T S : Type 0} → (T → S) → List (Piece T) → List (Source S)
+sources_of seen pieces = flat_map (piece_sources seen) pieces
