@@ -2,18 +2,19 @@
 use Rattle.std.proofs.Common.{◌≡◌, ℕ, Bool, false, List, [], ◌∷◌, ◌++◌, map, ◌⊎◌, inl, inr, sym, ap, subst, ◌∙◌, arith}
 use Rattle.std.specs.Prelude.{All, Any}
 use Rattle.std.proofs.lemmas.List.Elements.{All-nil, All-cons, All-get_or}
-use Rattle.text_wrapping.specs.Layout.{IsFullest, Mark, marks, marks_items}
-use Rattle.text_wrapping.specs.Units.{lettered}
+use Rattle.text_wrapping.specs.Layout.{AreLinesOf}
+use Rattle.text_wrapping.specs.Units.{Letter, lettered}
 use Rattle.html2text.specs.PageLines.{Plain, PlainItems, AreParagraphLines, IsWiderText, AreLinesBehind, ArePageLines, IsTooNarrowPage, IsOneAnswer, block_start, page_text}
 use Rattle.html2text.specs.ParagraphPage.{HasOneList}
 
--- there is at most one fullest layout
+-- a stretch has one list of lines at most
 abbrev pub OneFullest : Type 0
-OneFullest = (w : ℕ) (o : Bool) (ms : List (Mark Plain)) (lines others : List (List (Mark Plain))) → IsFullest w o ms lines → IsFullest w o ms others → lines ≡ others
+OneFullest = (w : ℕ) (o : Bool) (read : List (Letter Plain)) (lines others : List PlainItems)
+    → AreLinesOf w o read lines → AreLinesOf w o read others → lines ≡ others
 
-one_paragraph : (one : OneFullest) (width : ℕ) (text : List ℕ) (own other : List PlainItems) → AreParagraphLines width text own → AreParagraphLines width text other → own ≡ other
-one_paragraph one width text own other a b =
-    a.shown ∙ ap (map marks_items) (one width false (marks width (lettered text [])) a.layout b.layout a.fullest b.fullest) ∙ sym b.shown
+one_paragraph : (one : OneFullest) (width : ℕ) (text : List ℕ) (own other : List PlainItems)
+    → AreParagraphLines width text own → AreParagraphLines width text other → own ≡ other
+one_paragraph one width text own other a b = one width false (lettered text []) own other a b
 
 lines_one : (one : OneFullest) (width : ℕ) (texts : List (List ℕ)) (before lines others : List PlainItems)
     → AreLinesBehind width before texts lines → AreLinesBehind width before texts others → lines ≡ others

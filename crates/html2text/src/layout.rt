@@ -6,7 +6,10 @@ ghost use Rattle.html2text.specs.PageLines.{FitsWidth, AreParagraphLines, IsWide
 
 use crate::error::Error;
 use std::alloc::{AllocError, Global};
-use text_block_renderer::{TaggedLine, WhiteSpace, WrappedBlock};
+use text_block_renderer::{
+    TaggedLine, WhiteSpace, WrappedBlock, letters_of_texts, lines_keep_the_width,
+    narrow_normal_text, normal_lines_of_a_block, normal_text_is_kept,
+};
 
 /// A line of plain text: its texts have no annotations.
 pub type PlainLine = TaggedLine<Vec<()>>;
@@ -105,6 +108,11 @@ fn paragraph_lines(alloc: Global, text: &str, width: usize) -> Result<Vec<PlainL
     ensures narrow { result ≡ Err Error.TooNarrow → IsWiderText width (chars text.now) }
     ensures kinds { IfErr result (λ e. (e ≡ Error.Memory) ⊎ (e ≡ Error.TooNarrow)) }
 {
+    letters_of_texts::<Vec<()>>();
+    lines_keep_the_width::<Vec<()>>();
+    narrow_normal_text::<Vec<()>>();
+    normal_lines_of_a_block::<Vec<()>>();
+    normal_text_is_kept::<Vec<()>>();
     let tag = Vec::new(alloc);
     let mut block = WrappedBlock::new(alloc, width, false, false, Vec::new(alloc));
     block.add_text(text, WhiteSpace::Normal, &tag, &tag)?;

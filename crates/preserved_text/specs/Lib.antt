@@ -1,5 +1,4 @@
 pub mod LawWords
-pub mod Modes
 pub mod Preserved
 pub mod RowWords
 pub mod Sources

@@ -6,7 +6,7 @@ ghost use Rattle.tagged_lines.specs.Elements.{elements_text};
 
 use crate::columns::{Columns, UnicodeColumns};
 use crate::equal_copy::EqualCopy;
-use crate::joining::{push_character, push_elements, push_text};
+use crate::joining::{push_character, push_elements, push_marker, push_text};
 use crate::line_iterators::{LineChars, TaggedStrings};
 use crate::tagged_string::{TaggedLineElement, columns_of};
 use std::alloc::{AllocError, Global};
@@ -21,7 +21,7 @@ pub struct TaggedLine<T> {
 }
 
 impl<T: EqualCopy + Drop> TaggedLine<T> {
-    ghost use Rattle.tagged_lines.specs.Tagged.{line_items, element_items, element_text, tagged, line_columns, IsJoined};
+    ghost use Rattle.tagged_lines.specs.Tagged.{line_items, element_items, element_text, tagged, marker, line_columns, IsJoined};
 
     /// A line without text.
     pub fn new(alloc: Global) -> TaggedLine<T>
@@ -92,6 +92,17 @@ impl<T: EqualCopy + Drop> TaggedLine<T> {
         push_character(&mut self.elements, c, tag)?;
         self.columns = wider;
         Ok(())
+    }
+
+    /// Adds a marker at the end: the start of the fragment of that name. The error is want of memory alone, and leaves
+    /// the line as it was.
+    pub fn push_marker(&mut self, name: &str) -> Result<(), AllocError>
+        ensures ok { OnOk result (line_items T.seen self.new
+            ≡ line_items T.seen self.old ++ marker (chars name.now) ∷ []) }
+        ensures err { OnErr result (line_items T.seen self.new ≡ line_items T.seen self.old) }
+        ensures joined { IsJoined T.seen self.old → IsJoined T.seen self.new }
+    {
+        push_marker(&mut self.elements, name)
     }
 
     /// Adds another line at the end. The error is want of memory alone, and leaves the line as it was.

@@ -1,2 +1,7 @@
 pub mod Marks
 pub mod Texts
+pub mod Steady
+pub mod Annotations
+pub mod AnnotationCopies
+pub mod Colours
+pub mod Laws

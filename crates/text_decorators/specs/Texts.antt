@@ -1,7 +1,7 @@
 -- The texts of the three decorators, and what they note beside them.
 use Rattle.std.specs.Prelude.{◌≡◌, ℕ, suc, Bool, true, false, List, [], ◌∷◌, ◌++◌, map, replicate, codes, chars, string_bytes}
 use Rattle.std.specs.Fmt.{decimal, signed_decimal}
-use Rattle.tagged_lines.specs.Tagged.{Item, tagged, line_items}
+use Rattle.tagged_lines.specs.Tagged.{tagged, line_items}
 use Rattle.tagged_lines.specs.declared.tagged_line.TaggedLine.{TaggedLine}
 use Rattle.text_decorators.specs.Marks.{Mark, link_start, link_end, emphasis_start, strong_start, strikeout_start, code_start, superscript_start, superscript_end, image, preformat_first, preformat_further, header, quote, unordered_item, ordered_item, colour_start, background_start}
 use Rattle.text_decorators.specs.declared.annotation.RichAnnotation.{RichAnnotation}
@@ -58,10 +58,14 @@ is_colour (colour_start c) = true
 is_colour (background_start c) = true
 is_colour _ = false
 
--- `[n]: ` and the target, for each target in order
+-- `[n]: ` and the target
+abbrev pub footnote_text : ℕ → List ℕ → List ℕ
+footnote_text n target = codes "[" ++ decimal n ++ codes "]: " ++ target
+
+-- for each target in order
 abbrev pub footnote_texts : ℕ → List (List ℕ) → List (List ℕ)
 footnote_texts n [] = []
-footnote_texts n (target ∷ targets) = (codes "[" ++ decimal n ++ codes "]: " ++ target) ∷ footnote_texts (suc n) targets
+footnote_texts n (target ∷ targets) = footnote_text n target ∷ footnote_texts (suc n) targets
 
 -- The lines of a page's footnotes, numbered from 1, all under one tag.
 abbrev pub AreFootnotes : {T S : Type 0} → (T → S) → S → List (List ℕ) → List (TaggedLine T) → Type 0

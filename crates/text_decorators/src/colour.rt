@@ -1,3 +1,5 @@
+ghost use Rattle.std.specs.Prelude.{Some};
+
 use std::fmt;
 
 /// A colour by its parts, each from 0 to 255.
@@ -13,7 +15,12 @@ pub struct Colour {
 
 /// `#` and six lower hexadecimal digits, two for each part.
 impl fmt::Display for Colour {
+    ghost use Rattle.text_decorators.specs.Colours.{colour_text};
+
+    ghost output = { λ c. Some (colour_text c) };
+
     fn fmt<W: fmt::Write>(&self, f: &mut fmt::Formatter<W>) -> fmt::Result {
-        write!(f, "#{:02x}{:02x}{:02x}", self.r, self.g, self.b)
+        let Colour { r, g, b } = *self;
+        write!(f, "#{r:02x}{g:02x}{b:02x}")
     }
 }

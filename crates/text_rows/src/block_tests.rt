@@ -1,6 +1,6 @@
 use crate::marks::Mark;
-use crate::rows::ROWS;
-use crate::shown::{shown, shown_texts};
+use crate::rows::{MARKED, ROWS};
+use crate::shown::{shown, shown_marked, shown_texts};
 use crate::wrapped::wrapped_lines;
 use std::alloc::{AllocError, Global};
 use std::test::Fail;
@@ -63,16 +63,33 @@ fn padded_lines(rt: HostRuntime) -> Result<(), Fail> {
     Ok(())
 }
 
+// That a character is wider than the lines is told for all the text.
 #[test]
-fn refused_for_good(rt: HostRuntime) -> Result<(), Fail> {
+fn told_at_the_end(rt: HostRuntime) -> Result<(), Fail> {
     let alloc = rt.alloc();
     let mut block = WrappedBlock::new(alloc, 1, false, false, ());
-    let first = block.add_text("漢", WhiteSpace::Normal, &(), &());
-    assert!(rt; matches!(first, Err(BlockError::TooNarrow)));
-    let second = block.add_text("a", WhiteSpace::Normal, &(), &());
-    assert!(rt; matches!(second, Err(BlockError::Failed)));
+    block.add_text("漢", WhiteSpace::Normal, &(), &())?;
+    block.add_text("a", WhiteSpace::Normal, &(), &())?;
     let lines = block.into_lines();
-    assert!(rt; matches!(lines, Err(BlockError::Failed)));
+    assert!(rt; matches!(lines, Err(BlockError::TooNarrow)));
+    Ok(())
+}
+
+fn marked(alloc: Global, width: usize, front: &str, back: &str) -> Result<String, BlockError> {
+    let mut block = WrappedBlock::new(alloc, width, false, false, ());
+    block.add_text(front, WhiteSpace::Normal, &(), &())?;
+    block.record_frag_start("n")?;
+    block.add_text(back, WhiteSpace::Normal, &(), &())?;
+    Ok(shown_marked(alloc, &block.into_lines()?)?)
+}
+
+// In a cut word a marker stays, at a cut it ends the earlier piece, and else it waits for the next word.
+#[test]
+fn markers_ride_on_words(rt: HostRuntime) -> Result<(), Fail> {
+    for (width, front, back, lines) in MARKED {
+        let made = marked(rt.alloc(), width, front, back)?;
+        assert_eq!(rt; made.as_str(), lines, "at {width}: {front} and {back}");
+    }
     Ok(())
 }
 

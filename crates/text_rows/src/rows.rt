@@ -20,3 +20,12 @@ pub(crate) const ROWS: [(usize, &str, &str); 14] = [
     (5, "a\u{7}b cd", "ab cd|"),
     (0, " \n\u{200b} ", ""),
 ];
+
+/// Widths, the texts before and behind a marker, and their lines, each ended by `|`, with `#n` for the marker.
+pub(crate) const MARKED: [(usize, &str, &str, &str); 5] = [
+    (4, "ab", "cdef", "ab#ncd|ef|"),
+    (4, "abcd", "ef", "abcd#n|ef|"),
+    (9, "ab ", " cd", "ab #ncd|"),
+    (2, "ab ", "cd", "ab|#ncd|"),
+    (9, "ab ", " ", "ab|"),
+];

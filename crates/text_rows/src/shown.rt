@@ -1,5 +1,5 @@
 use std::alloc::{AllocError, Global};
-use text_decorators::TaggedLine;
+use text_decorators::{TaggedLine, TaggedLineElement};
 
 /// The characters of the lines, each line ended by `|`.
 pub(crate) fn shown<T>(alloc: Global, lines: &[TaggedLine<T>]) -> Result<String, AllocError> {
@@ -36,4 +36,29 @@ fn push_texts<T>(text: &mut String, line: &TaggedLine<T>) -> Result<(), AllocErr
         text.push('/')?;
     }
     Ok(())
+}
+
+/// The texts of the lines, each line ended by `|`, and `#` and its name for each marker.
+pub(crate) fn shown_marked<T>(
+    alloc: Global,
+    lines: &[TaggedLine<T>],
+) -> Result<String, AllocError> {
+    let mut text = String::new(alloc);
+    for line in lines {
+        for element in line.iter() {
+            push_element(&mut text, element)?;
+        }
+        text.push('|')?;
+    }
+    Ok(text)
+}
+
+fn push_element<T>(text: &mut String, element: &TaggedLineElement<T>) -> Result<(), AllocError> {
+    match element {
+        TaggedLineElement::Str(string) => text.push_str(string.s.as_str()),
+        TaggedLineElement::FragmentStart(name) => {
+            text.push('#')?;
+            text.push_str(name.as_str())
+        }
+    }
 }

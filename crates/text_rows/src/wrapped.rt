@@ -4,7 +4,10 @@ ghost use Rattle.text_wrapping.specs.Layout.{AreLinesOf, NeverFits};
 ghost use Rattle.text_rows.specs.Letters.{letters_of};
 
 use std::alloc::Global;
-use text_block_renderer::{BlockError, WhiteSpace, WrappedBlock};
+use text_block_renderer::{
+    BlockError, WhiteSpace, WrappedBlock, letters_of_texts, lines_keep_the_width,
+    narrow_normal_text, normal_lines_of_a_block, normal_text_is_kept,
+};
 use text_decorators::{EqualCopy, TaggedLine, TaggedString};
 
 /// The lines of some texts, joined: their fullest layout on lines of at most `width` columns. Refused as
@@ -25,6 +28,11 @@ pub fn wrapped_lines<T: EqualCopy + Drop>(
         → (allow_overflow ≡ false) × NeverFits width false (letters_of T.seen pieces.now) }
     ensures kinds { IfErr result (λ e. (e ≡ BlockError.TooNarrow) ⊎ (e ≡ BlockError.Memory)) }
 {
+    letters_of_texts::<T>();
+    lines_keep_the_width::<T>();
+    narrow_normal_text::<T>();
+    normal_lines_of_a_block::<T>();
+    normal_text_is_kept::<T>();
     let mut block = WrappedBlock::new(alloc, width, false, allow_overflow, default_tag);
     for piece in pieces {
         block.add_text(piece.s.as_str(), WhiteSpace::Normal, &piece.tag, &piece.tag)?;

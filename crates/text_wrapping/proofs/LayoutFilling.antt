@@ -8,7 +8,7 @@ use Rattle.std.proofs.lemmas.Bool.Decides.{nat_tests}
 use Rattle.tagged_lines.specs.Columns.{width_of}
 use Rattle.text_wrapping.specs.Units.{Letter, Piece, has_letters, is_filled, letters_columns}
 use Rattle.text_wrapping.specs.Layout.{Mark, mark, marked, opens, starts, inside, cuttable, can_start, following_columns, columns, unit_marks, IsAllowed, IsFullest, joined_lines}
-use Rattle.text_wrapping.specs.Filling.{Filled, filled, ended, all_lines, add_marks, add_mark, add_unit, add_units}
+use Rattle.text_wrapping.specs.Greedy.{Filled, filled, ended, all_lines, add_marks, add_mark, add_unit, add_units}
 use Rattle.text_wrapping.proofs.LayoutSplits.{Follow, run_more, run_from_allowed, allowed_from_run, joined-append}
 use Rattle.text_wrapping.proofs.LayoutFullest.{IsBest, AreBest, AllInside, best_last, best_before, best_before_starts, AreBest-push, fullest_from_best}
 

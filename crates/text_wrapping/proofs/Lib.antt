@@ -1,9 +1,9 @@
-pub mod BlockFilling
-pub mod BlockFinal
-pub mod BlockItems
-pub mod BlockPadding
-pub mod BlockReading
-pub mod BlockRuns
+pub mod NormalFilling
+pub mod NormalFinal
+pub mod NormalItems
+pub mod NormalPadding
+pub mod NormalReading
+pub mod NormalRuns
 pub mod LayoutFewest
 pub mod LayoutFilling
 pub mod LayoutFullest
@@ -11,3 +11,11 @@ pub mod LayoutSplits
 pub mod UnitsLetters
 pub mod UnitsMarks
 pub mod UnitsReading
+pub mod Retagging
+pub mod PlainLines
+pub mod WordLemmas
+pub mod MarkedLemmas
+pub mod PieceLemmas
+pub mod BlockLemmas
+pub mod ShownLemmas
+pub mod NormalBlocks

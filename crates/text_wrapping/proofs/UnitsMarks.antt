@@ -6,7 +6,8 @@ use Rattle.std.proofs.lemmas.List.Elements.{filter-append}
 use Rattle.tagged_lines.specs.Columns.{columns_of, width_of}
 use Rattle.text_wrapping.specs.Units.{Letter, Piece, letters_columns, is_break_point, units}
 use Rattle.text_wrapping.specs.Layout.{Joint, opens, starts, inside, cuttable, Mark, mark, marked, unit_marks, marks, marks_items, IsFullest, AreLinesOf, HasNoLayout, NeverFits}
-use Rattle.text_wrapping.specs.Filling.{all_lines, add_units, read_letters, nothing_read, lines_read}
+use Rattle.text_wrapping.specs.Greedy.{all_lines, add_units}
+use Rattle.text_wrapping.specs.Filling.{read_letters, nothing_read, lines_read}
 use Rattle.text_wrapping.proofs.UnitsLetters.{stands, letters_of, units_letters}
 use Rattle.text_wrapping.proofs.UnitsReading.{read_is_units}
 

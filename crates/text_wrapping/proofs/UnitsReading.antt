@@ -4,7 +4,8 @@ use Rattle.std.proofs.lemmas.Bool.{cond-true, cond-false}
 use Rattle.tagged_lines.specs.Columns.{columns_of}
 use Rattle.text_wrapping.specs.Units.{Letter, Piece, piece, letters_columns, has_columns, with_front, is_break_point, space_of, pieces_after, first_of, joining, joined, is_filled, has_letters, units}
 use Rattle.text_wrapping.specs.Layout.{Mark}
-use Rattle.text_wrapping.specs.Filling.{Filled, filled, all_lines, add_unit, add_units, reading, read_letter, read_letters, nothing_read, lines_read}
+use Rattle.text_wrapping.specs.Greedy.{Filled, filled, all_lines, add_unit, add_units}
+use Rattle.text_wrapping.specs.Filling.{reading, read_letter, read_letters, nothing_read, lines_read}
 
 -- ---- columns
 

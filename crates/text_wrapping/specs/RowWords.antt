@@ -3,7 +3,7 @@ use Rattle.std.specs.Prelude.{ℕ, List, Option, map}
 use Rattle.tagged_lines.specs.Tagged.{characters}
 use Rattle.text_wrapping.specs.Units.{Letter, Piece, lettered, piece, units}
 use Rattle.text_wrapping.specs.Layout.{marks_items}
-use Rattle.text_wrapping.specs.Filling.{add_units, all_lines}
+use Rattle.text_wrapping.specs.Greedy.{add_units, all_lines}
 
 abbrev pub untagged : List ℕ → List (Letter (Unit {0}))
 untagged cs = lettered cs (tt {0})

@@ -1,8 +1,8 @@
 -- The words of a stretch of normal text, and what stands between them (CSS Text, 4.1.1 and 5.1, as the
 -- renderer uses it). A stretch is a list of characters with their tags.
-use Rattle.std.specs.Prelude.{ℕ, ◌+◌, Bool, true, false, not, ◌&&◌, ◌||◌, ◌==◌, nat_lt, List, [], ◌∷◌, ◌++◌, Option, None, Some, is_some, filter, map, if◌then◌else◌}
-use Rattle.std.specs.Char.{is_whitespace}
+use Rattle.std.specs.Prelude.{ℕ, ◌+◌, Bool, true, false, nat_lt, List, [], ◌∷◌, ◌++◌, Option, None, Some, is_some, filter, map, if◌then◌else◌}
 use Rattle.tagged_lines.specs.Columns.{columns_of, width_of}
+pub use Rattle.preserved_text.specs.Sources.{is_white_space, is_break_point}
 
 -- a character as a code point, with its tag
 pub record Letter (S : Type 0) : Type 0 where
@@ -12,14 +12,6 @@ pub record Letter (S : Type 0) : Type 0 where
 -- a text, each character with the tag
 abbrev pub lettered : {S : Type 0} → List ℕ → S → List (Letter S)
 lettered cs t = map (λ c. record { code = c; tag = t }) cs
-
--- White space that collapses: std's, other than U+00A0.
-abbrev pub is_white_space : ℕ → Bool
-is_white_space c = is_whitespace c && not (c == 0xA0)
-
--- A break point: U+200B or such white space.
-abbrev pub is_break_point : ℕ → Bool
-is_break_point c = (c == 0x200B) || is_white_space c
 
 abbrev pub letters_columns : {S : Type 0} → List (Letter S) → ℕ
 letters_columns [] = 0

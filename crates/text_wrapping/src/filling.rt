@@ -1,9 +1,9 @@
 ghost use Rattle.std.specs.Prelude.{◌≡◌, ℕ, Bool, ◌+◌, ◌||◌, nat_le, [], ◌∷◌, ◌++◌, map, All, option_copied, chars, string_bytes, IfOk, IfErr, OnOk};
 ghost use Rattle.std.specs.Option.{option_map};
 ghost use Rattle.tagged_lines.specs.Tagged.{line_items, element_items, line_columns, tagged, IsJoined};
-ghost use Rattle.text_wrapping.specs.Block.{space_behind, space_columns};
+ghost use Rattle.text_wrapping.specs.NormalStates.{space_behind, space_columns};
 
-use crate::fault::BlockError;
+use preserved_text::BlockError;
 use std::alloc::{AllocError, Global};
 use tagged_lines::{
     Columns, EqualCopy, TaggedLine, TaggedLineElement, TaggedString, UnicodeColumns,
@@ -20,8 +20,8 @@ pub(crate) struct Filling<T> {
 
 impl<T: EqualCopy + Drop> Filling<T> {
     ghost use Rattle.text_wrapping.specs.Layout.{marks_items};
-    ghost use Rattle.text_wrapping.specs.Filling.{Filled, filled, all_lines};
-    ghost use Rattle.text_wrapping.specs.Block.{HoldsLines, Lays, LaysUnit, LaysWhole, LaysCut, Cuts, with_room};
+    ghost use Rattle.text_wrapping.specs.Greedy.{Filled, filled, all_lines};
+    ghost use Rattle.text_wrapping.specs.NormalStates.{HoldsLines, Lays, LaysUnit, LaysWhole, LaysCut, Cuts, with_room};
 
     pub(crate) fn new(alloc: Global, width: usize, allow_overflow: bool) -> Filling<T>
         ensures { HoldsLines T.seen width allow_overflow result (filled [] []) }

@@ -1,9 +1,9 @@
 ghost use Rattle.std.specs.Prelude.{◌≡◌, ◌<◌, ◌≤◌, ◌++◌, ◌∷◌, ◌⊎◌, ℕ, Bool, true, false, IsTrue, List, All, flat_map, length};
 ghost use Rattle.tagged_lines.specs.Columns.{width_of};
-ghost use Rattle.tagged_lines.specs.Tagged.{line_columns};
-ghost use Rattle.text_wrapping.specs.Units.{Piece, has_letters};
-ghost use Rattle.text_wrapping.specs.Layout.{HasNoLayout, IsFullest, IsLayout, Mark, marks_items, unit_marks};
-ghost use Rattle.text_wrapping.specs.Filling.{add_units, all_lines};
+ghost use Rattle.tagged_lines.specs.Tagged.{Item, line_columns};
+ghost use Rattle.text_wrapping.specs.Units.{Letter, Piece, has_letters};
+ghost use Rattle.text_wrapping.specs.Layout.{AreLinesOf, HasNoLayout, IsFullest, IsLayout, Mark, marks, unit_marks};
+ghost use Rattle.text_wrapping.specs.Greedy.{add_units, all_lines};
 
 use tagged_lines::EqualCopy;
 
@@ -22,25 +22,26 @@ pub(crate) fn no_layout_of_wider<T: EqualCopy>()
         HasNoLayout w false (before ++ m ∷ after) }
 {}
 
-/// A fullest layout has no more lines than any other layout.
+/// The lines of a stretch are no more than those of any legal layout of it.
 pub fn fewest_lines<T: EqualCopy>()
-    ensures { (w : ℕ) (o : Bool) (ms : List (Mark T.Seen)) (lines others : List (List (Mark T.Seen))) →
-        IsFullest w o ms lines →
-        IsLayout w o ms others →
-        length lines ≤ length others }
+    ensures { (w : ℕ) (o : Bool) (read : List (Letter T.Seen)) (lines : List (List (Item T.Seen)))
+        (layout : List (List (Mark T.Seen))) →
+        AreLinesOf w o read lines →
+        IsLayout w o (marks w read) layout →
+        length lines ≤ length layout }
 {}
 
-/// There is at most one fullest layout.
+/// A stretch has one list of lines at most.
 pub fn one_fullest_layout<T: EqualCopy>()
-    ensures { (w : ℕ) (o : Bool) (ms : List (Mark T.Seen)) (lines others : List (List (Mark T.Seen))) →
-        IsFullest w o ms lines →
-        IsFullest w o ms others →
+    ensures { (w : ℕ) (o : Bool) (read : List (Letter T.Seen)) (lines others : List (List (Item T.Seen))) →
+        AreLinesOf w o read lines →
+        AreLinesOf w o read others →
         lines ≡ others }
 {}
 
-/// Where no letter may overflow, each line's text has at most the width's columns.
+/// Where no character may overflow, each line has at most the width's columns.
 pub fn lines_keep_the_width<T: EqualCopy>()
-    ensures { (w : ℕ) (ms : List (Mark T.Seen)) (lines : List (List (Mark T.Seen))) →
-        IsLayout w false ms lines →
-        All (λ line. line_columns (marks_items line) ≤ w) lines }
+    ensures { (w : ℕ) (read : List (Letter T.Seen)) (lines : List (List (Item T.Seen))) →
+        AreLinesOf w false read lines →
+        All (λ line. line_columns line ≤ w) lines }
 {}

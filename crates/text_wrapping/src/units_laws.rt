@@ -4,7 +4,8 @@ ghost use Rattle.std.specs.Prelude.{◌≡◌, ◌≢◌, ℕ, ◌<◌, ◌≤�
 ghost use Rattle.tagged_lines.specs.Columns.{columns_of, width_of};
 ghost use Rattle.text_wrapping.specs.Units.{Letter, units, is_break_point};
 ghost use Rattle.text_wrapping.specs.Layout.{Mark, marks, marks_items, IsFullest, AreLinesOf, HasNoLayout, NeverFits};
-ghost use Rattle.text_wrapping.specs.Filling.{all_lines, add_units, read_letters, nothing_read, lines_read};
+ghost use Rattle.text_wrapping.specs.Greedy.{all_lines, add_units};
+ghost use Rattle.text_wrapping.specs.Filling.{read_letters, nothing_read, lines_read};
 
 /// Reading letter by letter lays the units, one after another.
 fn read_letters_are_units()

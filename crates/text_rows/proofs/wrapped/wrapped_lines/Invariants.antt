@@ -1,13 +1,15 @@
 use Rattle.std.proofs.Common.{◌≡◌, take}
-use Rattle.std.specs.Prelude.{None}
-use Rattle.text_wrapping.specs.Block.{HasRead, padding_of}
-use Rattle.text_rows.specs.Letters.{letters_of}
+use Rattle.std.specs.Prelude.{false}
+use Rattle.text_wrapping.specs.Blocks.{block_of, has_failed, HasJoinedLines}
+use Rattle.text_wrapping.specs.NormalBlocks.{normal_block}
+use Rattle.text_rows.proofs.Pieces.{sources}
 use Rattle.text_rows.proofs.wrapped.wrapped_lines.Given as goal
 
 abbrev pub invariant-loop-piece : goal.invariant-loop-piece
 invariant-loop-piece g l =
     record {
-      padding : padding_of g.T.EqualCopy.seen l.block ≡ None;
-      read : HasRead g.T.EqualCopy.seen l.width l.allow_overflow
-          (letters_of g.T.EqualCopy.seen (take l.piece-index l.pieces)) l.block;
+      works : has_failed l.block ≡ false;
+      joined : HasJoinedLines g.T.EqualCopy.seen l.block;
+      block : block_of g.T.EqualCopy.seen l.block ≡ normal_block l.width l.allow_overflow
+          (sources g.T.EqualCopy.seen (take l.piece-index l.pieces));
     }

@@ -1,5 +1,5 @@
-use Rattle.text_wrapping.proofs.LayoutFewest.{lines_keep_the_width as law}
+use Rattle.text_wrapping.proofs.NormalFinal.{lines_within}
 use Rattle.text_wrapping.proofs.layout_laws.lines_keep_the_width.Goals as goal
 
 pub returns : goal.returns
-returns g c = λ w ms lines layout. law w ms lines layout
+returns g c = λ w read lines are. lines_within w read lines are

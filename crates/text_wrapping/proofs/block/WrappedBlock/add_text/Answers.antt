@@ -1,16 +1,11 @@
-use Rattle.std.proofs.Common.{refl, chars}
-use Rattle.text_wrapping.specs.Units.{lettered}
-use Rattle.text_wrapping.proofs.BlockReading.{text_read, text_wider}
-use Rattle.text_wrapping.proofs.BlockFinal.{wider_never, never_behind}
+use Rattle.std.proofs.Common.{sym, ap, ◌∙◌, Some, chars}
+use Rattle.std.proofs.lemmas.Result.{on_ok_weaker}
+use Rattle.text_wrapping.specs.Blocks.{block_of}
+use Rattle.text_wrapping.proofs.BlockLemmas.{took_is}
 use Rattle.text_wrapping.proofs.block.WrappedBlock.add_text.Goals as goal
 
-pub returns-clause-read : goal.returns-clause-read
-returns-clause-read g c =
-    text_read g.T.EqualCopy.seen c.add_normal-result.result c.args.self.now c.add_normal-result.new.self _ _
-    c.add_normal-result.ensures.read refl refl refl refl c.is_err-self.ensures.value
-
-pub returns-clause-never : goal.returns-clause-never
-returns-clause-never g c = λ e width overflow read h.
-    let ls = lettered (chars c.args.text.now) (g.T.EqualCopy.seen c.args.main_tag.now) in
-    never_behind width read ls (wider_never width overflow ls (text_wider g.T.EqualCopy.seen c.args.self.now ls
-    (c.add_normal-result.ensures.narrow e) width overflow read h))
+pub returns-clause-added : goal.returns-clause-added
+returns-clause-added g c =
+    on_ok_weaker c.take_text-result.result (λ h. took_is (g.T.EqualCopy.seen c.args.main_tag.now)
+    (g.T.EqualCopy.seen c.args.wrap_tag.now) (chars c.args.text.now) (block_of g.T.EqualCopy.seen c.args.self.now)
+    ∙ ap Some (sym h)) c.take_text-result.ensures.run

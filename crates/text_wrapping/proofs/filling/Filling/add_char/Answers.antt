@@ -1,6 +1,6 @@
 use Rattle.std.proofs.Common.{refl}
-use Rattle.text_wrapping.proofs.BlockItems.{columns_read}
-use Rattle.text_wrapping.proofs.BlockFilling.{cuts_letter}
+use Rattle.text_wrapping.proofs.NormalItems.{columns_read}
+use Rattle.text_wrapping.proofs.NormalFilling.{cuts_letter}
 use Rattle.text_wrapping.proofs.filling.Filling.add_char.Goals as goal
 
 pub returns-clause-laid : goal.returns-clause-laid

@@ -1,5 +1,5 @@
 use Rattle.std.proofs.lemmas.Result.{on_ok_weaker}
-use Rattle.text_wrapping.proofs.BlockFilling.{cut_laid}
+use Rattle.text_wrapping.proofs.NormalFilling.{cut_laid}
 use Rattle.text_wrapping.proofs.filling.Filling.add_cut.Goals as goal
 
 pub returns-clause-laid : goal.returns-clause-laid

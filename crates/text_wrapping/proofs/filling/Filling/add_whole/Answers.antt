@@ -1,5 +1,5 @@
 use Rattle.std.proofs.Common.{refl}
-use Rattle.text_wrapping.proofs.BlockFilling.{unit_pushed}
+use Rattle.text_wrapping.proofs.NormalFilling.{unit_pushed}
 use Rattle.text_wrapping.proofs.filling.Filling.add_whole.Goals as goal
 
 pub returns-clause-laid : goal.returns-clause-laid

@@ -1,5 +1,5 @@
 use Rattle.std.proofs.lemmas.Result.{on_ok_weaker}
-use Rattle.text_wrapping.proofs.BlockFilling.{whole_unit, cut_unit}
+use Rattle.text_wrapping.proofs.NormalFilling.{whole_unit, cut_unit}
 use Rattle.text_wrapping.proofs.filling.Filling.add_word.Goals as goal
 
 pub returns-then-width-self-clause-laid : goal.returns-then-width-self-clause-laid

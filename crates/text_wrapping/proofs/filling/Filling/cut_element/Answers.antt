@@ -1,7 +1,7 @@
 use Rattle.std.proofs.Common.{subst, sym}
 use Rattle.tagged_lines.specs.Tagged.{element_items}
-use Rattle.text_wrapping.specs.Block.{Cuts}
-use Rattle.text_wrapping.proofs.BlockFilling.{cuts_marker}
+use Rattle.text_wrapping.specs.NormalStates.{Cuts}
+use Rattle.text_wrapping.proofs.NormalFilling.{cuts_marker}
 use Rattle.text_wrapping.proofs.filling.Filling.cut_element.Goals as goal
 
 pub returns-in-FragmentStart-clause-laid : goal.returns-in-FragmentStart-clause-laid

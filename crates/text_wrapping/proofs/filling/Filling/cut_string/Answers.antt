@@ -4,8 +4,8 @@ use Rattle.std.proofs.lemmas.Str.{IsUtf8-string_bytes}
 use Rattle.std.proofs.lemmas.Iterator.{YieldsList-from_chars}
 use Rattle.std.proofs.lemmas.Iterator.Consumers.{YieldsList-turn, YieldsList-end}
 use Rattle.tagged_lines.specs.Tagged.{tagged}
-use Rattle.text_wrapping.specs.Block.{Cuts}
-use Rattle.text_wrapping.proofs.BlockFilling.{cuts_nothing, next_letter, all_taken}
+use Rattle.text_wrapping.specs.NormalStates.{Cuts}
+use Rattle.text_wrapping.proofs.NormalFilling.{cuts_nothing, next_letter, all_taken}
 use Rattle.text_wrapping.proofs.filling.Filling.cut_string.Goals as goal
 
 pub loop-c-init : goal.loop-c-init

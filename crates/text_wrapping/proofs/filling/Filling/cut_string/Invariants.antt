@@ -1,7 +1,7 @@
 use Rattle.std.proofs.Common.{length, take, chars}
 use Rattle.std.specs.Prelude.{string_bytes}
 use Rattle.tagged_lines.specs.Tagged.{tagged}
-use Rattle.text_wrapping.specs.Block.{Cuts}
+use Rattle.text_wrapping.specs.NormalStates.{Cuts}
 use Rattle.text_wrapping.proofs.filling.Filling.cut_string.Given as goal
 
 abbrev pub invariant-loop-c : goal.invariant-loop-c

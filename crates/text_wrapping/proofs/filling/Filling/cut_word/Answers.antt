@@ -2,8 +2,8 @@ use Rattle.std.proofs.Common.{subst}
 use Rattle.std.proofs.lemmas.Iterator.{YieldsList-from_slice}
 use Rattle.std.proofs.lemmas.Iterator.Consumers.{YieldsList-turn, YieldsList-end}
 use Rattle.tagged_lines.specs.Tagged.{elements_items, line_elements}
-use Rattle.text_wrapping.specs.Block.{Cuts}
-use Rattle.text_wrapping.proofs.BlockFilling.{cuts_nothing, next_element, all_taken}
+use Rattle.text_wrapping.specs.NormalStates.{Cuts}
+use Rattle.text_wrapping.proofs.NormalFilling.{cuts_nothing, next_element, all_taken}
 use Rattle.text_wrapping.proofs.filling.Filling.cut_word.Goals as goal
 
 pub loop-element-init : goal.loop-element-init

@@ -1,6 +1,6 @@
 use Rattle.std.proofs.Common.{length, take}
 use Rattle.tagged_lines.specs.Tagged.{elements_items, line_elements}
-use Rattle.text_wrapping.specs.Block.{Cuts}
+use Rattle.text_wrapping.specs.NormalStates.{Cuts}
 use Rattle.text_wrapping.proofs.filling.Filling.cut_word.Given as goal
 
 abbrev pub invariant-loop-element : goal.invariant-loop-element

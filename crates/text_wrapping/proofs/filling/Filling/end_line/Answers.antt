@@ -1,7 +1,7 @@
 use Rattle.std.proofs.Common.{subst, sym, ap, ◌∙◌, refl}
 use Rattle.std.proofs.lemmas.Bool.{false≢true}
 use Rattle.tagged_lines.specs.Tagged.{line_items, IsJoined}
-use Rattle.text_wrapping.proofs.BlockFilling.{line_ended}
+use Rattle.text_wrapping.proofs.NormalFilling.{line_ended}
 use Rattle.text_wrapping.proofs.filling.Filling.end_line.Goals as goal
 
 pub returns-clause-laid : goal.returns-clause-laid

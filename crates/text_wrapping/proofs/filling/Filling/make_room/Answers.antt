@@ -1,6 +1,6 @@
 use Rattle.std.proofs.Common.{sym, ◌∙◌}
 use Rattle.std.proofs.lemmas.Result.{on_ok_weaker}
-use Rattle.text_wrapping.proofs.BlockFilling.{roomy, without_room}
+use Rattle.text_wrapping.proofs.NormalFilling.{roomy, without_room}
 use Rattle.text_wrapping.proofs.filling.Filling.make_room.Goals as goal
 
 pub returns-then-fits-clause-laid : goal.returns-then-fits-clause-laid

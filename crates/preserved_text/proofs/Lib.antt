@@ -1,0 +1,6 @@
+pub mod ColumnLemmas
+pub mod LayingCharacters
+pub mod LayingKept
+pub mod LayingMarkers
+pub mod LayingPlain
+pub mod LayingWidth

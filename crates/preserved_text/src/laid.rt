@@ -1,0 +1,10 @@
+use tagged_lines::TaggedLine;
+
+/// The lines of a text, and the names of the markers that wait for what comes behind it.
+#[derive(Drop)]
+pub struct LaidText<T> {
+    /// The lines, in order.
+    pub lines: Vec<TaggedLine<T>>,
+    /// The names, in order.
+    pub waiting: Vec<String>,
+}

@@ -1,0 +1,48 @@
+-- What the three decorators' answers have in common where contracts leave a choice.
+use Rattle.std.specs.Prelude.{◌≡◌, ℕ, true, false, List, map, refl}
+use Rattle.std.proofs.Common.{ap, sym, ◌∙◌}
+use Rattle.tagged_lines.specs.Tagged.{line_items}
+use Rattle.tagged_lines.specs.declared.tagged_line.TaggedLine.{TaggedLine}
+use Rattle.text_decorators.specs.Annotations.{RichTag, nothing, link, image, emphasis, strong, strikeout, code, preformatted, colour, background, rich_tag}
+use Rattle.text_decorators.specs.Marks.{Mark, link_start, emphasis_start, strong_start, strikeout_start, code_start, superscript_start, image as image_mark, preformat_first, preformat_further, colour_start, background_start}
+use Rattle.text_decorators.specs.Texts.{AreFootnotes, IsRich}
+use Rattle.text_decorators.specs.declared.annotation.RichAnnotation.{RichAnnotation}
+use Rattle.text_decorators.specs.declared.annotation.RichAnnotation.TheVariants.{Default, Link, Image, Emphasis, Strong, Strikeout, Code, Preformat, Colour, BgColour}
+
+-- what is seen of the annotation that rich text notes at a mark
+abbrev pub rich_mark_tag : Mark → RichTag
+rich_mark_tag (link_start target) = link target
+rich_mark_tag (image_mark source title) = image source
+rich_mark_tag emphasis_start = emphasis
+rich_mark_tag strong_start = strong
+rich_mark_tag strikeout_start = strikeout
+rich_mark_tag code_start = code
+rich_mark_tag preformat_first = preformatted false
+rich_mark_tag preformat_further = preformatted true
+rich_mark_tag (colour_start c) = colour c
+rich_mark_tag (background_start c) = background c
+rich_mark_tag _ = nothing
+
+pub rich_tag_fits : (m : Mark) (a : RichAnnotation) → IsRich m a → rich_tag a ≡ rich_mark_tag m
+rich_tag_fits (link_start target) (Link told) h = ap link h
+rich_tag_fits (image_mark source title) (Image told) h = ap image h
+rich_tag_fits emphasis_start Emphasis h = refl
+rich_tag_fits strong_start Strong h = refl
+rich_tag_fits strikeout_start Strikeout h = refl
+rich_tag_fits code_start Code h = refl
+rich_tag_fits superscript_start Default h = refl
+rich_tag_fits preformat_first (Preformat further) h = ap preformatted h
+rich_tag_fits preformat_further (Preformat further) h = ap preformatted h
+rich_tag_fits (colour_start c) (Colour told) h = ap colour h
+rich_tag_fits (background_start c) (BgColour told) h = ap background h
+rich_tag_fits _ _ h = absurd h
+
+-- the annotations that fit a mark are seen alike
+pub rich_tags_are_one : (m : Mark) (a b : RichAnnotation) → IsRich m a → IsRich m b → rich_tag a ≡ rich_tag b
+rich_tags_are_one m a b first second = rich_tag_fits m a first ∙ sym (rich_tag_fits m b second)
+
+-- and so are the lines of a page's footnotes
+pub footnotes_are_one : {T S : Type 0} (seen : T → S) (tag : S) (targets : List (List ℕ))
+    (lines others : List (TaggedLine T)) → AreFootnotes seen tag targets lines → AreFootnotes seen tag targets others
+    → map (line_items seen) lines ≡ map (line_items seen) others
+footnotes_are_one seen tag targets lines others first second = first ∙ sym second

@@ -1,0 +1,165 @@
+ghost use Rattle.std.specs.Prelude.{refl, false};
+ghost use Rattle.text_decorators.specs.Texts.{trivial_text, AreFootnotes};
+ghost use Rattle.text_decorators.specs.Laws.{footnotes_are_one};
+ghost use Rattle.text_decorators.specs.Steady.{trivial_is_steady};
+
+use crate::colour::Colour;
+use crate::decorator::{SteadyPrefixes, TextDecorator};
+use crate::default_marks::{footnotes, literal, no_text, superscript_end, superscript_start};
+use std::alloc::{AllocError, Global};
+use tagged_lines::TaggedLine;
+
+/// The decorator of text alone: it marks nothing but superscripts, and tags nothing.
+#[derive(Clone, Copy)]
+pub struct TrivialDecorator;
+
+impl TrivialDecorator {
+    /// A decorator of text alone.
+    pub fn new() -> TrivialDecorator {
+        TrivialDecorator
+    }
+}
+
+impl TextDecorator for TrivialDecorator {
+    type Annotation = ();
+
+    ghost Held = { Unit {0} };
+
+    ghost held = { λ _. tt };
+
+    ghost text = { λ _ m. trivial_text m };
+
+    ghost gives = { λ _ _ _. Unit {0} };
+
+    ghost marks = { λ _ _. false };
+
+    ghost after = { λ h _. h };
+
+    ghost pops = { λ _ _. false };
+
+    ghost sub = { λ h. h };
+
+    ghost closes = { λ _ targets lines. AreFootnotes {S = Unit {0}} (λ _. tt) tt targets lines };
+
+    ghost one = { λ _ _ _ _ _ _. refl };
+
+    ghost one_end = { λ _ targets lines others. footnotes_are_one (λ _. tt) tt targets lines others };
+
+    fn decorate_link_start(
+        &mut self,
+        alloc: Global,
+        _url: &str,
+    ) -> Result<(String, ()), AllocError> {
+        Ok((no_text(alloc), ()))
+    }
+
+    fn decorate_link_end(&mut self, alloc: Global) -> Result<String, AllocError> {
+        Ok(no_text(alloc))
+    }
+
+    fn decorate_em_start(&self, alloc: Global) -> Result<(String, ()), AllocError> {
+        Ok((no_text(alloc), ()))
+    }
+
+    fn decorate_em_end(&self, alloc: Global) -> Result<String, AllocError> {
+        Ok(no_text(alloc))
+    }
+
+    fn decorate_strong_start(&self, alloc: Global) -> Result<(String, ()), AllocError> {
+        Ok((no_text(alloc), ()))
+    }
+
+    fn decorate_strong_end(&self, alloc: Global) -> Result<String, AllocError> {
+        Ok(no_text(alloc))
+    }
+
+    fn decorate_strikeout_start(&self, alloc: Global) -> Result<(String, ()), AllocError> {
+        Ok((no_text(alloc), ()))
+    }
+
+    fn decorate_strikeout_end(&self, alloc: Global) -> Result<String, AllocError> {
+        Ok(no_text(alloc))
+    }
+
+    fn decorate_code_start(&self, alloc: Global) -> Result<(String, ()), AllocError> {
+        Ok((no_text(alloc), ()))
+    }
+
+    fn decorate_code_end(&self, alloc: Global) -> Result<String, AllocError> {
+        Ok(no_text(alloc))
+    }
+
+    fn decorate_superscript_start(&self, alloc: Global) -> Result<(String, ()), AllocError> {
+        superscript_start(alloc)
+    }
+
+    fn decorate_superscript_end(&self, alloc: Global) -> Result<String, AllocError> {
+        superscript_end(alloc)
+    }
+
+    fn decorate_preformat_first(&self, _alloc: Global) -> Result<(), AllocError> {
+        Ok(())
+    }
+
+    fn decorate_preformat_cont(&self, _alloc: Global) -> Result<(), AllocError> {
+        Ok(())
+    }
+
+    fn decorate_image(
+        &mut self,
+        alloc: Global,
+        _src: &str,
+        title: &str,
+    ) -> Result<(String, ()), AllocError> {
+        let text = literal(alloc, title)?;
+        Ok((text, ()))
+    }
+
+    fn header_prefix(&self, alloc: Global, _level: usize) -> Result<String, AllocError> {
+        Ok(no_text(alloc))
+    }
+
+    fn quote_prefix(&self, alloc: Global) -> Result<String, AllocError> {
+        Ok(no_text(alloc))
+    }
+
+    fn unordered_item_prefix(&self, alloc: Global) -> Result<String, AllocError> {
+        Ok(no_text(alloc))
+    }
+
+    fn ordered_item_prefix(&self, alloc: Global, _i: i64) -> Result<String, AllocError> {
+        Ok(no_text(alloc))
+    }
+
+    fn make_subblock_decorator(&self, _alloc: Global) -> Result<TrivialDecorator, AllocError> {
+        Ok(TrivialDecorator::new())
+    }
+
+    fn push_colour(&mut self, _alloc: Global, _colour: Colour) -> Result<Option<()>, AllocError> {
+        Ok(None)
+    }
+
+    fn pop_colour(&mut self) -> bool {
+        false
+    }
+
+    fn push_bgcolour(&mut self, _alloc: Global, _colour: Colour) -> Result<Option<()>, AllocError> {
+        Ok(None)
+    }
+
+    fn pop_bgcolour(&mut self) -> bool {
+        false
+    }
+
+    fn finalise(
+        &mut self,
+        alloc: Global,
+        urls: Vec<String>,
+    ) -> Result<Vec<TaggedLine<()>>, AllocError> {
+        footnotes(alloc, urls)
+    }
+}
+
+impl SteadyPrefixes for TrivialDecorator {
+    ghost steady = { trivial_is_steady };
+}

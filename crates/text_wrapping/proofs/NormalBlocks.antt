@@ -1,0 +1,105 @@
+-- Blocks of normal text: what they take, and their lines.
+use Rattle.std.proofs.Common.{◌≡◌, ℕ, Bool, true, false, not, ◌&&◌, ◌||◌, List, [], ◌∷◌, ◌++◌, None, Some, map, sym, ap, ◌∙◌, refl, subst, append_assoc, append-nil}
+use Rattle.std.specs.Prelude.{if◌then◌else◌}
+use Rattle.std.specs.Option.{option_map}
+use Rattle.tagged_lines.specs.Tagged.{Item}
+use Rattle.preserved_text.specs.Sources.{Source, letter, fragment, sourced}
+use Rattle.preserved_text.specs.declared.white_space.WhiteSpace.TheVariants.{Normal}
+use Rattle.text_wrapping.specs.Units.{lettered}
+use Rattle.text_wrapping.specs.Layout.{AreLinesOf, NeverFits}
+use Rattle.text_wrapping.specs.Riders.{normal_lines, has_wide_text}
+use Rattle.text_wrapping.specs.Lines.{letters_of, has_marker}
+use Rattle.text_wrapping.specs.Blocks.{Block, padded, lines_behind, lines_of, took_all, added, ended_lines}
+use Rattle.text_wrapping.specs.NormalBlocks.{normal_block}
+use Rattle.text_wrapping.proofs.PlainLines.{plain_lines_are, wide_never}
+
+-- ---- what is taken
+
+took_all_normal : {S : Type 0} (width : ℕ) (overflow : Bool) (source : List (Source S)) (cs : List ℕ)
+    (main further : S) → took_all main further cs (normal_block width overflow source)
+    ≡ Some (normal_block width overflow (source ++ sourced cs main further))
+took_all_normal width overflow source [] main further =
+    ap (λ s. Some (normal_block width overflow s)) (sym (append-nil source))
+took_all_normal width overflow source (c ∷ cs) main further =
+    took_all_normal width overflow (source ++ letter c main further ∷ []) cs main further
+    ∙ ap (λ s. Some (normal_block width overflow s))
+    (append_assoc source (letter c main further ∷ []) (sourced cs main further))
+
+pub added_normal : {S : Type 0} (width : ℕ) (overflow : Bool) (source : List (Source S)) (cs : List ℕ)
+    (main further : S) → added Normal cs main further (normal_block width overflow source)
+    ≡ Some (normal_block width overflow (source ++ sourced cs main further))
+added_normal width overflow source [] main further =
+    ap (λ s. Some (normal_block width overflow s)) (sym (append-nil source))
+added_normal width overflow source (c ∷ cs) main further =
+    took_all_normal width overflow source (c ∷ cs) main further
+
+-- ---- lines
+
+not_padded : {S : Type 0} (width : ℕ) (lines : List (List (Item S))) → map (padded width None) lines ≡ lines
+not_padded width [] = refl
+not_padded width (line ∷ lines) = ap (λ rest. line ∷ rest) (not_padded width lines)
+
+-- what ends without a refusal
+ended_at : {S : Type 0} (overflow wide : Bool) (b : Block S) (lines : List (List (Item S)))
+    → option_map lines_of (if not overflow && wide then None else Some b) ≡ Some lines
+    → ((overflow || not wide) ≡ true) × (b.lines ≡ lines)
+ended_at true wide b lines e = (refl, some_same b.lines lines e)
+  where
+    some_same : {X : Type 0} (x y : X) → Some x ≡ Some y → x ≡ y
+    some_same x y h = cc
+ended_at false true b lines e = cc
+ended_at false false b lines e = (refl, some_same b.lines lines e)
+  where
+    some_same : {X : Type 0} (x y : X) → Some x ≡ Some y → x ≡ y
+    some_same x y h = cc
+
+refused_at : {S : Type 0} (overflow wide : Bool) (b : Block S)
+    → option_map lines_of (if not overflow && wide then None else Some b) ≡ None
+    → (overflow ≡ false) × (wide ≡ true)
+refused_at true wide b e = cc
+refused_at false true b e = (refl, refl)
+refused_at false false b e = cc
+
+pub block_lines_are : {S : Type 0} (width : ℕ) (overflow : Bool) (source : List (Source S))
+    (lines : List (List (Item S))) → has_marker source ≡ false
+    → ended_lines (normal_block width overflow source) ≡ Some lines
+    → AreLinesOf width overflow (letters_of source) lines
+block_lines_are width overflow source lines none e =
+    let ends = ended_at overflow (has_wide_text width source)
+    (lines_behind (normal_block width overflow source) (normal_lines width source)) lines e in
+    subst (AreLinesOf width overflow (letters_of source))
+    (sym (not_padded width (normal_lines width source)) ∙ ends.1)
+    (plain_lines_are width overflow source none ends.0)
+
+pub narrow_block : {S : Type 0} (width : ℕ) (overflow : Bool) (source : List (Source S))
+    → ended_lines (normal_block width overflow source) ≡ None
+    → (overflow ≡ false) × NeverFits width false (letters_of source)
+narrow_block width overflow source e =
+    let refused = refused_at overflow (has_wide_text width source)
+    (lines_behind (normal_block width overflow source) (normal_lines width source)) e in
+    (refused.0, wide_never width source refused.1)
+
+-- ---- letters
+
+pub letters_sourced : {S : Type 0} (cs : List ℕ) (main further : S)
+    → letters_of (sourced cs main further) ≡ lettered cs main
+letters_sourced [] main further = refl
+letters_sourced (c ∷ cs) main further =
+    ap (λ rest. record { code = c; tag = main } ∷ rest) (letters_sourced cs main further)
+
+pub letters_joined : {S : Type 0} (front back : List (Source S))
+    → letters_of (front ++ back) ≡ letters_of front ++ letters_of back
+letters_joined [] back = refl
+letters_joined (letter c main further ∷ front) back =
+    ap (λ rest. record { code = c; tag = main } ∷ rest) (letters_joined front back)
+letters_joined (fragment name ∷ front) back = letters_joined front back
+
+pub no_marker_sourced : {S : Type 0} (cs : List ℕ) (main further : S) → has_marker (sourced cs main further) ≡ false
+no_marker_sourced [] main further = refl
+no_marker_sourced (c ∷ cs) main further = no_marker_sourced cs main further
+
+pub no_more_markers : {S : Type 0} (front back : List (Source S)) → has_marker front ≡ false → has_marker back ≡ false
+    → has_marker (front ++ back) ≡ false
+no_more_markers [] back none more = more
+no_more_markers (letter c main further ∷ front) back none more = no_more_markers front back none more
+no_more_markers (fragment name ∷ front) back none more = none
