@@ -2,8 +2,8 @@
 use Rattle.std.proofs.Common.{◌≡◌, ℕ, Bool, false, List, [], ◌∷◌, ◌++◌, map, ◌⊎◌, inl, inr, sym, ap, subst, ◌∙◌, arith}
 use Rattle.std.specs.Prelude.{All, Any}
 use Rattle.std.proofs.lemmas.List.Elements.{All-nil, All-cons, All-get_or}
-use Rattle.text_wrapping.specs.Layout.{AreLinesOf}
-use Rattle.text_wrapping.specs.Units.{Letter, lettered}
+use Rattle.normal_text.specs.Layout.{AreLinesOf}
+use Rattle.normal_text.specs.Units.{Letter, lettered}
 use Rattle.html2text.specs.PageLines.{Plain, PlainItems, AreParagraphLines, IsWiderText, AreLinesBehind, ArePageLines, IsTooNarrowPage, IsOneAnswer, block_start, page_text}
 use Rattle.html2text.specs.ParagraphPage.{HasOneList}
 

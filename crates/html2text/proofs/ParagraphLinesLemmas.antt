@@ -1,9 +1,9 @@
 -- A block's lines are those of its paragraph.
 use Rattle.std.proofs.Common.{◌≡◌, ℕ, Bool, false, List, [], ◌∷◌, ◌++◌, Option, None, Some, refl, sym, ap, subst, ◌∙◌, append-nil}
 use Rattle.tagged_lines.specs.Tagged.{Item}
-use Rattle.text_wrapping.specs.Units.{Letter, lettered}
-use Rattle.text_wrapping.specs.Layout.{AreLinesOf, NeverFits, HasNoLayout, marks}
-use Rattle.text_wrapping.specs.Lines.{letters_of, has_marker}
+use Rattle.normal_text.specs.Units.{Letter, lettered}
+use Rattle.normal_text.specs.Layout.{AreLinesOf, NeverFits, HasNoLayout, marks}
+use Rattle.normal_text.specs.Letters.{letters_of, has_marker}
 use Rattle.text_wrapping.specs.Blocks.{Block, added, ended_lines}
 use Rattle.text_wrapping.specs.NormalBlocks.{normal_block}
 use Rattle.preserved_text.specs.Sources.{Source, sourced}

@@ -3,8 +3,9 @@
 use Rattle.std.specs.Prelude.{◌≡◌, ℕ, ◌<◌, ◌≤◌, Bool, false, List, [], ◌∷◌, ◌++◌, ◌⊎◌, map, flat_map, Any, if◌then◌else◌}
 use Rattle.std.specs.List.{list_any}
 use Rattle.tagged_lines.specs.Tagged.{Item, characters, line_columns}
-use Rattle.text_wrapping.specs.Units.{lettered, is_filled}
-use Rattle.text_wrapping.specs.Layout.{AreLinesOf, HasNoLayout, marks}
+use Rattle.normal_text.specs.Units.{lettered}
+use Rattle.preserved_text.specs.Sources.{is_filled}
+use Rattle.normal_text.specs.Layout.{AreLinesOf, HasNoLayout, marks}
 use Rattle.html2text.specs.PageText.{normalized}
 use Rattle.html2text.specs.ParagraphPage.{IsParagraphPage}
 use Rattle.html2text.specs.ReplacedText.{replaced_text}

@@ -4,3 +4,4 @@ pub mod LayingKept
 pub mod LayingMarkers
 pub mod LayingPlain
 pub mod LayingWidth
+pub mod CharacterLemmas

@@ -1,4 +1,7 @@
 pub mod LawWords
+pub mod Modes
+pub mod Pass
 pub mod Preserved
 pub mod RowWords
+pub mod Rows
 pub mod Sources

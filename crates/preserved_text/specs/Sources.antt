@@ -1,5 +1,6 @@
 -- What is laid out: characters with their tags, and markers between them.
-use Rattle.std.specs.Prelude.{ℕ, Bool, not, ◌&&◌, ◌||◌, ◌==◌, List, [], ◌∷◌, map, flat_map, chars, string_bytes}
+use Rattle.std.specs.Prelude.{ℕ, Bool, true, false, not, ◌&&◌, ◌||◌, ◌==◌, List, [], ◌∷◌, map, flat_map, chars, string_bytes, String}
+use Rattle.std.specs.Global.{Global}
 use Rattle.std.specs.Char.{is_whitespace}
 use Rattle.preserved_text.specs.declared.piece.Piece.{Piece}
 use Rattle.preserved_text.specs.declared.piece.Piece.TheVariants.{Text, Fragment}
@@ -31,3 +32,11 @@ piece_sources seen (Fragment name) = fragment (chars (string_bytes name)) ∷ []
 
 abbrev pub sources_of : {T S : Type 0} → (T → S) → List (Piece T) → List (Source S)
 sources_of seen pieces = flat_map (piece_sources seen) pieces
+
+-- the names that strings are
+abbrev pub names : List (String Global) → List (List ℕ)
+names strings = map (λ name. chars (string_bytes name)) strings
+
+abbrev pub is_filled : {A : Type 0} → List A → Bool
+is_filled [] = false
+is_filled (x ∷ xs) = true

@@ -1,13 +1,18 @@
 //! What a text is made of, and source lines whose white space stays, as definitions.
 #![tactic(auto)]
 
+mod breaking;
+mod characters;
 mod fault;
 mod laid;
+mod laying;
 mod laws;
 mod piece;
+mod preserved;
 mod rows;
 mod white_space;
 
+pub use characters::{first_char, has_text, is_break_point, last_char};
 pub use fault::{BlockError, TooNarrow};
 pub use laid::LaidText;
 pub use laws::{
@@ -15,4 +20,5 @@ pub use laws::{
     preserved_lines_show_each_character,
 };
 pub use piece::{Piece, TextPiece};
+pub use preserved::lay_preserved;
 pub use white_space::WhiteSpace;

@@ -6,7 +6,7 @@ use Rattle.tagged_lines.specs.Tagged.{Item}
 use Rattle.preserved_text.specs.Sources.{Source, letter, sourced}
 use Rattle.preserved_text.specs.declared.white_space.WhiteSpace.{WhiteSpace}
 use Rattle.preserved_text.specs.declared.white_space.WhiteSpace.TheVariants.{Normal}
-use Rattle.text_wrapping.specs.Riders.{normal_lines}
+use Rattle.normal_text.specs.Riders.{normal_lines}
 use Rattle.text_wrapping.specs.Lines.{lines_in}
 use Rattle.text_wrapping.specs.Blocks.{Block, padded, lines_behind, lines_of, is_too_narrow, ended_lines, took_all, behind_sources}
 

@@ -5,13 +5,12 @@ use Rattle.std.specs.Option.{option_map}
 use Rattle.tagged_lines.specs.Tagged.{Item}
 use Rattle.preserved_text.specs.Sources.{Source, letter, fragment, sourced}
 use Rattle.preserved_text.specs.declared.white_space.WhiteSpace.TheVariants.{Normal}
-use Rattle.text_wrapping.specs.Units.{lettered}
-use Rattle.text_wrapping.specs.Layout.{AreLinesOf, NeverFits}
-use Rattle.text_wrapping.specs.Riders.{normal_lines, has_wide_text}
-use Rattle.text_wrapping.specs.Lines.{letters_of, has_marker}
+use Rattle.normal_text.specs.Units.{lettered}
+use Rattle.normal_text.specs.Layout.{AreLinesOf, NeverFits}
+use Rattle.normal_text.specs.Riders.{normal_lines, has_wide_text}
+use Rattle.normal_text.specs.Letters.{letters_of, has_marker}
 use Rattle.text_wrapping.specs.Blocks.{Block, padded, lines_behind, lines_of, took_all, added, ended_lines}
 use Rattle.text_wrapping.specs.NormalBlocks.{normal_block}
-use Rattle.text_wrapping.proofs.PlainLines.{plain_lines_are, wide_never}
 
 -- ---- what is taken
 
@@ -61,45 +60,23 @@ refused_at false true b e = (refl, refl)
 refused_at false false b e = cc
 
 pub block_lines_are : {S : Type 0} (width : ℕ) (overflow : Bool) (source : List (Source S))
-    (lines : List (List (Item S))) → has_marker source ≡ false
+    (lines : List (List (Item S)))
+    → ((overflow || not (has_wide_text width source)) ≡ true
+    → AreLinesOf width overflow (letters_of source) (normal_lines width source))
     → ended_lines (normal_block width overflow source) ≡ Some lines
     → AreLinesOf width overflow (letters_of source) lines
-block_lines_are width overflow source lines none e =
+block_lines_are width overflow source lines law e =
     let ends = ended_at overflow (has_wide_text width source)
     (lines_behind (normal_block width overflow source) (normal_lines width source)) lines e in
     subst (AreLinesOf width overflow (letters_of source))
     (sym (not_padded width (normal_lines width source)) ∙ ends.1)
-    (plain_lines_are width overflow source none ends.0)
+    (law ends.0)
 
 pub narrow_block : {S : Type 0} (width : ℕ) (overflow : Bool) (source : List (Source S))
+    → (has_wide_text width source ≡ true → NeverFits width false (letters_of source))
     → ended_lines (normal_block width overflow source) ≡ None
     → (overflow ≡ false) × NeverFits width false (letters_of source)
-narrow_block width overflow source e =
+narrow_block width overflow source law e =
     let refused = refused_at overflow (has_wide_text width source)
     (lines_behind (normal_block width overflow source) (normal_lines width source)) e in
-    (refused.0, wide_never width source refused.1)
-
--- ---- letters
-
-pub letters_sourced : {S : Type 0} (cs : List ℕ) (main further : S)
-    → letters_of (sourced cs main further) ≡ lettered cs main
-letters_sourced [] main further = refl
-letters_sourced (c ∷ cs) main further =
-    ap (λ rest. record { code = c; tag = main } ∷ rest) (letters_sourced cs main further)
-
-pub letters_joined : {S : Type 0} (front back : List (Source S))
-    → letters_of (front ++ back) ≡ letters_of front ++ letters_of back
-letters_joined [] back = refl
-letters_joined (letter c main further ∷ front) back =
-    ap (λ rest. record { code = c; tag = main } ∷ rest) (letters_joined front back)
-letters_joined (fragment name ∷ front) back = letters_joined front back
-
-pub no_marker_sourced : {S : Type 0} (cs : List ℕ) (main further : S) → has_marker (sourced cs main further) ≡ false
-no_marker_sourced [] main further = refl
-no_marker_sourced (c ∷ cs) main further = no_marker_sourced cs main further
-
-pub no_more_markers : {S : Type 0} (front back : List (Source S)) → has_marker front ≡ false → has_marker back ≡ false
-    → has_marker (front ++ back) ≡ false
-no_more_markers [] back none more = more
-no_more_markers (letter c main further ∷ front) back none more = no_more_markers front back none more
-no_more_markers (fragment name ∷ front) back none more = none
+    (refused.0, law refused.1)

@@ -1,12 +1,3 @@
 pub mod Blocks
-pub mod Filling
-pub mod Greedy
-pub mod Layout
 pub mod Lines
-pub mod MarkedStates
-pub mod MarkedTags
 pub mod NormalBlocks
-pub mod NormalStates
-pub mod Riders
-pub mod RowWords
-pub mod Units

@@ -1,6 +1,6 @@
 use Rattle.std.proofs.Common.{◌≡◌, Err, [], map, ap, chars}
 use Rattle.std.proofs.lemmas.Result.{err_from_is_err_and}
-use Rattle.text_wrapping.specs.Units.{lettered}
+use Rattle.normal_text.specs.Units.{lettered}
 use Rattle.html2text.specs.Errors.{error_of_block}
 use Rattle.html2text.specs.LinesText.{plain_items}
 use Rattle.html2text.specs.declared.error.Error.TheVariants.{TooNarrow}

@@ -1,7 +1,7 @@
 use Rattle.std.proofs.Common.{ap, ◌∙◌, map}
 use Rattle.tagged_lines.specs.Tagged.{line_items}
 use Rattle.preserved_text.specs.Sources.{sources_of}
-use Rattle.text_wrapping.specs.Riders.{normal_lines}
+use Rattle.normal_text.specs.Riders.{normal_lines}
 use Rattle.text_wrapping.specs.Lines.{lines_in}
 use Rattle.text_wrapping.proofs.BlockLemmas.{bare_lines, normal_are}
 use Rattle.text_wrapping.proofs.block.WrappedBlock.lay.Goals as goal

@@ -1,0 +1,183 @@
+-- Characters of a word that are added all at once.
+use Rattle.std.proofs.Common.{◌≡◌, ℕ, ◌-◌, Bool, true, false, nat_le, ◌||◌, List, [], ◌∷◌, ◌++◌, length, take, drop, sym, ap, ◌∙◌, refl, subst, append_assoc, arith, chars, IsUtf8, encode_utf8}
+use Rattle.std.specs.Prelude.{Some, is_some, IsTrue, All}
+use Rattle.std.specs.Option.{option_map}
+use Rattle.std.specs.Char.{IsScalar}
+use Rattle.std.specs.Str.{IsCharBoundary}
+use Rattle.std.proofs.lemmas.List.{map-append, append-nil, take_at, take-append-drop, length-append}
+use Rattle.std.proofs.lemmas.List.Elements.{All-nil, All-cons, All-head, All-tail, All-same, All-push}
+use Rattle.std.proofs.lemmas.Str.{chars-nil, chars-append, chars_past_char, IsUtf8-nil, IsUtf8-append, IsUtf8-encode, IsCharBoundary-at_seam}
+use Rattle.tagged_lines.specs.Columns.{columns_of, width_of}
+use Rattle.tagged_lines.specs.Tagged.{line_items, tagged, character}
+use Rattle.normal_text.specs.Units.{Letter, lettered, is_break_point}
+use Rattle.normal_text.specs.Filling.{Reading, reading, read_letters}
+use Rattle.normal_text.specs.NormalStates.{HoldsLines, HoldsReading, Reads, MeetsWider, AllHaveRoom, has_room, letter_items, JoinsWord, RunsTo, ReadsFront}
+use Rattle.normal_text.specs.declared.normal.NormalText.{NormalText}
+use Rattle.normal_text.proofs.NormalReading.{other_same, or_skips, width_read, wider_within, reads_more}
+
+-- ---- finding the run
+
+pub runs_start : {T : Type 0} (block : NormalText T) (text : List ℕ) → RunsTo block text text
+runs_start block text = record {
+  front = [];
+  whole = refl;
+  utf8 = IsUtf8-nil;
+  joins = All-same (JoinsWord block)
+      (chars []) [] chars-nil (All-nil (JoinsWord block));
+}
+
+pub chars-encode : (c : ℕ) → IsScalar c → chars (encode_utf8 c) ≡ c ∷ []
+chars-encode c scalar = chars_past_char (encode_utf8 c) [] c (IsUtf8-encode c scalar) (sym (append-nil (encode_utf8 c)))
+    ∙ ap (λ l. c ∷ l) chars-nil
+
+pub runs_more : {T : Type 0} (block : NormalText T) (text rest after : List ℕ) (c : ℕ) → RunsTo block text rest
+    → rest ≡ encode_utf8 c ++ after → IsScalar c → JoinsWord block c → RunsTo block text after
+runs_more block text rest after c r split scalar joins =
+    record {
+      front = r.front ++ encode_utf8 c;
+      whole = r.whole ∙ ap (λ l. r.front ++ l) split ∙ sym (append_assoc r.front (encode_utf8 c) after);
+      utf8 = IsUtf8-append r.front (encode_utf8 c) r.utf8 (IsUtf8-encode c scalar);
+      joins = All-same (JoinsWord block) (chars (r.front ++ encode_utf8 c)) (chars r.front ++ c ∷ [])
+          (chars-append r.front (encode_utf8 c) r.utf8 ∙ ap (λ l. chars r.front ++ l) (chars-encode c scalar))
+          (All-push (JoinsWord block) (chars r.front) c r.joins joins);
+    }
+
+pub joins_word : {T : Type 0} (block : NormalText T) (code n : ℕ) (fits : Bool) → is_break_point code ≡ false
+    → columns_of code ≡ Some n → fits ≡ (block.lines.allow_overflow || nat_le n block.lines.width) → fits ≡ true
+    → JoinsWord block code
+joins_word block code n fits no_break columns_are fits_is holds =
+    record {
+      no_break = no_break;
+      has_width = ap is_some columns_are;
+      room = ap (λ w. block.lines.allow_overflow || nat_le w block.lines.width) (width_read code n columns_are)
+          ∙ sym fits_is ∙ holds;
+    }
+
+-- ---- reading the run
+
+letters_run : {T S : Type 0} (block : NormalText T) (width : ℕ) (r : Reading S) (cs : List ℕ) (tag : S)
+    → All (JoinsWord block) cs
+    → read_letters width r (lettered cs tag) ≡ reading r.lines r.space (r.letters ++ lettered cs tag)
+letters_run block width r [] tag all = ap (λ ls. reading r.lines r.space ls) (sym (append-nil r.letters))
+letters_run block width r (c ∷ cs) tag all =
+    let l : Letter _ = record { code = c; tag = tag } in
+    let joins = All-head (JoinsWord block) c cs all in
+    ap (λ q. read_letters width q (lettered cs tag)) (other_same width r l true joins.no_break joins.has_width)
+    ∙ letters_run block width (reading r.lines r.space (r.letters ++ l ∷ [])) cs tag
+    (All-tail (JoinsWord block) c cs all)
+    ∙ ap (λ ls. reading r.lines r.space ls) (append_assoc r.letters (l ∷ []) (lettered cs tag))
+
+run_room : {T S : Type 0} (seen : T → S) (width : ℕ) (overflow : Bool) (old : NormalText T) (r : Reading S)
+    (cs : List ℕ) (tag : S) → HoldsReading seen width overflow old r → All (JoinsWord old) cs
+    → AllHaveRoom width overflow (lettered cs tag)
+run_room seen width overflow old r [] tag h all = All-nil (λ x. IsTrue (has_room width overflow x))
+run_room seen width overflow old r (c ∷ cs) tag h all =
+    let l : Letter _ = record { code = c; tag = tag } in
+    let joins = All-head (JoinsWord old) c cs all in
+    let room = or_skips overflow (is_break_point c) (nat_le (width_of c) width) joins.no_break
+    ∙ ap (λ o. o || nat_le (width_of c) width) (sym h.lines.same_overflow)
+    ∙ ap (λ w. old.lines.allow_overflow || nat_le (width_of c) w) (sym h.lines.same_width) ∙ joins.room in
+    All-cons (λ x. IsTrue (has_room width overflow x)) l (lettered cs tag) room
+    (run_room seen width overflow old r cs tag h (All-tail (JoinsWord old) c cs all))
+
+lettered_items : {S : Type 0} (cs : List ℕ) (tag : S) → tagged cs tag ≡ letter_items (lettered cs tag)
+lettered_items [] tag = refl
+lettered_items (c ∷ cs) tag = ap (λ rest. character c tag ∷ rest) (lettered_items cs tag)
+
+run_reads : {T S : Type 0} (seen : T → S) (old new : NormalText T) (cs : List ℕ) (tag : S) → All (JoinsWord old) cs
+    → new.width ≡ old.width → new.lines ≡ old.lines → new.space ≡ old.space
+    → line_items seen new.word ≡ line_items seen old.word ++ tagged cs tag → Reads seen old new (lettered cs tag)
+run_reads seen old new cs tag all w l s added =
+    record {
+      moves = record {
+        moves = λ width overflow r h.
+            subst (HoldsReading seen width overflow new) (sym (letters_run old width r cs tag all))
+            (record {
+              same_width = w ∙ h.same_width;
+              lines = subst (λ x. HoldsLines seen width overflow x r.lines) (sym l) h.lines;
+              space = ap (option_map seen) s ∙ h.space;
+              word = added ∙ ap (λ i. i ++ tagged cs tag) h.word ∙ ap (λ i. letter_items r.letters ++ i)
+                  (lettered_items cs tag) ∙ sym (map-append (λ (x : Letter _). character x.code x.tag) r.letters
+                  (lettered cs tag));
+            });
+      };
+      room = λ width overflow r h. run_room seen width overflow old r cs tag h all;
+    }
+
+-- ---- the run cut off
+
+pub front_length : (text front rest : List ℕ) → text ≡ front ++ rest → length text - length rest ≡ length front
+front_length text front rest whole = omega (arith, ap length whole, length-append front rest)
+
+pub front_taken : (text front rest : List ℕ) (n : ℕ) → text ≡ front ++ rest → n ≡ length text - length rest
+    → take n text ≡ front
+front_taken text front rest n whole n_is = ap (take n) whole
+    ∙ take_at front rest n (sym (n_is ∙ front_length text front rest whole))
+
+pub run_boundary : {T : Type 0} (block : NormalText T) (text rest : List ℕ) (n : ℕ) → RunsTo block text rest
+    → IsUtf8 rest → n ≡ length text - length rest → IsCharBoundary text n
+run_boundary block text rest n r utf8 n_is = subst (IsCharBoundary text)
+    (sym (n_is ∙ front_length text r.front rest r.whole)) (IsCharBoundary-at_seam text r.front rest r.whole utf8)
+
+same_rest : (front xs ys : List ℕ) → front ++ xs ≡ front ++ ys → xs ≡ ys
+same_rest [] xs ys h = h
+same_rest (c ∷ front) xs ys h = same_rest front xs ys cc
+
+pub rest_dropped : (text front rest : List ℕ) (n : ℕ) → text ≡ front ++ rest → n ≡ length text - length rest
+    → drop n text ≡ rest
+rest_dropped text front rest n whole n_is =
+    same_rest front (drop n text) rest (ap (λ l. l ++ drop n text) (sym (front_taken text front rest n whole n_is))
+    ∙ take-append-drop n text ∙ whole)
+
+pub front_reads : {T S : Type 0} (seen : T → S) (old new : NormalText T) (text rest run back : List ℕ) (n : ℕ)
+    (tag : S) → RunsTo old text rest → n ≡ length text - length rest → run ≡ take n text → back ≡ drop n text
+    → new.width ≡ old.width → new.lines ≡ old.lines → new.space ≡ old.space
+    → line_items seen new.word ≡ line_items seen old.word ++ tagged (chars run) tag
+    → ReadsFront seen old new text back tag
+front_reads seen old new text rest run back n tag r n_is run_is back_is w l s added =
+    let is_front = run_is ∙ front_taken text r.front rest n r.whole n_is in
+    let is_rest = back_is ∙ rest_dropped text r.front rest n r.whole n_is in
+    record {
+      front = chars r.front;
+      whole = ap chars r.whole ∙ chars-append r.front rest r.utf8 ∙ ap (λ b. chars r.front ++ chars b) (sym is_rest);
+      reads = run_reads seen old new (chars r.front) tag r.joins w l s
+          (added ∙ ap (λ b. line_items seen old.word ++ tagged (chars b) tag) is_front);
+    }
+
+-- ---- run after run
+
+pub front_more : {T S : Type 0} (seen : T → S) (old mid next new : NormalText T) (text rest after back : List ℕ)
+    (c : ℕ) (tag : S) → ReadsFront seen old mid text rest tag → IsUtf8 rest → rest ≡ encode_utf8 c ++ after
+    → Reads seen mid next (lettered (c ∷ []) tag) → ReadsFront seen next new after back tag
+    → ReadsFront seen old new text back tag
+front_more seen old mid next new text rest after back c tag first utf8 split one second =
+    let rest_is = chars_past_char rest after c utf8 split ∙ ap (λ l. c ∷ l) second.whole in
+    let both = reads_more seen mid next new (lettered (c ∷ []) tag) (lettered second.front tag) one second.reads in
+    record {
+      front = first.front ++ c ∷ second.front;
+      whole = first.whole ∙ ap (λ l. first.front ++ l) rest_is
+          ∙ sym (append_assoc first.front (c ∷ second.front) (chars back));
+      reads = subst (Reads seen old new) (sym (map-append _ first.front (c ∷ second.front)))
+          (reads_more seen old mid new (lettered first.front tag) (lettered (c ∷ second.front) tag) first.reads both);
+    }
+
+pub front_wider : {T S : Type 0} (seen : T → S) (old mid : NormalText T) (text rest after : List ℕ) (c : ℕ) (tag : S)
+    → ReadsFront seen old mid text rest tag → IsUtf8 rest → rest ≡ encode_utf8 c ++ after
+    → MeetsWider seen mid (lettered (c ∷ []) tag) → MeetsWider seen old (lettered (chars text) tag)
+front_wider seen old mid text rest after c tag first utf8 split meets =
+    let text_is = first.whole ∙ ap (λ l. first.front ++ l) (chars_past_char rest after c utf8 split) in
+    let mapped = ap (λ x. lettered x tag) text_is ∙ map-append _ first.front (c ∷ chars after) in
+    record {
+      wider = λ width overflow r h.
+          wider_within width overflow (lettered first.front tag) (lettered (c ∷ []) tag) (lettered (chars after) tag)
+          (lettered (chars text) tag) mapped
+          (meets.wider width overflow (read_letters width r (lettered first.front tag))
+          (first.reads.moves.moves width overflow r h));
+    }
+
+pub front_all : {T S : Type 0} (seen : T → S) (old new : NormalText T) (text rest : List ℕ) (tag : S)
+    → ReadsFront seen old new text rest tag → rest ≡ [] → Reads seen old new (lettered (chars text) tag)
+front_all seen old new text rest tag first none =
+    let text_is = first.whole ∙ ap (λ l. first.front ++ chars l) none ∙ ap (λ l. first.front ++ l) chars-nil
+    ∙ append-nil first.front in
+    subst (Reads seen old new) (sym (ap (λ cs. lettered cs tag) text_is)) first.reads

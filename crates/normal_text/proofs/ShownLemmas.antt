@@ -1,0 +1,119 @@
+-- Lines of text with markers on it, shown.
+use Rattle.std.proofs.Common.{◌≡◌, ℕ, ◌<◌, Bool, true, false, ◌||◌, List, [], ◌∷◌, ◌++◌, map, length, take, get_or, sym, ap, ◌∙◌, refl, append_assoc, append-nil}
+use Rattle.std.specs.Prelude.{if◌then◌else◌}
+use Rattle.tagged_lines.specs.Elements.{Item, character, marker, characters, tagged, element_items, elements_items, elements_text}
+use Rattle.tagged_lines.specs.declared.tagged_string.TaggedLineElement.{TaggedLineElement}
+use Rattle.tagged_lines.proofs.Joins.{elements_characters}
+use Rattle.preserved_text.specs.Preserved.{has_text, markers_of}
+use Rattle.preserved_text.specs.Sources.{is_filled}
+use Rattle.normal_text.specs.Riders.{plain, note, shown_item, settled_lines, settled_rest}
+use Rattle.normal_text.proofs.NormalFilling.{next_taken, all_taken}
+
+-- ---- whether a line has text
+
+pub has_text-append : {S : Type 0} (xs ys : List (Item S)) → has_text (xs ++ ys) ≡ (has_text xs || has_text ys)
+has_text-append [] ys = refl
+has_text-append (character c tag ∷ xs) ys = refl
+has_text-append (marker name ∷ xs) ys = has_text-append xs ys
+
+-- ---- texts
+
+pub shown_plain_text : {S : Type 0} (cs : List ℕ) (tag : S) → map shown_item (tagged cs (plain tag)) ≡ tagged cs tag
+shown_plain_text [] tag = refl
+shown_plain_text (c ∷ cs) tag = ap (λ items. character c tag ∷ items) (shown_plain_text cs tag)
+
+pub shown_note : {S : Type 0} (cs : List ℕ) (name : List ℕ)
+    → map (shown_item {S = S}) (tagged cs (note name)) ≡ map (λ c. marker name) cs
+shown_note [] name = refl
+shown_note (c ∷ cs) name = ap (λ items. marker name ∷ items) (shown_note cs name)
+
+-- ---- element by element
+
+pub elements_items-one : {T S : Type 0} (seen : T → S) (xs : List (TaggedLineElement T)) (e : TaggedLineElement T)
+    → elements_items seen (xs ++ e ∷ []) ≡ elements_items seen xs ++ element_items seen e
+elements_items-one seen [] e = append-nil (element_items seen e)
+elements_items-one seen (x ∷ xs) e =
+    ap (λ items. element_items seen x ++ items) (elements_items-one seen xs e)
+    ∙ sym (append_assoc (element_items seen x) (elements_items seen xs) (element_items seen e))
+
+-- what was made of the elements so far, and of one more
+pub next_made : {T S Y M : Type 0} (seen : T → S) (make : List (Item S) → List M)
+    → ((xs ys : List (Item S)) → make (xs ++ ys) ≡ make xs ++ make ys)
+    → (es : List (TaggedLineElement T)) (ys : List Y) (y : Y) (e : TaggedLineElement T)
+    → (length ys < length es) × (e ≡ get_or es (length ys) e) → (old mid new : List M)
+    → mid ≡ old ++ make (elements_items seen (take (length ys) es)) → new ≡ mid ++ make (element_items seen e)
+    → new ≡ old ++ make (elements_items seen (take (length (ys ++ y ∷ [])) es))
+next_made seen make splits es ys y e turn old mid new so_far one =
+    one ∙ ap (λ m. m ++ make (element_items seen e)) so_far
+    ∙ append_assoc old (make (elements_items seen (take (length ys) es))) (make (element_items seen e))
+    ∙ ap (λ m. old ++ m) (sym (ap make (ap (elements_items seen) (next_taken es ys y e turn)
+    ∙ elements_items-one seen (take (length ys) es) e)
+    ∙ splits (elements_items seen (take (length ys) es)) (element_items seen e)))
+
+pub all_made : {T S Y M : Type 0} (seen : T → S) (make : List (Item S) → List M) (es : List (TaggedLineElement T))
+    (ys : List Y) → length ys ≡ length es → (old new : List M)
+    → new ≡ old ++ make (elements_items seen (take (length ys) es)) → new ≡ old ++ make (elements_items seen es)
+all_made seen make es ys whole old new so_far = so_far ∙ ap (λ xs. old ++ make (elements_items seen xs))
+    (all_taken es ys whole)
+
+pub markers_of-append : {S : Type 0} (xs ys : List (Item S)) → markers_of (xs ++ ys) ≡ markers_of xs ++ markers_of ys
+markers_of-append [] ys = refl
+markers_of-append (character c tag ∷ xs) ys = markers_of-append xs ys
+markers_of-append (marker name ∷ xs) ys = ap (λ ns. name ∷ ns) (markers_of-append xs ys)
+
+pub markers_of-tagged : {S : Type 0} (cs : List ℕ) (tag : S) → markers_of (tagged cs tag) ≡ []
+markers_of-tagged [] tag = refl
+markers_of-tagged (c ∷ cs) tag = markers_of-tagged cs tag
+
+-- ---- line by line
+
+-- what a line makes of what is done and in front, behind which other lines come
+pub settled_more : {S : Type 0} (done lines : List (List (Item S))) (front line : List (Item S))
+    → has_text front ≡ false
+    → (if has_text (front ++ line) then done ++ (front ++ line) ∷ [] else done)
+    ++ settled_lines (if has_text (front ++ line) then [] else front ++ line) lines
+    ≡ done ++ settled_lines front (line ∷ lines)
+settled_more done lines front line none =
+    ap (λ t. (if t then done ++ (front ++ line) ∷ [] else done) ++ settled_lines (if t then [] else front ++ line) lines)
+    (has_text-append front line ∙ ap (λ t. t || has_text line) none) ∙ by_text (has_text line)
+  where
+    by_text : (t : Bool) → (if t then done ++ (front ++ line) ∷ [] else done)
+        ++ settled_lines (if t then [] else front ++ line) lines
+        ≡ done ++ (if t then (front ++ line) ∷ settled_lines [] lines else settled_lines (front ++ line) lines)
+    by_text true = append_assoc done ((front ++ line) ∷ []) (settled_lines [] lines)
+    by_text false = refl
+
+pub rest_more : {S : Type 0} (lines : List (List (Item S))) (front line : List (Item S)) → has_text front ≡ false
+    → settled_rest (if has_text (front ++ line) then [] else front ++ line) lines ≡ settled_rest front (line ∷ lines)
+rest_more lines front line none =
+    ap (λ t. settled_rest (if t then [] else front ++ line) lines)
+    (has_text-append front line ∙ ap (λ t. t || has_text line) none) ∙ by_text (has_text line)
+  where
+    by_text : (t : Bool) → settled_rest (if t then [] else front ++ line) lines
+        ≡ (if t then settled_rest [] lines else settled_rest (front ++ line) lines)
+    by_text true = refl
+    by_text false = refl
+
+pub front_free : {S : Type 0} (items : List (Item S)) → has_text (if has_text items then [] else items) ≡ false
+front_free items = by_text (has_text items) refl
+  where
+    by_text : (t : Bool) → has_text items ≡ t → has_text (if t then [] else items) ≡ false
+    by_text true e = refl
+    by_text false e = e
+
+pub settled_step : {S : Type 0} (done made lines all : List (List (Item S))) (front line whole left : List (Item S))
+    → whole ≡ front ++ line → made ≡ (if has_text whole then done ++ whole ∷ [] else done)
+    → left ≡ (if has_text whole then [] else whole) → has_text front ≡ false
+    → done ++ settled_lines front (line ∷ lines) ≡ all → made ++ settled_lines left lines ≡ all
+settled_step done made lines all front line whole left split made_is left_is free before =
+    ap (λ d. d ++ settled_lines left lines) made_is
+    ∙ ap (λ f. (if has_text whole then done ++ whole ∷ [] else done) ++ settled_lines f lines) left_is
+    ∙ ap (λ w. (if has_text w then done ++ w ∷ [] else done) ++ settled_lines (if has_text w then [] else w) lines) split
+    ∙ settled_more done lines front line free ∙ before
+
+pub rest_step : {S : Type 0} (lines : List (List (Item S))) (front line whole left all : List (Item S))
+    → whole ≡ front ++ line → left ≡ (if has_text whole then [] else whole) → has_text front ≡ false
+    → settled_rest front (line ∷ lines) ≡ all → settled_rest left lines ≡ all
+rest_step lines front line whole left all split left_is free before =
+    ap (λ f. settled_rest f lines) left_is
+    ∙ ap (λ w. settled_rest (if has_text w then [] else w) lines) split ∙ rest_more lines front line free ∙ before

@@ -1,0 +1,10 @@
+use Rattle.std.proofs.Common.{◌≡◌, ◌++◌, [], length, take}
+use Rattle.tagged_lines.specs.Tagged.{elements_items, line_elements}
+use Rattle.preserved_text.specs.Preserved.{markers_of}
+use Rattle.preserved_text.specs.Sources.{names}
+use Rattle.normal_text.proofs.marked.names_before.Given as goal
+
+abbrev pub invariant-loop-element : goal.invariant-loop-element
+invariant-loop-element g l =
+    names l.all.items ≡ [] ++ markers_of (elements_items g.T.EqualCopy.seen
+    (take (length l.yielded) (line_elements l.line)))

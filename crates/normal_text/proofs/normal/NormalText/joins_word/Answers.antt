@@ -1,0 +1,8 @@
+use Rattle.std.proofs.Common.{sym, ◌∙◌}
+use Rattle.normal_text.proofs.NormalRuns.{joins_word}
+use Rattle.normal_text.proofs.normal.NormalText.joins_word.Goals as goal
+
+pub returns-then-not-is_break_point : goal.returns-then-not-is_break_point
+returns-then-not-is_break_point g c = λ fits.
+    joins_word c.args.self.now c.args.c c.in-Some.columns c.has_room_for.result (sym c.is_break_point.ensures
+    ∙ c.if-not-is_break_point.true) (sym c.columns.ensures ∙ c.in-Some.is) c.has_room_for.ensures fits

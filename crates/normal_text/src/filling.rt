@@ -1,0 +1,219 @@
+ghost use Rattle.std.specs.Prelude.{◌≡◌, ℕ, Bool, ◌+◌, ◌||◌, nat_le, [], ◌∷◌, ◌++◌, map, All, option_copied, chars, string_bytes, IfOk, IfErr, OnOk};
+ghost use Rattle.std.specs.Option.{option_map};
+ghost use Rattle.tagged_lines.specs.Tagged.{line_items, element_items, line_columns, tagged, IsJoined};
+ghost use Rattle.normal_text.specs.NormalStates.{space_behind, space_columns};
+
+use preserved_text::BlockError;
+use std::alloc::{AllocError, Global};
+use tagged_lines::{
+    Columns, EqualCopy, TaggedLine, TaggedLineElement, TaggedString, UnicodeColumns,
+};
+
+/// Lines of at most `width` columns that are filled from the front, each with as many characters as go.
+#[derive(Drop)]
+pub(crate) struct Filling<T> {
+    width: usize,
+    allow_overflow: bool,
+    done: Vec<TaggedLine<T>>,
+    line: TaggedLine<T>,
+}
+
+impl<T: EqualCopy + Drop> Filling<T> {
+    ghost use Rattle.normal_text.specs.Layout.{marks_items};
+    ghost use Rattle.normal_text.specs.Greedy.{Filled, filled, all_lines};
+    ghost use Rattle.normal_text.specs.NormalStates.{HoldsLines, Lays, LaysUnit, LaysWhole, LaysCut, Cuts, with_room};
+
+    pub(crate) fn new(alloc: Global, width: usize, allow_overflow: bool) -> Filling<T>
+        ensures { HoldsLines T.seen width allow_overflow result (filled [] []) }
+    {
+        Filling {
+            width,
+            allow_overflow,
+            done: Vec::new(alloc),
+            line: TaggedLine::new(alloc),
+        }
+    }
+
+    /// An equal tag, in the memory of the lines.
+    pub(crate) fn copy_tag(&self, tag: &T) -> Result<T, AllocError>
+        ensures { IfOk result (λ copy. T.seen copy ≡ T.seen tag.now) }
+    {
+        tag.copy(*self.done.allocator())
+    }
+
+    /// Whether some line can hold so many columns.
+    pub(crate) fn has_room_for(&self, columns: usize) -> bool
+        ensures { result ≡ (self.now.allow_overflow || nat_le columns self.now.width) }
+    {
+        self.allow_overflow || columns <= self.width
+    }
+
+    /// Whether the line can take so many columns more, and so many behind them.
+    fn fits(&self, gap: usize, columns: usize) -> bool
+        ensures { result ≡ nat_le (line_columns (line_items T.seen self.now.line) + (gap + columns)) self.now.width }
+    {
+        let taken = self.line.width();
+        taken <= self.width && gap <= self.width - taken && columns <= self.width - taken - gap
+    }
+
+    /// Adds a word behind the line's text, with a space of the given tag between them, where both go on
+    /// it; else on a fresh line. A word wider than a line is cut there.
+    pub(crate) fn add_word(
+        &mut self,
+        space: Option<&T>,
+        word: &TaggedLine<T>,
+    ) -> Result<(), BlockError>
+        ensures laid { OnOk result (LaysUnit T.seen self.old self.new
+            (option_map T.seen (option_copied space.entry)) (line_items T.seen word.now)) }
+        ensures kinds { IfErr result (λ e. e ≡ BlockError.Memory) }
+    {
+        if word.width() > self.width {
+            self.add_cut(word)
+        } else {
+            self.add_whole(space, word)
+        }
+    }
+
+    fn add_whole(&mut self, space: Option<&T>, word: &TaggedLine<T>) -> Result<(), BlockError>
+        ensures laid { OnOk result (LaysWhole T.seen self.old self.new
+            (option_map T.seen (option_copied space.entry)) (line_items T.seen word.now)) }
+        ensures kinds { IfErr result (λ e. e ≡ BlockError.Memory) }
+    {
+        self.make_room(space_columns(space), word.width())?;
+        push_behind(&mut self.line, space, word)?;
+        Ok(())
+    }
+
+    fn add_cut(&mut self, word: &TaggedLine<T>) -> Result<(), BlockError>
+        ensures laid { OnOk result (LaysCut T.seen self.old self.new (line_items T.seen word.now)) }
+        ensures kinds { IfErr result (λ e. e ≡ BlockError.Memory) }
+    {
+        self.end_line()?;
+        self.cut_word(word)
+    }
+
+    fn cut_word(&mut self, word: &TaggedLine<T>) -> Result<(), BlockError>
+        ensures laid { OnOk result (Cuts T.seen self.old self.new (line_items T.seen word.now)) }
+        ensures kinds { IfErr result (λ e. e ≡ BlockError.Memory) }
+    {
+        for element in word.iter() {
+            self.cut_element(element)?;
+        }
+        Ok(())
+    }
+
+    fn cut_element(&mut self, element: &TaggedLineElement<T>) -> Result<(), BlockError>
+        ensures laid { OnOk result (Cuts T.seen self.old self.new (element_items T.seen element.now)) }
+        ensures kinds { IfErr result (λ e. e ≡ BlockError.Memory) }
+    {
+        match element {
+            TaggedLineElement::Str(string) => self.cut_string(string),
+            TaggedLineElement::FragmentStart(_) => Ok(()),
+        }
+    }
+
+    fn cut_string(&mut self, string: &TaggedString<T>) -> Result<(), BlockError>
+        ensures laid { OnOk result (Cuts T.seen self.old self.new
+            (tagged (chars (string_bytes string.now.s)) (T.seen string.now.tag))) }
+        ensures kinds { IfErr result (λ e. e ≡ BlockError.Memory) }
+    {
+        for c in string.s.as_str().chars() {
+            self.add_char(c, &string.tag)?;
+        }
+        Ok(())
+    }
+
+    /// Adds a character of a cut word: on a fresh line, where it doesn't go on the line.
+    fn add_char(&mut self, c: char, tag: &T) -> Result<(), BlockError>
+        ensures laid { OnOk result (Cuts T.seen self.old self.new (tagged (c ∷ []) (T.seen tag.now))) }
+        ensures kinds { IfErr result (λ e. e ≡ BlockError.Memory) }
+    {
+        let columns = UnicodeColumns::columns(c).unwrap_or(0);
+        self.make_room(0, columns)?;
+        self.line.push_char(c, tag)?;
+        Ok(())
+    }
+
+    /// Ends the line, where it doesn't take so many columns more.
+    fn make_room(&mut self, gap: usize, columns: usize) -> Result<(), BlockError>
+        ensures laid { OnOk result (Lays T.seen self.old self.new (with_room (gap + columns))) }
+        ensures kinds { IfErr result (λ e. e ≡ BlockError.Memory) }
+    {
+        if self.fits(gap, columns) {
+            Ok(())
+        } else {
+            self.end_line()
+        }
+    }
+
+    /// Ends the line, where it has text.
+    fn end_line(&mut self) -> Result<(), BlockError>
+        ensures laid { OnOk result (Lays T.seen self.old self.new (λ width f. filled (all_lines f) [])) }
+        ensures kinds { IfErr result (λ e. e ≡ BlockError.Memory) }
+    {
+        if self.line.is_empty() {
+            return Ok(());
+        }
+        let fresh = TaggedLine::new(*self.done.allocator());
+        let line = std::mem::replace(&mut self.line, fresh);
+        self.done.push(line)?;
+        Ok(())
+    }
+
+    /// The lines, the last one too.
+    pub(crate) fn into_lines(mut self) -> Result<Vec<TaggedLine<T>>, BlockError>
+        ensures lines { IfOk result (λ lines. (width : ℕ) (overflow : Bool) (f : Filled T.Seen)
+            → HoldsLines T.seen width overflow self f
+            → map (line_items T.seen) lines.items ≡ map marks_items (all_lines f)) }
+        ensures joined { IfOk result (λ lines. (width : ℕ) (overflow : Bool) (f : Filled T.Seen)
+            → HoldsLines T.seen width overflow self f → All (IsJoined T.seen) lines.items) }
+        ensures kinds { IfErr result (λ e. e ≡ BlockError.Memory) }
+    {
+        self.end_line()?;
+        let Filling { done, .. } = self;
+        Ok(done)
+    }
+}
+
+/// The columns of a space, where there is one.
+fn space_columns<T: EqualCopy>(space: Option<&T>) -> usize
+    ensures { result ≡ space_columns (option_map T.seen (option_copied space.entry)) }
+{
+    match space {
+        Some(_) => 1,
+        None => 0,
+    }
+}
+
+/// Adds a word at a line's end, behind a space of the given tag where the line has text.
+fn push_behind<T: EqualCopy + Drop>(
+    line: &mut TaggedLine<T>,
+    space: Option<&T>,
+    word: &TaggedLine<T>,
+) -> Result<(), AllocError>
+    ensures pushed { OnOk result (line_items T.seen line.new ≡ line_items T.seen line.old
+        ++ space_behind (line_items T.seen line.old) (option_map T.seen (option_copied space.entry))
+        ++ line_items T.seen word.now) }
+    ensures joined { IsJoined T.seen line.old → IsJoined T.seen line.new }
+{
+    push_space(line, space)?;
+    line.push_line(word)
+}
+
+/// Adds a space of the given tag at a line's end, where the line has text.
+fn push_space<T: EqualCopy + Drop>(
+    line: &mut TaggedLine<T>,
+    space: Option<&T>,
+) -> Result<(), AllocError>
+    ensures pushed { OnOk result (line_items T.seen line.new ≡ line_items T.seen line.old
+        ++ space_behind (line_items T.seen line.old) (option_map T.seen (option_copied space.entry))) }
+    ensures joined { IsJoined T.seen line.old → IsJoined T.seen line.new }
+{
+    if line.is_empty() {
+        return Ok(());
+    }
+    match space {
+        Some(tag) => line.push_char(' ', tag),
+        None => Ok(()),
+    }
+}

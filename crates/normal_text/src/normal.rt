@@ -1,0 +1,188 @@
+ghost use Rattle.std.specs.Prelude.{◌≡◌, ◌⊎◌, ℕ, Bool, true, false, ◌||◌, nat_le, List, [], ◌∷◌, ◌++◌, map, chars, is_err, IsTrue, All, length, ◌<◌, ◌≤◌, IfOk, IfErr, IfSome, IsNone, IsUtf8, encode_utf8, OnOk, if◌then◌else◌};
+ghost use Rattle.std.specs.Char.{IsScalar};
+ghost use Rattle.tagged_lines.specs.Tagged.{line_items, line_columns, IsJoined};
+ghost use Rattle.normal_text.specs.Units.{is_break_point};
+
+use crate::filling::Filling;
+use preserved_text::BlockError;
+use std::alloc::{AllocError, Global};
+use tagged_lines::{Columns, EqualCopy, TaggedLine, UnicodeColumns};
+
+/// A stretch of normal text that is wrapped into lines of at most `width` columns (characters that have no
+/// width are left out). A word that fits the rest of the line with its gap stays on it, else it starts a
+/// fresh line; one wider than a line is cut there, each line as full as it goes.
+#[derive(Drop)]
+pub(crate) struct NormalText<T> {
+    width: usize,
+    lines: Filling<T>,
+    /// The tag of the first white space since the last word that was laid.
+    space: Option<T>,
+    /// What was read since the last break point behind a character of some column.
+    word: TaggedLine<T>,
+}
+
+impl<T: EqualCopy + Drop> NormalText<T> {
+    ghost use Rattle.normal_text.specs.Units.{Letter, lettered};
+    ghost use Rattle.preserved_text.specs.Sources.{is_filled};
+    ghost use Rattle.normal_text.specs.Layout.{marks_items};
+    ghost use Rattle.normal_text.specs.Units.{units};
+    ghost use Rattle.normal_text.specs.Greedy.{all_lines, add_units};
+    ghost use Rattle.normal_text.specs.Filling.{Reading, read_letters, nothing_read, lines_read};
+    ghost use Rattle.normal_text.specs.NormalStates.{HasRead, HasWider, HoldsReading, Moves, MeetsWider, Reads, ReadsFront, JoinsWord, RunsTo, end_read, space_read, word_read, lay_read};
+
+    /// No text yet. With `allow_overflow` a character wider than the width stands alone on a line.
+    pub(crate) fn new(alloc: Global, width: usize, allow_overflow: bool) -> NormalText<T>
+        ensures { HasRead T.seen width allow_overflow [] result }
+    {
+        NormalText {
+            width,
+            lines: Filling::new(alloc, width, allow_overflow),
+            space: None,
+            word: TaggedLine::new(alloc),
+        }
+    }
+
+    /// Adds text behind what was added before. What was refused is to be thrown away.
+    pub(crate) fn add_text(&mut self, text: &str, tag: &T) -> Result<(), BlockError>
+        ensures kinds { IfErr result (λ e. (e ≡ BlockError.TooNarrow) ⊎ (e ≡ BlockError.Memory)) }
+        ensures read { OnOk result ((width : ℕ) (overflow : Bool) (read : List (Letter T.Seen))
+            → HasRead T.seen width overflow read self.old
+            → HasRead T.seen width overflow (read ++ lettered (chars text.now) (T.seen tag.now)) self.new) }
+        ensures narrow { result ≡ Err BlockError.TooNarrow → (width : ℕ) (overflow : Bool) (read : List (Letter T.Seen))
+            → HasRead T.seen width overflow read self.old
+            → HasWider width overflow (lettered (chars text.now) (T.seen tag.now)) }
+    {
+        self.add_normal(text, tag)
+    }
+
+    fn add_normal(&mut self, text: &str, tag: &T) -> Result<(), BlockError>
+        ensures kinds { IfErr result (λ e. (e ≡ BlockError.TooNarrow) ⊎ (e ≡ BlockError.Memory)) }
+        ensures read { OnOk result (Reads T.seen self.old self.new (lettered (chars text.now) (T.seen tag.now))) }
+        ensures narrow { result ≡ Err BlockError.TooNarrow
+            → MeetsWider T.seen self.old (lettered (chars text.now) (T.seen tag.now)) }
+    {
+        let mut rest = self.add_run(text, tag)?;
+        while let Some((c, after)) = first_char(rest) {
+            self.add_char(c, tag)?;
+            rest = self.add_run(after, tag)?;
+        }
+        Ok(())
+    }
+
+    /// Adds the characters in front that join the word at hand, all at once; what follows them is left.
+    fn add_run<'a>(&mut self, text: &'a str, tag: &T) -> Result<&'a str, AllocError>
+        ensures read { IfOk result (λ rest. ReadsFront T.seen self.old self.new text.now rest.now (T.seen tag.now)) }
+        ensures text { IfOk result (λ rest. IsUtf8 rest.now) }
+        ensures no_longer { IfOk result (λ rest. length rest.now ≤ length text.now) }
+    {
+        let (run, rest) = text.split_at(text.len() - self.after_run(text).len());
+        self.word.push_str(run, tag)?;
+        Ok(rest)
+    }
+
+    /// What follows the characters in front that join the word at hand.
+    fn after_run<'a>(&self, text: &'a str) -> &'a str
+        ensures { RunsTo self.now text.now result.now }
+    {
+        let mut rest = text;
+        while let Some((c, after)) = first_char(rest) {
+            if !self.joins_word(c) {
+                return rest;
+            }
+            rest = after;
+        }
+        rest
+    }
+
+    /// Whether the character has a width and is no break point, and some line can hold it.
+    fn joins_word(&self, c: char) -> bool
+        ensures { IsTrue result → JoinsWord self.now c }
+    {
+        match UnicodeColumns::columns(c) {
+            Some(columns) => !is_break_point(c) && self.lines.has_room_for(columns),
+            None => false,
+        }
+    }
+
+    fn add_char(&mut self, c: char, tag: &T) -> Result<(), BlockError>
+        ensures kinds { IfErr result (λ e. (e ≡ BlockError.TooNarrow) ⊎ (e ≡ BlockError.Memory)) }
+        ensures read { OnOk result (Reads T.seen self.old self.new (lettered (c ∷ []) (T.seen tag.now))) }
+        ensures narrow { result ≡ Err BlockError.TooNarrow
+            → MeetsWider T.seen self.old (lettered (c ∷ []) (T.seen tag.now)) }
+    {
+        if is_break_point(c) {
+            self.end_word()?;
+            self.add_space(c, tag)?;
+            return Ok(());
+        }
+        match UnicodeColumns::columns(c) {
+            Some(columns) => self.add_to_word(c, columns, tag),
+            None => Ok(()),
+        }
+    }
+
+    fn add_to_word(&mut self, c: char, columns: usize, tag: &T) -> Result<(), BlockError>
+        ensures kinds { IfErr result (λ e. (e ≡ BlockError.TooNarrow) ⊎ (e ≡ BlockError.Memory)) }
+        ensures read { OnOk result (Moves T.seen self.old self.new (word_read c (T.seen tag.now))) }
+        ensures room { OnOk result ((self.old.lines.allow_overflow || nat_le columns self.old.lines.width) ≡ true) }
+        ensures narrow { result ≡ Err BlockError.TooNarrow
+            → (self.old.lines.allow_overflow || nat_le columns self.old.lines.width) ≡ false }
+    {
+        if !self.lines.has_room_for(columns) {
+            return Err(BlockError::TooNarrow);
+        }
+        self.word.push_char(c, tag)?;
+        Ok(())
+    }
+
+    /// Keeps the tag of a white space, where it is the first.
+    fn add_space(&mut self, c: char, tag: &T) -> Result<(), AllocError>
+        ensures read { OnOk result (IsTrue (is_break_point c)
+            → Moves T.seen self.old self.new (space_read c (T.seen tag.now))) }
+    {
+        if c != ZERO_WIDTH_SPACE && self.space.is_none() {
+            self.space = Some(self.lines.copy_tag(tag)?);
+        }
+        Ok(())
+    }
+
+    /// Lays the word, where it has columns; a word without columns joins the next.
+    fn end_word(&mut self) -> Result<(), BlockError>
+        ensures kinds { IfErr result (λ e. e ≡ BlockError.Memory) }
+        ensures read { OnOk result (Moves T.seen self.old self.new end_read) }
+    {
+        if self.word.width() == 0 {
+            Ok(())
+        } else {
+            self.lay_word()
+        }
+    }
+
+    /// Lays the word, where it has characters.
+    fn lay_word(&mut self) -> Result<(), BlockError>
+        ensures kinds { IfErr result (λ e. e ≡ BlockError.Memory) }
+        ensures read { OnOk result (Moves T.seen self.old self.new lay_read) }
+    {
+        if self.word.is_empty() {
+            return Ok(());
+        }
+        let space = self.space.take();
+        self.lines.add_word(space.as_ref(), &self.word)?;
+        self.word.clear();
+        Ok(())
+    }
+
+    /// The lines of the text.
+    pub(crate) fn into_lines(mut self) -> Result<Vec<TaggedLine<T>>, BlockError>
+        ensures kinds { IfErr result (λ e. e ≡ BlockError.Memory) }
+        ensures laid { IfOk result (λ lines. (width : ℕ) (overflow : Bool) (read : List (Letter T.Seen))
+            → HasRead T.seen width overflow read self
+            → map (line_items T.seen) lines.items ≡ map marks_items (all_lines (add_units width (units read)))) }
+        ensures joined { IfOk result (λ lines. (width : ℕ) (overflow : Bool) (read : List (Letter T.Seen))
+            → HasRead T.seen width overflow read self → All (IsJoined T.seen) lines.items) }
+    {
+        self.lay_word()?;
+        let NormalText { lines, .. } = self;
+        lines.into_lines()
+    }
+}

@@ -1,0 +1,21 @@
+-- Whether a line has text.
+use Rattle.std.proofs.Common.{◌≡◌, Bool, true, false, ◌||◌, List, [], ◌∷◌, ◌++◌, sym, ap, ◌∙◌, refl}
+use Rattle.tagged_lines.specs.Elements.{Item, character, marker, characters, elements_items, elements_text}
+use Rattle.tagged_lines.specs.declared.tagged_string.TaggedLineElement.{TaggedLineElement}
+use Rattle.tagged_lines.proofs.Joins.{elements_characters}
+use Rattle.preserved_text.specs.Sources.{is_filled}
+use Rattle.preserved_text.specs.Preserved.{has_text}
+
+text_filled : {S : Type 0} (items : List (Item S)) → has_text items ≡ is_filled (characters items)
+text_filled [] = refl
+text_filled (character c tag ∷ rest) = refl
+text_filled (marker name ∷ rest) = text_filled rest
+
+pub filled_text : {T S : Type 0} (seen : T → S) (es : List (TaggedLineElement T))
+    → is_filled (elements_text es) ≡ has_text (elements_items seen es)
+filled_text seen es = sym (text_filled (elements_items seen es) ∙ ap is_filled (elements_characters seen es))
+
+pub has_text-append : {S : Type 0} (xs ys : List (Item S)) → has_text (xs ++ ys) ≡ (has_text xs || has_text ys)
+has_text-append [] ys = refl
+has_text-append (character c tag ∷ xs) ys = refl
+has_text-append (marker name ∷ xs) ys = has_text-append xs ys

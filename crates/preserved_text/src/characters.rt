@@ -1,0 +1,63 @@
+//! The characters of texts and lines.
+ghost use Rattle.std.specs.Prelude.{◌≡◌, ◌<◌, ◌++◌, [], length, IfSome, IsNone, IsUtf8, encode_utf8};
+ghost use Rattle.std.specs.Char.{IsScalar};
+ghost use Rattle.tagged_lines.specs.Tagged.{line_items, line_text};
+ghost use Rattle.preserved_text.specs.Sources.{is_break_point, is_white_space, is_filled};
+ghost use Rattle.preserved_text.specs.Preserved.{has_text};
+
+use tagged_lines::{EqualCopy, TaggedLine};
+
+const ZERO_WIDTH_SPACE: char = '\u{200b}';
+
+const NO_BREAK_SPACE: char = '\u{a0}';
+
+/// White space other than U+00A0.
+pub(crate) fn is_white_space(c: char) -> bool
+    ensures { result ≡ is_white_space c }
+{
+    c.is_whitespace() && c != NO_BREAK_SPACE
+}
+
+/// A character at which a line may break in normal text: U+200B, or white space other than U+00A0.
+pub fn is_break_point(c: char) -> bool
+    ensures { result ≡ is_break_point c }
+{
+    c == ZERO_WIDTH_SPACE || is_white_space(c)
+}
+
+/// The first character of a text, and what stands behind it.
+pub fn first_char(text: &str) -> Option<(char, &str)>
+    ensures first { IfSome result (λ parts. text.now ≡ encode_utf8 parts.0 ++ parts.1.now) }
+    ensures texts { IfSome result (λ parts. IsScalar parts.0 × IsUtf8 parts.1.now) }
+    ensures shorter { IfSome result (λ parts. length parts.1.now < length text.now) }
+    ensures none { IsNone result → text.now ≡ [] }
+{
+    let mut chars = text.chars();
+    let c = chars.next()?;
+    Some((c, chars.as_str()))
+}
+
+/// The last character of a text, and what stands before it.
+pub fn last_char(text: &str) -> Option<(&str, char)>
+    ensures last { IfSome result (λ parts. text.now ≡ parts.0.now ++ encode_utf8 parts.1) }
+    ensures texts { IfSome result (λ parts. IsUtf8 parts.0.now × IsScalar parts.1) }
+    ensures shorter { IfSome result (λ parts. length parts.0.now < length text.now) }
+    ensures none { IsNone result → text.now ≡ [] }
+{
+    let mut chars = text.chars();
+    let c = chars.next_back()?;
+    Some((chars.as_str(), c))
+}
+
+/// Whether the line has a character, also one of no column; markers are none.
+pub fn has_text<T: EqualCopy + Drop>(line: &TaggedLine<T>) -> bool
+    ensures { result ≡ has_text (line_items T.seen line.now) }
+{
+    holds_text(line)
+}
+
+fn holds_text<T>(line: &TaggedLine<T>) -> bool
+    ensures { result ≡ is_filled (line_text line.now) }
+{
+    line.chars().next().is_some()
+}

@@ -1,0 +1,35 @@
+//! The lines of a source line whose white space stays.
+ghost use Rattle.std.specs.Prelude.{◌≡◌, ◌⊎◌, Bool, true, false, not, ◌||◌, List, map, All, IfOk, IfErr, OnOk};
+ghost use Rattle.tagged_lines.specs.Tagged.{line_items, IsJoined};
+ghost use Rattle.preserved_text.specs.Sources.{sources_of, names};
+ghost use Rattle.preserved_text.specs.Preserved.{preserved_lines, preserved_waiting, is_too_wide};
+
+use crate::fault::BlockError;
+use crate::laid::LaidText;
+use crate::piece::Piece;
+use std::alloc::Global;
+use tagged_lines::EqualCopy;
+
+/// The lines of one source line whose white space stays, and the markers that wait for what comes behind it. With `wraps`
+/// lines break at white space too; with `allow_overflow` a character wider than the width stands alone on a line. The
+/// error is `TooNarrow`, or want of memory.
+pub fn lay_preserved<T: EqualCopy + Drop>(
+    alloc: Global,
+    width: usize,
+    allow_overflow: bool,
+    wraps: bool,
+    pieces: &[Piece<T>],
+) -> Result<LaidText<T>, BlockError>
+    ensures lines { IfOk result (λ laid. map (line_items T.seen) laid.lines.items
+        ≡ preserved_lines width wraps (sources_of T.seen pieces.now)) }
+    ensures waiting { IfOk result (λ laid. names laid.waiting.items
+        ≡ preserved_waiting width wraps (sources_of T.seen pieces.now)) }
+    ensures room { OnOk result ((allow_overflow || not (is_too_wide width wraps (sources_of T.seen pieces.now)))
+        ≡ true) }
+    ensures joined { IfOk result (λ laid. All (IsJoined T.seen) laid.lines.items) }
+    ensures narrow { result ≡ Err BlockError.TooNarrow → (allow_overflow ≡ false)
+        × (is_too_wide width wraps (sources_of T.seen pieces.now) ≡ true) }
+    ensures kinds { IfErr result (λ e. (e ≡ BlockError.TooNarrow) ⊎ (e ≡ BlockError.Memory)) }
+{
+    Err(BlockError::Memory)
+}

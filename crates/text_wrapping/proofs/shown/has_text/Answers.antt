@@ -1,7 +1,0 @@
-use Rattle.std.proofs.Common.{◌∙◌}
-use Rattle.tagged_lines.specs.Tagged.{line_elements}
-use Rattle.text_wrapping.proofs.ShownLemmas.{filled_text}
-use Rattle.text_wrapping.proofs.shown.has_text.Goals as goal
-
-pub returns : goal.returns
-returns g c = c.holds_text.ensures ∙ filled_text g.T.EqualCopy.seen (line_elements c.args.line.now)
