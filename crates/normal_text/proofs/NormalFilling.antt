@@ -15,6 +15,7 @@ use Rattle.normal_text.specs.Layout.{Mark, opens, starts, inside, cuttable, mark
 use Rattle.normal_text.specs.Greedy.{Filled, filled, ended, all_lines, add_marks, add_mark}
 use Rattle.normal_text.specs.NormalStates.{HoldsLines, Lays, LaysUnit, LaysWhole, LaysCut, Cuts, ShowsAs, AreGapless, letter_items, space_columns, space_behind, with_room}
 use Rattle.normal_text.specs.declared.filling.Filling.{Filling}
+use Rattle.preserved_text.proofs.ElementLemmas.{next_taken, all_taken}
 use Rattle.normal_text.proofs.NormalItems.{marks_counted, letters_counted, behind_items, items_behind, columns_behind, unit_columns, unit_items, lone_items, lone_columns, cut_shows}
 
 pub if_true : {A : Type 0} (b : Bool) (x y : A) → b ≡ true → (if b then x else y) ≡ x
@@ -366,15 +367,6 @@ cut_unit seen old new space word n word_is high laid =
     }
 
 -- ---- loops
-
-pub next_taken : {A Y : Type 0} (all : List A) (ys : List Y) (y : Y) (x : A)
-    → (length ys < length all) × (x ≡ get_or all (length ys) x) → take (length (ys ++ y ∷ [])) all ≡ take
-    (length ys) all ++ x ∷ []
-next_taken all ys y x h = ap (λ n. take n all) (length_push ys y) ∙ take_more all (length ys) x h.0
-    ∙ ap (λ e. take (length ys) all ++ e ∷ []) (sym h.1)
-
-pub all_taken : {A Y : Type 0} (all : List A) (ys : List Y) → length ys ≡ length all → take (length ys) all ≡ all
-all_taken all ys h = take_all (length ys) all (omega (arith, h))
 
 pub next_letter : {T S Y : Type 0} (seen : T → S) (old mid new : Filling T) (cs : List ℕ) (ys : List Y) (y : Y) (c : ℕ)
     (tag : S) → (length ys < length cs) × (c ≡ get_or cs (length ys) c)

@@ -15,7 +15,8 @@ use Rattle.normal_text.specs.Filling.{Reading, reading, read_letter, read_letter
 use Rattle.normal_text.specs.NormalStates.{HoldsLines, LaysUnit, HoldsReading, Moves, Reads, MeetsWider, HasRead, HasWider, AllHaveRoom, has_room, word_read, space_read, end_read, lay_read}
 use Rattle.normal_text.specs.declared.normal.NormalText.{NormalText}
 use Rattle.normal_text.proofs.NormalItems.{letters_counted}
-use Rattle.normal_text.proofs.NormalFilling.{if_true, if_false, below, next_taken}
+use Rattle.preserved_text.proofs.ElementLemmas.{next_taken}
+use Rattle.normal_text.proofs.NormalFilling.{if_true, if_false, below}
 
 -- ---- a word is laid
 

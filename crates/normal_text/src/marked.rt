@@ -11,7 +11,7 @@ use crate::marked_tag::MarkedTag;
 use crate::normal::NormalText;
 use crate::shown::{Settled, settle};
 use crate::word_ends::{ends_in_word, from_word};
-use preserved_text::{BlockError, LaidText, Piece};
+use preserved_text::{BlockError, LaidText, Piece, names_before};
 use std::alloc::{AllocError, Global};
 use tagged_lines::{EqualCopy, TaggedLine, TaggedLineElement};
 
@@ -118,37 +118,6 @@ impl<T: EqualCopy + Drop> MarkedText<T> {
         let waiting = names_before(&rest, waiting)?;
         Ok(LaidText { lines, waiting })
     }
-}
-
-/// The names of a line's markers before others.
-fn names_before<T: EqualCopy + Drop>(
-    line: &TaggedLine<T>,
-    others: Vec<String>,
-) -> Result<Vec<String>, AllocError>
-    ensures { IfOk result (λ all. names all.items
-        ≡ markers_of (line_items T.seen line.now) ++ names others.items) }
-{
-    let mut all = Vec::new(*others.allocator());
-    for element in line.iter() {
-        push_name(&mut all, element)?;
-    }
-    let mut others = others;
-    all.append(&mut others)?;
-    Ok(all)
-}
-
-/// Adds the name of an element that is a marker.
-fn push_name<T: EqualCopy>(
-    all: &mut Vec<String>,
-    element: &TaggedLineElement<T>,
-) -> Result<(), AllocError>
-    ensures { OnOk result (names all.new.items
-        ≡ names all.old.items ++ markers_of (element_items T.seen element.now)) }
-{
-    if let TaggedLineElement::FragmentStart(name) = element {
-        all.push(String::from_str(*name.allocator(), name.as_str())?)?;
-    }
-    Ok(())
 }
 
 /// Adds a letter without columns for each name.

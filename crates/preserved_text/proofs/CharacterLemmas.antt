@@ -1,5 +1,7 @@
 -- Whether a line has text.
-use Rattle.std.proofs.Common.{◌≡◌, Bool, true, false, ◌||◌, List, [], ◌∷◌, ◌++◌, sym, ap, ◌∙◌, refl}
+use Rattle.std.proofs.Common.{◌≡◌, Bool, true, false, ◌||◌, ℕ, List, [], ◌∷◌, ◌++◌, sym, ap, ◌∙◌, refl}
+use Rattle.std.specs.Prelude.{Option, unwrap_or}
+use Rattle.tagged_lines.specs.Columns.{columns_of, width_of}
 use Rattle.tagged_lines.specs.Elements.{Item, character, marker, characters, elements_items, elements_text}
 use Rattle.tagged_lines.specs.declared.tagged_string.TaggedLineElement.{TaggedLineElement}
 use Rattle.tagged_lines.proofs.Joins.{elements_characters}
@@ -19,3 +21,9 @@ pub has_text-append : {S : Type 0} (xs ys : List (Item S)) → has_text (xs ++ y
 has_text-append [] ys = refl
 has_text-append (character c tag ∷ xs) ys = refl
 has_text-append (marker name ∷ xs) ys = has_text-append xs ys
+
+-- ---- the columns of a character
+
+pub columns_read : (x w : ℕ) (o : Option ℕ) → o ≡ columns_of x → w ≡ unwrap_or o 0 → w ≡ width_of x
+unfolding width_of
+columns_read x w o eo ew = ew ∙ ap (λ p. unwrap_or p 0) eo

@@ -5,3 +5,7 @@ pub mod LayingMarkers
 pub mod LayingPlain
 pub mod LayingWidth
 pub mod CharacterLemmas
+pub mod ElementLemmas
+pub mod TrimLemmas
+pub mod ReadingLemmas
+pub mod PassLaw

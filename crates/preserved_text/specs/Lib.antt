@@ -4,4 +4,6 @@ pub mod Pass
 pub mod Preserved
 pub mod RowWords
 pub mod Rows
+pub mod SourceLines
 pub mod Sources
+pub mod Trimming

@@ -1,15 +1,23 @@
 //! The characters of texts and lines.
 ghost use Rattle.std.specs.Prelude.{◌≡◌, ◌<◌, ◌++◌, [], length, IfSome, IsNone, IsUtf8, encode_utf8};
 ghost use Rattle.std.specs.Char.{IsScalar};
+ghost use Rattle.tagged_lines.specs.Columns.{width_of};
 ghost use Rattle.tagged_lines.specs.Tagged.{line_items, line_text};
 ghost use Rattle.preserved_text.specs.Sources.{is_break_point, is_white_space, is_filled};
 ghost use Rattle.preserved_text.specs.Preserved.{has_text};
 
-use tagged_lines::{EqualCopy, TaggedLine};
+use tagged_lines::{Columns, EqualCopy, TaggedLine, UnicodeColumns};
 
 const ZERO_WIDTH_SPACE: char = '\u{200b}';
 
 const NO_BREAK_SPACE: char = '\u{a0}';
+
+/// The columns of a character, 0 where it has no width.
+pub(crate) fn width_of(c: char) -> usize
+    ensures { result ≡ width_of c }
+{
+    UnicodeColumns::columns(c).unwrap_or(0)
+}
 
 /// White space other than U+00A0.
 pub(crate) fn is_white_space(c: char) -> bool

@@ -7,6 +7,7 @@ ghost use Rattle.preserved_text.specs.Preserved.{preserved_lines, preserved_wait
 use crate::fault::BlockError;
 use crate::laid::LaidText;
 use crate::piece::Piece;
+use crate::source_line::SourceLine;
 use std::alloc::Global;
 use tagged_lines::EqualCopy;
 
@@ -31,5 +32,11 @@ pub fn lay_preserved<T: EqualCopy + Drop>(
         × (is_too_wide width wraps (sources_of T.seen pieces.now) ≡ true) }
     ensures kinds { IfErr result (λ e. (e ≡ BlockError.TooNarrow) ⊎ (e ≡ BlockError.Memory)) }
 {
-    Err(BlockError::Memory)
+    let mut line = SourceLine::new(alloc, width, wraps);
+    line.read_line(pieces)?;
+    line.finish()?;
+    if line.is_refused(allow_overflow) {
+        return Err(BlockError::TooNarrow);
+    }
+    line.into_laid(alloc)
 }

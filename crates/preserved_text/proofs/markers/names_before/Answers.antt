@@ -5,8 +5,8 @@ use Rattle.std.proofs.lemmas.Iterator.Consumers.{YieldsList-turn, YieldsList-end
 use Rattle.tagged_lines.specs.Tagged.{line_elements}
 use Rattle.preserved_text.specs.Preserved.{markers_of}
 use Rattle.preserved_text.specs.Sources.{names}
-use Rattle.normal_text.proofs.ShownLemmas.{next_made, all_made, markers_of-append}
-use Rattle.normal_text.proofs.marked.names_before.Goals as goal
+use Rattle.preserved_text.proofs.ElementLemmas.{next_made, all_made, markers_of-append}
+use Rattle.preserved_text.proofs.markers.names_before.Goals as goal
 
 pub loop-element-preserved : goal.loop-element-preserved
 loop-element-preserved g c =

@@ -2,7 +2,7 @@ use Rattle.std.proofs.Common.{◌≡◌, ◌++◌, [], length, take}
 use Rattle.tagged_lines.specs.Tagged.{elements_items, line_elements}
 use Rattle.preserved_text.specs.Preserved.{markers_of}
 use Rattle.preserved_text.specs.Sources.{names}
-use Rattle.normal_text.proofs.marked.names_before.Given as goal
+use Rattle.preserved_text.proofs.markers.names_before.Given as goal
 
 abbrev pub invariant-loop-element : goal.invariant-loop-element
 invariant-loop-element g l =

@@ -2,8 +2,8 @@ use Rattle.std.proofs.Common.{◌++◌, sym, ap, ◌∙◌, append-nil, chars, s
 use Rattle.tagged_lines.specs.Tagged.{element_items}
 use Rattle.preserved_text.specs.Preserved.{markers_of}
 use Rattle.preserved_text.specs.Sources.{names}
-use Rattle.normal_text.proofs.ShownLemmas.{markers_of-tagged}
-use Rattle.normal_text.proofs.marked.push_name.Goals as goal
+use Rattle.preserved_text.proofs.ElementLemmas.{markers_of-tagged}
+use Rattle.preserved_text.proofs.markers.push_name.Goals as goal
 
 pub returns-in_default : goal.returns-in_default
 returns-in_default g c =

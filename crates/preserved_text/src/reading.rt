@@ -1,0 +1,151 @@
+//! The reading of a source line from its pieces.
+ghost use Rattle.std.specs.Prelude.{◌≡◌, chars, OnOk, Bool, IsUtf8, List};
+ghost use Rattle.preserved_text.specs.Sources.{sourced, piece_sources, sources_of, is_filled};
+ghost use Rattle.preserved_text.specs.Preserved.{trimmed, has_solid, is_solid, kind_of};
+ghost use Rattle.preserved_text.specs.Pass.{read_all};
+ghost use Rattle.preserved_text.specs.Trimming.{has_solid_text, solid_text, trimmed_each, StayWhole};
+
+use crate::characters::{first_char, last_char};
+use crate::kinds::{CharacterKind, kind_of};
+use crate::piece::Piece;
+use crate::source_line::SourceLine;
+use std::alloc::AllocError;
+use tagged_lines::EqualCopy;
+
+impl<T: EqualCopy + Drop> SourceLine<T> {
+    ghost use Rattle.preserved_text.specs.Rows.{HasJoinedRows};
+    ghost use Rattle.preserved_text.specs.SourceLines.{pass_of};
+
+    /// Reads a source line without the white space at its end.
+    pub(crate) fn read_line(&mut self, pieces: &[Piece<T>]) -> Result<(), AllocError>
+        ensures pass { OnOk result (pass_of T.seen self.new ≡ read_all (pass_of T.seen self.old)
+            (trimmed self.old.width self.old.wraps (sources_of T.seen pieces.now))) }
+        ensures joined { HasJoinedRows T.seen self.old.rows → HasJoinedRows T.seen self.new.rows }
+    {
+        let whole = whole_pieces(pieces, self.width, self.wraps);
+        let (front, back) = pieces.split_at(whole);
+        self.read_pieces(front)?;
+        self.read_trimmed(back)
+    }
+
+    fn read_pieces(&mut self, pieces: &[Piece<T>]) -> Result<(), AllocError>
+        ensures pass { OnOk result (pass_of T.seen self.new
+            ≡ read_all (pass_of T.seen self.old) (sources_of T.seen pieces.now)) }
+        ensures joined { HasJoinedRows T.seen self.old.rows → HasJoinedRows T.seen self.new.rows }
+    {
+        let mut rest = pieces;
+        while let Some((first, others)) = rest.split_first() {
+            self.read_piece(first)?;
+            rest = others;
+        }
+        Ok(())
+    }
+
+    fn read_piece(&mut self, piece: &Piece<T>) -> Result<(), AllocError>
+        ensures pass { OnOk result (pass_of T.seen self.new
+            ≡ read_all (pass_of T.seen self.old) (piece_sources T.seen piece.now)) }
+        ensures joined { HasJoinedRows T.seen self.old.rows → HasJoinedRows T.seen self.new.rows }
+    {
+        match piece {
+            Piece::Text(piece) => self.read_text(piece.text.as_str(), &piece.main_tag, &piece.wrap_tag),
+            Piece::Fragment(name) => self.read_marker(name.as_str()),
+        }
+    }
+
+    /// Reads the pieces, each without the white space at its end.
+    fn read_trimmed(&mut self, pieces: &[Piece<T>]) -> Result<(), AllocError>
+        ensures pass { OnOk result (pass_of T.seen self.new ≡ read_all (pass_of T.seen self.old)
+            (trimmed_each T.seen self.old.width self.old.wraps pieces.now)) }
+        ensures joined { HasJoinedRows T.seen self.old.rows → HasJoinedRows T.seen self.new.rows }
+    {
+        let mut rest = pieces;
+        while let Some((first, others)) = rest.split_first() {
+            self.read_trimmed_piece(first)?;
+            rest = others;
+        }
+        Ok(())
+    }
+
+    fn read_trimmed_piece(&mut self, piece: &Piece<T>) -> Result<(), AllocError>
+        ensures pass { OnOk result (pass_of T.seen self.new ≡ read_all (pass_of T.seen self.old)
+            (trimmed self.old.width self.old.wraps (piece_sources T.seen piece.now))) }
+        ensures joined { HasJoinedRows T.seen self.old.rows → HasJoinedRows T.seen self.new.rows }
+    {
+        match piece {
+            Piece::Text(piece) => {
+                self.read_trimmed_text(piece.text.as_str(), &piece.main_tag, &piece.wrap_tag)
+            }
+            Piece::Fragment(name) => self.read_marker(name.as_str()),
+        }
+    }
+
+    fn read_trimmed_text(&mut self, text: &str, main_tag: &T, wrap_tag: &T) -> Result<(), AllocError>
+        ensures pass { OnOk result (pass_of T.seen self.new ≡ read_all (pass_of T.seen self.old)
+            (trimmed self.old.width self.old.wraps
+            (sourced (chars text.now) (T.seen main_tag.now) (T.seen wrap_tag.now)))) }
+        ensures joined { HasJoinedRows T.seen self.old.rows → HasJoinedRows T.seen self.new.rows }
+    {
+        self.read_text(solid_front(text, self.width, self.wraps), main_tag, wrap_tag)
+    }
+
+    fn read_text(&mut self, text: &str, main_tag: &T, wrap_tag: &T) -> Result<(), AllocError>
+        ensures pass { OnOk result (pass_of T.seen self.new ≡ read_all (pass_of T.seen self.old)
+            (sourced (chars text.now) (T.seen main_tag.now) (T.seen wrap_tag.now))) }
+        ensures joined { HasJoinedRows T.seen self.old.rows → HasJoinedRows T.seen self.new.rows }
+    {
+        let mut rest = text;
+        while let Some((c, after)) = first_char(rest) {
+            self.read_char(c, main_tag, wrap_tag)?;
+            rest = after;
+        }
+        Ok(())
+    }
+}
+
+/// How many pieces of a source line stay whole: all before the last that has a character that is shown.
+fn whole_pieces<T: EqualCopy>(pieces: &[Piece<T>], width: usize, wraps: bool) -> usize
+    ensures { StayWhole T.seen width wraps pieces.now result }
+{
+    let mut rest = pieces;
+    while let Some((last, front)) = rest.split_last() {
+        if has_solid(last, width, wraps) {
+            return front.len();
+        }
+        rest = front;
+    }
+    0
+}
+
+/// Whether the piece has a character that is shown.
+fn has_solid<T: EqualCopy>(piece: &Piece<T>, width: usize, wraps: bool) -> bool
+    ensures { result ≡ has_solid width wraps (piece_sources T.seen piece.now) }
+{
+    match piece {
+        Piece::Text(piece) => !solid_front(piece.text.as_str(), width, wraps).is_empty(),
+        Piece::Fragment(_) => false,
+    }
+}
+
+/// The text without the characters at its end that are not shown.
+fn solid_front(text: &str, width: usize, wraps: bool) -> &str
+    ensures front { chars result.now ≡ solid_text width wraps (chars text.now) }
+    ensures some { is_filled result.now ≡ has_solid_text width wraps (chars text.now) }
+{
+    let mut rest = text;
+    while let Some((before, c)) = last_char(rest) {
+        if is_solid(c, width, wraps) {
+            return rest;
+        }
+        rest = before;
+    }
+    rest
+}
+
+fn is_solid(c: char, width: usize, wraps: bool) -> bool
+    ensures { result ≡ is_solid (kind_of width wraps c) }
+{
+    match kind_of(c, width, wraps) {
+        CharacterKind::Solid => true,
+        CharacterKind::White | CharacterKind::Tab | CharacterKind::Cut | CharacterKind::Nothing => false,
+    }
+}
