@@ -1,7 +1,9 @@
+pub mod CharacterLemmas
 pub mod ColumnLemmas
+pub mod DropLemmas
 pub mod LayingCharacters
 pub mod LayingKept
 pub mod LayingMarkers
 pub mod LayingPlain
 pub mod LayingWidth
-pub mod CharacterLemmas
+pub mod RowLemmas
