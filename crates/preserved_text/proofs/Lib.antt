@@ -1,4 +1,6 @@
+pub mod CharacterLemmas
 pub mod ColumnLemmas
+pub mod DropLemmas
 pub mod LayingCharacters
 pub mod LayingKept
 pub mod LayingMarkers
@@ -9,3 +11,4 @@ pub mod ElementLemmas
 pub mod TrimLemmas
 pub mod ReadingLemmas
 pub mod PassLaw
+pub mod RowLemmas

@@ -251,9 +251,9 @@ fn push_dropped<T: EqualCopy + Drop>(
         ≡ line_items T.seen line.old ++ drop dropped (line_items T.seen items.now)) }
     ensures joined { IsJoined T.seen line.old → IsJoined T.seen line.new }
 {
-    let mut dropped = dropped;
+    let mut left = dropped;
     for element in items.iter() {
-        dropped = push_element_dropped(line, element, dropped)?;
+        left = push_element_dropped(line, element, left)?;
     }
     Ok(())
 }
@@ -302,15 +302,15 @@ fn push_string_dropped<T: EqualCopy + Drop>(
     ensures left { IfOk result (λ left. left ≡ dropped - length (chars (string_bytes string.now.s))) }
     ensures joined { IsJoined T.seen line.old → IsJoined T.seen line.new }
 {
-    let mut dropped = dropped;
+    let mut left = dropped;
     let mut rest = string.s.as_str();
     while let Some((_, after)) = first_char(rest) {
-        if dropped == 0 {
+        if left == 0 {
             line.push_str(rest, &string.tag)?;
             return Ok(0);
         }
-        dropped -= 1;
+        left -= 1;
         rest = after;
     }
-    Ok(dropped)
+    Ok(left)
 }
