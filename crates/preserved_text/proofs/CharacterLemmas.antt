@@ -17,11 +17,6 @@ pub filled_text : {T S : Type 0} (seen : T → S) (es : List (TaggedLineElement 
     → is_filled (elements_text es) ≡ has_text (elements_items seen es)
 filled_text seen es = sym (text_filled (elements_items seen es) ∙ ap is_filled (elements_characters seen es))
 
-pub has_text-append : {S : Type 0} (xs ys : List (Item S)) → has_text (xs ++ ys) ≡ (has_text xs || has_text ys)
-has_text-append [] ys = refl
-has_text-append (character c tag ∷ xs) ys = refl
-has_text-append (marker name ∷ xs) ys = has_text-append xs ys
-
 -- ---- the columns of a character
 
 pub columns_read : (x w : ℕ) (o : Option ℕ) → o ≡ columns_of x → w ≡ unwrap_or o 0 → w ≡ width_of x

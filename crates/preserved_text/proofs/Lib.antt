@@ -6,7 +6,6 @@ pub mod LayingKept
 pub mod LayingMarkers
 pub mod LayingPlain
 pub mod LayingWidth
-pub mod CharacterLemmas
 pub mod ElementLemmas
 pub mod TrimLemmas
 pub mod ReadingLemmas

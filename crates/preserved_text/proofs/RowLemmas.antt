@@ -1,7 +1,7 @@
 -- Lines that are being laid, item by item.
 use Rattle.std.proofs.Common.{◌≡◌, ℕ, ◌<◌, ◌≤◌, Bool, true, false, ◌+◌, ◌-◌, List, [], ◌∷◌, ◌++◌, map, fold, length, take, get_or, sym, ap, ◌∙◌, refl, subst, arith}
 use Rattle.std.specs.Prelude.{Option, unwrap_or, nat_le, if◌then◌else◌}
-use Rattle.std.proofs.lemmas.List.{append-nil, map-append, length_push, take_more, take_all}
+use Rattle.std.proofs.lemmas.List.{append-nil, map-append}
 use Rattle.std.proofs.lemmas.List.Sums.{fold-append}
 use Rattle.std.proofs.lemmas.Bool.Decides.{nat_tests}
 use Rattle.tagged_lines.specs.Columns.{columns_of, width_of}
@@ -10,11 +10,7 @@ use Rattle.tagged_lines.specs.declared.tagged_string.TaggedLineElement.{TaggedLi
 use Rattle.tagged_lines.proofs.Joins.{elements_items-append}
 use Rattle.preserved_text.specs.Preserved.{Laying, has_text, line_text, line_taken, fresh, with_room, written, without_spaces, item_columns, put, remaining, broken_anywhere}
 use Rattle.preserved_text.proofs.ColumnLemmas.{le_is_true}
-
--- a character's columns, read from the table
-pub columns_read : (x w : ℕ) (o : Option ℕ) → o ≡ columns_of x → w ≡ unwrap_or o 0 → w ≡ width_of x
-unfolding width_of
-columns_read x w o eo ew = ew ∙ ap (λ p. unwrap_or p 0) eo
+use Rattle.preserved_text.proofs.ElementLemmas.{next_taken, all_taken}
 
 pub put_behind : {S : Type 0} (width n : ℕ) (old mid : Laying S) (line tail : List (Item S)) (item : Item S)
     → n ≡ item_columns item → mid ≡ with_room width n old → tail ≡ [] → line ≡ line_text mid ++ item ∷ []
@@ -25,15 +21,6 @@ put_behind width n old mid line tail item columns room none pushed =
     ∙ ap (λ m. written m (item ∷ [])) (room ∙ ap (λ k. with_room width k old) columns)
 
 -- ---- loops
-
-pub next_taken : {A Y : Type 0} (all : List A) (ys : List Y) (y : Y) (x : A)
-    → (length ys < length all) × (x ≡ get_or all (length ys) x)
-    → take (length (ys ++ y ∷ [])) all ≡ take (length ys) all ++ x ∷ []
-next_taken all ys y x h = ap (λ n. take n all) (length_push ys y) ∙ take_more all (length ys) x h.0
-    ∙ ap (λ e. take (length ys) all ++ e ∷ []) (sym h.1)
-
-pub all_taken : {A Y : Type 0} (all : List A) (ys : List Y) → length ys ≡ length all → take (length ys) all ≡ all
-all_taken all ys h = take_all (length ys) all (omega (arith, h))
 
 -- the items of the elements so far, and of one more
 pub items_taken : {T S Y : Type 0} (seen : T → S) (es : List (TaggedLineElement T)) (ys : List Y) (y : Y)

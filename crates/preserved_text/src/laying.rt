@@ -4,11 +4,9 @@ ghost use Rattle.tagged_lines.specs.Tagged.{line_items, element_items, character
 ghost use Rattle.preserved_text.specs.Preserved.{nothing_laid, has_text, line_text, line_taken, fresh, with_room, written, without_spaces, put, put_all, put_space, space, lay_blank, chosen};
 
 use crate::breaking::push_spaces;
-use crate::characters::has_text;
+use crate::characters::{has_text, width_of};
 use std::alloc::{AllocError, Global};
-use tagged_lines::{
-    Columns, EqualCopy, TaggedLine, TaggedLineElement, TaggedString, UnicodeColumns,
-};
+use tagged_lines::{EqualCopy, TaggedLine, TaggedLineElement, TaggedString};
 
 /// The lines of a source line so far.
 #[derive(Drop)]
@@ -102,7 +100,7 @@ impl<T: EqualCopy + Drop> Rows<T> {
             ≡ put width (laying_of T.seen self.old) (character c (T.seen tag.now))) }
         ensures joined { HasJoinedRows T.seen self.old → HasJoinedRows T.seen self.new }
     {
-        self.make_room(width, UnicodeColumns::columns(c).unwrap_or(0))?;
+        self.make_room(width, width_of(c))?;
         self.line.push_line(&self.tail)?;
         self.tail.clear();
         self.line.push_char(c, tag)
