@@ -1,5 +1,5 @@
 -- A page's text: what its bytes read as, with the byte order mark and line ends taken out.
-use Rattle.std.specs.Prelude.{◌≡◌, ◌≢◌, ℕ, Bool, true, false, ◌==◌, List, [], ◌∷◌, ◌++◌, if◌then◌else◌}
+use Rattle.std.specs.Prelude.{◌≡◌, ℕ, Bool, true, false, ◌==◌, List, [], ◌∷◌, ◌++◌, if◌then◌else◌}
 use Rattle.html_lexemes.specs.LineEnds.{without_mark, lines_ended, line_feed}
 
 -- A decoded text without a first U+FEFF, each CR LF, lone CR and lone LF as one LF.
@@ -28,13 +28,3 @@ continued true true rest = lines_ended (without_line_feed rest)
 abbrev pub without_first : ℕ → List ℕ → List ℕ
 without_first first [] = []
 without_first first (c ∷ cs) = if c == first then cs else c ∷ cs
-
--- the text does not hold this character
-abbrev pub Lacks : ℕ → List ℕ → Type 0
-Lacks mark [] = Unit {0}
-Lacks mark (c ∷ cs) = (c ≢ mark) × Lacks mark cs
-
--- what stands in front of the first mark of a text, and behind it
-pub record IsCutAt (mark : ℕ) (text front back : List ℕ) : Type 0 where
-  pub whole : text ≡ front ++ mark ∷ back
-  pub lacks : Lacks mark front

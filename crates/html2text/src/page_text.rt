@@ -1,7 +1,8 @@
 ghost use Rattle.std.specs.Prelude.{◌≡◌, ℕ, ◌<◌, ◌≤◌, ◌++◌, List, [], ◌∷◌, true, false, length, chars, string_bytes, OnOk, IfOk, IfSome, IsNone, IsUtf8};
 ghost use Rattle.html_lexemes.specs.LineEnds.{lines_ended};
-ghost use Rattle.html2text.specs.PageText.{normalized, continued, without_first, Lacks, IsCutAt};
+ghost use Rattle.html2text.specs.PageText.{normalized, continued, without_first};
 
+use preserved_text::cut_at;
 use std::alloc::{AllocError, Global};
 use std::marker::Model;
 
@@ -107,17 +108,6 @@ fn without_first(text: &str, first: char) -> &str
     ensures no_longer { length result.now ≤ length text.now }
 {
     text.strip_prefix(first).unwrap_or(text)
-}
-
-/// What stands in front of the first such ASCII character, and behind it.
-pub(crate) fn cut_at(text: &str, mark: char) -> Option<(&str, &str)>
-    requires { mark < 128 }
-    ensures parts { IfSome result (λ parts. IsCutAt mark (chars text.now) (chars parts.0.now) (chars parts.1.now)) }
-    ensures none { IsNone result → Lacks mark (chars text.now) }
-    ensures texts { IfSome result (λ parts. IsUtf8 parts.0.now × IsUtf8 parts.1.now) }
-    ensures shorter { IfSome result (λ parts. length parts.1.now < length text.now) }
-{
-    text.split_once(mark)
 }
 
 // The definition, computed on worked rows.

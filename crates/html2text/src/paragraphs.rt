@@ -1,11 +1,11 @@
 ghost use Rattle.std.specs.Prelude.{◌≡◌, ◌≢◌, ◌⊎◌, ℕ, ◌<◌, ◌≤◌, List, [], ◌∷◌, ◌++◌, length, chars, map, string_bytes, Err, IfOk, OnOk, IfErr, IfSome, IsNone, IsUtf8, Contains, codes};
 ghost use Rattle.std.specs.Char.{IsScalar};
 ghost use Rattle.html_lexemes.specs.References.{basic_references};
-ghost use Rattle.html2text.specs.PageText.{Lacks};
+ghost use Rattle.preserved_text.specs.Cuts.{Lacks};
 ghost use Rattle.html2text.specs.ParagraphPage.{IsParagraphPage, HasOneList, IsText, BeginsWithName};
 
 use crate::error::Error;
-use crate::page_text::cut_at;
+use preserved_text::cut_at;
 use std::alloc::Global;
 
 /// The texts of a page's paragraphs, references replaced. A page that is no list of paragraphs with

@@ -11,3 +11,4 @@ pub mod TrimLemmas
 pub mod ReadingLemmas
 pub mod PassLaw
 pub mod RowLemmas
+pub mod TextCuts

@@ -1,3 +1,4 @@
+pub mod Cuts
 pub mod LawWords
 pub mod Modes
 pub mod Pass

@@ -1,9 +1,10 @@
 //! The characters of texts and lines.
-ghost use Rattle.std.specs.Prelude.{◌≡◌, ◌<◌, ◌++◌, [], length, IfSome, IsNone, IsUtf8, encode_utf8};
+ghost use Rattle.std.specs.Prelude.{◌≡◌, ◌<◌, ◌++◌, [], length, chars, IfSome, IsNone, IsUtf8, encode_utf8};
 ghost use Rattle.std.specs.Char.{IsScalar};
 ghost use Rattle.tagged_lines.specs.Columns.{width_of};
 ghost use Rattle.tagged_lines.specs.Tagged.{line_items, line_text};
 ghost use Rattle.preserved_text.specs.Sources.{is_break_point, is_white_space, is_filled};
+ghost use Rattle.preserved_text.specs.Cuts.{Lacks, IsCutAt};
 ghost use Rattle.preserved_text.specs.Preserved.{has_text};
 
 use tagged_lines::{Columns, EqualCopy, TaggedLine, UnicodeColumns};
@@ -55,6 +56,17 @@ pub fn last_char(text: &str) -> Option<(&str, char)>
     let mut chars = text.chars();
     let c = chars.next_back()?;
     Some((chars.as_str(), c))
+}
+
+/// What stands in front of the first such ASCII character, and behind it.
+pub fn cut_at(text: &str, mark: char) -> Option<(&str, &str)>
+    requires { mark < 128 }
+    ensures parts { IfSome result (λ parts. IsCutAt mark (chars text.now) (chars parts.0.now) (chars parts.1.now)) }
+    ensures none { IsNone result → Lacks mark (chars text.now) }
+    ensures texts { IfSome result (λ parts. IsUtf8 parts.0.now × IsUtf8 parts.1.now) }
+    ensures shorter { IfSome result (λ parts. length parts.1.now < length text.now) }
+{
+    text.split_once(mark)
 }
 
 /// Whether the line has a character, also one of no column; markers are none.

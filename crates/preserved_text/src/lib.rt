@@ -16,7 +16,7 @@ mod rows;
 mod source_line;
 mod white_space;
 
-pub use characters::{first_char, has_text, is_break_point, last_char};
+pub use characters::{cut_at, first_char, has_text, is_break_point, last_char};
 pub use fault::{BlockError, TooNarrow};
 pub use laid::LaidText;
 pub use laws::{

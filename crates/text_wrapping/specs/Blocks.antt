@@ -1,12 +1,18 @@
 -- Blocks of text: what a block holds, and what each call makes of it.
-use Rattle.std.specs.Prelude.{ℕ, ◌-◌, Bool, not, ◌&&◌, List, [], ◌∷◌, ◌++◌, Option, None, Some, All, map, replicate, if◌then◌else◌}
+use Rattle.std.specs.Prelude.{ℕ, ◌-◌, ◌==◌, Bool, not, ◌&&◌, List, [], ◌∷◌, ◌++◌, Option, None, Some, All, map, replicate, if◌then◌else◌}
 use Rattle.std.specs.Option.{option_map, option_and_then}
 use Rattle.tagged_lines.specs.Tagged.{Item, character, line_items, line_columns, IsJoined}
 use Rattle.preserved_text.specs.Sources.{Source, letter, fragment, fragments, sources_of}
+use Rattle.preserved_text.specs.Preserved.{names_of}
+use Rattle.preserved_text.specs.Modes.{is_preserved, is_same_mode}
 use Rattle.preserved_text.specs.declared.white_space.WhiteSpace.{WhiteSpace}
 use Rattle.preserved_text.specs.declared.white_space.WhiteSpace.TheVariants.{Normal}
 use Rattle.text_wrapping.specs.Lines.{lines_in, waiting_in, is_wide_in}
 use Rattle.text_wrapping.specs.declared.block.WrappedBlock.{WrappedBlock}
+
+-- LF
+abbrev pub line_feed : ℕ
+line_feed = 0xA
 
 -- a line filled with spaces up to the width; a wider one stays
 abbrev pub padded : {S : Type 0} → ℕ → Option S → List (Item S) → List (Item S)
@@ -47,26 +53,47 @@ is_too_narrow b = not b.overflow && is_wide_in b.mode b.width b.source
 abbrev pub ended : {S : Type 0} → Block S → Option (Block S)
 ended b = if is_too_narrow b then None else Some (lines_behind b (lines_in b.mode b.width b.source))
 
+-- an ended source line of which nothing is shown is an empty line
+abbrev pub lines_or_empty : {A : Type 0} → List (List A) → List (List A)
+lines_or_empty [] = [] ∷ []
+lines_or_empty (line ∷ lines) = line ∷ lines
+
+abbrev pub line_ended : {S : Type 0} → Block S → Option (Block S)
+line_ended b =
+    if is_too_narrow b then None else Some (lines_behind b (lines_or_empty (lines_in b.mode b.width b.source)))
+
+abbrev pub with_letter : {S : Type 0} → S → S → ℕ → Block S → Block S
+with_letter main further c b = record b { source = b.source ++ letter c main further ∷ [] }
+
+-- Where white space is preserved, LF ends the source line; so what is held is one source line.
 abbrev pub took : {S : Type 0} → S → S → ℕ → Block S → Option (Block S)
-took main further c b = Some (record b { source = b.source ++ letter c main further ∷ [] })
+took main further c b =
+    if is_preserved b.mode && (c == line_feed) then line_ended b else Some (with_letter main further c b)
 
 abbrev pub took_all : {S : Type 0} → S → S → List ℕ → Block S → Option (Block S)
 took_all main further [] b = Some b
 took_all main further (c ∷ cs) b = option_and_then (took_all main further cs) (took main further c b)
 
+abbrev pub with_mode : {S : Type 0} → WhiteSpace → Block S → Block S
+with_mode mode b = record b { mode = mode }
+
+-- the text so far ends where it is of another mode
+abbrev pub in_mode : {S : Type 0} → WhiteSpace → Block S → Option (Block S)
+in_mode mode b = if is_same_mode mode b.mode then Some b else option_map (with_mode mode) (ended b)
+
 -- text is added; an empty one changes nothing
 abbrev pub added : {S : Type 0} → WhiteSpace → List ℕ → S → S → Block S → Option (Block S)
-added mode cs main further b = took_all main further cs b
+added mode [] main further b = Some b
+added mode (c ∷ cs) main further b = option_and_then (took_all main further (c ∷ cs)) (in_mode mode b)
 
 abbrev pub marked_by : {S : Type 0} → List ℕ → Block S → Block S
 marked_by name b = record b { source = b.source ++ fragment name ∷ [] }
 
--- texts are laid, and these markers wait
-abbrev pub laid_behind : {S : Type 0} → List (List (Item S)) → List (List ℕ) → Block S → Block S
-laid_behind lines waiting b = record b {
-  lines = b.lines ++ map (padded b.width b.padding) lines;
-  source = fragments waiting;
-}
+abbrev pub with_lines : {S : Type 0} → List (List (Item S)) → Block S → Block S
+with_lines lines b = record b { lines = b.lines ++ map (padded b.width b.padding) lines }
+
+abbrev pub with_source : {S : Type 0} → List (Source S) → Block S → Block S
+with_source source b = record b { source = source }
 
 abbrev pub behind_sources : {S : Type 0} → List (Source S) → Block S → Block S
 behind_sources sources b = record b { source = b.source ++ sources }
@@ -87,6 +114,13 @@ block_of seen block = record {
 
 abbrev pub lines_of : {S : Type 0} → Block S → List (List (Item S))
 lines_of b = b.lines
+
+abbrev pub without_source : {S : Type 0} → Block S → Block S
+without_source b = record b { source = [] }
+
+-- the text so far ends, and the markers behind its last word are taken off
+abbrev pub fragments_taken : {S : Type 0} → Block S → Option (List (List ℕ) × Block S)
+fragments_taken b = option_map (λ e. (names_of e.source, without_source e)) (ended b)
 
 -- the lines of all of a block's text
 abbrev pub ended_lines : {S : Type 0} → Block S → Option (List (List (Item S)))

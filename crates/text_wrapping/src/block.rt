@@ -1,12 +1,15 @@
 //! Blocks of text.
-ghost use Rattle.std.specs.Prelude.{◌≡◌, ◌⊎◌, ℕ, Bool, true, false, List, [], Option, None, Some, map, chars, string_bytes, is_err, All, IfOk, IfErr, OnOk, if◌then◌else◌};
-ghost use Rattle.std.specs.Option.{option_map};
+ghost use Rattle.std.specs.Prelude.{◌++◌, ◌≡◌, ◌⊎◌, ℕ, Bool, true, false, List, [], Option, None, Some, map, chars, string_bytes, is_err, All, IfOk, IfErr, OnOk, if◌then◌else◌};
+ghost use Rattle.preserved_text.specs.Sources.{sources_of, piece_sources, names};
+ghost use Rattle.preserved_text.specs.Preserved.{names_of};
+ghost use Rattle.preserved_text.specs.Modes.{is_preserved, is_same_mode};
+ghost use Rattle.text_wrapping.specs.Blocks.{lines_or_empty};
 ghost use Rattle.tagged_lines.specs.Tagged.{line_items, IsJoined};
 
-use crate::normal_lines::lay_normal;
 use crate::padding::pad_lines;
-use preserved_text::{BlockError, LaidText, Piece, TextPiece, WhiteSpace};
-use std::alloc::Global;
+use normal_text::lay_normal;
+use preserved_text::{BlockError, LaidText, Piece, TextPiece, WhiteSpace, cut_at, lay_preserved};
+use std::alloc::{AllocError, Global};
 use tagged_lines::{EqualCopy, TaggedLine};
 
 /// Text that is wrapped into lines of at most `width` columns, or preserved, by modes of white space.
@@ -25,9 +28,9 @@ pub struct WrappedBlock<T> {
 }
 
 impl<T: EqualCopy + Drop> WrappedBlock<T> {
-    ghost use Rattle.text_wrapping.specs.Blocks.{Block, block_of, has_failed, empty_block, added, ended_lines, behind_sources, marked_by, padded, padding_of, is_too_narrow, HasJoinedLines};
-    ghost use Rattle.text_wrapping.specs.Lines.{lines_in};
-    ghost use Rattle.preserved_text.specs.Sources.{sourced, sources_of};
+    ghost use Rattle.text_wrapping.specs.Blocks.{block_of, has_failed, empty_block, added, took_all, in_mode, ended, line_ended, ended_lines, fragments_taken, behind_sources, with_lines, with_source, marked_by, padded, padding_of, is_too_narrow, HasJoinedLines};
+    ghost use Rattle.text_wrapping.specs.Lines.{lines_in, waiting_in};
+    ghost use Rattle.preserved_text.specs.Sources.{sourced, sources_of, fragments, names};
 
     /// An empty block of lines of at most `width` columns. With `pad_blocks` each line is filled to the
     /// width with spaces tagged `default_tag`; with `allow_overflow` a character wider than the width
@@ -56,9 +59,11 @@ impl<T: EqualCopy + Drop> WrappedBlock<T> {
         }
     }
 
-    /// Adds text behind what was added before, each character tagged `main_tag` (`wrap_tag` is the tag of preserved
-    /// lines that were wrapped, which normal text has none of). After a refusal every call is refused as `Failed`. That a
-    /// character is wider than the lines is told by `into_lines`.
+    /// Adds text behind what was added before. In normal mode its words are wrapped, each character tagged `main_tag`. Where
+    /// white space is preserved, each LF ends a line; in mode `Pre` the characters from where a line was wrapped are
+    /// tagged `wrap_tag`. A text in another mode than the text before it ends that one; an empty text changes nothing.
+    /// After a refusal every call is refused as `Failed`. That a character is wider than the lines is told as
+    /// `TooNarrow`, by the call that ends its text or line.
     pub fn add_text(
         &mut self,
         text: &str,
@@ -79,19 +84,90 @@ impl<T: EqualCopy + Drop> WrappedBlock<T> {
         if self.failed {
             return Err(BlockError::Failed);
         }
-        let result = match ws_mode {
-            WhiteSpace::Normal => self.take_text(text, main_tag, wrap_tag),
-        };
+        let result = self.take_text(text, ws_mode, main_tag, wrap_tag);
         self.failed = result.is_err();
         result
     }
 
-    fn take_text(&mut self, text: &str, main_tag: &T, wrap_tag: &T) -> Result<(), BlockError>
+    fn take_text(
+        &mut self,
+        text: &str,
+        ws_mode: WhiteSpace,
+        main_tag: &T,
+        wrap_tag: &T,
+    ) -> Result<(), BlockError>
+        ensures kinds { IfErr result (λ e. (e ≡ BlockError.TooNarrow) ⊎ (e ≡ BlockError.Memory)) }
+        ensures added { OnOk result (added ws_mode (chars text.now) (T.seen main_tag.now) (T.seen wrap_tag.now)
+            (block_of T.seen self.old) ≡ Some (block_of T.seen self.new)) }
+        ensures narrow { result ≡ Err BlockError.TooNarrow → added ws_mode (chars text.now) (T.seen main_tag.now)
+            (T.seen wrap_tag.now) (block_of T.seen self.old) ≡ None }
+        ensures joined { HasJoinedLines T.seen self.old → HasJoinedLines T.seen self.new }
+    {
+        if text.is_empty() {
+            return Ok(());
+        }
+        self.enter(ws_mode)?;
+        self.take_all(text, main_tag, wrap_tag)
+    }
+
+    /// Ends the text so far, where it is of another mode.
+    fn enter(&mut self, mode: WhiteSpace) -> Result<(), BlockError>
+        ensures kinds { IfErr result (λ e. (e ≡ BlockError.TooNarrow) ⊎ (e ≡ BlockError.Memory)) }
+        ensures entered { OnOk result (in_mode mode (block_of T.seen self.old) ≡ Some (block_of T.seen self.new)) }
+        ensures narrow { result ≡ Err BlockError.TooNarrow → in_mode mode (block_of T.seen self.old) ≡ None }
+        ensures joined { HasJoinedLines T.seen self.old → HasJoinedLines T.seen self.new }
+    {
+        if is_same_mode(mode, self.mode) {
+            return Ok(());
+        }
+        self.end_text()?;
+        self.mode = mode;
+        Ok(())
+    }
+
+    fn take_all(&mut self, text: &str, main_tag: &T, wrap_tag: &T) -> Result<(), BlockError>
+        ensures kinds { IfErr result (λ e. (e ≡ BlockError.TooNarrow) ⊎ (e ≡ BlockError.Memory)) }
+        ensures taken { OnOk result (took_all (T.seen main_tag.now) (T.seen wrap_tag.now) (chars text.now)
+            (block_of T.seen self.old) ≡ Some (block_of T.seen self.new)) }
+        ensures narrow { result ≡ Err BlockError.TooNarrow → took_all (T.seen main_tag.now) (T.seen wrap_tag.now)
+            (chars text.now) (block_of T.seen self.old) ≡ None }
+        ensures joined { HasJoinedLines T.seen self.old → HasJoinedLines T.seen self.new }
+    {
+        if self.mode.preserve_whitespace() {
+            self.take_lines(text, main_tag, wrap_tag)
+        } else {
+            self.take_run(text, main_tag, wrap_tag)
+        }
+    }
+
+    /// Takes preserved text: each LF ends the source line.
+    fn take_lines(&mut self, text: &str, main_tag: &T, wrap_tag: &T) -> Result<(), BlockError>
+        ensures kinds { IfErr result (λ e. (e ≡ BlockError.TooNarrow) ⊎ (e ≡ BlockError.Memory)) }
+        ensures taken { is_preserved self.old.mode ≡ true → OnOk result (took_all (T.seen main_tag.now)
+            (T.seen wrap_tag.now) (chars text.now) (block_of T.seen self.old) ≡ Some (block_of T.seen self.new)) }
+        ensures narrow { is_preserved self.old.mode ≡ true → result ≡ Err BlockError.TooNarrow
+            → took_all (T.seen main_tag.now) (T.seen wrap_tag.now) (chars text.now) (block_of T.seen self.old) ≡ None }
+        ensures joined { HasJoinedLines T.seen self.old → HasJoinedLines T.seen self.new }
+    {
+        let mut rest = text;
+        while let Some((line, behind)) = cut_at(rest, '\n') {
+            self.take_run(line, main_tag, wrap_tag)?;
+            self.end_line()?;
+            rest = behind;
+        }
+        self.take_run(rest, main_tag, wrap_tag)
+    }
+
+    /// Takes text that ends nothing.
+    fn take_run(&mut self, text: &str, main_tag: &T, wrap_tag: &T) -> Result<(), BlockError>
         ensures kinds { IfErr result (λ e. e ≡ BlockError.Memory) }
         ensures run { OnOk result (block_of T.seen self.new ≡ behind_sources (sourced (chars text.now)
             (T.seen main_tag.now) (T.seen wrap_tag.now)) (block_of T.seen self.old)) }
         ensures joined { HasJoinedLines T.seen self.old → HasJoinedLines T.seen self.new }
     {
+        if text.is_empty() {
+            return Ok(());
+        }
         let alloc = *self.lines.allocator();
         let piece = TextPiece {
             text: String::from_str(alloc, text)?,
@@ -99,6 +175,69 @@ impl<T: EqualCopy + Drop> WrappedBlock<T> {
             wrap_tag: wrap_tag.copy(alloc)?,
         };
         self.pieces.push(Piece::Text(piece))?;
+        Ok(())
+    }
+
+    /// Ends a source line, which is an empty line where nothing of it is shown.
+    fn end_line(&mut self) -> Result<(), BlockError>
+        ensures kinds { IfErr result (λ e. (e ≡ BlockError.TooNarrow) ⊎ (e ≡ BlockError.Memory)) }
+        ensures ended { OnOk result (line_ended (block_of T.seen self.old) ≡ Some (block_of T.seen self.new)) }
+        ensures narrow { result ≡ Err BlockError.TooNarrow → line_ended (block_of T.seen self.old) ≡ None }
+        ensures joined { HasJoinedLines T.seen self.old → HasJoinedLines T.seen self.new }
+    {
+        let LaidText { lines, waiting } = self.lay()?;
+        let lines = or_empty(lines)?;
+        self.put_lines(lines)?;
+        self.wait(waiting)?;
+        Ok(())
+    }
+
+    /// Ends the text so far.
+    fn end_text(&mut self) -> Result<(), BlockError>
+        ensures kinds { IfErr result (λ e. (e ≡ BlockError.TooNarrow) ⊎ (e ≡ BlockError.Memory)) }
+        ensures ended { OnOk result (ended (block_of T.seen self.old) ≡ Some (block_of T.seen self.new)) }
+        ensures narrow { result ≡ Err BlockError.TooNarrow → ended (block_of T.seen self.old) ≡ None }
+        ensures joined { HasJoinedLines T.seen self.old → HasJoinedLines T.seen self.new }
+    {
+        let LaidText { lines, waiting } = self.lay()?;
+        self.put_lines(lines)?;
+        self.wait(waiting)?;
+        Ok(())
+    }
+
+    /// Adds lines, filled where lines are to be.
+    fn put_lines(&mut self, lines: Vec<TaggedLine<T>>) -> Result<(), AllocError>
+        ensures put { OnOk result (block_of T.seen self.new
+            ≡ with_lines (map (line_items T.seen) lines.items) (block_of T.seen self.old)) }
+        ensures joined { HasJoinedLines T.seen self.old → All (IsJoined T.seen) lines.items
+            → HasJoinedLines T.seen self.new }
+    {
+        let mut lines = self.filled_up(lines)?;
+        self.lines.append(&mut lines)
+    }
+
+    fn filled_up(&self, lines: Vec<TaggedLine<T>>) -> Result<Vec<TaggedLine<T>>, AllocError>
+        ensures filled_up { IfOk result (λ all. map (line_items T.seen) all.items
+            ≡ map (padded self.now.width (padding_of T.seen self.now)) (map (line_items T.seen) lines.items)) }
+        ensures joined { All (IsJoined T.seen) lines.items → IfOk result (λ all. All (IsJoined T.seen) all.items) }
+    {
+        if self.pad_blocks {
+            pad_lines(lines, self.width, &self.default_tag)
+        } else {
+            Ok(lines)
+        }
+    }
+
+    /// Holds markers alone.
+    fn wait(&mut self, waiting: Vec<String>) -> Result<(), AllocError>
+        ensures waits { OnOk result (block_of T.seen self.new
+            ≡ with_source (fragments (names waiting.items)) (block_of T.seen self.old)) }
+        ensures joined { HasJoinedLines T.seen self.old → HasJoinedLines T.seen self.new }
+    {
+        self.pieces.clear();
+        for name in waiting {
+            self.pieces.push(Piece::Fragment(name))?;
+        }
         Ok(())
     }
 
@@ -129,6 +268,39 @@ impl<T: EqualCopy + Drop> WrappedBlock<T> {
         Ok(())
     }
 
+    /// Ends the text so far, and gives the names of the markers behind its last word, which found no line. After a refusal
+    /// every call is refused as `Failed`.
+    pub fn take_trailing_fragments(&mut self) -> Result<Vec<String>, BlockError>
+        ensures refused { is_err result ≡ has_failed self.new }
+        ensures failed { has_failed self.old ≡ true → result ≡ Err BlockError.Failed }
+        ensures kinds { has_failed self.old ≡ false
+            → IfErr result (λ e. (e ≡ BlockError.TooNarrow) ⊎ (e ≡ BlockError.Memory)) }
+        ensures taken { IfOk result (λ taken. fragments_taken (block_of T.seen self.old)
+            ≡ Some (names taken.items, block_of T.seen self.new)) }
+        ensures narrow { result ≡ Err BlockError.TooNarrow → fragments_taken (block_of T.seen self.old) ≡ None }
+        ensures joined { HasJoinedLines T.seen self.old → HasJoinedLines T.seen self.new }
+    {
+        if self.failed {
+            return Err(BlockError::Failed);
+        }
+        let result = self.take_waiting();
+        self.failed = result.is_err();
+        result
+    }
+
+    fn take_waiting(&mut self) -> Result<Vec<String>, BlockError>
+        ensures kinds { IfErr result (λ e. (e ≡ BlockError.TooNarrow) ⊎ (e ≡ BlockError.Memory)) }
+        ensures taken { IfOk result (λ taken. fragments_taken (block_of T.seen self.old)
+            ≡ Some (names taken.items, block_of T.seen self.new)) }
+        ensures narrow { result ≡ Err BlockError.TooNarrow → fragments_taken (block_of T.seen self.old) ≡ None }
+        ensures joined { HasJoinedLines T.seen self.old → HasJoinedLines T.seen self.new }
+    {
+        self.end_text()?;
+        let names = names_of(*self.lines.allocator(), &self.pieces)?;
+        self.pieces.clear();
+        Ok(names)
+    }
+
     /// The lines of the text, those of what has not ended too. Refused as `TooNarrow`, as `Memory`, or as `Failed` after a
     /// refusal.
     pub fn into_lines(self) -> Result<Vec<TaggedLine<T>>, BlockError>
@@ -147,36 +319,81 @@ impl<T: EqualCopy + Drop> WrappedBlock<T> {
     }
 
     /// The lines that are done, and those of the text that has not ended.
-    fn all_lines(self) -> Result<Vec<TaggedLine<T>>, BlockError>
+    fn all_lines(mut self) -> Result<Vec<TaggedLine<T>>, BlockError>
         ensures kinds { IfErr result (λ e. (e ≡ BlockError.TooNarrow) ⊎ (e ≡ BlockError.Memory)) }
         ensures lines { IfOk result (λ lines. ended_lines (block_of T.seen self)
             ≡ Some (map (line_items T.seen) lines.items)) }
         ensures narrow { result ≡ Err BlockError.TooNarrow → ended_lines (block_of T.seen self) ≡ None }
         ensures joined { HasJoinedLines T.seen self → IfOk result (λ lines. All (IsJoined T.seen) lines.items) }
     {
-        let mut laid = self.lay()?;
-        let WrappedBlock { mut lines, .. } = self;
-        lines.append(&mut laid)?;
+        self.end_text()?;
+        let WrappedBlock { lines, .. } = self;
         Ok(lines)
     }
 
-    /// The lines of the text that has not ended, filled where lines are to be.
-    fn lay(&self) -> Result<Vec<TaggedLine<T>>, BlockError>
+    /// The lines of the text that has not ended, and the markers that wait for what comes behind it.
+    fn lay(&self) -> Result<LaidText<T>, BlockError>
         ensures kinds { IfErr result (λ e. (e ≡ BlockError.TooNarrow) ⊎ (e ≡ BlockError.Memory)) }
-        ensures laid { IfOk result (λ laid. map (line_items T.seen) laid.items
-            ≡ map (padded self.now.width (padding_of T.seen self.now))
-            (lines_in self.now.mode self.now.width (sources_of T.seen self.now.pieces.items))) }
+        ensures lines { IfOk result (λ laid. map (line_items T.seen) laid.lines.items
+            ≡ lines_in self.now.mode self.now.width (sources_of T.seen self.now.pieces.items)) }
+        ensures waiting { IfOk result (λ laid. names laid.waiting.items
+            ≡ waiting_in self.now.mode self.now.width (sources_of T.seen self.now.pieces.items)) }
         ensures room { OnOk result (is_too_narrow (block_of T.seen self.now) ≡ false) }
         ensures narrow { result ≡ Err BlockError.TooNarrow → is_too_narrow (block_of T.seen self.now) ≡ true }
-        ensures joined { IfOk result (λ laid. All (IsJoined T.seen) laid.items) }
+        ensures joined { IfOk result (λ laid. All (IsJoined T.seen) laid.lines.items) }
     {
         let alloc = *self.lines.allocator();
-        let laid = lay_normal(alloc, self.width, self.allow_overflow, &self.pieces)?;
-        let LaidText { lines, .. } = laid;
-        if self.pad_blocks {
-            Ok(pad_lines(lines, self.width, &self.default_tag)?)
+        if self.mode.preserve_whitespace() {
+            let wraps = self.mode.do_wrap();
+            lay_preserved(alloc, self.width, self.allow_overflow, wraps, &self.pieces)
         } else {
-            Ok(lines)
+            lay_normal(alloc, self.width, self.allow_overflow, &self.pieces)
+        }
+    }
+}
+
+fn is_same_mode(mode: WhiteSpace, other: WhiteSpace) -> bool
+    ensures { result ≡ is_same_mode mode other }
+{
+    mode == other
+}
+
+/// One empty line, where there is none.
+fn or_empty<T: EqualCopy + Drop>(lines: Vec<TaggedLine<T>>) -> Result<Vec<TaggedLine<T>>, AllocError>
+    ensures lines { IfOk result (λ all. map (line_items T.seen) all.items
+        ≡ lines_or_empty (map (line_items T.seen) lines.items)) }
+    ensures joined { All (IsJoined T.seen) lines.items → IfOk result (λ all. All (IsJoined T.seen) all.items) }
+{
+    let mut lines = lines;
+    if lines.is_empty() {
+        let empty = TaggedLine::new(*lines.allocator());
+        lines.push(empty)?;
+    }
+    Ok(lines)
+}
+
+/// The names of the markers among the pieces.
+fn names_of<T: EqualCopy>(alloc: Global, pieces: &[Piece<T>]) -> Result<Vec<String>, AllocError>
+    ensures { IfOk result (λ all. names all.items ≡ names_of (sources_of T.seen pieces.now)) }
+{
+    let mut names = Vec::new(alloc);
+    let mut rest = pieces;
+    while let Some((first, others)) = rest.split_first() {
+        push_name(&mut names, first)?;
+        rest = others;
+    }
+    Ok(names)
+}
+
+/// Adds the name of a piece that is a marker.
+fn push_name<T: EqualCopy>(all: &mut Vec<String>, piece: &Piece<T>) -> Result<(), AllocError>
+    ensures { OnOk result (names all.new.items ≡ names all.old.items ++ names_of (piece_sources T.seen piece.now)) }
+{
+    match piece {
+        Piece::Text(_) => Ok(()),
+        Piece::Fragment(name) => {
+            all.push(String::from_str(*name.allocator(), name.as_str())?)?;
+            Ok(())
         }
     }
 }
