@@ -1,6 +1,7 @@
 //! Normal text with markers on its words.
 ghost use Rattle.std.specs.Prelude.{◌≡◌, ◌⊎◌, ℕ, Bool, List, [], ◌∷◌, ◌++◌, map, chars, string_bytes, All, IfOk, IfErr, OnOk};
 ghost use Rattle.tagged_lines.specs.Tagged.{line_items, element_items, IsJoined};
+ghost use Rattle.preserved_text.specs.Sources.{names};
 ghost use Rattle.preserved_text.specs.Preserved.{markers_of};
 ghost use Rattle.normal_text.specs.Units.{Letter};
 ghost use Rattle.normal_text.specs.NormalStates.{HasRead};
@@ -27,7 +28,7 @@ pub(crate) struct MarkedText<T> {
 }
 
 impl<T: EqualCopy + Drop> MarkedText<T> {
-    ghost use Rattle.preserved_text.specs.Sources.{names, Source, sourced, fragment, piece_sources};
+    ghost use Rattle.preserved_text.specs.Sources.{Source, sourced, fragment, piece_sources};
     ghost use Rattle.normal_text.specs.Riders.{Carried, nothing_carried, settled_lines, settled_rest, shown_lines};
     ghost use Rattle.normal_text.specs.MarkedStates.{Carries, CarriesOn, MeetsWide, AddsWords, MeetsWideWord};
 

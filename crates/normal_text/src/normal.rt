@@ -4,7 +4,7 @@ ghost use Rattle.tagged_lines.specs.Tagged.{line_items, line_columns, IsJoined};
 ghost use Rattle.normal_text.specs.Units.{is_break_point};
 
 use crate::filling::Filling;
-use preserved_text::BlockError;
+use preserved_text::{BlockError, first_char, is_break_point};
 use std::alloc::{AllocError, Global};
 use tagged_lines::{Columns, EqualCopy, TaggedLine, UnicodeColumns};
 
@@ -186,3 +186,5 @@ impl<T: EqualCopy + Drop> NormalText<T> {
         lines.into_lines()
     }
 }
+
+const ZERO_WIDTH_SPACE: char = '\u{200b}';
