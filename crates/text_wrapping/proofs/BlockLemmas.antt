@@ -13,7 +13,7 @@ use Rattle.preserved_text.proofs.TrimLemmas.{sources-append, nil_length}
 use Rattle.preserved_text.specs.Modes.{is_preserved}
 use Rattle.preserved_text.specs.declared.white_space.WhiteSpace.{WhiteSpace}
 use Rattle.text_wrapping.specs.Lines.{lines_in, waiting_in}
-use Rattle.text_wrapping.specs.Blocks.{Block, padded, lines_behind, lines_or_empty, is_too_narrow, ended, line_ended, line_feed, with_letter, took, took_all, behind_sources, with_lines, with_source}
+use Rattle.text_wrapping.specs.Blocks.{Block, padded, lines_behind, lines_or_empty, is_too_narrow, ended, line_ended, line_feed, with_letter, took, took_all, in_mode, added, behind_sources, with_lines, with_source}
 
 -- ---- texts that end nothing
 
@@ -191,6 +191,15 @@ pub all_names : {T S : Type 0} (seen : T → S) (all now : List (List ℕ)) (res
 all_names seen all now rest none so_far =
     sym (append-nil now) ∙ ap (λ pieces. now ++ names_of (sources_of seen pieces)) (sym (nil_length rest none)) ∙ so_far
 
+-- nothing is held yet
+pub nothing_held : {T S : Type 0} (seen : T → S) (b now : Block S) (pieces : List (Piece T)) (all left : List (List ℕ))
+    → now ≡ record b { source = sources_of seen pieces } → pieces ≡ [] → left ≡ all
+    → behind_sources (fragments left) now ≡ with_source (fragments all) b
+nothing_held seen b now pieces all left is none same =
+    ap (behind_sources (fragments left)) is
+    ∙ ap (λ ps. record b { source = sources_of seen ps ++ fragments left }) none
+    ∙ ap (λ l. with_source (fragments l) b) same
+
 -- a marker more is held, of those that wait
 pub wait_more : {T S : Type 0} (seen : T → S) (now new end : Block S) (pieces : List (Piece T)) (name : String Global)
     (others : List (List ℕ)) → now.source ≡ sources_of seen pieces
@@ -209,3 +218,31 @@ pub wait_all : {S : Type 0} (now end : Block S) (left : List (List ℕ)) → lef
 wait_all now end left none so_far =
     ap (λ s. record now { source = s }) (sym (append-nil now.source))
     ∙ ap (λ l. behind_sources (fragments l) now) (sym none) ∙ so_far
+
+-- ---- a text in its mode
+
+pub added_nothing : {S : Type 0} (mode : WhiteSpace) (cs : List ℕ) (main further : S) (b : Block S) → cs ≡ []
+    → added mode cs main further b ≡ Some b
+added_nothing mode cs main further b none = ap (λ l. added mode l main further b) none
+
+added_some : {S : Type 0} (mode : WhiteSpace) (cs : List ℕ) (main further : S) (b : Block S) → (cs ≡ [] → ⊥)
+    → added mode cs main further b ≡ option_and_then (took_all main further cs) (in_mode mode b)
+added_some mode [] main further b some = absurd (some refl)
+added_some mode (c ∷ cs) main further b some = refl
+
+pub added_behind : {S : Type 0} (mode : WhiteSpace) (cs : List ℕ) (main further : S) (b mid new : Block S)
+    → (cs ≡ [] → ⊥) → in_mode mode b ≡ Some mid → took_all main further cs mid ≡ Some new
+    → added mode cs main further b ≡ Some new
+added_behind mode cs main further b mid new some entered taken =
+    added_some mode cs main further b some ∙ ap (option_and_then (took_all main further cs)) entered ∙ taken
+
+pub added_refused : {S : Type 0} (mode : WhiteSpace) (cs : List ℕ) (main further : S) (b : Block S)
+    → (cs ≡ [] → ⊥) → in_mode mode b ≡ None → added mode cs main further b ≡ None
+added_refused mode cs main further b some refused =
+    added_some mode cs main further b some ∙ ap (option_and_then (took_all main further cs)) refused
+
+pub added_narrow : {S : Type 0} (mode : WhiteSpace) (cs : List ℕ) (main further : S) (b mid : Block S)
+    → (cs ≡ [] → ⊥) → in_mode mode b ≡ Some mid → took_all main further cs mid ≡ None
+    → added mode cs main further b ≡ None
+added_narrow mode cs main further b mid some entered refused =
+    added_some mode cs main further b some ∙ ap (option_and_then (took_all main further cs)) entered ∙ refused

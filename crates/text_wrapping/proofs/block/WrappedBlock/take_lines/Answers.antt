@@ -25,11 +25,12 @@ loop-line-preserved g c =
 pub returns-in_err-end_line-clause-narrow : goal.returns-in_err-end_line-clause-narrow
 returns-in_err-end_line-clause-narrow g c = λ preserved e.
     let seen = g.T.EqualCopy.seen in
+    let p = err_from_is_err_and c.from_residual-in_err-end_line.result c.from_residual-in_err-end_line.ensures.1 in
     sym (c.loop-line.invariant.same preserved) ∙ lines_refused (seen c.args.main_tag.now) (seen c.args.wrap_tag.now)
     (block_of seen c.loop-line.self) (block_of seen c.take_run.new.self)
     (chars c.loop-line.rest.now) (chars c.in-Some.line.now) (chars c.in-Some.behind.now)
     (c.loop-line.invariant.mode preserved) c.in-Some.ensures.parts c.in_ok-take_run.ensures.run
-    (c.end_line.ensures.narrow (c.in_err-end_line.was ∙ e))
+    (c.end_line.ensures.narrow (c.in_err-end_line.was ∙ ap Err (sym p.2) ∙ sym p.1 ∙ e))
 
 pub returns-in_err-end_line-clause-joined : goal.returns-in_err-end_line-clause-joined
 returns-in_err-end_line-clause-joined g c = λ h.
@@ -38,7 +39,7 @@ returns-in_err-end_line-clause-joined g c = λ h.
 pub returns-clause-taken : goal.returns-clause-taken
 returns-clause-taken g c = λ preserved.
     let seen = g.T.EqualCopy.seen in
-    on_ok_weaker c.take_run.result (λ run. rest_taken (seen c.args.main_tag.now) (seen c.args.wrap_tag.now)
-    (block_of seen c.loop-line.self) (block_of seen c.take_run.new.self) (block_of seen c.args.self.now)
+    on_ok_weaker c.take_run-2.result (λ run. rest_taken (seen c.args.main_tag.now) (seen c.args.wrap_tag.now)
+    (block_of seen c.loop-line.self) (block_of seen c.take_run-2.new.self) (block_of seen c.args.self.now)
     (chars c.args.text.now) (chars c.loop-line.rest.now) (c.in_default.ensures.none refl)
-    (c.loop-line.invariant.same preserved) run) c.take_run.ensures.run
+    (c.loop-line.invariant.same preserved) run) c.take_run-2.ensures.run
