@@ -84,6 +84,7 @@ filled_last before c scalar = filled_behind before (encode_utf8 c) (filled_char 
     filled_behind : (xs ys : List ℕ) → is_filled ys ≡ true → is_filled (xs ++ ys) ≡ true
     filled_behind [] ys h = h
     filled_behind (x ∷ xs) ys h = refl
+
     filled_char : (bytes : List ℕ) → encode_utf8 c ≡ bytes → is_filled bytes ≡ true
     filled_char [] e = cc (sym (chars-encode c scalar) ∙ ap chars e ∙ chars-nil)
     filled_char (b ∷ bs) e = refl
@@ -210,8 +211,8 @@ whole_before seen width wraps all rest front last r split some =
     let back = last ∷ r.behind in
     let whole : all ≡ front ++ back = r.whole ∙ ap (λ l. l ++ r.behind) split ∙ append_assoc front (last ∷ []) r.behind in
     let solid : has_solid width wraps (sources_of seen back) ≡ true =
-        has_solid-append width wraps (piece_sources seen last) (sources_of seen r.behind)
-        ∙ ap (λ b. b || has_solid width wraps (sources_of seen r.behind)) some in
+    has_solid-append width wraps (piece_sources seen last) (sources_of seen r.behind)
+    ∙ ap (λ b. b || has_solid width wraps (sources_of seen r.behind)) some in
     record {
       within = subst (λ l. length front ≤ length l) (sym whole) (omega (arith, length-append front back));
       trims = ap (trimmed width wraps) (ap (sources_of seen) whole ∙ sources-append seen front back)

@@ -13,7 +13,12 @@ impl<T: EqualCopy + Drop> Rows<T> {
 
     /// Lays a tab: white space before it is written, then spaces up to the next multiple of 8, at least one, on a fresh
     /// line where the one at hand is full.
-    pub(crate) fn lay_stop(&mut self, width: usize, main_tag: &T, wrap_tag: &T) -> Result<(), AllocError>
+    pub(crate) fn lay_stop(
+        &mut self,
+        width: usize,
+        main_tag: &T,
+        wrap_tag: &T,
+    ) -> Result<(), AllocError>
         ensures laid { OnOk result (laying_of T.seen self.new
             ≡ lay_stop width (T.seen main_tag.now) (T.seen wrap_tag.now) (laying_of T.seen self.old)) }
         ensures joined { HasJoinedRows T.seen self.old → HasJoinedRows T.seen self.new }
@@ -46,7 +51,11 @@ impl<T: EqualCopy + Drop> Rows<T> {
         Ok(())
     }
 
-    fn put_tail_element(&mut self, width: usize, element: &TaggedLineElement<T>) -> Result<(), AllocError>
+    fn put_tail_element(
+        &mut self,
+        width: usize,
+        element: &TaggedLineElement<T>,
+    ) -> Result<(), AllocError>
         ensures laid { OnOk result (laying_of T.seen self.new
             ≡ fold (put_space width) (laying_of T.seen self.old) (element_items T.seen element.now)) }
         ensures joined { HasJoinedRows T.seen self.old → HasJoinedRows T.seen self.new }
@@ -90,7 +99,10 @@ impl<T: EqualCopy + Drop> Rows<T> {
     fn line_taken(&self) -> Result<usize, AllocError>
         ensures { IfOk result (λ n. n ≡ line_taken (laying_of T.seen self.now)) }
     {
-        self.line.width().checked_add(self.tail.width()).ok_or(AllocError)
+        self.line
+            .width()
+            .checked_add(self.tail.width())
+            .ok_or(AllocError)
     }
 
     /// Writes spaces up to the next stop.
@@ -119,7 +131,12 @@ impl<T: EqualCopy + Drop> Rows<T> {
 
     /// Lays a body: behind the white space that waits, where both go on the line at hand; else each of its characters
     /// where it goes, on a fresh line first.
-    pub(crate) fn lay_items(&mut self, width: usize, wraps: bool, items: &TaggedLine<T>) -> Result<(), AllocError>
+    pub(crate) fn lay_items(
+        &mut self,
+        width: usize,
+        wraps: bool,
+        items: &TaggedLine<T>,
+    ) -> Result<(), AllocError>
         ensures laid { OnOk result (laying_of T.seen self.new
             ≡ lay_items width wraps (line_items T.seen items.now) (laying_of T.seen self.old)) }
         ensures joined { HasJoinedRows T.seen self.old → HasJoinedRows T.seen self.new }
@@ -135,7 +152,9 @@ impl<T: EqualCopy + Drop> Rows<T> {
     pub(crate) fn taken(&self) -> Result<usize, AllocError>
         ensures { IfOk result (λ n. n ≡ taken (laying_of T.seen self.now)) }
     {
-        self.line_taken()?.checked_add(self.spaces.width()).ok_or(AllocError)
+        self.line_taken()?
+            .checked_add(self.spaces.width())
+            .ok_or(AllocError)
     }
 
     fn write_behind_spaces(&mut self, items: &TaggedLine<T>) -> Result<(), AllocError>

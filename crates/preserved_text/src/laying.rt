@@ -129,7 +129,11 @@ impl<T: EqualCopy + Drop> Rows<T> {
         Ok(())
     }
 
-    fn put_element(&mut self, width: usize, element: &TaggedLineElement<T>) -> Result<(), AllocError>
+    fn put_element(
+        &mut self,
+        width: usize,
+        element: &TaggedLineElement<T>,
+    ) -> Result<(), AllocError>
         ensures laid { OnOk result (laying_of T.seen self.new
             ≡ put_all width (laying_of T.seen self.old) (element_items T.seen element.now)) }
         ensures joined { HasJoinedRows T.seen self.old → HasJoinedRows T.seen self.new }
@@ -152,7 +156,12 @@ impl<T: EqualCopy + Drop> Rows<T> {
     }
 
     /// Holds white space of so many columns, which is not written yet.
-    pub(crate) fn hold(&mut self, columns: usize, main_tag: &T, wrap_tag: &T) -> Result<(), AllocError>
+    pub(crate) fn hold(
+        &mut self,
+        columns: usize,
+        main_tag: &T,
+        wrap_tag: &T,
+    ) -> Result<(), AllocError>
         ensures laid { OnOk result (laying_of T.seen self.new
             ≡ lay_blank columns (T.seen main_tag.now) (T.seen wrap_tag.now) (laying_of T.seen self.old)) }
         ensures joined { HasJoinedRows T.seen self.old → HasJoinedRows T.seen self.new }

@@ -47,7 +47,11 @@ impl<T: EqualCopy + Drop> SourceLine<T> {
         ensures joined { HasJoinedRows T.seen self.old.rows → HasJoinedRows T.seen self.new.rows }
     {
         match piece {
-            Piece::Text(piece) => self.read_text(piece.text.as_str(), &piece.main_tag, &piece.wrap_tag),
+            Piece::Text(piece) => self.read_text(
+                piece.text.as_str(),
+                &piece.main_tag,
+                &piece.wrap_tag,
+            ),
             Piece::Fragment(name) => self.read_marker(name.as_str()),
         }
     }
@@ -79,13 +83,22 @@ impl<T: EqualCopy + Drop> SourceLine<T> {
         }
     }
 
-    fn read_trimmed_text(&mut self, text: &str, main_tag: &T, wrap_tag: &T) -> Result<(), AllocError>
+    fn read_trimmed_text(
+        &mut self,
+        text: &str,
+        main_tag: &T,
+        wrap_tag: &T,
+    ) -> Result<(), AllocError>
         ensures pass { OnOk result (pass_of T.seen self.new ≡ read_all (pass_of T.seen self.old)
             (trimmed self.old.width self.old.wraps
             (sourced (chars text.now) (T.seen main_tag.now) (T.seen wrap_tag.now)))) }
         ensures joined { HasJoinedRows T.seen self.old.rows → HasJoinedRows T.seen self.new.rows }
     {
-        self.read_text(solid_front(text, self.width, self.wraps), main_tag, wrap_tag)
+        self.read_text(
+            solid_front(text, self.width, self.wraps),
+            main_tag,
+            wrap_tag,
+        )
     }
 
     fn read_text(&mut self, text: &str, main_tag: &T, wrap_tag: &T) -> Result<(), AllocError>
@@ -146,6 +159,7 @@ fn is_solid(c: char, width: usize, wraps: bool) -> bool
 {
     match kind_of(c, width, wraps) {
         CharacterKind::Solid => true,
-        CharacterKind::White | CharacterKind::Tab | CharacterKind::Cut | CharacterKind::Nothing => false,
+        CharacterKind::White | CharacterKind::Tab | CharacterKind::Cut | CharacterKind::Nothing =>
+            false,
     }
 }

@@ -48,7 +48,12 @@ impl<T: EqualCopy + Drop> SourceLine<T> {
         }
     }
 
-    pub(crate) fn read_char(&mut self, c: char, main_tag: &T, wrap_tag: &T) -> Result<(), AllocError>
+    pub(crate) fn read_char(
+        &mut self,
+        c: char,
+        main_tag: &T,
+        wrap_tag: &T,
+    ) -> Result<(), AllocError>
         ensures pass { OnOk result (pass_of T.seen self.new
             ≡ read_letter c (T.seen main_tag.now) (T.seen wrap_tag.now) (pass_of T.seen self.old)) }
         ensures joined { HasJoinedRows T.seen self.old.rows → HasJoinedRows T.seen self.new.rows }
@@ -132,7 +137,11 @@ impl<T: EqualCopy + Drop> SourceLine<T> {
             return Ok(self.goes_on);
         }
         // No memory holds a line of more columns than a `usize` counts.
-        let before = self.rows.taken()?.checked_add(self.word.width()).ok_or(AllocError)?;
+        let before = self
+            .rows
+            .taken()?
+            .checked_add(self.word.width())
+            .ok_or(AllocError)?;
         let end = before.checked_add(columns).ok_or(AllocError)?;
         Ok(end > self.width)
     }

@@ -36,9 +36,10 @@ and_false false = refl
 
 pub lacking_letters : (mode : WhiteSpace) (cs : List ℕ) → Lacks 10 cs → AreLetters mode cs
 lacking_letters mode [] lacks = tt
-lacking_letters mode (c ∷ cs) lacks =
-    (ap (λ b. is_preserved mode && b) (not_line_feed c lacks.0) ∙ and_false (is_preserved mode),
-      lacking_letters mode cs lacks.1)
+lacking_letters mode (c ∷ cs) lacks = (
+  ap (λ b. is_preserved mode && b) (not_line_feed c lacks.0) ∙ and_false (is_preserved mode),
+  lacking_letters mode cs lacks.1,
+)
 
 pub took_letters : {S : Type 0} (main further : S) (cs : List ℕ) (b : Block S) → AreLetters b.mode cs
     → took_all main further cs b ≡ Some (behind_sources (sourced cs main further) b)

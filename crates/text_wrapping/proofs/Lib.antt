@@ -1,3 +1,4 @@
 pub mod BlockLemmas
 pub mod NormalBlocks
 pub mod NormalPadding
+pub mod BlockLaws

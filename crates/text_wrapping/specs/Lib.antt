@@ -1,3 +1,4 @@
 pub mod Blocks
+pub mod LawWords
 pub mod Lines
 pub mod NormalBlocks

@@ -296,9 +296,9 @@ impl<T: EqualCopy + Drop> WrappedBlock<T> {
         ensures joined { HasJoinedLines T.seen self.old → HasJoinedLines T.seen self.new }
     {
         self.end_text()?;
-        let names = names_of(*self.lines.allocator(), &self.pieces)?;
+        let taken = names_of(*self.lines.allocator(), &self.pieces)?;
         self.pieces.clear();
-        Ok(names)
+        Ok(taken)
     }
 
     /// The lines of the text, those of what has not ended too. Refused as `TooNarrow`, as `Memory`, or as `Failed` after a
@@ -359,7 +359,9 @@ fn is_same_mode(mode: WhiteSpace, other: WhiteSpace) -> bool
 }
 
 /// One empty line, where there is none.
-fn or_empty<T: EqualCopy + Drop>(lines: Vec<TaggedLine<T>>) -> Result<Vec<TaggedLine<T>>, AllocError>
+fn or_empty<T: EqualCopy + Drop>(
+    lines: Vec<TaggedLine<T>>,
+) -> Result<Vec<TaggedLine<T>>, AllocError>
     ensures lines { IfOk result (λ all. map (line_items T.seen) all.items
         ≡ lines_or_empty (map (line_items T.seen) lines.items)) }
     ensures joined { All (IsJoined T.seen) lines.items → IfOk result (λ all. All (IsJoined T.seen) all.items) }

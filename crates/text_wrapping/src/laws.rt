@@ -1,10 +1,14 @@
 //! Laws of blocks and their lines: each is the contract of a function that does nothing.
-ghost use Rattle.std.specs.Prelude.{◌≡◌, ℕ, Bool, false, List, [], ◌++◌, Option, None, Some};
+ghost use Rattle.std.specs.Prelude.{◌≡◌, ℕ, ◌+◌, ◌≤◌, Bool, true, false, List, [], ◌++◌, length, Option, None, Some};
+ghost use Rattle.std.specs.Option.{option_and_then};
+ghost use Rattle.preserved_text.specs.Modes.{is_preserved};
 ghost use Rattle.preserved_text.specs.Sources.{Source, sourced};
-ghost use Rattle.tagged_lines.specs.Tagged.{Item};
+ghost use Rattle.tagged_lines.specs.Tagged.{Item, line_columns};
 ghost use Rattle.normal_text.specs.Layout.{AreLinesOf, NeverFits};
 ghost use Rattle.normal_text.specs.Letters.{letters_of, has_marker};
-ghost use Rattle.text_wrapping.specs.Blocks.{empty_block, added, ended_lines};
+ghost use Rattle.text_wrapping.specs.Blocks.{Block, empty_block, added, ended_lines, padded};
+ghost use Rattle.text_wrapping.specs.LawWords.{line_ends};
+ghost use Rattle.preserved_text.specs.declared.white_space.WhiteSpace.{WhiteSpace as SeenMode};
 ghost use Rattle.text_wrapping.specs.NormalBlocks.{normal_block};
 
 use normal_text::{normal_lines_are_fullest, wide_text_never_fits};
@@ -38,3 +42,23 @@ pub fn narrow_normal_text<T: EqualCopy>()
 {
     wide_text_never_fits::<T>();
 }
+
+/// However a text is cut into two, it adds the same.
+pub fn text_may_be_cut_anywhere<T: EqualCopy>()
+    ensures { (mode : SeenMode) (front back : List ℕ) (main further : T.Seen) (b : Block T.Seen)
+        → added mode (front ++ back) main further b
+        ≡ option_and_then (added mode back main further) (added mode front main further b) }
+{}
+
+/// Each line end of preserved text gives a line at least.
+pub fn each_line_end_gives_a_line<T: EqualCopy>()
+    ensures { (mode : SeenMode) (cs : List ℕ) (main further : T.Seen) (b new : Block T.Seen)
+        → is_preserved mode ≡ true → added mode cs main further b ≡ Some new
+        → length b.lines + line_ends cs ≤ length new.lines }
+{}
+
+/// A line that is filled has just the width's columns, where it has no more.
+pub fn filled_lines_have_the_width<T: EqualCopy>()
+    ensures { (width : ℕ) (tag : T.Seen) (line : List (Item T.Seen)) → line_columns line ≤ width
+        → line_columns (padded width (Some tag) line) ≡ width }
+{}

@@ -6,7 +6,10 @@ mod laws;
 mod padding;
 
 pub use block::WrappedBlock;
-pub use laws::{narrow_normal_text, normal_lines_of_a_block, normal_text_is_kept};
+pub use laws::{
+    each_line_end_gives_a_line, filled_lines_have_the_width, narrow_normal_text,
+    normal_lines_of_a_block, normal_text_is_kept, text_may_be_cut_anywhere,
+};
 pub use normal_text::{
     fewest_lines, letters_of_texts, lines_keep_the_width, normal_lines_are_fullest,
     one_fullest_layout, wide_text_never_fits,

@@ -18,8 +18,8 @@ loop-first-preserved g c =
     let wraps = c.args.self.now.wraps in
     let framed = c.loop-first.invariant.framed in
     let read = c.in_ok-read_trimmed_piece.ensures.pass
-        ∙ ap (read_all (pass_of seen c.loop-first.self)) (trimmed_framed seen width c.loop-first.self.width wraps
-        c.loop-first.self.wraps c.in-Some.first.now framed.width framed.wraps) in
+    ∙ ap (read_all (pass_of seen c.loop-first.self)) (trimmed_framed seen width c.loop-first.self.width wraps
+    c.loop-first.self.wraps c.in-Some.first.now framed.width framed.wraps) in
     record {
       framed = framed_more (pass_of seen c.args.self.now) (pass_of seen c.loop-first.self) _
           (trimmed width wraps (piece_sources seen c.in-Some.first.now)) framed read;

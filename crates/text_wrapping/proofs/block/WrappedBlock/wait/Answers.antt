@@ -29,6 +29,6 @@ loop-name-preserved g c =
 pub returns-clause-waits : goal.returns-clause-waits
 returns-clause-waits g c =
     let left : length (into_iter_items c.loop-name.name-iterator) ≡ 0 =
-        omega (arith, c.loop-name.name-iterator.rest.ok.0, c.in-None.ensures.steps.0) in
+    omega (arith, c.loop-name.name-iterator.rest.ok.0, c.in-None.ensures.steps.0) in
     wait_all (block_of g.T.EqualCopy.seen c.loop-name.self) _ (names (into_iter_items c.loop-name.name-iterator))
     (ap names (nil_length (into_iter_items c.loop-name.name-iterator) left)) c.loop-name.invariant.waits
