@@ -1,4 +1,5 @@
 pub mod Cuts
+pub mod Faults
 pub mod LawWords
 pub mod Modes
 pub mod Pass

@@ -1,4 +1,5 @@
-ghost use Rattle.std.specs.Prelude.{◌≡◌};
+ghost use Rattle.std.specs.Prelude.{◌≡◌, Some};
+ghost use Rattle.preserved_text.specs.Faults.{narrow_text, fault_text};
 ghost use Rattle.preserved_text.specs.declared.fault.BlockError.TheVariants as errors;
 
 use std::alloc::{AllocError, AllocFailed};
@@ -10,6 +11,8 @@ use std::fmt;
 pub struct TooNarrow;
 
 impl fmt::Display for TooNarrow {
+    ghost output = { λ _. Some narrow_text };
+
     fn fmt<W: fmt::Write>(&self, f: &mut fmt::Formatter<W>) -> fmt::Result {
         f.write_str("output width not wide enough")
     }
@@ -29,6 +32,8 @@ pub enum BlockError {
 }
 
 impl fmt::Display for BlockError {
+    ghost output = { λ e. Some (fault_text e) };
+
     fn fmt<W: fmt::Write>(&self, f: &mut fmt::Formatter<W>) -> fmt::Result {
         f.write_str(match self {
             BlockError::TooNarrow => "output width not wide enough",

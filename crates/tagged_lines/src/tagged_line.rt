@@ -106,6 +106,7 @@ impl<T: EqualCopy + Drop> TaggedLine<T> {
     }
 
     /// Adds another line at the end. The error is want of memory alone, and leaves the line as it was.
+    #[inline(always)]
     pub fn push_line(&mut self, other: &TaggedLine<T>) -> Result<(), AllocError>
         ensures ok { OnOk result (line_items T.seen self.new
             ≡ line_items T.seen self.old ++ line_items T.seen other.now) }
