@@ -17,3 +17,4 @@ pub mod MarkedLemmas
 pub mod PieceLemmas
 pub mod ShownLemmas
 pub mod LetterLemmas
+pub mod MarkedWidth

@@ -29,7 +29,7 @@ pub ride_letters : {S : Type 0} (tag : Rider S) → lettered (chars (0xE2 ∷ 0x
     ≡ record { code = 0x2060; tag = tag } ∷ []
 ride_letters tag = ap (λ cs. lettered cs tag) ride_code
 
-no_width : width_of 0x2060 ≡ 0
+pub no_width : width_of 0x2060 ≡ 0
 unfolding unicode_width columns_of width_of
 no_width = refl
 

@@ -1,5 +1,6 @@
 //! Laws of texts and their lines: each is the contract of a function that does nothing.
-ghost use Rattle.std.specs.Prelude.{◌≡◌, ℕ, Bool, true, false, List, ◌++◌, ◌||◌, not};
+ghost use Rattle.std.specs.Prelude.{◌≡◌, ℕ, ◌≤◌, All, Bool, true, false, List, ◌++◌, ◌||◌, not};
+ghost use Rattle.tagged_lines.specs.Tagged.{line_columns};
 ghost use Rattle.preserved_text.specs.Sources.{Source, sourced};
 ghost use Rattle.normal_text.specs.Units.{lettered};
 ghost use Rattle.normal_text.specs.Layout.{AreLinesOf, NeverFits};
@@ -31,4 +32,10 @@ pub fn letters_of_texts<T: EqualCopy>()
     ensures no_marker { (cs : List ℕ) (main further : T.Seen) → has_marker (sourced cs main further) ≡ false }
     ensures no_more { (front back : List (Source T.Seen)) → has_marker front ≡ false → has_marker back ≡ false
         → has_marker (front ++ back) ≡ false }
+{}
+
+/// Where no character that a line is to show is wider than the width, no line passes the width, markers or not.
+pub fn normal_lines_keep_the_width<T: EqualCopy>()
+    ensures { (width : ℕ) (source : List (Source T.Seen)) → has_wide_text width source ≡ false
+        → All (λ items. line_columns items ≤ width) (normal_lines width source) }
 {}

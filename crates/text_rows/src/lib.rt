@@ -15,6 +15,10 @@ mod line_tests;
 #[cfg(test)]
 mod marks;
 #[cfg(test)]
+mod preserved_rows;
+#[cfg(test)]
+mod preserved_tests;
+#[cfg(test)]
 mod rows;
 #[cfg(test)]
 mod shown;

@@ -1,0 +1,154 @@
+use crate::marks::Mark;
+use crate::preserved_rows::{Call, PRESERVED, SCRIPTS, Script};
+use crate::shown::{shown, shown_marked};
+use std::alloc::{AllocError, Global};
+use std::test::Fail;
+use text_block_renderer::{BlockError, TaggedLine, WhiteSpace, WrappedBlock};
+
+fn laid(
+    alloc: Global,
+    mode: WhiteSpace,
+    width: usize,
+    front: &str,
+    back: &str,
+) -> Result<String, BlockError> {
+    let mut block = WrappedBlock::new(alloc, width, false, false, ());
+    block.add_text(front, mode, &(), &())?;
+    block.add_text(back, mode, &(), &())?;
+    Ok(shown(alloc, &block.into_lines()?)?)
+}
+
+#[test]
+fn lines_of_preserved_texts(rt: HostRuntime) -> Result<(), Fail> {
+    for (mode, width, text, lines) in PRESERVED {
+        let made = laid(rt.alloc(), mode, width, text, "")?;
+        assert_eq!(rt; made.as_str(), lines, "at {width}: {text}");
+    }
+    Ok(())
+}
+
+fn played(alloc: Global, script: &Script) -> Result<String, BlockError> {
+    let mut block = WrappedBlock::new(alloc, script.width, false, script.overflow, ());
+    for call in script.calls {
+        match call {
+            Call::Text(mode, text) => block.add_text(text, *mode, &(), &())?,
+            Call::Marker(name) => block.record_frag_start(name)?,
+        }
+    }
+    Ok(shown_marked(alloc, &block.into_lines()?)?)
+}
+
+fn is_played(alloc: Global, script: &Script) -> bool {
+    match played(alloc, script) {
+        Ok(made) => made.as_str() == script.lines,
+        Err(BlockError::TooNarrow) => script.lines == "TooNarrow",
+        Err(_) => false,
+    }
+}
+
+#[test]
+fn scripts_of_a_model(rt: HostRuntime) -> Result<(), Fail> {
+    for (at, script) in SCRIPTS.iter().enumerate() {
+        assert!(rt; is_played(rt.alloc(), script), "script {at}");
+    }
+    Ok(())
+}
+
+const ALPHABET: [char; 8] = ['a', 'b', ' ', '\t', '\n', '\u{200b}', '漢', '\u{301}'];
+
+/// A text of eight characters, and the seed of the next.
+fn made_text(alloc: Global, seed: u32) -> Result<(String, u32), AllocError> {
+    let mut text = String::new(alloc);
+    let mut seed = seed;
+    for _at in 0..8 {
+        seed = seed.wrapping_mul(1_103_515_245).wrapping_add(12_345);
+        text.push(ALPHABET[(seed >> 16) as usize % 8])?;
+    }
+    Ok((text, seed))
+}
+
+fn is_same_in_cuts(
+    alloc: Global,
+    mode: WhiteSpace,
+    width: usize,
+    text: &str,
+) -> Result<bool, BlockError> {
+    let whole = laid(alloc, mode, width, text, "")?;
+    for (at, _) in text.char_indices() {
+        let (front, back) = text.split_at(at);
+        if laid(alloc, mode, width, front, back)?.as_str() != whole.as_str() {
+            return Ok(false);
+        }
+    }
+    Ok(true)
+}
+
+#[test]
+fn a_thousand_texts_in_every_cut(rt: HostRuntime) -> Result<(), Fail> {
+    let mut seed = 1;
+    for turn in 0..1000 {
+        let (text, next) = made_text(rt.alloc(), seed)?;
+        seed = next;
+        let mode = if turn % 2 == 0 {
+            WhiteSpace::Pre
+        } else {
+            WhiteSpace::PreWrap
+        };
+        let same = is_same_in_cuts(rt.alloc(), mode, 2 + turn % 7, text.as_str())?;
+        assert!(rt; same, "text {turn}");
+    }
+    Ok(())
+}
+
+/// How many characters of a line have the second tag.
+fn count_strong(line: &TaggedLine<Mark>) -> usize {
+    let mut count = 0usize;
+    for string in line.tagged_strings() {
+        if string.tag == Mark::Strong {
+            count = count.saturating_add(string.width());
+        }
+    }
+    count
+}
+
+// From the first character past the width on a source line has the second tag.
+#[test]
+fn tags_of_wrapped_lines(rt: HostRuntime) -> Result<(), Fail> {
+    let alloc = rt.alloc();
+    let mut block = WrappedBlock::new(alloc, 4, false, false, Mark::Plain);
+    block.add_text("ab cdef", WhiteSpace::Pre, &Mark::Plain, &Mark::Strong)?;
+    let lines = block.into_lines()?;
+    let mut counts = String::new(alloc);
+    for line in &lines {
+        counts.push_str(format!(in alloc; "{} ", count_strong(line))?.as_str())?;
+    }
+    assert_eq!(rt; counts.as_str(), "0 3 ");
+    Ok(())
+}
+
+#[test]
+fn trailing_fragments(rt: HostRuntime) -> Result<(), Fail> {
+    let alloc = rt.alloc();
+    let mut block = WrappedBlock::new(alloc, 9, false, false, ());
+    block.add_text("ab ", WhiteSpace::Normal, &(), &())?;
+    block.record_frag_start("n")?;
+    let names = block.take_trailing_fragments()?;
+    assert!(rt; names.len() == 1 && names[0].as_str() == "n");
+    let lines = shown_marked(alloc, &block.into_lines()?)?;
+    assert_eq!(rt; lines.as_str(), "ab|");
+    let mut narrow = WrappedBlock::new(alloc, 1, false, false, ());
+    narrow.add_text("漢", WhiteSpace::Pre, &(), &())?;
+    assert!(rt; matches!(narrow.take_trailing_fragments(), Err(BlockError::TooNarrow)));
+    assert!(rt; matches!(narrow.take_trailing_fragments(), Err(BlockError::Failed)));
+    Ok(())
+}
+
+#[test]
+fn modes_of_white_space(rt: HostRuntime) -> Result<(), Fail> {
+    let mode = WhiteSpace::default();
+    assert!(rt; mode == WhiteSpace::Normal && mode.do_wrap() && !mode.preserve_whitespace());
+    let (pre, wrap) = (WhiteSpace::Pre, WhiteSpace::PreWrap);
+    assert!(rt; !pre.do_wrap() && pre.preserve_whitespace());
+    assert!(rt; wrap.do_wrap() && wrap.preserve_whitespace() && wrap != pre);
+    Ok(())
+}
