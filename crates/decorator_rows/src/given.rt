@@ -24,17 +24,19 @@ impl<A: Drop> Given<A> {
         }
     }
 
-    fn add(&mut self, marked: (String, A), behind: &str) -> Result<(), AllocError> {
-        let (text, annotation) = marked;
-        self.marks.push_str(text.as_str())?;
-        self.marks.push_str(behind)?;
-        self.notes.push(annotation)?;
+    fn add(
+        &mut self,
+        start: Result<(String, A), AllocError>,
+        end: Result<String, AllocError>,
+    ) -> Result<(), AllocError> {
+        let (start, note) = start?;
+        let end = end?;
+        self.marks.push_str(start.as_str())?;
+        self.marks.push('x')?;
+        self.marks.push_str(end.as_str())?;
+        self.marks.push(' ')?;
+        self.notes.push(note)?;
         Ok(())
-    }
-
-    fn end(&mut self, text: String) -> Result<(), AllocError> {
-        self.marks.push_str(text.as_str())?;
-        self.marks.push(' ')
     }
 }
 
@@ -44,12 +46,12 @@ pub(crate) fn given_by<D: TextDecorator>(
     decorator: &mut D,
 ) -> Result<Given<D::Annotation>, AllocError> {
     let mut given = Given::new(alloc);
-    given.add(decorator.decorate_link_start(alloc, "u")?, "x")?;
-    given.end(decorator.decorate_link_end(alloc)?)?;
+    let start = decorator.decorate_link_start(alloc, "u");
+    given.add(start, decorator.decorate_link_end(alloc))?;
     add_inline(alloc, decorator, &mut given)?;
-    given.add(decorator.decorate_superscript_start(alloc)?, "x")?;
-    given.end(decorator.decorate_superscript_end(alloc)?)?;
-    given.add(decorator.decorate_image(alloc, "s", "t")?, "")?;
+    let (text, note) = decorator.decorate_image(alloc, "s", "t")?;
+    given.marks.push_str(text.as_str())?;
+    given.notes.push(note)?;
     add_notes(alloc, decorator, &mut given)?;
     Ok(given)
 }
@@ -59,14 +61,16 @@ fn add_inline<D: TextDecorator>(
     decorator: &D,
     given: &mut Given<D::Annotation>,
 ) -> Result<(), AllocError> {
-    given.add(decorator.decorate_em_start(alloc)?, "x")?;
-    given.end(decorator.decorate_em_end(alloc)?)?;
-    given.add(decorator.decorate_strong_start(alloc)?, "x")?;
-    given.end(decorator.decorate_strong_end(alloc)?)?;
-    given.add(decorator.decorate_strikeout_start(alloc)?, "x")?;
-    given.end(decorator.decorate_strikeout_end(alloc)?)?;
-    given.add(decorator.decorate_code_start(alloc)?, "x")?;
-    given.end(decorator.decorate_code_end(alloc)?)
+    let start = decorator.decorate_em_start(alloc);
+    given.add(start, decorator.decorate_em_end(alloc))?;
+    let start = decorator.decorate_strong_start(alloc);
+    given.add(start, decorator.decorate_strong_end(alloc))?;
+    let start = decorator.decorate_strikeout_start(alloc);
+    given.add(start, decorator.decorate_strikeout_end(alloc))?;
+    let start = decorator.decorate_code_start(alloc);
+    given.add(start, decorator.decorate_code_end(alloc))?;
+    let start = decorator.decorate_superscript_start(alloc);
+    given.add(start, decorator.decorate_superscript_end(alloc))
 }
 
 // Annotations without texts.
