@@ -1,5 +1,5 @@
 -- The letters of texts, one behind the other.
-use Rattle.std.proofs.Common.{◌≡◌, ℕ, Bool, false, List, [], ◌∷◌, ◌++◌, ap, refl}
+use Rattle.std.proofs.Common.{◌≡◌, ℕ, false, List, [], ◌∷◌, ◌++◌, ap, refl}
 use Rattle.preserved_text.specs.Sources.{Source, letter, fragment, sourced}
 use Rattle.normal_text.specs.Units.{lettered}
 use Rattle.normal_text.specs.Letters.{letters_of, has_marker}

@@ -1,5 +1,5 @@
 -- Lines of normal text with its markers keep the width.
-use Rattle.std.proofs.Common.{◌≡◌, ℕ, ◌+◌, ◌≤◌, Bool, true, false, not, ◌&&◌, ◌||◌, nat_le, nat_lt, List, [], ◌∷◌, ◌++◌, map, sym, ap, ◌∙◌, refl, subst, arith}
+use Rattle.std.proofs.Common.{◌≡◌, ℕ, ◌≤◌, Bool, true, false, not, ◌&&◌, ◌||◌, nat_le, nat_lt, List, [], ◌∷◌, ◌++◌, map, ap, ◌∙◌, refl, subst, arith}
 use Rattle.std.specs.Prelude.{All, IsTrue, fold, if◌then◌else◌}
 use Rattle.std.proofs.lemmas.Bool.Decides.{nat_tests}
 use Rattle.std.proofs.lemmas.List.Elements.{All-nil, All-cons, All-head, All-tail, All-append}
@@ -99,14 +99,26 @@ carried_room {S = S} width (fragment name ∷ source) k narrow room =
 shown_columns : {S : Type 0} (items : List (Item (Rider S))) → line_columns (map shown_item items) ≤ line_columns items
 shown_columns [] = omega arith
 shown_columns (character c (plain tag) ∷ items) =
-    omega (arith, shown_columns items, line_columns-cons (character c (plain tag)) items,
-      line_columns-cons (character c tag) (map shown_item items))
+    omega (
+      arith,
+      shown_columns items,
+      line_columns-cons (character c (plain tag)) items,
+      line_columns-cons (character c tag) (map shown_item items),
+    )
 shown_columns (character c (note name) ∷ items) =
-    omega (arith, shown_columns items, line_columns-cons (character c (note name)) items,
-      line_columns-cons (marker name) (map shown_item items))
+    omega (
+      arith,
+      shown_columns items,
+      line_columns-cons (character c (note name)) items,
+      line_columns-cons (marker name) (map shown_item items),
+    )
 shown_columns (marker name ∷ items) =
-    omega (arith, shown_columns items, line_columns-cons (marker name) items,
-      line_columns-cons (marker name) (map shown_item items))
+    omega (
+      arith,
+      shown_columns items,
+      line_columns-cons (marker name) items,
+      line_columns-cons (marker name) (map shown_item items),
+    )
 
 shown_fit : {S : Type 0} (width : ℕ) (lines : List (List (Item (Rider S))))
     → All (λ items. line_columns items ≤ width) lines

@@ -1,7 +1,7 @@
 -- The lines of the code are those of the filling functions.
 use Rattle.std.proofs.Common.{◌≡◌, ℕ, ◌+◌, ◌<◌, ◌≤◌, Bool, true, false, nat_le, List, [], ◌∷◌, ◌++◌, map, fold, length, get_or, take, sym, ap, ◌∙◌, refl, subst, append_assoc, arith}
 use Rattle.std.specs.Prelude.{Option, All, if◌then◌else◌}
-use Rattle.std.proofs.lemmas.List.{append-nil, map-append, length_push, take_more, take_all}
+use Rattle.std.proofs.lemmas.List.{append-nil, map-append}
 use Rattle.std.proofs.lemmas.List.Elements.{All-push}
 use Rattle.std.proofs.lemmas.List.Sums.{fold-append}
 use Rattle.std.proofs.lemmas.Bool.Decides.{nat_tests}
@@ -15,7 +15,7 @@ use Rattle.normal_text.specs.Layout.{Mark, opens, starts, inside, cuttable, mark
 use Rattle.normal_text.specs.Greedy.{Filled, filled, ended, all_lines, add_marks, add_mark}
 use Rattle.normal_text.specs.NormalStates.{HoldsLines, Lays, LaysUnit, LaysWhole, LaysCut, Cuts, ShowsAs, AreGapless, letter_items, space_columns, space_behind, with_room}
 use Rattle.normal_text.specs.declared.filling.Filling.{Filling}
-use Rattle.preserved_text.proofs.ElementLemmas.{next_taken, all_taken}
+use Rattle.preserved_text.proofs.ElementLemmas.{next_taken}
 use Rattle.normal_text.proofs.NormalItems.{marks_counted, letters_counted, behind_items, items_behind, columns_behind, unit_columns, unit_items, lone_items, lone_columns, cut_shows}
 
 pub if_true : {A : Type 0} (b : Bool) (x y : A) → b ≡ true → (if b then x else y) ≡ x

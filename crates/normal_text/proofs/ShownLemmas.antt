@@ -1,11 +1,8 @@
 -- Lines of text with markers on it, shown.
-use Rattle.std.proofs.Common.{◌≡◌, ℕ, ◌<◌, Bool, true, false, ◌||◌, List, [], ◌∷◌, ◌++◌, map, length, take, get_or, sym, ap, ◌∙◌, refl, append_assoc, append-nil}
+use Rattle.std.proofs.Common.{◌≡◌, ℕ, Bool, true, false, ◌||◌, List, [], ◌∷◌, ◌++◌, map, ap, ◌∙◌, refl, append_assoc}
 use Rattle.std.specs.Prelude.{if◌then◌else◌}
-use Rattle.tagged_lines.specs.Elements.{Item, character, marker, characters, tagged, element_items, elements_items, elements_text}
-use Rattle.tagged_lines.specs.declared.tagged_string.TaggedLineElement.{TaggedLineElement}
-use Rattle.tagged_lines.proofs.Joins.{elements_characters}
-use Rattle.preserved_text.specs.Preserved.{has_text, markers_of}
-use Rattle.preserved_text.specs.Sources.{is_filled}
+use Rattle.tagged_lines.specs.Elements.{Item, character, marker, tagged}
+use Rattle.preserved_text.specs.Preserved.{has_text}
 use Rattle.normal_text.specs.Riders.{plain, note, shown_item, settled_lines, settled_rest}
 use Rattle.preserved_text.proofs.ElementLemmas.{has_text-append}
 

@@ -1,5 +1,5 @@
 -- The letters of a text in which there are no markers.
-use Rattle.std.specs.Prelude.{ℕ, Bool, true, false, List, [], ◌∷◌}
+use Rattle.std.specs.Prelude.{Bool, true, false, List, [], ◌∷◌}
 use Rattle.preserved_text.specs.Sources.{Source, letter, fragment}
 use Rattle.normal_text.specs.Units.{Letter}
 

@@ -1,6 +1,5 @@
 -- What contracts see of a `MarkedText`, and of the places at which markers are put among letters.
-use Rattle.std.specs.Prelude.{◌≡◌, ℕ, Bool, true, false, List, [], ◌∷◌, ◌++◌, All, map, fold, chars, string_bytes, String}
-use Rattle.std.specs.Global.{Global}
+use Rattle.std.specs.Prelude.{◌≡◌, ℕ, Bool, true, false, List, [], ◌∷◌, ◌++◌, All, map, fold, chars}
 use Rattle.std.specs.Str.{IsUtf8}
 use Rattle.normal_text.specs.Units.{Letter, lettered}
 use Rattle.normal_text.specs.NormalStates.{HasRead, HasWider}

@@ -1,10 +1,10 @@
 -- Columns of items, and spaces.
-use Rattle.std.proofs.Common.{◌≡◌, ℕ, zero, suc, ◌+◌, ◌-◌, ◌<◌, ◌≤◌, Bool, true, false, IsTrue, List, [], ◌∷◌, ◌++◌, length, replicate, drop, refl, sym, ap, ◌∙◌, inr, arith}
-use Rattle.std.specs.Prelude.{Some, sum_by, nat_le, nat_lt, unwrap_or}
+use Rattle.std.proofs.Common.{◌≡◌, ℕ, zero, suc, ◌+◌, ◌-◌, ◌<◌, ◌≤◌, true, false, List, [], ◌∷◌, ◌++◌, length, replicate, drop, refl, ap, ◌∙◌, inr, arith}
+use Rattle.std.specs.Prelude.{nat_le, nat_lt, unwrap_or}
 use Rattle.std.proofs.lemmas.List.Sums.{sum_by-append, sum_by-cons}
-use Rattle.std.proofs.lemmas.List.{length-append, length-drop}
+use Rattle.std.proofs.lemmas.List.{length-drop}
 use Rattle.std.proofs.lemmas.Bool.Decides.{nat_tests}
-use Rattle.tagged_lines.specs.Columns.{width_of, columns_of, columns_of-one, text_columns}
+use Rattle.tagged_lines.specs.Columns.{width_of, columns_of-one, text_columns}
 use Rattle.tagged_lines.specs.Tagged.{Item, character, marker, characters, line_columns}
 use Rattle.preserved_text.specs.Preserved.{space, has_text, item_columns}
 

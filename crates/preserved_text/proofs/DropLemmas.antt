@@ -1,8 +1,7 @@
 -- Items that are dropped from the front.
 use Rattle.std.proofs.Common.{◌≡◌, ℕ, zero, suc, ◌-◌, ◌%◌, ◌≤◌, List, [], ◌∷◌, ◌++◌, length, drop, sym, ap, ◌∙◌, refl, append_assoc, arith}
-use Rattle.std.proofs.lemmas.List.{append-nil, length-append}
-use Rattle.std.proofs.Math.Nat.{mod-le}
-use Rattle.tagged_lines.specs.Tagged.{Item, character, tagged}
+use Rattle.std.proofs.lemmas.List.{length-append}
+use Rattle.tagged_lines.specs.Tagged.{tagged}
 
 pub drop_none : {A : Type 0} (n : ℕ) → drop {A = A} n [] ≡ []
 drop_none zero = refl

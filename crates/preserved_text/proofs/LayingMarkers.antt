@@ -1,5 +1,5 @@
 -- No marker is lost.
-use Rattle.std.proofs.Common.{◌≡◌, ℕ, Bool, true, false, List, [], ◌∷◌, ◌++◌, flat_map, refl, sym, ap, ◌∙◌}
+use Rattle.std.proofs.Common.{◌≡◌, ℕ, Bool, List, [], ◌∷◌, ◌++◌, flat_map, refl, sym, ap, ◌∙◌}
 use Rattle.tagged_lines.specs.Tagged.{Item, character, marker}
 use Rattle.preserved_text.specs.Sources.{Source, letter, fragment}
 use Rattle.preserved_text.specs.Preserved.{laid, preserved_lines, preserved_waiting, markers_of, names_of, trimmed, word_behind}

@@ -1,11 +1,11 @@
 -- What a pass keeps of what it reads.
-use Rattle.std.proofs.Common.{◌≡◌, ℕ, Bool, true, false, not, ◌&&◌, ◌||◌, List, [], ◌∷◌, ◌++◌, sym, ap, ◌∙◌, refl, subst, take, drop}
-use Rattle.std.specs.Prelude.{Result, Ok, Err, IfOk, OnOk, fold, if◌then◌else◌}
+use Rattle.std.proofs.Common.{◌≡◌, ℕ, Bool, true, false, not, ◌&&◌, ◌||◌, List, [], ◌∷◌, ◌++◌, sym, ap, ◌∙◌, refl, take, drop}
+use Rattle.std.specs.Prelude.{Result, Ok, Err, IfOk, OnOk, if◌then◌else◌}
 use Rattle.std.proofs.lemmas.Bool.{false≢true}
 use Rattle.std.proofs.lemmas.List.Sums.{fold-append}
 use Rattle.preserved_text.specs.Sources.{Source, letter, fragment, piece_sources, sources_of}
 use Rattle.preserved_text.specs.Preserved.{Kind, solid, white, tab, cut, nothing, kind_of, trimmed}
-use Rattle.preserved_text.specs.Pass.{Pass, new_pass, finished, begins, entered, closed, ended_body, read_at, read_source, read_all}
+use Rattle.preserved_text.specs.Pass.{Pass, new_pass, finished, entered, ended_body, read_at, read_source, read_all}
 use Rattle.preserved_text.specs.Trimming.{trimmed_each, StayWhole}
 use Rattle.preserved_text.specs.declared.piece.Piece.{Piece}
 

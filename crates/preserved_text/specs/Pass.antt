@@ -1,6 +1,6 @@
 -- A source line whose white space stays, laid in one pass: parts are laid as they end, and the characters of a body have
 -- their tags as they are read.
-use Rattle.std.specs.Prelude.{ℕ, ◌+◌, Bool, true, false, not, ◌&&◌, ◌||◌, nat_lt, List, [], ◌∷◌, ◌++◌, fold, map, if◌then◌else◌}
+use Rattle.std.specs.Prelude.{ℕ, ◌+◌, Bool, true, false, not, ◌&&◌, ◌||◌, nat_lt, List, [], ◌∷◌, ◌++◌, fold, if◌then◌else◌}
 use Rattle.tagged_lines.specs.Columns.{width_of}
 use Rattle.tagged_lines.specs.Tagged.{Item, character, marker, line_columns}
 use Rattle.preserved_text.specs.Sources.{Source, letter, fragment}

@@ -1,5 +1,5 @@
 -- What contracts see of lines that are being laid.
-use Rattle.std.specs.Prelude.{Bool, All, map}
+use Rattle.std.specs.Prelude.{All, map}
 use Rattle.tagged_lines.specs.Tagged.{line_items, IsJoined}
 use Rattle.preserved_text.specs.Preserved.{Laying}
 use Rattle.preserved_text.specs.declared.laying.Rows.{Rows}

@@ -1,7 +1,7 @@
 -- A source line without the white space at its end, piece by piece.
 use Rattle.std.specs.Prelude.{◌≡◌, ℕ, ◌≤◌, Bool, false, ◌||◌, List, [], ◌∷◌, ◌++◌, flat_map, length, take, drop, if◌then◌else◌}
 use Rattle.preserved_text.specs.Sources.{Source, piece_sources, sources_of}
-use Rattle.preserved_text.specs.Preserved.{kind_of, is_solid, has_solid, trimmed}
+use Rattle.preserved_text.specs.Preserved.{kind_of, is_solid, trimmed}
 use Rattle.preserved_text.specs.declared.piece.Piece.{Piece}
 
 -- some character is shown

@@ -1,10 +1,10 @@
 -- Laws of blocks.
-use Rattle.std.proofs.Common.{◌≡◌, ℕ, ◌+◌, ◌-◌, ◌≤◌, Bool, true, false, not, ◌&&◌, ◌==◌, List, [], ◌∷◌, ◌++◌, None, Some, map, length, replicate, sym, ap, ◌∙◌, refl, append-nil, arith}
+use Rattle.std.proofs.Common.{◌≡◌, ℕ, ◌+◌, ◌-◌, ◌≤◌, Bool, true, false, ◌&&◌, ◌==◌, List, [], ◌∷◌, ◌++◌, None, Some, map, length, replicate, sym, ap, ◌∙◌, refl, arith}
 use Rattle.std.specs.Prelude.{Option, if◌then◌else◌}
 use Rattle.std.specs.Option.{option_map, option_and_then}
 use Rattle.std.proofs.lemmas.Bool.{false≢true}
 use Rattle.std.proofs.lemmas.List.{length-append, length-map}
-use Rattle.tagged_lines.specs.Tagged.{Item, character, line_columns}
+use Rattle.tagged_lines.specs.Tagged.{Item, line_columns}
 use Rattle.preserved_text.specs.Preserved.{space}
 use Rattle.preserved_text.specs.Modes.{is_preserved, is_same_mode}
 use Rattle.preserved_text.specs.declared.white_space.WhiteSpace.{WhiteSpace}

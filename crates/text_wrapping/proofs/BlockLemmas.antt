@@ -1,7 +1,7 @@
 -- What a block holds behind each call.
-use Rattle.std.proofs.Common.{◌≡◌, ◌≢◌, ℕ, Bool, true, false, not, ◌&&◌, ◌==◌, List, [], ◌∷◌, ◌++◌, None, Some, map, length, sym, ap, ◌∙◌, refl, append_assoc, append-nil, arith, chars, String, Global}
+use Rattle.std.proofs.Common.{◌≡◌, ◌≢◌, ℕ, Bool, true, false, ◌&&◌, ◌==◌, List, [], ◌∷◌, ◌++◌, None, Some, map, length, sym, ap, ◌∙◌, refl, append_assoc, append-nil, arith, chars, String, Global}
 use Rattle.std.specs.Prelude.{Option, string_bytes, if◌then◌else◌}
-use Rattle.std.specs.Option.{option_map, option_and_then}
+use Rattle.std.specs.Option.{option_and_then}
 use Rattle.std.proofs.lemmas.Bool.Decides.{nat_tests}
 use Rattle.tagged_lines.specs.Tagged.{Item}
 use Rattle.preserved_text.specs.Cuts.{Lacks, IsCutAt}

@@ -3,12 +3,11 @@ use Rattle.std.proofs.Common.{◌≡◌, ℕ, Bool, true, false, not, ◌&&◌, 
 use Rattle.std.specs.Prelude.{if◌then◌else◌}
 use Rattle.std.specs.Option.{option_map}
 use Rattle.tagged_lines.specs.Tagged.{Item}
-use Rattle.preserved_text.specs.Sources.{Source, letter, fragment, sourced}
+use Rattle.preserved_text.specs.Sources.{Source, letter, sourced}
 use Rattle.preserved_text.specs.declared.white_space.WhiteSpace.TheVariants.{Normal}
-use Rattle.normal_text.specs.Units.{lettered}
 use Rattle.normal_text.specs.Layout.{AreLinesOf, NeverFits}
 use Rattle.normal_text.specs.Riders.{normal_lines, has_wide_text}
-use Rattle.normal_text.specs.Letters.{letters_of, has_marker}
+use Rattle.normal_text.specs.Letters.{letters_of}
 use Rattle.text_wrapping.specs.Blocks.{Block, padded, lines_behind, lines_of, took_all, added, ended_lines}
 use Rattle.text_wrapping.specs.NormalBlocks.{normal_block}
 

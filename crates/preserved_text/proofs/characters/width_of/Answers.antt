@@ -1,4 +1,3 @@
-use Rattle.std.proofs.Common.{sym, ap, ◌∙◌}
 use Rattle.preserved_text.proofs.CharacterLemmas.{columns_read}
 use Rattle.preserved_text.proofs.characters.width_of.Goals as goal
 

@@ -1,7 +1,6 @@
-use Rattle.std.proofs.Common.{◌≡◌, sym, ap, ◌∙◌, not, ◌&&◌, ◌||◌}
+use Rattle.std.proofs.Common.{sym, ap, ◌∙◌}
 use Rattle.preserved_text.specs.Sources.{sources_of}
-use Rattle.preserved_text.specs.Preserved.{trimmed}
-use Rattle.preserved_text.specs.Pass.{new_pass, read_all, finished, left_markers}
+use Rattle.preserved_text.specs.Pass.{left_markers}
 use Rattle.preserved_text.specs.SourceLines.{pass_of}
 use Rattle.preserved_text.proofs.ReadingLemmas.{line_passed, if_ok_map, refused_is_wide, has_room}
 use Rattle.preserved_text.proofs.PassLaw.{pass_lines, pass_waiting, pass_wide}

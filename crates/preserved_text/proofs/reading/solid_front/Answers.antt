@@ -1,4 +1,4 @@
-use Rattle.std.proofs.Common.{refl, sym, ap, ◌∙◌, chars, ◌++◌, ◌∷◌, []}
+use Rattle.std.proofs.Common.{refl, sym, ap, ◌∙◌, chars}
 use Rattle.std.proofs.lemmas.Str.{chars-nil}
 use Rattle.preserved_text.specs.Sources.{is_filled}
 use Rattle.preserved_text.specs.Trimming.{has_solid_text, solid_text}

@@ -1,6 +1,3 @@
-use Rattle.std.proofs.Common.{◌++◌}
-use Rattle.preserved_text.specs.Sources.{names, sources_of}
-use Rattle.preserved_text.specs.Preserved.{names_of}
 use Rattle.text_wrapping.proofs.BlockLemmas.{names_more, all_names}
 use Rattle.text_wrapping.proofs.block.names_of.Goals as goal
 

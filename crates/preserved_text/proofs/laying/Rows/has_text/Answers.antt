@@ -1,4 +1,4 @@
-use Rattle.std.proofs.Common.{sym, ◌∙◌, ap, ◌||◌, true, false}
+use Rattle.std.proofs.Common.{sym, ◌∙◌, ap, ◌||◌}
 use Rattle.tagged_lines.specs.Tagged.{line_items}
 use Rattle.preserved_text.specs.Preserved.{has_text}
 use Rattle.preserved_text.proofs.ElementLemmas.{has_text-append}

@@ -1,4 +1,4 @@
-use Rattle.std.proofs.Common.{refl, sym, ap, ◌∙◌}
+use Rattle.std.proofs.Common.{sym, ap, ◌∙◌}
 use Rattle.preserved_text.specs.Sources.{piece_sources, sources_of}
 use Rattle.preserved_text.specs.Pass.{read_all}
 use Rattle.preserved_text.specs.SourceLines.{pass_of}

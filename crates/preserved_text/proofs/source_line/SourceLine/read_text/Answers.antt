@@ -1,4 +1,4 @@
-use Rattle.std.proofs.Common.{refl, sym, ap, ◌∙◌, chars, ◌∷◌, []}
+use Rattle.std.proofs.Common.{refl, sym, ap, ◌∙◌, chars}
 use Rattle.std.proofs.lemmas.Str.{chars-nil, chars_past_char}
 use Rattle.preserved_text.specs.Sources.{sourced}
 use Rattle.preserved_text.specs.Pass.{read_all}

@@ -1,4 +1,4 @@
-use Rattle.std.proofs.Common.{refl, sym, ap, ◌∙◌, subst}
+use Rattle.std.proofs.Common.{refl, sym, ap, ◌∙◌}
 use Rattle.preserved_text.specs.Sources.{piece_sources}
 use Rattle.preserved_text.specs.Preserved.{trimmed}
 use Rattle.preserved_text.specs.Trimming.{trimmed_each}

@@ -1,4 +1,4 @@
-use Rattle.std.proofs.Common.{◌≡◌, sym, ap, ◌∙◌, chars}
+use Rattle.std.proofs.Common.{sym, ap, ◌∙◌, chars}
 use Rattle.std.proofs.lemmas.Result.{on_ok_weaker}
 use Rattle.preserved_text.specs.Sources.{sourced}
 use Rattle.preserved_text.specs.Preserved.{trimmed}

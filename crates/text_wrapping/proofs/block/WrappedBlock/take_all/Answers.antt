@@ -1,4 +1,4 @@
-use Rattle.std.proofs.Common.{sym, ap, ◌∙◌, chars}
+use Rattle.std.proofs.Common.{sym, ◌∙◌, chars}
 use Rattle.std.proofs.lemmas.Result.{on_ok_weaker}
 use Rattle.text_wrapping.specs.Blocks.{block_of}
 use Rattle.text_wrapping.proofs.BlockLemmas.{run_taken}
