@@ -12,6 +12,9 @@ pub use laws::{
 };
 pub use normal_text::{
     fewest_lines, letters_of_texts, lines_keep_the_width, normal_lines_are_fullest,
-    one_fullest_layout, wide_text_never_fits,
+    normal_lines_keep_the_width, one_fullest_layout, wide_text_never_fits,
 };
-pub use preserved_text::{BlockError, TooNarrow, WhiteSpace};
+pub use preserved_text::{
+    BlockError, TooNarrow, WhiteSpace, a_line_that_fits_is_itself, preserved_lines_keep_markers,
+    preserved_lines_keep_the_width, preserved_lines_show_each_character,
+};
