@@ -5,6 +5,7 @@ mod filling;
 mod laws;
 mod layout_laws;
 mod marked;
+mod marked_rows;
 mod marked_tag;
 mod normal;
 mod normal_lines;
