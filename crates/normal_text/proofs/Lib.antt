@@ -18,3 +18,4 @@ pub mod PieceLemmas
 pub mod ShownLemmas
 pub mod LetterLemmas
 pub mod MarkedWidth
+pub mod MarkedKept

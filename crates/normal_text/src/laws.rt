@@ -1,10 +1,11 @@
 //! Laws of texts and their lines: each is the contract of a function that does nothing.
-ghost use Rattle.std.specs.Prelude.{◌≡◌, ℕ, ◌≤◌, All, Bool, true, false, List, ◌++◌, ◌||◌, not};
+ghost use Rattle.std.specs.Prelude.{◌≡◌, ℕ, ◌≤◌, All, flat_map, Bool, true, false, List, ◌++◌, ◌||◌, not};
 ghost use Rattle.tagged_lines.specs.Tagged.{line_columns};
 ghost use Rattle.preserved_text.specs.Sources.{Source, sourced};
+ghost use Rattle.preserved_text.specs.Preserved.{markers_of, names_of};
 ghost use Rattle.normal_text.specs.Units.{lettered};
 ghost use Rattle.normal_text.specs.Layout.{AreLinesOf, NeverFits};
-ghost use Rattle.normal_text.specs.Riders.{normal_lines, has_wide_text};
+ghost use Rattle.normal_text.specs.Riders.{normal_lines, normal_waiting, has_wide_text};
 ghost use Rattle.normal_text.specs.Letters.{letters_of, has_marker};
 
 use tagged_lines::EqualCopy;
@@ -38,4 +39,11 @@ pub fn letters_of_texts<T: EqualCopy>()
 pub fn normal_lines_keep_the_width<T: EqualCopy>()
     ensures { (width : ℕ) (source : List (Source T.Seen)) → has_wide_text width source ≡ false
         → All (λ items. line_columns items ≤ width) (normal_lines width source) }
+{}
+
+/// No marker is lost: each stands on a line or waits, in order.
+pub fn normal_lines_keep_markers<T: EqualCopy>()
+    ensures { (width : ℕ) (source : List (Source T.Seen))
+        → flat_map (markers_of {S = T.Seen}) (normal_lines width source) ++ normal_waiting width source
+        ≡ names_of source }
 {}
