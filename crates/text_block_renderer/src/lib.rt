@@ -8,9 +8,10 @@ pub use text_decorators::{
 };
 pub use text_wrapping::{
     BlockError, TooNarrow, WhiteSpace, WrappedBlock, a_line_that_fits_is_itself,
-    each_line_end_gives_a_line, fewest_lines, filled_lines_have_the_width, letters_of_texts,
-    lines_keep_the_width, narrow_normal_text, normal_lines_are_fullest,
-    normal_lines_keep_the_width, normal_lines_of_a_block, normal_text_is_kept, one_fullest_layout,
-    preserved_lines_keep_markers, preserved_lines_keep_the_width,
-    preserved_lines_show_each_character, text_may_be_cut_anywhere, wide_text_never_fits,
+    blocks_keep_the_width, each_line_end_gives_a_line, fewest_lines, filled_lines_have_the_width,
+    letters_of_texts, lines_keep_the_width, narrow_normal_text, normal_lines_are_fullest,
+    normal_lines_keep_markers, normal_lines_keep_the_width, normal_lines_of_a_block,
+    normal_text_is_kept, one_fullest_layout, preserved_lines_keep_markers,
+    preserved_lines_keep_the_width, preserved_lines_show_each_character, text_may_be_cut_anywhere,
+    wide_text_never_fits,
 };

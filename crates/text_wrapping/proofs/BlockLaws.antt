@@ -33,7 +33,7 @@ is_itself Normal = refl
 is_itself Pre = refl
 is_itself PreWrap = refl
 
-some_same : {X : Type 0} (x y : X) → Some x ≡ Some y → x ≡ y
+pub some_same : {X : Type 0} (x y : X) → Some x ≡ Some y → x ≡ y
 some_same x y h = cc
 
 -- what comes of a test that refuses

@@ -2,3 +2,4 @@ pub mod BlockLemmas
 pub mod NormalBlocks
 pub mod NormalPadding
 pub mod BlockLaws
+pub mod BlockWidths

@@ -1,18 +1,18 @@
 //! Laws of blocks and their lines: each is the contract of a function that does nothing.
-ghost use Rattle.std.specs.Prelude.{◌≡◌, ℕ, ◌+◌, ◌≤◌, Bool, true, false, List, [], ◌++◌, length, Option, None, Some};
+ghost use Rattle.std.specs.Prelude.{◌≡◌, ℕ, ◌+◌, ◌≤◌, All, Bool, true, false, List, [], ◌++◌, length, Option, None, Some};
 ghost use Rattle.std.specs.Option.{option_and_then};
 ghost use Rattle.preserved_text.specs.Modes.{is_preserved};
 ghost use Rattle.preserved_text.specs.Sources.{Source, sourced};
 ghost use Rattle.tagged_lines.specs.Tagged.{Item, line_columns};
 ghost use Rattle.normal_text.specs.Layout.{AreLinesOf, NeverFits};
 ghost use Rattle.normal_text.specs.Letters.{letters_of, has_marker};
-ghost use Rattle.text_wrapping.specs.Blocks.{Block, empty_block, added, ended_lines, padded};
-ghost use Rattle.text_wrapping.specs.LawWords.{line_ends};
+ghost use Rattle.text_wrapping.specs.Blocks.{Block, empty_block, added, ended, ended_lines, marked_by, padded};
+ghost use Rattle.text_wrapping.specs.LawWords.{line_ends, IsWithin};
 ghost use Rattle.preserved_text.specs.declared.white_space.WhiteSpace.{WhiteSpace as SeenMode};
 ghost use Rattle.text_wrapping.specs.NormalBlocks.{normal_block};
 
-use normal_text::{normal_lines_are_fullest, wide_text_never_fits};
-use preserved_text::WhiteSpace;
+use normal_text::{normal_lines_are_fullest, normal_lines_keep_the_width, wide_text_never_fits};
+use preserved_text::{WhiteSpace, preserved_lines_keep_the_width};
 use tagged_lines::EqualCopy;
 
 /// A block of normal text goes on behind what it holds; an empty block is one without text.
@@ -62,3 +62,19 @@ pub fn filled_lines_have_the_width<T: EqualCopy>()
     ensures { (width : ℕ) (tag : T.Seen) (line : List (Item T.Seen)) → line_columns line ≤ width
         → line_columns (padded width (Some tag) line) ≡ width }
 {}
+
+/// No line of a block passes the block's width where overflow is off: an empty block has none, and text, markers and the
+/// block's end keep it so.
+pub fn blocks_keep_the_width<T: EqualCopy>()
+    ensures empty { (width : ℕ) (padding : Option T.Seen) → IsWithin width (empty_block width false padding) }
+    ensures added { (width : ℕ) (mode : SeenMode) (cs : List ℕ) (main further : T.Seen) (b new : Block T.Seen)
+        → IsWithin width b → added mode cs main further b ≡ Some new → IsWithin width new }
+    ensures marked { (width : ℕ) (name : List ℕ) (b : Block T.Seen) → IsWithin width b
+        → IsWithin width (marked_by name b) }
+    ensures ended { (width : ℕ) (b new : Block T.Seen) → IsWithin width b → ended b ≡ Some new → IsWithin width new }
+    ensures lines { (width : ℕ) (b : Block T.Seen) (lines : List (List (Item T.Seen))) → IsWithin width b
+        → ended_lines b ≡ Some lines → All (λ line. line_columns line ≤ width) lines }
+{
+    preserved_lines_keep_the_width::<T>();
+    normal_lines_keep_the_width::<T>();
+}

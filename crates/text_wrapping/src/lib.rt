@@ -7,12 +7,13 @@ mod padding;
 
 pub use block::WrappedBlock;
 pub use laws::{
-    each_line_end_gives_a_line, filled_lines_have_the_width, narrow_normal_text,
-    normal_lines_of_a_block, normal_text_is_kept, text_may_be_cut_anywhere,
+    blocks_keep_the_width, each_line_end_gives_a_line, filled_lines_have_the_width,
+    narrow_normal_text, normal_lines_of_a_block, normal_text_is_kept, text_may_be_cut_anywhere,
 };
 pub use normal_text::{
     fewest_lines, letters_of_texts, lines_keep_the_width, normal_lines_are_fullest,
-    normal_lines_keep_the_width, one_fullest_layout, wide_text_never_fits,
+    normal_lines_keep_markers, normal_lines_keep_the_width, one_fullest_layout,
+    wide_text_never_fits,
 };
 pub use preserved_text::{
     BlockError, TooNarrow, WhiteSpace, a_line_that_fits_is_itself, preserved_lines_keep_markers,
