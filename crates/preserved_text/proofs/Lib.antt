@@ -7,6 +7,8 @@ pub mod LayingMarkers
 pub mod LayingPlain
 pub mod LayingWidth
 pub mod ElementLemmas
+mod FrontLemmas
+mod BodyLemmas
 pub mod TrimLemmas
 pub mod ReadingLemmas
 pub mod PassLaw

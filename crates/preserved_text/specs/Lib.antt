@@ -1,5 +1,6 @@
 pub mod Cuts
 pub mod Faults
+pub mod Fronts
 pub mod LawWords
 pub mod Modes
 pub mod Pass

@@ -1,5 +1,5 @@
 //! What the characters of a source line are to it.
-ghost use Rattle.std.specs.Prelude.{◌≡◌, ◌==◌, ◌||◌, not, is_some, if◌then◌else◌};
+ghost use Rattle.std.specs.Prelude.{◌≡◌, ◌↔◌, ◌≤◌, ◌==◌, ◌||◌, not, is_some, IsTrue, if◌then◌else◌};
 ghost use Rattle.tagged_lines.specs.Columns.{columns_of};
 ghost use Rattle.preserved_text.specs.Preserved.{kind_of, solid, white, tab, cut, nothing};
 ghost use Rattle.preserved_text.specs.SourceLines.{kind_seen};
@@ -28,6 +28,10 @@ pub(crate) enum CharacterKind {
 pub(crate) fn kind_of(c: char, width: usize, wraps: bool) -> CharacterKind
     ensures { kind_seen result ≡ kind_of width wraps c }
 {
+    // The common case.
+    if is_visible_ascii(c) {
+        return CharacterKind::Solid;
+    }
     if c == '\t' {
         return tab_kind(width);
     }
@@ -38,6 +42,12 @@ pub(crate) fn kind_of(c: char, width: usize, wraps: bool) -> CharacterKind
         return break_kind(wraps);
     }
     shown_kind(c)
+}
+
+fn is_visible_ascii(c: char) -> bool
+    ensures { IsTrue result ↔ ((0x21 ≤ c) × (c ≤ 0x7E)) }
+{
+    matches!(c, '!'..='~')
 }
 
 fn tab_kind(width: usize) -> CharacterKind

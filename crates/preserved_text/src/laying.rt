@@ -1,10 +1,11 @@
 //! Lines that are being laid.
-ghost use Rattle.std.specs.Prelude.{◌≡◌, ◌+◌, nat_le, [], ◌∷◌, chars, string_bytes, fold, OnOk};
+ghost use Rattle.std.specs.Prelude.{◌≡◌, ◌≤◌, ◌+◌, nat_le, [], ◌∷◌, length, chars, string_bytes, fold, OnOk, IfOk, IsUtf8};
 ghost use Rattle.tagged_lines.specs.Tagged.{line_items, element_items, character, marker, tagged};
 ghost use Rattle.preserved_text.specs.Preserved.{nothing_laid, has_text, line_text, line_taken, fresh, with_room, written, without_spaces, put, put_all, put_space, space, lay_blank, chosen};
 
 use crate::breaking::push_spaces;
-use crate::characters::{has_text, width_of};
+use crate::characters::{first_char, has_text, width_of};
+use crate::fronts::fitting_front;
 use std::alloc::{AllocError, Global};
 use tagged_lines::{EqualCopy, TaggedLine, TaggedLineElement, TaggedString};
 
@@ -98,6 +99,7 @@ impl<T: EqualCopy + Drop> Rows<T> {
     fn put(&mut self, width: usize, c: char, tag: &T) -> Result<(), AllocError>
         ensures laid { OnOk result (laying_of T.seen self.new
             ≡ put width (laying_of T.seen self.old) (character c (T.seen tag.now))) }
+        ensures no_tail { OnOk result (line_items T.seen self.new.tail ≡ []) }
         ensures joined { HasJoinedRows T.seen self.old → HasJoinedRows T.seen self.new }
     {
         self.make_room(width, width_of(c))?;
@@ -149,10 +151,27 @@ impl<T: EqualCopy + Drop> Rows<T> {
             (tagged (chars (string_bytes string.now.s)) (T.seen string.now.tag))) }
         ensures joined { HasJoinedRows T.seen self.old → HasJoinedRows T.seen self.new }
     {
-        for c in string.s.as_str().chars() {
+        let mut rest = string.s.as_str();
+        while let Some((c, after)) = first_char(rest) {
             self.put(width, c, &string.tag)?;
+            rest = self.put_front(width, after, &string.tag)?;
         }
         Ok(())
+    }
+
+    /// Adds the characters in front that go on the line at hand, all at once; what follows them is left.
+    fn put_front<'a>(&mut self, width: usize, text: &'a str, tag: &T) -> Result<&'a str, AllocError>
+        requires no_tail { line_items T.seen self.old.tail ≡ [] }
+        ensures laid { IfOk result (λ rest. put_all width (laying_of T.seen self.new)
+            (tagged (chars rest.now) (T.seen tag.now))
+            ≡ put_all width (laying_of T.seen self.old) (tagged (chars text.now) (T.seen tag.now))) }
+        ensures joined { HasJoinedRows T.seen self.old → HasJoinedRows T.seen self.new }
+        ensures text { IfOk result (λ rest. IsUtf8 rest.now) }
+        ensures no_longer { IfOk result (λ rest. length rest.now ≤ length text.now) }
+    {
+        let (front, rest) = fitting_front(text, width, self.line.width());
+        self.line.push_str(front, tag)?;
+        Ok(rest)
     }
 
     /// Holds white space of so many columns, which is not written yet.

@@ -4,6 +4,7 @@
 mod breaking;
 mod characters;
 mod fault;
+mod fronts;
 mod kinds;
 mod laid;
 mod laws;

@@ -1,11 +1,12 @@
 //! The reading of a source line from its pieces.
-ghost use Rattle.std.specs.Prelude.{◌≡◌, chars, OnOk, Bool, IsUtf8, List};
+ghost use Rattle.std.specs.Prelude.{◌≡◌, ◌≤◌, length, chars, OnOk, IfOk, Bool, IsUtf8, List};
 ghost use Rattle.preserved_text.specs.Sources.{sourced, piece_sources, sources_of, is_filled};
 ghost use Rattle.preserved_text.specs.Preserved.{trimmed, has_solid, is_solid, kind_of};
 ghost use Rattle.preserved_text.specs.Pass.{read_all};
 ghost use Rattle.preserved_text.specs.Trimming.{has_solid_text, solid_text, trimmed_each, StayWhole};
 
 use crate::characters::{first_char, last_char};
+use crate::fronts::body_front;
 use crate::kinds::{CharacterKind, kind_of};
 use crate::piece::Piece;
 use crate::source_line::SourceLine;
@@ -106,12 +107,35 @@ impl<T: EqualCopy + Drop> SourceLine<T> {
             (sourced (chars text.now) (T.seen main_tag.now) (T.seen wrap_tag.now))) }
         ensures joined { HasJoinedRows T.seen self.old.rows → HasJoinedRows T.seen self.new.rows }
     {
-        let mut rest = text;
+        let mut rest = self.read_body(text, main_tag, wrap_tag)?;
         while let Some((c, after)) = first_char(rest) {
             self.read_char(c, main_tag, wrap_tag)?;
-            rest = after;
+            rest = self.read_body(after, main_tag, wrap_tag)?;
         }
         Ok(())
+    }
+
+    /// Reads the characters in front that the body at hand goes on with, all at once; what follows them is left.
+    fn read_body<'a>(
+        &mut self,
+        text: &'a str,
+        main_tag: &T,
+        wrap_tag: &T,
+    ) -> Result<&'a str, AllocError>
+        ensures pass { IfOk result (λ rest. read_all (pass_of T.seen self.new)
+            (sourced (chars rest.now) (T.seen main_tag.now) (T.seen wrap_tag.now))
+            ≡ read_all (pass_of T.seen self.old)
+            (sourced (chars text.now) (T.seen main_tag.now) (T.seen wrap_tag.now))) }
+        ensures joined { HasJoinedRows T.seen self.old.rows → HasJoinedRows T.seen self.new.rows }
+        ensures text { IfOk result (λ rest. IsUtf8 rest.now) }
+        ensures no_longer { IfOk result (λ rest. length rest.now ≤ length text.now) }
+    {
+        if !self.begun {
+            return Ok(text);
+        }
+        let (body, rest) = body_front(text, self.width, self.wraps);
+        self.add_text(body, main_tag, wrap_tag)?;
+        Ok(rest)
     }
 }
 

@@ -1,12 +1,14 @@
 //! The pass over a source line.
-ghost use Rattle.std.specs.Prelude.{◌≡◌, ◌+◌, ◌&&◌, ◌||◌, not, nat_lt, chars, OnOk, IfOk, IfErr, map, All};
+ghost use Rattle.std.specs.Prelude.{◌≡◌, ◌≤◌, ◌+◌, ◌++◌, ◌&&◌, ◌||◌, not, nat_lt, length, chars, OnOk, IfOk, IfErr, map, All, IsUtf8};
 ghost use Rattle.tagged_lines.specs.Tagged.{line_items, line_columns, IsJoined};
 ghost use Rattle.preserved_text.specs.Sources.{names};
 ghost use Rattle.preserved_text.specs.Pass.{new_pass, begins, lettered, closed, blanked, stopped, read_letter, read_marker, read_at, finished, left_markers};
 ghost use Rattle.preserved_text.specs.Preserved.{white, taken};
+ghost use Rattle.preserved_text.specs.Fronts.{all_lettered, IsSteady};
 
-use crate::characters::width_of;
+use crate::characters::{first_char, width_of};
 use crate::fault::BlockError;
+use crate::fronts::{fitting_front, has_wider};
 use crate::kinds::{CharacterKind, kind_of};
 use crate::laid::LaidText;
 use crate::laying::{Rows, chosen};
@@ -127,6 +129,58 @@ impl<T: EqualCopy + Drop> SourceLine<T> {
         Ok(())
     }
 
+    /// Adds characters to the body, those that leave its tag as it is all at once.
+    pub(crate) fn add_text(
+        &mut self,
+        text: &str,
+        main_tag: &T,
+        wrap_tag: &T,
+    ) -> Result<(), AllocError>
+        ensures pass { OnOk result (pass_of T.seen self.new ≡ all_lettered (chars text.now) (T.seen main_tag.now)
+            (T.seen wrap_tag.now) (pass_of T.seen self.old)) }
+        ensures rows { self.new.rows ≡ self.old.rows }
+    {
+        let mut rest = self.add_front(text, main_tag, wrap_tag)?;
+        while let Some((c, after)) = first_char(rest) {
+            self.add_letter(c, main_tag, wrap_tag)?;
+            rest = self.add_front(after, main_tag, wrap_tag)?;
+        }
+        Ok(())
+    }
+
+    /// Adds the characters in front that leave the body's tag as it is; what follows them is left.
+    fn add_front<'a>(
+        &mut self,
+        text: &'a str,
+        main_tag: &T,
+        wrap_tag: &T,
+    ) -> Result<&'a str, AllocError>
+        ensures pass { IfOk result (λ rest. all_lettered (chars rest.now) (T.seen main_tag.now) (T.seen wrap_tag.now)
+            (pass_of T.seen self.new) ≡ all_lettered (chars text.now) (T.seen main_tag.now) (T.seen wrap_tag.now)
+            (pass_of T.seen self.old)) }
+        ensures rows { self.new.rows ≡ self.old.rows }
+        ensures text { IfOk result (λ rest. IsUtf8 rest.now) }
+        ensures no_longer { IfOk result (λ rest. length rest.now ≤ length text.now) }
+    {
+        let (front, rest) = self.steady_front(text)?;
+        let tag = chosen(self.goes_on, main_tag, wrap_tag);
+        self.word.push_str(front, tag)?;
+        self.wide |= has_wider(front, self.width);
+        Ok(rest)
+    }
+
+    /// The characters in front that leave the body's tag as it is, and what stands behind them.
+    fn steady_front<'a>(&self, text: &'a str) -> Result<(&'a str, &'a str), AllocError>
+        ensures parts { IfOk result (λ parts. chars text.now ≡ chars parts.0.now ++ chars parts.1.now) }
+        ensures steady { IfOk result (λ parts. IsSteady (chars parts.0.now) (pass_of T.seen self.now)) }
+        ensures no_longer { IfOk result (λ parts. length parts.1.now ≤ length text.now) }
+    {
+        if self.goes_on || self.wraps {
+            return Ok((text, ""));
+        }
+        Ok(fitting_front(text, self.width, self.body_end()?))
+    }
+
     /// Whether the source line is wrapped before a character of so many columns of the body, or was before.
     fn passes(&self, columns: usize) -> Result<bool, AllocError>
         ensures { IfOk result (λ b. b ≡ (self.now.goes_on || (not self.now.wraps
@@ -136,14 +190,19 @@ impl<T: EqualCopy + Drop> SourceLine<T> {
         if self.goes_on || self.wraps {
             return Ok(self.goes_on);
         }
-        // No memory holds a line of more columns than a `usize` counts.
-        let before = self
-            .rows
+        let end = self.body_end()?.checked_add(columns).ok_or(AllocError)?;
+        Ok(end > self.width)
+    }
+
+    /// The column behind the body so far. No memory holds a line of more columns than a `usize` counts.
+    fn body_end(&self) -> Result<usize, AllocError>
+        ensures { IfOk result (λ n. n ≡ taken (laying_of T.seen self.now.rows)
+            + line_columns (line_items T.seen self.now.word)) }
+    {
+        self.rows
             .taken()?
             .checked_add(self.word.width())
-            .ok_or(AllocError)?;
-        let end = before.checked_add(columns).ok_or(AllocError)?;
-        Ok(end > self.width)
+            .ok_or(AllocError)
     }
 
     /// Ends the body, where one has begun.

@@ -92,6 +92,9 @@ pub(crate) fn push_elements<T: EqualCopy + Drop>(
         ≡ elements_items T.seen elements.old.items) }
     ensures joined { AreJoined T.seen elements.old.items → AreJoined T.seen elements.new.items }
 {
+    if others.is_empty() {
+        return Ok(());
+    }
     // The common case.
     if let [element] = others {
         return push_element(elements, element);

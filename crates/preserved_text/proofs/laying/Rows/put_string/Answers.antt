@@ -1,30 +1,26 @@
-use Rattle.std.proofs.Common.{chars, string_bytes}
-use Rattle.std.proofs.lemmas.Str.{IsUtf8-string_bytes}
-use Rattle.std.proofs.lemmas.Iterator.{YieldsList-from_chars}
-use Rattle.std.proofs.lemmas.Iterator.Consumers.{YieldsList-turn, YieldsList-end}
-use Rattle.preserved_text.specs.Preserved.{put}
+use Rattle.std.proofs.Common.{refl, sym, ap, ◌∙◌, chars}
+use Rattle.std.proofs.lemmas.Str.{chars-nil, chars_past_char}
+use Rattle.tagged_lines.specs.Tagged.{tagged}
+use Rattle.preserved_text.specs.Preserved.{put_all}
 use Rattle.preserved_text.specs.Rows.{laying_of}
-use Rattle.preserved_text.proofs.RowLemmas.{next_letter, all_letters}
 use Rattle.preserved_text.proofs.laying.Rows.put_string.Goals as goal
 
 pub loop-c-preserved : goal.loop-c-preserved
 loop-c-preserved g c =
     let seen = g.T.EqualCopy.seen in
-    let s = string_bytes c.args.string.now.s in
-    let t = YieldsList-turn (YieldsList-from_chars s (IsUtf8-string_bytes c.args.string.now.s) cc) c.loop-c.yielded _
-    c.loop-c.yielded_by _ _ c.in-Some.c c.in-Some.is c.next.ensures.steps in
+    let tag = seen c.args.string.now.tag in
     record {
-      laid = next_letter (put c.args.width) (chars s) c.loop-c.yielded c.in-Some.c c.in-Some.c
-          (seen c.args.string.now.tag) t (laying_of seen c.args.self.now) (laying_of seen c.loop-c.self)
-          (laying_of seen c.put.new.self) c.loop-c.invariant.laid c.in_ok-put.ensures.laid;
-      joined = λ h. c.put.ensures.joined (c.loop-c.invariant.joined h);
+      text = c.in_ok-rest.ensures.text;
+      laid = c.in_ok-rest.ensures.laid
+          ∙ ap (λ r. put_all c.args.width r (tagged (chars c.in-Some.after.now) tag)) c.in_ok-put.ensures.laid
+          ∙ ap (λ cs. put_all c.args.width (laying_of seen c.loop-c.self) (tagged cs tag))
+          (sym (chars_past_char c.loop-c.rest.now c.in-Some.after.now c.in-Some.c c.loop-c.invariant.text
+          c.in-Some.ensures.first)) ∙ c.loop-c.invariant.laid;
+      joined = λ h. c.put_front.ensures.joined (c.put.ensures.joined (c.loop-c.invariant.joined h));
     }
 
 pub returns-clause-laid : goal.returns-clause-laid
 returns-clause-laid g c =
     let seen = g.T.EqualCopy.seen in
-    let s = string_bytes c.args.string.now.s in
-    let t = YieldsList-end (YieldsList-from_chars s (IsUtf8-string_bytes c.args.string.now.s) cc) c.loop-c.yielded _
-    c.loop-c.yielded_by _ _ c.in-None.is c.next.ensures.steps in
-    all_letters (put c.args.width) (chars s) c.loop-c.yielded (seen c.args.string.now.tag) t.1
-    (laying_of seen c.args.self.now) (laying_of seen c.loop-c.self) c.loop-c.invariant.laid
+    sym (ap (λ cs. put_all c.args.width (laying_of seen c.loop-c.self) (tagged cs (seen c.args.string.now.tag)))
+    (ap chars (c.in_default.ensures.none refl) ∙ chars-nil)) ∙ c.loop-c.invariant.laid

@@ -11,12 +11,13 @@ loop-c-preserved g c =
     let main = seen c.args.main_tag.now in
     let further = seen c.args.wrap_tag.now in
     record {
-      text = c.in-Some.ensures.texts.1;
-      pass = ap (λ p. read_all p (sourced (chars c.in-Some.after.now) main further)) c.in_ok-read_char.ensures.pass
+      text = c.in_ok-rest-2.ensures.text;
+      pass = c.in_ok-rest-2.ensures.pass
+          ∙ ap (λ p. read_all p (sourced (chars c.in-Some.after.now) main further)) c.in_ok-read_char.ensures.pass
           ∙ ap (λ cs. read_all (pass_of seen c.loop-c.self) (sourced cs main further))
           (sym (chars_past_char c.loop-c.rest.now c.in-Some.after.now c.in-Some.c c.loop-c.invariant.text
           c.in-Some.ensures.first)) ∙ c.loop-c.invariant.pass;
-      joined = λ h. c.read_char.ensures.joined (c.loop-c.invariant.joined h);
+      joined = λ h. c.read_body-in-Some.ensures.joined (c.read_char.ensures.joined (c.loop-c.invariant.joined h));
     }
 
 pub returns-clause-pass : goal.returns-clause-pass

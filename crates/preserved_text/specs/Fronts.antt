@@ -1,0 +1,51 @@
+-- Fronts of texts, whose characters are taken at once.
+use Rattle.std.specs.Prelude.{◌≡◌, ◌⊎◌, ℕ, ◌+◌, ◌≤◌, Bool, true, false, not, ◌||◌, nat_lt, List, [], ◌∷◌, ◌++◌, fold, chars, IsUtf8}
+use Rattle.tagged_lines.specs.Columns.{width_of, text_columns}
+use Rattle.tagged_lines.specs.Tagged.{tagged}
+use Rattle.preserved_text.specs.Preserved.{Kind, solid, white, tab, cut, nothing, kind_of, chosen}
+use Rattle.preserved_text.specs.Pass.{Pass, lettered}
+
+-- the text is a front and the rest
+pub record IsBehind (text rest : List ℕ) : Type 0 where
+  pub front : List ℕ
+  pub whole : text ≡ front ++ rest
+  pub utf8 : IsUtf8 front
+
+-- of the front's characters something holds
+pub record HasFront (Holds : List ℕ → Type 0) (text rest : List ℕ) : Type 0 where
+  pub parts : IsBehind text rest
+  pub holds : Holds (chars parts.front)
+
+-- a body that has begun goes on with a character of the kind
+abbrev pub goes_on_with : Bool → Kind → Bool
+goes_on_with wraps solid = true
+goes_on_with wraps white = not wraps
+goes_on_with wraps tab = false
+goes_on_with wraps cut = false
+goes_on_with wraps nothing = false
+
+-- and with each of the characters
+abbrev pub JoinsBody : ℕ → Bool → List ℕ → Type 0
+JoinsBody width wraps [] = Unit {0}
+JoinsBody width wraps (c ∷ cs) = (goes_on_with wraps (kind_of width wraps c) ≡ true) × JoinsBody width wraps cs
+
+-- the characters go on a line behind so many columns, or there is none
+abbrev pub Fits : ℕ → ℕ → List ℕ → Type 0
+Fits width taken cs = (cs ≡ []) ⊎ (taken + text_columns cs ≤ width)
+
+-- some character is wider than the width
+abbrev pub has_wider : ℕ → List ℕ → Bool
+has_wider width [] = false
+has_wider width (c ∷ cs) = nat_lt width (width_of c) || has_wider width cs
+
+-- characters of a body, one after another
+abbrev pub all_lettered : {S : Type 0} → List ℕ → S → S → Pass S → Pass S
+all_lettered cs main further p = fold (λ q c. lettered c main further q) p cs
+
+-- the same of characters that leave the body's tag as it is
+abbrev pub run_lettered : {S : Type 0} → List ℕ → S → Pass S → Pass S
+run_lettered cs tag p = record p { word = p.word ++ tagged cs tag; wide = p.wide || has_wider p.width cs }
+
+abbrev pub IsSteady : {S : Type 0} → List ℕ → Pass S → Type 0
+IsSteady {S} cs p = (main further : S)
+    → all_lettered cs main further p ≡ run_lettered cs (chosen p.goes_on main further) p

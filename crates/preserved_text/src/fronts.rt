@@ -1,0 +1,97 @@
+//! Fronts of texts, whose characters are taken at once.
+ghost use Rattle.std.specs.Prelude.{◌≡◌, ◌⊎◌, ◌≤◌, ◌+◌, [], ◌++◌, length, chars, IsUtf8, List, ℕ};
+ghost use Rattle.tagged_lines.specs.Columns.{text_columns};
+ghost use Rattle.preserved_text.specs.Preserved.{kind_of};
+ghost use Rattle.preserved_text.specs.Fronts.{IsBehind, HasFront, goes_on_with, JoinsBody, Fits, has_wider};
+
+use crate::characters::{first_char, width_of};
+use crate::kinds::{CharacterKind, kind_of};
+
+/// The characters in front that a body takes once it has begun, and what stands behind them.
+pub(crate) fn body_front(text: &str, width: usize, wraps: bool) -> (&str, &str)
+    ensures parts { chars text.now ≡ chars result.0.now ++ chars result.1.now }
+    ensures joins { JoinsBody width wraps (chars result.0.now) }
+    ensures no_longer { length result.1.now ≤ length text.now }
+{
+    split_before(text, behind_body(text, width, wraps))
+}
+
+fn behind_body(text: &str, width: usize, wraps: bool) -> &str
+    ensures { HasFront (JoinsBody width wraps) text.now result.now }
+{
+    let mut rest = text;
+    while let Some((c, after)) = first_char(rest) {
+        if !goes_on_with(c, width, wraps) {
+            return rest;
+        }
+        rest = after;
+    }
+    rest
+}
+
+/// Whether a body goes on with the character: white space ends it where lines break there, a tab always.
+fn goes_on_with(c: char, width: usize, wraps: bool) -> bool
+    ensures { result ≡ goes_on_with wraps (kind_of width wraps c) }
+{
+    match kind_of(c, width, wraps) {
+        CharacterKind::Solid => true,
+        CharacterKind::White => !wraps,
+        CharacterKind::Tab | CharacterKind::Cut | CharacterKind::Nothing => false,
+    }
+}
+
+/// The characters in front that go on a line behind so many columns, and what stands behind them.
+pub(crate) fn fitting_front(text: &str, width: usize, taken: usize) -> (&str, &str)
+    ensures parts { chars text.now ≡ chars result.0.now ++ chars result.1.now }
+    ensures fits { Fits width taken (chars result.0.now) }
+    ensures no_longer { length result.1.now ≤ length text.now }
+{
+    match width.checked_sub(taken) {
+        Some(room) => split_before(text, behind_fitting(text, room)),
+        None => ("", text),
+    }
+}
+
+fn behind_fitting(text: &str, room: usize) -> &str
+    ensures { HasFront (λ cs. text_columns cs ≤ room) text.now result.now }
+{
+    let mut left = room;
+    let mut rest = text;
+    while let Some((c, after)) = first_char(rest) {
+        let columns = width_of(c);
+        if columns > left {
+            return rest;
+        }
+        left -= columns;
+        rest = after;
+    }
+    rest
+}
+
+/// Cuts a text before a rest of it.
+fn split_before<'a>(text: &'a str, rest: &str) -> (&'a str, &'a str)
+    requires { IsBehind text.now rest.now }
+    ensures parts { chars text.now ≡ chars result.0.now ++ chars result.1.now }
+    ensures front { (front : List ℕ) → text.now ≡ front ++ rest.now → result.0.now ≡ front }
+    ensures no_longer { length result.1.now ≤ length text.now }
+{
+    text.split_at(text.len() - rest.len())
+}
+
+/// Whether a character of the text is wider than the width.
+pub(crate) fn has_wider(text: &str, width: usize) -> bool
+    ensures { result ≡ has_wider width (chars text.now) }
+{
+    // No character has more than two columns.
+    if width >= 2 {
+        return false;
+    }
+    let mut rest = text;
+    while let Some((c, after)) = first_char(rest) {
+        if width_of(c) > width {
+            return true;
+        }
+        rest = after;
+    }
+    false
+}
