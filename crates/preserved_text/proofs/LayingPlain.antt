@@ -191,7 +191,7 @@ narrow_or false false wraps e f = cc
 not_zero : (w : ℕ) → 1 ≤ w → (w == 0) ≡ false
 not_zero w h = grind (arith, nat_tests)
 
-space_is_white : (w : ℕ) (wraps : Bool) → 1 ≤ w → kind_of w wraps 0x20 ≡ white
+pub space_is_white : (w : ℕ) (wraps : Bool) → 1 ≤ w → kind_of w wraps 0x20 ≡ white
 unfolding kind_of
 space_is_white w wraps h = narrow_or (w == 0) (is_some (columns_of 0x20)) wraps (not_zero w h)
     (ap is_some (columns_of-one 0x20 (inr (omega arith, omega arith))))

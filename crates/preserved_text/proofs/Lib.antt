@@ -8,6 +8,8 @@ pub mod LayingPlain
 pub mod LayingWidth
 pub mod ElementLemmas
 mod FrontLemmas
+mod WordLemmas
+mod WordsRead
 mod BodyLemmas
 pub mod TrimLemmas
 pub mod ReadingLemmas

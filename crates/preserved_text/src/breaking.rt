@@ -167,6 +167,16 @@ impl<T: EqualCopy + Drop> Rows<T> {
         self.line.push_line(items)
     }
 
+    /// Writes a text on the line at hand, behind the white space that waits.
+    pub(crate) fn write_text(&mut self, text: &str, tag: &T) -> Result<(), AllocError>
+        ensures laid { OnOk result (laying_of T.seen self.new ≡ written (without_spaces (laying_of T.seen self.old))
+            ((laying_of T.seen self.old).spaces ++ tagged (chars text.now) (T.seen tag.now))) }
+        ensures joined { HasJoinedRows T.seen self.old → HasJoinedRows T.seen self.new }
+    {
+        self.write_spaces()?;
+        self.line.push_str(text, tag)
+    }
+
     /// Writes the white space that waits.
     fn write_spaces(&mut self) -> Result<(), AllocError>
         ensures laid { OnOk result (laying_of T.seen self.new

@@ -1,11 +1,11 @@
 //! Fronts of texts, whose characters are taken at once.
-ghost use Rattle.std.specs.Prelude.{◌≡◌, ◌⊎◌, ◌≤◌, ◌+◌, [], ◌++◌, length, chars, IsUtf8, List, ℕ};
+ghost use Rattle.std.specs.Prelude.{◌≡◌, ◌≤◌, ◌==◌, ◌&&◌, ◌||◌, true, ◌++◌, length, chars, IsUtf8, List, ℕ, if◌then◌else◌};
 ghost use Rattle.tagged_lines.specs.Columns.{text_columns};
-ghost use Rattle.preserved_text.specs.Preserved.{kind_of};
-ghost use Rattle.preserved_text.specs.Fronts.{IsBehind, HasFront, goes_on_with, JoinsBody, Fits, has_wider};
+ghost use Rattle.preserved_text.specs.Preserved.{kind_of, is_solid};
+ghost use Rattle.preserved_text.specs.Fronts.{IsBehind, HasFront, goes_on_with, JoinsBody, Fits, AreWordsOrNone, WordsFit, has_wider};
 
 use crate::characters::{first_char, width_of};
-use crate::kinds::{CharacterKind, kind_of};
+use crate::kinds::{CharacterKind, is_solid, kind_of};
 
 /// The characters in front that a body takes once it has begun, and what stands behind them.
 pub(crate) fn body_front(text: &str, width: usize, wraps: bool) -> (&str, &str)
@@ -68,11 +68,60 @@ fn behind_fitting(text: &str, room: usize) -> &str
     rest
 }
 
+/// The words and spaces in front that go on a line behind so many columns, up to a word's end before a space, and what
+/// stands behind them. Lines break at white space.
+pub(crate) fn words_front(text: &str, width: usize, taken: usize) -> (&str, &str)
+    ensures parts { chars text.now ≡ chars result.0.now ++ chars result.1.now }
+    ensures words { WordsFit width taken (chars result.0.now) (chars result.1.now) }
+    ensures text { IsUtf8 result.0.now }
+    ensures no_longer { length result.1.now ≤ length text.now }
+{
+    match width.checked_sub(taken) {
+        Some(room) => split_before(text, behind_words(text, width, room)),
+        None => ("", text),
+    }
+}
+
+fn behind_words(text: &str, width: usize, room: usize) -> &str
+    ensures { HasFront (λ cs. AreWordsOrNone width room cs (chars result.now)) text.now result.now }
+{
+    let mut left = room;
+    let mut rest = text;
+    let mut behind = text;
+    let mut in_word = false;
+    while let Some((c, after)) = first_char(rest) {
+        behind = behind_word(in_word, c, rest, behind);
+        let columns = width_of(c);
+        if columns > left || !is_word_or_space(c, width) {
+            return behind;
+        }
+        left -= columns;
+        in_word = c != ' ';
+        rest = after;
+    }
+    behind
+}
+
+/// What stands behind the last word before the character, where `behind` does for those that end before.
+fn behind_word<'a>(in_word: bool, c: char, rest: &'a str, behind: &'a str) -> &'a str
+    ensures { result.now ≡ (if in_word && (c == 0x20) then rest.now else behind.now) }
+{
+    if in_word && c == ' ' { rest } else { behind }
+}
+
+fn is_word_or_space(c: char, width: usize) -> bool
+    ensures { result ≡ ((c == 0x20) || is_solid (kind_of width true c)) }
+{
+    c == ' ' || is_solid(c, width, true)
+}
+
 /// Cuts a text before a rest of it.
 fn split_before<'a>(text: &'a str, rest: &str) -> (&'a str, &'a str)
     requires { IsBehind text.now rest.now }
     ensures parts { chars text.now ≡ chars result.0.now ++ chars result.1.now }
     ensures front { (front : List ℕ) → text.now ≡ front ++ rest.now → result.0.now ≡ front }
+    ensures rest { result.1.now ≡ rest.now }
+    ensures text { IsUtf8 result.0.now }
     ensures no_longer { length result.1.now ≤ length text.now }
 {
     text.split_at(text.len() - rest.len())

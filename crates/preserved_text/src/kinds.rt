@@ -1,7 +1,7 @@
 //! What the characters of a source line are to it.
 ghost use Rattle.std.specs.Prelude.{◌≡◌, ◌↔◌, ◌≤◌, ◌==◌, ◌||◌, not, is_some, IsTrue, if◌then◌else◌};
 ghost use Rattle.tagged_lines.specs.Columns.{columns_of};
-ghost use Rattle.preserved_text.specs.Preserved.{kind_of, solid, white, tab, cut, nothing};
+ghost use Rattle.preserved_text.specs.Preserved.{is_solid, kind_of, solid, white, tab, cut, nothing};
 ghost use Rattle.preserved_text.specs.SourceLines.{kind_seen};
 
 use crate::characters::is_white_space;
@@ -88,5 +88,16 @@ fn shown_kind(c: char) -> CharacterKind
         CharacterKind::Solid
     } else {
         CharacterKind::Nothing
+    }
+}
+
+/// Whether the character is shown.
+pub(crate) fn is_solid(c: char, width: usize, wraps: bool) -> bool
+    ensures { result ≡ is_solid (kind_of width wraps c) }
+{
+    match kind_of(c, width, wraps) {
+        CharacterKind::Solid => true,
+        CharacterKind::White | CharacterKind::Tab | CharacterKind::Cut | CharacterKind::Nothing =>
+            false,
     }
 }

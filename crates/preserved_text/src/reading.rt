@@ -1,13 +1,14 @@
 //! The reading of a source line from its pieces.
-ghost use Rattle.std.specs.Prelude.{◌≡◌, ◌≤◌, length, chars, OnOk, IfOk, Bool, IsUtf8, List};
+ghost use Rattle.std.specs.Prelude.{◌≡◌, ◌≤◌, [], true, false, length, chars, OnOk, IfOk, IsUtf8};
+ghost use Rattle.tagged_lines.specs.Tagged.{line_items};
 ghost use Rattle.preserved_text.specs.Sources.{sourced, piece_sources, sources_of, is_filled};
 ghost use Rattle.preserved_text.specs.Preserved.{trimmed, has_solid, is_solid, kind_of};
 ghost use Rattle.preserved_text.specs.Pass.{read_all};
 ghost use Rattle.preserved_text.specs.Trimming.{has_solid_text, solid_text, trimmed_each, StayWhole};
 
 use crate::characters::{first_char, last_char};
-use crate::fronts::body_front;
-use crate::kinds::{CharacterKind, kind_of};
+use crate::fronts::{body_front, words_front};
+use crate::kinds::is_solid;
 use crate::piece::Piece;
 use crate::source_line::SourceLine;
 use std::alloc::AllocError;
@@ -107,16 +108,17 @@ impl<T: EqualCopy + Drop> SourceLine<T> {
             (sourced (chars text.now) (T.seen main_tag.now) (T.seen wrap_tag.now))) }
         ensures joined { HasJoinedRows T.seen self.old.rows → HasJoinedRows T.seen self.new.rows }
     {
-        let mut rest = self.read_body(text, main_tag, wrap_tag)?;
+        let mut rest = self.read_front(text, main_tag, wrap_tag)?;
         while let Some((c, after)) = first_char(rest) {
             self.read_char(c, main_tag, wrap_tag)?;
-            rest = self.read_body(after, main_tag, wrap_tag)?;
+            rest = self.read_front(after, main_tag, wrap_tag)?;
         }
         Ok(())
     }
 
-    /// Reads the characters in front that the body at hand goes on with, all at once; what follows them is left.
-    fn read_body<'a>(
+    /// Reads characters in front all at once: those that the body at hand goes on with, or words and spaces that go on the
+    /// line; what follows them is left.
+    fn read_front<'a>(
         &mut self,
         text: &'a str,
         main_tag: &T,
@@ -130,11 +132,59 @@ impl<T: EqualCopy + Drop> SourceLine<T> {
         ensures text { IfOk result (λ rest. IsUtf8 rest.now) }
         ensures no_longer { IfOk result (λ rest. length rest.now ≤ length text.now) }
     {
-        if !self.begun {
-            return Ok(text);
+        if self.begun {
+            return self.read_body(text, main_tag, wrap_tag);
         }
+        if self.wraps && self.word.is_empty() {
+            return self.read_words(text, main_tag, wrap_tag);
+        }
+        Ok(text)
+    }
+
+    /// Reads the characters in front that the body at hand goes on with; what follows them is left.
+    fn read_body<'a>(
+        &mut self,
+        text: &'a str,
+        main_tag: &T,
+        wrap_tag: &T,
+    ) -> Result<&'a str, AllocError>
+        requires begun { self.old.begun ≡ true }
+        ensures pass { IfOk result (λ rest. read_all (pass_of T.seen self.new)
+            (sourced (chars rest.now) (T.seen main_tag.now) (T.seen wrap_tag.now))
+            ≡ read_all (pass_of T.seen self.old)
+            (sourced (chars text.now) (T.seen main_tag.now) (T.seen wrap_tag.now))) }
+        ensures joined { HasJoinedRows T.seen self.old.rows → HasJoinedRows T.seen self.new.rows }
+        ensures text { IfOk result (λ rest. IsUtf8 rest.now) }
+        ensures no_longer { IfOk result (λ rest. length rest.now ≤ length text.now) }
+    {
         let (body, rest) = body_front(text, self.width, self.wraps);
         self.add_text(body, main_tag, wrap_tag)?;
+        Ok(rest)
+    }
+
+    /// Reads words and spaces in front that go on the line; what follows them is left.
+    fn read_words<'a>(
+        &mut self,
+        text: &'a str,
+        main_tag: &T,
+        wrap_tag: &T,
+    ) -> Result<&'a str, AllocError>
+        requires wraps { self.old.wraps ≡ true }
+        requires no_body { self.old.begun ≡ false }
+        requires no_word { line_items T.seen self.old.word ≡ [] }
+        ensures pass { IfOk result (λ rest. read_all (pass_of T.seen self.new)
+            (sourced (chars rest.now) (T.seen main_tag.now) (T.seen wrap_tag.now))
+            ≡ read_all (pass_of T.seen self.old)
+            (sourced (chars text.now) (T.seen main_tag.now) (T.seen wrap_tag.now))) }
+        ensures joined { HasJoinedRows T.seen self.old.rows → HasJoinedRows T.seen self.new.rows }
+        ensures text { IfOk result (λ rest. IsUtf8 rest.now) }
+        ensures no_longer { IfOk result (λ rest. length rest.now ≤ length text.now) }
+    {
+        let (words, rest) = words_front(text, self.width, self.rows.taken()?);
+        if words.is_empty() {
+            return Ok(text);
+        }
+        self.lay_words(words, main_tag, wrap_tag)?;
         Ok(rest)
     }
 }
@@ -176,14 +226,4 @@ fn solid_front(text: &str, width: usize, wraps: bool) -> &str
         rest = before;
     }
     rest
-}
-
-fn is_solid(c: char, width: usize, wraps: bool) -> bool
-    ensures { result ≡ is_solid (kind_of width wraps c) }
-{
-    match kind_of(c, width, wraps) {
-        CharacterKind::Solid => true,
-        CharacterKind::White | CharacterKind::Tab | CharacterKind::Cut | CharacterKind::Nothing =>
-            false,
-    }
 }

@@ -4,7 +4,7 @@ ghost use Rattle.tagged_lines.specs.Tagged.{line_items, line_columns, IsJoined};
 ghost use Rattle.preserved_text.specs.Sources.{names};
 ghost use Rattle.preserved_text.specs.Pass.{new_pass, begins, lettered, closed, blanked, stopped, read_letter, read_marker, read_at, finished, left_markers};
 ghost use Rattle.preserved_text.specs.Preserved.{white, taken};
-ghost use Rattle.preserved_text.specs.Fronts.{all_lettered, IsSteady};
+ghost use Rattle.preserved_text.specs.Fronts.{all_lettered, words_laid, IsSteady};
 
 use crate::characters::{first_char, width_of};
 use crate::fault::BlockError;
@@ -203,6 +203,24 @@ impl<T: EqualCopy + Drop> SourceLine<T> {
             .taken()?
             .checked_add(self.word.width())
             .ok_or(AllocError)
+    }
+
+    /// Lays words, with the spaces between them, on the line at hand behind the white space that waits.
+    pub(crate) fn lay_words(
+        &mut self,
+        words: &str,
+        main_tag: &T,
+        wrap_tag: &T,
+    ) -> Result<(), AllocError>
+        ensures pass { OnOk result (pass_of T.seen self.new
+            ≡ words_laid (chars words.now) (T.seen main_tag.now) (T.seen wrap_tag.now) (pass_of T.seen self.old)) }
+        ensures joined { HasJoinedRows T.seen self.old.rows → HasJoinedRows T.seen self.new.rows }
+    {
+        self.goes_on = self.rows.goes_on;
+        let tag = chosen(self.goes_on, main_tag, wrap_tag);
+        self.rows.write_text(words, tag)?;
+        self.wide |= has_wider(words, self.width);
+        Ok(())
     }
 
     /// Ends the body, where one has begun.

@@ -17,7 +17,7 @@ loop-c-preserved g c =
           ∙ ap (λ cs. read_all (pass_of seen c.loop-c.self) (sourced cs main further))
           (sym (chars_past_char c.loop-c.rest.now c.in-Some.after.now c.in-Some.c c.loop-c.invariant.text
           c.in-Some.ensures.first)) ∙ c.loop-c.invariant.pass;
-      joined = λ h. c.read_body-in-Some.ensures.joined (c.read_char.ensures.joined (c.loop-c.invariant.joined h));
+      joined = λ h. c.read_front-in-Some.ensures.joined (c.read_char.ensures.joined (c.loop-c.invariant.joined h));
     }
 
 pub returns-clause-pass : goal.returns-clause-pass
