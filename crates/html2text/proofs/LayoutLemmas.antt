@@ -9,7 +9,7 @@ use Rattle.tagged_lines.specs.declared.tagged_line.TaggedLine.{TaggedLine}
 use Rattle.tagged_lines.specs.declared.tagged_string.TaggedLineElement.{TaggedLineElement}
 use Rattle.tagged_lines.specs.declared.tagged_string.TaggedLineElement.TheVariants.{Str, FragmentStart}
 use Rattle.html2text.specs.LinesText.{lines_have_content}
-use Rattle.preserved_text.specs.Sources.{is_filled}
+use Rattle.text_pieces.specs.Sources.{is_filled}
 use Rattle.html2text.specs.PageLines.{Plain, PlainItems, FitsWidth, has_content, block_start, AreLinesBehind, AreParagraphLines}
 
 characters-tagged : {S : Type 0} (cs : List ℕ) (tag : S) (rest : List (Item S)) → characters (tagged cs tag ++ rest) ≡ cs ++ characters rest

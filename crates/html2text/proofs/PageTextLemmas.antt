@@ -3,7 +3,7 @@ use Rattle.std.proofs.Common.{◌≡◌, ◌≢◌, ℕ, Bool, true, false, cond
 use Rattle.std.proofs.lemmas.Bool.{eqb-true, ne_eqb}
 use Rattle.html_lexemes.specs.LineEnds.{lines_ended}
 use Rattle.html2text.specs.PageText.{continued, without_line_feed, without_first}
-use Rattle.preserved_text.specs.Cuts.{Lacks, IsCutAt}
+use Rattle.text_pieces.specs.Cuts.{Lacks, IsCutAt}
 
 -- a run without CR stays as it is
 pub lines_ended-run : (run rest : List ℕ) → Lacks 13 run → lines_ended (run ++ rest) ≡ run ++ lines_ended rest

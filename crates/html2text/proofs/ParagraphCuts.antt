@@ -4,9 +4,9 @@ use Rattle.std.proofs.lemmas.List.{same_from_push}
 use Rattle.std.proofs.lemmas.Str.{encodes-chars}
 use Rattle.std.specs.Str.{chars}
 use Rattle.html_lexemes.specs.References.{basic_references}
-use Rattle.preserved_text.specs.Cuts.{Lacks, IsCutAt}
+use Rattle.text_pieces.specs.Cuts.{Lacks, IsCutAt}
 use Rattle.html2text.specs.ParagraphPage.{BeginsWithName}
-use Rattle.preserved_text.proofs.TextCuts.{Lacks-from_none}
+use Rattle.text_pieces.proofs.TextCuts.{Lacks-from_none}
 
 pub Lacks-append : (mark : ℕ) (front back : List ℕ) → Lacks mark front → Lacks mark back → Lacks mark (front ++ back)
 Lacks-append mark [] back f b = b

@@ -1,6 +1,6 @@
 -- Pages of paragraphs, read from their beginning.
 use Rattle.std.proofs.Common.{◌≡◌, ◌≢◌, ℕ, ◌⊎◌, List, [], ◌∷◌, ◌++◌, refl, sym, ap, subst, ◌∙◌, inl, inr, append_assoc, append-nil, arith}
-use Rattle.preserved_text.specs.Cuts.{Lacks, IsCutAt}
+use Rattle.text_pieces.specs.Cuts.{Lacks, IsCutAt}
 use Rattle.html2text.specs.ParagraphPage.{BeginsWithName, IsCharacter, IsText}
 use Rattle.html2text.proofs.ParagraphCuts.{Lacks-append, Lacks-front, name_lacks, one_name}
 

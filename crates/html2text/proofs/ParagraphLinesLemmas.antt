@@ -6,10 +6,10 @@ use Rattle.normal_text.specs.Layout.{AreLinesOf, NeverFits, HasNoLayout, marks}
 use Rattle.normal_text.specs.Letters.{letters_of, has_marker}
 use Rattle.text_wrapping.specs.Blocks.{Block, added, ended_lines}
 use Rattle.text_wrapping.specs.NormalBlocks.{normal_block}
-use Rattle.preserved_text.specs.Sources.{Source, sourced}
-use Rattle.preserved_text.specs.declared.white_space.WhiteSpace.TheVariants.{Normal}
-use Rattle.preserved_text.specs.declared.fault.BlockError.{BlockError}
-use Rattle.preserved_text.specs.declared.fault.BlockError.TheVariants as blocks
+use Rattle.text_pieces.specs.Sources.{Source, sourced}
+use Rattle.text_pieces.specs.declared.white_space.WhiteSpace.TheVariants.{Normal}
+use Rattle.text_pieces.specs.declared.fault.BlockError.{BlockError}
+use Rattle.text_pieces.specs.declared.fault.BlockError.TheVariants as blocks
 use Rattle.html2text.specs.declared.error.Error.TheVariants as errors
 use Rattle.html2text.specs.Errors.{error_of_block}
 use Rattle.html2text.specs.PageLines.{Plain, PlainItems, AreParagraphLines, IsWiderText}

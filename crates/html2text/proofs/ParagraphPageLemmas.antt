@@ -2,7 +2,7 @@
 use Rattle.std.proofs.Common.{◌≡◌, ◌≢◌, ℕ, List, [], ◌∷◌, ◌++◌, codes, refl, sym, ap, subst, ◌∙◌, append_assoc, append-nil}
 use Rattle.std.proofs.lemmas.List.{append_cancel_left}
 use Rattle.std.specs.Str.{chars}
-use Rattle.preserved_text.specs.Cuts.{Lacks, IsCutAt}
+use Rattle.text_pieces.specs.Cuts.{Lacks, IsCutAt}
 use Rattle.html2text.specs.ParagraphPage.{IsText, IsParagraphPage, start_tag, end_tag}
 use Rattle.html2text.proofs.TextBridges.{Lacks-seam}
 use Rattle.html2text.proofs.ParagraphCuts.{cut_once}

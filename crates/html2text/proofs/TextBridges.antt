@@ -7,8 +7,8 @@ use Rattle.std.proofs.lemmas.Str.Pattern.{IsSplitOnceResult, drop_at_char}
 use Rattle.std.specs.Char.{IsScalar}
 use Rattle.std.specs.Str.{IsAscii, NoCharPasses, NonePass}
 use Rattle.std.specs.Str.Pattern.{FindsChar, FindsCharPrefix, FindsTextPrefix}
-use Rattle.preserved_text.specs.Cuts.{Lacks}
-use Rattle.preserved_text.proofs.TextCuts.{lacks_in_text, found_at}
+use Rattle.text_pieces.specs.Cuts.{Lacks}
+use Rattle.text_pieces.proofs.TextCuts.{lacks_in_text, found_at}
 use Rattle.html2text.specs.PageText.{without_first}
 
 -- what holds the mark does not lack it

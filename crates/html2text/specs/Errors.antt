@@ -4,8 +4,8 @@ use Rattle.html2text.specs.declared.error.Error.{Error}
 use Rattle.html2text.specs.declared.error.Error.TheVariants as errors
 use Rattle.html_lexemes.specs.declared.fault.ParseFault.{ParseFault}
 use Rattle.html_lexemes.specs.declared.fault.ParseFault.TheVariants as faults
-use Rattle.preserved_text.specs.declared.fault.BlockError.{BlockError}
-use Rattle.preserved_text.specs.declared.fault.BlockError.TheVariants as blocks
+use Rattle.text_pieces.specs.declared.fault.BlockError.{BlockError}
+use Rattle.text_pieces.specs.declared.fault.BlockError.TheVariants as blocks
 
 -- what is wrong, in words
 abbrev pub error_text : Error → List ℕ

@@ -4,7 +4,7 @@ use Rattle.std.specs.List.{list_any}
 use Rattle.tagged_lines.specs.Tagged.{element_text, line_elements, line_items, line_text}
 use Rattle.tagged_lines.specs.declared.tagged_line.TaggedLine.{TaggedLine}
 use Rattle.tagged_lines.specs.declared.tagged_string.TaggedLineElement.{TaggedLineElement}
-use Rattle.preserved_text.specs.Sources.{is_filled}
+use Rattle.text_pieces.specs.Sources.{is_filled}
 use Rattle.html2text.specs.PageLines.{Plain, PlainItems}
 
 -- a newline

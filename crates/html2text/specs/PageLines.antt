@@ -4,7 +4,7 @@ use Rattle.std.specs.Prelude.{◌≡◌, ℕ, ◌<◌, ◌≤◌, Bool, false, L
 use Rattle.std.specs.List.{list_any}
 use Rattle.tagged_lines.specs.Tagged.{Item, characters, line_columns}
 use Rattle.normal_text.specs.Units.{lettered}
-use Rattle.preserved_text.specs.Sources.{is_filled}
+use Rattle.text_pieces.specs.Sources.{is_filled}
 use Rattle.normal_text.specs.Layout.{AreLinesOf, HasNoLayout, marks}
 use Rattle.html2text.specs.PageText.{normalized}
 use Rattle.html2text.specs.ParagraphPage.{IsParagraphPage}

@@ -1,6 +1,6 @@
 ghost use Rattle.std.specs.Prelude.{◌≡◌, ◌<◌, ◌⊎◌, ◌++◌, [], ◌∷◌, map, chars, string_bytes, All, Any, Err, IfOk, IfErr, OnOk};
 ghost use Rattle.tagged_lines.specs.Tagged.{line_text};
-ghost use Rattle.preserved_text.specs.Sources.{is_filled};
+ghost use Rattle.text_pieces.specs.Sources.{is_filled};
 ghost use Rattle.html2text.specs.LinesText.{line_bytes, lines_bytes, lines_have_content, plain_items, texts_of};
 ghost use Rattle.html2text.specs.PageLines.{FitsWidth, AreParagraphLines, IsWiderText, AreLinesBehind, block_start, lines_text};
 

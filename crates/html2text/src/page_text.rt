@@ -2,9 +2,9 @@ ghost use Rattle.std.specs.Prelude.{◌≡◌, ℕ, ◌<◌, ◌≤◌, ◌++◌
 ghost use Rattle.html_lexemes.specs.LineEnds.{lines_ended};
 ghost use Rattle.html2text.specs.PageText.{normalized, continued, without_first};
 
-use preserved_text::cut_at;
 use std::alloc::{AllocError, Global};
 use std::marker::Model;
+use text_pieces::cut_at;
 
 const BYTE_ORDER_MARK: char = '\u{feff}';
 

@@ -1,12 +1,12 @@
 ghost use Rattle.std.specs.Prelude.{◌≡◌, ◌≢◌, ◌⊎◌, ℕ, ◌<◌, ◌≤◌, List, [], ◌∷◌, ◌++◌, length, chars, map, string_bytes, Err, IfOk, OnOk, IfErr, IfSome, IsNone, IsUtf8, Contains, codes};
 ghost use Rattle.std.specs.Char.{IsScalar};
 ghost use Rattle.html_lexemes.specs.References.{basic_references};
-ghost use Rattle.preserved_text.specs.Cuts.{Lacks};
+ghost use Rattle.text_pieces.specs.Cuts.{Lacks};
 ghost use Rattle.html2text.specs.ParagraphPage.{IsParagraphPage, HasOneList, IsText, BeginsWithName};
 
 use crate::error::Error;
-use preserved_text::cut_at;
 use std::alloc::Global;
+use text_pieces::cut_at;
 
 /// The texts of a page's paragraphs, references replaced. A page that is no list of paragraphs with
 /// nothing between them is `Fail`.

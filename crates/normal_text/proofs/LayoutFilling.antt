@@ -7,7 +7,7 @@ use Rattle.std.proofs.lemmas.List.Elements.{recursion_from_All}
 use Rattle.std.proofs.lemmas.Bool.Decides.{nat_tests}
 use Rattle.tagged_lines.specs.Columns.{width_of}
 use Rattle.normal_text.specs.Units.{Letter, Piece, has_letters, letters_columns}
-use Rattle.preserved_text.specs.Sources.{is_filled}
+use Rattle.text_pieces.specs.Sources.{is_filled}
 use Rattle.normal_text.specs.Layout.{Mark, mark, marked, opens, starts, inside, cuttable, can_start, following_columns, columns, unit_marks, IsAllowed, IsFullest, joined_lines}
 use Rattle.normal_text.specs.Greedy.{Filled, filled, ended, all_lines, add_marks, add_mark, add_unit, add_units}
 use Rattle.normal_text.proofs.LayoutSplits.{Follow, run_more, run_from_allowed, allowed_from_run, joined-append}

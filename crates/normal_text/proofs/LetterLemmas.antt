@@ -1,6 +1,6 @@
 -- The letters of texts, one behind the other.
 use Rattle.std.proofs.Common.{◌≡◌, ℕ, false, List, [], ◌∷◌, ◌++◌, ap, refl}
-use Rattle.preserved_text.specs.Sources.{Source, letter, fragment, sourced}
+use Rattle.text_pieces.specs.Sources.{Source, letter, fragment, sourced}
 use Rattle.normal_text.specs.Units.{lettered}
 use Rattle.normal_text.specs.Letters.{letters_of, has_marker}
 

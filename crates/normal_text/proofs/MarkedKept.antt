@@ -5,9 +5,10 @@ use Rattle.std.proofs.lemmas.Bool.{false≢true}
 use Rattle.unicode_width.proofs.Computing.{unicode_width}
 use Rattle.tagged_lines.specs.Columns.{columns_of, width_of}
 use Rattle.tagged_lines.specs.Tagged.{Item, character, marker}
-use Rattle.preserved_text.specs.Sources.{Source, letter, fragment, is_break_point, is_white_space}
-use Rattle.preserved_text.specs.Preserved.{has_text, markers_of, names_of}
-use Rattle.preserved_text.proofs.ElementLemmas.{markers_of-append}
+use Rattle.text_pieces.specs.Sources.{Source, letter, fragment, is_break_point, is_white_space}
+use Rattle.text_pieces.specs.Sources.{names_of}
+use Rattle.text_pieces.specs.Items.{has_text, markers_of}
+use Rattle.text_pieces.proofs.ElementLemmas.{markers_of-append}
 use Rattle.normal_text.specs.Units.{Letter, Piece, piece, units, pieces_after, with_front, space_of, first_of, joining, joined, has_columns, has_letters, letters_columns}
 use Rattle.normal_text.specs.Layout.{Joint, opens, starts, inside, cuttable, Mark, mark, marked, unit_marks, gap_items, following_items, marks_items, joined_lines}
 use Rattle.normal_text.specs.Greedy.{all_lines, add_units}

@@ -9,7 +9,7 @@ use Rattle.std.proofs.lemmas.List.Sums.{fold-append}
 use Rattle.std.proofs.Math.Seq.{take-suc}
 use Rattle.unicode_width.proofs.Computing.{unicode_width}
 use Rattle.tagged_lines.specs.Columns.{columns_of, width_of}
-use Rattle.preserved_text.specs.Sources.{names, Source, letter, fragment, sourced, is_break_point}
+use Rattle.text_pieces.specs.Sources.{names, Source, letter, fragment, sourced, is_break_point}
 use Rattle.normal_text.specs.Units.{Letter, lettered}
 use Rattle.normal_text.specs.NormalStates.{HasRead, HasWider}
 use Rattle.normal_text.specs.Riders.{Rider, plain, ride, plain_letter, Carried, carry, is_carrier, in_word_at, has_wide_text}

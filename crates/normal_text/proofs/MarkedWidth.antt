@@ -5,9 +5,9 @@ use Rattle.std.proofs.lemmas.Bool.Decides.{nat_tests}
 use Rattle.std.proofs.lemmas.List.Elements.{All-nil, All-cons, All-head, All-tail, All-append}
 use Rattle.tagged_lines.specs.Columns.{width_of}
 use Rattle.tagged_lines.specs.Tagged.{Item, character, marker, line_columns}
-use Rattle.preserved_text.specs.Sources.{Source, letter, fragment, is_break_point}
-use Rattle.preserved_text.specs.Preserved.{has_text}
-use Rattle.preserved_text.proofs.ColumnLemmas.{line_columns-append, line_columns-cons, no_columns}
+use Rattle.text_pieces.specs.Sources.{Source, letter, fragment, is_break_point}
+use Rattle.text_pieces.specs.Items.{has_text}
+use Rattle.text_pieces.proofs.ItemColumns.{line_columns-append, line_columns-cons, no_columns}
 use Rattle.normal_text.specs.Units.{Letter, units}
 use Rattle.normal_text.specs.Layout.{marks_items}
 use Rattle.normal_text.specs.Greedy.{all_lines, add_units}

@@ -15,7 +15,7 @@ use Rattle.normal_text.specs.Layout.{Mark, opens, starts, inside, cuttable, mark
 use Rattle.normal_text.specs.Greedy.{Filled, filled, ended, all_lines, add_marks, add_mark}
 use Rattle.normal_text.specs.NormalStates.{HoldsLines, Lays, LaysUnit, LaysWhole, LaysCut, Cuts, ShowsAs, AreGapless, letter_items, space_columns, space_behind, with_room}
 use Rattle.normal_text.specs.declared.filling.Filling.{Filling}
-use Rattle.preserved_text.proofs.ElementLemmas.{next_taken}
+use Rattle.text_pieces.proofs.ElementLemmas.{next_taken}
 use Rattle.normal_text.proofs.NormalItems.{marks_counted, letters_counted, behind_items, items_behind, columns_behind, unit_columns, unit_items, lone_items, lone_columns, cut_shows}
 
 pub if_true : {A : Type 0} (b : Bool) (x y : A) → b ≡ true → (if b then x else y) ≡ x

@@ -9,13 +9,13 @@ use Rattle.std.proofs.lemmas.Bool.Decides.{nat_tests}
 use Rattle.tagged_lines.specs.Columns.{columns_of, width_of}
 use Rattle.tagged_lines.specs.Tagged.{Item, line_items, line_columns}
 use Rattle.normal_text.specs.Units.{Letter, piece, lettered, letters_columns, has_columns, is_break_point, space_of, first_of}
-use Rattle.preserved_text.specs.Sources.{is_filled}
+use Rattle.text_pieces.specs.Sources.{is_filled}
 use Rattle.normal_text.specs.Greedy.{Filled, add_unit}
 use Rattle.normal_text.specs.Filling.{Reading, reading, read_letter, read_letters, nothing_read, last_filled}
 use Rattle.normal_text.specs.NormalStates.{HoldsLines, LaysUnit, HoldsReading, Moves, Reads, MeetsWider, HasRead, HasWider, AllHaveRoom, has_room, word_read, space_read, end_read, lay_read}
 use Rattle.normal_text.specs.declared.normal.NormalText.{NormalText}
 use Rattle.normal_text.proofs.NormalItems.{letters_counted}
-use Rattle.preserved_text.proofs.ElementLemmas.{next_taken}
+use Rattle.text_pieces.proofs.ElementLemmas.{next_taken}
 use Rattle.normal_text.proofs.NormalFilling.{if_true, if_false, below}
 
 -- ---- a word is laid

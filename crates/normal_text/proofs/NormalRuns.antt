@@ -1,12 +1,12 @@
 -- Characters of a word that are added all at once.
-use Rattle.std.proofs.Common.{◌≡◌, ℕ, ◌-◌, Bool, true, false, nat_le, ◌||◌, List, [], ◌∷◌, ◌++◌, length, take, drop, sym, ap, ◌∙◌, refl, subst, append_assoc, arith, chars, IsUtf8, encode_utf8}
+use Rattle.std.proofs.Common.{◌≡◌, ℕ, Bool, true, false, nat_le, ◌||◌, List, [], ◌∷◌, ◌++◌, sym, ap, ◌∙◌, refl, subst, append_assoc, chars, IsUtf8, encode_utf8}
 use Rattle.std.specs.Prelude.{Some, is_some, IsTrue, All}
 use Rattle.std.specs.Option.{option_map}
 use Rattle.std.specs.Char.{IsScalar}
-use Rattle.std.specs.Str.{IsCharBoundary}
-use Rattle.std.proofs.lemmas.List.{map-append, append-nil, take_at, take-append-drop, length-append}
+use Rattle.std.proofs.lemmas.List.{map-append, append-nil}
 use Rattle.std.proofs.lemmas.List.Elements.{All-nil, All-cons, All-head, All-tail, All-same, All-push}
-use Rattle.std.proofs.lemmas.Str.{chars-nil, chars-append, chars_past_char, IsUtf8-nil, IsUtf8-append, IsUtf8-encode, IsCharBoundary-at_seam}
+use Rattle.std.proofs.lemmas.Str.{chars-nil, chars-append, chars_past_char, IsUtf8-nil, IsUtf8-append, IsUtf8-encode}
+use Rattle.tagged_lines.proofs.Joins.{chars_of_one}
 use Rattle.tagged_lines.specs.Columns.{columns_of, width_of}
 use Rattle.tagged_lines.specs.Tagged.{line_items, tagged, character}
 use Rattle.normal_text.specs.Units.{Letter, lettered, is_break_point}
@@ -19,27 +19,24 @@ use Rattle.normal_text.proofs.NormalReading.{other_same, or_skips, width_read, w
 
 pub runs_start : {T : Type 0} (block : NormalText T) (text : List ℕ) → RunsTo block text text
 runs_start block text = record {
-  front = [];
-  whole = refl;
-  utf8 = IsUtf8-nil;
+  parts = record { front = []; whole = refl; utf8 = IsUtf8-nil };
   joins = All-same (JoinsWord block)
       (chars []) [] chars-nil (All-nil (JoinsWord block));
 }
 
-pub chars-encode : (c : ℕ) → IsScalar c → chars (encode_utf8 c) ≡ c ∷ []
-chars-encode c scalar = chars_past_char (encode_utf8 c) [] c (IsUtf8-encode c scalar) (sym (append-nil (encode_utf8 c)))
-    ∙ ap (λ l. c ∷ l) chars-nil
-
 pub runs_more : {T : Type 0} (block : NormalText T) (text rest after : List ℕ) (c : ℕ) → RunsTo block text rest
     → rest ≡ encode_utf8 c ++ after → IsScalar c → JoinsWord block c → RunsTo block text after
 runs_more block text rest after c r split scalar joins =
+    let p = r.parts in
     record {
-      front = r.front ++ encode_utf8 c;
-      whole = r.whole ∙ ap (λ l. r.front ++ l) split ∙ sym (append_assoc r.front (encode_utf8 c) after);
-      utf8 = IsUtf8-append r.front (encode_utf8 c) r.utf8 (IsUtf8-encode c scalar);
-      joins = All-same (JoinsWord block) (chars (r.front ++ encode_utf8 c)) (chars r.front ++ c ∷ [])
-          (chars-append r.front (encode_utf8 c) r.utf8 ∙ ap (λ l. chars r.front ++ l) (chars-encode c scalar))
-          (All-push (JoinsWord block) (chars r.front) c r.joins joins);
+      parts = record {
+        front = p.front ++ encode_utf8 c;
+        whole = p.whole ∙ ap (λ l. p.front ++ l) split ∙ sym (append_assoc p.front (encode_utf8 c) after);
+        utf8 = IsUtf8-append p.front (encode_utf8 c) p.utf8 (IsUtf8-encode c scalar);
+      };
+      joins = All-same (JoinsWord block) (chars (p.front ++ encode_utf8 c)) (chars p.front ++ c ∷ [])
+          (chars-append p.front (encode_utf8 c) p.utf8 ∙ ap (λ l. chars p.front ++ l) (chars_of_one c scalar))
+          (All-push (JoinsWord block) (chars p.front) c r.joins joins);
     }
 
 pub joins_word : {T : Type 0} (block : NormalText T) (code n : ℕ) (fits : Bool) → is_break_point code ≡ false
@@ -106,42 +103,18 @@ run_reads seen old new cs tag all w l s added =
 
 -- ---- the run cut off
 
-pub front_length : (text front rest : List ℕ) → text ≡ front ++ rest → length text - length rest ≡ length front
-front_length text front rest whole = omega (arith, ap length whole, length-append front rest)
-
-pub front_taken : (text front rest : List ℕ) (n : ℕ) → text ≡ front ++ rest → n ≡ length text - length rest
-    → take n text ≡ front
-front_taken text front rest n whole n_is = ap (take n) whole
-    ∙ take_at front rest n (sym (n_is ∙ front_length text front rest whole))
-
-pub run_boundary : {T : Type 0} (block : NormalText T) (text rest : List ℕ) (n : ℕ) → RunsTo block text rest
-    → IsUtf8 rest → n ≡ length text - length rest → IsCharBoundary text n
-run_boundary block text rest n r utf8 n_is = subst (IsCharBoundary text)
-    (sym (n_is ∙ front_length text r.front rest r.whole)) (IsCharBoundary-at_seam text r.front rest r.whole utf8)
-
-same_rest : (front xs ys : List ℕ) → front ++ xs ≡ front ++ ys → xs ≡ ys
-same_rest [] xs ys h = h
-same_rest (c ∷ front) xs ys h = same_rest front xs ys cc
-
-pub rest_dropped : (text front rest : List ℕ) (n : ℕ) → text ≡ front ++ rest → n ≡ length text - length rest
-    → drop n text ≡ rest
-rest_dropped text front rest n whole n_is =
-    same_rest front (drop n text) rest (ap (λ l. l ++ drop n text) (sym (front_taken text front rest n whole n_is))
-    ∙ take-append-drop n text ∙ whole)
-
-pub front_reads : {T S : Type 0} (seen : T → S) (old new : NormalText T) (text rest run back : List ℕ) (n : ℕ)
-    (tag : S) → RunsTo old text rest → n ≡ length text - length rest → run ≡ take n text → back ≡ drop n text
+pub front_reads : {T S : Type 0} (seen : T → S) (old new : NormalText T) (text rest run back : List ℕ) (tag : S)
+    → RunsTo old text rest → ((front : List ℕ) → text ≡ front ++ rest → run ≡ front) → back ≡ rest
     → new.width ≡ old.width → new.lines ≡ old.lines → new.space ≡ old.space
     → line_items seen new.word ≡ line_items seen old.word ++ tagged (chars run) tag
     → ReadsFront seen old new text back tag
-front_reads seen old new text rest run back n tag r n_is run_is back_is w l s added =
-    let is_front = run_is ∙ front_taken text r.front rest n r.whole n_is in
-    let is_rest = back_is ∙ rest_dropped text r.front rest n r.whole n_is in
+front_reads seen old new text rest run back tag r only back_is w l s added =
+    let p = r.parts in
     record {
-      front = chars r.front;
-      whole = ap chars r.whole ∙ chars-append r.front rest r.utf8 ∙ ap (λ b. chars r.front ++ chars b) (sym is_rest);
-      reads = run_reads seen old new (chars r.front) tag r.joins w l s
-          (added ∙ ap (λ b. line_items seen old.word ++ tagged (chars b) tag) is_front);
+      front = chars p.front;
+      whole = ap chars p.whole ∙ chars-append p.front rest p.utf8 ∙ ap (λ b. chars p.front ++ chars b) (sym back_is);
+      reads = run_reads seen old new (chars p.front) tag r.joins w l s
+          (added ∙ ap (λ b. line_items seen old.word ++ tagged (chars b) tag) (only p.front p.whole));
     }
 
 -- ---- run after run

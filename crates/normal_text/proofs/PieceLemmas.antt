@@ -6,9 +6,9 @@ use Rattle.std.proofs.lemmas.List.Elements.{All-nil, All-cons, All-head, All-tai
 use Rattle.std.proofs.lemmas.List.Sums.{fold-append}
 use Rattle.tagged_lines.specs.Columns.{width_of}
 use Rattle.tagged_lines.specs.Tagged.{Item}
-use Rattle.preserved_text.specs.Sources.{Source, letter, fragment, sourced, piece_sources, sources_of, is_break_point}
-use Rattle.preserved_text.specs.Preserved.{has_text, markers_of}
-use Rattle.preserved_text.specs.declared.piece.Piece.{Piece}
+use Rattle.text_pieces.specs.Sources.{Source, letter, fragment, sourced, piece_sources, sources_of, is_break_point}
+use Rattle.text_pieces.specs.Items.{has_text, markers_of}
+use Rattle.text_pieces.specs.declared.piece.Piece.{Piece}
 use Rattle.normal_text.specs.Units.{Letter, lettered, units}
 use Rattle.normal_text.specs.Layout.{Mark, marks_items, IsAllowed}
 use Rattle.normal_text.specs.Greedy.{all_lines, add_units}

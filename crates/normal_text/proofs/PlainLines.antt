@@ -5,8 +5,8 @@ use Rattle.std.proofs.lemmas.Bool.Decides.{nat_tests}
 use Rattle.std.proofs.lemmas.List.Elements.{All-nil, All-cons, All-head, All-tail}
 use Rattle.tagged_lines.specs.Columns.{width_of}
 use Rattle.tagged_lines.specs.Tagged.{Item, character, marker}
-use Rattle.preserved_text.specs.Sources.{Source, letter, fragment, is_break_point}
-use Rattle.preserved_text.specs.Preserved.{has_text}
+use Rattle.text_pieces.specs.Sources.{Source, letter, fragment, is_break_point}
+use Rattle.text_pieces.specs.Items.{has_text}
 use Rattle.normal_text.specs.Units.{Letter, units}
 use Rattle.normal_text.specs.Layout.{Mark, marks_items, IsAllowed, AreLinesOf, NeverFits}
 use Rattle.normal_text.specs.Greedy.{all_lines, add_units}

@@ -2,9 +2,9 @@
 use Rattle.std.proofs.Common.{◌≡◌, ℕ, Bool, true, false, ◌||◌, List, [], ◌∷◌, ◌++◌, map, ap, ◌∙◌, refl, append_assoc}
 use Rattle.std.specs.Prelude.{if◌then◌else◌}
 use Rattle.tagged_lines.specs.Elements.{Item, character, marker, tagged}
-use Rattle.preserved_text.specs.Preserved.{has_text}
+use Rattle.text_pieces.specs.Items.{has_text}
 use Rattle.normal_text.specs.Riders.{plain, note, shown_item, settled_lines, settled_rest}
-use Rattle.preserved_text.proofs.ElementLemmas.{has_text-append}
+use Rattle.text_pieces.proofs.ElementLemmas.{has_text-append}
 
 -- ---- texts
 

@@ -4,7 +4,7 @@ use Rattle.std.proofs.lemmas.Bool.{cond-false}
 use Rattle.std.proofs.lemmas.List.Elements.{All-nil, All-cons, All-head, All-tail, All-same, All-weaker, All-filter, filter_passes}
 use Rattle.tagged_lines.specs.Columns.{columns_of, width_of}
 use Rattle.normal_text.specs.Units.{Letter, Piece, piece, has_columns, with_front, is_break_point, space_of, pieces_after, joining, joined, has_letters, units}
-use Rattle.preserved_text.specs.Sources.{is_filled}
+use Rattle.text_pieces.specs.Sources.{is_filled}
 use Rattle.normal_text.proofs.UnitsReading.{joining-with_columns, joining-without, pieces_after-letter, pieces_after-break, pieces_after-filled}
 
 -- whether a character of the stretch stands in a unit

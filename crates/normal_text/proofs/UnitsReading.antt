@@ -3,7 +3,7 @@ use Rattle.std.proofs.Common.{◌≡◌, ℕ, ◌+◌, Bool, true, false, cond, 
 use Rattle.std.proofs.lemmas.Bool.{cond-true, cond-false}
 use Rattle.tagged_lines.specs.Columns.{columns_of}
 use Rattle.normal_text.specs.Units.{Letter, Piece, piece, letters_columns, has_columns, with_front, is_break_point, space_of, pieces_after, first_of, joining, joined, has_letters, units}
-use Rattle.preserved_text.specs.Sources.{is_filled}
+use Rattle.text_pieces.specs.Sources.{is_filled}
 use Rattle.normal_text.specs.Layout.{Mark}
 use Rattle.normal_text.specs.Greedy.{Filled, filled, all_lines, add_unit, add_units}
 use Rattle.normal_text.specs.Filling.{reading, read_letter, read_letters, nothing_read, lines_read}

@@ -1,38 +1,38 @@
 -- Where words begin and end in a text.
-use Rattle.std.proofs.Common.{◌≡◌, ℕ, Bool, true, false, nat_le, List, [], ◌∷◌, ◌++◌, sym, ap, ◌∙◌, refl, subst, append_assoc, arith, length, take, drop, ◌-◌, ◌==◌, chars, IsUtf8, encode_utf8}
+use Rattle.std.proofs.Common.{◌≡◌, ℕ, Bool, true, false, nat_le, List, [], ◌∷◌, ◌++◌, sym, ap, ◌∙◌, refl, subst, append_assoc, arith, length, ◌==◌, chars, IsUtf8, encode_utf8}
 use Rattle.std.specs.Prelude.{All, None, Some, is_some, if◌then◌else◌}
 use Rattle.std.specs.Char.{IsScalar}
-use Rattle.std.specs.Str.{IsCharBoundary}
 use Rattle.std.proofs.lemmas.Bool.Decides.{nat_tests}
 use Rattle.tagged_lines.proofs.Emptiness.{chars_nil}
+use Rattle.tagged_lines.proofs.Joins.{chars_of_one}
 use Rattle.std.proofs.lemmas.List.Elements.{All-nil, All-same, All-push}
 use Rattle.std.proofs.lemmas.List.Sums.{fold-append}
-use Rattle.std.proofs.lemmas.Str.{chars-nil, chars-append, chars_past_char, IsUtf8-nil, IsUtf8-append, IsUtf8-encode, IsCharBoundary-at_seam}
+use Rattle.std.proofs.lemmas.Str.{chars-nil, chars-append, chars_past_char, IsUtf8-nil, IsUtf8-append, IsUtf8-encode}
 use Rattle.tagged_lines.specs.Columns.{columns_of, width_of}
-use Rattle.preserved_text.specs.Sources.{is_break_point}
+use Rattle.text_pieces.specs.Sources.{is_break_point}
 use Rattle.normal_text.specs.Riders.{is_carrier, in_word_at}
 use Rattle.normal_text.specs.MarkedStates.{LeavesWord, BeginsWord, in_word_behind}
 use Rattle.normal_text.proofs.NormalReading.{width_read}
-use Rattle.normal_text.proofs.NormalRuns.{chars-encode, front_length, front_taken, rest_dropped}
 
 pub leaves_start : (text : List ℕ) → LeavesWord text text
 leaves_start text = record {
-  front = [];
-  whole = refl;
-  utf8 = IsUtf8-nil;
+  parts = record { front = []; whole = refl; utf8 = IsUtf8-nil };
   bare = All-same (λ c. is_carrier c ≡ false) (chars []) [] chars-nil (All-nil (λ c. is_carrier c ≡ false));
 }
 
 pub leaves_more : (text rest after : List ℕ) (c : ℕ) → LeavesWord text rest → rest ≡ encode_utf8 c ++ after
     → IsScalar c → is_carrier c ≡ false → LeavesWord text after
 leaves_more text rest after c r split scalar bare =
+    let p = r.parts in
     record {
-      front = r.front ++ encode_utf8 c;
-      whole = r.whole ∙ ap (λ l. r.front ++ l) split ∙ sym (append_assoc r.front (encode_utf8 c) after);
-      utf8 = IsUtf8-append r.front (encode_utf8 c) r.utf8 (IsUtf8-encode c scalar);
-      bare = All-same (λ d. is_carrier d ≡ false) (chars (r.front ++ encode_utf8 c)) (chars r.front ++ c ∷ [])
-          (chars-append r.front (encode_utf8 c) r.utf8 ∙ ap (λ l. chars r.front ++ l) (chars-encode c scalar))
-          (All-push (λ d. is_carrier d ≡ false) (chars r.front) c r.bare bare);
+      parts = record {
+        front = p.front ++ encode_utf8 c;
+        whole = p.whole ∙ ap (λ l. p.front ++ l) split ∙ sym (append_assoc p.front (encode_utf8 c) after);
+        utf8 = IsUtf8-append p.front (encode_utf8 c) p.utf8 (IsUtf8-encode c scalar);
+      };
+      bare = All-same (λ d. is_carrier d ≡ false) (chars (p.front ++ encode_utf8 c)) (chars p.front ++ c ∷ [])
+          (chars-append p.front (encode_utf8 c) p.utf8 ∙ ap (λ l. chars p.front ++ l) (chars_of_one c scalar))
+          (All-push (λ d. is_carrier d ≡ false) (chars p.front) c r.bare bare);
     }
 
 pub begins_here : (rest after : List ℕ) (c : ℕ) → IsUtf8 rest → rest ≡ encode_utf8 c ++ after → is_carrier c ≡ true
@@ -49,7 +49,7 @@ pub behind_last : (width : ℕ) (in_word : Bool) (rest before : List ℕ) (c : �
     → in_word_behind width in_word (chars rest) ≡ in_word_at width (in_word_behind width in_word (chars before)) c
 behind_last width in_word rest before c split utf8 scalar =
     ap (in_word_behind width in_word)
-    (ap chars split ∙ chars-append before (encode_utf8 c) utf8 ∙ ap (λ l. chars before ++ l) (chars-encode c scalar))
+    (ap chars split ∙ chars-append before (encode_utf8 c) utf8 ∙ ap (λ l. chars before ++ l) (chars_of_one c scalar))
     ∙ fold-append (in_word_at width) in_word (chars before) (c ∷ [])
 
 pub at_break : (width : ℕ) (b : Bool) (c : ℕ) → is_break_point c ≡ true → in_word_at width b c ≡ false
@@ -89,29 +89,10 @@ some_text bs utf8 h none = test_some (length bs) h (ap length (chars_nil bs utf8
 
 -- ---- the front cut off
 
-pub word_boundary : (text rest : List ℕ) (n : ℕ) → LeavesWord text rest → IsUtf8 rest → n ≡ length text - length rest
-    → IsCharBoundary text n
-word_boundary text rest n r utf8 n_is = subst (IsCharBoundary text)
-    (sym (n_is ∙ front_length text r.front rest r.whole)) (IsCharBoundary-at_seam text r.front rest r.whole utf8)
-
-pub word_front : (text rest run : List ℕ) (n : ℕ) (r : LeavesWord text rest) → n ≡ length text - length rest
-    → run ≡ take n text → run ≡ r.front
-word_front text rest run n r n_is run_is = run_is ∙ front_taken text r.front rest n r.whole n_is
-
-pub word_back : (text rest back : List ℕ) (n : ℕ) → LeavesWord text rest → n ≡ length text - length rest
-    → back ≡ drop n text → back ≡ rest
-word_back text rest back n r n_is back_is = back_is ∙ rest_dropped text r.front rest n r.whole n_is
-
-pub word_split : (text rest run back : List ℕ) (r : LeavesWord text rest) → run ≡ r.front → back ≡ rest
-    → chars text ≡ chars run ++ chars back
-word_split text rest run back r front_is back_is =
-    ap chars r.whole ∙ chars-append r.front rest r.utf8
-    ∙ ap (λ l. chars l ++ chars rest) (sym front_is) ∙ ap (λ l. chars run ++ chars l) (sym back_is)
-
-pub word_bare : (text rest run : List ℕ) (r : LeavesWord text rest) → run ≡ r.front
-    → All (λ c. is_carrier c ≡ false) (chars run)
-word_bare text rest run r front_is = All-same (λ c. is_carrier c ≡ false) (chars run) (chars r.front)
-    (ap chars front_is) r.bare
+pub word_bare : (text rest run : List ℕ) → LeavesWord text rest
+    → ((front : List ℕ) → text ≡ front ++ rest → run ≡ front) → All (λ c. is_carrier c ≡ false) (chars run)
+word_bare text rest run r only = All-same (λ c. is_carrier c ≡ false) (chars run) (chars r.parts.front)
+    (ap chars (only r.parts.front r.parts.whole)) r.bare
 
 pub word_begins : (rest back : List ℕ) → back ≡ rest → BeginsWord (chars rest) → BeginsWord (chars back)
 word_begins rest back same begins = let P : List ℕ → Type 0 = BeginsWord in subst P (ap chars (sym same)) begins

@@ -2,7 +2,7 @@
 use Rattle.std.specs.Prelude.{ℕ, List, [], ◌∷◌, ◌++◌, Option, None, fold, is_some, if◌then◌else◌}
 use Rattle.tagged_lines.specs.Columns.{columns_of}
 use Rattle.normal_text.specs.Units.{Letter, piece, has_columns, is_break_point, space_of, first_of}
-use Rattle.preserved_text.specs.Sources.{is_filled}
+use Rattle.text_pieces.specs.Sources.{is_filled}
 use Rattle.normal_text.specs.Layout.{Mark}
 use Rattle.normal_text.specs.Greedy.{Filled, filled, all_lines, add_unit}
 

@@ -1,6 +1,6 @@
 -- The letters of a text in which there are no markers.
 use Rattle.std.specs.Prelude.{Bool, true, false, List, [], ◌∷◌}
-use Rattle.preserved_text.specs.Sources.{Source, letter, fragment}
+use Rattle.text_pieces.specs.Sources.{Source, letter, fragment}
 use Rattle.normal_text.specs.Units.{Letter}
 
 -- the characters with their tags, where there are no markers

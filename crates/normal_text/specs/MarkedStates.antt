@@ -1,9 +1,9 @@
 -- What contracts see of a `MarkedText`, and of the places at which markers are put among letters.
 use Rattle.std.specs.Prelude.{◌≡◌, ℕ, Bool, true, false, List, [], ◌∷◌, ◌++◌, All, map, fold, chars}
-use Rattle.std.specs.Str.{IsUtf8}
 use Rattle.normal_text.specs.Units.{Letter, lettered}
 use Rattle.normal_text.specs.NormalStates.{HasRead, HasWider}
-use Rattle.preserved_text.specs.Sources.{Source, names}
+use Rattle.text_pieces.specs.Cuts.{IsBehind}
+use Rattle.text_pieces.specs.Sources.{Source, names}
 use Rattle.normal_text.specs.Riders.{Rider, ride, Carried, carry, is_carrier, in_word_at, has_wide_text}
 use Rattle.normal_text.specs.MarkedTags.{tag_seen}
 use Rattle.normal_text.specs.Letters.{letters_of}
@@ -30,10 +30,8 @@ BeginsWord (c ∷ cs) = is_carrier c ≡ true
 
 -- No marker rides on what stands in front of the rest.
 pub record LeavesWord (text rest : List ℕ) : Type 0 where
-  pub front : List ℕ
-  pub whole : text ≡ front ++ rest
-  pub utf8 : IsUtf8 front
-  pub bare : All (λ c. is_carrier c ≡ false) (chars front)
+  pub parts : IsBehind text rest
+  pub bare : All (λ c. is_carrier c ≡ false) (chars parts.front)
 
 -- whether a marker behind the text rides on its last word
 abbrev pub in_word_behind : ℕ → Bool → List ℕ → Bool

@@ -1,11 +1,11 @@
 -- What contracts see of a `NormalText`: how its lines, its white space and its word follow from what was read.
 use Rattle.std.specs.Prelude.{◌≡◌, ℕ, ◌+◌, ◌<◌, Bool, true, false, ◌||◌, nat_le, List, [], ◌∷◌, ◌++◌, Option, None, Some, map, fold, is_some, All, IsTrue, if◌then◌else◌, chars}
 use Rattle.std.specs.Option.{option_map}
-use Rattle.std.specs.Str.{IsUtf8}
 use Rattle.tagged_lines.specs.Columns.{columns_of, width_of}
 use Rattle.tagged_lines.specs.Tagged.{Item, character, line_items, IsJoined}
 use Rattle.normal_text.specs.Units.{Letter, piece, lettered, is_break_point, is_white_space, first_of, has_columns}
-use Rattle.preserved_text.specs.Sources.{is_filled}
+use Rattle.text_pieces.specs.Cuts.{IsBehind}
+use Rattle.text_pieces.specs.Sources.{is_filled}
 use Rattle.normal_text.specs.Layout.{Mark, opens, inside, marked, columns, marks_items, gap}
 use Rattle.normal_text.specs.Greedy.{Filled, filled, all_lines, add_unit, add_marks, add_mark}
 use Rattle.normal_text.specs.Filling.{Reading, reading, read_letters, nothing_read}
@@ -129,10 +129,8 @@ pub record JoinsWord {T : Type 0} (block : NormalText T) (code : ℕ) : Type 0 w
 
 -- Such characters stand in front of what follows.
 pub record RunsTo {T : Type 0} (block : NormalText T) (text rest : List ℕ) : Type 0 where
-  pub front : List ℕ
-  pub whole : text ≡ front ++ rest
-  pub utf8 : IsUtf8 front
-  pub joins : All (JoinsWord block) (chars front)
+  pub parts : IsBehind text rest
+  pub joins : All (JoinsWord block) (chars parts.front)
 
 -- The block reads what stands in front of the rest of the text.
 pub record ReadsFront {T S : Type 0} (seen : T → S) (old new : NormalText T) (text rest : List ℕ)

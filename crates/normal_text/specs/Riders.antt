@@ -3,8 +3,8 @@
 use Rattle.std.specs.Prelude.{ℕ, Bool, false, not, ◌&&◌, ◌||◌, nat_le, nat_lt, List, [], ◌∷◌, ◌++◌, map, fold, is_some, if◌then◌else◌}
 use Rattle.tagged_lines.specs.Columns.{columns_of, width_of}
 use Rattle.tagged_lines.specs.Tagged.{Item, character, marker}
-use Rattle.preserved_text.specs.Sources.{Source, letter, fragment, is_break_point}
-use Rattle.preserved_text.specs.Preserved.{has_text, markers_of}
+use Rattle.text_pieces.specs.Sources.{Source, letter, fragment, is_break_point}
+use Rattle.text_pieces.specs.Items.{has_text, markers_of}
 use Rattle.normal_text.specs.Units.{Letter, units}
 use Rattle.normal_text.specs.Layout.{marks_items}
 use Rattle.normal_text.specs.Greedy.{all_lines, add_units}

@@ -1,7 +1,7 @@
 -- Words of worked rows: a text without tags, its units, and its lines; texts with a marker between them.
 use Rattle.std.specs.Prelude.{ℕ, List, [], ◌∷◌, ◌++◌, Option, map, codes}
 use Rattle.tagged_lines.specs.Tagged.{Item, character, marker, characters}
-use Rattle.preserved_text.specs.Sources.{Source, fragment, sourced}
+use Rattle.text_pieces.specs.Sources.{Source, fragment, sourced}
 use Rattle.normal_text.specs.Units.{Letter, Piece, lettered, piece, units}
 use Rattle.normal_text.specs.Layout.{marks_items}
 use Rattle.normal_text.specs.Greedy.{add_units, all_lines}

@@ -2,7 +2,7 @@
 -- renderer uses it). A stretch is a list of characters with their tags.
 use Rattle.std.specs.Prelude.{ℕ, ◌+◌, Bool, nat_lt, List, [], ◌∷◌, ◌++◌, Option, None, Some, is_some, filter, map, if◌then◌else◌}
 use Rattle.tagged_lines.specs.Columns.{columns_of, width_of}
-pub use Rattle.preserved_text.specs.Sources.{is_white_space, is_break_point, is_filled}
+pub use Rattle.text_pieces.specs.Sources.{is_white_space, is_break_point, is_filled}
 
 -- a character as a code point, with its tag
 pub record Letter (S : Type 0) : Type 0 where

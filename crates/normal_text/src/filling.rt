@@ -3,11 +3,11 @@ ghost use Rattle.std.specs.Option.{option_map};
 ghost use Rattle.tagged_lines.specs.Tagged.{line_items, element_items, line_columns, tagged, IsJoined};
 ghost use Rattle.normal_text.specs.NormalStates.{space_behind, space_columns};
 
-use preserved_text::BlockError;
 use std::alloc::{AllocError, Global};
 use tagged_lines::{
     Columns, EqualCopy, TaggedLine, TaggedLineElement, TaggedString, UnicodeColumns,
 };
+use text_pieces::BlockError;
 
 /// Lines of at most `width` columns that are filled from the front, each with as many characters as go.
 #[derive(Drop)]

@@ -1,8 +1,9 @@
 //! Laws of texts and their lines: each is the contract of a function that does nothing.
 ghost use Rattle.std.specs.Prelude.{◌≡◌, ℕ, ◌≤◌, All, flat_map, Bool, true, false, List, ◌++◌, ◌||◌, not};
 ghost use Rattle.tagged_lines.specs.Tagged.{line_columns};
-ghost use Rattle.preserved_text.specs.Sources.{Source, sourced};
-ghost use Rattle.preserved_text.specs.Preserved.{markers_of, names_of};
+ghost use Rattle.text_pieces.specs.Sources.{Source, sourced};
+ghost use Rattle.text_pieces.specs.Sources.{names_of};
+ghost use Rattle.text_pieces.specs.Items.{markers_of};
 ghost use Rattle.normal_text.specs.Units.{lettered};
 ghost use Rattle.normal_text.specs.Layout.{AreLinesOf, NeverFits};
 ghost use Rattle.normal_text.specs.Riders.{normal_lines, normal_waiting, has_wide_text};

@@ -1,8 +1,8 @@
 //! Normal text with markers on its words.
 ghost use Rattle.std.specs.Prelude.{◌≡◌, ◌⊎◌, ℕ, Bool, List, [], ◌∷◌, ◌++◌, map, chars, string_bytes, All, IfOk, IfErr, OnOk};
 ghost use Rattle.tagged_lines.specs.Tagged.{line_items, element_items, IsJoined};
-ghost use Rattle.preserved_text.specs.Sources.{names};
-ghost use Rattle.preserved_text.specs.Preserved.{markers_of};
+ghost use Rattle.text_pieces.specs.Sources.{names};
+ghost use Rattle.text_pieces.specs.Items.{markers_of};
 ghost use Rattle.normal_text.specs.Units.{Letter};
 ghost use Rattle.normal_text.specs.NormalStates.{HasRead};
 ghost use Rattle.normal_text.specs.Riders.{Rider, ride};
@@ -12,9 +12,9 @@ use crate::marked_tag::MarkedTag;
 use crate::normal::NormalText;
 use crate::shown::{Settled, settle};
 use crate::word_ends::{ends_in_word, from_word};
-use preserved_text::{BlockError, LaidText, Piece, names_before};
 use std::alloc::{AllocError, Global};
 use tagged_lines::{EqualCopy, TaggedLine, TaggedLineElement};
+use text_pieces::{BlockError, LaidText, Piece, names_before, split_before};
 
 /// Normal text whose markers ride on its words: one behind a word's character stays there, another waits for the next
 /// word.
@@ -28,7 +28,7 @@ pub(crate) struct MarkedText<T> {
 }
 
 impl<T: EqualCopy + Drop> MarkedText<T> {
-    ghost use Rattle.preserved_text.specs.Sources.{Source, sourced, fragment, piece_sources};
+    ghost use Rattle.text_pieces.specs.Sources.{Source, sourced, fragment, piece_sources};
     ghost use Rattle.normal_text.specs.Riders.{Carried, nothing_carried, settled_lines, settled_rest, shown_lines};
     ghost use Rattle.normal_text.specs.MarkedStates.{Carries, CarriesOn, MeetsWide, AddsWords, MeetsWideWord};
 
@@ -65,7 +65,7 @@ impl<T: EqualCopy + Drop> MarkedText<T> {
             → MeetsWide T.seen self.old (sourced (chars text.now) (T.seen tag.now) further) }
     {
         let tag = MarkedTag::Plain(tag.copy(*self.waiting.allocator())?);
-        let (front, back) = text.split_at(text.len() - from_word(text).len());
+        let (front, back) = split_before(text, from_word(text));
         self.text.add_text(front, &tag)?;
         self.add_words(back, &tag)?;
         self.in_word = ends_in_word(text, self.width, self.in_word);

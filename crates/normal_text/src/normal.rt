@@ -4,9 +4,9 @@ ghost use Rattle.tagged_lines.specs.Tagged.{line_items, line_columns, IsJoined};
 ghost use Rattle.normal_text.specs.Units.{is_break_point};
 
 use crate::filling::Filling;
-use preserved_text::{BlockError, first_char, is_break_point};
 use std::alloc::{AllocError, Global};
 use tagged_lines::{Columns, EqualCopy, TaggedLine, UnicodeColumns};
+use text_pieces::{BlockError, first_char, is_break_point, split_before};
 
 /// A stretch of normal text that is wrapped into lines of at most `width` columns (characters that have no
 /// width are left out). A word that fits the rest of the line with its gap stays on it, else it starts a
@@ -23,7 +23,7 @@ pub(crate) struct NormalText<T> {
 
 impl<T: EqualCopy + Drop> NormalText<T> {
     ghost use Rattle.normal_text.specs.Units.{Letter, lettered};
-    ghost use Rattle.preserved_text.specs.Sources.{is_filled};
+    ghost use Rattle.text_pieces.specs.Sources.{is_filled};
     ghost use Rattle.normal_text.specs.Layout.{marks_items};
     ghost use Rattle.normal_text.specs.Units.{units};
     ghost use Rattle.normal_text.specs.Greedy.{all_lines, add_units};
@@ -75,7 +75,7 @@ impl<T: EqualCopy + Drop> NormalText<T> {
         ensures text { IfOk result (λ rest. IsUtf8 rest.now) }
         ensures no_longer { IfOk result (λ rest. length rest.now ≤ length text.now) }
     {
-        let (run, rest) = text.split_at(text.len() - self.after_run(text).len());
+        let (run, rest) = split_before(text, self.after_run(text));
         self.word.push_str(run, tag)?;
         Ok(rest)
     }

@@ -1,7 +1,7 @@
 //! The lines of normal text, with its markers.
 ghost use Rattle.std.specs.Prelude.{◌≡◌, ◌⊎◌, ℕ, Bool, true, false, not, ◌||◌, List, [], ◌∷◌, ◌++◌, map, chars, string_bytes, All, IfOk, IfErr, OnOk};
 ghost use Rattle.tagged_lines.specs.Tagged.{line_items, IsJoined};
-ghost use Rattle.preserved_text.specs.Sources.{names, sources_of, piece_sources};
+ghost use Rattle.text_pieces.specs.Sources.{names, sources_of, piece_sources};
 ghost use Rattle.normal_text.specs.Riders.{normal_lines, normal_waiting, has_wide_text};
 ghost use Rattle.normal_text.specs.Units.{Letter};
 ghost use Rattle.normal_text.specs.Letters.{has_marker, letters_of};
@@ -10,9 +10,9 @@ ghost use Rattle.normal_text.specs.MarkedStates.{CarriesOn, MeetsWide};
 
 use crate::marked::MarkedText;
 use crate::normal::NormalText;
-use preserved_text::{BlockError, LaidText, Piece};
 use std::alloc::Global;
 use tagged_lines::EqualCopy;
+use text_pieces::{BlockError, LaidText, Piece};
 
 /// The lines of normal text, and the markers that wait for what comes behind it.
 pub fn lay_normal<T: EqualCopy + Drop>(

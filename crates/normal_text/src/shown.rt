@@ -1,14 +1,14 @@
 //! Lines of text with markers on it, shown: markers in place of the letters that stood for them.
 ghost use Rattle.std.specs.Prelude.{◌≡◌, Bool, true, false, [], ◌∷◌, ◌++◌, map, chars, string_bytes, All, IfOk, OnOk, if◌then◌else◌};
 ghost use Rattle.tagged_lines.specs.Tagged.{line_items, line_text, element_items, tagged, marker, IsJoined};
-ghost use Rattle.preserved_text.specs.Preserved.{has_text};
+ghost use Rattle.text_pieces.specs.Items.{has_text};
 ghost use Rattle.normal_text.specs.Riders.{note, shown_item, settled_lines, settled_rest};
 ghost use Rattle.normal_text.specs.MarkedTags.{tag_seen};
 
 use crate::marked_tag::MarkedTag;
-use preserved_text::{first_char, has_text};
 use std::alloc::{AllocError, Global};
 use tagged_lines::{EqualCopy, TaggedLine, TaggedLineElement, TaggedString};
+use text_pieces::{first_char, has_text};
 
 /// Lines, and what is left of markers behind them that found no line with text.
 #[derive(Drop)]

@@ -4,8 +4,8 @@ ghost use Rattle.std.specs.Char.{IsScalar};
 ghost use Rattle.normal_text.specs.Riders.{is_carrier};
 ghost use Rattle.normal_text.specs.MarkedStates.{LeavesWord, BeginsWord, in_word_behind};
 
-use preserved_text::{first_char, is_break_point, last_char};
 use tagged_lines::{Columns, UnicodeColumns};
+use text_pieces::{first_char, is_break_point, last_char};
 
 /// Whether markers ride on the character: it has a width, and is no break point.
 fn is_carrier(c: char) -> bool

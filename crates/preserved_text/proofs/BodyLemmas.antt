@@ -5,11 +5,12 @@ use Rattle.std.proofs.lemmas.List.{map-append}
 use Rattle.std.proofs.lemmas.List.Sums.{fold-append, sum_by-cons}
 use Rattle.tagged_lines.specs.Columns.{width_of, text_columns}
 use Rattle.tagged_lines.specs.Tagged.{Item, character, tagged, line_columns}
-use Rattle.preserved_text.specs.Sources.{letter, sourced}
+use Rattle.text_pieces.specs.Sources.{letter, sourced}
 use Rattle.preserved_text.specs.Preserved.{Kind, solid, white, tab, cut, nothing, kind_of, Laying, chosen, taken, fresh, with_room, put, put_all, written}
 use Rattle.preserved_text.specs.Pass.{Pass, passes, lettered, entered, read_at, read_source, read_all}
 use Rattle.preserved_text.specs.Fronts.{goes_on_with, JoinsBody, Fits, has_wider, all_lettered, run_lettered, IsSteady}
-use Rattle.preserved_text.proofs.ColumnLemmas.{line_columns-append, lt_is_false, le_is_true}
+use Rattle.preserved_text.proofs.ColumnLemmas.{lt_is_false, le_is_true}
+use Rattle.text_pieces.proofs.ItemColumns.{line_columns-append}
 
 -- ---- reading
 

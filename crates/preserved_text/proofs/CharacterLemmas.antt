@@ -1,30 +1,10 @@
--- Whether a line has text; the columns and the kinds of characters.
-use Rattle.std.proofs.Common.{◌≡◌, ℕ, ◌≤◌, Bool, true, false, List, [], ◌∷◌, if◌then◌else◌, sym, ap, ◌∙◌, refl, arith, inr}
-use Rattle.std.specs.Prelude.{Option, unwrap_or, is_some, ◌==◌}
+-- The kinds of visible ASCII characters.
+use Rattle.std.proofs.Common.{◌≡◌, ℕ, ◌≤◌, Bool, true, false, if◌then◌else◌, ap, ◌∙◌, arith, inr}
+use Rattle.std.specs.Prelude.{is_some, ◌==◌}
 use Rattle.std.proofs.lemmas.Bool.Decides.{nat_tests}
-use Rattle.tagged_lines.specs.Columns.{columns_of, columns_of-one, width_of}
-use Rattle.tagged_lines.specs.Elements.{Item, character, marker, characters, elements_items, elements_text}
-use Rattle.tagged_lines.specs.declared.tagged_string.TaggedLineElement.{TaggedLineElement}
-use Rattle.tagged_lines.proofs.Joins.{elements_characters}
-use Rattle.preserved_text.specs.Sources.{is_filled, is_white_space}
-use Rattle.preserved_text.specs.Preserved.{Kind, solid, nothing, kind_of, has_text}
-
-text_filled : {S : Type 0} (items : List (Item S)) → has_text items ≡ is_filled (characters items)
-text_filled [] = refl
-text_filled (character c tag ∷ rest) = refl
-text_filled (marker name ∷ rest) = text_filled rest
-
-pub filled_text : {T S : Type 0} (seen : T → S) (es : List (TaggedLineElement T))
-    → is_filled (elements_text es) ≡ has_text (elements_items seen es)
-filled_text seen es = sym (text_filled (elements_items seen es) ∙ ap is_filled (elements_characters seen es))
-
--- ---- the columns of a character
-
-pub columns_read : (x w : ℕ) (o : Option ℕ) → o ≡ columns_of x → w ≡ unwrap_or o 0 → w ≡ width_of x
-unfolding width_of
-columns_read x w o eo ew = ew ∙ ap (λ p. unwrap_or p 0) eo
-
--- ---- visible ASCII is solid
+use Rattle.tagged_lines.specs.Columns.{columns_of, columns_of-one}
+use Rattle.text_pieces.specs.Sources.{is_white_space}
+use Rattle.preserved_text.specs.Preserved.{Kind, solid, nothing, kind_of}
 
 shown : (is_tab is_white is_joint has_columns : Bool) (x y z : Kind) → is_tab ≡ false → is_white ≡ false
     → is_joint ≡ false → has_columns ≡ true

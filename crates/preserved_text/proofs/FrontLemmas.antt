@@ -1,19 +1,14 @@
 -- Fronts of texts.
-use Rattle.std.proofs.Common.{◌≡◌, ℕ, ◌+◌, ◌-◌, ◌<◌, ◌≤◌, Bool, true, false, List, [], ◌∷◌, ◌++◌, length, take, drop, sym, ap, ◌∙◌, refl, subst, append-nil, append_assoc, arith, inr, chars, IsUtf8, encode_utf8}
+use Rattle.std.proofs.Common.{◌≡◌, ℕ, ◌+◌, ◌-◌, ◌<◌, ◌≤◌, Bool, true, false, List, [], ◌∷◌, ◌++◌, sym, ap, ◌∙◌, refl, subst, append_assoc, arith, inr, chars, encode_utf8}
 use Rattle.std.specs.Prelude.{◌||◌, nat_lt, Option, None, Some, IfSome, unwrap_or}
 use Rattle.std.specs.Char.{IsScalar}
-use Rattle.std.specs.Str.{IsCharBoundary}
-use Rattle.std.proofs.lemmas.List.{take_at, take-append-drop, length-append}
 use Rattle.std.proofs.lemmas.List.Sums.{sum_by-append, sum_by-cons}
 use Rattle.std.proofs.lemmas.Bool.Decides.{nat_tests}
-use Rattle.std.proofs.lemmas.Str.{chars-nil, chars-append, chars_past_char, IsUtf8-nil, IsUtf8-append, IsUtf8-encode, IsCharBoundary-at_seam}
+use Rattle.std.proofs.lemmas.Str.{chars-nil, chars-append, IsUtf8-nil, IsUtf8-append, IsUtf8-encode}
+use Rattle.tagged_lines.proofs.Joins.{chars_of_one}
 use Rattle.tagged_lines.specs.Columns.{columns_of, columns_of-at_most_two, width_of, text_columns}
 use Rattle.preserved_text.specs.Preserved.{kind_of}
-use Rattle.preserved_text.specs.Fronts.{IsBehind, HasFront, goes_on_with, JoinsBody, Fits, has_wider}
-
-chars-encode : (c : ℕ) → IsScalar c → chars (encode_utf8 c) ≡ c ∷ []
-chars-encode c scalar = chars_past_char (encode_utf8 c) [] c (IsUtf8-encode c scalar) (sym (append-nil (encode_utf8 c)))
-    ∙ ap (λ l. c ∷ l) chars-nil
+use Rattle.preserved_text.specs.Fronts.{HasFront, goes_on_with, JoinsBody, Fits, has_wider}
 
 -- ---- a front that grows
 
@@ -35,7 +30,7 @@ front_more Holds Next text rest after c has split scalar next =
         utf8 = IsUtf8-append p.front (encode_utf8 c) p.utf8 (IsUtf8-encode c scalar);
       };
       holds = subst Next (sym (chars-append p.front (encode_utf8 c) p.utf8
-          ∙ ap (λ l. chars p.front ++ l) (chars-encode c scalar))) (next (chars p.front) has.holds);
+          ∙ ap (λ l. chars p.front ++ l) (chars_of_one c scalar))) (next (chars p.front) has.holds);
     }
 
 pub joins_more : (width : ℕ) (wraps : Bool) (c : ℕ) → goes_on_with wraps (kind_of width wraps c) ≡ true
@@ -53,28 +48,6 @@ pub columns_within : (room left : ℕ) (text rest : List ℕ) → HasFront (λ c
 columns_within room left text rest has = record { parts = has.parts; holds = omega (arith, has.holds) }
 
 -- ---- a text that is cut
-
-front_length : (text front rest : List ℕ) → text ≡ front ++ rest → length text - length rest ≡ length front
-front_length text front rest whole = omega (arith, ap length whole, length-append front rest)
-
-pub front_taken : (text front rest : List ℕ) (n : ℕ) → text ≡ front ++ rest → n ≡ length text - length rest
-    → take n text ≡ front
-front_taken text front rest n whole n_is = ap (take n) whole
-    ∙ take_at front rest n (sym (n_is ∙ front_length text front rest whole))
-
-pub front_boundary : (text rest : List ℕ) → IsBehind text rest → IsUtf8 rest
-    → IsCharBoundary text (length text - length rest)
-front_boundary text rest p utf8 = subst (IsCharBoundary text) (sym (front_length text p.front rest p.whole))
-    (IsCharBoundary-at_seam text p.front rest p.whole utf8)
-
-pub parts_are : (text rest here behind : List ℕ) → IsBehind text rest → here ≡ take (length text - length rest) text
-    → behind ≡ drop (length text - length rest) text → chars text ≡ chars here ++ chars behind
-parts_are text rest here behind p here_is behind_is =
-    let front_is : here ≡ p.front = here_is
-    ∙ front_taken text p.front rest (length text - length rest) p.whole refl in
-    let whole : text ≡ here ++ behind = sym (take-append-drop (length text - length rest) text)
-    ∙ ap (λ l. l ++ drop (length text - length rest) text) (sym here_is) ∙ ap (λ l. here ++ l) (sym behind_is) in
-    ap chars whole ∙ chars-append here behind (subst IsUtf8 (sym front_is) p.utf8)
 
 pub holds_here : (Holds : List ℕ → Type 0) (text rest here : List ℕ) → HasFront Holds text rest
     → ((front : List ℕ) → text ≡ front ++ rest → here ≡ front) → Holds (chars here)

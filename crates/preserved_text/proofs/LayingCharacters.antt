@@ -6,10 +6,10 @@ use Rattle.std.proofs.lemmas.Bool.Decides.{nat_tests}
 use Rattle.std.proofs.lemmas.List.Elements.{filter-append}
 use Rattle.tagged_lines.specs.Columns.{columns_of}
 use Rattle.tagged_lines.specs.Tagged.{Item, character, marker, characters}
-use Rattle.preserved_text.specs.Sources.{Source, letter, fragment, is_white_space}
+use Rattle.text_pieces.specs.Sources.{Source, letter, fragment, is_white_space}
 use Rattle.preserved_text.specs.Preserved.{solid, white, tab, cut, nothing, kind_of, is_solid, Laying, nothing_laid, has_text, line_text, fresh, lay_part, parts, preserved_lines, trimmed, is_begun, word_at, goes_over_white, word_behind}
 use Rattle.preserved_text.specs.LawWords.{is_shown, codes_of}
-use Rattle.preserved_text.proofs.ColumnLemmas.{no_characters}
+use Rattle.text_pieces.proofs.ItemColumns.{no_characters}
 use Rattle.preserved_text.proofs.LayingKept.{IsSeen, laid_seen}
 
 -- shown characters, item by item

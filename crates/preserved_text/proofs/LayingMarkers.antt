@@ -1,7 +1,7 @@
 -- No marker is lost.
 use Rattle.std.proofs.Common.{◌≡◌, ℕ, Bool, List, [], ◌∷◌, ◌++◌, flat_map, refl, sym, ap, ◌∙◌}
 use Rattle.tagged_lines.specs.Tagged.{Item, character, marker}
-use Rattle.preserved_text.specs.Sources.{Source, letter, fragment}
+use Rattle.text_pieces.specs.Sources.{Source, letter, fragment}
 use Rattle.preserved_text.specs.Preserved.{laid, preserved_lines, preserved_waiting, markers_of, names_of, trimmed, word_behind}
 use Rattle.preserved_text.proofs.LayingKept.{IsSeen, laid_seen}
 

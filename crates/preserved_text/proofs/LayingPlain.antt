@@ -5,10 +5,11 @@ use Rattle.std.proofs.lemmas.Bool.{cond_both, cond-true}
 use Rattle.std.proofs.lemmas.Bool.Decides.{nat_tests}
 use Rattle.tagged_lines.specs.Columns.{columns_of, columns_of-one, width_of}
 use Rattle.tagged_lines.specs.Tagged.{Item, character, line_columns}
-use Rattle.preserved_text.specs.Sources.{Source, letter, fragment}
+use Rattle.text_pieces.specs.Sources.{Source, letter, fragment}
 use Rattle.preserved_text.specs.Preserved.{white, cut, nothing, kind_of, is_solid, has_solid, trimmed, is_begun, parts_at, word_at, goes_over_white, parts_behind, Laying, space, fresh, with_room, written, without_spaces, lay_blank, taken, line_taken, Tagging, tag_one, tagged_body, put_all, broken_anywhere, broken_at_white, lay_items, lay_body, lay_part, preserved_lines}
 use Rattle.preserved_text.specs.LawWords.{ArePlain, source_columns, as_it_stands, one_line}
-use Rattle.preserved_text.proofs.ColumnLemmas.{le_is_true, lt_is_false, width_of-space, line_columns-append, line_columns-cons}
+use Rattle.preserved_text.proofs.ColumnLemmas.{le_is_true, lt_is_false, width_of-space}
+use Rattle.text_pieces.proofs.ItemColumns.{line_columns-append, line_columns-cons}
 
 -- one line at hand, and spaces
 abbrev at_hand : {S : Type 0} → List (Item S) → List (Item S) → Laying S

@@ -6,9 +6,10 @@ use Rattle.std.proofs.lemmas.Bool.Decides.{nat_tests}
 use Rattle.std.proofs.lemmas.List.Elements.{All-append, All-cons, All-nil}
 use Rattle.tagged_lines.specs.Columns.{columns_of, width_of}
 use Rattle.tagged_lines.specs.Tagged.{Item, character, marker, line_columns}
-use Rattle.preserved_text.specs.Sources.{Source, letter, fragment, is_white_space}
+use Rattle.text_pieces.specs.Sources.{Source, letter, fragment, is_white_space}
 use Rattle.preserved_text.specs.Preserved.{Kind, solid, white, tab, cut, nothing, kind_of, trimmed, Part, blank, stop, body, ended_word, is_begun, parts_at, word_at, goes_over_white, parts_behind, parts, Laying, nothing_laid, space, chosen, has_text, line_text, line_taken, fresh, with_room, written, without_spaces, item_columns, put, put_all, put_space, lay_blank, to_stop, behind_stop, tabbed, lay_stop, taken, Tagging, tag_one, tagged_body, remaining, broken_anywhere, broken_at_white, lay_items, lay_body, lay_part, preserved_lines, has_wide_letter, has_wide_body, is_too_wide}
-use Rattle.preserved_text.proofs.ColumnLemmas.{le_when, lt_unless, le_unless, line_columns-append, line_columns-cons, no_columns, IsSpace, AreSpaces, AreSpaces-append, AreSpaces-replicate, item_columns-space, line_columns-replicate, line_columns-drop}
+use Rattle.preserved_text.proofs.ColumnLemmas.{le_when, lt_unless, le_unless, IsSpace, AreSpaces, AreSpaces-append, AreSpaces-replicate, item_columns-space, line_columns-replicate, line_columns-drop}
+use Rattle.text_pieces.proofs.ItemColumns.{line_columns-append, line_columns-cons, no_columns}
 
 -- What is laid is within the width; white space waits only where there are columns.
 pub record IsIn {S : Type 0} (w : ℕ) (r : Laying S) : Type 0 where

@@ -6,7 +6,6 @@ pub mod LayingKept
 pub mod LayingMarkers
 pub mod LayingPlain
 pub mod LayingWidth
-pub mod ElementLemmas
 mod FrontLemmas
 mod WordLemmas
 mod WordsRead
@@ -15,4 +14,3 @@ pub mod TrimLemmas
 pub mod ReadingLemmas
 pub mod PassLaw
 pub mod RowLemmas
-pub mod TextCuts

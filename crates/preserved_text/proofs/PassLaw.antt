@@ -5,7 +5,7 @@ use Rattle.std.proofs.lemmas.Bool.{false≢true}
 use Rattle.std.proofs.lemmas.List.Sums.{fold-append}
 use Rattle.tagged_lines.specs.Columns.{width_of}
 use Rattle.tagged_lines.specs.Tagged.{Item, marker}
-use Rattle.preserved_text.specs.Sources.{Source, letter, fragment}
+use Rattle.text_pieces.specs.Sources.{Source, letter, fragment}
 use Rattle.preserved_text.specs.Preserved.{Kind, solid, white, tab, cut, nothing, kind_of, Part, blank, stop, body, is_begun, ended_word, waiting_word, parts_at, word_at, goes_over_white, parts_behind, word_behind, parts, trimmed, Laying, nothing_laid, has_text, line_text, line_taken, fresh, with_room, taken, Tagging, tag_one, tagged_body, lay_items, lay_blank, lay_stop, lay_body, lay_part, laid, preserved_lines, preserved_waiting, markers_of, names_of, has_wide_letter, has_wide_body, is_too_wide}
 use Rattle.preserved_text.specs.Pass.{Pass, new_pass, entered, begins, lettered, ended_body, closed, blanked, stopped, read_at, read_letter, read_marker, read_all, finished, left_markers}
 

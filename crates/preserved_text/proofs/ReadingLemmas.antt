@@ -3,11 +3,11 @@ use Rattle.std.proofs.Common.{◌≡◌, ℕ, Bool, true, false, not, ◌&&◌, 
 use Rattle.std.specs.Prelude.{Result, Ok, Err, IfOk, OnOk, if◌then◌else◌}
 use Rattle.std.proofs.lemmas.Bool.{false≢true}
 use Rattle.std.proofs.lemmas.List.Sums.{fold-append}
-use Rattle.preserved_text.specs.Sources.{Source, letter, fragment, piece_sources, sources_of}
+use Rattle.text_pieces.specs.Sources.{Source, letter, fragment, piece_sources, sources_of}
 use Rattle.preserved_text.specs.Preserved.{Kind, solid, white, tab, cut, nothing, kind_of, trimmed}
 use Rattle.preserved_text.specs.Pass.{Pass, new_pass, finished, entered, ended_body, read_at, read_source, read_all}
 use Rattle.preserved_text.specs.Trimming.{trimmed_each, StayWhole}
-use Rattle.preserved_text.specs.declared.piece.Piece.{Piece}
+use Rattle.text_pieces.specs.declared.piece.Piece.{Piece}
 
 -- ---- the width, and where lines break, stay
 

@@ -9,7 +9,7 @@ use Rattle.tagged_lines.specs.declared.tagged_string.TaggedLineElement.{TaggedLi
 use Rattle.tagged_lines.proofs.Joins.{elements_items-append}
 use Rattle.preserved_text.specs.Preserved.{Laying, has_text, line_text, line_taken, fresh, with_room, written, without_spaces, item_columns, put, remaining, broken_anywhere}
 use Rattle.preserved_text.proofs.ColumnLemmas.{le_is_true}
-use Rattle.preserved_text.proofs.ElementLemmas.{next_taken, all_taken}
+use Rattle.text_pieces.proofs.ElementLemmas.{next_taken, all_taken}
 
 pub put_behind : {S : Type 0} (width n : ℕ) (old mid : Laying S) (line tail : List (Item S)) (item : Item S)
     → n ≡ item_columns item → mid ≡ with_room width n old → tail ≡ [] → line ≡ line_text mid ++ item ∷ []

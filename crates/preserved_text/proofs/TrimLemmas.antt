@@ -5,10 +5,10 @@ use Rattle.std.specs.Char.{IsScalar}
 use Rattle.std.proofs.lemmas.Bool.Decides.{nat_tests}
 use Rattle.std.proofs.lemmas.List.{append-nil, take_at, drop_at, length-append}
 use Rattle.std.proofs.lemmas.Str.{chars-nil, chars-append, chars_past_char, IsUtf8-encode}
-use Rattle.preserved_text.specs.Sources.{Source, letter, fragment, sourced, piece_sources, sources_of, is_filled}
+use Rattle.text_pieces.specs.Sources.{Source, letter, fragment, sourced, piece_sources, sources_of, is_filled}
 use Rattle.preserved_text.specs.Preserved.{kind_of, is_solid, has_solid, trimmed}
 use Rattle.preserved_text.specs.Trimming.{has_solid_text, solid_text, trimmed_each, StayWhole}
-use Rattle.preserved_text.specs.declared.piece.Piece.{Piece}
+use Rattle.text_pieces.specs.declared.piece.Piece.{Piece}
 
 -- ---- characters
 

@@ -1,15 +1,10 @@
 -- Fronts of texts, whose characters are taken at once.
-use Rattle.std.specs.Prelude.{◌≡◌, ◌⊎◌, ℕ, ◌+◌, ◌≤◌, Bool, true, false, not, ◌||◌, nat_lt, List, [], ◌∷◌, ◌++◌, fold, chars, IsUtf8}
+use Rattle.std.specs.Prelude.{◌≡◌, ◌⊎◌, ℕ, ◌+◌, ◌≤◌, Bool, true, false, not, ◌||◌, nat_lt, List, [], ◌∷◌, ◌++◌, fold, chars}
 use Rattle.tagged_lines.specs.Columns.{width_of, text_columns}
 use Rattle.tagged_lines.specs.Tagged.{tagged}
+use Rattle.text_pieces.specs.Cuts.{IsBehind}
 use Rattle.preserved_text.specs.Preserved.{Kind, solid, white, tab, cut, nothing, kind_of, is_solid, chosen, written, without_spaces}
 use Rattle.preserved_text.specs.Pass.{Pass, lettered}
-
--- the text is a front and the rest
-pub record IsBehind (text rest : List ℕ) : Type 0 where
-  pub front : List ℕ
-  pub whole : text ≡ front ++ rest
-  pub utf8 : IsUtf8 front
 
 -- of the front's characters something holds
 pub record HasFront (Holds : List ℕ → Type 0) (text rest : List ℕ) : Type 0 where

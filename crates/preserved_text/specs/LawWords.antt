@@ -2,7 +2,7 @@
 use Rattle.std.specs.Prelude.{◌≡◌, ℕ, ◌+◌, Bool, not, ◌&&◌, List, [], ◌∷◌, is_some, ◌⊎◌}
 use Rattle.tagged_lines.specs.Columns.{columns_of, width_of}
 use Rattle.tagged_lines.specs.Tagged.{Item, character}
-use Rattle.preserved_text.specs.Sources.{Source, letter, fragment, is_break_point}
+use Rattle.text_pieces.specs.Sources.{Source, letter, fragment, is_break_point}
 use Rattle.preserved_text.specs.Preserved.{kind_of, solid}
 
 -- A character that is shown: it has a width, and is neither white space nor U+200B.

@@ -1,12 +1,8 @@
-pub mod Cuts
-pub mod Faults
 pub mod Fronts
 pub mod LawWords
-pub mod Modes
 pub mod Pass
 pub mod Preserved
 pub mod RowWords
 pub mod Rows
 pub mod SourceLines
-pub mod Sources
 pub mod Trimming

@@ -3,7 +3,7 @@
 use Rattle.std.specs.Prelude.{ℕ, ◌+◌, Bool, true, false, not, ◌&&◌, ◌||◌, nat_lt, List, [], ◌∷◌, ◌++◌, fold, if◌then◌else◌}
 use Rattle.tagged_lines.specs.Columns.{width_of}
 use Rattle.tagged_lines.specs.Tagged.{Item, character, marker, line_columns}
-use Rattle.preserved_text.specs.Sources.{Source, letter, fragment}
+use Rattle.text_pieces.specs.Sources.{Source, letter, fragment}
 use Rattle.preserved_text.specs.Preserved.{Kind, solid, white, tab, cut, nothing, kind_of, Laying, nothing_laid, with_room, taken, chosen, lay_items, lay_blank, lay_stop, fresh, markers_of}
 
 -- The columns of a line, and whether lines break at white space; what was laid; the body so far, or the markers that

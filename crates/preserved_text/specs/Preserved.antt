@@ -3,7 +3,9 @@
 use Rattle.std.specs.Prelude.{ℕ, ◌+◌, ◌-◌, ◌%◌, min, Bool, true, false, not, ◌&&◌, ◌||◌, ◌==◌, nat_le, nat_lt, List, [], ◌∷◌, ◌++◌, is_some, fold, replicate, drop, if◌then◌else◌}
 use Rattle.tagged_lines.specs.Columns.{columns_of, width_of}
 use Rattle.tagged_lines.specs.Tagged.{Item, character, marker, line_columns}
-use Rattle.preserved_text.specs.Sources.{Source, letter, fragment, is_white_space}
+pub use Rattle.text_pieces.specs.Items.{has_text, item_columns, markers_of}
+pub use Rattle.text_pieces.specs.Sources.{names_of}
+use Rattle.text_pieces.specs.Sources.{Source, letter, fragment, is_white_space}
 
 -- What a character is to a source line.
 --   solid     it is shown, and stands in a body
@@ -121,11 +123,6 @@ space tag = character 0x20 tag
 abbrev pub chosen : {S : Type 0} → Bool → S → S → S
 chosen goes_on main further = if goes_on then further else main
 
-abbrev pub has_text : {S : Type 0} → List (Item S) → Bool
-has_text [] = false
-has_text (character c tag ∷ rest) = true
-has_text (marker name ∷ rest) = has_text rest
-
 abbrev pub line_text : {S : Type 0} → Laying S → List (Item S)
 line_text r = r.line ++ r.tail
 
@@ -147,10 +144,6 @@ abbrev pub without_spaces : {S : Type 0} → Laying S → Laying S
 without_spaces r = record r { spaces = [] }
 
 -- an item, on a fresh line where it doesn't go on the line at hand
-abbrev pub item_columns : {S : Type 0} → Item S → ℕ
-item_columns (character c tag) = width_of c
-item_columns (marker name) = 0
-
 abbrev pub put : {S : Type 0} → ℕ → Laying S → Item S → Laying S
 put width r item = written (with_room width (item_columns item) r) (item ∷ [])
 
@@ -240,16 +233,6 @@ laid width wraps line = fresh (fold (lay_part width wraps) nothing_laid (parts w
 -- the lines of a source line
 unfoldable pub preserved_lines : {S : Type 0} → ℕ → Bool → List (Source S) → List (List (Item S))
 preserved_lines width wraps line = (laid width wraps line).done
-
-abbrev pub markers_of : {S : Type 0} → List (Item S) → List (List ℕ)
-markers_of [] = []
-markers_of (character c tag ∷ rest) = markers_of rest
-markers_of (marker name ∷ rest) = name ∷ markers_of rest
-
-abbrev pub names_of : {S : Type 0} → List (Source S) → List (List ℕ)
-names_of [] = []
-names_of (letter c main further ∷ rest) = names_of rest
-names_of (fragment name ∷ rest) = name ∷ names_of rest
 
 -- the markers that wait for the next source line: those behind its last body, or behind a character that is wider
 -- than the width and the last of the line

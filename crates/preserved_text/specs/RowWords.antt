@@ -1,7 +1,7 @@
 -- Words of worked rows: the characters, or the tags, of the lines of a text whose tags are 0, and 1 where it was wrapped.
 use Rattle.std.specs.Prelude.{ℕ, Bool, true, false, List, [], ◌∷◌, map}
 use Rattle.tagged_lines.specs.Tagged.{Item, character, marker, characters}
-use Rattle.preserved_text.specs.Sources.{sourced}
+use Rattle.text_pieces.specs.Sources.{sourced}
 use Rattle.preserved_text.specs.Preserved.{preserved_lines}
 
 abbrev pub unwrapped : Bool

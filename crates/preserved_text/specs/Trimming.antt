@@ -1,8 +1,8 @@
 -- A source line without the white space at its end, piece by piece.
 use Rattle.std.specs.Prelude.{◌≡◌, ℕ, ◌≤◌, Bool, false, ◌||◌, List, [], ◌∷◌, ◌++◌, flat_map, length, take, drop, if◌then◌else◌}
-use Rattle.preserved_text.specs.Sources.{Source, piece_sources, sources_of}
+use Rattle.text_pieces.specs.Sources.{Source, piece_sources, sources_of}
 use Rattle.preserved_text.specs.Preserved.{kind_of, is_solid, trimmed}
-use Rattle.preserved_text.specs.declared.piece.Piece.{Piece}
+use Rattle.text_pieces.specs.declared.piece.Piece.{Piece}
 
 -- some character is shown
 abbrev pub has_solid_text : ℕ → Bool → List ℕ → Bool

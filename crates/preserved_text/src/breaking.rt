@@ -3,10 +3,10 @@ ghost use Rattle.std.specs.Prelude.{◌≡◌, ◌+◌, ◌-◌, ◌%◌, min, [
 ghost use Rattle.tagged_lines.specs.Tagged.{line_items, element_items, line_columns, character, marker, tagged, IsJoined};
 ghost use Rattle.preserved_text.specs.Preserved.{line_taken, written, without_spaces, put_space, space, to_stop, behind_stop, tabbed, lay_stop, remaining, broken_anywhere, broken_at_white, lay_items, taken};
 
-use crate::characters::first_char;
 use crate::laying::{Rows, chosen};
 use std::alloc::AllocError;
 use tagged_lines::{EqualCopy, TaggedLine, TaggedLineElement, TaggedString};
+use text_pieces::first_char;
 
 impl<T: EqualCopy + Drop> Rows<T> {
     ghost use Rattle.preserved_text.specs.Rows.{laying_of, HasJoinedRows};

@@ -2,10 +2,11 @@
 ghost use Rattle.std.specs.Prelude.{◌≡◌, ◌≤◌, ◌==◌, ◌&&◌, ◌||◌, true, ◌++◌, length, chars, IsUtf8, List, ℕ, if◌then◌else◌};
 ghost use Rattle.tagged_lines.specs.Columns.{text_columns};
 ghost use Rattle.preserved_text.specs.Preserved.{kind_of, is_solid};
-ghost use Rattle.preserved_text.specs.Fronts.{IsBehind, HasFront, goes_on_with, JoinsBody, Fits, AreWordsOrNone, WordsFit, has_wider};
+ghost use Rattle.preserved_text.specs.Fronts.{HasFront, goes_on_with, JoinsBody, Fits, AreWordsOrNone, WordsFit, has_wider};
+ghost use Rattle.text_pieces.specs.Cuts.{IsBehind};
 
-use crate::characters::{first_char, width_of};
 use crate::kinds::{CharacterKind, is_solid, kind_of};
+use text_pieces::{first_char, split_before, width_of};
 
 /// The characters in front that a body takes once it has begun, and what stands behind them.
 pub(crate) fn body_front(text: &str, width: usize, wraps: bool) -> (&str, &str)
@@ -113,18 +114,6 @@ fn is_word_or_space(c: char, width: usize) -> bool
     ensures { result ≡ ((c == 0x20) || is_solid (kind_of width true c)) }
 {
     c == ' ' || is_solid(c, width, true)
-}
-
-/// Cuts a text before a rest of it.
-fn split_before<'a>(text: &'a str, rest: &str) -> (&'a str, &'a str)
-    requires { IsBehind text.now rest.now }
-    ensures parts { chars text.now ≡ chars result.0.now ++ chars result.1.now }
-    ensures front { (front : List ℕ) → text.now ≡ front ++ rest.now → result.0.now ≡ front }
-    ensures rest { result.1.now ≡ rest.now }
-    ensures text { IsUtf8 result.0.now }
-    ensures no_longer { length result.1.now ≤ length text.now }
-{
-    text.split_at(text.len() - rest.len())
 }
 
 /// Whether a character of the text is wider than the width.

@@ -4,8 +4,8 @@ ghost use Rattle.tagged_lines.specs.Columns.{columns_of};
 ghost use Rattle.preserved_text.specs.Preserved.{is_solid, kind_of, solid, white, tab, cut, nothing};
 ghost use Rattle.preserved_text.specs.SourceLines.{kind_seen};
 
-use crate::characters::is_white_space;
 use tagged_lines::{Columns, UnicodeColumns};
+use text_pieces::is_white_space;
 
 /// What a character is to a source line.
 #[derive(Clone, Copy)]

@@ -1,7 +1,7 @@
 //! Laws of preserved source lines: each is the contract of a function that does nothing.
 ghost use Rattle.std.specs.Prelude.{◌≡◌, ℕ, ◌≤◌, Bool, false, List, ◌++◌, All, filter, flat_map};
 ghost use Rattle.tagged_lines.specs.Tagged.{line_columns, characters};
-ghost use Rattle.preserved_text.specs.Sources.{Source};
+ghost use Rattle.text_pieces.specs.Sources.{Source};
 ghost use Rattle.preserved_text.specs.Preserved.{preserved_lines, preserved_waiting, is_too_wide, trimmed, markers_of};
 ghost use Rattle.preserved_text.specs.Preserved.{names_of};
 ghost use Rattle.preserved_text.specs.LawWords.{is_shown, codes_of, ArePlain, source_columns, as_it_stands, one_line};

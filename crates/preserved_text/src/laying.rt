@@ -4,10 +4,10 @@ ghost use Rattle.tagged_lines.specs.Tagged.{line_items, element_items, character
 ghost use Rattle.preserved_text.specs.Preserved.{nothing_laid, has_text, line_text, line_taken, fresh, with_room, written, without_spaces, put, put_all, put_space, space, lay_blank, chosen};
 
 use crate::breaking::push_spaces;
-use crate::characters::{first_char, has_text, width_of};
 use crate::fronts::fitting_front;
 use std::alloc::{AllocError, Global};
 use tagged_lines::{EqualCopy, TaggedLine, TaggedLineElement, TaggedString};
+use text_pieces::{first_char, has_text, width_of};
 
 /// The lines of a source line so far.
 #[derive(Drop)]

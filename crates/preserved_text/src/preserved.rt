@@ -1,15 +1,13 @@
 //! The lines of a source line whose white space stays.
 ghost use Rattle.std.specs.Prelude.{◌≡◌, ◌⊎◌, Bool, true, false, not, ◌||◌, List, map, All, IfOk, IfErr, OnOk};
 ghost use Rattle.tagged_lines.specs.Tagged.{line_items, IsJoined};
-ghost use Rattle.preserved_text.specs.Sources.{sources_of, names};
+ghost use Rattle.text_pieces.specs.Sources.{sources_of, names};
 ghost use Rattle.preserved_text.specs.Preserved.{preserved_lines, preserved_waiting, is_too_wide};
 
-use crate::fault::BlockError;
-use crate::laid::LaidText;
-use crate::piece::Piece;
 use crate::source_line::SourceLine;
 use std::alloc::Global;
 use tagged_lines::EqualCopy;
+use text_pieces::{BlockError, LaidText, Piece};
 
 /// The lines of one source line whose white space stays, and the markers that wait for what comes behind it. With `wraps`
 /// lines break at white space too; with `allow_overflow` a character wider than the width stands alone on a line. The

@@ -1,18 +1,17 @@
 //! The reading of a source line from its pieces.
 ghost use Rattle.std.specs.Prelude.{◌≡◌, ◌≤◌, [], true, false, length, chars, OnOk, IfOk, IsUtf8};
 ghost use Rattle.tagged_lines.specs.Tagged.{line_items};
-ghost use Rattle.preserved_text.specs.Sources.{sourced, piece_sources, sources_of, is_filled};
+ghost use Rattle.text_pieces.specs.Sources.{sourced, piece_sources, sources_of, is_filled};
 ghost use Rattle.preserved_text.specs.Preserved.{trimmed, has_solid, is_solid, kind_of};
 ghost use Rattle.preserved_text.specs.Pass.{read_all};
 ghost use Rattle.preserved_text.specs.Trimming.{has_solid_text, solid_text, trimmed_each, StayWhole};
 
-use crate::characters::{first_char, last_char};
 use crate::fronts::{body_front, words_front};
 use crate::kinds::is_solid;
-use crate::piece::Piece;
 use crate::source_line::SourceLine;
 use std::alloc::AllocError;
 use tagged_lines::EqualCopy;
+use text_pieces::{Piece, first_char, last_char};
 
 impl<T: EqualCopy + Drop> SourceLine<T> {
     ghost use Rattle.preserved_text.specs.Rows.{HasJoinedRows};

@@ -1,20 +1,17 @@
 //! The pass over a source line.
 ghost use Rattle.std.specs.Prelude.{◌≡◌, ◌≤◌, ◌+◌, ◌++◌, ◌&&◌, ◌||◌, not, nat_lt, length, chars, OnOk, IfOk, IfErr, map, All, IsUtf8};
 ghost use Rattle.tagged_lines.specs.Tagged.{line_items, line_columns, IsJoined};
-ghost use Rattle.preserved_text.specs.Sources.{names};
+ghost use Rattle.text_pieces.specs.Sources.{names};
 ghost use Rattle.preserved_text.specs.Pass.{new_pass, begins, lettered, closed, blanked, stopped, read_letter, read_marker, read_at, finished, left_markers};
 ghost use Rattle.preserved_text.specs.Preserved.{white, taken};
 ghost use Rattle.preserved_text.specs.Fronts.{all_lettered, words_laid, IsSteady};
 
-use crate::characters::{first_char, width_of};
-use crate::fault::BlockError;
 use crate::fronts::{fitting_front, has_wider};
 use crate::kinds::{CharacterKind, kind_of};
-use crate::laid::LaidText;
 use crate::laying::{Rows, chosen};
-use crate::markers::names_before;
 use std::alloc::{AllocError, Global};
 use tagged_lines::{EqualCopy, TaggedLine};
+use text_pieces::{BlockError, LaidText, first_char, names_before, width_of};
 
 /// A source line of which the front is laid.
 #[derive(Drop)]
@@ -216,9 +213,10 @@ impl<T: EqualCopy + Drop> SourceLine<T> {
             ≡ words_laid (chars words.now) (T.seen main_tag.now) (T.seen wrap_tag.now) (pass_of T.seen self.old)) }
         ensures joined { HasJoinedRows T.seen self.old.rows → HasJoinedRows T.seen self.new.rows }
     {
-        self.goes_on = self.rows.goes_on;
-        let tag = chosen(self.goes_on, main_tag, wrap_tag);
-        self.rows.write_text(words, tag)?;
+        let goes_on = self.rows.goes_on;
+        self.rows
+            .write_text(words, chosen(goes_on, main_tag, wrap_tag))?;
+        self.goes_on = goes_on;
         self.wide |= has_wider(words, self.width);
         Ok(())
     }

@@ -3,8 +3,8 @@ use Rattle.std.proofs.Common.{◌≡◌, ℕ, ◌+◌, ◌<◌, ◌≤◌, Bool,
 use Rattle.std.specs.Prelude.{Result, Ok, Err, IfOk, chars, string_bytes}
 use Rattle.std.proofs.lemmas.List.{append-nil, take_more, take_all}
 use Rattle.tagged_lines.specs.declared.tagged_string.TaggedString.{TaggedString}
-use Rattle.preserved_text.specs.Sources.{Source, sourced}
-use Rattle.preserved_text.specs.declared.white_space.WhiteSpace.TheVariants.{Normal}
+use Rattle.text_pieces.specs.Sources.{Source, sourced}
+use Rattle.text_pieces.specs.declared.white_space.WhiteSpace.TheVariants.{Normal}
 use Rattle.normal_text.specs.Units.{lettered}
 use Rattle.normal_text.specs.Letters.{letters_of as letters_in, has_marker}
 use Rattle.text_wrapping.specs.Blocks.{Block, added}

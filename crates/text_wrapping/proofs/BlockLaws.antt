@@ -6,10 +6,11 @@ use Rattle.std.proofs.lemmas.Bool.{false≢true}
 use Rattle.std.proofs.lemmas.List.{length-append, length-map}
 use Rattle.tagged_lines.specs.Tagged.{Item, line_columns}
 use Rattle.preserved_text.specs.Preserved.{space}
-use Rattle.preserved_text.specs.Modes.{is_preserved, is_same_mode}
-use Rattle.preserved_text.specs.declared.white_space.WhiteSpace.{WhiteSpace}
-use Rattle.preserved_text.specs.declared.white_space.WhiteSpace.TheVariants.{Normal, Pre, PreWrap}
-use Rattle.preserved_text.proofs.ColumnLemmas.{line_columns-append, line_columns-replicate}
+use Rattle.text_pieces.specs.Modes.{is_preserved, is_same_mode}
+use Rattle.text_pieces.specs.declared.white_space.WhiteSpace.{WhiteSpace}
+use Rattle.text_pieces.specs.declared.white_space.WhiteSpace.TheVariants.{Normal, Pre, PreWrap}
+use Rattle.preserved_text.proofs.ColumnLemmas.{line_columns-replicate}
+use Rattle.text_pieces.proofs.ItemColumns.{line_columns-append}
 use Rattle.text_wrapping.specs.Lines.{lines_in}
 use Rattle.text_wrapping.specs.Blocks.{Block, padded, lines_behind, lines_or_empty, is_too_narrow, ended, line_ended, line_feed, with_letter, took, took_all, with_mode, in_mode, added}
 use Rattle.text_wrapping.specs.LawWords.{line_ends}

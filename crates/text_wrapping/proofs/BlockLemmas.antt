@@ -4,14 +4,14 @@ use Rattle.std.specs.Prelude.{Option, string_bytes, if◌then◌else◌}
 use Rattle.std.specs.Option.{option_and_then}
 use Rattle.std.proofs.lemmas.Bool.Decides.{nat_tests}
 use Rattle.tagged_lines.specs.Tagged.{Item}
-use Rattle.preserved_text.specs.Cuts.{Lacks, IsCutAt}
-use Rattle.preserved_text.specs.Sources.{Source, letter, fragment, sourced, fragments, piece_sources, sources_of}
+use Rattle.text_pieces.specs.Cuts.{Lacks, IsCutAt}
+use Rattle.text_pieces.specs.Sources.{Source, letter, fragment, sourced, fragments, piece_sources, sources_of}
 use Rattle.preserved_text.specs.Preserved.{names_of}
-use Rattle.preserved_text.specs.declared.piece.Piece.{Piece}
-use Rattle.preserved_text.specs.declared.piece.Piece.TheVariants.{Fragment}
+use Rattle.text_pieces.specs.declared.piece.Piece.{Piece}
+use Rattle.text_pieces.specs.declared.piece.Piece.TheVariants.{Fragment}
 use Rattle.preserved_text.proofs.TrimLemmas.{sources-append, nil_length}
-use Rattle.preserved_text.specs.Modes.{is_preserved}
-use Rattle.preserved_text.specs.declared.white_space.WhiteSpace.{WhiteSpace}
+use Rattle.text_pieces.specs.Modes.{is_preserved}
+use Rattle.text_pieces.specs.declared.white_space.WhiteSpace.{WhiteSpace}
 use Rattle.text_wrapping.specs.Lines.{lines_in, waiting_in}
 use Rattle.text_wrapping.specs.Blocks.{Block, padded, lines_behind, lines_or_empty, is_too_narrow, ended, line_ended, line_feed, with_letter, took, took_all, in_mode, added, behind_sources, with_lines, with_source}
 

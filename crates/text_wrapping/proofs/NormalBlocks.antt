@@ -3,8 +3,8 @@ use Rattle.std.proofs.Common.{◌≡◌, ℕ, Bool, true, false, not, ◌&&◌, 
 use Rattle.std.specs.Prelude.{if◌then◌else◌}
 use Rattle.std.specs.Option.{option_map}
 use Rattle.tagged_lines.specs.Tagged.{Item}
-use Rattle.preserved_text.specs.Sources.{Source, letter, sourced}
-use Rattle.preserved_text.specs.declared.white_space.WhiteSpace.TheVariants.{Normal}
+use Rattle.text_pieces.specs.Sources.{Source, letter, sourced}
+use Rattle.text_pieces.specs.declared.white_space.WhiteSpace.TheVariants.{Normal}
 use Rattle.normal_text.specs.Layout.{AreLinesOf, NeverFits}
 use Rattle.normal_text.specs.Riders.{normal_lines, has_wide_text}
 use Rattle.normal_text.specs.Letters.{letters_of}

@@ -2,11 +2,11 @@
 use Rattle.std.specs.Prelude.{ℕ, ◌-◌, ◌==◌, Bool, not, ◌&&◌, List, [], ◌∷◌, ◌++◌, Option, None, Some, All, map, replicate, if◌then◌else◌}
 use Rattle.std.specs.Option.{option_map, option_and_then}
 use Rattle.tagged_lines.specs.Tagged.{Item, character, line_items, line_columns, IsJoined}
-use Rattle.preserved_text.specs.Sources.{Source, letter, fragment, fragments, sources_of}
+use Rattle.text_pieces.specs.Sources.{Source, letter, fragment, fragments, sources_of}
 use Rattle.preserved_text.specs.Preserved.{names_of}
-use Rattle.preserved_text.specs.Modes.{is_preserved, is_same_mode}
-use Rattle.preserved_text.specs.declared.white_space.WhiteSpace.{WhiteSpace}
-use Rattle.preserved_text.specs.declared.white_space.WhiteSpace.TheVariants.{Normal}
+use Rattle.text_pieces.specs.Modes.{is_preserved, is_same_mode}
+use Rattle.text_pieces.specs.declared.white_space.WhiteSpace.{WhiteSpace}
+use Rattle.text_pieces.specs.declared.white_space.WhiteSpace.TheVariants.{Normal}
 use Rattle.text_wrapping.specs.Lines.{lines_in, waiting_in, is_wide_in}
 use Rattle.text_wrapping.specs.declared.block.WrappedBlock.{WrappedBlock}
 

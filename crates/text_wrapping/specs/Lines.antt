@@ -1,10 +1,10 @@
 -- The lines of a text in each mode of white space.
 use Rattle.std.specs.Prelude.{ℕ, Bool, List, if◌then◌else◌}
 use Rattle.tagged_lines.specs.Tagged.{Item}
-use Rattle.preserved_text.specs.Sources.{Source}
-use Rattle.preserved_text.specs.Modes.{is_preserved, is_wrapped}
+use Rattle.text_pieces.specs.Sources.{Source}
+use Rattle.text_pieces.specs.Modes.{is_preserved, is_wrapped}
 use Rattle.preserved_text.specs.Preserved.{preserved_lines, preserved_waiting, is_too_wide as is_wide_source}
-use Rattle.preserved_text.specs.declared.white_space.WhiteSpace.{WhiteSpace}
+use Rattle.text_pieces.specs.declared.white_space.WhiteSpace.{WhiteSpace}
 use Rattle.normal_text.specs.Riders.{normal_lines, normal_waiting, has_wide_text}
 
 -- the lines of a text, or of a source line where white space is preserved

@@ -1,7 +1,7 @@
 -- Blocks of normal text, of which no line is filled and nothing has ended.
 use Rattle.std.specs.Prelude.{ℕ, Bool, List, [], None}
-use Rattle.preserved_text.specs.Sources.{Source}
-use Rattle.preserved_text.specs.declared.white_space.WhiteSpace.TheVariants.{Normal}
+use Rattle.text_pieces.specs.Sources.{Source}
+use Rattle.text_pieces.specs.declared.white_space.WhiteSpace.TheVariants.{Normal}
 use Rattle.text_wrapping.specs.Blocks.{Block}
 
 -- the block that holds this text

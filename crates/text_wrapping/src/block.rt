@@ -1,16 +1,17 @@
 //! Blocks of text.
 ghost use Rattle.std.specs.Prelude.{◌++◌, ◌≡◌, ◌⊎◌, ℕ, Bool, true, false, List, [], Option, None, Some, map, chars, string_bytes, is_err, All, IfOk, IfErr, OnOk, if◌then◌else◌};
-ghost use Rattle.preserved_text.specs.Sources.{sources_of, piece_sources, names};
+ghost use Rattle.text_pieces.specs.Sources.{sources_of, piece_sources, names};
 ghost use Rattle.preserved_text.specs.Preserved.{names_of};
-ghost use Rattle.preserved_text.specs.Modes.{is_preserved, is_same_mode};
+ghost use Rattle.text_pieces.specs.Modes.{is_preserved, is_same_mode};
 ghost use Rattle.text_wrapping.specs.Blocks.{lines_or_empty};
 ghost use Rattle.tagged_lines.specs.Tagged.{line_items, IsJoined};
 
 use crate::padding::pad_lines;
 use normal_text::lay_normal;
-use preserved_text::{BlockError, LaidText, Piece, TextPiece, WhiteSpace, cut_at, lay_preserved};
+use preserved_text::lay_preserved;
 use std::alloc::{AllocError, Global};
 use tagged_lines::{EqualCopy, TaggedLine};
+use text_pieces::{BlockError, LaidText, Piece, TextPiece, WhiteSpace, cut_at};
 
 /// Text that is wrapped into lines of at most `width` columns, or preserved, by modes of white space.
 #[derive(Drop)]
@@ -30,7 +31,7 @@ pub struct WrappedBlock<T> {
 impl<T: EqualCopy + Drop> WrappedBlock<T> {
     ghost use Rattle.text_wrapping.specs.Blocks.{block_of, has_failed, empty_block, added, took_all, in_mode, ended, line_ended, ended_lines, fragments_taken, behind_sources, with_lines, with_source, marked_by, padded, padding_of, is_too_narrow, HasJoinedLines};
     ghost use Rattle.text_wrapping.specs.Lines.{lines_in, waiting_in};
-    ghost use Rattle.preserved_text.specs.Sources.{sourced, sources_of, fragments, names};
+    ghost use Rattle.text_pieces.specs.Sources.{sourced, sources_of, fragments, names};
 
     /// An empty block of lines of at most `width` columns. With `pad_blocks` each line is filled to the
     /// width with spaces tagged `default_tag`; with `allow_overflow` a character wider than the width

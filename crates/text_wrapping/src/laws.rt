@@ -1,19 +1,20 @@
 //! Laws of blocks and their lines: each is the contract of a function that does nothing.
 ghost use Rattle.std.specs.Prelude.{◌≡◌, ℕ, ◌+◌, ◌≤◌, All, Bool, true, false, List, [], ◌++◌, length, Option, None, Some};
 ghost use Rattle.std.specs.Option.{option_and_then};
-ghost use Rattle.preserved_text.specs.Modes.{is_preserved};
-ghost use Rattle.preserved_text.specs.Sources.{Source, sourced};
+ghost use Rattle.text_pieces.specs.Modes.{is_preserved};
+ghost use Rattle.text_pieces.specs.Sources.{Source, sourced};
 ghost use Rattle.tagged_lines.specs.Tagged.{Item, line_columns};
 ghost use Rattle.normal_text.specs.Layout.{AreLinesOf, NeverFits};
 ghost use Rattle.normal_text.specs.Letters.{letters_of, has_marker};
 ghost use Rattle.text_wrapping.specs.Blocks.{Block, empty_block, added, ended, ended_lines, marked_by, padded};
 ghost use Rattle.text_wrapping.specs.LawWords.{line_ends, IsWithin};
-ghost use Rattle.preserved_text.specs.declared.white_space.WhiteSpace.{WhiteSpace as SeenMode};
+ghost use Rattle.text_pieces.specs.declared.white_space.WhiteSpace.{WhiteSpace as SeenMode};
 ghost use Rattle.text_wrapping.specs.NormalBlocks.{normal_block};
 
 use normal_text::{normal_lines_are_fullest, normal_lines_keep_the_width, wide_text_never_fits};
-use preserved_text::{WhiteSpace, preserved_lines_keep_the_width};
+use preserved_text::preserved_lines_keep_the_width;
 use tagged_lines::EqualCopy;
+use text_pieces::WhiteSpace;
 
 /// A block of normal text goes on behind what it holds; an empty block is one without text.
 pub fn normal_text_is_kept<T: EqualCopy>()

@@ -16,6 +16,7 @@ pub use normal_text::{
     wide_text_never_fits,
 };
 pub use preserved_text::{
-    BlockError, TooNarrow, WhiteSpace, a_line_that_fits_is_itself, preserved_lines_keep_markers,
-    preserved_lines_keep_the_width, preserved_lines_show_each_character,
+    a_line_that_fits_is_itself, preserved_lines_keep_markers, preserved_lines_keep_the_width,
+    preserved_lines_show_each_character,
 };
+pub use text_pieces::{BlockError, TooNarrow, WhiteSpace};

@@ -1,5 +1,5 @@
 use Rattle.std.proofs.Common.{◌≡◌, ℕ, List, [], ◌∷◌, ◌++◌, codes, refl, ap, ◌∙◌, inl, inr, arith}
-use Rattle.preserved_text.specs.Cuts.{IsCutAt}
+use Rattle.text_pieces.specs.Cuts.{IsCutAt}
 use Rattle.html2text.specs.ParagraphPage.{IsCharacter, IsText}
 use Rattle.html2text.proofs.ParagraphPageLemmas.{PageSoFar, PageSoFar-start, PageSoFar-paragraph, no_page-start, no_page-text}
 use Rattle.html2text.proofs.paragraphs.paragraph_page_rows.Goals as goal

@@ -5,7 +5,7 @@ use Rattle.std.proofs.lemmas.Result.{err_from_is_err_and}
 use Rattle.normal_text.specs.NormalStates.{HasRead}
 use Rattle.normal_text.specs.Riders.{ride}
 use Rattle.normal_text.specs.MarkedTags.{tag_seen}
-use Rattle.preserved_text.specs.Sources.{names}
+use Rattle.text_pieces.specs.Sources.{names}
 use Rattle.normal_text.proofs.MarkedLemmas.{rides_more}
 use Rattle.normal_text.proofs.marked.add_rides.Goals as goal
 

@@ -3,7 +3,7 @@ use Rattle.normal_text.specs.Units.{Letter}
 use Rattle.normal_text.specs.NormalStates.{HasRead}
 use Rattle.normal_text.specs.Riders.{Rider, ride}
 use Rattle.normal_text.specs.MarkedTags.{tag_seen}
-use Rattle.preserved_text.specs.Sources.{names}
+use Rattle.text_pieces.specs.Sources.{names}
 use Rattle.normal_text.proofs.marked.add_rides.Given as goal
 
 abbrev pub invariant-loop-name : goal.invariant-loop-name

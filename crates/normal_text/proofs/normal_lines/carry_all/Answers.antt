@@ -1,7 +1,7 @@
 use Rattle.std.proofs.Common.{sym, ap, ◌∙◌, subst}
 use Rattle.std.specs.Prelude.{Err}
 use Rattle.std.proofs.lemmas.Result.{err_from_is_err_and}
-use Rattle.preserved_text.specs.Sources.{piece_sources, sources_of}
+use Rattle.text_pieces.specs.Sources.{piece_sources, sources_of}
 use Rattle.normal_text.specs.MarkedStates.{CarriesFront}
 use Rattle.normal_text.proofs.PieceLemmas.{first_sources, no_sources, carries_nothing, carries_more, carries_all, carries_wide}
 use Rattle.normal_text.proofs.normal_lines.carry_all.Goals as goal

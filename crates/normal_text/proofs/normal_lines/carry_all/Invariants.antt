@@ -1,5 +1,5 @@
 use Rattle.std.proofs.Common.{length}
-use Rattle.preserved_text.specs.Sources.{sources_of}
+use Rattle.text_pieces.specs.Sources.{sources_of}
 use Rattle.normal_text.specs.MarkedStates.{CarriesFront}
 use Rattle.normal_text.proofs.normal_lines.carry_all.Given as goal
 

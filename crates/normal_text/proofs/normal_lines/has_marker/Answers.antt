@@ -1,5 +1,5 @@
 use Rattle.std.proofs.Common.{sym, ap, ◌∙◌}
-use Rattle.preserved_text.specs.Sources.{piece_sources, sources_of}
+use Rattle.text_pieces.specs.Sources.{piece_sources, sources_of}
 use Rattle.normal_text.specs.Letters.{has_marker}
 use Rattle.normal_text.proofs.PieceLemmas.{first_sources, marker_here, marker_behind}
 use Rattle.normal_text.proofs.normal_lines.has_marker.Goals as goal

@@ -1,5 +1,5 @@
 use Rattle.std.proofs.Common.{◌≡◌, length}
-use Rattle.preserved_text.specs.Sources.{sources_of}
+use Rattle.text_pieces.specs.Sources.{sources_of}
 use Rattle.normal_text.specs.Letters.{has_marker}
 use Rattle.normal_text.proofs.normal_lines.has_marker.Given as goal
 

@@ -1,5 +1,5 @@
 use Rattle.std.proofs.Common.{sym, ap, ◌∙◌, chars, string_bytes}
-use Rattle.preserved_text.specs.Sources.{piece_sources}
+use Rattle.text_pieces.specs.Sources.{piece_sources}
 use Rattle.normal_text.specs.Letters.{has_marker}
 use Rattle.normal_text.proofs.PieceLemmas.{has_marker_sourced}
 use Rattle.normal_text.proofs.normal_lines.is_marker.Goals as goal

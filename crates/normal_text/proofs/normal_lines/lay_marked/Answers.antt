@@ -1,7 +1,7 @@
 use Rattle.std.proofs.Common.{ap, ◌∙◌}
 use Rattle.std.specs.Prelude.{Err}
 use Rattle.std.proofs.lemmas.Result.{err_from_is_err_and}
-use Rattle.preserved_text.specs.Sources.{sources_of}
+use Rattle.text_pieces.specs.Sources.{sources_of}
 use Rattle.normal_text.specs.Riders.{nothing_carried, carried, normal_lines, normal_waiting}
 use Rattle.normal_text.proofs.PieceLemmas.{err_same, ok_always, carried_room}
 use Rattle.normal_text.proofs.NormalFinal.{if_ok_map}

@@ -1,7 +1,7 @@
 use Rattle.std.proofs.Common.{sym, ap, ◌∙◌, subst}
 use Rattle.std.specs.Prelude.{Err}
 use Rattle.std.proofs.lemmas.Result.{err_from_is_err_and}
-use Rattle.preserved_text.specs.Sources.{piece_sources, sources_of}
+use Rattle.text_pieces.specs.Sources.{piece_sources, sources_of}
 use Rattle.normal_text.specs.MarkedStates.{ReadsSources}
 use Rattle.normal_text.proofs.PieceLemmas.{first_sources, no_sources, reads_nothing, reads_more, reads_all, reads_wide}
 use Rattle.normal_text.proofs.normal_lines.read_all.Goals as goal

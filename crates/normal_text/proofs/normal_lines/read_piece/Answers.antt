@@ -1,6 +1,6 @@
 use Rattle.std.proofs.Common.{sym, ap, ◌∙◌, ◌++◌, subst, chars, string_bytes, ◌≡◌}
 use Rattle.std.proofs.lemmas.Result.{on_ok_weaker}
-use Rattle.preserved_text.specs.Sources.{piece_sources, sourced}
+use Rattle.text_pieces.specs.Sources.{piece_sources, sourced}
 use Rattle.normal_text.specs.Units.{lettered}
 use Rattle.normal_text.specs.NormalStates.{HasRead}
 use Rattle.normal_text.specs.Letters.{letters_of}

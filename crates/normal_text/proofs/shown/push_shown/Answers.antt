@@ -5,7 +5,7 @@ use Rattle.std.proofs.lemmas.Iterator.Consumers.{YieldsList-turn, YieldsList-end
 use Rattle.tagged_lines.specs.Tagged.{line_items, line_elements}
 use Rattle.normal_text.specs.Riders.{shown_item}
 use Rattle.normal_text.specs.MarkedTags.{tag_seen}
-use Rattle.preserved_text.proofs.ElementLemmas.{next_made, all_made}
+use Rattle.text_pieces.proofs.ElementLemmas.{next_made, all_made}
 use Rattle.normal_text.proofs.shown.push_shown.Goals as goal
 
 pub loop-element-preserved : goal.loop-element-preserved

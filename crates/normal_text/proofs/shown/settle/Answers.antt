@@ -1,6 +1,6 @@
 use Rattle.std.proofs.Common.{◌≡◌, ◌++◌, sym, ap, ◌∙◌, map, false, subst}
 use Rattle.tagged_lines.specs.Tagged.{line_items}
-use Rattle.preserved_text.specs.Preserved.{has_text}
+use Rattle.text_pieces.specs.Items.{has_text}
 use Rattle.normal_text.specs.Riders.{shown_item, settled_lines, settled_rest}
 use Rattle.normal_text.specs.MarkedTags.{tag_seen}
 use Rattle.normal_text.proofs.ShownLemmas.{settled_step, rest_step, front_free}

@@ -1,7 +1,7 @@
 use Rattle.std.proofs.Common.{◌≡◌, ◌++◌, [], length, map, false}
 use Rattle.std.specs.Prelude.{All}
 use Rattle.tagged_lines.specs.Tagged.{line_items, IsJoined}
-use Rattle.preserved_text.specs.Preserved.{has_text}
+use Rattle.text_pieces.specs.Items.{has_text}
 use Rattle.normal_text.specs.Riders.{shown_item, settled_lines, settled_rest}
 use Rattle.normal_text.specs.MarkedTags.{tag_seen}
 use Rattle.normal_text.proofs.shown.settle.Given as goal

@@ -2,7 +2,7 @@ use Rattle.std.proofs.Common.{◌∙◌, ap, ◌++◌, length, take, drop}
 use Rattle.std.proofs.lemmas.Iterator.{YieldsList-from_slice}
 use Rattle.std.proofs.lemmas.Iterator.Consumers.{YieldsList-turn, YieldsList-end}
 use Rattle.tagged_lines.specs.Tagged.{line_items, line_elements, element_items, elements_items}
-use Rattle.preserved_text.proofs.ElementLemmas.{all_taken}
+use Rattle.text_pieces.proofs.ElementLemmas.{all_taken}
 use Rattle.preserved_text.proofs.RowLemmas.{items_taken}
 use Rattle.preserved_text.proofs.DropLemmas.{dropped_more, left_less}
 use Rattle.preserved_text.proofs.breaking.push_dropped.Goals as goal

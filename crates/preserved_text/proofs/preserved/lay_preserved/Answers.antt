@@ -1,5 +1,5 @@
 use Rattle.std.proofs.Common.{sym, ap, ◌∙◌}
-use Rattle.preserved_text.specs.Sources.{sources_of}
+use Rattle.text_pieces.specs.Sources.{sources_of}
 use Rattle.preserved_text.specs.Pass.{left_markers}
 use Rattle.preserved_text.specs.SourceLines.{pass_of}
 use Rattle.preserved_text.proofs.ReadingLemmas.{line_passed, if_ok_map, refused_is_wide, has_room}

@@ -1,6 +1,6 @@
 use Rattle.std.proofs.Common.{sym, ap, ◌∙◌, chars, not}
 use Rattle.std.specs.Prelude.{string_bytes}
-use Rattle.preserved_text.specs.Sources.{piece_sources}
+use Rattle.text_pieces.specs.Sources.{piece_sources}
 use Rattle.preserved_text.specs.Preserved.{has_solid}
 use Rattle.preserved_text.specs.Trimming.{has_solid_text}
 use Rattle.preserved_text.proofs.TrimLemmas.{not_empty, sourced_solid}

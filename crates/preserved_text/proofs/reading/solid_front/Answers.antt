@@ -1,6 +1,6 @@
 use Rattle.std.proofs.Common.{refl, sym, ap, ◌∙◌, chars}
 use Rattle.std.proofs.lemmas.Str.{chars-nil}
-use Rattle.preserved_text.specs.Sources.{is_filled}
+use Rattle.text_pieces.specs.Sources.{is_filled}
 use Rattle.preserved_text.specs.Trimming.{has_solid_text, solid_text}
 use Rattle.preserved_text.proofs.TrimLemmas.{chars_last, solid_has, bare_has, solid_stays, bare_goes, filled_last}
 use Rattle.preserved_text.proofs.reading.solid_front.Goals as goal

@@ -1,5 +1,5 @@
 use Rattle.std.proofs.Common.{◌≡◌, ◌++◌, length}
-use Rattle.preserved_text.specs.Sources.{names, sources_of}
+use Rattle.text_pieces.specs.Sources.{names, sources_of}
 use Rattle.preserved_text.specs.Preserved.{names_of}
 use Rattle.text_wrapping.proofs.block.names_of.Given as goal
 

@@ -1,6 +1,6 @@
 use Rattle.std.proofs.Common.{sym, ap, ◌∙◌, ◌++◌, append-nil, chars}
 use Rattle.std.specs.Prelude.{string_bytes}
-use Rattle.preserved_text.specs.Sources.{names, piece_sources}
+use Rattle.text_pieces.specs.Sources.{names, piece_sources}
 use Rattle.preserved_text.specs.Preserved.{names_of}
 use Rattle.text_wrapping.proofs.BlockLemmas.{names_sourced}
 use Rattle.text_wrapping.proofs.block.push_name.Goals as goal

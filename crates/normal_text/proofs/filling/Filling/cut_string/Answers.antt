@@ -5,7 +5,7 @@ use Rattle.std.proofs.lemmas.Iterator.{YieldsList-from_chars}
 use Rattle.std.proofs.lemmas.Iterator.Consumers.{YieldsList-turn, YieldsList-end}
 use Rattle.tagged_lines.specs.Tagged.{tagged}
 use Rattle.normal_text.specs.NormalStates.{Cuts}
-use Rattle.preserved_text.proofs.ElementLemmas.{all_taken}
+use Rattle.text_pieces.proofs.ElementLemmas.{all_taken}
 use Rattle.normal_text.proofs.NormalFilling.{cuts_nothing, next_letter}
 use Rattle.normal_text.proofs.filling.Filling.cut_string.Goals as goal
 

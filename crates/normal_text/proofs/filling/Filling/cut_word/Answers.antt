@@ -3,7 +3,7 @@ use Rattle.std.proofs.lemmas.Iterator.{YieldsList-from_slice}
 use Rattle.std.proofs.lemmas.Iterator.Consumers.{YieldsList-turn, YieldsList-end}
 use Rattle.tagged_lines.specs.Tagged.{elements_items, line_elements}
 use Rattle.normal_text.specs.NormalStates.{Cuts}
-use Rattle.preserved_text.proofs.ElementLemmas.{all_taken}
+use Rattle.text_pieces.proofs.ElementLemmas.{all_taken}
 use Rattle.normal_text.proofs.NormalFilling.{cuts_nothing, next_element}
 use Rattle.normal_text.proofs.filling.Filling.cut_word.Goals as goal
 

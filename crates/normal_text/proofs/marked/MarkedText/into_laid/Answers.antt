@@ -1,9 +1,9 @@
 use Rattle.std.proofs.Common.{◌++◌, [], ap, ◌∙◌, map}
 use Rattle.tagged_lines.specs.Tagged.{line_items}
-use Rattle.preserved_text.specs.Preserved.{markers_of}
+use Rattle.text_pieces.specs.Items.{markers_of}
 use Rattle.normal_text.specs.Riders.{shown_item, settled_lines, settled_rest, shown_lines}
 use Rattle.normal_text.specs.MarkedTags.{tag_seen}
-use Rattle.preserved_text.specs.Sources.{names}
+use Rattle.text_pieces.specs.Sources.{names}
 use Rattle.normal_text.proofs.marked.MarkedText.into_laid.Goals as goal
 
 pub returns-clause-laid : goal.returns-clause-laid

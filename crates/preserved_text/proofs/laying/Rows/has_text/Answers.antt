@@ -1,7 +1,7 @@
 use Rattle.std.proofs.Common.{sym, ◌∙◌, ap, ◌||◌}
 use Rattle.tagged_lines.specs.Tagged.{line_items}
 use Rattle.preserved_text.specs.Preserved.{has_text}
-use Rattle.preserved_text.proofs.ElementLemmas.{has_text-append}
+use Rattle.text_pieces.proofs.ElementLemmas.{has_text-append}
 use Rattle.preserved_text.proofs.laying.Rows.has_text.Goals as goal
 
 pub returns-then-has_text : goal.returns-then-has_text

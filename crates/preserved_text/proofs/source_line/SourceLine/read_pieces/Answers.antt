@@ -1,5 +1,5 @@
 use Rattle.std.proofs.Common.{sym, ap, ◌∙◌}
-use Rattle.preserved_text.specs.Sources.{piece_sources, sources_of}
+use Rattle.text_pieces.specs.Sources.{piece_sources, sources_of}
 use Rattle.preserved_text.specs.Pass.{read_all}
 use Rattle.preserved_text.specs.SourceLines.{pass_of}
 use Rattle.preserved_text.proofs.TrimLemmas.{nil_length}

@@ -2,7 +2,7 @@ use Rattle.std.proofs.Common.{◌≡◌, length}
 use Rattle.preserved_text.specs.Pass.{read_all}
 use Rattle.preserved_text.specs.Rows.{HasJoinedRows}
 use Rattle.preserved_text.specs.SourceLines.{pass_of}
-use Rattle.preserved_text.specs.Sources.{sources_of}
+use Rattle.text_pieces.specs.Sources.{sources_of}
 use Rattle.preserved_text.proofs.source_line.SourceLine.read_pieces.Given as goal
 
 abbrev pub invariant-loop-first : goal.invariant-loop-first

@@ -1,6 +1,6 @@
 use Rattle.std.proofs.Common.{refl, sym, ap, ◌∙◌, chars}
 use Rattle.std.proofs.lemmas.Str.{chars-nil, chars_past_char}
-use Rattle.preserved_text.specs.Sources.{sourced}
+use Rattle.text_pieces.specs.Sources.{sourced}
 use Rattle.preserved_text.specs.Pass.{read_all}
 use Rattle.preserved_text.specs.SourceLines.{pass_of}
 use Rattle.preserved_text.proofs.source_line.SourceLine.read_text.Goals as goal

@@ -1,7 +1,7 @@
 use Rattle.std.proofs.Common.{◌≡◌, chars, length}
 use denote.Text.{Utf8}
 use denote.Shadow.{shadow}
-use Rattle.preserved_text.specs.Sources.{sourced}
+use Rattle.text_pieces.specs.Sources.{sourced}
 use Rattle.preserved_text.specs.Pass.{read_all}
 use Rattle.preserved_text.specs.Rows.{HasJoinedRows}
 use Rattle.preserved_text.specs.SourceLines.{pass_of}

@@ -1,5 +1,5 @@
 use Rattle.std.proofs.Common.{refl, sym, ap, ◌∙◌}
-use Rattle.preserved_text.specs.Sources.{piece_sources}
+use Rattle.text_pieces.specs.Sources.{piece_sources}
 use Rattle.preserved_text.specs.Preserved.{trimmed}
 use Rattle.preserved_text.specs.Trimming.{trimmed_each}
 use Rattle.preserved_text.specs.Pass.{read_all}

@@ -1,6 +1,6 @@
 use Rattle.std.proofs.Common.{sym, ap, ◌∙◌, chars}
 use Rattle.std.proofs.lemmas.Result.{on_ok_weaker}
-use Rattle.preserved_text.specs.Sources.{sourced}
+use Rattle.text_pieces.specs.Sources.{sourced}
 use Rattle.preserved_text.specs.Preserved.{trimmed}
 use Rattle.preserved_text.specs.SourceLines.{pass_of}
 use Rattle.preserved_text.proofs.TrimLemmas.{sourced_trimmed}

@@ -1,7 +1,7 @@
 use Rattle.std.proofs.Common.{sym, ap, ◌∙◌, refl, chars}
 use Rattle.std.specs.Prelude.{Err}
 use Rattle.std.proofs.lemmas.Result.{err_from_is_err_and, on_ok_weaker}
-use Rattle.preserved_text.specs.Modes.{is_preserved}
+use Rattle.text_pieces.specs.Modes.{is_preserved}
 use Rattle.text_wrapping.specs.Blocks.{block_of}
 use Rattle.text_wrapping.proofs.BlockLemmas.{lines_step, lines_refused, line_ended_mode, rest_taken}
 use Rattle.text_wrapping.proofs.block.WrappedBlock.take_lines.Goals as goal

@@ -1,7 +1,7 @@
 use Rattle.std.proofs.Common.{◌≡◌, true, chars, length}
 use denote.Text.{Utf8}
 use denote.Shadow.{shadow}
-use Rattle.preserved_text.specs.Modes.{is_preserved}
+use Rattle.text_pieces.specs.Modes.{is_preserved}
 use Rattle.text_wrapping.specs.Blocks.{block_of, took_all, HasJoinedLines}
 use Rattle.text_wrapping.proofs.block.WrappedBlock.take_lines.Given as goal
 

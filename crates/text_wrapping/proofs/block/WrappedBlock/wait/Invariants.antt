@@ -1,6 +1,6 @@
 use Rattle.std.proofs.Common.{◌≡◌}
 use Rattle.std.specs.Vec.Iter.{into_iter_items}
-use Rattle.preserved_text.specs.Sources.{names, fragments}
+use Rattle.text_pieces.specs.Sources.{names, fragments}
 use Rattle.text_wrapping.specs.Blocks.{block_of, behind_sources, with_source, HasJoinedLines}
 use Rattle.text_wrapping.proofs.block.WrappedBlock.wait.Given as goal
 

@@ -1,8 +1,0 @@
-use Rattle.preserved_text.proofs.TextCuts.{split_once-parts, split_once-none}
-use Rattle.preserved_text.proofs.characters.cut_at.Goals as goal
-
-pub returns-clause-parts : goal.returns-clause-parts
-returns-clause-parts c = split_once-parts c.args.mark c.args.text.now c.split_once.result c.utf8.text c.requires c.split_once.ensures.cases
-
-pub returns-clause-none : goal.returns-clause-none
-returns-clause-none c = split_once-none c.args.mark c.args.text.now c.split_once.result c.utf8.text c.split_once.ensures.cases

@@ -1,7 +1,0 @@
-use Rattle.std.proofs.Common.{◌∙◌}
-use Rattle.tagged_lines.specs.Tagged.{line_elements}
-use Rattle.preserved_text.proofs.CharacterLemmas.{filled_text}
-use Rattle.preserved_text.proofs.characters.has_text.Goals as goal
-
-pub returns : goal.returns
-returns g c = c.holds_text.ensures ∙ filled_text g.T.EqualCopy.seen (line_elements c.args.line.now)

@@ -1,0 +1,5 @@
+pub mod CharacterLemmas
+pub mod ElementLemmas
+pub mod FrontLemmas
+pub mod ItemColumns
+pub mod TextCuts
