@@ -7,8 +7,8 @@ use Rattle.tagged_lines.specs.Columns.{width_of, text_columns}
 use Rattle.tagged_lines.specs.Tagged.{Item, character, tagged, line_columns}
 use Rattle.text_pieces.specs.Sources.{letter, sourced}
 use Rattle.preserved_text.specs.Preserved.{Kind, solid, white, tab, cut, nothing, kind_of, Laying, chosen, taken, fresh, with_room, put, put_all, written}
-use Rattle.preserved_text.specs.Pass.{Pass, passes, lettered, entered, read_at, read_source, read_all}
-use Rattle.preserved_text.specs.Fronts.{goes_on_with, JoinsBody, Fits, has_wider, all_lettered, run_lettered, IsSteady}
+use Rattle.preserved_text.specs.Pass.{Pass, passes, lettered, begins, entered, read_at, read_letter, read_source, read_all}
+use Rattle.preserved_text.specs.Fronts.{goes_on_with, BeginsSolid, JoinsBody, Fits, has_wider, all_lettered, run_lettered, IsSteady}
 use Rattle.preserved_text.proofs.ColumnLemmas.{lt_is_false, le_is_true}
 use Rattle.text_pieces.proofs.ItemColumns.{line_columns-append}
 
@@ -34,6 +34,25 @@ body_read (c ∷ cs) main further p is joins =
     ap (λ q. read_all q (sourced cs main further))
     (joined (kind_of p.width p.wraps c) p.wraps p.begun c main further p is is joins.0)
     ∙ body_read cs main further (lettered c main further p) is joins.1
+
+-- a character that is solid begins a body, where none has begun
+begun_before : {S : Type 0} (c : ℕ) (main further : S) (p : Pass S) (b : Bool) → p.begun ≡ b
+    → kind_of p.width p.wraps c ≡ solid
+    → read_letter c main further (if b then p else entered p) ≡ read_letter c main further p
+begun_before c main further p true e is = refl
+begun_before c main further p false e is =
+    ap (λ k. read_at k (not p.wraps && true) c main further (entered p)) is
+    ∙ ap (λ b. lettered c main further (if b then p else entered p)) (sym e)
+    ∙ ap (λ k. read_at k (not p.wraps && p.begun) c main further p) (sym is)
+
+pub body_begun : {S : Type 0} (cs : List ℕ) (main further : S) (p q : Pass S) → BeginsSolid p.width p.wraps cs
+    → q ≡ begins p → read_all q (sourced cs main further) ≡ read_all p (sourced cs main further)
+body_begun cs main further p q first is =
+    ap (λ x. read_all x (sourced cs main further)) is
+    ∙ ap (λ l. read_all (begins p) (sourced l main further)) first.whole
+    ∙ ap (λ x. read_all x (sourced first.after main further))
+    (begun_before first.first main further p p.begun refl first.is_solid)
+    ∙ ap (λ l. read_all p (sourced l main further)) (sym first.whole)
 
 -- what is left reads on to the same
 pub body_left : {S : Type 0} (here behind all : List ℕ) (main further : S) (p q : Pass S) → all ≡ here ++ behind

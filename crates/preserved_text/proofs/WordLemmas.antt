@@ -48,7 +48,7 @@ ends_more : (width c : ℕ) (begun : Bool) (cs : List ℕ)
 ends_more width c begun [] = refl
 ends_more width c begun (d ∷ cs) = ends_more width c (is_solid (kind_of width true d)) cs
 
-solid_kind : (k : Kind) → is_solid k ≡ true → k ≡ solid
+pub solid_kind : (k : Kind) → is_solid k ≡ true → k ≡ solid
 solid_kind solid e = refl
 solid_kind white e = cc
 solid_kind tab e = cc

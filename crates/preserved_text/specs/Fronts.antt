@@ -11,6 +11,13 @@ pub record HasFront (Holds : List ℕ → Type 0) (text rest : List ℕ) : Type 
   pub parts : IsBehind text rest
   pub holds : Holds (chars parts.front)
 
+-- the first of the characters is solid
+pub record BeginsSolid (width : ℕ) (wraps : Bool) (cs : List ℕ) : Type 0 where
+  pub first : ℕ
+  pub after : List ℕ
+  pub whole : cs ≡ first ∷ after
+  pub is_solid : kind_of width wraps first ≡ solid
+
 -- a body that has begun goes on with a character of the kind
 abbrev pub goes_on_with : Bool → Kind → Bool
 goes_on_with wraps solid = true

@@ -1,8 +1,8 @@
 //! Fronts of texts, whose characters are taken at once.
-ghost use Rattle.std.specs.Prelude.{◌≡◌, ◌≤◌, ◌==◌, ◌&&◌, ◌||◌, true, ◌++◌, length, chars, IsUtf8, List, ℕ, if◌then◌else◌};
+ghost use Rattle.std.specs.Prelude.{◌≡◌, ◌≤◌, ◌==◌, ◌&&◌, ◌||◌, true, ◌++◌, length, chars, IsTrue, IsUtf8, List, ℕ, if◌then◌else◌};
 ghost use Rattle.tagged_lines.specs.Columns.{text_columns};
 ghost use Rattle.preserved_text.specs.Preserved.{kind_of, is_solid};
-ghost use Rattle.preserved_text.specs.Fronts.{HasFront, goes_on_with, JoinsBody, Fits, AreWordsOrNone, WordsFit, has_wider};
+ghost use Rattle.preserved_text.specs.Fronts.{HasFront, goes_on_with, BeginsSolid, JoinsBody, Fits, AreWordsOrNone, WordsFit, has_wider};
 ghost use Rattle.text_pieces.specs.Cuts.{IsBehind};
 
 use crate::kinds::{CharacterKind, is_solid, kind_of};
@@ -28,6 +28,16 @@ fn behind_body(text: &str, width: usize, wraps: bool) -> &str
         rest = after;
     }
     rest
+}
+
+/// Whether the text begins with a character that is shown.
+pub(crate) fn begins_solid(text: &str, width: usize, wraps: bool) -> bool
+    ensures { IsTrue result → BeginsSolid width wraps (chars text.now) }
+{
+    match first_char(text) {
+        Some((c, _)) => is_solid(c, width, wraps),
+        None => false,
+    }
 }
 
 /// Whether a body goes on with the character: white space ends it where lines break there, a tab always.

@@ -6,7 +6,7 @@ ghost use Rattle.preserved_text.specs.Preserved.{trimmed, has_solid, is_solid, k
 ghost use Rattle.preserved_text.specs.Pass.{read_all};
 ghost use Rattle.preserved_text.specs.Trimming.{has_solid_text, solid_text, trimmed_each, StayWhole};
 
-use crate::fronts::{body_front, words_front};
+use crate::fronts::{begins_solid, body_front, words_front};
 use crate::kinds::is_solid;
 use crate::source_line::SourceLine;
 use std::alloc::AllocError;
@@ -135,9 +135,32 @@ impl<T: EqualCopy + Drop> SourceLine<T> {
             return self.read_body(text, main_tag, wrap_tag);
         }
         if self.wraps && self.word.is_empty() {
-            return self.read_words(text, main_tag, wrap_tag);
+            let rest = self.read_words(text, main_tag, wrap_tag)?;
+            return self.read_word(rest, main_tag, wrap_tag);
         }
-        Ok(text)
+        self.read_word(text, main_tag, wrap_tag)
+    }
+
+    /// Reads a body that begins with the text, as far as the text has it; what follows it is left.
+    fn read_word<'a>(
+        &mut self,
+        text: &'a str,
+        main_tag: &T,
+        wrap_tag: &T,
+    ) -> Result<&'a str, AllocError>
+        ensures pass { IfOk result (λ rest. read_all (pass_of T.seen self.new)
+            (sourced (chars rest.now) (T.seen main_tag.now) (T.seen wrap_tag.now))
+            ≡ read_all (pass_of T.seen self.old)
+            (sourced (chars text.now) (T.seen main_tag.now) (T.seen wrap_tag.now))) }
+        ensures joined { HasJoinedRows T.seen self.old.rows → HasJoinedRows T.seen self.new.rows }
+        ensures text { IfOk result (λ rest. IsUtf8 rest.now) }
+        ensures no_longer { IfOk result (λ rest. length rest.now ≤ length text.now) }
+    {
+        if !begins_solid(text, self.width, self.wraps) {
+            return Ok(text);
+        }
+        self.begin()?;
+        self.read_body(text, main_tag, wrap_tag)
     }
 
     /// Reads the characters in front that the body at hand goes on with; what follows them is left.

@@ -1,5 +1,5 @@
 //! The pass over a source line.
-ghost use Rattle.std.specs.Prelude.{◌≡◌, ◌≤◌, ◌+◌, ◌++◌, ◌&&◌, ◌||◌, not, nat_lt, length, chars, OnOk, IfOk, IfErr, map, All, IsUtf8};
+ghost use Rattle.std.specs.Prelude.{◌≡◌, ◌≤◌, ◌+◌, ◌++◌, ◌&&◌, ◌||◌, not, true, nat_lt, length, chars, OnOk, IfOk, IfErr, map, All, IsUtf8};
 ghost use Rattle.tagged_lines.specs.Tagged.{line_items, line_columns, IsJoined};
 ghost use Rattle.text_pieces.specs.Sources.{names};
 ghost use Rattle.preserved_text.specs.Pass.{new_pass, begins, lettered, closed, blanked, stopped, read_letter, read_marker, read_at, finished, left_markers};
@@ -99,8 +99,9 @@ impl<T: EqualCopy + Drop> SourceLine<T> {
     }
 
     /// Begins a body, where none has begun.
-    fn begin(&mut self) -> Result<(), AllocError>
+    pub(crate) fn begin(&mut self) -> Result<(), AllocError>
         ensures pass { OnOk result (pass_of T.seen self.new ≡ begins (pass_of T.seen self.old)) }
+        ensures begun { OnOk result (self.new.begun ≡ true) }
         ensures joined { HasJoinedRows T.seen self.old.rows → HasJoinedRows T.seen self.new.rows }
     {
         if self.begun {
