@@ -1,1 +1,2 @@
 pub mod SegmentLemmas
+pub mod BorderLemmas

@@ -1,2 +1,3 @@
+pub mod BorderLaws
 pub mod Borders
 pub mod Segments

@@ -2,7 +2,13 @@
 #![tactic(auto)]
 
 mod border;
+mod laws;
+mod rows;
 mod segment;
 
 pub use border::BorderHoriz;
+pub use laws::{
+    joined_above_where_asked, joined_below_where_asked, merges_keep_the_width,
+    punched_borders_stay_sound, shown_borders_have_their_width,
+};
 pub use segment::BorderSegHoriz;

@@ -1,0 +1,47 @@
+//! Laws of borders: each is the contract of a function that does nothing.
+ghost use Rattle.std.specs.Prelude.{◌≡◌, ℕ, ◌+◌, ◌≤◌, List, length, max};
+ghost use Rattle.std.specs.Option.{option_map};
+ghost use Rattle.tagged_lines.specs.Tagged.{Item, line_columns};
+ghost use Rattle.text_borders.specs.Segments.{Segment, with_up, with_down, joins_above, joins_below};
+ghost use Rattle.text_borders.specs.Borders.{Border, merged_above, merged_below, punched, shown};
+ghost use Rattle.text_borders.specs.BorderLaws.{IsChangedWhereAsked, AreInOrder, IsSound};
+
+use tagged_lines::EqualCopy;
+
+/// A border that takes in another from below has the segments that it had, joined to a line below exactly where the other
+/// has `┴ ┬ ┼ └ ┘`.
+pub fn joined_below_where_asked<T: EqualCopy>()
+    ensures { (other : List Segment) (place : ℕ) (b : Border T.Seen) → IsChangedWhereAsked joins_below
+        (option_map with_down) place other b.segments (merged_below other place b).segments }
+{}
+
+/// A border that takes in another from above has the segments that it had, joined to a line above exactly where the other
+/// has `┴ ┬ ┼ ┌ ┐`.
+pub fn joined_above_where_asked<T: EqualCopy>()
+    ensures { (other : List Segment) (place : ℕ) (b : Border T.Seen) → IsChangedWhereAsked joins_above
+        (option_map with_up) place other b.segments (merged_above other place b).segments }
+{}
+
+/// A border keeps its width where what it takes in lies within it.
+pub fn merges_keep_the_width<T: EqualCopy>()
+    ensures below { (other : List Segment) (place : ℕ) (b : Border T.Seen) → place + length other ≤ length b.segments
+        → length (merged_below other place b).segments ≡ length b.segments }
+    ensures above { (other : List Segment) (place : ℕ) (b : Border T.Seen) → place + length other ≤ length b.segments
+        → length (merged_above other place b).segments ≡ length b.segments }
+{}
+
+/// What is shown of a border has a column for each segment, where its texts stand one behind the other within it.
+pub fn shown_borders_have_their_width<T: EqualCopy>()
+    ensures { (b : Border T.Seen) → IsSound b → line_columns (shown b) ≡ length b.segments }
+{}
+
+/// Texts that are put in from left to right stand one behind the other within the border, which is stretched to the last
+/// one's end.
+pub fn punched_borders_stay_sound<T: EqualCopy>()
+    ensures order { (place : ℕ) (items : List (Item T.Seen)) (b : Border T.Seen) → AreInOrder 0 place b.holes
+        → AreInOrder 0 (place + line_columns items) (punched place items b).holes }
+    ensures width { (place : ℕ) (items : List (Item T.Seen)) (b : Border T.Seen)
+        → length (punched place items b).segments ≡ max (length b.segments) (place + line_columns items) }
+    ensures sound { (place : ℕ) (items : List (Item T.Seen)) (b : Border T.Seen) → AreInOrder 0 place b.holes
+        → IsSound (punched place items b) }
+{}

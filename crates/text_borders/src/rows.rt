@@ -1,0 +1,38 @@
+//! Worked rows, computed from the definitions.
+ghost use Rattle.std.specs.Prelude.{◌≡◌, ◌∷◌, [], codes};
+ghost use Rattle.tagged_lines.specs.Tagged.{character, characters, tagged};
+ghost use Rattle.text_borders.specs.Borders.{horizontal, plain, joined_above, joined_below, merged_above, merged_below, punched, shown, lines_above};
+
+use tagged_lines::EqualCopy;
+
+/// A border of a table of three columns of one column each, and the one between two of its rows.
+fn joins_are_shown<T: EqualCopy>()
+    ensures top { (tag : T.Seen) → characters (shown (joined_below 3 (joined_below 1 (plain horizontal 5 tag))))
+        ≡ codes "─┬─┬─" }
+    ensures between { (tag : T.Seen) → characters (shown (joined_above 1 (joined_below 1 (plain horizontal 3 tag))))
+        ≡ codes "─┼─" }
+{}
+
+/// A border is stretched to a column that is joined, and joined where borders that it takes in ask for it.
+fn borders_are_taken_in<T: EqualCopy>()
+    ensures below { (tag : T.Seen) → characters (shown (merged_below (joined_above 1 (plain horizontal 3 tag)).segments 1
+        (plain horizontal 2 tag))) ≡ codes "──┬" }
+    ensures above { (tag : T.Seen) → characters (shown (merged_above (joined_below 1 (plain horizontal 3 tag)).segments 1
+        (joined_below 2 (plain horizontal 5 tag)))) ≡ codes "──┼──" }
+{}
+
+/// A cell that goes on over a row makes a hole in the border between the rows.
+fn holes_chop_their_neighbours<T: EqualCopy>()
+    ensures first { (tag : T.Seen) → characters (shown (punched 0 (tagged (codes " ") tag)
+        (joined_above 1 (joined_below 1 (plain horizontal 3 tag))))) ≡ codes " ├─" }
+    ensures last { (tag : T.Seen) → characters (shown (punched 2 (tagged (codes "ab") tag)
+        (joined_below 1 (plain horizontal 3 tag)))) ≡ codes "─┐ab" }
+    ensures between { (tag : T.Seen) → characters (shown (punched 2 (tagged (codes "a") tag) (joined_above 1
+        (joined_above 3 (plain horizontal 5 tag))))) ≡ codes "─┘a└─" }
+{}
+
+/// Vertical lines come down to `┴ ┼ └ ┘` alone.
+fn lines_come_down<T: EqualCopy>()
+    ensures { (tag : T.Seen) → characters (lines_above tag (joined_above 1 (joined_below 3 (plain horizontal 5 tag))))
+        ≡ codes " │   " }
+{}
