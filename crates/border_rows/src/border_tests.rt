@@ -1,7 +1,7 @@
 use std::alloc::{AllocError, Global};
 use std::test::Fail;
 use tagged_lines::TaggedLine;
-use text_borders::{BorderHoriz, BorderSegHoriz};
+use text_borders::{BorderHoriz, BorderSegHoriz, RenderLine};
 
 /// What is done to a border.
 #[derive(Clone, Copy)]
@@ -157,4 +157,19 @@ fn a_refused_hole_is_no_panic(rt: HostRuntime) {
     if let Ok(border) = made(rt.alloc(), 2, &steps) {
         assert_eq!(rt; border.width(), 7);
     }
+}
+
+#[test]
+fn lines_of_blocks(rt: HostRuntime) -> Result<(), Fail> {
+    let alloc = rt.alloc();
+    let border = RenderLine::Line(made(alloc, 3, &[Step::Below(1)])?);
+    assert_eq!(rt; border.width(), 3);
+    let copy = border.try_clone()?.into_tagged_line()?;
+    assert_eq!(rt; text_of(alloc, &copy)?.as_str(), "─┬─");
+    let text = String::from_str(alloc, "漢a")?;
+    let line = RenderLine::Text(TaggedLine::from_string(alloc, text, &())?);
+    assert_eq!(rt; line.width(), 3);
+    let copy = line.try_clone()?.into_tagged_line()?;
+    assert!(rt; copy == line.into_tagged_line()?);
+    Ok(())
 }

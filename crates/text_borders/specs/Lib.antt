@@ -1,3 +1,4 @@
 pub mod BorderLaws
 pub mod Borders
+pub mod Lines
 pub mod Segments

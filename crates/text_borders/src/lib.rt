@@ -3,6 +3,7 @@
 
 mod border;
 mod laws;
+mod render_line;
 mod rows;
 mod segment;
 
@@ -11,4 +12,5 @@ pub use laws::{
     joined_above_where_asked, joined_below_where_asked, merges_keep_the_width,
     punched_borders_stay_sound, shown_borders_have_their_width,
 };
+pub use render_line::RenderLine;
 pub use segment::BorderSegHoriz;
