@@ -3,7 +3,7 @@ use Rattle.std.proofs.Common.{◌≡◌, ℕ, zero, suc, ◌+◌, ◌-◌, ◌<�
 use Rattle.std.specs.Prelude.{◌==◌, ◌||◌, ◌&&◌, nat_le, fold, max, unwrap_or, Some, None}
 use Rattle.std.specs.Option.{option_map}
 use Rattle.std.proofs.lemmas.Bool.Decides.{nat_tests}
-use Rattle.std.proofs.lemmas.List.{length-append, length-take, length-drop}
+use Rattle.std.proofs.lemmas.List.{length-append, length-replicate, length-take, length-drop}
 use Rattle.tagged_lines.specs.Columns.{width_of, columns_of-one, IsOfOneColumn}
 use Rattle.tagged_lines.specs.Tagged.{Item, character, line_columns}
 use Rattle.text_pieces.proofs.ItemColumns.{line_columns-append, line_columns-cons}
@@ -37,16 +37,12 @@ elsewhere f zero (suc k) (s ∷ ss) h = refl
 elsewhere f (suc j) zero (s ∷ ss) h = refl
 elsewhere f (suc j) (suc k) (s ∷ ss) h = elsewhere f j k ss (λ e. h (ap suc e))
 
-length-replicate : {A : Type 0} (n : ℕ) (x : A) → length (replicate n x) ≡ n
-length-replicate zero x = refl
-length-replicate (suc n) x = let rest = length-replicate n x in omega arith
-
 length-change_at : (f : Segment → Segment) (k : ℕ) (ss : List Segment) → length (change_at f k ss) ≡ length ss
 length-change_at f k [] = refl
 length-change_at f zero (s ∷ ss) = omega arith
 length-change_at f (suc k) (s ∷ ss) = let rest = length-change_at f k ss in omega (arith, rest)
 
-length-stretched : (n : ℕ) (ss : List Segment) → length (stretched n ss) ≡ max (length ss) n
+pub length-stretched : (n : ℕ) (ss : List Segment) → length (stretched n ss) ≡ max (length ss) n
 length-stretched n ss =
     omega (arith, length-append ss (replicate (n - length ss) horizontal), length-replicate (n - length ss) horizontal)
 
@@ -171,7 +167,7 @@ once_down (Some a) = refl
 
 -- ---- widths
 
-length-change_to : (f : Segment → Segment) (ss : List Segment) (k : ℕ) → length (change_to f ss k)
+pub length-change_to : (f : Segment → Segment) (ss : List Segment) (k : ℕ) → length (change_to f ss k)
     ≡ max (length ss) (k + 1)
 length-change_to f ss k = length-change_at f k (stretched (k + 1) ss) ∙ length-stretched (k + 1) ss
 
@@ -228,7 +224,7 @@ order_more at place items (x ∷ holes) h =
 
 -- ---- what is shown
 
-one_column : (c : ℕ) → IsOfOneColumn c → width_of c ≡ 1
+pub one_column : (c : ℕ) → IsOfOneColumn c → width_of c ≡ 1
 unfolding width_of
 one_column c h = ap (λ o. unwrap_or o 0) (columns_of-one c h)
 

@@ -1,2 +1,3 @@
-pub mod SegmentLemmas
+pub mod AcrossLemmas
 pub mod BorderLemmas
+pub mod SegmentLemmas

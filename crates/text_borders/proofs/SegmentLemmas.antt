@@ -4,7 +4,7 @@ use Rattle.std.specs.Prelude.{Bool, true, false, ◌==◌, fold, if◌then◌els
 use Rattle.std.specs.Option.{option_map}
 use Rattle.std.proofs.lemmas.Bool.Decides.{nat_tests}
 use Rattle.std.proofs.Math.ListN.{set}
-use Rattle.std.proofs.lemmas.List.{map-append, length-map, length-append}
+use Rattle.std.proofs.lemmas.List.{map-append, length-map, length-append, length-replicate}
 use Rattle.text_borders.specs.Segments.{Segment, segment_of, without_right}
 use Rattle.tagged_lines.specs.Tagged.{Item, line_columns}
 use Rattle.text_borders.specs.Borders.{Border, Hole, glyphs, shown_from, horizontal, stretched, change_at, change_to, chop_before, with_segments, columns_where}
@@ -36,10 +36,6 @@ changed_at f (s ∷ ss) zero old new within is becomes =
     ap (λ x. x ∷ map segment_of ss) (becomes ∙ ap (λ x. f (segment_of x)) is)
 changed_at f (s ∷ ss) (suc k) old new within is becomes =
     ap (λ xs. segment_of s ∷ xs) (changed_at f ss k old new (omega (arith, within)) is becomes)
-
-length-replicate : {A : Type 0} (n : ℕ) (x : A) → length (replicate n x) ≡ n
-length-replicate zero x = refl
-length-replicate (suc n) x = let rest = length-replicate n x in omega arith
 
 length-stretched : (n : ℕ) (ss : List Segment) → n ≤ length (stretched n ss)
 length-stretched n ss =

@@ -1,4 +1,7 @@
+pub mod Across
+pub mod AcrossLaws
 pub mod BorderLaws
 pub mod Borders
 pub mod Lines
+pub mod RowWords
 pub mod Segments

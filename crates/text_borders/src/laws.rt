@@ -1,10 +1,12 @@
 //! Laws of borders: each is the contract of a function that does nothing.
-ghost use Rattle.std.specs.Prelude.{◌≡◌, ℕ, ◌+◌, ◌≤◌, List, length, max};
+ghost use Rattle.std.specs.Prelude.{◌≡◌, ℕ, ◌+◌, ◌≤◌, Bool, Option, List, All, length, max};
 ghost use Rattle.std.specs.Option.{option_map};
 ghost use Rattle.tagged_lines.specs.Tagged.{Item, line_columns};
 ghost use Rattle.text_borders.specs.Segments.{Segment, with_up, with_down, joins_above, joins_below};
 ghost use Rattle.text_borders.specs.Borders.{Border, merged_above, merged_below, punched, shown};
 ghost use Rattle.text_borders.specs.BorderLaws.{IsChangedWhereAsked, AreInOrder, IsSound};
+ghost use Rattle.text_borders.specs.Across.{Cell, Hanging, across, width_across};
+ghost use Rattle.text_borders.specs.AcrossLaws.{CellFits};
 
 use tagged_lines::EqualCopy;
 
@@ -44,4 +46,17 @@ pub fn punched_borders_stay_sound<T: EqualCopy>()
         → length (punched place items b).segments ≡ max (length b.segments) (place + line_columns items) }
     ensures sound { (place : ℕ) (items : List (Item T.Seen)) (b : Border T.Seen) → AreInOrder 0 place b.holes
         → IsSound (punched place items b) }
+{}
+
+/// Where each cell's lines are within its width, every line of a row has just the row's columns, and the border below it
+/// too, with its texts.
+pub fn rows_keep_their_width<T: EqualCopy>()
+    ensures lines { (draws collapse : Bool) (tag : T.Seen) (above : Option (Border T.Seen)) (cells : List (Cell T.Seen))
+        (hanging : List (Hanging T.Seen)) → All CellFits cells → All (λ h. CellFits h.cell) hanging
+        → All (λ l. line_columns l.items ≡ width_across collapse tag above cells hanging)
+        (across draws collapse tag above cells hanging).lines }
+    ensures below { (draws collapse : Bool) (tag : T.Seen) (above : Option (Border T.Seen)) (cells : List (Cell T.Seen))
+        (hanging : List (Hanging T.Seen)) → All CellFits cells → All (λ h. CellFits h.cell) hanging
+        → line_columns (shown (across draws collapse tag above cells hanging).below)
+        ≡ width_across collapse tag above cells hanging }
 {}

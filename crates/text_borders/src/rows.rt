@@ -1,7 +1,9 @@
 //! Worked rows, computed from the definitions.
-ghost use Rattle.std.specs.Prelude.{◌≡◌, ◌∷◌, [], codes};
+ghost use Rattle.std.specs.Prelude.{◌≡◌, ◌∷◌, [], true, false, None, codes};
 ghost use Rattle.tagged_lines.specs.Tagged.{character, characters, tagged};
 ghost use Rattle.text_borders.specs.Borders.{horizontal, plain, joined_above, joined_below, merged_above, merged_below, punched, shown, lines_above};
+ghost use Rattle.text_borders.specs.Across.{empty_cell, across};
+ghost use Rattle.text_borders.specs.RowWords.{row_shown, first_row, next_row, cell, table_cell};
 
 use tagged_lines::EqualCopy;
 
@@ -35,4 +37,22 @@ fn holes_chop_their_neighbours<T: EqualCopy>()
 fn lines_come_down<T: EqualCopy>()
     ensures { (tag : T.Seen) → characters (lines_above tag (joined_above 1 (joined_below 3 (plain horizontal 5 tag))))
         ≡ codes " │   " }
+{}
+
+/// Rows of tables: cells beside one another, a cell that takes two rows, one with a table of its own, and cells where no
+/// borders are drawn.
+fn cells_stand_beside_one_another<T: EqualCopy>()
+    ensures cells { (tag : T.Seen) → row_shown (first_row tag 5 (cell tag 1 1 (codes "1") ∷ cell tag 1 1 (codes "2")
+        ∷ cell tag 1 1 (codes "3") ∷ [])) ≡ codes "─┬─┬─" ∷ codes "1│2│3" ∷ codes "─┴─┴─" ∷ [] }
+    ensures widened { (tag : T.Seen) → row_shown (first_row tag 2 (cell tag 2 1 (codes "a") ∷ cell tag 3 1 (codes "b")
+        ∷ [])) ≡ codes "──┬───" ∷ codes "a │b  " ∷ codes "──┴───" ∷ [] }
+    ensures first { (tag : T.Seen) → row_shown (first_row tag 3 (cell tag 1 2 (codes "a") ∷ cell tag 1 1 (codes "b")
+        ∷ [])) ≡ codes "─┬─" ∷ codes "a│b" ∷ codes " └─" ∷ [] }
+    ensures second { (tag : T.Seen) → row_shown (next_row tag (first_row tag 3 (cell tag 1 2 (codes "a")
+        ∷ cell tag 1 1 (codes "b") ∷ [])) (empty_cell 1 ∷ cell tag 1 1 (codes "c") ∷ []))
+        ≡ codes " ├─" ∷ codes " │c" ∷ codes "─┴─" ∷ [] }
+    ensures tables { (tag : T.Seen) → row_shown (first_row tag 5 (table_cell tag (codes "x│y")
+        ∷ cell tag 1 1 (codes "z") ∷ [])) ≡ codes "─┬─┬─" ∷ codes "x│y│z" ∷ codes "─┴─┴─" ∷ [] }
+    ensures plain { (tag : T.Seen) → row_shown (across false true tag None (cell tag 1 1 (codes "a")
+        ∷ cell tag 1 1 (codes "b") ∷ []) []) ≡ codes "a b" ∷ codes "─┴─" ∷ [] }
 {}
