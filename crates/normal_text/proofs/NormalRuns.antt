@@ -1,5 +1,5 @@
 -- Characters of a word that are added all at once.
-use Rattle.std.proofs.Common.{◌≡◌, ℕ, Bool, true, false, nat_le, ◌||◌, List, [], ◌∷◌, ◌++◌, sym, ap, ◌∙◌, refl, subst, append_assoc, chars, IsUtf8, encode_utf8}
+use Rattle.std.proofs.Common.{◌≡◌, ℕ, Bool, true, false, nat_le, ◌||◌, List, [], ◌∷◌, ◌++◌, sym, ap, ◌∙◌, refl, subst, append_assoc, chars, IsUtf8, encode_utf8, ◌≤◌, inr, arith}
 use Rattle.std.specs.Prelude.{Some, is_some, IsTrue, All}
 use Rattle.std.specs.Option.{option_map}
 use Rattle.std.specs.Char.{IsScalar}
@@ -7,7 +7,8 @@ use Rattle.std.proofs.lemmas.List.{map-append, append-nil}
 use Rattle.std.proofs.lemmas.List.Elements.{All-nil, All-cons, All-head, All-tail, All-same, All-push}
 use Rattle.std.proofs.lemmas.Str.{chars-nil, chars-append, chars_past_char, IsUtf8-nil, IsUtf8-append, IsUtf8-encode}
 use Rattle.tagged_lines.proofs.Joins.{chars_of_one}
-use Rattle.tagged_lines.specs.Columns.{columns_of, width_of}
+use Rattle.std.proofs.lemmas.Bool.Decides.{nat_tests}
+use Rattle.tagged_lines.specs.Columns.{columns_of, columns_of-one, width_of}
 use Rattle.tagged_lines.specs.Tagged.{line_items, tagged, character}
 use Rattle.normal_text.specs.Units.{Letter, lettered, is_break_point}
 use Rattle.normal_text.specs.Filling.{Reading, reading, read_letters}
@@ -49,6 +50,16 @@ joins_word block code n fits no_break columns_are fits_is holds =
       room = ap (λ w. block.lines.allow_overflow || nat_le w block.lines.width) (width_read code n columns_are)
           ∙ sym fits_is ∙ holds;
     }
+
+no_break_point : (c : ℕ) → 0x21 ≤ c → c ≤ 0x7E → is_break_point c ≡ false
+no_break_point c low high = grind (arith, nat_tests)
+
+-- visible ASCII is no break point, and has one column
+pub visible_joins : {T : Type 0} (block : NormalText T) (c : ℕ) (fits : Bool) → (0x21 ≤ c) × (c ≤ 0x7E)
+    → fits ≡ (block.lines.allow_overflow || nat_le 1 block.lines.width) → fits ≡ true → JoinsWord block c
+visible_joins block c fits is fits_is holds =
+    joins_word block c 1 fits (no_break_point c is.0 is.1) (columns_of-one c (inr (omega (arith, is.0), is.1))) fits_is
+    holds
 
 -- ---- reading the run
 

@@ -1,4 +1,4 @@
-ghost use Rattle.std.specs.Prelude.{◌≡◌, ◌⊎◌, ℕ, Bool, true, false, ◌||◌, nat_le, List, [], ◌∷◌, ◌++◌, map, chars, is_err, IsTrue, All, length, ◌<◌, ◌≤◌, IfOk, IfErr, IfSome, IsNone, IsUtf8, encode_utf8, OnOk, if◌then◌else◌};
+ghost use Rattle.std.specs.Prelude.{◌≡◌, ◌↔◌, ◌⊎◌, ℕ, Bool, true, false, ◌||◌, nat_le, List, [], ◌∷◌, ◌++◌, map, chars, is_err, IsTrue, All, length, ◌<◌, ◌≤◌, IfOk, IfErr, IfSome, IsNone, IsUtf8, encode_utf8, OnOk, if◌then◌else◌};
 ghost use Rattle.std.specs.Char.{IsScalar};
 ghost use Rattle.tagged_lines.specs.Tagged.{line_items, line_columns, IsJoined};
 ghost use Rattle.normal_text.specs.Units.{is_break_point};
@@ -98,6 +98,10 @@ impl<T: EqualCopy + Drop> NormalText<T> {
     fn joins_word(&self, c: char) -> bool
         ensures { IsTrue result → JoinsWord self.now c }
     {
+        // The common case.
+        if is_visible_ascii(c) {
+            return self.lines.has_room_for(1);
+        }
         match UnicodeColumns::columns(c) {
             Some(columns) => !is_break_point(c) && self.lines.has_room_for(columns),
             None => false,
@@ -188,3 +192,9 @@ impl<T: EqualCopy + Drop> NormalText<T> {
 }
 
 const ZERO_WIDTH_SPACE: char = '\u{200b}';
+
+fn is_visible_ascii(c: char) -> bool
+    ensures { IsTrue result ↔ ((0x21 ≤ c) × (c ≤ 0x7E)) }
+{
+    matches!(c, '!'..='~')
+}
