@@ -170,6 +170,10 @@ fn lines_of_blocks(rt: HostRuntime) -> Result<(), Fail> {
     let line = RenderLine::Text(TaggedLine::from_string(alloc, text, &())?);
     assert_eq!(rt; line.width(), 3);
     let copy = line.try_clone()?.into_tagged_line()?;
-    assert!(rt; copy == line.into_tagged_line()?);
+    assert!(rt; copy == line.try_clone()?.into_tagged_line()?);
+    let wide = line.into_widened(alloc, 5, &())?;
+    assert_eq!(rt; text_of(alloc, &wide)?.as_str(), "漢a  ");
+    let wide = border.into_widened(alloc, 4, &())?;
+    assert_eq!(rt; text_of(alloc, &wide)?.as_str(), "─┬──");
     Ok(())
 }

@@ -1,3 +1,4 @@
 pub mod AcrossLemmas
 pub mod BorderLemmas
+pub mod RetagLemmas
 pub mod SegmentLemmas

@@ -1,9 +1,12 @@
 //! Lines of blocks.
-ghost use Rattle.std.specs.Prelude.{◌≡◌, IfOk};
-ghost use Rattle.tagged_lines.specs.Tagged.{line_items, IsJoined};
+ghost use Rattle.std.specs.Prelude.{◌≡◌, ◌-◌, ◌++◌, IfOk, OnOk};
+ghost use Rattle.tagged_lines.specs.Tagged.{line_items, line_columns, IsJoined};
+ghost use Rattle.text_borders.specs.Borders.{border_of};
+ghost use Rattle.text_borders.specs.Lines.{border};
+ghost use Rattle.text_borders.specs.Across.{spaces, widened, retagged};
 
 use crate::border::BorderHoriz;
-use std::alloc::AllocError;
+use std::alloc::{AllocError, Global};
 use tagged_lines::{EqualCopy, TaggedLine};
 
 /// A line of a block.
@@ -30,6 +33,24 @@ impl<T: EqualCopy + Drop> RenderLine<T> {
         }
     }
 
+    /// The line as text of so many columns where it has no more: text is filled with spaces of the tag, a border goes on
+    /// as `─`, and has the tag. The markers of a border are lost. The error is want of memory alone.
+    pub fn into_widened(
+        self,
+        alloc: Global,
+        width: usize,
+        tag: &T,
+    ) -> Result<TaggedLine<T>, AllocError>
+        ensures items { IfOk result (λ line. line_items T.seen line
+            ≡ widened width (T.seen tag.now) (render_line_of T.seen self)) }
+        ensures joined { IsJoinedText T.seen self → IfOk result (IsJoined T.seen) }
+    {
+        match self {
+            RenderLine::Text(line) => filled(line, width, tag),
+            RenderLine::Line(border) => stretched_text(alloc, border, width, tag),
+        }
+    }
+
     /// The columns of the line.
     pub fn width(&self) -> usize
         ensures { result ≡ line_width (render_line_of T.seen self.now) }
@@ -49,4 +70,68 @@ impl<T: EqualCopy + Drop> RenderLine<T> {
             RenderLine::Line(border) => Ok(RenderLine::Line(border.try_clone()?)),
         }
     }
+}
+
+/// The text, filled with spaces.
+fn filled<T: EqualCopy + Drop>(
+    line: TaggedLine<T>,
+    width: usize,
+    tag: &T,
+) -> Result<TaggedLine<T>, AllocError>
+    ensures items { IfOk result (λ filled. line_items T.seen filled ≡ line_items T.seen line
+        ++ spaces (width - line_columns (line_items T.seen line)) (T.seen tag.now)) }
+    ensures joined { IsJoined T.seen line → IfOk result (IsJoined T.seen) }
+{
+    let mut filled = line;
+    let missing = width.saturating_sub(filled.width());
+    push_spaces(&mut filled, missing, tag)?;
+    Ok(filled)
+}
+
+fn push_spaces<T: EqualCopy + Drop>(
+    line: &mut TaggedLine<T>,
+    count: usize,
+    tag: &T,
+) -> Result<(), AllocError>
+    ensures items { OnOk result (line_items T.seen line.new
+        ≡ line_items T.seen line.old ++ spaces count (T.seen tag.now)) }
+    ensures joined { IsJoined T.seen line.old → IsJoined T.seen line.new }
+{
+    for _space in 0..count {
+        line.push_char(' ', tag)?;
+    }
+    Ok(())
+}
+
+/// The border as text, with `─` up to the width.
+fn stretched_text<T: EqualCopy + Drop>(
+    alloc: Global,
+    drawn: BorderHoriz<T>,
+    width: usize,
+    tag: &T,
+) -> Result<TaggedLine<T>, AllocError>
+    ensures items { IfOk result (λ line. line_items T.seen line
+        ≡ widened width (T.seen tag.now) (border (border_of T.seen drawn))) }
+    ensures joined { IfOk result (IsJoined T.seen) }
+{
+    let mut stretched = drawn;
+    stretched.stretch_to(width)?;
+    retagged(alloc, &stretched.into_tagged_line()?, tag)
+}
+
+/// The characters of the line under one tag; markers are left out.
+fn retagged<T: EqualCopy + Drop>(
+    alloc: Global,
+    line: &TaggedLine<T>,
+    tag: &T,
+) -> Result<TaggedLine<T>, AllocError>
+    ensures items { IfOk result (λ made. line_items T.seen made
+        ≡ retagged (T.seen tag.now) (line_items T.seen line.now)) }
+    ensures joined { IfOk result (IsJoined T.seen) }
+{
+    let mut made = TaggedLine::new(alloc);
+    for element in line.iter() {
+        made.push_str(element.as_str(), tag)?;
+    }
+    Ok(made)
 }
