@@ -56,15 +56,15 @@ fn scripts_of_a_model(rt: HostRuntime) -> Result<(), Fail> {
 
 const ALPHABET: [char; 8] = ['a', 'b', ' ', '\t', '\n', '\u{200b}', '漢', '\u{301}'];
 
-/// A text of eight characters, and the seed of the next.
-fn made_text(alloc: Global, seed: u32) -> Result<(String, u32), AllocError> {
+/// A text of eight characters, and the number that the next is made from.
+fn made_text(alloc: Global, number: u32) -> Result<(String, u32), AllocError> {
     let mut text = String::new(alloc);
-    let mut seed = seed;
+    let mut number = number;
     for _at in 0..8 {
-        seed = seed.wrapping_mul(1_103_515_245).wrapping_add(12_345);
-        text.push(ALPHABET[(seed >> 16) as usize % 8])?;
+        number = number.wrapping_mul(1_103_515_245).wrapping_add(12_345);
+        text.push(ALPHABET[(number >> 16) as usize % 8])?;
     }
-    Ok((text, seed))
+    Ok((text, number))
 }
 
 fn is_same_in_cuts(
@@ -85,10 +85,10 @@ fn is_same_in_cuts(
 
 #[test]
 fn a_thousand_texts_in_every_cut(rt: HostRuntime) -> Result<(), Fail> {
-    let mut seed = 1;
+    let mut number = 1;
     for turn in 0..1000 {
-        let (text, next) = made_text(rt.alloc(), seed)?;
-        seed = next;
+        let (text, next) = made_text(rt.alloc(), number)?;
+        number = next;
         let mode = if turn % 2 == 0 {
             WhiteSpace::Pre
         } else {
