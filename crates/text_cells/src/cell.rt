@@ -1,0 +1,55 @@
+//! Cells, and what a row of them comes to.
+
+use tagged_lines::TaggedLine;
+use text_borders::{BorderHoriz, RenderLine};
+
+/// A line of a block.
+#[derive(Drop)]
+pub struct LaidLine<T> {
+    /// The line.
+    pub line: RenderLine<T>,
+    /// Whether it has content: an empty line has none, and what fills a line is none.
+    pub content: bool,
+}
+
+/// The lines of a cell.
+#[derive(Drop)]
+pub struct LineSet<T> {
+    /// The columns of the cell.
+    pub width: usize,
+    /// The rows that the cell still takes, the one in which it stands among them.
+    pub rows: usize,
+    /// Its lines, in order.
+    pub lines: Vec<LaidLine<T>>,
+}
+
+/// A cell that goes on from the row before.
+#[derive(Drop)]
+pub struct HangingCell<T> {
+    /// The column at which it stood there.
+    pub place: usize,
+    /// Its further lines.
+    pub cell: LineSet<T>,
+}
+
+/// A line of a row.
+#[derive(Drop)]
+pub struct RowLine<T> {
+    /// Its text.
+    pub line: TaggedLine<T>,
+    /// Whether a cell has content there.
+    pub content: bool,
+}
+
+/// A row of cells.
+#[derive(Drop)]
+pub struct Row<T> {
+    /// The border above, joined to the row.
+    pub above: Option<BorderHoriz<T>>,
+    /// The lines, from above to below.
+    pub lines: Vec<RowLine<T>>,
+    /// The border below, in which what goes on makes holes.
+    pub below: BorderHoriz<T>,
+    /// The cells that go on into the next row.
+    pub hanging: Vec<HangingCell<T>>,
+}

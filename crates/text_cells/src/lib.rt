@@ -1,0 +1,8 @@
+//! Rows of cells beside one another: lines and the borders above and below them, and what goes on into the next row.
+#![tactic(auto)]
+
+mod across;
+mod cell;
+
+pub use across::lay_across;
+pub use cell::{HangingCell, LaidLine, LineSet, Row, RowLine};
