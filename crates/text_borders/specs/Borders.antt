@@ -1,7 +1,7 @@
 -- Borders: lists of segments, with holes in which text stands.
-use Rattle.std.specs.Prelude.{ℕ, zero, suc, ◌+◌, ◌-◌, Bool, true, false, ◌==◌, List, [], ◌∷◌, ◌++◌, map, fold, length, take, drop, replicate, if◌then◌else◌}
+use Rattle.std.specs.Prelude.{ℕ, zero, suc, ◌+◌, ◌-◌, Bool, true, false, ◌==◌, nat_lt, List, [], ◌∷◌, ◌++◌, map, fold, length, take, drop, replicate, if◌then◌else◌}
 use Rattle.std.specs.Option.{option_map}
-use Rattle.tagged_lines.specs.Tagged.{Item, tagged, line_items, line_columns}
+use Rattle.tagged_lines.specs.Tagged.{Item, character, tagged, line_items, line_columns}
 use Rattle.text_borders.specs.Segments.{Segment, arms, segment_of, glyph_of, with_up, with_down, without_left, without_right, joins_above, joins_below, runs_above}
 use Rattle.text_borders.specs.declared.border.BorderHoriz.{BorderHoriz}
 use Rattle.text_borders.specs.declared.border.Hole as code
@@ -94,6 +94,14 @@ abbrev pub punched : {S : Type 0} → ℕ → List (Item S) → Border S → Bor
 punched place items b =
     let end = place + line_columns items in
     with_hole place items (chopped_behind end (chopped_before place (with_segments (stretched end b.segments) b)))
+
+-- Spaces fill a border up to a width: they stand behind it as a text, which takes no arm off.
+abbrev pub filled_to : {S : Type 0} → ℕ → Border S → Border S
+filled_to width b =
+    if nat_lt (length b.segments) width
+    then with_hole (length b.segments) (replicate (width - length b.segments) (character 0x20 b.tag))
+        (with_segments (stretched width b.segments) b)
+    else b
 
 -- What is shown: the glyphs of the segments, and in their place the texts of the holes.
 abbrev pub glyphs : {S : Type 0} → S → List Segment → List (Item S)

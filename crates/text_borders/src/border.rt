@@ -5,6 +5,7 @@ ghost use Rattle.text_borders.specs.Segments.{segment_of};
 ghost use Rattle.text_borders.specs.Borders.{hole_of, shown_from, glyphs, line_above};
 ghost use Rattle.text_borders.specs.declared.segment.BorderSegHoriz.TheVariants as segments;
 
+use crate::filling::push_spaces;
 use crate::segment::BorderSegHoriz;
 use std::alloc::{AllocError, Global};
 use tagged_lines::{EqualCopy, TaggedLine};
@@ -105,7 +106,7 @@ impl<T: EqualCopy + Drop> BorderHoriz<T> {
 }
 
 impl<T: EqualCopy + Drop> BorderHoriz<T> {
-    ghost use Rattle.text_borders.specs.Borders.{border_of, merged_above, merged_below, chopped_before, chopped_behind, punched};
+    ghost use Rattle.text_borders.specs.Borders.{border_of, merged_above, merged_below, chopped_before, chopped_behind, punched, filled_to};
 
     /// Takes in a border that stands below, from a column on: the border is joined to a line below where the other has
     /// `┴ ┬ ┼ └ ┘`. The error is want of memory alone.
@@ -201,6 +202,22 @@ impl<T: EqualCopy + Drop> BorderHoriz<T> {
         self.stretch_to(end)?;
         self.chop_before(place);
         self.chop_behind(end);
+        self.holes.push(Hole { place, line })?;
+        Ok(())
+    }
+
+    /// Fills the border up to the width with spaces of its tag, where it is narrower. They stand behind it as a text, and
+    /// take no arm off. The error is want of memory alone.
+    pub fn fill_to(&mut self, width: usize) -> Result<(), AllocError>
+        ensures { OnOk result (border_of T.seen self.new ≡ filled_to width (border_of T.seen self.old)) }
+    {
+        let place = self.width();
+        if width <= place {
+            return Ok(());
+        }
+        let mut line = TaggedLine::new(*self.segments.allocator());
+        push_spaces(&mut line, width - place, &self.tag)?;
+        self.stretch_to(width)?;
         self.holes.push(Hole { place, line })?;
         Ok(())
     }

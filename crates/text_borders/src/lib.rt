@@ -2,6 +2,7 @@
 #![tactic(auto)]
 
 mod border;
+mod filling;
 mod laws;
 mod render_line;
 mod rows;

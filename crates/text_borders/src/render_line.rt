@@ -6,6 +6,7 @@ ghost use Rattle.text_borders.specs.Lines.{border};
 ghost use Rattle.text_borders.specs.Across.{spaces, widened, retagged};
 
 use crate::border::BorderHoriz;
+use crate::filling::push_spaces;
 use std::alloc::{AllocError, Global};
 use tagged_lines::{EqualCopy, TaggedLine};
 
@@ -86,21 +87,6 @@ fn filled<T: EqualCopy + Drop>(
     let missing = width.saturating_sub(filled.width());
     push_spaces(&mut filled, missing, tag)?;
     Ok(filled)
-}
-
-fn push_spaces<T: EqualCopy + Drop>(
-    line: &mut TaggedLine<T>,
-    count: usize,
-    tag: &T,
-) -> Result<(), AllocError>
-    ensures items { OnOk result (line_items T.seen line.new
-        ≡ line_items T.seen line.old ++ spaces count (T.seen tag.now)) }
-    ensures joined { IsJoined T.seen line.old → IsJoined T.seen line.new }
-{
-    for _space in 0..count {
-        line.push_char(' ', tag)?;
-    }
-    Ok(())
 }
 
 /// The border as text, with `─` up to the width.

@@ -1,7 +1,7 @@
 use Rattle.std.proofs.Common.{◌≡◌, ◌++◌}
 use Rattle.tagged_lines.specs.Tagged.{line_items, IsJoined}
 use Rattle.text_borders.specs.Across.{spaces}
-use Rattle.text_borders.proofs.render_line.push_spaces.Given as goal
+use Rattle.text_borders.proofs.filling.push_spaces.Given as goal
 
 abbrev pub invariant-loop-space : goal.invariant-loop-space
 invariant-loop-space g l =
