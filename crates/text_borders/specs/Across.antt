@@ -132,6 +132,10 @@ retagged tag [] = []
 retagged tag (character c old ∷ items) = character c tag ∷ retagged tag items
 retagged tag (marker name ∷ items) = retagged tag items
 
+abbrev pub as_text : {S : Type 0} → S → BlockLine S → List (Item S)
+as_text tag (text items) = items
+as_text tag (border b) = retagged tag (shown b)
+
 abbrev pub widened : {S : Type 0} → ℕ → S → BlockLine S → List (Item S)
 widened width tag (text items) = items ++ spaces (width - line_columns items) tag
 widened width tag (border b) = retagged tag (shown (with_segments (stretched width b.segments) b))

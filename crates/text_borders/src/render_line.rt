@@ -1,9 +1,9 @@
 //! Lines of blocks.
 ghost use Rattle.std.specs.Prelude.{◌≡◌, ◌-◌, ◌++◌, IfOk, OnOk};
 ghost use Rattle.tagged_lines.specs.Tagged.{line_items, line_columns, IsJoined};
-ghost use Rattle.text_borders.specs.Borders.{border_of};
+ghost use Rattle.text_borders.specs.Borders.{border_of, shown};
 ghost use Rattle.text_borders.specs.Lines.{border};
-ghost use Rattle.text_borders.specs.Across.{spaces, widened, retagged};
+ghost use Rattle.text_borders.specs.Across.{spaces, widened, retagged, as_text};
 
 use crate::border::BorderHoriz;
 use crate::filling::push_spaces;
@@ -52,6 +52,19 @@ impl<T: EqualCopy + Drop> RenderLine<T> {
         }
     }
 
+    /// The line as text; of a border the characters alone, under the tag. The markers of a border are lost. The error is
+    /// want of memory alone.
+    pub fn into_text(self, alloc: Global, tag: &T) -> Result<TaggedLine<T>, AllocError>
+        ensures items { IfOk result (λ line. line_items T.seen line
+            ≡ as_text (T.seen tag.now) (render_line_of T.seen self)) }
+        ensures joined { IsJoinedText T.seen self → IfOk result (IsJoined T.seen) }
+    {
+        match self {
+            RenderLine::Text(line) => Ok(line),
+            RenderLine::Line(border) => text_of(alloc, border, tag),
+        }
+    }
+
     /// The columns of the line.
     pub fn width(&self) -> usize
         ensures { result ≡ line_width (render_line_of T.seen self.now) }
@@ -89,6 +102,19 @@ fn filled<T: EqualCopy + Drop>(
     Ok(filled)
 }
 
+/// The border as text, under the tag.
+fn text_of<T: EqualCopy + Drop>(
+    alloc: Global,
+    drawn: BorderHoriz<T>,
+    tag: &T,
+) -> Result<TaggedLine<T>, AllocError>
+    ensures items { IfOk result (λ line. line_items T.seen line
+        ≡ retagged (T.seen tag.now) (shown (border_of T.seen drawn))) }
+    ensures joined { IfOk result (IsJoined T.seen) }
+{
+    retagged(alloc, &drawn.into_tagged_line()?, tag)
+}
+
 /// The border as text, with `─` up to the width.
 fn stretched_text<T: EqualCopy + Drop>(
     alloc: Global,
@@ -102,7 +128,7 @@ fn stretched_text<T: EqualCopy + Drop>(
 {
     let mut stretched = drawn;
     stretched.stretch_to(width)?;
-    retagged(alloc, &stretched.into_tagged_line()?, tag)
+    text_of(alloc, stretched, tag)
 }
 
 /// The characters of the line under one tag; markers are left out.

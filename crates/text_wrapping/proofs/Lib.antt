@@ -3,3 +3,4 @@ pub mod NormalBlocks
 pub mod NormalPadding
 pub mod BlockLaws
 pub mod BlockWidths
+pub mod ShowingLemmas

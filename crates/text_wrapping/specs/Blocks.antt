@@ -1,8 +1,9 @@
 -- Blocks of text: what a block holds, and what each call makes of it.
-use Rattle.std.specs.Prelude.{ℕ, ◌-◌, ◌==◌, Bool, not, ◌&&◌, List, [], ◌∷◌, ◌++◌, Option, None, Some, All, map, replicate, if◌then◌else◌}
+use Rattle.std.specs.Prelude.{ℕ, ◌-◌, ◌==◌, nat_lt, Bool, false, not, ◌&&◌, ◌||◌, List, [], ◌∷◌, ◌++◌, Option, None, Some, All, map, fold, replicate, if◌then◌else◌}
 use Rattle.std.specs.Option.{option_map, option_and_then}
 use Rattle.tagged_lines.specs.Tagged.{Item, character, line_items, line_columns, IsJoined}
-use Rattle.text_pieces.specs.Sources.{Source, letter, fragment, fragments, sources_of}
+use Rattle.tagged_lines.specs.Columns.{width_of}
+use Rattle.text_pieces.specs.Sources.{Source, letter, fragment, fragments, sources_of, is_white_space, is_filled}
 use Rattle.preserved_text.specs.Preserved.{names_of}
 use Rattle.text_pieces.specs.Modes.{is_preserved, is_same_mode}
 use Rattle.text_pieces.specs.declared.white_space.WhiteSpace.{WhiteSpace}
@@ -125,6 +126,27 @@ fragments_taken b = option_map (λ e. (names_of e.source, without_source e)) (en
 -- the lines of all of a block's text
 abbrev pub ended_lines : {S : Type 0} → Block S → Option (List (List (Item S)))
 ended_lines b = option_map lines_of (ended b)
+
+-- the last of the lines has columns
+abbrev pub ends_in_columns : {S : Type 0} → List (List (Item S)) → Bool
+ends_in_columns lines = fold (λ ends line. nat_lt 0 (line_columns line)) false lines
+
+-- the text so far ends, and whether its last line has columns
+abbrev pub broken : {S : Type 0} → Block S → Option (Bool × Block S)
+broken b = option_map (λ e. (ends_in_columns (lines_in b.mode b.width b.source), e)) (ended b)
+
+-- a character that takes a column wherever it stands
+abbrev pub is_visible : ℕ → Bool
+is_visible c = not (is_white_space c) && nat_lt 0 (width_of c)
+
+abbrev pub has_visible : {S : Type 0} → List (Source S) → Bool
+has_visible [] = false
+has_visible (letter c main further ∷ rest) = is_visible c || has_visible rest
+has_visible (fragment name ∷ rest) = has_visible rest
+
+-- no line has ended, and no such character is held
+abbrev pub is_empty : {S : Type 0} → Block S → Bool
+is_empty b = not (is_filled b.lines) && not (has_visible b.source)
 
 -- no text of the lines is empty, and none stands next to one with an equal tag
 abbrev pub HasJoinedLines : {T S : Type 0} → (T → S) → WrappedBlock T → Type 0

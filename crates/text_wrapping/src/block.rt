@@ -7,6 +7,7 @@ ghost use Rattle.text_wrapping.specs.Blocks.{lines_or_empty};
 ghost use Rattle.tagged_lines.specs.Tagged.{line_items, IsJoined};
 
 use crate::padding::pad_lines;
+use crate::showing::{ends_in_columns, has_visible};
 use normal_text::lay_normal;
 use preserved_text::lay_preserved;
 use std::alloc::{AllocError, Global};
@@ -29,7 +30,7 @@ pub struct WrappedBlock<T> {
 }
 
 impl<T: EqualCopy + Drop> WrappedBlock<T> {
-    ghost use Rattle.text_wrapping.specs.Blocks.{block_of, has_failed, empty_block, added, took_all, in_mode, ended, line_ended, ended_lines, fragments_taken, behind_sources, with_lines, with_source, marked_by, padded, padding_of, is_too_narrow, HasJoinedLines};
+    ghost use Rattle.text_wrapping.specs.Blocks.{block_of, has_failed, empty_block, added, took_all, in_mode, ended, line_ended, ended_lines, fragments_taken, behind_sources, with_lines, with_source, marked_by, padded, padding_of, is_too_narrow, broken, is_empty, HasJoinedLines};
     ghost use Rattle.text_wrapping.specs.Lines.{lines_in, waiting_in};
     ghost use Rattle.text_pieces.specs.Sources.{sourced, sources_of, fragments, names};
 
@@ -287,6 +288,45 @@ impl<T: EqualCopy + Drop> WrappedBlock<T> {
         let result = self.take_waiting();
         self.failed = result.is_err();
         result
+    }
+
+    /// Ends the text so far, as a line break does, and tells whether its last line has columns. After a refusal every call
+    /// is refused as `Failed`.
+    pub fn break_text(&mut self) -> Result<bool, BlockError>
+        ensures refused { is_err result ≡ has_failed self.new }
+        ensures failed { has_failed self.old ≡ true → result ≡ Err BlockError.Failed }
+        ensures kinds { has_failed self.old ≡ false
+            → IfErr result (λ e. (e ≡ BlockError.TooNarrow) ⊎ (e ≡ BlockError.Memory)) }
+        ensures broken { IfOk result (λ ends. broken (block_of T.seen self.old) ≡ Some (ends, block_of T.seen self.new)) }
+        ensures narrow { result ≡ Err BlockError.TooNarrow → broken (block_of T.seen self.old) ≡ None }
+        ensures joined { HasJoinedLines T.seen self.old → HasJoinedLines T.seen self.new }
+    {
+        if self.failed {
+            return Err(BlockError::Failed);
+        }
+        let result = self.take_break();
+        self.failed = result.is_err();
+        result
+    }
+
+    fn take_break(&mut self) -> Result<bool, BlockError>
+        ensures kinds { IfErr result (λ e. (e ≡ BlockError.TooNarrow) ⊎ (e ≡ BlockError.Memory)) }
+        ensures broken { IfOk result (λ ends. broken (block_of T.seen self.old) ≡ Some (ends, block_of T.seen self.new)) }
+        ensures narrow { result ≡ Err BlockError.TooNarrow → broken (block_of T.seen self.old) ≡ None }
+        ensures joined { HasJoinedLines T.seen self.old → HasJoinedLines T.seen self.new }
+    {
+        let LaidText { lines, waiting } = self.lay()?;
+        let ends = ends_in_columns(&lines);
+        self.put_lines(lines)?;
+        self.wait(waiting)?;
+        Ok(ends)
+    }
+
+    /// Whether no line has ended yet, and no character is held that would take a column of one.
+    pub fn is_empty(&self) -> bool
+        ensures { result ≡ is_empty (block_of T.seen self.now) }
+    {
+        self.lines.is_empty() && !has_visible(&self.pieces)
     }
 
     fn take_waiting(&mut self) -> Result<Vec<String>, BlockError>

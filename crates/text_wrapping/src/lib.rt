@@ -4,6 +4,7 @@
 mod block;
 mod laws;
 mod padding;
+mod showing;
 
 pub use block::WrappedBlock;
 pub use laws::{
@@ -15,6 +16,7 @@ pub use normal_text::{
     normal_lines_keep_markers, normal_lines_keep_the_width, one_fullest_layout,
     wide_text_never_fits,
 };
+pub use padding::pad;
 pub use preserved_text::{
     a_line_that_fits_is_itself, preserved_lines_keep_markers, preserved_lines_keep_the_width,
     preserved_lines_show_each_character,

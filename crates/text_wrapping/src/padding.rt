@@ -22,8 +22,8 @@ pub(crate) fn pad_lines<T: EqualCopy + Drop>(
     Ok(lines)
 }
 
-/// Fills the line with spaces up to the width; a wider one stays.
-fn pad<T: EqualCopy + Drop>(
+/// Fills the line with spaces of the tag up to the width; a wider one stays. The error is want of memory alone.
+pub fn pad<T: EqualCopy + Drop>(
     line: &mut TaggedLine<T>,
     width: usize,
     tag: &T,

@@ -1,0 +1,52 @@
+-- Rows of cells in a block.
+use Rattle.std.specs.Prelude.{ℕ, Bool, true, false, not, List, [], ◌∷◌, ◌++◌, Option, None, Some, map, fold, if◌then◌else◌}
+use Rattle.std.specs.Option.{option_map, option_and_then}
+use Rattle.text_borders.specs.Segments.{Segment}
+use Rattle.text_borders.specs.Borders.{Border, plain, horizontal, has_holes}
+use Rattle.text_borders.specs.Lines.{BlockLine, text, border}
+use Rattle.text_borders.specs.Across.{CellLine, Cell, Hanging, RowLine, Row, across}
+use Rattle.block_layout.specs.declared.measure.Measure.{Measure}
+use Rattle.block_layout.specs.Laid.{Laid, add_line, add_border, add_block, flush}
+
+-- the last line, where it is a border
+abbrev pub border_line : {S : Type 0} → BlockLine S → Option (Border S)
+border_line (text items) = None
+border_line (border b) = Some b
+
+abbrev pub last_border : {S : Type 0} → List (CellLine S) → Option (Border S)
+last_border lines = fold (λ _ l. border_line l.line) None lines
+
+-- the lines before it
+abbrev pub before_last : {A : Type 0} → List A → List A
+before_last [] = []
+before_last (x ∷ []) = []
+before_last (x ∷ y ∷ rest) = x ∷ before_last (y ∷ rest)
+
+abbrev pub without_last_border : {S : Type 0} → Option (Border S) → Laid S → Laid S
+without_last_border None b = b
+without_last_border (Some above) b = record b { lines = before_last b.lines }
+
+abbrev pub with_border : {S : Type 0} → Option (Border S) → Laid S → Laid S
+with_border None b = b
+with_border (Some new) b = add_border new b
+
+abbrev pub add_row_line : {S : Type 0} → Measure → S → Laid S → RowLine S → Laid S
+add_row_line m tag b l = add_line m tag l.content l.items b
+
+abbrev pub add_row_lines : {S : Type 0} → Measure → S → List (RowLine S) → Laid S → Laid S
+add_row_lines m tag lines b = fold (add_row_line m tag) b lines
+
+-- a row stands in the block: the border above it, its lines, and the border below it where borders are drawn
+abbrev pub with_row : {S : Type 0} → Measure → S → Bool → Row S → Laid S → Laid S
+with_row m tag draws row b =
+    record (with_border (if draws then Some row.below else None)
+        (add_row_lines m tag row.lines (with_border row.above b))) { hanging = row.hanging }
+
+-- cells beside one another: the last line, where it is a border, is the one above them
+abbrev pub row_laid : {S : Type 0} → Measure → S → Bool → Bool → List (Cell S) → Laid S → Laid S
+row_laid m tag draws collapse cells b =
+    let above = last_border b.lines in
+    with_row m tag draws (across draws collapse tag above cells b.hanging) (without_last_border above b)
+
+abbrev pub add_row : {S : Type 0} → Measure → S → Bool → Bool → List (Cell S) → Laid S → Option (Laid S)
+add_row m tag draws collapse cells b = option_map (row_laid m tag draws collapse cells) (flush m tag b)

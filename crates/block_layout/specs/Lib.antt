@@ -1,0 +1,4 @@
+pub mod Counts
+pub mod Laid
+pub mod LaidRows
+pub mod Seen

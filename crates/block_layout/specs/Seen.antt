@@ -1,0 +1,30 @@
+-- What contracts see of a block of lines.
+use Rattle.std.specs.Prelude.{Bool, List, map}
+use Rattle.std.specs.Option.{option_map}
+use Rattle.text_pieces.specs.Sources.{names}
+use Rattle.text_wrapping.specs.Blocks.{block_of}
+use Rattle.text_borders.specs.Across.{CellLine}
+use Rattle.text_cells.specs.Cells.{laid_line_of, hanging_of}
+use Rattle.block_layout.specs.Laid.{Running as SeenRunning, Laid}
+use Rattle.block_layout.specs.declared.lines.LaidLines.{LaidLines}
+use Rattle.block_layout.specs.declared.running.Running.{Running}
+use Rattle.block_layout.specs.declared.block.BlockLayout.{BlockLayout}
+
+abbrev pub lines_of : {T S : Type 0} → (T → S) → LaidLines T → List (CellLine S)
+lines_of seen lines = map (laid_line_of seen) lines.lines.items
+
+abbrev pub running_of : {T S : Type 0} → (T → S) → Running T → SeenRunning S
+running_of seen running = record {
+  mode = running.mode;
+  text = block_of seen running.text;
+  fill = seen running.fill;
+}
+
+abbrev pub laid_of : {T S : Type 0} → (T → S) → BlockLayout T → Laid S
+laid_of seen block = record {
+  lines = lines_of seen block.lines;
+  running = option_map (running_of seen) block.running;
+  awaits = block.awaits;
+  markers = names block.markers.items;
+  hanging = map (hanging_of seen) block.hanging.items;
+}

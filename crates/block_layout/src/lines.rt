@@ -1,0 +1,80 @@
+//! The lines of a block, and whether one has content.
+
+use std::alloc::{AllocError, Global};
+use tagged_lines::EqualCopy;
+use text_borders::{BorderHoriz, RenderLine};
+use text_cells::LaidLine;
+
+/// Lines, with the number of those that have content, so that no line is looked at again.
+#[derive(Drop)]
+pub(crate) struct LaidLines<T> {
+    lines: Vec<LaidLine<T>>,
+    filled: usize,
+    ghost counted: { filled ≡ content_count lines.items },
+}
+
+ghost use Rattle.std.specs.Prelude.{◌≡◌};
+ghost use Rattle.block_layout.specs.Counts.{content_count};
+
+impl<T: EqualCopy + Drop> LaidLines<T> {
+    ghost use Rattle.std.specs.Prelude.{◌∷◌, ◌++◌, [], not, map, OnOk, IfSome, IsNone};
+    ghost use Rattle.text_pieces.specs.Sources.{is_filled};
+    ghost use Rattle.block_layout.specs.Seen.{lines_of};
+    ghost use Rattle.block_layout.specs.Laid.{has_content};
+    ghost use Rattle.text_cells.specs.Cells.{laid_line_of};
+
+    pub(crate) fn new(alloc: Global) -> LaidLines<T>
+        ensures { lines_of T.seen result ≡ [] }
+    {
+        LaidLines {
+            lines: Vec::new(alloc),
+            filled: 0,
+        }
+    }
+
+    pub(crate) fn is_empty(&self) -> bool
+        ensures { result ≡ not (is_filled (lines_of T.seen self.now)) }
+    {
+        self.lines.is_empty()
+    }
+
+    pub(crate) fn has_content(&self) -> bool
+        ensures { result ≡ has_content (lines_of T.seen self.now) }
+    {
+        self.filled > 0
+    }
+
+    pub(crate) fn push(&mut self, line: LaidLine<T>) -> Result<(), AllocError>
+        ensures { OnOk result (lines_of T.seen self.new ≡ lines_of T.seen self.old ++ laid_line_of T.seen line ∷ []) }
+    {
+        let filled = self.filled.checked_add(weight(&line)).ok_or(AllocError)?;
+        self.lines.push(line)?;
+        self.filled = filled;
+        Ok(())
+    }
+
+    /// Takes the last line off.
+    pub(crate) fn pop(&mut self) -> Option<LaidLine<T>>
+        ensures last { IfSome result (λ l. lines_of T.seen self.old
+            ≡ lines_of T.seen self.new ++ laid_line_of T.seen l ∷ []) }
+        ensures none { IsNone result → lines_of T.seen self.old ≡ [] }
+        ensures nothing { IsNone result → lines_of T.seen self.new ≡ [] }
+    {
+        let last = self.lines.pop()?;
+        self.filled = self.filled.saturating_sub(weight(&last));
+        Some(last)
+    }
+
+    pub(crate) fn into_vec(self) -> Vec<LaidLine<T>>
+        ensures { map (laid_line_of T.seen) result.items ≡ lines_of T.seen self }
+    {
+        let LaidLines { lines, .. } = self;
+        lines
+    }
+}
+
+fn weight<T>(line: &LaidLine<T>) -> usize
+    ensures { result ≡ content_count (line.now ∷ []) }
+{
+    if line.content { 1 } else { 0 }
+}

@@ -1,0 +1,126 @@
+//! The text that is not laid out yet.
+
+use crate::measure::Measure;
+use std::alloc::{AllocError, Global};
+use tagged_lines::EqualCopy;
+use text_pieces::{BlockError, LaidText, WhiteSpace};
+use text_wrapping::WrappedBlock;
+
+/// A text in one mode of white space, which no call has been refused to.
+#[derive(Drop)]
+pub(crate) struct Running<T> {
+    mode: WhiteSpace,
+    text: WrappedBlock<T>,
+    fill: T,
+    ghost works: { has_failed text ≡ false },
+}
+
+ghost use Rattle.std.specs.Prelude.{◌≡◌, false};
+ghost use Rattle.text_wrapping.specs.Blocks.{has_failed};
+
+impl<T: EqualCopy + Drop> Running<T> {
+    ghost use Rattle.std.specs.Prelude.{◌⊎◌, None, Some, chars, map, IfOk, IfErr};
+    ghost use Rattle.std.specs.Option.{option_map};
+    ghost use Rattle.tagged_lines.specs.Tagged.{line_items};
+    ghost use Rattle.text_pieces.specs.Sources.{names};
+    ghost use Rattle.text_pieces.specs.declared.fault.BlockError.TheVariants as errors;
+    ghost use Rattle.text_wrapping.specs.Blocks.{added, marked_by, broken, is_empty};
+    ghost use Rattle.block_layout.specs.Laid.{running_or_new, with_text, with_text_of, laid_text};
+    ghost use Rattle.block_layout.specs.Seen.{running_of};
+
+    /// An empty text, whose lines are filled with spaces of the tag.
+    pub(crate) fn new(
+        alloc: Global,
+        measure: Measure,
+        mode: WhiteSpace,
+        tag: &T,
+    ) -> Result<Running<T>, AllocError>
+        ensures { IfOk result (λ r. running_of T.seen r ≡ running_or_new measure (T.seen tag.now) mode None) }
+    {
+        let Measure {
+            wrap_width,
+            overflow,
+            ..
+        } = measure;
+        let fill = tag.copy(alloc)?;
+        let text = WrappedBlock::new(alloc, wrap_width, false, overflow, tag.copy(alloc)?);
+        Ok(Running { mode, text, fill })
+    }
+
+    pub(crate) fn mode(&self) -> WhiteSpace
+        ensures { result ≡ (running_of T.seen self.now).mode }
+    {
+        self.mode
+    }
+
+    pub(crate) fn is_empty(&self) -> bool
+        ensures { result ≡ is_empty (running_of T.seen self.now).text }
+    {
+        self.text.is_empty()
+    }
+
+    /// The text with more behind it.
+    pub(crate) fn with_text(
+        self,
+        mode: WhiteSpace,
+        text: &str,
+        main_tag: &T,
+        wrap_tag: &T,
+    ) -> Result<Running<T>, BlockError>
+        ensures kinds { IfErr result (λ e. (e ≡ errors.TooNarrow) ⊎ (e ≡ errors.Memory)) }
+        ensures added { IfOk result (λ r. option_map (with_text (running_of T.seen self)) (added mode (chars text.now)
+            (T.seen main_tag.now) (T.seen wrap_tag.now) (running_of T.seen self).text)
+            ≡ Some (running_of T.seen r)) }
+        ensures narrow { result ≡ Err errors.TooNarrow → added mode (chars text.now) (T.seen main_tag.now)
+            (T.seen wrap_tag.now) (running_of T.seen self).text ≡ None }
+    {
+        let Running {
+            mode: begun,
+            text: mut block,
+            fill,
+        } = self;
+        block.add_text(text, mode, main_tag, wrap_tag)?;
+        Ok(Running {
+            mode: begun,
+            text: block,
+            fill,
+        })
+    }
+
+    /// The text with a marker behind it.
+    pub(crate) fn with_marker(self, name: &str) -> Result<Running<T>, BlockError>
+        ensures kinds { IfErr result (λ e. e ≡ errors.Memory) }
+        ensures marked { IfOk result (λ r. running_of T.seen r
+            ≡ with_text (running_of T.seen self) (marked_by (chars name.now) (running_of T.seen self).text)) }
+    {
+        let Running { mode, mut text, fill } = self;
+        text.record_frag_start(name)?;
+        Ok(Running { mode, text, fill })
+    }
+
+    /// Ends the text's line, and tells whether it has columns.
+    pub(crate) fn broken(self) -> Result<(bool, Running<T>), BlockError>
+        ensures kinds { IfErr result (λ e. (e ≡ errors.TooNarrow) ⊎ (e ≡ errors.Memory)) }
+        ensures broken { IfOk result (λ r. option_map (with_text_of (running_of T.seen self))
+            (broken (running_of T.seen self).text) ≡ Some (r.0, running_of T.seen r.1)) }
+        ensures narrow { result ≡ Err errors.TooNarrow → broken (running_of T.seen self).text ≡ None }
+    {
+        let Running { mode, mut text, fill } = self;
+        let ends = text.break_text()?;
+        Ok((ends, Running { mode, text, fill }))
+    }
+
+    /// The lines of the text, the names of the markers that found none, and the tag of what fills the lines.
+    pub(crate) fn laid(self) -> Result<(LaidText<T>, T), BlockError>
+        ensures kinds { IfErr result (λ e. (e ≡ errors.TooNarrow) ⊎ (e ≡ errors.Memory)) }
+        ensures laid { IfOk result (λ r. laid_text (running_of T.seen self).text
+            ≡ Some (names r.0.waiting.items, map (line_items T.seen) r.0.lines.items)) }
+        ensures fill { IfOk result (λ r. T.seen r.1 ≡ (running_of T.seen self).fill) }
+        ensures narrow { result ≡ Err errors.TooNarrow → laid_text (running_of T.seen self).text ≡ None }
+    {
+        let Running { mut text, fill, .. } = self;
+        let waiting = text.take_trailing_fragments()?;
+        let lines = text.into_lines()?;
+        Ok((LaidText { lines, waiting }, fill))
+    }
+}

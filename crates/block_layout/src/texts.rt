@@ -1,0 +1,113 @@
+//! Lines of text: behind markers, filled, and made of borders.
+ghost use Rattle.std.specs.Prelude.{◌≡◌, ◌++◌, map, if◌then◌else◌, None, Some, IfOk, OnOk};
+ghost use Rattle.tagged_lines.specs.Tagged.{line_items, marker};
+ghost use Rattle.text_pieces.specs.Sources.{names};
+ghost use Rattle.text_wrapping.specs.Blocks.{padded};
+ghost use Rattle.text_borders.specs.Borders.{border_of};
+ghost use Rattle.text_borders.specs.Lines.{render_line_of, border};
+ghost use Rattle.text_cells.specs.Cells.{laid_line_of};
+ghost use Rattle.block_layout.specs.Laid.{finished};
+
+use crate::measure::Measure;
+use std::alloc::{AllocError, Global};
+use tagged_lines::{EqualCopy, TaggedLine};
+use text_borders::{BorderHoriz, RenderLine};
+use text_cells::LaidLine;
+use text_wrapping::pad;
+
+/// The line behind markers.
+pub(crate) fn behind_names<T: EqualCopy + Drop>(
+    names: &[String],
+    line: TaggedLine<T>,
+) -> Result<TaggedLine<T>, AllocError>
+    ensures { IfOk result (λ all. line_items T.seen all
+        ≡ map (λ name. marker name) (names names.now) ++ line_items T.seen line) }
+{
+    match names.first() {
+        Some(name) => with_names(*name.allocator(), names, &line),
+        None => Ok(line),
+    }
+}
+
+fn with_names<T: EqualCopy + Drop>(
+    alloc: Global,
+    names: &[String],
+    line: &TaggedLine<T>,
+) -> Result<TaggedLine<T>, AllocError>
+    ensures { IfOk result (λ all. line_items T.seen all
+        ≡ map (λ name. marker name) (names names.now) ++ line_items T.seen line.now) }
+{
+    let mut all = TaggedLine::new(alloc);
+    push_names(&mut all, names)?;
+    all.push_line(line)?;
+    Ok(all)
+}
+
+fn push_names<T: EqualCopy + Drop>(
+    line: &mut TaggedLine<T>,
+    names: &[String],
+) -> Result<(), AllocError>
+    ensures { OnOk result (line_items T.seen line.new
+        ≡ line_items T.seen line.old ++ map (λ name. marker name) (names names.now)) }
+{
+    let mut rest = names;
+    while let Some((name, others)) = rest.split_first() {
+        line.push_marker(name.as_str())?;
+        rest = others;
+    }
+    Ok(())
+}
+
+/// Fills the line with spaces up to the width, where lines are filled.
+pub(crate) fn fill_line<T: EqualCopy + Drop>(
+    line: &mut TaggedLine<T>,
+    width: usize,
+    pads: bool,
+    tag: &T,
+) -> Result<(), AllocError>
+    ensures { OnOk result (line_items T.seen line.new
+        ≡ padded width (if pads then Some (T.seen tag.now) else None) (line_items T.seen line.old)) }
+{
+    if pads { pad(line, width, tag) } else { Ok(()) }
+}
+
+/// The line as it stands in the block, a border filled where lines are.
+pub(crate) fn finished<T: EqualCopy + Drop>(
+    measure: Measure,
+    line: RenderLine<T>,
+) -> Result<RenderLine<T>, AllocError>
+    ensures { IfOk result (λ done. render_line_of T.seen done ≡ finished measure (render_line_of T.seen line)) }
+{
+    match line {
+        RenderLine::Text(line) => Ok(RenderLine::Text(line)),
+        RenderLine::Line(border) => finished_border(measure, border),
+    }
+}
+
+fn finished_border<T: EqualCopy + Drop>(
+    measure: Measure,
+    drawn: BorderHoriz<T>,
+) -> Result<RenderLine<T>, AllocError>
+    ensures { IfOk result (λ done. render_line_of T.seen done ≡ finished measure (border (border_of T.seen drawn))) }
+{
+    let mut filled = drawn;
+    if measure.pads {
+        filled.fill_to(measure.width)?;
+    }
+    Ok(RenderLine::Line(filled))
+}
+
+/// The lines as they stand in the block.
+pub(crate) fn finished_lines<T: EqualCopy + Drop>(
+    measure: Measure,
+    lines: Vec<LaidLine<T>>,
+) -> Result<Vec<RenderLine<T>>, AllocError>
+    ensures { IfOk result (λ done. map (render_line_of T.seen) done.items
+        ≡ map (λ l. finished measure l.line) (map (laid_line_of T.seen) lines.items)) }
+{
+    let mut done = Vec::with_capacity(*lines.allocator(), lines.len())?;
+    for laid in lines {
+        done.push(finished(measure, laid.line)?)?;
+    }
+    Ok(done)
+}
