@@ -73,7 +73,7 @@ abbrev pub lines_behind : {S : Type 0} → List (List ℕ) × Block S → Option
 lines_behind taken = option_map (λ lines. (taken.0, lines)) (ended_lines taken.1)
 
 abbrev pub laid_text : {S : Type 0} → Block S → Option (List (List ℕ) × List (List (Item S)))
-laid_text text = option_and_then lines_behind (fragments_taken text)
+laid_text source = option_and_then lines_behind (fragments_taken source)
 
 abbrev pub text_laid : {S : Type 0} → Measure → S → S → Laid S → List (List ℕ) × List (List (Item S)) → Laid S
 text_laid m tag fill b laid = with_markers laid.0 (add_text_lines m tag fill laid.1 b)
@@ -120,7 +120,7 @@ running_or_new m tag mode None = record { mode = mode; text = empty_block m.wrap
 running_or_new m tag mode (Some r) = r
 
 abbrev pub with_text : {S : Type 0} → Running S → Block S → Running S
-with_text r text = record r { text = text }
+with_text r source = record r { text = source }
 
 abbrev pub with_running : {S : Type 0} → Laid S → Running S → Laid S
 with_running b r = record b { running = Some r }

@@ -50,3 +50,7 @@ row_laid m tag draws collapse cells b =
 
 abbrev pub add_row : {S : Type 0} → Measure → S → Bool → Bool → List (Cell S) → Laid S → Option (Laid S)
 add_row m tag draws collapse cells b = option_map (row_laid m tag draws collapse cells) (flush m tag b)
+
+-- the border of slashes between cells that stand below one another
+abbrev pub add_slashes : {S : Type 0} → ℕ → S → Laid S → Laid S
+add_slashes width tag b = add_border (plain None width tag) b

@@ -6,7 +6,7 @@ ghost use Rattle.text_pieces.specs.declared.fault.BlockError.TheVariants as erro
 use crate::lines::LaidLines;
 use crate::measure::Measure;
 use crate::running::Running;
-use crate::texts::{behind_names, fill_line, finished};
+use crate::texts::{behind_names, fill_line, finished_lines};
 use std::alloc::{AllocError, Global};
 use tagged_lines::{EqualCopy, TaggedLine};
 use text_borders::{BorderHoriz, RenderLine};
@@ -27,9 +27,13 @@ pub struct BlockLayout<T> {
 }
 
 impl<T: EqualCopy + Drop> BlockLayout<T> {
-    ghost use Rattle.block_layout.specs.Seen.{laid_of};
-    ghost use Rattle.block_layout.specs.Laid.{nothing_laid, is_nothing, add_line, add_border, add_text_lines, text_laid, flush, behind_empty_line, add_empty_line};
+    ghost use Rattle.block_layout.specs.Seen.{laid_of, running_of};
+    ghost use Rattle.block_layout.specs.Laid.{nothing_laid, is_nothing, has_no_text, add_line, add_border, add_text_line};
+    ghost use Rattle.block_layout.specs.Laid.{add_text_lines, laid_text, flush_of, flush, with_markers, behind_empty_line};
+    ghost use Rattle.block_layout.specs.Laid.{add_empty_line, parted, start_block, start_table, end_block, finished_lines};
     ghost use Rattle.text_borders.specs.Borders.{border_of};
+    ghost use Rattle.text_borders.specs.Lines.{render_line_of};
+    ghost use Rattle.text_cells.specs.Cells.{laid_line_of};
     ghost use Rattle.text_pieces.specs.Sources.{names};
 
     /// A block without lines.
@@ -153,11 +157,11 @@ impl<T: EqualCopy + Drop> BlockLayout<T> {
         self.add_line(measure, tag, content, line)
     }
 
-    fn hold_markers(&mut self, names: Vec<String>) -> Result<(), AllocError>
-        ensures { OnOk result (laid_of T.seen self.new ≡ with_markers (names names.items) (laid_of T.seen self.old)) }
+    fn hold_markers(&mut self, waiting: Vec<String>) -> Result<(), AllocError>
+        ensures { OnOk result (laid_of T.seen self.new ≡ with_markers (names waiting.items) (laid_of T.seen self.old)) }
     {
-        let mut names = names;
-        self.markers.append(&mut names)
+        let mut waiting = waiting;
+        self.markers.append(&mut waiting)
     }
 
     /// Adds an empty line behind the text that runs. Refused as `flush`.

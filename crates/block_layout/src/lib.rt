@@ -2,8 +2,10 @@
 #![tactic(auto)]
 
 mod block;
+mod inline;
 mod lines;
 mod measure;
+mod prefixed;
 mod rows;
 mod running;
 mod texts;

@@ -13,7 +13,7 @@ pub(crate) struct LaidLines<T> {
     ghost counted: { filled ≡ content_count lines.items },
 }
 
-ghost use Rattle.std.specs.Prelude.{◌≡◌};
+ghost use Rattle.std.specs.Prelude.{◌≡◌, ◌∷◌, []};
 ghost use Rattle.block_layout.specs.Counts.{content_count};
 
 impl<T: EqualCopy + Drop> LaidLines<T> {

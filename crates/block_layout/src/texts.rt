@@ -1,7 +1,7 @@
 //! Lines of text: behind markers, filled, and made of borders.
-ghost use Rattle.std.specs.Prelude.{◌≡◌, ◌++◌, map, if◌then◌else◌, None, Some, IfOk, OnOk};
+ghost use Rattle.std.specs.Prelude.{◌≡◌, ◌++◌, map, if◌then◌else◌, None, Some, chars, IfOk, OnOk};
 ghost use Rattle.tagged_lines.specs.Tagged.{line_items, marker};
-ghost use Rattle.text_pieces.specs.Sources.{names};
+ghost use Rattle.text_pieces.specs.Sources.{is_filled, names};
 ghost use Rattle.text_wrapping.specs.Blocks.{padded};
 ghost use Rattle.text_borders.specs.Borders.{border_of};
 ghost use Rattle.text_borders.specs.Lines.{render_line_of, border};
@@ -17,40 +17,40 @@ use text_wrapping::pad;
 
 /// The line behind markers.
 pub(crate) fn behind_names<T: EqualCopy + Drop>(
-    names: &[String],
+    waiting: &[String],
     line: TaggedLine<T>,
 ) -> Result<TaggedLine<T>, AllocError>
     ensures { IfOk result (λ all. line_items T.seen all
-        ≡ map (λ name. marker name) (names names.now) ++ line_items T.seen line) }
+        ≡ map (λ name. marker name) (names waiting.now) ++ line_items T.seen line) }
 {
-    match names.first() {
-        Some(name) => with_names(*name.allocator(), names, &line),
+    match waiting.first() {
+        Some(name) => with_names(*name.allocator(), waiting, &line),
         None => Ok(line),
     }
 }
 
 fn with_names<T: EqualCopy + Drop>(
     alloc: Global,
-    names: &[String],
+    waiting: &[String],
     line: &TaggedLine<T>,
 ) -> Result<TaggedLine<T>, AllocError>
     ensures { IfOk result (λ all. line_items T.seen all
-        ≡ map (λ name. marker name) (names names.now) ++ line_items T.seen line.now) }
+        ≡ map (λ name. marker name) (names waiting.now) ++ line_items T.seen line.now) }
 {
     let mut all = TaggedLine::new(alloc);
-    push_names(&mut all, names)?;
+    push_names(&mut all, waiting)?;
     all.push_line(line)?;
     Ok(all)
 }
 
 fn push_names<T: EqualCopy + Drop>(
     line: &mut TaggedLine<T>,
-    names: &[String],
+    waiting: &[String],
 ) -> Result<(), AllocError>
     ensures { OnOk result (line_items T.seen line.new
-        ≡ line_items T.seen line.old ++ map (λ name. marker name) (names names.now)) }
+        ≡ line_items T.seen line.old ++ map (λ name. marker name) (names waiting.now)) }
 {
-    let mut rest = names;
+    let mut rest = waiting;
     while let Some((name, others)) = rest.split_first() {
         line.push_marker(name.as_str())?;
         rest = others;
@@ -68,7 +68,9 @@ pub(crate) fn fill_line<T: EqualCopy + Drop>(
     ensures { OnOk result (line_items T.seen line.new
         ≡ padded width (if pads then Some (T.seen tag.now) else None) (line_items T.seen line.old)) }
 {
-    if pads { pad(line, width, tag) } else { Ok(()) }
+    if pads {
+        pad(line, width, tag)
+    } else { Ok(()) }
 }
 
 /// The line as it stands in the block, a border filled where lines are.
@@ -110,4 +112,11 @@ pub(crate) fn finished_lines<T: EqualCopy + Drop>(
         done.push(finished(measure, laid.line)?)?;
     }
     Ok(done)
+}
+
+/// Whether the text has characters.
+pub(crate) fn holds_text(text: &str) -> bool
+    ensures { result ≡ is_filled (chars text.now) }
+{
+    !text.is_empty()
 }

@@ -1,0 +1,13 @@
+use Rattle.std.proofs.Common.{◌≡◌, ◌++◌, map}
+use Rattle.std.specs.Vec.Iter.{into_iter_items}
+use Rattle.text_borders.specs.Lines.{render_line_of}
+use Rattle.text_cells.specs.Cells.{laid_line_of}
+use Rattle.block_layout.specs.Laid.{finished}
+use Rattle.block_layout.proofs.texts.finished_lines.Given as goal
+
+abbrev pub invariant-loop-laid : goal.invariant-loop-laid
+invariant-loop-laid g l =
+    let seen = g.T.EqualCopy.seen in
+    map (render_line_of seen) l.done.items
+    ++ map (λ x. finished l.measure x.line) (map (laid_line_of seen) (into_iter_items l.laid-iterator))
+    ≡ map (λ x. finished l.measure x.line) (map (laid_line_of seen) l.fn.lines.items)

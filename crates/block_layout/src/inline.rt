@@ -1,0 +1,195 @@
+//! The text that runs.
+ghost use Rattle.std.specs.Prelude.{◌≡◌, ◌⊎◌, ◌&&◌, not, None, Some, chars, IfErr, OnOk, IfOk};
+ghost use Rattle.std.specs.List.{list_all};
+ghost use Rattle.std.specs.Char.{is_whitespace};
+ghost use Rattle.text_pieces.specs.Sources.{is_filled};
+ghost use Rattle.text_pieces.specs.Modes.{is_preserved, is_same_mode};
+ghost use Rattle.text_pieces.specs.declared.fault.BlockError.TheVariants as errors;
+
+use crate::block::BlockLayout;
+use crate::measure::Measure;
+use crate::running::Running;
+use crate::texts::holds_text;
+use std::alloc::AllocError;
+use tagged_lines::EqualCopy;
+use text_pieces::{BlockError, WhiteSpace};
+
+impl<T: EqualCopy + Drop> BlockLayout<T> {
+    ghost use Rattle.block_layout.specs.Seen.{laid_of, running_of};
+    ghost use Rattle.block_layout.specs.Laid.{flush, add_text, enter_mode, run_on, runs_otherwise, running_or_new, without_running};
+    ghost use Rattle.block_layout.specs.Laid.{is_ignored, start_awaited, mark, break_line, break_of, broken_line};
+
+    /// Adds text behind what runs; a text of another mode of white space ends that first. Where it begins to run here, its
+    /// lines are filled with spaces of the tag. Refused as `flush`.
+    pub fn add_text(
+        &mut self,
+        measure: Measure,
+        tag: &T,
+        mode: WhiteSpace,
+        text: &str,
+        main_tag: &T,
+        wrap_tag: &T,
+    ) -> Result<(), BlockError>
+        ensures kinds { IfErr result (λ e. (e ≡ errors.TooNarrow) ⊎ (e ≡ errors.Memory)) }
+        ensures added { OnOk result (add_text measure (T.seen tag.now) mode (chars text.now) (T.seen main_tag.now)
+            (T.seen wrap_tag.now) (laid_of T.seen self.old) ≡ Some (laid_of T.seen self.new)) }
+        ensures narrow { result ≡ Err errors.TooNarrow → add_text measure (T.seen tag.now) mode (chars text.now)
+            (T.seen main_tag.now) (T.seen wrap_tag.now) (laid_of T.seen self.old) ≡ None }
+    {
+        self.enter_mode(measure, tag, mode, text)?;
+        self.run_on(measure, tag, mode, text, main_tag, wrap_tag)
+    }
+
+    fn enter_mode(
+        &mut self,
+        measure: Measure,
+        tag: &T,
+        mode: WhiteSpace,
+        text: &str,
+    ) -> Result<(), BlockError>
+        ensures kinds { IfErr result (λ e. (e ≡ errors.TooNarrow) ⊎ (e ≡ errors.Memory)) }
+        ensures entered { OnOk result (enter_mode measure (T.seen tag.now) mode (chars text.now)
+            (laid_of T.seen self.old) ≡ Some (laid_of T.seen self.new)) }
+        ensures narrow { result ≡ Err errors.TooNarrow → enter_mode measure (T.seen tag.now) mode (chars text.now)
+            (laid_of T.seen self.old) ≡ None }
+    {
+        if holds_text(text) && self.runs_otherwise(mode) {
+            return self.flush(measure, tag);
+        }
+        Ok(())
+    }
+
+    fn runs_otherwise(&self, mode: WhiteSpace) -> bool
+        ensures { result ≡ runs_otherwise mode (laid_of T.seen self.now).running }
+    {
+        match &self.running {
+            Some(running) => is_other_mode(mode, running.mode()),
+            None => false,
+        }
+    }
+
+    fn run_on(
+        &mut self,
+        measure: Measure,
+        tag: &T,
+        mode: WhiteSpace,
+        text: &str,
+        main_tag: &T,
+        wrap_tag: &T,
+    ) -> Result<(), BlockError>
+        ensures kinds { IfErr result (λ e. (e ≡ errors.TooNarrow) ⊎ (e ≡ errors.Memory)) }
+        ensures added { OnOk result (run_on measure (T.seen tag.now) mode (chars text.now) (T.seen main_tag.now)
+            (T.seen wrap_tag.now) (laid_of T.seen self.old) ≡ Some (laid_of T.seen self.new)) }
+        ensures narrow { result ≡ Err errors.TooNarrow → run_on measure (T.seen tag.now) mode (chars text.now)
+            (T.seen main_tag.now) (T.seen wrap_tag.now) (laid_of T.seen self.old) ≡ None }
+    {
+        let running = self.take_running(measure, tag, mode)?;
+        let running = running.with_text(mode, text, main_tag, wrap_tag)?;
+        self.running = Some(running);
+        Ok(())
+    }
+
+    /// The text that runs, or an empty one.
+    fn take_running(
+        &mut self,
+        measure: Measure,
+        tag: &T,
+        mode: WhiteSpace,
+    ) -> Result<Running<T>, AllocError>
+        ensures running { IfOk result (λ r. running_of T.seen r
+            ≡ running_or_new measure (T.seen tag.now) mode (laid_of T.seen self.old).running) }
+        ensures without { OnOk result (laid_of T.seen self.new ≡ without_running (laid_of T.seen self.old)) }
+    {
+        match self.running.take() {
+            Some(running) => Ok(running),
+            None => Running::new(*self.markers.allocator(), measure, mode, tag),
+        }
+    }
+
+    /// Whether the text is none: behind a block normal text of white space alone is ignored, until a block starts or an
+    /// empty line is added.
+    pub fn is_ignored(&self, mode: WhiteSpace, text: &str) -> bool
+        ensures { result ≡ is_ignored mode (chars text.now) (laid_of T.seen self.now) }
+    {
+        self.awaits && is_blank(mode, text)
+    }
+
+    /// Starts a block where the next text is to. Refused as `flush`.
+    pub fn start_awaited(&mut self, measure: Measure, tag: &T) -> Result<(), BlockError>
+        ensures kinds { IfErr result (λ e. (e ≡ errors.TooNarrow) ⊎ (e ≡ errors.Memory)) }
+        ensures started { OnOk result (start_awaited measure (T.seen tag.now) (laid_of T.seen self.old)
+            ≡ Some (laid_of T.seen self.new)) }
+        ensures narrow { result ≡ Err errors.TooNarrow
+            → start_awaited measure (T.seen tag.now) (laid_of T.seen self.old) ≡ None }
+    {
+        if self.awaits {
+            return self.start_block(measure, tag);
+        }
+        Ok(())
+    }
+
+    /// Adds a marker, the start of the fragment of that name, to the text that runs, or to one that begins to. Refused as
+    /// `Memory`.
+    pub fn record_frag_start(
+        &mut self,
+        measure: Measure,
+        tag: &T,
+        mode: WhiteSpace,
+        name: &str,
+    ) -> Result<(), BlockError>
+        ensures kinds { IfErr result (λ e. e ≡ errors.Memory) }
+        ensures marked { OnOk result (laid_of T.seen self.new
+            ≡ mark measure (T.seen tag.now) mode (chars name.now) (laid_of T.seen self.old)) }
+    {
+        let running = self.take_running(measure, tag, mode)?;
+        let running = running.with_marker(name)?;
+        self.running = Some(running);
+        Ok(())
+    }
+
+    /// A line break: ends a line of text that has columns, else adds an empty line. Refused as `flush`.
+    pub fn break_line(&mut self, measure: Measure, tag: &T) -> Result<(), BlockError>
+        ensures kinds { IfErr result (λ e. (e ≡ errors.TooNarrow) ⊎ (e ≡ errors.Memory)) }
+        ensures broken { OnOk result (break_line measure (T.seen tag.now) (laid_of T.seen self.old)
+            ≡ Some (laid_of T.seen self.new)) }
+        ensures narrow { result ≡ Err errors.TooNarrow
+            → break_line measure (T.seen tag.now) (laid_of T.seen self.old) ≡ None }
+    {
+        match self.running.take() {
+            Some(running) => self.break_text(measure, tag, running),
+            None => self.add_empty_line(measure, tag),
+        }
+    }
+
+    fn break_text(
+        &mut self,
+        measure: Measure,
+        tag: &T,
+        running: Running<T>,
+    ) -> Result<(), BlockError>
+        ensures kinds { IfErr result (λ e. (e ≡ errors.TooNarrow) ⊎ (e ≡ errors.Memory)) }
+        ensures broken { OnOk result (break_of measure (T.seen tag.now) (Some (running_of T.seen running))
+            (laid_of T.seen self.old) ≡ Some (laid_of T.seen self.new)) }
+        ensures narrow { result ≡ Err errors.TooNarrow → break_of measure (T.seen tag.now)
+            (Some (running_of T.seen running)) (laid_of T.seen self.old) ≡ None }
+    {
+        let (ends, running) = running.broken()?;
+        self.running = Some(running);
+        if ends {
+            return self.flush(measure, tag);
+        }
+        self.add_empty_line(measure, tag)
+    }
+}
+
+fn is_other_mode(mode: WhiteSpace, other: WhiteSpace) -> bool
+    ensures { result ≡ not (is_same_mode mode other) }
+{
+    mode != other
+}
+
+fn is_blank(mode: WhiteSpace, text: &str) -> bool
+    ensures { result ≡ (not (is_preserved mode) && list_all is_whitespace (chars text.now)) }
+{
+    !mode.preserve_whitespace() && text.chars().all(|c| c.is_whitespace())
+}

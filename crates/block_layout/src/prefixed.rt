@@ -1,0 +1,126 @@
+//! Lines of other blocks.
+ghost use Rattle.std.specs.Prelude.{◌≡◌, ◌⊎◌, ◌++◌, ◌||◌, None, Some, chars, map, IfErr, OnOk, IfOk};
+ghost use Rattle.tagged_lines.specs.Tagged.{line_items, tagged};
+ghost use Rattle.text_borders.specs.Across.{as_text};
+ghost use Rattle.text_cells.specs.Cells.{laid_line_of};
+ghost use Rattle.text_pieces.specs.Sources.{is_filled};
+ghost use Rattle.text_pieces.specs.declared.fault.BlockError.TheVariants as errors;
+
+use crate::block::BlockLayout;
+use crate::measure::Measure;
+use crate::texts::{finished, holds_text};
+use std::alloc::{AllocError, Global};
+use tagged_lines::{EqualCopy, TaggedLine};
+use text_borders::BorderHoriz;
+use text_cells::LaidLine;
+use text_pieces::BlockError;
+
+impl<T: EqualCopy + Drop> BlockLayout<T> {
+    ghost use Rattle.block_layout.specs.Seen.{laid_of};
+    ghost use Rattle.block_layout.specs.Laid.{flush, add_border, add_horizontal_border, add_block, add_prefixed};
+    ghost use Rattle.block_layout.specs.LaidRows.{add_slashes};
+    ghost use Rattle.text_borders.specs.Borders.{plain, horizontal};
+
+    /// Adds a border of so many columns behind the text that runs. Refused as `flush`.
+    pub fn add_horizontal_border(
+        &mut self,
+        measure: Measure,
+        tag: &T,
+        width: usize,
+    ) -> Result<(), BlockError>
+        ensures kinds { IfErr result (λ e. (e ≡ errors.TooNarrow) ⊎ (e ≡ errors.Memory)) }
+        ensures added { OnOk result (add_horizontal_border measure (T.seen tag.now) width (laid_of T.seen self.old)
+            ≡ Some (laid_of T.seen self.new)) }
+        ensures narrow { result ≡ Err errors.TooNarrow
+            → add_horizontal_border measure (T.seen tag.now) width (laid_of T.seen self.old) ≡ None }
+    {
+        self.flush(measure, tag)?;
+        self.put_border(tag, width)?;
+        Ok(())
+    }
+
+    /// Adds a border of so many slashes. The error is want of memory alone.
+    pub fn add_slashes(&mut self, tag: &T, width: usize) -> Result<(), AllocError>
+        ensures { OnOk result (laid_of T.seen self.new
+            ≡ add_slashes width (T.seen tag.now) (laid_of T.seen self.old)) }
+    {
+        let alloc = *self.markers.allocator();
+        let border = BorderHoriz::new_slashes(alloc, width, tag.copy(alloc)?)?;
+        self.add_border(border)
+    }
+
+    /// Adds a border of so many columns where no text runs. The error is want of memory alone.
+    pub fn put_border(&mut self, tag: &T, width: usize) -> Result<(), AllocError>
+        ensures { OnOk result (laid_of T.seen self.new
+            ≡ add_border (plain horizontal width (T.seen tag.now)) (laid_of T.seen self.old)) }
+    {
+        let alloc = *self.markers.allocator();
+        let border = BorderHoriz::new(alloc, width, tag.copy(alloc)?)?;
+        self.add_border(border)
+    }
+
+    /// Adds the lines of another block, which has the first measure, behind prefixes: the first line's and the others'.
+    /// A border among them becomes text. The error is want of memory alone.
+    pub fn add_block(
+        &mut self,
+        other: Measure,
+        measure: Measure,
+        tag: &T,
+        first: &str,
+        following: &str,
+        lines: Vec<LaidLine<T>>,
+    ) -> Result<(), AllocError>
+        ensures { OnOk result (laid_of T.seen self.new ≡ add_block other measure (T.seen tag.now) (chars first.now)
+            (chars following.now) (map (laid_line_of T.seen) lines.items) (laid_of T.seen self.old)) }
+    {
+        let mut lines = lines.into_iter();
+        if let Some(line) = lines.next() {
+            self.add_prefixed(other, measure, tag, first, line)?;
+        }
+        for line in lines {
+            self.add_prefixed(other, measure, tag, following, line)?;
+        }
+        Ok(())
+    }
+
+    fn add_prefixed(
+        &mut self,
+        other: Measure,
+        measure: Measure,
+        tag: &T,
+        prefix: &str,
+        line: LaidLine<T>,
+    ) -> Result<(), AllocError>
+        ensures { OnOk result (laid_of T.seen self.new ≡ add_prefixed other measure (T.seen tag.now) (chars prefix.now)
+            (laid_of T.seen self.old) (laid_line_of T.seen line)) }
+    {
+        let content = has_content_behind(prefix, line.content);
+        let alloc = *self.markers.allocator();
+        let text = finished(other, line.line)?.into_text(alloc, tag)?;
+        let prefixed = behind_prefix(alloc, prefix, tag, &text)?;
+        self.add_line(measure, tag, content, prefixed)
+    }
+}
+
+/// The line behind a prefix with the tag.
+fn behind_prefix<T: EqualCopy + Drop>(
+    alloc: Global,
+    prefix: &str,
+    tag: &T,
+    line: &TaggedLine<T>,
+) -> Result<TaggedLine<T>, AllocError>
+    ensures { IfOk result (λ prefixed. line_items T.seen prefixed
+        ≡ tagged (chars prefix.now) (T.seen tag.now) ++ line_items T.seen line.now) }
+{
+    let mut prefixed = TaggedLine::new(alloc);
+    prefixed.push_str(prefix, tag)?;
+    prefixed.push_line(line)?;
+    Ok(prefixed)
+}
+
+/// Whether a line behind a prefix has content.
+fn has_content_behind(prefix: &str, content: bool) -> bool
+    ensures { result ≡ (content || is_filled (chars prefix.now)) }
+{
+    content || holds_text(prefix)
+}

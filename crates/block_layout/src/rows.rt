@@ -1,0 +1,130 @@
+//! Rows of cells in a block.
+ghost use Rattle.std.specs.Prelude.{◌≡◌, ◌⊎◌, None, Some, map, IfErr, IfOk, OnOk};
+ghost use Rattle.std.specs.Option.{option_map};
+ghost use Rattle.text_borders.specs.Borders.{border_of};
+ghost use Rattle.text_cells.specs.Cells.{cell_of, row_of, row_line_of};
+ghost use Rattle.text_pieces.specs.declared.fault.BlockError.TheVariants as errors;
+
+use crate::block::BlockLayout;
+use crate::measure::Measure;
+use std::alloc::AllocError;
+use std::mem;
+use tagged_lines::EqualCopy;
+use text_borders::{BorderHoriz, RenderLine};
+use text_cells::{LaidLine, LineSet, Row, RowLine, lay_across};
+use text_pieces::BlockError;
+
+impl<T: EqualCopy + Drop> BlockLayout<T> {
+    ghost use Rattle.block_layout.specs.Seen.{laid_of};
+    ghost use Rattle.block_layout.specs.Laid.{add_border};
+    ghost use Rattle.block_layout.specs.LaidRows.{last_border, without_last_border, with_border, add_row_line, add_row_lines, with_row, row_laid, add_row};
+
+    /// Adds cells beside one another: below the last line, where that is a border, and with a border below them where
+    /// borders are drawn. `collapse` takes the borders that are a cell's first and last line into those. Refused as `flush`.
+    pub fn add_row(
+        &mut self,
+        measure: Measure,
+        tag: &T,
+        draws: bool,
+        collapse: bool,
+        cells: Vec<LineSet<T>>,
+    ) -> Result<(), BlockError>
+        ensures kinds { IfErr result (λ e. (e ≡ errors.TooNarrow) ⊎ (e ≡ errors.Memory)) }
+        ensures added { OnOk result (add_row measure (T.seen tag.now) draws collapse (map (cell_of T.seen) cells.items)
+            (laid_of T.seen self.old) ≡ Some (laid_of T.seen self.new)) }
+        ensures narrow { result ≡ Err errors.TooNarrow → add_row measure (T.seen tag.now) draws collapse
+            (map (cell_of T.seen) cells.items) (laid_of T.seen self.old) ≡ None }
+    {
+        self.flush(measure, tag)?;
+        self.lay_row(measure, tag, draws, collapse, cells)?;
+        Ok(())
+    }
+
+    fn lay_row(
+        &mut self,
+        measure: Measure,
+        tag: &T,
+        draws: bool,
+        collapse: bool,
+        cells: Vec<LineSet<T>>,
+    ) -> Result<(), AllocError>
+        ensures { OnOk result (laid_of T.seen self.new ≡ row_laid measure (T.seen tag.now) draws collapse
+            (map (cell_of T.seen) cells.items) (laid_of T.seen self.old)) }
+    {
+        let alloc = *self.markers.allocator();
+        let above = self.take_border()?;
+        let hanging = mem::replace(&mut self.hanging, Vec::new(alloc));
+        let row = lay_across(alloc, draws, collapse, tag, above, cells, hanging)?;
+        self.put_row(measure, tag, draws, row)
+    }
+
+    /// Takes the last line off, where it is a border.
+    fn take_border(&mut self) -> Result<Option<BorderHoriz<T>>, AllocError>
+        ensures above { IfOk result (λ above. option_map (border_of T.seen) above
+            ≡ last_border (laid_of T.seen self.old).lines) }
+        ensures without { OnOk result (laid_of T.seen self.new
+            ≡ without_last_border (last_border (laid_of T.seen self.old).lines) (laid_of T.seen self.old)) }
+    {
+        match self.lines.pop() {
+            None => Ok(None),
+            Some(LaidLine {
+                line: RenderLine::Line(border),
+                ..
+            }) => Ok(Some(border)),
+            Some(line) => {
+                self.lines.push(line)?;
+                Ok(None)
+            }
+        }
+    }
+
+    fn put_row(
+        &mut self,
+        measure: Measure,
+        tag: &T,
+        draws: bool,
+        row: Row<T>,
+    ) -> Result<(), AllocError>
+        ensures { OnOk result (laid_of T.seen self.new
+            ≡ with_row measure (T.seen tag.now) draws (row_of T.seen row) (laid_of T.seen self.old)) }
+    {
+        let Row {
+            above,
+            lines,
+            below,
+            hanging,
+        } = row;
+        self.put_above(above)?;
+        self.add_row_lines(measure, tag, lines)?;
+        if draws {
+            self.add_border(below)?;
+        }
+        self.hanging = hanging;
+        Ok(())
+    }
+
+    fn put_above(&mut self, above: Option<BorderHoriz<T>>) -> Result<(), AllocError>
+        ensures { OnOk result (laid_of T.seen self.new
+            ≡ with_border (option_map (border_of T.seen) above) (laid_of T.seen self.old)) }
+    {
+        match above {
+            Some(border) => self.add_border(border),
+            None => Ok(()),
+        }
+    }
+
+    fn add_row_lines(
+        &mut self,
+        measure: Measure,
+        tag: &T,
+        lines: Vec<RowLine<T>>,
+    ) -> Result<(), AllocError>
+        ensures { OnOk result (laid_of T.seen self.new ≡ add_row_lines measure (T.seen tag.now)
+            (map (row_line_of T.seen) lines.items) (laid_of T.seen self.old)) }
+    {
+        for RowLine { line, content } in lines {
+            self.add_line(measure, tag, content, line)?;
+        }
+        Ok(())
+    }
+}

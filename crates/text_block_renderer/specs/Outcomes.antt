@@ -1,0 +1,12 @@
+-- How a call of a renderer that may be refused ends.
+use Rattle.std.specs.Prelude.{◌≡◌, ◌⊎◌, Bool, true, false, is_err, Result, Err, IfErr, OnOk}
+use Rattle.text_pieces.specs.declared.fault.BlockError.{BlockError}
+use Rattle.text_pieces.specs.declared.fault.BlockError.TheVariants.{TooNarrow, Memory, Failed}
+
+-- Behind a refusal every call is refused as `Failed`; before it a call is done, or too narrow, or memory is wanting.
+pub record IsOutcome (result : Result Unit BlockError) (before behind : Bool) (Done Never : Type 0) : Type 0 where
+  pub refused : is_err result ≡ behind
+  pub failed : before ≡ true → result ≡ Err Failed
+  pub kinds : before ≡ false → IfErr result (λ e. (e ≡ TooNarrow) ⊎ (e ≡ Memory))
+  pub done : OnOk result Done
+  pub narrow : result ≡ Err TooNarrow → Never
