@@ -1,6 +1,6 @@
 -- A link's text between its marks.
 use Rattle.std.specs.Prelude.{ℕ, List, ◌++◌}
-use Rattle.text_decorators.specs.Marks.{Mark, link_start, link_end}
+use Rattle.text_marks.specs.Marks.{Mark, link_start, link_end}
 
 -- what is held behind a link to a target
 abbrev pub behind_link : {H : Type 0} → (H → Mark → H) → H → List ℕ → H

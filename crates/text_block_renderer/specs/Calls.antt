@@ -1,6 +1,6 @@
 -- The calls of a renderer, and what each makes of one.
 use Rattle.std.specs.Prelude.{◌≡◌, ℕ, ◌+◌, ◌-◌, Bool, List, [], ◌∷◌, ◌++◌, Option, None, Some, map}
-use Rattle.text_decorators.specs.Marks.{Mark, link_end, strikeout_start}
+use Rattle.text_marks.specs.Marks.{Mark, link_end, strikeout_start}
 use Rattle.text_pieces.specs.declared.white_space.WhiteSpace.{WhiteSpace}
 use Rattle.block_layout.specs.Laid.{add_empty_line, start_block, start_table, end_block, break_line, mark, add_horizontal_border}
 use Rattle.block_layout.specs.LaidRows.{before_last}

@@ -3,7 +3,7 @@
 use Rattle.std.specs.Prelude.{ℕ, zero, suc, ◌+◌, ◌-◌, ◌==◌, nat_lt, min, Bool, true, false, List, [], ◌∷◌, ◌++◌, Option, None, Some, map, fold, flat_map, replicate, unwrap_or, chars, if◌then◌else◌}
 use Rattle.std.specs.Option.{option_map, option_and_then}
 use Rattle.tagged_lines.specs.Columns.{width_of}
-use Rattle.text_decorators.specs.Marks.{Mark, link_start, link_end, strikeout_start, strikeout_end, preformat_first, preformat_further, image, colour_start, colour_end, background_start, background_end}
+use Rattle.text_marks.specs.Marks.{Mark, link_start, link_end, strikeout_start, strikeout_end, preformat_first, preformat_further, image, colour_start, colour_end, background_start, background_end}
 use Rattle.text_pieces.specs.declared.white_space.WhiteSpace.{WhiteSpace}
 use Rattle.text_pieces.specs.declared.white_space.WhiteSpace.TheVariants.{Normal}
 use Rattle.text_borders.specs.Borders.{plain, horizontal}

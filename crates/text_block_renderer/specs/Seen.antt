@@ -1,6 +1,6 @@
 -- What contracts see of a renderer over a decorator.
 use Rattle.std.specs.Prelude.{◌≡◌, ℕ, Bool, List, Option, None, Some, map}
-use Rattle.text_decorators.specs.Marks.{Mark}
+use Rattle.text_marks.specs.Marks.{Mark}
 use Rattle.block_layout.specs.Seen.{laid_of}
 use Rattle.text_block_renderer.specs.Renderers.{Marking, Sub}
 use Rattle.text_block_renderer.specs.declared.sub_renderer.SubRenderer.{SubRenderer}

@@ -1,7 +1,5 @@
-pub mod Marks
 pub mod Texts
 pub mod Steady
 pub mod Annotations
 pub mod AnnotationCopies
-pub mod Colours
 pub mod Laws

@@ -3,7 +3,7 @@ use Rattle.std.specs.Prelude.{◌≡◌, ℕ, suc, Bool, true, false, List, [], 
 use Rattle.std.specs.Fmt.{decimal, signed_decimal}
 use Rattle.tagged_lines.specs.Tagged.{tagged, line_items}
 use Rattle.tagged_lines.specs.declared.tagged_line.TaggedLine.{TaggedLine}
-use Rattle.text_decorators.specs.Marks.{Mark, link_start, link_end, emphasis_start, strong_start, strikeout_start, code_start, superscript_start, superscript_end, image, preformat_first, preformat_further, header, quote, unordered_item, ordered_item, colour_start, background_start}
+use Rattle.text_marks.specs.Marks.{Mark, link_start, link_end, emphasis_start, strong_start, strikeout_start, code_start, superscript_start, superscript_end, image, preformat_first, preformat_further, header, quote, unordered_item, ordered_item, colour_start, background_start}
 use Rattle.text_decorators.specs.declared.annotation.RichAnnotation.{RichAnnotation}
 use Rattle.text_decorators.specs.declared.annotation.RichAnnotation.TheVariants.{Default, Link, Image, Emphasis, Strong, Strikeout, Code, Preformat, Colour, BgColour}
 

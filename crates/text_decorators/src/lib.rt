@@ -2,8 +2,6 @@
 #![tactic(auto)]
 
 mod annotation;
-mod colour;
-mod decorator;
 mod default_marks;
 mod plain;
 mod prefixes;
@@ -11,8 +9,6 @@ mod rich;
 mod trivial;
 
 pub use annotation::RichAnnotation;
-pub use colour::Colour;
-pub use decorator::{SteadyPrefixes, TextDecorator};
 pub use default_marks::{footnotes, superscript_end, superscript_start};
 pub use plain::PlainDecorator;
 pub use rich::RichDecorator;
@@ -20,4 +16,5 @@ pub use tagged_lines::{
     Columns, EqualCopy, LineChars, TaggedLine, TaggedLineElement, TaggedString, TaggedStrings,
     UnicodeColumns, laws,
 };
+pub use text_marks::{Colour, SteadyPrefixes, TextDecorator};
 pub use trivial::TrivialDecorator;

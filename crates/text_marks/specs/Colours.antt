@@ -1,7 +1,7 @@
 -- How a colour is written.
 use Rattle.std.specs.Prelude.{ℕ, ◌/◌, ◌%◌, false, List, [], ◌∷◌, ◌++◌, codes}
 use Rattle.std.specs.Fmt.{digit_glyph}
-use Rattle.text_decorators.specs.declared.colour.Colour.{Colour}
+use Rattle.text_marks.specs.declared.colour.Colour.{Colour}
 
 -- the two lower hexadecimal digits of a part
 abbrev pub part_text : ℕ → List ℕ

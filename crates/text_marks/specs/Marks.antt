@@ -2,7 +2,7 @@
 use Rattle.std.specs.Prelude.{◌≡◌, ℕ, ◌≤◌, max, ℤ, FitsSigned, ◌≤ℤ◌, List}
 use Rattle.std.specs.Int.{w64}
 use Rattle.tagged_lines.specs.Columns.{text_columns}
-use Rattle.text_decorators.specs.declared.colour.Colour.{Colour}
+use Rattle.text_marks.specs.declared.colour.Colour.{Colour}
 
 -- A place in a page at which a decorator is asked for a text, for an annotation, or for both.
 pub data Mark : Type 0 where

@@ -1,8 +1,8 @@
 use Rattle.std.proofs.Common.{◌≡◌, ℕ, ◌-◌, ◌^◌, false, List, [], Option, Some, option_map, ap, ◌∙◌, arith}
 use Rattle.std.specs.Fmt.{styled_digits_output, padded_integral, format_spec}
 use Rattle.std.proofs.lemmas.Fmt.{hex_byte}
-use Rattle.text_decorators.specs.Colours.{part_text}
-use Rattle.text_decorators.proofs.colour.ColourDisplay.fmt.Goals as goal
+use Rattle.text_marks.specs.Colours.{part_text}
+use Rattle.text_marks.proofs.colour.ColourDisplay.fmt.Goals as goal
 
 abbrev shown : Option (List ℕ) → Option (List ℕ)
 shown = option_map (padded_integral (format_spec 32 0 4 2 (2 ^ 64 - 1)) false [])

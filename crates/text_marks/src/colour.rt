@@ -15,7 +15,7 @@ pub struct Colour {
 
 /// `#` and six lower hexadecimal digits, two for each part.
 impl fmt::Display for Colour {
-    ghost use Rattle.text_decorators.specs.Colours.{colour_text};
+    ghost use Rattle.text_marks.specs.Colours.{colour_text};
 
     ghost output = { λ c. Some (colour_text c) };
 

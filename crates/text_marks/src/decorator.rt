@@ -2,11 +2,11 @@
 ghost use Rattle.std.specs.Prelude.{◌≡◌, ℕ, Bool, List, map, chars, string_bytes, is_some, IfOk, IfSome, OnOk, OnErr};
 ghost use Rattle.tagged_lines.specs.Tagged.{line_items};
 ghost use Rattle.tagged_lines.specs.declared.tagged_line.TaggedLine.{TaggedLine as SeenLine};
-ghost use Rattle.text_decorators.specs.Marks.{Mark, IsSteady, link_start, link_end, emphasis_start, emphasis_end};
-ghost use Rattle.text_decorators.specs.Marks.{strong_start, strong_end, strikeout_start, strikeout_end, code_start};
-ghost use Rattle.text_decorators.specs.Marks.{code_end, superscript_start, superscript_end, image, preformat_first};
-ghost use Rattle.text_decorators.specs.Marks.{preformat_further, header, quote, unordered_item, ordered_item};
-ghost use Rattle.text_decorators.specs.Marks.{colour_start, colour_end, background_start, background_end, page_end};
+ghost use Rattle.text_marks.specs.Marks.{Mark, IsSteady, link_start, link_end, emphasis_start, emphasis_end};
+ghost use Rattle.text_marks.specs.Marks.{strong_start, strong_end, strikeout_start, strikeout_end, code_start};
+ghost use Rattle.text_marks.specs.Marks.{code_end, superscript_start, superscript_end, image, preformat_first};
+ghost use Rattle.text_marks.specs.Marks.{preformat_further, header, quote, unordered_item, ordered_item};
+ghost use Rattle.text_marks.specs.Marks.{colour_start, colour_end, background_start, background_end, page_end};
 
 use crate::colour::Colour;
 use std::alloc::{AllocError, Global};
