@@ -1,6 +1,7 @@
 -- The number of lines that have content.
 use Rattle.std.specs.Prelude.{◌≡◌, ℕ, ◌+◌, ◌-◌, nat_lt, Bool, true, false, not, ◌||◌, ◌==◌, List, [], ◌∷◌, ◌++◌, map, length, chars, IsUtf8, if◌then◌else◌, refl}
 use Rattle.std.proofs.Common.{sym, ap, ◌∙◌, arith}
+use Rattle.std.proofs.lemmas.Bool.Decides.{nat_tests}
 use Rattle.text_pieces.specs.Sources.{is_filled}
 use Rattle.normal_text.proofs.WordLemmas.{empty_text, some_text}
 use Rattle.text_cells.specs.Cells.{laid_line_of}
@@ -11,8 +12,11 @@ use Rattle.block_layout.specs.Laid.{has_content}
 none_more : (n : ℕ) → 0 + n ≡ n
 none_more n = omega arith
 
+one_more : (n : ℕ) → nat_lt 0 (1 + n) ≡ true
+one_more n = grind (arith, nat_tests)
+
 some_or : (b r : Bool) (n : ℕ) → nat_lt 0 n ≡ r → nat_lt 0 ((if b then 1 else 0) + n) ≡ (b || r)
-some_or true r n e = refl
+some_or true r n e = one_more n
 some_or false r n e = ap (λ k. nat_lt 0 k) (none_more n) ∙ e
 
 pub counted_content : {T S : Type 0} (seen : T → S) (lines : List (LaidLine T))

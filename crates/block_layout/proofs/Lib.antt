@@ -1,1 +1,2 @@
 pub mod CountLemmas
+pub mod RowLemmas

@@ -6,7 +6,7 @@ use Rattle.text_borders.specs.Borders.{Border, plain, horizontal, has_holes}
 use Rattle.text_borders.specs.Lines.{BlockLine, text, border}
 use Rattle.text_borders.specs.Across.{CellLine, Cell, Hanging, RowLine, Row, across}
 use Rattle.block_layout.specs.declared.measure.Measure.{Measure}
-use Rattle.block_layout.specs.Laid.{Laid, add_line, add_border, add_block, flush}
+use Rattle.block_layout.specs.Laid.{Laid, add_line, add_border, without_hanging, flush}
 
 -- the last line, where it is a border
 abbrev pub border_line : {S : Type 0} → BlockLine S → Option (Border S)
@@ -46,7 +46,8 @@ with_row m tag draws row b =
 abbrev pub row_laid : {S : Type 0} → Measure → S → Bool → Bool → List (Cell S) → Laid S → Laid S
 row_laid m tag draws collapse cells b =
     let above = last_border b.lines in
-    with_row m tag draws (across draws collapse tag above cells b.hanging) (without_last_border above b)
+    with_row m tag draws (across draws collapse tag above cells b.hanging)
+        (without_hanging (without_last_border above b))
 
 abbrev pub add_row : {S : Type 0} → Measure → S → Bool → Bool → List (Cell S) → Laid S → Option (Laid S)
 add_row m tag draws collapse cells b = option_map (row_laid m tag draws collapse cells) (flush m tag b)

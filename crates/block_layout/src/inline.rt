@@ -191,5 +191,12 @@ fn is_other_mode(mode: WhiteSpace, other: WhiteSpace) -> bool
 fn is_blank(mode: WhiteSpace, text: &str) -> bool
     ensures { result ≡ (not (is_preserved mode) && list_all is_whitespace (chars text.now)) }
 {
-    !mode.preserve_whitespace() && text.chars().all(|c| c.is_whitespace())
+    !mode.preserve_whitespace() && is_white_space(text)
+}
+
+/// Whether the text is all white space.
+fn is_white_space(text: &str) -> bool
+    ensures { result ≡ list_all is_whitespace (chars text.now) }
+{
+    text.chars().all(|c| c.is_whitespace())
 }

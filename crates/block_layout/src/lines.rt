@@ -13,7 +13,7 @@ pub(crate) struct LaidLines<T> {
     ghost counted: { filled ≡ content_count lines.items },
 }
 
-ghost use Rattle.std.specs.Prelude.{◌≡◌, ◌∷◌, []};
+ghost use Rattle.std.specs.Prelude.{◌≡◌, ◌+◌, ◌∷◌, [], IfOk};
 ghost use Rattle.block_layout.specs.Counts.{content_count};
 
 impl<T: EqualCopy + Drop> LaidLines<T> {
@@ -47,7 +47,7 @@ impl<T: EqualCopy + Drop> LaidLines<T> {
     pub(crate) fn push(&mut self, line: LaidLine<T>) -> Result<(), AllocError>
         ensures { OnOk result (lines_of T.seen self.new ≡ lines_of T.seen self.old ++ laid_line_of T.seen line ∷ []) }
     {
-        let filled = self.filled.checked_add(weight(&line)).ok_or(AllocError)?;
+        let filled = sum(self.filled, weight(&line))?;
         self.lines.push(line)?;
         self.filled = filled;
         Ok(())
@@ -71,6 +71,13 @@ impl<T: EqualCopy + Drop> LaidLines<T> {
         let LaidLines { lines, .. } = self;
         lines
     }
+}
+
+/// No memory holds more lines than a `usize` counts.
+fn sum(count: usize, more: usize) -> Result<usize, AllocError>
+    ensures { IfOk result (λ n. n ≡ count + more) }
+{
+    count.checked_add(more).ok_or(AllocError)
 }
 
 fn weight<T>(line: &LaidLine<T>) -> usize

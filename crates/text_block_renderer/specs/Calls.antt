@@ -1,10 +1,9 @@
 -- The calls of a renderer, and what each makes of one.
-use Rattle.std.specs.Prelude.{◌≡◌, ℕ, ◌+◌, ◌-◌, Bool, List, [], ◌∷◌, ◌++◌, Option, None, Some, map}
+use Rattle.std.specs.Prelude.{ℕ, ◌-◌, Bool, List, [], ◌∷◌, ◌++◌, Option, None, Some, map}
 use Rattle.text_marks.specs.Marks.{Mark, link_end, strikeout_start}
 use Rattle.text_pieces.specs.declared.white_space.WhiteSpace.{WhiteSpace}
-use Rattle.block_layout.specs.Laid.{add_empty_line, start_block, start_table, end_block, break_line, mark, add_horizontal_border}
 use Rattle.block_layout.specs.LaidRows.{before_last}
-use Rattle.text_block_renderer.specs.Renderers.{Marking, Sub, measure_of, mode_of, with_laid, on_laid, flush_sub, add_inline, begin, finish, begin_link, finish_link, begin_strikeout, finish_strikeout, add_image, begin_colour, finish_colour, add_sub, add_cells, add_rows_below}
+use Rattle.text_block_renderer.specs.Renderers.{Marking, Sub, with_empty_line, with_block_started, with_table_started, with_block_ended, with_line_broken, with_border_of, with_fragment, with_preformat, with_mode, flush_sub, add_inline, begin, finish, begin_link, finish_link, begin_strikeout, finish_strikeout, add_image, begin_colour, finish_colour, add_sub, add_cells, add_rows_below}
 
 -- A call of a renderer; others that it takes are of type R.
 pub data Call (R : Type 0) : Type 0 where
@@ -71,17 +70,17 @@ call_of f (adds_cells cells collapse) = adds_cells (map (λ c. (f c.0, c.1)) cel
 call_of f (adds_rows_below cells) = adds_rows_below (map f cells)
 
 abbrev pub step : {H A : Type 0} → Marking H A → Call (Sub H A) → Sub H A → Option (Sub H A)
-step m adds_empty_line s = on_laid s (add_empty_line (measure_of s) s.annotations s.laid)
-step m starts_block s = on_laid s (start_block (measure_of s) s.annotations s.laid)
-step m starts_table s = on_laid s (start_table (measure_of s) s.annotations s.laid)
-step m ends_block s = Some (with_laid s (end_block s.laid))
+step m adds_empty_line s = with_empty_line s
+step m starts_block s = with_block_started s
+step m starts_table s = with_table_started s
+step m ends_block s = Some (with_block_ended s)
 step m ends_line s = flush_sub s
-step m breaks_line s = on_laid s (break_line (measure_of s) s.annotations s.laid)
-step m adds_border s = on_laid s (add_horizontal_border (measure_of s) s.annotations s.width s.laid)
-step m (adds_border_of width) s = on_laid s (add_horizontal_border (measure_of s) s.annotations width s.laid)
-step m starts_preformat s = Some (record s { preformats = s.preformats + 1 })
+step m breaks_line s = with_line_broken s
+step m adds_border s = with_border_of s.width s
+step m (adds_border_of width) s = with_border_of width s
+step m starts_preformat s = with_preformat s
 step m ends_preformat s = Some (record s { preformats = s.preformats - 1 })
-step m (starts_mode mode) s = Some (record s { modes = s.modes ++ mode ∷ [] })
+step m (starts_mode mode) s = with_mode mode s
 step m ends_mode s = Some (record s { modes = before_last s.modes })
 step m (adds_text cs) s = add_inline m cs s
 step m (starts_link kind) s = begin_link m kind s
@@ -91,7 +90,7 @@ step m ends_strikeout s = finish_strikeout m s
 step m (starts_mark kind) s = begin m kind s
 step m (ends_mark kind) s = finish m kind s
 step m (adds_image source title) s = add_image m source title s
-step m (starts_fragment name) s = Some (with_laid s (mark (measure_of s) s.annotations (mode_of s) name s.laid))
+step m (starts_fragment name) s = with_fragment name s
 step m (starts_colour kind) s = Some (begin_colour m kind s)
 step m (ends_colour kind) s = Some (finish_colour m kind s)
 step m (adds_block other first following) s = add_sub other first following s

@@ -1,15 +1,16 @@
 -- A renderer of a block: what it holds, and what each call makes of it. Where a call comes to no renderer, a character is
 -- wider than the lines at which its text wraps.
-use Rattle.std.specs.Prelude.{ℕ, zero, suc, ◌+◌, ◌-◌, ◌==◌, nat_lt, min, Bool, true, false, List, [], ◌∷◌, ◌++◌, Option, None, Some, map, fold, flat_map, replicate, unwrap_or, chars, if◌then◌else◌}
+use Rattle.std.specs.Prelude.{ℕ, zero, suc, ◌+◌, ◌-◌, ◌==◌, nat_lt, nat_le, min, max, Bool, true, false, List, [], ◌∷◌, ◌++◌, Option, None, Some, map, fold, flat_map, replicate, unwrap_or, chars, if◌then◌else◌}
 use Rattle.std.specs.Option.{option_map, option_and_then}
 use Rattle.tagged_lines.specs.Columns.{width_of}
 use Rattle.text_marks.specs.Marks.{Mark, link_start, link_end, strikeout_start, strikeout_end, preformat_first, preformat_further, image, colour_start, colour_end, background_start, background_end}
 use Rattle.text_pieces.specs.declared.white_space.WhiteSpace.{WhiteSpace}
 use Rattle.text_pieces.specs.declared.white_space.WhiteSpace.TheVariants.{Normal}
 use Rattle.text_borders.specs.Borders.{plain, horizontal}
+use Rattle.text_borders.specs.Lines.{BlockLine}
 use Rattle.text_borders.specs.Across.{Cell}
 use Rattle.block_layout.specs.declared.measure.Measure.{Measure}
-use Rattle.block_layout.specs.Laid.{Laid, nothing_laid, add_empty_line, start_block, start_table, end_block, flush, break_line, is_ignored, start_awaited, add_text, mark, add_border, add_horizontal_border, add_block}
+use Rattle.block_layout.specs.Laid.{Laid, nothing_laid, finished_lines, add_empty_line, start_block, start_table, end_block, flush, break_line, is_ignored, start_awaited, add_text, mark, add_border, add_horizontal_border, add_block}
 use Rattle.block_layout.specs.LaidRows.{add_row, add_slashes, before_last}
 use Rattle.text_block_renderer.specs.declared.options.RenderOptions.{RenderOptions}
 use Rattle.text_block_renderer.specs.declared.options.ImageRenderMode.{ImageRenderMode}
@@ -79,13 +80,20 @@ struck (suc n) cs = flat_map (struck_character (suc n)) cs
 abbrev pub struck_text : {H A : Type 0} → Sub H A → List ℕ → List ℕ
 struck_text s cs = if s.options.use_unicode_strikeout then struck s.strikeouts cs else cs
 
--- the annotations of text: in a preformatted part one more, which tells whether its line was wrapped
-abbrev pub text_tag : {H A : Type 0} → Marking H A → Mark → Sub H A → List A
-text_tag m kind s = if nat_lt 0 s.preformats then s.annotations ++ m.mark_tag s.held kind ∷ [] else s.annotations
+-- under the annotations that stand, and in a preformatted part under one more, which tells whether its line was wrapped
+abbrev pub preformatted_added : {H A : Type 0} → Marking H A → List ℕ → Sub H A → Laid (List A)
+    → Option (Laid (List A))
+preformatted_added m cs s b = add_text (measure_of s) s.annotations (mode_of s) cs
+    (s.annotations ++ m.mark_tag s.held preformat_first ∷ []) (s.annotations ++ m.mark_tag s.held preformat_further ∷ [])
+    b
+
+abbrev pub tagged_added : {H A : Type 0} → Marking H A → List ℕ → Sub H A → Laid (List A) → Option (Laid (List A))
+tagged_added m cs s b =
+    if nat_lt 0 s.preformats then preformatted_added m cs s b
+    else add_text (measure_of s) s.annotations (mode_of s) cs s.annotations s.annotations b
 
 abbrev pub text_added : {H A : Type 0} → Marking H A → List ℕ → Sub H A → Laid (List A) → Option (Laid (List A))
-text_added m cs s b = add_text (measure_of s) s.annotations (mode_of s) (struck_text s cs)
-    (text_tag m preformat_first s) (text_tag m preformat_further s) b
+text_added m cs s b = tagged_added m (struck_text s cs) s b
 
 abbrev pub add_inline : {H A : Type 0} → Marking H A → List ℕ → Sub H A → Option (Sub H A)
 add_inline m cs s =
@@ -178,16 +186,14 @@ add_sub other first following s = option_and_then (append_sub other first follow
 abbrev pub cell_of_sub : {H A : Type 0} → ℕ → Sub H A → Cell (List A)
 cell_of_sub rows s = record { width = s.width; rows = rows; lines = s.laid.lines }
 
-abbrev pub front_cell : {H A : Type 0} → ℕ → List (Cell (List A)) → Sub H A → List (Cell (List A))
-front_cell rows cells s = cell_of_sub rows s ∷ cells
-
-abbrev pub before_cells : {H A : Type 0} → Sub H A → ℕ → List (Cell (List A)) → Option (List (Cell (List A)))
-before_cells s rows cells = option_map (front_cell rows cells) (flush_sub s)
+abbrev pub before_cells : {H A : Type 0} → ℕ → Option (List (Cell (List A))) → Sub H A
+    → Option (List (Cell (List A)))
+before_cells rows cells s = option_map (λ cs. cell_of_sub rows s ∷ cs) cells
 
 -- the cells that renderers are, each with the rows that it takes
 abbrev pub cells_of_subs : {H A : Type 0} → List (Sub H A × ℕ) → Option (List (Cell (List A)))
 cells_of_subs [] = Some []
-cells_of_subs (c ∷ cells) = option_and_then (before_cells c.0 c.1) (cells_of_subs cells)
+cells_of_subs (c ∷ cells) = option_and_then (before_cells c.1 (cells_of_subs cells)) (flush_sub c.0)
 
 abbrev pub with_cells : {H A : Type 0} → Bool → Sub H A → List (Cell (List A)) → Option (Sub H A)
 with_cells collapse s cells =
@@ -214,3 +220,45 @@ add_first (c ∷ cells) s = option_and_then (add_below cells) (append_sub c [] [
 
 abbrev pub add_rows_below : {H A : Type 0} → List (Sub H A) → Sub H A → Option (Sub H A)
 add_rows_below cells s = option_map ruled (option_and_then (add_first cells) (flush_sub s))
+
+-- ---- lines, blocks and modes
+
+abbrev pub with_empty_line : {H A : Type 0} → Sub H A → Option (Sub H A)
+with_empty_line s = on_laid s (add_empty_line (measure_of s) s.annotations s.laid)
+
+abbrev pub with_block_started : {H A : Type 0} → Sub H A → Option (Sub H A)
+with_block_started s = on_laid s (start_block (measure_of s) s.annotations s.laid)
+
+abbrev pub with_table_started : {H A : Type 0} → Sub H A → Option (Sub H A)
+with_table_started s = on_laid s (start_table (measure_of s) s.annotations s.laid)
+
+abbrev pub with_block_ended : {H A : Type 0} → Sub H A → Sub H A
+with_block_ended s = with_laid s (end_block s.laid)
+
+abbrev pub with_line_broken : {H A : Type 0} → Sub H A → Option (Sub H A)
+with_line_broken s = on_laid s (break_line (measure_of s) s.annotations s.laid)
+
+abbrev pub with_border_of : {H A : Type 0} → ℕ → Sub H A → Option (Sub H A)
+with_border_of width s = on_laid s (add_horizontal_border (measure_of s) s.annotations width s.laid)
+
+abbrev pub with_fragment : {H A : Type 0} → List ℕ → Sub H A → Option (Sub H A)
+with_fragment name s = Some (with_laid s (mark (measure_of s) s.annotations (mode_of s) name s.laid))
+
+abbrev pub with_preformat : {H A : Type 0} → Sub H A → Option (Sub H A)
+with_preformat s = Some (record s { preformats = s.preformats + 1 })
+
+abbrev pub with_mode : {H A : Type 0} → WhiteSpace → Sub H A → Option (Sub H A)
+with_mode mode s = Some (record s { modes = s.modes ++ mode ∷ [] })
+
+-- ---- what comes of it
+
+-- the lines, filled where lines are
+abbrev pub lines_of_sub : {H A : Type 0} → Sub H A → Option (List (BlockLine (List A)))
+lines_of_sub s = finished_lines (measure_of s) s.annotations s.laid
+
+-- the columns behind a prefix: at least so many are asked for, and one
+abbrev pub room_behind : {H A : Type 0} → ℕ → ℕ → Sub H A → Option ℕ
+room_behind prefix least s =
+    let asked = max (least - prefix) 1 in
+    if nat_le asked (s.width - prefix) then Some (s.width - prefix)
+    else if s.options.allow_width_overflow then Some asked else None

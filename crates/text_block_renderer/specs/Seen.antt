@@ -5,15 +5,16 @@ use Rattle.block_layout.specs.Seen.{laid_of}
 use Rattle.text_block_renderer.specs.Renderers.{Marking, Sub}
 use Rattle.text_block_renderer.specs.declared.sub_renderer.SubRenderer.{SubRenderer}
 
-abbrev pub tags_of : {T A : Type 0} → (T → A) → List T → List A
-tags_of seen tags = map seen tags
+-- annotations that stand together are a tag
+abbrev pub tags_seen : {T A : Type 0} → (T → A) → Vec T → List A
+tags_seen seen tags = map seen tags.items
 
 abbrev pub sub_of : {D T H A : Type 0} → (T → A) → (D → H) → SubRenderer D T → Sub H A
 sub_of seen held s = record {
   width = s.width;
   options = s.options;
   held = held s.decorator;
-  laid = laid_of (λ tags. map seen tags.items) s.laid;
+  laid = laid_of (tags_seen seen) s.laid;
   modes = s.modes.items;
   preformats = s.preformats;
   annotations = map seen s.annotations.items;
@@ -42,3 +43,6 @@ abbrev pub Fails : {D T H A : Type 0} → (T → A) → (D → H) → (H → Mar
     → SubRenderer D T → Type 0
 Fails seen held text gives marks after pops f old = (tag : _) → IsTagging seen gives tag
     → f (marking text tag marks after pops) (sub_of seen held old) ≡ None
+
+abbrev pub has_failed : {D T : Type 0} → SubRenderer D T → Bool
+has_failed s = s.failed

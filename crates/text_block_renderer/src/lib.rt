@@ -1,6 +1,21 @@
 //! Text laid out in blocks, and the decorators that mark it.
 #![tactic(auto)]
 
+mod calls;
+mod images;
+mod inline;
+mod marking;
+mod options;
+mod parts;
+mod renderer;
+mod striking;
+mod sub_renderer;
+
+pub use options::{ImageRenderMode, RenderOptions};
+pub use renderer::Renderer;
+pub use sub_renderer::SubRenderer;
+pub use text_borders::{BorderHoriz, BorderSegHoriz, RenderLine};
+pub use text_cells::LineSet;
 pub use text_decorators::{
     Colour, Columns, EqualCopy, LineChars, PlainDecorator, RichAnnotation, RichDecorator,
     SteadyPrefixes, TaggedLine, TaggedLineElement, TaggedString, TaggedStrings, TextDecorator,

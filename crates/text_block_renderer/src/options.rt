@@ -40,7 +40,10 @@ pub enum ImageRenderMode {
 }
 
 impl Default for RenderOptions {
-    ghost default_gives = { λ options. options ≡ usual_options };
+    ghost use Rattle.std.specs.Prelude.{◌≡◌};
+    ghost use Rattle.text_block_renderer.specs.Defaults.{default_options};
+
+    ghost is_default = { λ options. options ≡ default_options };
 
     /// Text wraps at the block's width, borders are drawn, and the targets of links would be cut at it.
     fn default() -> RenderOptions {

@@ -1,0 +1,45 @@
+//! Struck text.
+ghost use Rattle.std.specs.Prelude.{◌≡◌, ◌++◌, replicate, chars, string_bytes, flat_map, IfOk, OnOk};
+ghost use Rattle.text_block_renderer.specs.Renderers.{struck, struck_character};
+
+use std::alloc::{AllocError, Global};
+use text_pieces::{first_char, width_of};
+
+const COMBINING_LONG_STROKE: char = '\u{336}';
+
+/// The text with U+0336 behind each character that has columns, so many times.
+pub(crate) fn struck(alloc: Global, count: usize, text: &str) -> Result<String, AllocError>
+    ensures { IfOk result (λ s. chars (string_bytes s) ≡ struck count (chars text.now)) }
+{
+    if count == 0 {
+        return String::from_str(alloc, text);
+    }
+    let mut struck = String::new(alloc);
+    let mut rest = text;
+    while let Some((c, after)) = first_char(rest) {
+        push_struck(&mut struck, count, c)?;
+        rest = after;
+    }
+    Ok(struck)
+}
+
+/// Adds a character, struck where it has columns.
+fn push_struck(struck: &mut String, count: usize, c: char) -> Result<(), AllocError>
+    ensures { OnOk result (chars (string_bytes struck.new)
+        ≡ chars (string_bytes struck.old) ++ struck_character count c) }
+{
+    struck.push(c)?;
+    if width_of(c) > 0 {
+        push_strokes(struck, count)?;
+    }
+    Ok(())
+}
+
+fn push_strokes(struck: &mut String, count: usize) -> Result<(), AllocError>
+    ensures { OnOk result (chars (string_bytes struck.new) ≡ chars (string_bytes struck.old) ++ replicate count 0x336) }
+{
+    for _stroke in 0..count {
+        struck.push(COMBINING_LONG_STROKE)?;
+    }
+    Ok(())
+}
