@@ -77,8 +77,8 @@ signs_and_end at c (d ∷ cells) =
     ∙ ap (λ n. (at + c.width) ∷ (signs (at + c.width + 1) (d ∷ cells) ++ n ∷ [])) same
 
 pub record IsRow {S : Type 0} (cells : List (OpenCell S)) (front : List ℕ) (last : ℕ) : Type 0 where
-  signs : front ≡ signs 0 cells
-  width : last ≡ row_width cells
+  pub signs : front ≡ signs 0 cells
+  pub width : last ≡ row_width cells
 
 some_end : {S : Type 0} (cells : List (OpenCell S)) (front : List ℕ) (n : ℕ) → ends 0 cells ≡ front ++ n ∷ []
     → IsRow cells front n

@@ -101,7 +101,7 @@ content_after : {S : Type 0} (i : ℕ) (cells : List (OpenCell S))
 content_after i [] = refl
 content_after i (c ∷ cells) = ap (λ b. begins_with_content (drop i c.lines) || b) (content_after i cells)
 
-pub line_after : {S : Type 0} (sign : ℕ) (tag : S) (i : ℕ) (cells now : List (OpenCell S)) (l : RowLine S)
+line_after : {S : Type 0} (sign : ℕ) (tag : S) (i : ℕ) (cells now : List (OpenCell S)) (l : RowLine S)
     → now ≡ map (after i) cells
     → l ≡ record { items = row_items sign tag 0 now; content = row_content 0 now }
     → l ≡ record { items = row_items sign tag i cells; content = row_content i cells }
@@ -140,3 +140,15 @@ one_line_more sign tag cells i (suc n) =
     ∙ ap (λ ls. (record { items = row_items sign tag i cells; content = row_content i cells }) ∷ ls)
     (one_line_more sign tag cells (i + 1) n)
     ∙ sym (ap (row_lines sign tag cells i) more)
+
+pub lines_more : {S : Type 0} (sign : ℕ) (tag : S) (cells now : List (OpenCell S)) (i : ℕ) (lines : List (RowLine S))
+    (l : RowLine S) → lines ≡ row_lines sign tag cells 0 i → now ≡ map (after i) cells
+    → l ≡ record { items = row_items sign tag 0 now; content = row_content 0 now }
+    → lines ++ l ∷ [] ≡ row_lines sign tag cells 0 (i + 1)
+lines_more sign tag cells now i lines l so_far taken is =
+    let first : i ≡ 0 + i = omega arith in
+    ap (λ ls. ls ++ l ∷ []) so_far
+    ∙ ap (λ x. row_lines sign tag cells 0 i ++ x ∷ []) (line_after sign tag i cells now l taken is)
+    ∙ ap (λ k. row_lines sign tag cells 0 i
+    ++ (record { items = row_items sign tag k cells; content = row_content k cells }) ∷ []) first
+    ∙ one_line_more sign tag cells 0 i

@@ -7,4 +7,4 @@ pub returns-then-not-hangs_at : goal.returns-then-not-hangs_at
 returns-then-not-hangs_at g c = λ cells.
     let seen = g.T.EqualCopy.seen in
     cell_first c.args.at (cell_of seen c.args.cell) cells (map (hanging_of seen) c.args.waiting.now.items)
-    ?
+    (sym c.hangs_at.ensures ∙ c.if-not-hangs_at.true)
