@@ -1,7 +1,7 @@
 -- Borders that are joined to a row, and the columns of rows.
 use Rattle.std.proofs.Common.{◌≡◌, ℕ, ◌+◌, Bool, true, false, List, [], ◌∷◌, ◌++◌, map, length, if◌then◌else◌, append_assoc, ap, ◌∙◌, refl, sym, arith}
 use Rattle.std.specs.Prelude.{Option, None, Some, fold, unwrap_or}
-use Rattle.std.specs.Option.{option_map, option_to_list}
+use Rattle.std.specs.Option.{option_to_list}
 use Rattle.std.proofs.lemmas.List.{same_from_push, append-nil}
 use Rattle.std.proofs.lemmas.List.Sums.{fold-append}
 use Rattle.text_borders.specs.Segments.{Segment}
@@ -90,11 +90,11 @@ some_end [] front n is = absurd (none_pushed front n is)
 some_end (c ∷ cells) front n is =
     let both = same_from_push (signs 0 (c ∷ cells)) front (0 + row_width (c ∷ cells)) n
     (sym (signs_and_end 0 c cells) ∙ is) in
-    record { signs = sym both.0; width = sym both.1 ∙ omega arith; }
+    record { signs = sym both.0; width = sym both.1 ∙ omega arith }
 
 no_end : {S : Type 0} (cells : List (OpenCell S)) (front : List ℕ) → length (ends 0 cells) ≡ 0 → ends 0 cells ≡ front ++ []
     → IsRow cells front 0
-no_end [] front none is = record { signs = sym (is ∙ append-nil front); width = refl; }
+no_end [] front none is = record { signs = sym (is ∙ append-nil front); width = refl }
 no_end (c ∷ cells) front none is = absurd (omega (arith, none))
 
 -- the last end is the row's width, and the others are signs

@@ -4,3 +4,4 @@ pub mod ListLemmas
 pub mod OpeningLemmas
 pub mod RowLemmas
 pub mod SeatingLemmas
+pub mod WholeRow

@@ -1,5 +1,5 @@
 -- Loops that read a list and make another.
-use Rattle.std.proofs.Common.{◌≡◌, ℕ, List, [], ◌∷◌, ◌++◌, map, length, ap, ◌∙◌, append_assoc, append-nil, refl, sym, arith}
+use Rattle.std.proofs.Common.{◌≡◌, List, [], ◌∷◌, ◌++◌, map, length, ap, ◌∙◌, append_assoc, append-nil, refl, sym, arith}
 use Rattle.std.proofs.lemmas.List.{map-append}
 
 pub nothing_left : {A : Type 0} (xs : List A) → length xs ≡ 0 → xs ≡ []

@@ -1,9 +1,9 @@
 -- Cells whose borders are taken out.
-use Rattle.std.proofs.Common.{◌≡◌, ℕ, zero, suc, ◌+◌, ◌-◌, Bool, true, false, List, [], ◌∷◌, ◌++◌, map, length, replicate, if◌then◌else◌, append_assoc, ap, ◌∙◌, refl, sym}
+use Rattle.std.proofs.Common.{◌≡◌, ℕ, zero, suc, ◌+◌, ◌-◌, Bool, true, false, List, [], ◌∷◌, ◌++◌, length, replicate, if◌then◌else◌, append_assoc, ap, ◌∙◌, refl, sym}
 use Rattle.tagged_lines.specs.Tagged.{Item}
 use Rattle.text_borders.specs.Segments.{Segment, joins_above}
 use Rattle.text_borders.specs.Borders.{Border, horizontal, stretched, columns_where, with_segments, lines_above}
-use Rattle.text_borders.specs.Lines.{BlockLine, text, border}
+use Rattle.text_borders.specs.Lines.{border}
 use Rattle.text_borders.specs.Across.{CellLine, OpenCell, close_line, close_behind, close_last}
 use Rattle.text_cells.specs.OpenCells.{with_lines}
 

@@ -1,8 +1,8 @@
 -- The lines of a row, and the row.
-use Rattle.std.proofs.Common.{◌≡◌, ℕ, zero, suc, ◌+◌, ◌-◌, ◌<◌, ◌≤◌, Bool, true, false, List, [], ◌∷◌, ◌++◌, map, take, drop, set, length, get_or, if◌then◌else◌, append_assoc, append-nil, ap, ◌∙◌, refl, sym, arith}
+use Rattle.std.proofs.Common.{◌≡◌, ℕ, zero, suc, ◌+◌, ◌<◌, ◌≤◌, true, List, [], ◌∷◌, ◌++◌, map, take, drop, set, length, get_or, if◌then◌else◌, append_assoc, append-nil, ap, ◌∙◌, refl, sym, arith}
 use Rattle.std.specs.Prelude.{nat_lt, ◌||◌}
 use Rattle.std.proofs.lemmas.Bool.Decides.{nat_tests}
-use Rattle.std.proofs.lemmas.List.{drop-drop, drop_more, drop_all, map_more, get_or_at, set_at, length-map, length-drop, length-take-le, take_all, map-set, get_or-map}
+use Rattle.std.proofs.lemmas.List.{drop-drop, drop_more, drop_all, map_more, get_or_at, set_at, length-map, length-take-le, take_all, map-set, get_or-map}
 use Rattle.tagged_lines.specs.Tagged.{Item, character}
 use Rattle.text_borders.specs.Across.{OpenCell, RowLine, cell_items, row_items, begins_with_content, row_content, row_lines}
 use Rattle.text_cells.specs.OpenCells.{after, sign_before}

@@ -48,11 +48,7 @@ impl<T: EqualCopy + Drop> OpenCell<T> {
     }
 
     /// The next line, or what fills the cell. The error is want of memory alone.
-    pub(crate) fn take_line(
-        &mut self,
-        alloc: Global,
-        tag: &T,
-    ) -> Result<TaggedLine<T>, AllocError>
+    pub(crate) fn take_line(&mut self, alloc: Global, tag: &T) -> Result<TaggedLine<T>, AllocError>
         ensures items { IfOk result (λ l. line_items T.seen l
             ≡ cell_items (T.seen tag.now) 0 (open_cell_of T.seen self.old)) }
         ensures rest { open_cell_of T.seen self.new ≡ after 1 (open_cell_of T.seen self.old) }
@@ -64,11 +60,7 @@ impl<T: EqualCopy + Drop> OpenCell<T> {
     }
 
     /// The next line, or spaces: what stands in the border below. The error is want of memory alone.
-    pub(crate) fn take_hole(
-        &mut self,
-        alloc: Global,
-        tag: &T,
-    ) -> Result<TaggedLine<T>, AllocError>
+    pub(crate) fn take_hole(&mut self, alloc: Global, tag: &T) -> Result<TaggedLine<T>, AllocError>
         ensures items { IfOk result (λ l. line_items T.seen l ≡ line_or self.old.width (T.seen tag.now)
             (spaces self.old.width (T.seen tag.now)) (open_cell_of T.seen self.old).lines) }
         ensures rest { open_cell_of T.seen self.new ≡ after 1 (open_cell_of T.seen self.old) }

@@ -58,8 +58,9 @@ fn row_line<T: EqualCopy + Drop>(
     cells: &mut [OpenCell<T>],
 ) -> Result<RowLine<T>, AllocError>
     ensures line { IfOk result (λ l. row_line_of T.seen l ≡ record {
-        items = row_items sign (T.seen tag.now) 0 (map (open_cell_of T.seen) cells.old);
-        content = row_content 0 (map (open_cell_of T.seen) cells.old); }) }
+      items = row_items sign (T.seen tag.now) 0 (map (open_cell_of T.seen) cells.old);
+      content = row_content 0 (map (open_cell_of T.seen) cells.old);
+    }) }
     ensures rest { OnOk result (map (open_cell_of T.seen) cells.new
         ≡ map (after 1) (map (open_cell_of T.seen) cells.old)) }
 {

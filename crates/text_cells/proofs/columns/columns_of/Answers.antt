@@ -1,4 +1,4 @@
-use Rattle.std.proofs.Common.{map, length, ◌∙◌, arith}
+use Rattle.std.proofs.Common.{map, ◌∙◌, arith}
 use Rattle.std.proofs.lemmas.Option.{MatchOption-at_none}
 use Rattle.text_cells.specs.OpenCells.{open_cell_of}
 use Rattle.text_cells.proofs.JoiningLemmas.{ends_are}
