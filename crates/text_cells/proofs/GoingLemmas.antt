@@ -1,5 +1,5 @@
 -- Cells that go on into the next row.
-use Rattle.std.proofs.Common.{◌≡◌, ℕ, ◌+◌, ◌-◌, ◌≤◌, ◌<◌, true, false, List, [], ◌∷◌, ◌++◌, map, drop, if◌then◌else◌, append_assoc, append-nil, ap, ◌∙◌, refl, sym, arith}
+use Rattle.std.proofs.Common.{◌≡◌, ℕ, ◌+◌, ◌-◌, ◌≤◌, ◌<◌, true, false, List, [], ◌∷◌, ◌++◌, map, drop, if◌then◌else◌, append-nil, ap, ◌∙◌, refl, sym, arith}
 use Rattle.std.proofs.lemmas.Bool.Decides.{nat_tests}
 use Rattle.std.proofs.lemmas.List.{drop-drop}
 use Rattle.tagged_lines.specs.Tagged.{Item}
@@ -18,7 +18,8 @@ hole_in tag at c b = if goes_on c then punched at (line_or c.width tag (spaces c
 
 pub not_holed : {S : Type 0} (tag : S) (at : ℕ) (c : OpenCell S) (b : Border S) → c.rows ≤ 1 → b ≡ hole_in tag at c b
 not_holed tag at c b last =
-    sym (ap (λ on. if on then punched at (line_or c.width tag (spaces c.width tag) c.lines) b else b) (ends_here c last))
+    sym (ap (λ on. if on then punched at (line_or c.width tag (spaces c.width tag) c.lines) b else b)
+    (ends_here c last))
 
 pub nothing_left_of : {S : Type 0} (at : ℕ) (c : OpenCell S) (hanging : List (Hanging S)) → c.rows ≤ 1
     → hanging ≡ hanging ++ left_at at c
@@ -38,21 +39,8 @@ pub left_further : {S : Type 0} (at : ℕ) (c d : OpenCell S) (h : Hanging S) (o
 left_further at c d h old new more taken left pushed =
     pushed ∙ ap (λ x. old ++ x ∷ []) left
     ∙ ap (λ x. old ++ (record { place = at; cell = next_cell x }) ∷ []) taken
-    ∙ sym (ap (λ on. old ++ (if on then (record { place = at; cell = further 0 c }) ∷ [] else [])) (goes_further c more))
-
--- one cell first, then the others
-pub more_holed : {S : Type 0} (tag : S) (at next : ℕ) (c : OpenCell S) (cells : List (OpenCell S)) (b new : Border S)
-    → next ≡ at + c.width + 1 → new ≡ hole_in tag at c b
-    → with_holes tag 0 next cells new ≡ with_holes tag 0 at (c ∷ cells) b
-more_holed tag at next c cells b new next_is made =
-    ap (λ n. with_holes tag 0 n cells new) next_is ∙ ap (λ x. with_holes tag 0 (at + c.width + 1) cells x) made
-
-pub more_left : {S : Type 0} (at next : ℕ) (c : OpenCell S) (cells : List (OpenCell S)) (old new : List (Hanging S))
-    → next ≡ at + c.width + 1 → new ≡ old ++ left_at at c
-    → new ++ hanging_of 0 next cells ≡ old ++ hanging_of 0 at (c ∷ cells)
-more_left at next c cells old new next_is pushed =
-    ap (λ l. l ++ hanging_of 0 next cells) pushed ∙ append_assoc old (left_at at c) (hanging_of 0 next cells)
-    ∙ ap (λ n. old ++ (left_at at c ++ hanging_of 0 n cells)) next_is
+    ∙ sym (ap (λ on. old ++ (if on then (record { place = at; cell = further 0 c }) ∷ [] else []))
+    (goes_further c more))
 
 -- ---- behind the lines of the row
 

@@ -1,12 +1,11 @@
 -- Borders that are joined to a row, and the columns of rows.
-use Rattle.std.proofs.Common.{◌≡◌, ℕ, ◌+◌, Bool, true, false, List, [], ◌∷◌, ◌++◌, map, length, if◌then◌else◌, append_assoc, ap, ◌∙◌, refl, sym, arith}
+use Rattle.std.proofs.Common.{◌≡◌, ℕ, ◌+◌, Bool, true, false, List, [], ◌∷◌, ◌++◌, map, length, if◌then◌else◌, ap, ◌∙◌, refl, sym, arith}
 use Rattle.std.specs.Prelude.{Option, None, Some, fold, unwrap_or}
 use Rattle.std.specs.Option.{option_to_list}
 use Rattle.std.proofs.lemmas.List.{same_from_push, append-nil}
-use Rattle.std.proofs.lemmas.List.Sums.{fold-append}
 use Rattle.text_borders.specs.Segments.{Segment}
 use Rattle.text_borders.specs.Borders.{Border, change_to, columns_where, with_segments}
-use Rattle.text_borders.specs.Across.{OpenCell, row_width, signs, of_cells}
+use Rattle.text_borders.specs.Across.{OpenCell, row_width, signs}
 use Rattle.text_cells.specs.OpenCells.{asked, ends}
 
 -- ---- columns
@@ -30,43 +29,15 @@ where_from is at ss =
     let first : at ≡ at + 0 = omega arith in ap (λ n. columns_where is n ss) first ∙ where_moved is at 0 ss
 
 -- a border that was taken out is taken in
-pub taken_in : {S : Type 0} (f : Segment → Segment) (is : Segment → Bool) (at : ℕ) (o : Option (Border S)) (x b : Border S)
-    → o ≡ Some x → with_segments (fold (change_to f) b.segments (columns_where is at x.segments)) b
+pub taken_in : {S : Type 0} (f : Segment → Segment) (is : Segment → Bool) (at : ℕ) (o : Option (Border S))
+    (x b : Border S) → o ≡ Some x
+    → with_segments (fold (change_to f) b.segments (columns_where is at x.segments)) b
     ≡ with_segments (fold (change_to f) b.segments (map (λ k. at + k) (asked is o))) b
 taken_in f is at o x b given =
     ap (λ ks. with_segments (fold (change_to f) b.segments ks) b) (where_from is at x.segments)
     ∙ sym (ap (λ y. with_segments (fold (change_to f) b.segments (map (λ k. at + k) (asked is y))) b) given)
 
--- one cell first, then the others
-pub more_joined : {S : Type 0} (f : Segment → Segment) (columns : OpenCell S → List ℕ) (at next : ℕ) (c : OpenCell S)
-    (cells : List (OpenCell S)) (b new : Border S) → next ≡ at + c.width + 1
-    → new ≡ with_segments (fold (change_to f) b.segments (map (λ k. at + k) (columns c))) b
-    → with_segments (fold (change_to f) new.segments (of_cells columns next cells)) new
-    ≡ with_segments (fold (change_to f) b.segments (of_cells columns at (c ∷ cells))) b
-more_joined f columns at next c cells b new next_is joined =
-    ap (λ x. with_segments (fold (change_to f) x.segments (of_cells columns next cells)) x) joined
-    ∙ ap (λ n. with_segments (fold (change_to f) (fold (change_to f) b.segments (map (λ k. at + k) (columns c)))
-    (of_cells columns n cells)) b) next_is
-    ∙ ap (λ ss. with_segments ss b) (sym (fold-append (change_to f) b.segments (map (λ k. at + k) (columns c))
-    (of_cells columns (at + c.width + 1) cells)))
-
--- the signs first, then the cells
-pub both_joined : {S : Type 0} (f : Segment → Segment) (ks js : List ℕ) (b mid new : Border S)
-    → mid ≡ with_segments (fold (change_to f) b.segments ks) b
-    → new ≡ with_segments (fold (change_to f) mid.segments js) mid
-    → new ≡ with_segments (fold (change_to f) b.segments (ks ++ js)) b
-both_joined f ks js b mid new first second =
-    second ∙ ap (λ x. with_segments (fold (change_to f) x.segments js) x) first
-    ∙ ap (λ ss. with_segments ss b) (sym (fold-append (change_to f) b.segments ks js))
-
 -- ---- the columns behind cells
-
-pub more_ends : {S : Type 0} (at next end : ℕ) (c : OpenCell S) (cells : List (OpenCell S)) (old new : List ℕ)
-    → next ≡ at + c.width + 1 → end ≡ at + c.width → new ≡ old ++ end ∷ []
-    → new ++ ends next cells ≡ old ++ ends at (c ∷ cells)
-more_ends at next end c cells old new next_is end_is pushed =
-    ap (λ l. l ++ ends next cells) pushed ∙ append_assoc old (end ∷ []) (ends next cells)
-    ∙ ap (λ k. old ++ k ∷ ends next cells) end_is ∙ ap (λ n. old ++ (at + c.width) ∷ ends n cells) next_is
 
 signs_and_end : {S : Type 0} (at : ℕ) (c : OpenCell S) (cells : List (OpenCell S))
     → ends at (c ∷ cells) ≡ signs at (c ∷ cells) ++ (at + row_width (c ∷ cells)) ∷ []
@@ -92,8 +63,8 @@ some_end (c ∷ cells) front n is =
     (sym (signs_and_end 0 c cells) ∙ is) in
     record { signs = sym both.0; width = sym both.1 ∙ omega arith }
 
-no_end : {S : Type 0} (cells : List (OpenCell S)) (front : List ℕ) → length (ends 0 cells) ≡ 0 → ends 0 cells ≡ front ++ []
-    → IsRow cells front 0
+no_end : {S : Type 0} (cells : List (OpenCell S)) (front : List ℕ) → length (ends 0 cells) ≡ 0
+    → ends 0 cells ≡ front ++ [] → IsRow cells front 0
 no_end [] front none is = record { signs = sym (is ∙ append-nil front); width = refl }
 no_end (c ∷ cells) front none is = absurd (omega (arith, none))
 

@@ -1,6 +1,5 @@
 pub mod GoingLemmas
 pub mod JoiningLemmas
-pub mod ListLemmas
 pub mod OpeningLemmas
 pub mod RowLemmas
 pub mod SeatingLemmas

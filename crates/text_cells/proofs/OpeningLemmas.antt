@@ -9,7 +9,8 @@ use Rattle.text_cells.specs.OpenCells.{with_lines}
 
 -- ---- a border that is stretched asks for the same joins
 
-none_plain : (is : Segment → Bool) (at n : ℕ) → is horizontal ≡ false → columns_where is at (replicate n horizontal) ≡ []
+none_plain : (is : Segment → Bool) (at n : ℕ) → is horizontal ≡ false
+    → columns_where is at (replicate n horizontal) ≡ []
 none_plain is at zero none = refl
 none_plain is at (suc n) none =
     ap (λ t. if t then at ∷ columns_where is (at + 1) (replicate n horizontal)

@@ -1,8 +1,8 @@
 -- The lines of a row, and the row.
-use Rattle.std.proofs.Common.{◌≡◌, ℕ, zero, suc, ◌+◌, ◌<◌, ◌≤◌, true, List, [], ◌∷◌, ◌++◌, map, take, drop, set, length, get_or, if◌then◌else◌, append_assoc, append-nil, ap, ◌∙◌, refl, sym, arith}
+use Rattle.std.proofs.Common.{◌≡◌, ℕ, zero, suc, ◌+◌, ◌<◌, true, List, [], ◌∷◌, ◌++◌, map, take, drop, set, length, get_or, if◌then◌else◌, append_assoc, append-nil, ap, ◌∙◌, refl, sym, arith}
 use Rattle.std.specs.Prelude.{nat_lt, ◌||◌}
 use Rattle.std.proofs.lemmas.Bool.Decides.{nat_tests}
-use Rattle.std.proofs.lemmas.List.{drop-drop, drop_more, drop_all, map_more, get_or_at, set_at, length-map, length-take-le, take_all, map-set, get_or-map}
+use Rattle.std.proofs.lemmas.List.{drop-drop, drop_more, map_more, get_or_at, set_at, length-map, length-take-le, map-set, get_or-map}
 use Rattle.tagged_lines.specs.Tagged.{Item, character}
 use Rattle.text_borders.specs.Across.{OpenCell, RowLine, cell_items, row_items, begins_with_content, row_content, row_lines}
 use Rattle.text_cells.specs.OpenCells.{after, sign_before}
@@ -15,7 +15,8 @@ sign_behind : {S : Type 0} (sign : ℕ) (tag : S) (c : OpenCell S) (cells : List
 sign_behind sign tag c [] = append-nil (cell_items tag 0 c ++ []) ∙ append-nil (cell_items tag 0 c)
 sign_behind sign tag c (d ∷ cells) =
     let some : nat_lt 0 (length (d ∷ cells)) ≡ true = grind (arith, nat_tests) in
-    ap (λ t. (cell_items tag 0 c ++ (if t then character sign tag ∷ [] else [])) ++ row_items sign tag 0 (d ∷ cells)) some
+    ap (λ t. (cell_items tag 0 c ++ (if t then character sign tag ∷ [] else []))
+    ++ row_items sign tag 0 (d ∷ cells)) some
     ∙ append_assoc (cell_items tag 0 c) (character sign tag ∷ []) (row_items sign tag 0 (d ∷ cells))
 
 -- a cell's line and the sign were added
@@ -33,14 +34,31 @@ more_text sign tag cells i left c items old mid new here left_is are first secon
     ∙ ap (λ l. old ++ l) (sign_behind sign tag c (drop (i + 1) cells))
     ∙ ap (λ cs. old ++ row_items sign tag 0 cs) (sym here)
 
-pub all_text : {S : Type 0} (sign : ℕ) (tag : S) (cells : List (OpenCell S)) (i : ℕ) (line whole : List (Item S))
-    → length cells ≤ i → line ++ row_items sign tag 0 (drop i cells) ≡ whole → line ≡ whole
-all_text sign tag cells i line whole past so_far =
-    sym (ap (λ cs. line ++ row_items sign tag 0 cs) (drop_all i cells past) ∙ append-nil line) ∙ so_far
-
 -- ---- the cells, from each of which a line was taken
 
--- the first i were changed
+-- the first i were changed, and the one at i is what it was
+same_there : {A X : Type 0} (view : A → X) (change : X → X) (first now : List A) (i : ℕ) (a : A)
+    → i < length first → length now ≡ length first
+    → map view now ≡ map change (take i (map view first)) ++ drop i (map view first) → a ≡ get_or now i a
+    → view a ≡ get_or (map view first) i (view a)
+same_there view change first now i a inside same so_far read =
+    let start = map view first in
+    let within : i < length start = omega (arith, inside, length-map first view) in
+    let front = map change (take i start) in
+    let here = get_or start i (view a) in
+    let long : length front ≡ i = length-map (take i start) change ∙ length-take-le i start (omega (arith, within)) in
+    ap view read ∙ sym (get_or-map view now i a (view a) (omega (arith, inside, same)))
+    ∙ ap (λ l. get_or l i (view a)) (so_far ∙ ap (λ tail. front ++ tail) (drop_more start i (view a) within))
+    ∙ get_or_at front here (drop (i + 1) start) (view a) i long
+
+pub still_there : {A X : Type 0} (view : A → X) (change : X → X) (first now : List A) (i : ℕ) (a : A)
+    → i < length first → length now ≡ length first
+    → map view now ≡ map change (take i (map view first)) ++ drop i (map view first) → a ≡ get_or now i a
+    → drop i (map view first) ≡ view a ∷ drop (i + 1) (map view first)
+still_there view change first now i a inside same so_far read =
+    drop_more (map view first) i (view a) (omega (arith, inside, length-map first view))
+    ∙ ap (λ x. x ∷ drop (i + 1) (map view first)) (sym (same_there view change first now i a inside same so_far read))
+
 pub changed_more : {A X : Type 0} (view : A → X) (change : X → X) (first now : List A) (i : ℕ) (a b : A)
     → i < length first → length now ≡ length first
     → map view now ≡ map change (take i (map view first)) ++ drop i (map view first) → a ≡ get_or now i a
@@ -53,39 +71,12 @@ changed_more view change first now i a b inside same so_far read made =
     let here = get_or start i (view a) in
     let rest = drop (i + 1) start in
     let long : length front ≡ i = length-map (take i start) change ∙ length-take-le i start (omega (arith, within)) in
-    let whole : map view now ≡ front ++ here ∷ rest =
-    so_far ∙ ap (λ tail. front ++ tail) (drop_more start i (view a) within) in
-    let is : view a ≡ here =
-    ap view read ∙ sym (get_or-map view now i a (view a) (omega (arith, inside, same)))
-    ∙ ap (λ l. get_or l i (view a)) whole ∙ get_or_at front here rest (view a) i long in
-    map-set view now i b ∙ ap (λ l. set l i (view b)) whole ∙ set_at front here rest (view b) i long
-    ∙ ap (λ z. front ++ z ∷ rest) (made ∙ ap change is) ∙ sym (append_assoc front (change here ∷ []) rest)
+    map-set view now i b
+    ∙ ap (λ l. set l i (view b)) (so_far ∙ ap (λ tail. front ++ tail) (drop_more start i (view a) within))
+    ∙ set_at front here rest (view b) i long
+    ∙ ap (λ z. front ++ z ∷ rest) (made ∙ ap change (same_there view change first now i a inside same so_far read))
+    ∙ sym (append_assoc front (change here ∷ []) rest)
     ∙ ap (λ f. f ++ rest) (sym (map_more change start i (view a) within))
-
--- the cell of an index is the one that stood there
-pub still_there : {A X : Type 0} (view : A → X) (change : X → X) (first now : List A) (i : ℕ) (a : A)
-    → i < length first → length now ≡ length first
-    → map view now ≡ map change (take i (map view first)) ++ drop i (map view first) → a ≡ get_or now i a
-    → drop i (map view first) ≡ view a ∷ drop (i + 1) (map view first)
-still_there view change first now i a inside same so_far read =
-    let start = map view first in
-    let within : i < length start = omega (arith, inside, length-map first view) in
-    let front = map change (take i start) in
-    let here = get_or start i (view a) in
-    let rest = drop (i + 1) start in
-    let long : length front ≡ i = length-map (take i start) change ∙ length-take-le i start (omega (arith, within)) in
-    let whole : map view now ≡ front ++ here ∷ rest =
-    so_far ∙ ap (λ tail. front ++ tail) (drop_more start i (view a) within) in
-    let is : view a ≡ here =
-    ap view read ∙ sym (get_or-map view now i a (view a) (omega (arith, inside, same)))
-    ∙ ap (λ l. get_or l i (view a)) whole ∙ get_or_at front here rest (view a) i long in
-    drop_more start i (view a) within ∙ ap (λ x. x ∷ rest) (sym is)
-
-pub all_changed : {X : Type 0} (change : X → X) (start now : List X) (i : ℕ) → length start ≤ i
-    → now ≡ map change (take i start) ++ drop i start → now ≡ map change start
-all_changed change start now i past so_far =
-    so_far ∙ ap (λ f. map change f ++ drop i start) (take_all i start past)
-    ∙ ap (λ d. map change start ++ d) (drop_all i start past) ∙ append-nil (map change start)
 
 -- ---- lines behind those that were taken
 
@@ -107,7 +98,8 @@ line_after : {S : Type 0} (sign : ℕ) (tag : S) (i : ℕ) (cells now : List (Op
     → l ≡ record { items = row_items sign tag i cells; content = row_content i cells }
 line_after sign tag i cells now l taken is =
     is ∙ ap (λ cs. record { items = row_items sign tag 0 cs; content = row_content 0 cs }) taken
-    ∙ ap (λ items. record { items = items; content = row_content 0 (map (after i) cells) }) (items_after sign tag i cells)
+    ∙ ap (λ items. record { items = items; content = row_content 0 (map (after i) cells) })
+    (items_after sign tag i cells)
     ∙ ap (λ content. record { items = row_items sign tag i cells; content = content }) (content_after i cells)
 
 after_again : {S : Type 0} (i : ℕ) (cells : List (OpenCell S))

@@ -16,10 +16,10 @@ use std::alloc::{AllocError, Global};
 use tagged_lines::EqualCopy;
 use text_borders::BorderHoriz;
 
-/// A row of cells beside one another, with the cells that go on from the row before among them: below a border, which is
-/// joined to it, or below none. `draws` tells whether `│` or a space stands between cells, `collapse` whether borders at the
-/// beginning and at the end of a cell are taken into those of the row. What is added is tagged `tag`. The error is want of
-/// memory alone.
+/// A row of cells beside one another, with the cells that go on from the row before among them: below a border, which
+/// is joined to it, or below none. `draws` tells whether `│` or a space stands between cells, `collapse` whether
+/// borders at the beginning and at the end of a cell are taken into those of the row. What is added is tagged `tag`.
+/// The error is want of memory alone.
 pub fn lay_across<T: EqualCopy + Drop>(
     alloc: Global,
     draws: bool,

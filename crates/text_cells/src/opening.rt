@@ -28,8 +28,8 @@ pub(crate) struct OpenCell<T> {
     pub(crate) bottom: Option<BorderHoriz<T>>,
 }
 
-/// The cells without their borders, where they collapse with their table; the first line of a cell stays where no border
-/// is above the row. The error is want of memory alone.
+/// The cells without their borders, where they collapse with their table; the first line of a cell stays where no
+/// border is above the row. The error is want of memory alone.
 pub(crate) fn opened_cells<T: EqualCopy + Drop>(
     alloc: Global,
     collapse: bool,

@@ -21,9 +21,12 @@ returns g c =
     let left = map (open_cell_of seen) c.row_lines.new.cells in
     let width = c.in_ok-columns.columns.width in
     let ks = c.in_ok-columns.columns.signs.items in
-    let width_is = c.in_ok-columns.ensures.width ∙ ap (λ xs. row_width (map (open_cell_of seen) xs)) c.deref.ensures.value in
-    let signs_are = c.in_ok-columns.ensures.signs ∙ ap (λ xs. signs 0 (map (open_cell_of seen) xs)) c.deref.ensures.value in
-    let height_is = c.row_height-height.ensures ∙ ap (λ xs. row_height (map (open_cell_of seen) xs)) c.deref-4.ensures.value in
+    let width_is = c.in_ok-columns.ensures.width
+    ∙ ap (λ xs. row_width (map (open_cell_of seen) xs)) c.deref.ensures.value in
+    let signs_are = c.in_ok-columns.ensures.signs
+    ∙ ap (λ xs. signs 0 (map (open_cell_of seen) xs)) c.deref.ensures.value in
+    let height_is = c.row_height-height.ensures
+    ∙ ap (λ xs. row_height (map (open_cell_of seen) xs)) c.deref-4.ensures.value in
     let taken = c.in_ok-lines.ensures.rest
     ∙ ap (λ xs. map (after c.row_height-height.result) (map (open_cell_of seen) xs)) c.deref_mut.ensures.value in
     let long : length c.row_lines.new.cells ≡ c.in_ok-row.row.len =

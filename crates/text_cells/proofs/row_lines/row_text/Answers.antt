@@ -17,7 +17,13 @@ loop-cell-preserved g c =
     omega (arith, c.loop-cell-test.true, c.loop-cell.auto.cells, c.loop-cell.auto.cell-index-end) in
     let same : length c.loop-cell.cells ≡ length first = c.loop-cell.auto.cells in
     let left : c.loop-cell.left - 1 ≡ length (drop (i + 1) start) =
-    omega (arith, c.loop-cell.invariant.left, length-drop (i + 1) start, length-map first (open_cell_of seen), inside) in
+    omega (
+      arith,
+      c.loop-cell.invariant.left,
+      length-drop (i + 1) start,
+      length-map first (open_cell_of seen),
+      inside,
+    ) in
     record {
       left = omega (arith, c.loop-cell.invariant.left, inside);
       items = more_text c.args.sign tag start i (c.loop-cell.left - 1)
@@ -29,7 +35,7 @@ loop-cell-preserved g c =
           (c.in_ok-next.ensures.items ∙ ap (λ x. cell_items tag 0 (open_cell_of seen x)) (sym c.cell-item.is))
           c.in_ok-push_line.ensures.ok
           c.in_ok-push_sign.ensures ∙ c.loop-cell.invariant.items;
-      cells = changed_more (open_cell_of seen) (after 1) first c.loop-cell.cells i c.cell-item.result c.take_line.new.self
-          inside same c.loop-cell.invariant.cells c.cell-item.is
+      cells = changed_more (open_cell_of seen) (after 1) first c.loop-cell.cells i c.cell-item.result
+          c.take_line.new.self inside same c.loop-cell.invariant.cells c.cell-item.is
           (c.take_line.ensures.rest ∙ ap (λ x. after 1 (open_cell_of seen x)) (sym c.cell-item.is));
     }

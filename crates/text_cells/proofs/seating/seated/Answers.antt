@@ -12,8 +12,8 @@ loop-cell-preserved g c =
     let row = map (cell_of seen) c.loop-cell.row.items in
     let waiting = map (hanging_of seen) c.loop-cell.waiting.items in
     let cells = map (cell_of seen) (into_iter_items c.next.new.self) in
-    more_seated c.loop-cell.at c.in_ok-next.next (cell_of seen c.in-Some.cell) (cell_of seen c.seated_at.result) cells row
-    (map (cell_of seen) c.push.new.self.items) waiting (map (hanging_of seen) c.seated_at.new.waiting.items)
+    more_seated c.loop-cell.at c.in_ok-next.next (cell_of seen c.in-Some.cell) (cell_of seen c.seated_at.result) cells
+    row (map (cell_of seen) c.push.new.self.items) waiting (map (hanging_of seen) c.seated_at.new.waiting.items)
     c.in_ok-next.ensures (c.seated_at.ensures cells)
     (ap (map (cell_of seen)) c.in_ok-push.ensures.items
     ∙ map_push (cell_of seen) c.loop-cell.row.items c.seated_at.result)
