@@ -20,7 +20,7 @@ use Rattle.text_borders.proofs.BorderLemmas.{one_column, length-stretched, lengt
 space_column : width_of 0x20 ≡ 1
 space_column = one_column 0x20 (inr (omega arith, omega arith))
 
-spaces_columns : {S : Type 0} (n : ℕ) (tag : S) → line_columns (spaces n tag) ≡ n
+pub spaces_columns : {S : Type 0} (n : ℕ) (tag : S) → line_columns (spaces n tag) ≡ n
 spaces_columns zero tag = refl
 spaces_columns (suc n) tag =
     let rest = spaces_columns n tag in

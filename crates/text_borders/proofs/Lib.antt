@@ -1,4 +1,5 @@
 pub mod AcrossLemmas
 pub mod BorderLemmas
+pub mod FillLemmas
 pub mod RetagLemmas
 pub mod SegmentLemmas

@@ -100,7 +100,7 @@ abbrev pub filled_to : {S : Type 0} → ℕ → Border S → Border S
 filled_to width b =
     if nat_lt (length b.segments) width
     then with_hole (length b.segments) (replicate (width - length b.segments) (character 0x20 b.tag))
-        (with_segments (stretched width b.segments) b)
+    (with_segments (stretched width b.segments) b)
     else b
 
 -- What is shown: the glyphs of the segments, and in their place the texts of the holes.

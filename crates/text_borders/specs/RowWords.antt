@@ -1,5 +1,5 @@
 -- Words of the worked rows.
-use Rattle.std.specs.Prelude.{ℕ, true, List, [], ◌∷◌, ◌++◌, Option, None, Some, map}
+use Rattle.std.specs.Prelude.{ℕ, true, false, List, [], ◌∷◌, ◌++◌, Option, None, Some, map, replicate}
 use Rattle.tagged_lines.specs.Tagged.{characters, tagged}
 use Rattle.text_borders.specs.Borders.{Border, horizontal, plain, joined_above, joined_below, shown}
 use Rattle.text_borders.specs.Lines.{text, border}
@@ -21,6 +21,18 @@ border_line b = record { line = border b; content = true }
 
 abbrev pub cell : {S : Type 0} → S → ℕ → ℕ → List ℕ → Cell S
 cell tag width rows cs = record { width = width; rows = rows; lines = text_line tag cs ∷ [] }
+
+-- a cell of several lines
+abbrev pub tall_cell : {S : Type 0} → S → ℕ → ℕ → List (List ℕ) → Cell S
+tall_cell tag width rows texts = record { width = width; rows = rows; lines = map (text_line tag) texts }
+
+-- a cell of so many empty lines
+abbrev pub blank_cell : {S : Type 0} → ℕ → ℕ → Cell S
+blank_cell width count = record {
+  width = width;
+  rows = 1;
+  lines = replicate count (record { line = text []; content = false });
+}
 
 -- a cell with a table of two columns of one column each
 abbrev pub table_cell : {S : Type 0} → S → List ℕ → Cell S

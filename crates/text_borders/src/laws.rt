@@ -3,7 +3,7 @@ ghost use Rattle.std.specs.Prelude.{◌≡◌, ℕ, ◌+◌, ◌≤◌, Bool, Op
 ghost use Rattle.std.specs.Option.{option_map};
 ghost use Rattle.tagged_lines.specs.Tagged.{Item, line_columns};
 ghost use Rattle.text_borders.specs.Segments.{Segment, with_up, with_down, joins_above, joins_below};
-ghost use Rattle.text_borders.specs.Borders.{Border, merged_above, merged_below, punched, shown};
+ghost use Rattle.text_borders.specs.Borders.{Border, merged_above, merged_below, punched, filled_to, shown};
 ghost use Rattle.text_borders.specs.BorderLaws.{IsChangedWhereAsked, AreInOrder, IsSound};
 ghost use Rattle.text_borders.specs.Across.{Cell, Hanging, across, width_across};
 ghost use Rattle.text_borders.specs.AcrossLaws.{CellFits};
@@ -46,6 +46,14 @@ pub fn punched_borders_stay_sound<T: EqualCopy>()
         → length (punched place items b).segments ≡ max (length b.segments) (place + line_columns items) }
     ensures sound { (place : ℕ) (items : List (Item T.Seen)) (b : Border T.Seen) → AreInOrder 0 place b.holes
         → IsSound (punched place items b) }
+{}
+
+/// A border that is filled up to a width has so many columns, or its own where it is wider, and its texts still stand one
+/// behind the other within it.
+pub fn filled_borders_stay_sound<T: EqualCopy>()
+    ensures width { (width : ℕ) (b : Border T.Seen)
+        → length (filled_to width b).segments ≡ max (length b.segments) width }
+    ensures sound { (width : ℕ) (b : Border T.Seen) → IsSound b → IsSound (filled_to width b) }
 {}
 
 /// Where each cell's lines are within its width, every line of a row has just the row's columns, and the border below it

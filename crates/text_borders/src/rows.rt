@@ -1,9 +1,9 @@
 //! Worked rows, computed from the definitions.
-ghost use Rattle.std.specs.Prelude.{◌≡◌, ◌∷◌, [], true, false, None, codes};
+ghost use Rattle.std.specs.Prelude.{◌≡◌, ◌∷◌, [], true, false, None, map, codes};
 ghost use Rattle.tagged_lines.specs.Tagged.{character, characters, tagged};
 ghost use Rattle.text_borders.specs.Borders.{horizontal, plain, joined_above, joined_below, merged_above, merged_below, punched, shown, lines_above};
 ghost use Rattle.text_borders.specs.Across.{empty_cell, across};
-ghost use Rattle.text_borders.specs.RowWords.{row_shown, first_row, next_row, cell, table_cell};
+ghost use Rattle.text_borders.specs.RowWords.{row_shown, first_row, next_row, cell, tall_cell, blank_cell, table_cell};
 
 use tagged_lines::EqualCopy;
 
@@ -55,4 +55,19 @@ fn cells_stand_beside_one_another<T: EqualCopy>()
         ∷ cell tag 1 1 (codes "z") ∷ [])) ≡ codes "─┬─┬─" ∷ codes "x│y│z" ∷ codes "─┴─┴─" ∷ [] }
     ensures plain { (tag : T.Seen) → row_shown (across false true tag None (cell tag 1 1 (codes "a")
         ∷ cell tag 1 1 (codes "b") ∷ []) []) ≡ codes "a b" ∷ codes "─┴─" ∷ [] }
+{}
+
+/// A cell that takes two rows shares its lines between them, and its next line stands in the border between. A line has
+/// content where a cell's line has, and nothing goes on of cells that end with their row.
+fn cells_go_on<T: EqualCopy>()
+    ensures first { (tag : T.Seen) → row_shown (first_row tag 5 (tall_cell tag 3 2 (codes "x" ∷ codes "y" ∷ codes "z"
+        ∷ codes "c.." ∷ []) ∷ cell tag 1 1 (codes "b") ∷ []))
+        ≡ codes "───┬─" ∷ codes "x  │b" ∷ codes "y  │ " ∷ codes "z  └─" ∷ [] }
+    ensures second { (tag : T.Seen) → row_shown (next_row tag (first_row tag 5 (tall_cell tag 3 2 (codes "x"
+        ∷ codes "y" ∷ codes "z" ∷ codes "c.." ∷ []) ∷ cell tag 1 1 (codes "b") ∷ [])) (empty_cell 3
+        ∷ cell tag 1 1 (codes "d") ∷ [])) ≡ codes "z  ├─" ∷ codes "c..│d" ∷ codes "───┴─" ∷ [] }
+    ensures content { (tag : T.Seen) → map (λ l. l.content) (first_row tag 3 (blank_cell 1 2
+        ∷ cell tag 1 1 (codes "a") ∷ [])).lines ≡ true ∷ false ∷ [] }
+    ensures nothing { (tag : T.Seen) → (first_row tag 3 (tall_cell tag 1 1 (codes "a" ∷ codes "b" ∷ [])
+        ∷ cell tag 1 1 (codes "c") ∷ [])).hanging ≡ [] }
 {}

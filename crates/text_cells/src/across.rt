@@ -6,14 +6,20 @@ ghost use Rattle.text_borders.specs.Across.{across};
 ghost use Rattle.text_cells.specs.Cells.{cell_of, hanging_of, row_of};
 
 use crate::cell::{HangingCell, LineSet, Row};
+use crate::columns::columns_of;
+use crate::going_on::going_on;
+use crate::joining::{border_below, joined_above};
+use crate::opening::opened_cells;
+use crate::row_lines::{row_height, row_lines, sign_of};
+use crate::seating::seated;
 use std::alloc::{AllocError, Global};
 use tagged_lines::EqualCopy;
 use text_borders::BorderHoriz;
 
-/// A row of cells beside one another, with the cells that go on from the row before among them: below a border, which is
-/// joined to it, or below none. `draws` tells whether `│` or a space stands between cells, `collapse` whether borders at the
-/// beginning and at the end of a cell are taken into those of the row. What is added is tagged `tag`. The error is want of
-/// memory alone.
+/// A row of cells beside one another, with the cells that go on from the row before among them: below a border, which
+/// is joined to it, or below none. `draws` tells whether `│` or a space stands between cells, `collapse` whether
+/// borders at the beginning and at the end of a cell are taken into those of the row. What is added is tagged `tag`.
+/// The error is want of memory alone.
 pub fn lay_across<T: EqualCopy + Drop>(
     alloc: Global,
     draws: bool,
@@ -27,5 +33,18 @@ pub fn lay_across<T: EqualCopy + Drop>(
         (option_map (border_of T.seen) above) (map (cell_of T.seen) cells.items)
         (map (hanging_of T.seen) hanging.items)) }
 {
-    Err(AllocError)
+    let seated = seated(alloc, cells, hanging)?;
+    let mut row = opened_cells(alloc, collapse, above.is_some(), tag, seated)?;
+    let columns = columns_of(alloc, &row)?;
+    let joined = joined_above(above, &columns, &row)?;
+    let mut below = border_below(alloc, tag, &columns, &row)?;
+    let height = row_height(&row);
+    let lines = row_lines(alloc, sign_of(draws), tag, &mut row, height)?;
+    let hanging = going_on(alloc, tag, &mut below, row)?;
+    Ok(Row {
+        above: joined,
+        lines,
+        below,
+        hanging,
+    })
 }

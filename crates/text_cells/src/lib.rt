@@ -3,6 +3,13 @@
 
 mod across;
 mod cell;
+mod cell_lines;
+mod columns;
+mod going_on;
+mod joining;
+mod opening;
+mod row_lines;
+mod seating;
 
 pub use across::lay_across;
 pub use cell::{HangingCell, LaidLine, LineSet, Row, RowLine};

@@ -1,0 +1,57 @@
+-- What private contracts see of open cells, and words between the code's steps and those of the definition.
+use Rattle.std.specs.Prelude.{ℕ, ◌+◌, ◌-◌, Bool, false, nat_le, nat_lt, List, [], ◌∷◌, Option, None, Some, map, drop, if◌then◌else◌}
+use Rattle.std.specs.Option.{option_map}
+use Rattle.tagged_lines.specs.Tagged.{Item, character, line_items}
+use Rattle.text_borders.specs.Segments.{Segment, joins_above, joins_below}
+use Rattle.text_borders.specs.Borders.{Border, border_of, columns_where}
+use Rattle.text_borders.specs.Across.{CellLine, Cell, Hanging, empty_cell, OpenCell as SeenCell, goes_on, further}
+use Rattle.text_cells.specs.Cells.{laid_line_of}
+use Rattle.text_cells.specs.declared.opening.OpenCell.{OpenCell}
+
+-- the columns at which a border that was taken out asks for a join
+abbrev pub asked : {S : Type 0} → (Segment → Bool) → Option (Border S) → List ℕ
+asked is None = []
+asked is (Some b) = columns_where is 0 b.segments
+
+abbrev pub open_cell_of : {T S : Type 0} → (T → S) → OpenCell T → SeenCell S
+open_cell_of seen c = record {
+  width = c.width;
+  rows = c.rows;
+  lines = map (laid_line_of seen) c.lines.items;
+  filler = line_items seen c.filler;
+  asks_above = asked joins_below (option_map (border_of seen) c.top);
+  asks_below = asked joins_above (option_map (border_of seen) c.bottom);
+}
+
+abbrev pub with_lines : {S : Type 0} → List (CellLine S) → SeenCell S → SeenCell S
+with_lines lines c = record c { lines = lines }
+
+-- an open cell whose first lines were taken
+abbrev pub after : {S : Type 0} → ℕ → SeenCell S → SeenCell S
+after i c = record c { lines = drop i c.lines }
+
+-- the columns behind cells
+abbrev pub ends : {S : Type 0} → ℕ → List (SeenCell S) → List ℕ
+ends at [] = []
+ends at (c ∷ cells) = (at + c.width) ∷ ends (at + c.width + 1) cells
+
+-- the first of the hanging cells stands at a column or before it
+abbrev pub hangs_at : {S : Type 0} → ℕ → List (Hanging S) → Bool
+hangs_at at [] = false
+hangs_at at (h ∷ hanging) = nat_le h.place at
+
+-- what stands in a gap before a cell
+abbrev pub gap : {S : Type 0} → ℕ → ℕ → List (Cell S)
+gap at place = if nat_lt at place then empty_cell (place - at - 1) ∷ [] else []
+
+-- what a cell that stands at a column leaves to the next row
+abbrev pub left_at : {S : Type 0} → ℕ → SeenCell S → List (Hanging S)
+left_at at c = if goes_on c then (record { place = at; cell = further 0 c }) ∷ [] else []
+
+-- an open cell in the next row
+abbrev pub next_cell : {S : Type 0} → SeenCell S → Cell S
+next_cell c = record { width = c.width; rows = c.rows - 1; lines = c.lines }
+
+-- what stands behind a cell, so many of which follow it
+abbrev pub sign_before : {S : Type 0} → ℕ → S → ℕ → List (Item S)
+sign_before sign tag count = if nat_lt 0 count then character sign tag ∷ [] else []

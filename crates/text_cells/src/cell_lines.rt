@@ -1,0 +1,84 @@
+//! The lines of an open cell, taken one by one.
+ghost use Rattle.std.specs.Prelude.{◌≡◌, IfOk};
+ghost use Rattle.tagged_lines.specs.Tagged.{line_items};
+ghost use Rattle.text_borders.specs.Across.{spaces};
+
+use crate::cell::LineSet;
+use crate::opening::OpenCell;
+use std::alloc::{AllocError, Global};
+use tagged_lines::{EqualCopy, TaggedLine};
+use text_borders::RenderLine;
+
+/// A text of so many spaces. The error is want of memory alone.
+pub(crate) fn spaces<T: EqualCopy + Drop>(
+    alloc: Global,
+    count: usize,
+    tag: &T,
+) -> Result<TaggedLine<T>, AllocError>
+    ensures { IfOk result (λ line. line_items T.seen line ≡ spaces count (T.seen tag.now)) }
+{
+    RenderLine::Text(TaggedLine::new(alloc)).into_widened(alloc, count, tag)
+}
+
+impl<T: EqualCopy + Drop> OpenCell<T> {
+    ghost use Rattle.std.specs.Prelude.{◌-◌};
+    ghost use Rattle.text_borders.specs.Across.{cell_height, cell_items, line_or, begins_with_content, Cell};
+    ghost use Rattle.text_cells.specs.Cells.{cell_of};
+    ghost use Rattle.text_cells.specs.OpenCells.{open_cell_of, after, next_cell};
+
+    /// The lines that the cell takes of its row: all where it ends there, else its share.
+    pub(crate) fn height(&self) -> usize
+        ensures { result ≡ cell_height (open_cell_of T.seen self.now) }
+    {
+        if self.rows <= 1 {
+            self.lines.len()
+        } else {
+            self.lines.len() / self.rows
+        }
+    }
+
+    /// Whether the next line has content.
+    pub(crate) fn has_content(&self) -> bool
+        ensures { result ≡ begins_with_content (open_cell_of T.seen self.now).lines }
+    {
+        match self.lines.front() {
+            Some(next) => next.content,
+            None => false,
+        }
+    }
+
+    /// The next line, or what fills the cell. The error is want of memory alone.
+    pub(crate) fn take_line(&mut self, alloc: Global, tag: &T) -> Result<TaggedLine<T>, AllocError>
+        ensures items { IfOk result (λ l. line_items T.seen l
+            ≡ cell_items (T.seen tag.now) 0 (open_cell_of T.seen self.old)) }
+        ensures rest { open_cell_of T.seen self.new ≡ after 1 (open_cell_of T.seen self.old) }
+    {
+        match self.lines.pop_front() {
+            Some(next) => next.line.into_widened(alloc, self.width, tag),
+            None => self.filler.try_clone(),
+        }
+    }
+
+    /// The next line, or spaces: what stands in the border below. The error is want of memory alone.
+    pub(crate) fn take_hole(&mut self, alloc: Global, tag: &T) -> Result<TaggedLine<T>, AllocError>
+        ensures items { IfOk result (λ l. line_items T.seen l ≡ line_or self.old.width (T.seen tag.now)
+            (spaces self.old.width (T.seen tag.now)) (open_cell_of T.seen self.old).lines) }
+        ensures rest { open_cell_of T.seen self.new ≡ after 1 (open_cell_of T.seen self.old) }
+    {
+        match self.lines.pop_front() {
+            Some(next) => next.line.into_widened(alloc, self.width, tag),
+            None => spaces(alloc, self.width, tag),
+        }
+    }
+
+    /// The cell in the next row, with the lines that are left.
+    pub(crate) fn into_next(self) -> LineSet<T>
+        ensures { cell_of T.seen result ≡ next_cell (open_cell_of T.seen self) }
+    {
+        LineSet {
+            width: self.width,
+            rows: self.rows.saturating_sub(1),
+            lines: self.lines.into_vec(),
+        }
+    }
+}

@@ -1,0 +1,125 @@
+//! The lines of a row.
+ghost use Rattle.std.specs.Prelude.{◌≡◌, ◌++◌, map, IfOk, OnOk};
+ghost use Rattle.tagged_lines.specs.Tagged.{line_items};
+ghost use Rattle.text_borders.specs.Across.{sign_of, row_height, row_lines, row_items, row_content};
+ghost use Rattle.text_cells.specs.Cells.{row_line_of};
+ghost use Rattle.text_cells.specs.OpenCells.{open_cell_of, after, sign_before};
+
+use crate::cell::RowLine;
+use crate::opening::OpenCell;
+use std::alloc::{AllocError, Global};
+use tagged_lines::{EqualCopy, TaggedLine};
+
+/// What stands between cells.
+pub(crate) fn sign_of(draws: bool) -> char
+    ensures { result ≡ sign_of draws }
+{
+    if draws { '│' } else { ' ' }
+}
+
+/// The lines of a row.
+pub(crate) fn row_height<T: EqualCopy + Drop>(cells: &[OpenCell<T>]) -> usize
+    ensures { result ≡ row_height (map (open_cell_of T.seen) cells.now) }
+{
+    let mut height = 0;
+    let mut rest = cells;
+    while let Some((cell, others)) = rest.split_first() {
+        height = height.max(cell.height());
+        rest = others;
+    }
+    height
+}
+
+/// So many lines of a row, taken from its cells. The error is want of memory alone.
+pub(crate) fn row_lines<T: EqualCopy + Drop>(
+    alloc: Global,
+    sign: char,
+    tag: &T,
+    cells: &mut [OpenCell<T>],
+    height: usize,
+) -> Result<Vec<RowLine<T>>, AllocError>
+    ensures lines { IfOk result (λ lines. map (row_line_of T.seen) lines.items
+        ≡ row_lines sign (T.seen tag.now) (map (open_cell_of T.seen) cells.old) 0 height) }
+    ensures rest { OnOk result (map (open_cell_of T.seen) cells.new
+        ≡ map (after height) (map (open_cell_of T.seen) cells.old)) }
+{
+    let mut lines = Vec::new(alloc);
+    for _line in 0..height {
+        lines.push(row_line(alloc, sign, tag, cells)?)?;
+    }
+    Ok(lines)
+}
+
+/// The cells' next lines beside one another.
+fn row_line<T: EqualCopy + Drop>(
+    alloc: Global,
+    sign: char,
+    tag: &T,
+    cells: &mut [OpenCell<T>],
+) -> Result<RowLine<T>, AllocError>
+    ensures line { IfOk result (λ l. row_line_of T.seen l ≡ record {
+      items = row_items sign (T.seen tag.now) 0 (map (open_cell_of T.seen) cells.old);
+      content = row_content 0 (map (open_cell_of T.seen) cells.old);
+    }) }
+    ensures rest { OnOk result (map (open_cell_of T.seen) cells.new
+        ≡ map (after 1) (map (open_cell_of T.seen) cells.old)) }
+{
+    let content = has_content(cells);
+    Ok(RowLine {
+        line: row_text(alloc, sign, tag, cells)?,
+        content,
+    })
+}
+
+/// Whether the next line of a cell has content.
+fn has_content<T: EqualCopy + Drop>(cells: &[OpenCell<T>]) -> bool
+    ensures { result ≡ row_content 0 (map (open_cell_of T.seen) cells.now) }
+{
+    let mut rest = cells;
+    while let Some((cell, others)) = rest.split_first() {
+        if cell.has_content() {
+            return true;
+        }
+        rest = others;
+    }
+    false
+}
+
+/// The cells' next lines, with the sign between them.
+fn row_text<T: EqualCopy + Drop>(
+    alloc: Global,
+    sign: char,
+    tag: &T,
+    cells: &mut [OpenCell<T>],
+) -> Result<TaggedLine<T>, AllocError>
+    ensures items { IfOk result (λ l. line_items T.seen l
+        ≡ row_items sign (T.seen tag.now) 0 (map (open_cell_of T.seen) cells.old)) }
+    ensures rest { OnOk result (map (open_cell_of T.seen) cells.new
+        ≡ map (after 1) (map (open_cell_of T.seen) cells.old)) }
+{
+    let mut line = TaggedLine::new(alloc);
+    let mut left = cells.len();
+    for cell in cells.iter_mut() {
+        left -= 1;
+        let next = cell.take_line(alloc, tag)?;
+        line.push_line(&next)?;
+        push_sign(&mut line, sign, tag, left)?;
+    }
+    Ok(line)
+}
+
+/// Adds the sign where cells are left.
+fn push_sign<T: EqualCopy + Drop>(
+    line: &mut TaggedLine<T>,
+    sign: char,
+    tag: &T,
+    left: usize,
+) -> Result<(), AllocError>
+    ensures { OnOk result (line_items T.seen line.new
+        ≡ line_items T.seen line.old ++ sign_before sign (T.seen tag.now) left) }
+{
+    if left == 0 {
+        return Ok(());
+    }
+    line.push_char(sign, tag)
+}

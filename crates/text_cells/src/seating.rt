@@ -1,0 +1,101 @@
+//! Cells and hanging cells in one row.
+ghost use Rattle.std.specs.Prelude.{◌≡◌, ◌+◌, List, ◌∷◌, ◌++◌, map, IfOk, OnOk};
+ghost use Rattle.text_borders.specs.Across.{Cell, seated, seated_behind};
+ghost use Rattle.text_cells.specs.Cells.{cell_of, hanging_of};
+ghost use Rattle.text_cells.specs.OpenCells.{hangs_at, gap};
+
+use crate::cell::{HangingCell, LineSet};
+use crate::columns::behind;
+use std::alloc::{AllocError, Global};
+use std::collections::VecDeque;
+use tagged_lines::EqualCopy;
+
+/// The cells of a row: each hanging cell stands in place of the first cell that begins at its place or behind it, or
+/// behind the row. The error is want of memory alone.
+pub(crate) fn seated<T: EqualCopy + Drop>(
+    alloc: Global,
+    cells: Vec<LineSet<T>>,
+    hanging: Vec<HangingCell<T>>,
+) -> Result<Vec<LineSet<T>>, AllocError>
+    ensures { IfOk result (λ row. map (cell_of T.seen) row.items
+        ≡ seated 0 (map (cell_of T.seen) cells.items) (map (hanging_of T.seen) hanging.items)) }
+{
+    let mut row = Vec::new(alloc);
+    let mut waiting = VecDeque::from_vec(hanging);
+    let mut at = 0;
+    for cell in cells {
+        let next = behind(at, cell.width)?;
+        row.push(seated_at(at, cell, &mut waiting))?;
+        at = next;
+    }
+    push_behind(alloc, &mut row, at, waiting)?;
+    Ok(row)
+}
+
+/// The cell that stands at a column: the first of the hanging ones where its place is there or before, else the row's.
+fn seated_at<T: EqualCopy + Drop>(
+    at: usize,
+    cell: LineSet<T>,
+    waiting: &mut VecDeque<HangingCell<T>>,
+) -> LineSet<T>
+    ensures { (cells : List (Cell T.Seen)) → seated at (cell_of T.seen cell ∷ cells)
+        (map (hanging_of T.seen) waiting.old.items)
+        ≡ cell_of T.seen result ∷ seated (at + cell.width + 1) cells (map (hanging_of T.seen) waiting.new.items) }
+{
+    if !hangs_at(at, waiting) {
+        return cell;
+    }
+    match waiting.pop_front() {
+        Some(first) => first.cell,
+        None => cell,
+    }
+}
+
+fn hangs_at<T: EqualCopy + Drop>(at: usize, waiting: &VecDeque<HangingCell<T>>) -> bool
+    ensures { result ≡ hangs_at at (map (hanging_of T.seen) waiting.now.items) }
+{
+    match waiting.front() {
+        Some(first) => first.place <= at,
+        None => false,
+    }
+}
+
+/// Adds the hanging cells that stand behind a row which ends before a column.
+fn push_behind<T: EqualCopy + Drop>(
+    alloc: Global,
+    row: &mut Vec<LineSet<T>>,
+    at: usize,
+    waiting: VecDeque<HangingCell<T>>,
+) -> Result<(), AllocError>
+    ensures { OnOk result (map (cell_of T.seen) row.new.items ≡ map (cell_of T.seen) row.old.items
+        ++ seated_behind at (map (hanging_of T.seen) waiting.items)) }
+{
+    let mut end = at;
+    for last in waiting {
+        push_gap(alloc, row, end, last.place)?;
+        end = behind(end.max(last.place), last.cell.width)?;
+        row.push(last.cell)?;
+    }
+    Ok(())
+}
+
+/// Adds an empty cell where a gap is left before a place.
+fn push_gap<T: EqualCopy + Drop>(
+    alloc: Global,
+    row: &mut Vec<LineSet<T>>,
+    end: usize,
+    place: usize,
+) -> Result<(), AllocError>
+    ensures { OnOk result (map (cell_of T.seen) row.new.items
+        ≡ map (cell_of T.seen) row.old.items ++ gap end place) }
+{
+    if place <= end {
+        return Ok(());
+    }
+    row.push(LineSet {
+        width: place - end - 1,
+        rows: 1,
+        lines: Vec::new(alloc),
+    })?;
+    Ok(())
+}
