@@ -1,10 +1,9 @@
 -- Rows of cells in a block.
-use Rattle.std.specs.Prelude.{ℕ, Bool, true, false, not, List, [], ◌∷◌, ◌++◌, Option, None, Some, map, fold, if◌then◌else◌}
-use Rattle.std.specs.Option.{option_map, option_and_then}
-use Rattle.text_borders.specs.Segments.{Segment}
-use Rattle.text_borders.specs.Borders.{Border, plain, horizontal, has_holes}
+use Rattle.std.specs.Prelude.{ℕ, Bool, List, [], ◌∷◌, ◌++◌, Option, None, Some, fold, if◌then◌else◌}
+use Rattle.std.specs.Option.{option_map}
+use Rattle.text_borders.specs.Borders.{Border, plain}
 use Rattle.text_borders.specs.Lines.{BlockLine, text, border}
-use Rattle.text_borders.specs.Across.{CellLine, Cell, Hanging, RowLine, Row, across}
+use Rattle.text_borders.specs.Across.{CellLine, Cell, RowLine, Row, across}
 use Rattle.block_layout.specs.declared.measure.Measure.{Measure}
 use Rattle.block_layout.specs.Laid.{Laid, add_line, add_border, without_hanging, flush}
 
@@ -25,6 +24,11 @@ before_last (x ∷ y ∷ rest) = x ∷ before_last (y ∷ rest)
 abbrev pub without_last_border : {S : Type 0} → Option (Border S) → Laid S → Laid S
 without_last_border None b = b
 without_last_border (Some above) b = record b { lines = before_last b.lines }
+
+-- a line that was taken off is put back, unless it is a border
+abbrev pub put_back : {S : Type 0} → BlockLine S → CellLine S → Laid S → Laid S
+put_back (text items) l b = record b { lines = b.lines ++ l ∷ [] }
+put_back (border above) l b = b
 
 abbrev pub with_border : {S : Type 0} → Option (Border S) → Laid S → Laid S
 with_border None b = b

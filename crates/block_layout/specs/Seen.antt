@@ -1,5 +1,5 @@
 -- What contracts see of a block of lines.
-use Rattle.std.specs.Prelude.{Bool, List, map}
+use Rattle.std.specs.Prelude.{List, map}
 use Rattle.std.specs.Option.{option_map}
 use Rattle.text_pieces.specs.Sources.{names}
 use Rattle.text_wrapping.specs.Blocks.{block_of}

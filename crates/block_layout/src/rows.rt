@@ -2,7 +2,7 @@
 ghost use Rattle.std.specs.Prelude.{◌≡◌, ◌⊎◌, None, Some, map, IfErr, IfOk, OnOk};
 ghost use Rattle.std.specs.Option.{option_map};
 ghost use Rattle.text_borders.specs.Borders.{border_of};
-ghost use Rattle.text_cells.specs.Cells.{cell_of, row_of, row_line_of};
+ghost use Rattle.text_cells.specs.Cells.{cell_of, hanging_of, laid_line_of, row_of, row_line_of};
 ghost use Rattle.text_pieces.specs.declared.fault.BlockError.TheVariants as errors;
 
 use crate::block::BlockLayout;
@@ -11,13 +11,13 @@ use std::alloc::AllocError;
 use std::mem;
 use tagged_lines::EqualCopy;
 use text_borders::{BorderHoriz, RenderLine};
-use text_cells::{LaidLine, LineSet, Row, RowLine, lay_across};
+use text_cells::{HangingCell, LaidLine, LineSet, Row, RowLine, lay_across};
 use text_pieces::BlockError;
 
 impl<T: EqualCopy + Drop> BlockLayout<T> {
     ghost use Rattle.block_layout.specs.Seen.{laid_of};
-    ghost use Rattle.block_layout.specs.Laid.{add_border};
-    ghost use Rattle.block_layout.specs.LaidRows.{last_border, without_last_border, with_border, add_row_line, add_row_lines, with_row, row_laid, add_row};
+    ghost use Rattle.block_layout.specs.Laid.{add_border, without_hanging};
+    ghost use Rattle.block_layout.specs.LaidRows.{border_line, put_back, last_border, without_last_border, with_border, add_row_line, add_row_lines, with_row, row_laid, add_row};
 
     /// Adds cells beside one another: below the last line, where that is a border, and with a border below them where
     /// borders are drawn. `collapse` takes the borders that are a cell's first and last line into those. Refused as `flush`.
@@ -53,9 +53,17 @@ impl<T: EqualCopy + Drop> BlockLayout<T> {
     {
         let alloc = *self.markers.allocator();
         let above = self.take_border()?;
-        let hanging = mem::replace(&mut self.hanging, Vec::new(alloc));
+        let hanging = self.take_hanging();
         let row = lay_across(alloc, draws, collapse, tag, above, cells, hanging)?;
         self.put_row(measure, tag, draws, row)
+    }
+
+    fn take_hanging(&mut self) -> Vec<HangingCell<T>>
+        ensures hanging { map (hanging_of T.seen) result.items ≡ (laid_of T.seen self.old).hanging }
+        ensures without { laid_of T.seen self.new ≡ without_hanging (laid_of T.seen self.old) }
+    {
+        let alloc = *self.markers.allocator();
+        mem::replace(&mut self.hanging, Vec::new(alloc))
     }
 
     /// Takes the last line off, where it is a border.
@@ -66,13 +74,27 @@ impl<T: EqualCopy + Drop> BlockLayout<T> {
             ≡ without_last_border (last_border (laid_of T.seen self.old).lines) (laid_of T.seen self.old)) }
     {
         match self.lines.pop() {
+            Some(last) => self.border_or_back(last),
             None => Ok(None),
-            Some(LaidLine {
-                line: RenderLine::Line(border),
-                ..
-            }) => Ok(Some(border)),
-            Some(line) => {
-                self.lines.push(line)?;
+        }
+    }
+
+    /// The border that the line is; a text is put back.
+    fn border_or_back(
+        &mut self,
+        last: LaidLine<T>,
+    ) -> Result<Option<BorderHoriz<T>>, AllocError>
+        ensures above { IfOk result (λ above. option_map (border_of T.seen) above
+            ≡ border_line (laid_line_of T.seen last).line) }
+        ensures lines { OnOk result (laid_of T.seen self.new
+            ≡ put_back (laid_line_of T.seen last).line (laid_line_of T.seen last) (laid_of T.seen self.old)) }
+    {
+        let LaidLine { line, content } = last;
+        match line {
+            RenderLine::Line(border) => Ok(Some(border)),
+            RenderLine::Text(text) => {
+                let line = RenderLine::Text(text);
+                self.lines.push(LaidLine { line, content })?;
                 Ok(None)
             }
         }

@@ -5,7 +5,7 @@ use crate::sub_renderer::SubRenderer;
 use text_marks::{Colour, TextDecorator};
 use text_pieces::{BlockError, WhiteSpace};
 
-impl<D: TextDecorator> Renderer for SubRenderer<D> {
+impl<D: TextDecorator + Drop> Renderer for SubRenderer<D> {
     ghost use Rattle.std.specs.Prelude.{◌≡◌, true};
     ghost use Rattle.text_block_renderer.specs.Calls.{step, call_of};
     ghost use Rattle.text_block_renderer.specs.Renderers.{new_sub};

@@ -12,7 +12,7 @@ use tagged_lines::EqualCopy;
 use text_marks::TextDecorator;
 use text_pieces::BlockError;
 
-impl<D: TextDecorator> SubRenderer<D> {
+impl<D: TextDecorator + Drop> SubRenderer<D> {
     ghost use Rattle.text_block_renderer.specs.Renderers.{on_laid, preformatted_added, tagged_added, text_added, add_inline};
     ghost use Rattle.text_block_renderer.specs.Seen.{sub_of, Comes, Fails};
 

@@ -12,7 +12,7 @@ use std::alloc::AllocError;
 use text_marks::{Colour, TextDecorator};
 use text_pieces::BlockError;
 
-impl<D: TextDecorator> SubRenderer<D> {
+impl<D: TextDecorator + Drop> SubRenderer<D> {
     ghost use Rattle.text_block_renderer.specs.Renderers.{add_inline, pushed, popped, begin, finish, begin_link, finish_link};
     ghost use Rattle.text_block_renderer.specs.Renderers.{begin_strikeout, finish_strikeout, add_image, begin_colour};
     ghost use Rattle.text_block_renderer.specs.Renderers.{finish_colour, struck_more, struck_less, add_titled};

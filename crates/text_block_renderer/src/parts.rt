@@ -12,7 +12,7 @@ use text_cells::LineSet;
 use text_marks::TextDecorator;
 use text_pieces::BlockError;
 
-impl<D: TextDecorator> SubRenderer<D> {
+impl<D: TextDecorator + Drop> SubRenderer<D> {
     ghost use Rattle.text_block_renderer.specs.Renderers.{add_sub, append_sub, add_cells, flush_sub, cell_of_sub};
     ghost use Rattle.text_block_renderer.specs.Renderers.{slashed, ruled, add_below, add_first, add_rows_below};
     ghost use Rattle.text_block_renderer.specs.Seen.{sub_of};
@@ -150,7 +150,7 @@ impl<D: TextDecorator> SubRenderer<D> {
 }
 
 /// The cells that renderers are, each with the rows that it takes.
-fn cells_of_subs<D: TextDecorator>(
+fn cells_of_subs<D: TextDecorator + Drop>(
     alloc: Global,
     cells: Vec<(SubRenderer<D>, usize)>,
 ) -> Result<Vec<LineSet<Vec<D::Annotation>>>, BlockError>

@@ -8,9 +8,10 @@ use std::alloc::{AllocError, Global};
 use tagged_lines::EqualCopy;
 use text_marks::TextDecorator;
 use text_borders::RenderLine;
-use text_pieces::{BlockError, WhiteSpace};
+use text_pieces::{BlockError, TooNarrow, WhiteSpace};
 
 /// A renderer of a block of lines, whose text a decorator marks.
+#[derive(Drop)]
 pub struct SubRenderer<D: TextDecorator> {
     /// How text is rendered.
     pub options: RenderOptions,
@@ -25,7 +26,7 @@ pub struct SubRenderer<D: TextDecorator> {
     pub(crate) failed: bool,
 }
 
-impl<D: TextDecorator> SubRenderer<D> {
+impl<D: TextDecorator + Drop> SubRenderer<D> {
     ghost use Rattle.text_block_renderer.specs.Renderers.{new_sub, measure_of, mode_of, flush_sub};
     ghost use Rattle.text_block_renderer.specs.Renderers.{with_empty_line, with_block_started, with_table_started};
     ghost use Rattle.text_block_renderer.specs.Renderers.{with_line_broken, with_border_of, with_fragment};
@@ -203,8 +204,8 @@ impl<D: TextDecorator> SubRenderer<D> {
     }
 }
 
-impl<D: TextDecorator> SubRenderer<D> {
-    ghost use Rattle.std.specs.Prelude.{map, max, ◌+◌, ◌-◌};
+impl<D: TextDecorator + Drop> SubRenderer<D> {
+    ghost use Rattle.std.specs.Prelude.{map};
     ghost use Rattle.text_borders.specs.Lines.{render_line_of};
     ghost use Rattle.text_block_renderer.specs.Renderers.{lines_of_sub, room_behind};
     ghost use Rattle.text_block_renderer.specs.Seen.{sub_of, tags_seen, has_failed};
@@ -232,19 +233,14 @@ impl<D: TextDecorator> SubRenderer<D> {
     }
 
     /// The columns that are left behind a prefix of `prefix_len` columns, at least `max(1, min_width - prefix_len)`. Where
-    /// fewer are left, the error is `TooNarrow`, or that least width is given if lines may pass the block's. Behind a
-    /// refusal the error is `Failed`.
-    pub fn width_minus(&self, prefix_len: usize, min_width: usize) -> Result<usize, BlockError>
-        ensures failed { has_failed self.now ≡ true → result ≡ Err errors.Failed }
-        ensures kinds { has_failed self.now ≡ false → IfErr result (λ e. e ≡ errors.TooNarrow) }
+    /// fewer are left, that least width is given if lines may pass the block's, and else refused. It is given behind a
+    /// refusal too.
+    pub fn width_minus(&self, prefix_len: usize, min_width: usize) -> Result<usize, TooNarrow>
         ensures room { IfOk result (λ n. room_behind prefix_len min_width (sub_of D.Annotation.seen D.held self.now)
             ≡ Some n) }
-        ensures narrow { result ≡ Err errors.TooNarrow
-            → room_behind prefix_len min_width (sub_of D.Annotation.seen D.held self.now) ≡ None }
+        ensures narrow { IfErr result (λ _. room_behind prefix_len min_width
+            (sub_of D.Annotation.seen D.held self.now) ≡ None) }
     {
-        if self.failed {
-            return Err(BlockError::Failed);
-        }
         let least = min_width.saturating_sub(prefix_len).max(1);
         let left = self.width.saturating_sub(prefix_len);
         if least <= left {
@@ -253,6 +249,6 @@ impl<D: TextDecorator> SubRenderer<D> {
         if self.options.allow_width_overflow {
             return Ok(least);
         }
-        Err(BlockError::TooNarrow)
+        Err(TooNarrow)
     }
 }

@@ -1,4 +1,4 @@
-use Rattle.std.proofs.Common.{chars, rules}
+use Rattle.std.proofs.Common.{rules}
 use borrow.Author.Tests.{tests}
 use Rattle.std.specs.Char.{is_whitespace}
 use Rattle.std.proofs.lemmas.Iterator.{YieldsList-from_chars}

@@ -1,11 +1,12 @@
-use Rattle.std.proofs.Common.{ap, sym, ◌∙◌, map}
+use Rattle.std.proofs.Common.{ap, ◌∙◌, map}
 use Rattle.std.specs.Option.{option_map}
 use Rattle.std.proofs.lemmas.Result.{on_ok_weaker}
 use Rattle.text_borders.specs.Borders.{border_of}
 use Rattle.text_cells.specs.Cells.{cell_of, hanging_of, row_of}
 use Rattle.block_layout.specs.Laid.{without_hanging}
+use Rattle.block_layout.specs.LaidRows.{last_border}
 use Rattle.block_layout.specs.Seen.{laid_of}
-use Rattle.block_layout.proofs.RowLemmas.{row_is}
+use Rattle.block_layout.proofs.RowLemmas.{row_is, same_hanging}
 use Rattle.block_layout.proofs.block.BlockLayout.lay_row.Goals as goal
 
 pub returns : goal.returns
@@ -14,6 +15,10 @@ returns g c =
     let b = laid_of seen c.args.self.now in
     on_ok_weaker c.put_row.result (λ e. e ∙ row_is c.args.measure (seen c.args.tag.now) c.args.draws c.args.collapse
         (map (cell_of seen) c.args.cells.items) b _ (option_map (border_of seen) c.in_ok-above.above)
-        (map (hanging_of seen) c.replace-hanging.result.items) (row_of seen c.in_ok-row.row)
-        c.in_ok-above.ensures.above ? c.in_ok-row.ensures ?)
+        (map (hanging_of seen) c.take_hanging-hanging.result.items) (row_of seen c.in_ok-row.row)
+        c.in_ok-above.ensures.above
+        (c.take_hanging-hanging.ensures.hanging ∙ ap (λ x. x.hanging) c.in_ok-above.ensures.without
+            ∙ same_hanging (last_border b.lines) b)
+        c.in_ok-row.ensures
+        (c.take_hanging-hanging.ensures.without ∙ ap (λ x. without_hanging x) c.in_ok-above.ensures.without))
     c.put_row.ensures
