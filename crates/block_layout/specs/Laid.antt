@@ -1,6 +1,6 @@
 -- A block of lines: what it holds, and what each call makes of it. Where a call comes to no block, a character is wider
 -- than the lines at which its text wraps.
-use Rattle.std.specs.Prelude.{ℕ, Bool, true, false, not, ◌&&◌, ◌||◌, List, [], ◌∷◌, ◌++◌, Option, None, Some, map, fold, if◌then◌else◌}
+use Rattle.std.specs.Prelude.{ℕ, Bool, true, false, not, ◌&&◌, ◌||◌, List, [], ◌∷◌, ◌++◌, Option, None, Some, map, fold, unwrap_or, if◌then◌else◌}
 use Rattle.std.specs.Char.{is_whitespace}
 use Rattle.std.specs.List.{list_all, list_any}
 use Rattle.std.specs.Option.{option_map, option_and_then}
@@ -15,9 +15,10 @@ use Rattle.text_borders.specs.Lines.{BlockLine, text, border}
 use Rattle.text_borders.specs.Across.{CellLine, Hanging, as_text}
 use Rattle.block_layout.specs.declared.measure.Measure.{Measure}
 
--- a text that is not laid out yet, in one mode of white space, and the tag of the spaces that fill its lines
+-- a text that is not laid out yet, its mode of white space once it is not empty, and the tag of the spaces that fill its
+-- lines
 pub record Running (S : Type 0) : Type 0 where
-  pub mode : WhiteSpace
+  pub mode : Option WhiteSpace
   pub text : Block S
   pub fill : S
 
@@ -115,9 +116,19 @@ end_block b = record b { awaits = true }
 -- ---- text
 
 -- the running text, which begins here where there is none
-abbrev pub running_or_new : {S : Type 0} → Measure → S → WhiteSpace → Option (Running S) → Running S
-running_or_new m tag mode None = record { mode = mode; text = empty_block m.wrap_width m.overflow None; fill = tag }
-running_or_new m tag mode (Some r) = r
+abbrev pub running_or_new : {S : Type 0} → Measure → S → Option (Running S) → Running S
+running_or_new m tag None = record { mode = None; text = empty_block m.wrap_width m.overflow None; fill = tag }
+running_or_new m tag (Some r) = r
+
+-- an empty text has no mode
+abbrev pub mode_behind : WhiteSpace → List ℕ → Option WhiteSpace → Option WhiteSpace
+mode_behind mode cs old = if is_filled cs then Some mode else old
+
+abbrev pub with_added : {S : Type 0} → WhiteSpace → List ℕ → Running S → Block S → Running S
+with_added mode cs r source = record r { mode = mode_behind mode cs r.mode; text = source }
+
+abbrev pub with_marker : {S : Type 0} → WhiteSpace → List ℕ → Running S → Running S
+with_marker mode name r = record r { mode = Some (unwrap_or r.mode mode); text = marked_by name r.text }
 
 abbrev pub with_text : {S : Type 0} → Running S → Block S → Running S
 with_text r source = record r { text = source }
@@ -127,12 +138,16 @@ with_running b r = record b { running = Some r }
 
 abbrev pub run_on : {S : Type 0} → Measure → S → WhiteSpace → List ℕ → S → S → Laid S → Option (Laid S)
 run_on m tag mode cs main further b =
-    let r = running_or_new m tag mode b.running in
-    option_map (with_running b) (option_map (with_text r) (added mode cs main further r.text))
+    let r = running_or_new m tag b.running in
+    option_map (with_running b) (option_map (with_added mode cs r) (added mode cs main further r.text))
+
+abbrev pub is_other_mode : WhiteSpace → Option WhiteSpace → Bool
+is_other_mode mode None = false
+is_other_mode mode (Some other) = not (is_same_mode mode other)
 
 abbrev pub runs_otherwise : {S : Type 0} → WhiteSpace → Option (Running S) → Bool
 runs_otherwise mode None = false
-runs_otherwise mode (Some r) = not (is_same_mode mode r.mode)
+runs_otherwise mode (Some r) = is_other_mode mode r.mode
 
 -- a text of another mode ends the one before it, unless it is empty
 abbrev pub enter_mode : {S : Type 0} → Measure → S → WhiteSpace → List ℕ → Laid S → Option (Laid S)
@@ -153,7 +168,7 @@ start_awaited m tag b = if b.awaits then start_block m tag b else Some b
 -- a marker stands in the running text
 abbrev pub mark : {S : Type 0} → Measure → S → WhiteSpace → List ℕ → Laid S → Laid S
 mark m tag mode name b =
-    let r = running_or_new m tag mode b.running in with_running b (with_text r (marked_by name r.text))
+    with_running b (with_marker mode name (running_or_new m tag b.running))
 
 -- a line break: it ends a line that has columns, else it is an empty line
 abbrev pub with_text_of : {S : Type 0} → Running S → Bool × Block S → Bool × Running S

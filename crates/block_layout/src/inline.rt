@@ -3,7 +3,7 @@ ghost use Rattle.std.specs.Prelude.{◌≡◌, ◌⊎◌, ◌&&◌, not, None, S
 ghost use Rattle.std.specs.List.{list_all};
 ghost use Rattle.std.specs.Char.{is_whitespace};
 ghost use Rattle.text_pieces.specs.Sources.{is_filled};
-ghost use Rattle.text_pieces.specs.Modes.{is_preserved, is_same_mode};
+ghost use Rattle.text_pieces.specs.Modes.{is_preserved};
 ghost use Rattle.text_pieces.specs.declared.fault.BlockError.TheVariants as errors;
 
 use crate::block::BlockLayout;
@@ -63,7 +63,7 @@ impl<T: EqualCopy + Drop> BlockLayout<T> {
         ensures { result ≡ runs_otherwise mode (laid_of T.seen self.now).running }
     {
         match &self.running {
-            Some(running) => is_other_mode(mode, running.mode()),
+            Some(running) => running.has_other_mode(mode),
             None => false,
         }
     }
@@ -83,26 +83,21 @@ impl<T: EqualCopy + Drop> BlockLayout<T> {
         ensures narrow { result ≡ Err errors.TooNarrow → run_on measure (T.seen tag.now) mode (chars text.now)
             (T.seen main_tag.now) (T.seen wrap_tag.now) (laid_of T.seen self.old) ≡ None }
     {
-        let running = self.take_running(measure, tag, mode)?;
+        let running = self.take_running(measure, tag)?;
         let running = running.with_text(mode, text, main_tag, wrap_tag)?;
         self.running = Some(running);
         Ok(())
     }
 
     /// The text that runs, or an empty one.
-    fn take_running(
-        &mut self,
-        measure: Measure,
-        tag: &T,
-        mode: WhiteSpace,
-    ) -> Result<Running<T>, AllocError>
+    fn take_running(&mut self, measure: Measure, tag: &T) -> Result<Running<T>, AllocError>
         ensures running { IfOk result (λ r. running_of T.seen r
-            ≡ running_or_new measure (T.seen tag.now) mode (laid_of T.seen self.old).running) }
+            ≡ running_or_new measure (T.seen tag.now) (laid_of T.seen self.old).running) }
         ensures without { OnOk result (laid_of T.seen self.new ≡ without_running (laid_of T.seen self.old)) }
     {
         match self.running.take() {
             Some(running) => Ok(running),
-            None => Running::new(*self.markers.allocator(), measure, mode, tag),
+            None => Running::new(*self.markers.allocator(), measure, tag),
         }
     }
 
@@ -141,8 +136,8 @@ impl<T: EqualCopy + Drop> BlockLayout<T> {
         ensures marked { OnOk result (laid_of T.seen self.new
             ≡ mark measure (T.seen tag.now) mode (chars name.now) (laid_of T.seen self.old)) }
     {
-        let running = self.take_running(measure, tag, mode)?;
-        let running = running.with_marker(name)?;
+        let running = self.take_running(measure, tag)?;
+        let running = running.with_marker(mode, name)?;
         self.running = Some(running);
         Ok(())
     }
@@ -180,12 +175,6 @@ impl<T: EqualCopy + Drop> BlockLayout<T> {
         }
         self.add_empty_line(measure, tag)
     }
-}
-
-fn is_other_mode(mode: WhiteSpace, other: WhiteSpace) -> bool
-    ensures { result ≡ not (is_same_mode mode other) }
-{
-    mode != other
 }
 
 fn is_blank(mode: WhiteSpace, text: &str) -> bool

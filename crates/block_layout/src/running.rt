@@ -1,6 +1,7 @@
 //! The text that is not laid out yet.
 
 use crate::measure::Measure;
+use crate::texts::holds_text;
 use std::alloc::{AllocError, Global};
 use tagged_lines::EqualCopy;
 use text_pieces::{BlockError, LaidText, WhiteSpace};
@@ -9,33 +10,35 @@ use text_wrapping::WrappedBlock;
 /// A text in one mode of white space, which no call has been refused to.
 #[derive(Drop)]
 pub(crate) struct Running<T> {
-    mode: WhiteSpace,
+    /// None while it is empty.
+    mode: Option<WhiteSpace>,
     text: WrappedBlock<T>,
     fill: T,
     ghost works: { has_failed text ≡ false },
 }
 
-ghost use Rattle.std.specs.Prelude.{◌≡◌, false};
+ghost use Rattle.std.specs.Prelude.{◌≡◌, false, not, chars};
+ghost use Rattle.text_pieces.specs.Modes.{is_same_mode};
+ghost use Rattle.block_layout.specs.Laid.{mode_behind};
 ghost use Rattle.text_wrapping.specs.Blocks.{has_failed};
 
 impl<T: EqualCopy + Drop> Running<T> {
-    ghost use Rattle.std.specs.Prelude.{◌⊎◌, None, Some, chars, map, IfOk, IfErr};
+    ghost use Rattle.std.specs.Prelude.{◌⊎◌, None, Some, map, IfOk, IfErr};
     ghost use Rattle.std.specs.Option.{option_map};
     ghost use Rattle.tagged_lines.specs.Tagged.{line_items};
     ghost use Rattle.text_pieces.specs.Sources.{names};
     ghost use Rattle.text_pieces.specs.declared.fault.BlockError.TheVariants as errors;
-    ghost use Rattle.text_wrapping.specs.Blocks.{added, marked_by, broken, is_empty};
-    ghost use Rattle.block_layout.specs.Laid.{running_or_new, with_text, with_text_of, laid_text};
+    ghost use Rattle.text_wrapping.specs.Blocks.{added, broken, is_empty};
+    ghost use Rattle.block_layout.specs.Laid.{running_or_new, is_other_mode, with_added, with_marker, with_text_of, laid_text};
     ghost use Rattle.block_layout.specs.Seen.{running_of};
 
     /// An empty text, whose lines are filled with spaces of the tag.
     pub(crate) fn new(
         alloc: Global,
         measure: Measure,
-        mode: WhiteSpace,
         tag: &T,
     ) -> Result<Running<T>, AllocError>
-        ensures { IfOk result (λ r. running_of T.seen r ≡ running_or_new measure (T.seen tag.now) mode None) }
+        ensures { IfOk result (λ r. running_of T.seen r ≡ running_or_new measure (T.seen tag.now) None) }
     {
         let Measure {
             wrap_width,
@@ -44,13 +47,21 @@ impl<T: EqualCopy + Drop> Running<T> {
         } = measure;
         let fill = tag.copy(alloc)?;
         let text = WrappedBlock::new(alloc, wrap_width, false, overflow, tag.copy(alloc)?);
-        Ok(Running { mode, text, fill })
+        Ok(Running {
+            mode: None,
+            text,
+            fill,
+        })
     }
 
-    pub(crate) fn mode(&self) -> WhiteSpace
-        ensures { result ≡ (running_of T.seen self.now).mode }
+    /// Whether the text has another mode.
+    pub(crate) fn has_other_mode(&self, mode: WhiteSpace) -> bool
+        ensures { result ≡ is_other_mode mode (running_of T.seen self.now).mode }
     {
-        self.mode
+        match self.mode {
+            Some(other) => is_other_mode(mode, other),
+            None => false,
+        }
     }
 
     pub(crate) fn is_empty(&self) -> bool
@@ -68,8 +79,8 @@ impl<T: EqualCopy + Drop> Running<T> {
         wrap_tag: &T,
     ) -> Result<Running<T>, BlockError>
         ensures kinds { IfErr result (λ e. (e ≡ errors.TooNarrow) ⊎ (e ≡ errors.Memory)) }
-        ensures added { IfOk result (λ r. option_map (with_text (running_of T.seen self)) (added mode (chars text.now)
-            (T.seen main_tag.now) (T.seen wrap_tag.now) (running_of T.seen self).text)
+        ensures added { IfOk result (λ r. option_map (with_added mode (chars text.now) (running_of T.seen self))
+            (added mode (chars text.now) (T.seen main_tag.now) (T.seen wrap_tag.now) (running_of T.seen self).text)
             ≡ Some (running_of T.seen r)) }
         ensures narrow { result ≡ Err errors.TooNarrow → added mode (chars text.now) (T.seen main_tag.now)
             (T.seen wrap_tag.now) (running_of T.seen self).text ≡ None }
@@ -81,21 +92,33 @@ impl<T: EqualCopy + Drop> Running<T> {
         } = self;
         block.add_text(text, mode, main_tag, wrap_tag)?;
         Ok(Running {
-            mode: begun,
+            mode: mode_behind(mode, text, begun),
             text: block,
             fill,
         })
     }
 
     /// The text with a marker behind it.
-    pub(crate) fn with_marker(self, name: &str) -> Result<Running<T>, BlockError>
+    pub(crate) fn with_marker(
+        self,
+        mode: WhiteSpace,
+        name: &str,
+    ) -> Result<Running<T>, BlockError>
         ensures kinds { IfErr result (λ e. e ≡ errors.Memory) }
         ensures marked { IfOk result (λ r. running_of T.seen r
-            ≡ with_text (running_of T.seen self) (marked_by (chars name.now) (running_of T.seen self).text)) }
+            ≡ with_marker mode (chars name.now) (running_of T.seen self)) }
     {
-        let Running { mode, mut text, fill } = self;
+        let Running {
+            mode: begun,
+            mut text,
+            fill,
+        } = self;
         text.record_frag_start(name)?;
-        Ok(Running { mode, text, fill })
+        Ok(Running {
+            mode: Some(begun.unwrap_or(mode)),
+            text,
+            fill,
+        })
     }
 
     /// Ends the text's line, and tells whether it has columns.
@@ -123,4 +146,20 @@ impl<T: EqualCopy + Drop> Running<T> {
         let lines = text.into_lines()?;
         Ok((LaidText { lines, waiting }, fill))
     }
+}
+
+fn is_other_mode(mode: WhiteSpace, other: WhiteSpace) -> bool
+    ensures { result ≡ not (is_same_mode mode other) }
+{
+    mode != other
+}
+
+/// The mode of a text that had another, or none, behind more of it.
+fn mode_behind(mode: WhiteSpace, text: &str, begun: Option<WhiteSpace>) -> Option<WhiteSpace>
+    ensures { result ≡ mode_behind mode (chars text.now) begun }
+{
+    if holds_text(text) {
+        return Some(mode);
+    }
+    begun
 }

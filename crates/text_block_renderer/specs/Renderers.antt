@@ -1,6 +1,6 @@
 -- A renderer of a block: what it holds, and what each call makes of it. Where a call comes to no renderer, a character is
 -- wider than the lines at which its text wraps.
-use Rattle.std.specs.Prelude.{ℕ, zero, suc, ◌+◌, ◌-◌, ◌==◌, nat_lt, nat_le, min, max, Bool, true, false, List, [], ◌∷◌, ◌++◌, Option, None, Some, map, fold, flat_map, replicate, unwrap_or, chars, if◌then◌else◌}
+use Rattle.std.specs.Prelude.{ℕ, ◌+◌, ◌-◌, ◌==◌, nat_lt, nat_le, min, max, Bool, true, false, List, [], ◌∷◌, ◌++◌, Option, None, Some, map, fold, flat_map, replicate, unwrap_or, chars, if◌then◌else◌}
 use Rattle.std.specs.Option.{option_map, option_and_then}
 use Rattle.tagged_lines.specs.Columns.{width_of}
 use Rattle.text_marks.specs.Marks.{Mark, link_start, link_end, strikeout_start, strikeout_end, preformat_first, preformat_further, image, colour_start, colour_end, background_start, background_end}
@@ -74,8 +74,7 @@ abbrev pub struck_character : ℕ → ℕ → List ℕ
 struck_character n c = c ∷ (if nat_lt 0 (width_of c) then replicate n 0x336 else [])
 
 abbrev pub struck : ℕ → List ℕ → List ℕ
-struck zero cs = cs
-struck (suc n) cs = flat_map (struck_character (suc n)) cs
+struck n cs = if n == 0 then cs else flat_map (struck_character n) cs
 
 abbrev pub struck_text : {H A : Type 0} → Sub H A → List ℕ → List ℕ
 struck_text s cs = if s.options.use_unicode_strikeout then struck s.strikeouts cs else cs

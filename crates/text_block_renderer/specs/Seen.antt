@@ -1,12 +1,13 @@
 -- What contracts see of a renderer over a decorator.
-use Rattle.std.specs.Prelude.{◌≡◌, ℕ, Bool, List, Option, None, Some, map}
+use Rattle.std.specs.Prelude.{◌≡◌, ℕ, Bool, List, Option, None, Some, map, Vec}
+use Rattle.std.specs.Global.{Global}
 use Rattle.text_marks.specs.Marks.{Mark}
 use Rattle.block_layout.specs.Seen.{laid_of}
 use Rattle.text_block_renderer.specs.Renderers.{Marking, Sub}
 use Rattle.text_block_renderer.specs.declared.sub_renderer.SubRenderer.{SubRenderer}
 
 -- annotations that stand together are a tag
-abbrev pub tags_seen : {T A : Type 0} → (T → A) → Vec T → List A
+abbrev pub tags_seen : {T A : Type 0} → (T → A) → Vec T Global → List A
 tags_seen seen tags = map seen tags.items
 
 abbrev pub sub_of : {D T H A : Type 0} → (T → A) → (D → H) → SubRenderer D T → Sub H A

@@ -1,13 +1,15 @@
 //! The calls of a renderer over a decorator.
 
 use crate::renderer::Renderer;
+use crate::stacks::drop_last;
 use crate::sub_renderer::SubRenderer;
 use text_marks::{Colour, TextDecorator};
 use text_pieces::{BlockError, WhiteSpace};
 
 impl<D: TextDecorator + Drop> Renderer for SubRenderer<D> {
     ghost use Rattle.std.specs.Prelude.{◌≡◌, true};
-    ghost use Rattle.text_block_renderer.specs.Calls.{step, call_of};
+    ghost use Rattle.text_block_renderer.specs.Calls.{step, call_of, adds_cells, adds_rows_below};
+    ghost use Rattle.text_block_renderer.specs.Outcomes.{IsOutcome};
     ghost use Rattle.text_block_renderer.specs.Renderers.{new_sub};
     ghost use Rattle.text_block_renderer.specs.Seen.{sub_of, has_failed, Comes, Fails};
     ghost use Rattle.block_layout.specs.Laid.{is_nothing};
@@ -296,7 +298,13 @@ impl<D: TextDecorator + Drop> Renderer for SubRenderer<D> {
         &mut self,
         cells: Vec<(SubRenderer<D>, usize)>,
         collapse: bool,
-    ) -> Result<(), BlockError> {
+    ) -> Result<(), BlockError>
+        ensures { IsOutcome result (has_failed self.old) (has_failed self.new)
+            (Comes D.Annotation.seen D.held D.text D.gives D.marks D.after D.pops
+            (λ m s. step m (call_of (sub_of D.Annotation.seen D.held) (adds_cells cells.items collapse)) s) self.old self.new)
+            (Fails D.Annotation.seen D.held D.text D.gives D.marks D.after D.pops
+            (λ m s. step m (call_of (sub_of D.Annotation.seen D.held) (adds_cells cells.items collapse)) s) self.old) }
+    {
         if self.failed {
             return Err(BlockError::Failed);
         }
@@ -305,7 +313,13 @@ impl<D: TextDecorator + Drop> Renderer for SubRenderer<D> {
         result
     }
 
-    fn append_vert_row(&mut self, cells: Vec<SubRenderer<D>>) -> Result<(), BlockError> {
+    fn append_vert_row(&mut self, cells: Vec<SubRenderer<D>>) -> Result<(), BlockError>
+        ensures { IsOutcome result (has_failed self.old) (has_failed self.new)
+            (Comes D.Annotation.seen D.held D.text D.gives D.marks D.after D.pops
+            (λ m s. step m (call_of (sub_of D.Annotation.seen D.held) (adds_rows_below cells.items)) s) self.old self.new)
+            (Fails D.Annotation.seen D.held D.text D.gives D.marks D.after D.pops
+            (λ m s. step m (call_of (sub_of D.Annotation.seen D.held) (adds_rows_below cells.items)) s) self.old) }
+    {
         if self.failed {
             return Err(BlockError::Failed);
         }
@@ -335,7 +349,7 @@ impl<D: TextDecorator + Drop> Renderer for SubRenderer<D> {
     }
 
     fn pop_ws(&mut self) {
-        self.modes.pop();
+        drop_last(&mut self.modes);
     }
 
     fn header_prefix(&self, level: usize) -> Result<String, BlockError> {

@@ -30,7 +30,7 @@ fn file_name(src: &str) -> &str
     ensures { chars result.now ≡ file_name (chars src.now) }
 {
     let mut name = src;
-    while let Some((_, behind)) = cut_at(name, '/') {
+    while let Some((_front, behind)) = cut_at(name, '/') {
         name = behind;
     }
     name

@@ -8,6 +8,7 @@ mod marking;
 mod options;
 mod parts;
 mod renderer;
+mod stacks;
 mod striking;
 mod sub_renderer;
 

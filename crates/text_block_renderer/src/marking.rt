@@ -7,6 +7,7 @@ ghost use Rattle.std.specs.Option.{option_map};
 ghost use Rattle.text_pieces.specs.declared.fault.BlockError.TheVariants as errors;
 
 use crate::images::shown_title;
+use crate::stacks::drop_last;
 use crate::sub_renderer::SubRenderer;
 use std::alloc::AllocError;
 use text_marks::{Colour, TextDecorator};
@@ -16,7 +17,7 @@ impl<D: TextDecorator + Drop> SubRenderer<D> {
     ghost use Rattle.text_block_renderer.specs.Renderers.{add_inline, pushed, popped, begin, finish, begin_link, finish_link};
     ghost use Rattle.text_block_renderer.specs.Renderers.{begin_strikeout, finish_strikeout, add_image, begin_colour};
     ghost use Rattle.text_block_renderer.specs.Renderers.{finish_colour, struck_more, struck_less, add_titled};
-    ghost use Rattle.text_block_renderer.specs.Seen.{sub_of, Comes, Fails};
+    ghost use Rattle.text_block_renderer.specs.Seen.{sub_of, has_failed, Comes, Fails};
 
     /// The annotation stands, and then the text is added.
     fn begin(&mut self, text: &str, annotation: D::Annotation) -> Result<(), BlockError>
@@ -44,9 +45,10 @@ impl<D: TextDecorator + Drop> SubRenderer<D> {
     }
 
     pub(crate) fn pop_annotation(&mut self)
-        ensures { sub_of D.Annotation.seen D.held self.new ≡ popped (sub_of D.Annotation.seen D.held self.old) }
+        ensures popped { sub_of D.Annotation.seen D.held self.new ≡ popped (sub_of D.Annotation.seen D.held self.old) }
+        ensures failed { has_failed self.new ≡ has_failed self.old }
     {
-        self.annotations.pop();
+        drop_last(&mut self.annotations);
     }
 
     /// Begins emphasis.

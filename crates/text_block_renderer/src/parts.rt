@@ -116,14 +116,25 @@ impl<D: TextDecorator + Drop> SubRenderer<D> {
             (sub_of D.Annotation.seen D.held self.old) ≡ None }
     {
         let mut cells = cells.into_iter();
-        if let Some(cell) = cells.next() {
-            self.append_sub(cell, "", "")?;
-        }
+        let Some(first) = cells.next() else {
+            return Ok(());
+        };
+        self.append_sub(first, "", "")?;
         for cell in cells {
-            self.add_slashes()?;
-            self.append_sub(cell, "", "")?;
+            self.add_one_below(cell)?;
         }
         Ok(())
+    }
+
+    fn add_one_below(&mut self, cell: SubRenderer<D>) -> Result<(), BlockError>
+        ensures kinds { IfErr result (λ e. (e ≡ errors.TooNarrow) ⊎ (e ≡ errors.Memory)) }
+        ensures done { OnOk result (append_sub (sub_of D.Annotation.seen D.held cell) [] []
+            (slashed (sub_of D.Annotation.seen D.held self.old)) ≡ Some (sub_of D.Annotation.seen D.held self.new)) }
+        ensures narrow { result ≡ Err errors.TooNarrow → append_sub (sub_of D.Annotation.seen D.held cell) [] []
+            (slashed (sub_of D.Annotation.seen D.held self.old)) ≡ None }
+    {
+        self.add_slashes()?;
+        self.append_sub(cell, "", "")
     }
 
     /// A border of slashes between two cells, where borders are drawn.

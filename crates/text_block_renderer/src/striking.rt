@@ -3,7 +3,7 @@ ghost use Rattle.std.specs.Prelude.{◌≡◌, ◌++◌, replicate, chars, strin
 ghost use Rattle.text_block_renderer.specs.Renderers.{struck, struck_character};
 
 use std::alloc::{AllocError, Global};
-use text_pieces::{first_char, width_of};
+use text_pieces::width_of;
 
 const COMBINING_LONG_STROKE: char = '\u{336}';
 
@@ -14,11 +14,15 @@ pub(crate) fn struck(alloc: Global, count: usize, text: &str) -> Result<String, 
     if count == 0 {
         return String::from_str(alloc, text);
     }
+    strike_all(alloc, count, text)
+}
+
+fn strike_all(alloc: Global, count: usize, text: &str) -> Result<String, AllocError>
+    ensures { IfOk result (λ s. chars (string_bytes s) ≡ flat_map (struck_character count) (chars text.now)) }
+{
     let mut struck = String::new(alloc);
-    let mut rest = text;
-    while let Some((c, after)) = first_char(rest) {
+    for c in text.chars() {
         push_struck(&mut struck, count, c)?;
-        rest = after;
     }
     Ok(struck)
 }

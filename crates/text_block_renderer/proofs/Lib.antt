@@ -1,0 +1,3 @@
+pub mod StrikingLemmas
+pub mod StackLemmas
+pub mod ImageLemmas

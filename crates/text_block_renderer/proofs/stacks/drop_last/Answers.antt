@@ -1,0 +1,5 @@
+use Rattle.text_block_renderer.proofs.StackLemmas.{last_off, none_off}
+use Rattle.text_block_renderer.proofs.stacks.drop_last.Goals as goal
+
+pub returns : goal.returns
+returns g c = ?
