@@ -1,5 +1,5 @@
 -- Borders that are joined to a row, and the columns of rows.
-use Rattle.std.proofs.Common.{◌≡◌, ℕ, ◌+◌, Bool, true, false, List, [], ◌∷◌, ◌++◌, map, length, if◌then◌else◌, ap, ◌∙◌, refl, sym, arith}
+use Rattle.std.proofs.Common.{◌≡◌, ℕ, ◌+◌, Bool, true, false, List, [], ◌∷◌, ◌++◌, map, length, if◌then◌else◌, append_assoc, ap, ◌∙◌, refl, sym, arith}
 use Rattle.std.specs.Prelude.{Option, None, Some, fold, unwrap_or}
 use Rattle.std.specs.Option.{option_to_list}
 use Rattle.std.proofs.lemmas.List.{same_from_push, append-nil}
@@ -38,6 +38,13 @@ taken_in f is at o x b given =
     ∙ sym (ap (λ y. with_segments (fold (change_to f) b.segments (map (λ k. at + k) (asked is y))) b) given)
 
 -- ---- the columns behind cells
+
+pub more_ends : {S : Type 0} (at next end : ℕ) (c : OpenCell S) (cells : List (OpenCell S)) (old new : List ℕ)
+    → next ≡ at + c.width + 1 → end ≡ at + c.width → new ≡ old ++ end ∷ []
+    → new ++ ends next cells ≡ old ++ ends at (c ∷ cells)
+more_ends at next end c cells old new next_is end_is pushed =
+    ap (λ l. l ++ ends next cells) pushed ∙ append_assoc old (end ∷ []) (ends next cells)
+    ∙ ap (λ k. old ++ k ∷ ends next cells) end_is ∙ ap (λ n. old ++ (at + c.width) ∷ ends n cells) next_is
 
 signs_and_end : {S : Type 0} (at : ℕ) (c : OpenCell S) (cells : List (OpenCell S))
     → ends at (c ∷ cells) ≡ signs at (c ∷ cells) ++ (at + row_width (c ∷ cells)) ∷ []

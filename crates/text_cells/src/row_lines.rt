@@ -21,7 +21,7 @@ pub(crate) fn sign_of(draws: bool) -> char
 pub(crate) fn row_height<T: EqualCopy + Drop>(cells: &[OpenCell<T>]) -> usize
     ensures { result ≡ row_height (map (open_cell_of T.seen) cells.now) }
 {
-    let mut height = 0;
+    let mut height: usize = 0;
     let mut rest = cells;
     while let Some((cell, others)) = rest.split_first() {
         height = height.max(cell.height());
