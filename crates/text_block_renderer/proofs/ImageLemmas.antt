@@ -1,6 +1,6 @@
 -- Names of files.
 use Rattle.std.specs.Prelude.{◌≡◌, ◌≢◌, ℕ, ◌==◌, Bool, true, false, List, [], ◌∷◌, ◌++◌, fold, if◌then◌else◌, refl}
-use Rattle.std.proofs.Common.{sym, ap, ◌∙◌}
+use Rattle.std.proofs.Common.{sym, ap, ◌∙◌, arith}
 use Rattle.std.proofs.lemmas.List.{append_assoc, append-nil}
 use Rattle.std.proofs.lemmas.List.Sums.{fold-append}
 use Rattle.std.proofs.lemmas.Bool.Decides.{nat_tests}
@@ -14,7 +14,7 @@ name_behind text front back cut =
     ∙ fold-append (λ name c. if c == 0x2F then [] else name ++ c ∷ []) [] front (0x2F ∷ back))
 
 differs : (c : ℕ) → c ≢ 0x2F → (c == 0x2F) ≡ false
-differs c h = grind (h, nat_tests)
+differs c h = grind (arith, nat_tests, h)
 
 goes_on : (b : Bool) (name : List ℕ) (c : ℕ) → b ≡ false → (if b then [] else name ++ c ∷ []) ≡ name ++ c ∷ []
 goes_on true name c e = cc

@@ -2,3 +2,4 @@ pub mod StrikingLemmas
 pub mod StackLemmas
 pub mod ImageLemmas
 pub mod CellLemmas
+pub mod InlineLemmas

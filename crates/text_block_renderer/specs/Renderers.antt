@@ -70,8 +70,11 @@ on_laid s laid = option_map (with_laid s) laid
 -- ---- text
 
 -- U+0336 behind each character that has columns, once for each strikeout
+abbrev pub strokes_of : ℕ → ℕ → ℕ
+strokes_of n c = if nat_lt 0 (width_of c) then n else 0
+
 abbrev pub struck_character : ℕ → ℕ → List ℕ
-struck_character n c = c ∷ (if nat_lt 0 (width_of c) then replicate n 0x336 else [])
+struck_character n c = c ∷ replicate (strokes_of n c) 0x336
 
 abbrev pub struck : ℕ → List ℕ → List ℕ
 struck n cs = if n == 0 then cs else flat_map (struck_character n) cs

@@ -1,6 +1,6 @@
 //! Struck text.
-ghost use Rattle.std.specs.Prelude.{◌≡◌, ◌++◌, replicate, chars, string_bytes, flat_map, IfOk, OnOk};
-ghost use Rattle.text_block_renderer.specs.Renderers.{struck, struck_character};
+ghost use Rattle.std.specs.Prelude.{◌≡◌, ◌∷◌, ◌++◌, [], replicate, chars, string_bytes, flat_map, IfOk, OnOk};
+ghost use Rattle.text_block_renderer.specs.Renderers.{struck, struck_character, strokes_of};
 
 use std::alloc::{AllocError, Global};
 use text_pieces::width_of;
@@ -32,18 +32,29 @@ fn push_struck(struck: &mut String, count: usize, c: char) -> Result<(), AllocEr
     ensures { OnOk result (chars (string_bytes struck.new)
         ≡ chars (string_bytes struck.old) ++ struck_character count c) }
 {
-    struck.push(c)?;
-    if width_of(c) > 0 {
-        push_strokes(struck, count)?;
-    }
-    Ok(())
+    push_character(struck, c)?;
+    push_strokes(struck, strokes_of(count, c))
+}
+
+/// How often the character is struck.
+fn strokes_of(count: usize, c: char) -> usize
+    ensures { result ≡ strokes_of count c }
+{
+    if width_of(c) > 0 { count } else { 0 }
 }
 
 fn push_strokes(struck: &mut String, count: usize) -> Result<(), AllocError>
     ensures { OnOk result (chars (string_bytes struck.new) ≡ chars (string_bytes struck.old) ++ replicate count 0x336) }
 {
     for _stroke in 0..count {
-        struck.push(COMBINING_LONG_STROKE)?;
+        push_character(struck, COMBINING_LONG_STROKE)?;
     }
+    Ok(())
+}
+
+fn push_character(text: &mut String, c: char) -> Result<(), AllocError>
+    ensures { OnOk result (chars (string_bytes text.new) ≡ chars (string_bytes text.old) ++ c ∷ []) }
+{
+    text.push(c)?;
     Ok(())
 }

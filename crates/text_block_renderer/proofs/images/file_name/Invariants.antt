@@ -4,12 +4,12 @@ use denote.Shadow.{shadow}
 use Rattle.text_block_renderer.specs.Renderers.{file_name}
 use Rattle.text_block_renderer.proofs.images.file_name.Given as goal
 
-abbrev pub invariant-loop-behind : goal.invariant-loop-behind
-invariant-loop-behind l =
+abbrev pub invariant-loop-front : goal.invariant-loop-front
+invariant-loop-front l =
     record {
       text : shadow (Utf8 l.name);
       rest : file_name (chars l.name) ≡ file_name (chars l.src);
     }
 
-abbrev pub decreases-loop-behind : goal.decreases-loop-behind
-decreases-loop-behind l = length l.name
+abbrev pub decreases-loop-front : goal.decreases-loop-front
+decreases-loop-front l = length l.name

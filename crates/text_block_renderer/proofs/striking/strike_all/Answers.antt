@@ -1,9 +1,13 @@
-use Rattle.std.proofs.Common.{chars, string_bytes}
+use Rattle.std.proofs.Common.{chars, string_bytes, ap, ◌∙◌}
+use Rattle.std.proofs.lemmas.Str.{chars-nil}
 use Rattle.std.proofs.lemmas.Iterator.{YieldsList-from_chars}
 use Rattle.std.proofs.lemmas.Iterator.Consumers.{YieldsList-turn, YieldsList-end}
 use Rattle.text_block_renderer.specs.Renderers.{struck_character}
 use Rattle.text_block_renderer.proofs.StrikingLemmas.{next_flat, all_flat}
 use Rattle.text_block_renderer.proofs.striking.strike_all.Goals as goal
+
+pub loop-c-init : goal.loop-c-init
+loop-c-init c = ap chars c.new-struck.ensures.bytes ∙ chars-nil
 
 pub loop-c-preserved : goal.loop-c-preserved
 loop-c-preserved c =

@@ -1,0 +1,5 @@
+//! Tests of renderers: calls, with lines from elsewhere.
+#![tactic(auto)]
+
+#[cfg(test)]
+mod call_tests;
