@@ -1,0 +1,2 @@
+pub mod OptionLemmas
+pub mod WidthLemmas
