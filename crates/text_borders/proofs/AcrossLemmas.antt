@@ -484,9 +484,9 @@ hanging_fit height at (c ∷ cells) all = by_rows (goes_on c) (hanging_fit heigh
         (hanging_of height (at + c.width + 1) cells) (drop_fits c.width (height + 1) c.lines all.0.lines) rest
     by_rows false rest = rest
 
-pub row_hanging_fits : {S : Type 0} (draws collapse : Bool) (tag : S) (above : Option (Border S)) (cells : List (Cell S))
+pub row_hanging_fit : {S : Type 0} (draws collapse : Bool) (tag : S) (above : Option (Border S)) (cells : List (Cell S))
     (hanging : List (Hanging S)) → All CellFits cells → All (λ h. CellFits h.cell) hanging
     → All (λ h. CellFits h.cell) (across draws collapse tag above cells hanging).hanging
-row_hanging_fits draws collapse tag above cells hanging all hangs =
+row_hanging_fit draws collapse tag above cells hanging all hangs =
     hanging_fit (row_height (row_cells collapse tag above cells hanging)) 0
     (row_cells collapse tag above cells hanging) (cells_open collapse tag above cells hanging all hangs)

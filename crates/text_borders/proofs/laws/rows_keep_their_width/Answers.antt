@@ -1,4 +1,4 @@
-use Rattle.text_borders.proofs.AcrossLemmas.{row_lines_columns, row_below_columns, row_below_width, row_below_sound, row_above_width, row_above_sound, row_hanging_fits}
+use Rattle.text_borders.proofs.AcrossLemmas.{row_lines_columns, row_below_columns, row_below_width, row_below_sound, row_above_width, row_above_sound, row_hanging_fit}
 use Rattle.text_borders.proofs.laws.rows_keep_their_width.Goals as goal
 
 pub returns-clause-lines : goal.returns-clause-lines
@@ -27,4 +27,4 @@ returns-clause-above_sound g c = λ draws collapse tag above cells hanging all h
 
 pub returns-clause-hanging : goal.returns-clause-hanging
 returns-clause-hanging g c = λ draws collapse tag above cells hanging all hangs.
-    row_hanging_fits draws collapse tag above cells hanging all hangs
+    row_hanging_fit draws collapse tag above cells hanging all hangs
