@@ -1,8 +1,8 @@
 -- Each call keeps the lines of a block within its width.
-use Rattle.std.proofs.Common.{◌≡◌, ℕ, ◌≤◌, Bool, true, false, not, ◌&&◌, List, [], ◌∷◌, ◌++◌, Option, None, Some, IfSome, map, sym, subst, refl, arith}
-use Rattle.std.specs.Prelude.{All, fold, if◌then◌else◌}
-use Rattle.std.specs.Option.{option_map, option_and_then}
-use Rattle.std.proofs.lemmas.List.Elements.{All-nil, All-head, All-tail, All-push, All-map}
+use Rattle.std.proofs.Common.{◌≡◌, ℕ, ◌≤◌, Bool, true, false, ◌&&◌, List, [], ◌∷◌, ◌++◌, Option, None, Some, IfSome, map, sym, subst, refl, arith}
+use Rattle.std.specs.Prelude.{All, if◌then◌else◌}
+use Rattle.std.specs.Option.{option_map}
+use Rattle.std.proofs.lemmas.List.Elements.{All-nil, All-head, All-tail, All-push}
 use Rattle.tagged_lines.specs.Tagged.{Item, marker, line_columns}
 use Rattle.text_pieces.specs.Items.{has_text}
 use Rattle.text_pieces.specs.Sources.{is_filled}
@@ -15,7 +15,7 @@ use Rattle.text_borders.specs.Lines.{BlockLine, text}
 use Rattle.text_borders.specs.Across.{CellLine}
 use Rattle.text_borders.specs.AcrossLaws.{LineFits, CellFits}
 use Rattle.block_layout.specs.declared.measure.Measure.{Measure}
-use Rattle.block_layout.specs.Laid.{Running, Laid, nothing_laid, padding, with_line, add_line, add_text_line, add_text_lines, without_running, lines_behind, laid_text, text_laid, flush_of, flush, started, behind_empty_line, add_empty_line, parted, start_block, without_hanging, start_table, end_block, running_or_new, with_added, with_marker, with_text, with_running, run_on, runs_otherwise, enter_mode, add_text, start_awaited, mark, with_text_of, broken_line, break_of, break_line, has_content}
+use Rattle.block_layout.specs.Laid.{Running, Laid, nothing_laid, padding, with_line, add_line, add_text_line, add_text_lines, without_running, lines_behind, laid_text, text_laid, flush_of, flush, started, behind_empty_line, add_empty_line, parted, start_block, without_hanging, start_table, end_block, running_or_new, with_added, with_marker, with_running, run_on, runs_otherwise, enter_mode, add_text, start_awaited, mark, with_text_of, broken_line, break_of, break_line, has_content}
 use Rattle.layout_laws.specs.LayoutLaws.{IsKept, IsWithin}
 use Rattle.layout_laws.proofs.OptionLemmas.{known, mapped, chained}
 

@@ -1,5 +1,5 @@
 -- Words of the laws on blocks of lines.
-use Rattle.std.specs.Prelude.{◌≡◌, ℕ, ◌≤◌, All, true, false, IfSome}
+use Rattle.std.specs.Prelude.{◌≡◌, ◌≤◌, All, true, false, IfSome}
 use Rattle.text_wrapping.specs.LawWords.{IsWithin as IsTextWithin}
 use Rattle.text_borders.specs.AcrossLaws.{LineFits, CellFits}
 use Rattle.block_layout.specs.declared.measure.Measure.{Measure}

@@ -3,4 +3,4 @@
 
 mod laws;
 
-pub use laws::calls_keep_the_width;
+pub use laws::{calls_keep_the_width, overflow_never_refuses};

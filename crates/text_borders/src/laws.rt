@@ -57,7 +57,7 @@ pub fn filled_borders_stay_sound<T: EqualCopy>()
 {}
 
 /// Where each cell's lines are within its width, every line of a row has just the row's columns, and the border below it
-/// too, with its texts; so have the cells that go on, and the border above is stretched to the row, with its texts.
+/// too, with its texts. So has the border above, where it is not wider, and the cells that go on keep their widths.
 pub fn rows_keep_their_width<T: EqualCopy>()
     ensures lines { (draws collapse : Bool) (tag : T.Seen) (above : Option (Border T.Seen)) (cells : List (Cell T.Seen))
         (hanging : List (Hanging T.Seen)) → All CellFits cells → All (λ h. CellFits h.cell) hanging
