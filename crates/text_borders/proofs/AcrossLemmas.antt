@@ -1,17 +1,17 @@
 -- The columns of rows of cells.
 use Rattle.std.proofs.Common.{◌≡◌, ℕ, zero, suc, ◌+◌, ◌-◌, ◌<◌, ◌≤◌, Bool, true, false, List, [], ◌∷◌, ◌++◌, map, length, drop, replicate, if◌then◌else◌, ◌∙◌, refl, inl, inr, arith}
-use Rattle.std.specs.Prelude.{nat_le, nat_lt, fold, max, All, Option}
+use Rattle.std.specs.Prelude.{nat_le, nat_lt, fold, max, All, Option, Some}
 use Rattle.std.specs.Option.{option_map}
 use Rattle.std.proofs.lemmas.List.{length-replicate}
 use Rattle.std.proofs.lemmas.List.Elements.{All-nil, All-cons, All-head, All-tail}
 use Rattle.tagged_lines.specs.Columns.{width_of}
 use Rattle.tagged_lines.specs.Tagged.{Item, character, marker, tagged, line_columns}
 use Rattle.text_pieces.proofs.ItemColumns.{line_columns-append, line_columns-cons}
-use Rattle.text_borders.specs.Segments.{Segment, with_up, joins_above, joins_below, runs_above}
+use Rattle.text_borders.specs.Segments.{Segment, with_up, with_down, joins_above, joins_below, runs_above}
 use Rattle.text_borders.specs.Borders.{Border, horizontal, stretched, change_to, columns_where, with_segments, punched, shown, line_above}
 use Rattle.text_borders.specs.Lines.{BlockLine, text, border}
-use Rattle.text_borders.specs.BorderLaws.{AreInOrder}
-use Rattle.text_borders.specs.Across.{CellLine, Cell, Hanging, empty_cell, seated_behind, seated, OpenCell, spaces, whole, open_line, open_first, close_line, close_behind, close_last, opened, row_width, signs, of_cells, border_below, retagged, widened, line_or, cell_items, row_items, row_lines, row_height, goes_on, with_holes, sign_of, is_given, row_cells, width_across, across}
+use Rattle.text_borders.specs.BorderLaws.{AreInOrder, IsSound}
+use Rattle.text_borders.specs.Across.{CellLine, Cell, Hanging, empty_cell, seated_behind, seated, OpenCell, spaces, whole, open_line, open_first, close_line, close_behind, close_last, opened, row_width, signs, of_cells, joined_to_row, border_below, retagged, widened, line_or, cell_items, row_items, row_lines, row_height, goes_on, with_holes, further, hanging_of, sign_of, is_given, row_cells, width_across, across}
 use Rattle.text_borders.specs.AcrossLaws.{LineFits, CellFits}
 use Rattle.text_borders.proofs.BorderLemmas.{one_column, length-stretched, length-change_to, length-punched, order_wider, order_more, border_columns}
 
@@ -26,7 +26,7 @@ spaces_columns (suc n) tag =
     let rest = spaces_columns n tag in
     omega (arith, line_columns-cons (character 0x20 tag) (spaces n tag), space_column, rest)
 
-retagged_columns : {S : Type 0} (tag : S) (items : List (Item S)) → line_columns (retagged tag items)
+pub retagged_columns : {S : Type 0} (tag : S) (items : List (Item S)) → line_columns (retagged tag items)
     ≡ line_columns items
 retagged_columns tag [] = refl
 retagged_columns tag (character c old ∷ items) =
@@ -245,19 +245,31 @@ signs_below at (c ∷ d ∷ cells) =
     (below_wider (at + c.width + 1 + row_width (d ∷ cells)) (at + row_width (c ∷ d ∷ cells))
     (signs (at + c.width + 1) (d ∷ cells)) (omega arith) (signs_below (at + c.width + 1) (d ∷ cells)))
 
-asked_below : {S : Type 0} (at : ℕ) (cells : List (OpenCell S)) → AllOpen cells
-    → AreBelow (at + row_width cells) (of_cells (λ c. c.asks_below) at cells)
-asked_below at [] all = All-nil (λ k. k < at + 0)
-asked_below at (c ∷ []) all =
-    append_below (at + c.width) (map (λ k. at + k) c.asks_below) []
-    (moved_below at c.width (at + c.width) c.asks_below (omega arith) all.0.below) (All-nil (λ k. k < at + c.width))
-asked_below at (c ∷ d ∷ cells) all =
-    append_below (at + row_width (c ∷ d ∷ cells)) (map (λ k. at + k) c.asks_below)
-    (of_cells (λ x. x.asks_below) (at + c.width + 1) (d ∷ cells))
-    (moved_below at c.width (at + row_width (c ∷ d ∷ cells)) c.asks_below (omega arith) all.0.below)
+-- what each cell asks for lies within the cell
+abbrev AskWithin : {S : Type 0} → (OpenCell S → List ℕ) → Type 0
+AskWithin {S} columns = (c : OpenCell S) → OpenFits c → AreBelow c.width (columns c)
+
+all_asked : {S : Type 0} (columns : OpenCell S → List ℕ) (at : ℕ) (cells : List (OpenCell S)) → AskWithin columns
+    → AllOpen cells → AreBelow (at + row_width cells) (of_cells columns at cells)
+all_asked columns at [] within all = All-nil (λ k. k < at + 0)
+all_asked columns at (c ∷ []) within all =
+    append_below (at + c.width) (map (λ k. at + k) (columns c)) []
+    (moved_below at c.width (at + c.width) (columns c) (omega arith) (within c all.0)) (All-nil (λ k. k < at + c.width))
+all_asked columns at (c ∷ d ∷ cells) within all =
+    append_below (at + row_width (c ∷ d ∷ cells)) (map (λ k. at + k) (columns c))
+    (of_cells columns (at + c.width + 1) (d ∷ cells))
+    (moved_below at c.width (at + row_width (c ∷ d ∷ cells)) (columns c) (omega arith) (within c all.0))
     (below_wider (at + c.width + 1 + row_width (d ∷ cells)) (at + row_width (c ∷ d ∷ cells))
-    (of_cells (λ x. x.asks_below) (at + c.width + 1) (d ∷ cells)) (omega arith)
-    (asked_below (at + c.width + 1) (d ∷ cells) all.1))
+    (of_cells columns (at + c.width + 1) (d ∷ cells)) (omega arith)
+    (all_asked columns (at + c.width + 1) (d ∷ cells) within all.1))
+
+-- the columns between cells, and those that the cells ask for, lie within the row
+joins_within : {S : Type 0} (columns : OpenCell S → List ℕ) (cells : List (OpenCell S)) → AskWithin columns
+    → AllOpen cells → AreBelow (row_width cells) (signs 0 cells ++ of_cells columns 0 cells)
+joins_within columns cells within all =
+    below_wider (0 + row_width cells) (row_width cells) (signs 0 cells ++ of_cells columns 0 cells) (omega arith)
+    (append_below (0 + row_width cells) (signs 0 cells) (of_cells columns 0 cells) (signs_below 0 cells)
+    (all_asked columns 0 cells within all))
 
 fold_keeps : (f : Segment → Segment) (ks : List ℕ) (ss : List Segment) → AreBelow (length ss) ks
     → length (fold (change_to f) ss ks) ≡ length ss
@@ -274,11 +286,19 @@ below_width : {S : Type 0} (tag : S) (cells : List (OpenCell S)) → AllOpen cel
     → length (border_below tag cells).segments ≡ row_width cells
 below_width tag cells all =
     let n = length-replicate (row_width cells) horizontal in
-    let asked = append_below (0 + row_width cells) (signs 0 cells) (of_cells (λ c. c.asks_below) 0 cells)
-    (signs_below 0 cells) (asked_below 0 cells all) in
     fold_keeps (option_map with_up) (signs 0 cells ++ of_cells (λ c. c.asks_below) 0 cells)
     (replicate (row_width cells) horizontal)
-    (below_wider (0 + row_width cells) (length (replicate (row_width cells) horizontal)) _ (omega (arith, n)) asked) ∙ n
+    (below_wider (row_width cells) (length (replicate (row_width cells) horizontal)) _ (omega (arith, n))
+    (joins_within (λ c. c.asks_below) cells (λ c fits. fits.below) all)) ∙ n
+
+above_width : {S : Type 0} (b : Border S) (cells : List (OpenCell S)) → AllOpen cells
+    → length (joined_to_row cells b).segments ≡ max (length b.segments) (row_width cells)
+above_width b cells all =
+    let n = length-stretched (row_width cells) b.segments in
+    fold_keeps (option_map with_down) (signs 0 cells ++ of_cells (λ c. c.asks_above) 0 cells)
+    (stretched (row_width cells) b.segments)
+    (below_wider (row_width cells) (length (stretched (row_width cells) b.segments)) _ (omega (arith, n))
+    (joins_within (λ c. c.asks_above) cells (λ c fits. fits.above) all)) ∙ n
 
 record HolesFit {S : Type 0} (total : ℕ) (b : Border S) : Type 0 where
   width : length b.segments ≡ total
@@ -397,18 +417,76 @@ row_lines_columns draws collapse tag above cells hanging all hangs =
     (row_height (row_cells collapse tag above cells hanging)) (sign_column draws)
     (cells_open collapse tag above cells hanging all hangs)
 
-pub row_below_columns : {S : Type 0} (draws collapse : Bool) (tag : S) (above : Option (Border S)) (cells : List (Cell S))
+row_below_fits : {S : Type 0} (draws collapse : Bool) (tag : S) (above : Option (Border S)) (cells : List (Cell S))
     (hanging : List (Hanging S)) → All CellFits cells → All (λ h. CellFits h.cell) hanging
-    → line_columns (shown (across draws collapse tag above cells hanging).below)
-    ≡ width_across collapse tag above cells hanging
-row_below_columns draws collapse tag above cells hanging all hangs =
+    → HolesFit (width_across collapse tag above cells hanging) (across draws collapse tag above cells hanging).below
+row_below_fits draws collapse tag above cells hanging all hangs =
     let row = row_cells collapse tag above cells hanging in
     let fit = cells_open collapse tag above cells hanging all hangs in
     let start : EndsBefore (row_width row) 0 (border_below tag row) = record {
       width = below_width tag row fit;
       order = omega arith;
     } in
-    let fits = holes_fit (row_width row) 0 0 tag (row_height row) row (border_below tag row) fit (omega arith)
-    (omega arith) (omega arith) start in
-    border_columns (with_holes tag (row_height row) 0 row (border_below tag row))
-    (order_wider 0 (row_width row) _ _ (omega (arith, fits.width)) fits.sound) ∙ fits.width
+    holes_fit (row_width row) 0 0 tag (row_height row) row (border_below tag row) fit (omega arith) (omega arith)
+    (omega arith) start
+
+pub row_below_width : {S : Type 0} (draws collapse : Bool) (tag : S) (above : Option (Border S)) (cells : List (Cell S))
+    (hanging : List (Hanging S)) → All CellFits cells → All (λ h. CellFits h.cell) hanging
+    → length (across draws collapse tag above cells hanging).below.segments
+    ≡ width_across collapse tag above cells hanging
+row_below_width draws collapse tag above cells hanging all hangs =
+    (row_below_fits draws collapse tag above cells hanging all hangs).width
+
+pub row_below_sound : {S : Type 0} (draws collapse : Bool) (tag : S) (above : Option (Border S)) (cells : List (Cell S))
+    (hanging : List (Hanging S)) → All CellFits cells → All (λ h. CellFits h.cell) hanging
+    → IsSound (across draws collapse tag above cells hanging).below
+row_below_sound draws collapse tag above cells hanging all hangs =
+    let fits = row_below_fits draws collapse tag above cells hanging all hangs in
+    order_wider 0 (width_across collapse tag above cells hanging) _ _ (omega (arith, fits.width)) fits.sound
+
+pub row_below_columns : {S : Type 0} (draws collapse : Bool) (tag : S) (above : Option (Border S)) (cells : List (Cell S))
+    (hanging : List (Hanging S)) → All CellFits cells → All (λ h. CellFits h.cell) hanging
+    → line_columns (shown (across draws collapse tag above cells hanging).below)
+    ≡ width_across collapse tag above cells hanging
+row_below_columns draws collapse tag above cells hanging all hangs =
+    border_columns (across draws collapse tag above cells hanging).below
+    (row_below_sound draws collapse tag above cells hanging all hangs)
+    ∙ row_below_width draws collapse tag above cells hanging all hangs
+
+-- ---- the border above
+
+pub row_above_width : {S : Type 0} (collapse : Bool) (tag : S) (above : Border S) (cells : List (Cell S))
+    (hanging : List (Hanging S)) → All CellFits cells → All (λ h. CellFits h.cell) hanging
+    → length (joined_to_row (row_cells collapse tag (Some above) cells hanging) above).segments
+    ≡ max (length above.segments) (width_across collapse tag (Some above) cells hanging)
+row_above_width collapse tag above cells hanging all hangs =
+    above_width above (row_cells collapse tag (Some above) cells hanging)
+    (cells_open collapse tag (Some above) cells hanging all hangs)
+
+pub row_above_sound : {S : Type 0} (collapse : Bool) (tag : S) (above : Border S) (cells : List (Cell S))
+    (hanging : List (Hanging S)) → All CellFits cells → All (λ h. CellFits h.cell) hanging → IsSound above
+    → IsSound (joined_to_row (row_cells collapse tag (Some above) cells hanging) above)
+row_above_sound collapse tag above cells hanging all hangs sound =
+    let n = row_above_width collapse tag above cells hanging all hangs in
+    order_wider 0 (length above.segments) _ above.holes (omega (arith, n)) sound
+
+-- ---- the cells that go on
+
+hanging_fit : {S : Type 0} (height at : ℕ) (cells : List (OpenCell S)) → AllOpen cells
+    → All (λ h. CellFits h.cell) (hanging_of height at cells)
+hanging_fit height at [] all = All-nil (λ h. CellFits h.cell)
+hanging_fit height at (c ∷ cells) all = by_rows (goes_on c) (hanging_fit height (at + c.width + 1) cells all.1)
+  where
+    by_rows : (on : Bool) → All (λ h. CellFits h.cell) (hanging_of height (at + c.width + 1) cells)
+        → All (λ h. CellFits h.cell) ((if on then (record { place = at; cell = further height c }) ∷ [] else [])
+        ++ hanging_of height (at + c.width + 1) cells)
+    by_rows true rest = All-cons (λ h. CellFits h.cell) (record { place = at; cell = further height c })
+        (hanging_of height (at + c.width + 1) cells) (drop_fits c.width (height + 1) c.lines all.0.lines) rest
+    by_rows false rest = rest
+
+pub row_hanging_fit : {S : Type 0} (draws collapse : Bool) (tag : S) (above : Option (Border S)) (cells : List (Cell S))
+    (hanging : List (Hanging S)) → All CellFits cells → All (λ h. CellFits h.cell) hanging
+    → All (λ h. CellFits h.cell) (across draws collapse tag above cells hanging).hanging
+row_hanging_fit draws collapse tag above cells hanging all hangs =
+    hanging_fit (row_height (row_cells collapse tag above cells hanging)) 0
+    (row_cells collapse tag above cells hanging) (cells_open collapse tag above cells hanging all hangs)

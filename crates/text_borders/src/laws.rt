@@ -1,5 +1,5 @@
 //! Laws of borders: each is the contract of a function that does nothing.
-ghost use Rattle.std.specs.Prelude.{◌≡◌, ℕ, ◌+◌, ◌≤◌, Bool, Option, List, All, length, max};
+ghost use Rattle.std.specs.Prelude.{◌≡◌, ℕ, ◌+◌, ◌≤◌, Bool, Option, Some, IfSome, List, All, length, max};
 ghost use Rattle.std.specs.Option.{option_map};
 ghost use Rattle.tagged_lines.specs.Tagged.{Item, line_columns};
 ghost use Rattle.text_borders.specs.Segments.{Segment, with_up, with_down, joins_above, joins_below};
@@ -57,7 +57,7 @@ pub fn filled_borders_stay_sound<T: EqualCopy>()
 {}
 
 /// Where each cell's lines are within its width, every line of a row has just the row's columns, and the border below it
-/// too, with its texts.
+/// too, with its texts. So has the border above, where it is not wider, and the cells that go on keep their widths.
 pub fn rows_keep_their_width<T: EqualCopy>()
     ensures lines { (draws collapse : Bool) (tag : T.Seen) (above : Option (Border T.Seen)) (cells : List (Cell T.Seen))
         (hanging : List (Hanging T.Seen)) → All CellFits cells → All (λ h. CellFits h.cell) hanging
@@ -67,4 +67,23 @@ pub fn rows_keep_their_width<T: EqualCopy>()
         (hanging : List (Hanging T.Seen)) → All CellFits cells → All (λ h. CellFits h.cell) hanging
         → line_columns (shown (across draws collapse tag above cells hanging).below)
         ≡ width_across collapse tag above cells hanging }
+    ensures below_width { (draws collapse : Bool) (tag : T.Seen) (above : Option (Border T.Seen))
+        (cells : List (Cell T.Seen)) (hanging : List (Hanging T.Seen)) → All CellFits cells
+        → All (λ h. CellFits h.cell) hanging
+        → length (across draws collapse tag above cells hanging).below.segments
+        ≡ width_across collapse tag above cells hanging }
+    ensures below_sound { (draws collapse : Bool) (tag : T.Seen) (above : Option (Border T.Seen))
+        (cells : List (Cell T.Seen)) (hanging : List (Hanging T.Seen)) → All CellFits cells
+        → All (λ h. CellFits h.cell) hanging → IsSound (across draws collapse tag above cells hanging).below }
+    ensures above_width { (draws collapse : Bool) (tag : T.Seen) (above : Border T.Seen) (cells : List (Cell T.Seen))
+        (hanging : List (Hanging T.Seen)) → All CellFits cells → All (λ h. CellFits h.cell) hanging
+        → IfSome (across draws collapse tag (Some above) cells hanging).above (λ new. length new.segments
+        ≡ max (length above.segments) (width_across collapse tag (Some above) cells hanging)) }
+    ensures above_sound { (draws collapse : Bool) (tag : T.Seen) (above : Border T.Seen) (cells : List (Cell T.Seen))
+        (hanging : List (Hanging T.Seen)) → All CellFits cells → All (λ h. CellFits h.cell) hanging → IsSound above
+        → IfSome (across draws collapse tag (Some above) cells hanging).above IsSound }
+    ensures hanging { (draws collapse : Bool) (tag : T.Seen) (above : Option (Border T.Seen))
+        (cells : List (Cell T.Seen)) (hanging : List (Hanging T.Seen)) → All CellFits cells
+        → All (λ h. CellFits h.cell) hanging
+        → All (λ h. CellFits h.cell) (across draws collapse tag above cells hanging).hanging }
 {}

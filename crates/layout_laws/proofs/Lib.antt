@@ -1,0 +1,4 @@
+pub mod OptionLemmas
+pub mod OverflowLemmas
+pub mod RowWidths
+pub mod WidthLemmas

@@ -1,0 +1,6 @@
+//! What holds of every block of lines, said without what its calls do: laws, beside `block_layout`.
+#![tactic(auto)]
+
+mod laws;
+
+pub use laws::{calls_keep_the_width, overflow_never_refuses};
