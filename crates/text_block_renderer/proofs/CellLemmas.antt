@@ -1,10 +1,10 @@
 -- Cells that renderers are.
 use Rattle.std.specs.Prelude.{◌≡◌, ℕ, List, [], ◌∷◌, ◌++◌, Option, None, Some, refl}
 use Rattle.std.specs.Option.{option_map, option_and_then}
-use Rattle.std.proofs.Common.{sym, ap, ◌∙◌}
+use Rattle.std.proofs.Common.{sym, ap, ◌∙◌, length, map, arith}
 use Rattle.std.proofs.lemmas.List.{append_assoc, append-nil}
 use Rattle.text_borders.specs.Across.{Cell}
-use Rattle.text_block_renderer.specs.Renderers.{Sub, cell_of_sub, before_cells, cells_of_subs, flush_sub}
+use Rattle.text_block_renderer.specs.Renderers.{Sub, cell_of_sub, before_cells, cells_of_subs, flush_sub, append_sub, add_below, add_first}
 
 some_same : {A : Type 0} (x y : A) → Some x ≡ Some y → x ≡ y
 some_same x y e = cc
@@ -40,3 +40,13 @@ pub all_cells : {H A : Type 0} (done : List (Cell (List A))) (items : List (Sub 
 all_cells done items all none so_far =
     sym so_far ∙ ap (λ cs. option_map (λ more. done ++ more) (cells_of_subs cs)) none
     ∙ ap (λ cs. Some cs) (append-nil done)
+
+pub no_items : {A B : Type 0} (f : A → B) (xs : List A) → length xs ≡ 0 → map f xs ≡ []
+no_items f [] e = refl
+no_items f (x ∷ xs) e = absurd (omega arith)
+
+-- the first of the cells that stand below one another
+pub begun_below : {H A : Type 0} (first : Sub H A) (rest items : List (Sub H A)) (s new : Sub H A)
+    → items ≡ first ∷ rest → append_sub first [] [] s ≡ Some new → add_below rest new ≡ add_first items s
+begun_below first rest items s new split added =
+    sym (ap (λ xs. add_first xs s) split ∙ ap (option_and_then (add_below rest)) added)

@@ -17,10 +17,10 @@ pub inline_is : {H A : Type 0} (m : Marking H A) (cs : List ℕ) (s : Sub H A) (
     (laid : Laid (List A)) (b : Bool) (o : Option (Sub H A)) → mode ≡ mode_of s → measure ≡ measure_of s
     → b ≡ is_ignored mode cs s.laid → b ≡ false → start_awaited measure s.annotations s.laid ≡ Some laid
     → on_laid (with_laid s laid) (text_added m cs (with_laid s laid) laid) ≡ o → add_inline m cs s ≡ o
-inline_is m cs s mode measure laid b o e f test no started added =
+inline_is m cs s mode measure laid b o e f test stays started added =
     other_branch (is_ignored (mode_of s) cs s.laid) (Some s)
         (on_laid s (option_and_then (text_added m cs s) (start_awaited (measure_of s) s.annotations s.laid)))
-        (sym (test ∙ ap (λ k. is_ignored k cs s.laid) e) ∙ no)
+        (sym (test ∙ ap (λ k. is_ignored k cs s.laid) e) ∙ stays)
     ∙ ap (λ o. on_laid s (option_and_then (text_added m cs s) o))
         (sym (ap (λ k. start_awaited k s.annotations s.laid) f) ∙ started)
     ∙ added

@@ -13,4 +13,4 @@ loop-front-preserved c = record {
 }
 
 pub returns : goal.returns
-returns c = name_alone (chars c.loop-front.name.now) ? ∙ c.loop-front.invariant.rest
+returns c = name_alone (chars c.loop-front.name.now) (c.in_default.ensures.none refl) ∙ c.loop-front.invariant.rest
