@@ -27,15 +27,13 @@ impl Case {
     /// The case of a script. Its first line has the width, the decorator and the options that are on, and each of the
     /// others a call.
     pub(crate) fn from_script(alloc: Global, script: &str) -> Result<Case, Error> {
-        let (head, lines) = match script.split_once('\n') {
-            Some((head, lines)) => (head, Some(lines)),
-            None => (script, None),
+        let mut lines = script.lines();
+        let Some(head) = lines.next() else {
+            return Err(Error::Script(ScriptFault::Head));
         };
         let mut case = Case::from_head(alloc, head)?;
-        if let Some(lines) = lines {
-            for line in lines.split('\n') {
-                case.calls.push(Call::from_line(alloc, line)?)?;
-            }
+        for line in lines {
+            case.calls.push(Call::from_line(alloc, line)?)?;
         }
         Ok(case)
     }

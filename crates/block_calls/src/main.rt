@@ -1,6 +1,7 @@
 //! Tells the lines that scripts of renderer calls give. Standard input has the scripts, an empty line behind each, and
-//! standard output gets the lines of each, and an empty line. Each script is done with its texts whole and with its texts
-//! a character at a time, and both must give the same lines.
+//! standard output gets the lines of each, and an empty line. Each script is done with its texts whole and with its
+//! texts a character at a time (white space that a text begins with stays with what follows), and both must give the
+//! same lines.
 #![tactic(auto)]
 
 mod annotations;
@@ -20,8 +21,8 @@ use std::io::{BufWriter, Write};
 use std::process::ExitCode;
 use telling::lines_told;
 
-/// Ends with status 0 where each script was done and gave the same lines in both ways, and else 1 with a text on standard
-/// error.
+/// Ends with status 0 where each script was done and gave the same lines in both ways, and else 1 with a text on
+/// standard error.
 fn main(rt: HostRuntime) -> ExitCode {
     match serve(&rt) {
         Ok(()) => ExitCode::from(0),

@@ -75,7 +75,7 @@ fn push_elements<A: Named>(told: &mut String, line: &TaggedLine<Vec<A>>) -> Resu
         told.push('\t')?;
         match element {
             TaggedLineElement::Str(string) => {
-                push_names(told, &string.tag)?;
+                push_names(told, string.tag.as_slice())?;
                 told.push('|')?;
                 told.push_str(string.s.as_str())?;
             }
@@ -89,7 +89,7 @@ fn push_elements<A: Named>(told: &mut String, line: &TaggedLine<Vec<A>>) -> Resu
 }
 
 /// Adds the names of annotations, with commas between them.
-fn push_names<A: Named>(told: &mut String, annotations: &Vec<A>) -> Result<(), AllocError> {
+fn push_names<A: Named>(told: &mut String, annotations: &[A]) -> Result<(), AllocError> {
     let mut is_first = true;
     for annotation in annotations.iter() {
         if !is_first {
