@@ -1,27 +1,18 @@
 //! Text laid out in blocks, and the decorators that mark it.
 #![tactic(auto)]
 
-mod calls;
-mod images;
-mod inline;
-mod marking;
-mod options;
-mod parts;
-mod renderer;
-mod stacks;
-mod striking;
-mod sub_renderer;
+mod text_renderer;
 
-pub use options::{ImageRenderMode, RenderOptions};
-pub use renderer::Renderer;
-pub use sub_renderer::SubRenderer;
-pub use text_borders::{BorderHoriz, BorderSegHoriz, RenderLine};
-pub use text_cells::LineSet;
+pub use block_renderer::{
+    BorderHoriz, BorderSegHoriz, ImageRenderMode, LineSet, RenderLine, RenderOptions, Renderer,
+    SubRenderer,
+};
 pub use text_decorators::{
     Colour, Columns, EqualCopy, LineChars, PlainDecorator, RichAnnotation, RichDecorator,
     SteadyPrefixes, TaggedLine, TaggedLineElement, TaggedString, TaggedStrings, TextDecorator,
     TrivialDecorator, UnicodeColumns,
 };
+pub use text_renderer::TextRenderer;
 pub use text_wrapping::{
     BlockError, TooNarrow, WhiteSpace, WrappedBlock, a_line_that_fits_is_itself,
     blocks_keep_the_width, each_line_end_gives_a_line, fewest_lines, filled_lines_have_the_width,

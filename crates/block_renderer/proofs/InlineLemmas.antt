@@ -1,0 +1,31 @@
+-- Text that is added under what stands.
+use Rattle.std.specs.Prelude.{◌≡◌, ℕ, Bool, true, false, List, [], ◌∷◌, ◌++◌, Option, None, Some, map, if◌then◌else◌, refl}
+use Rattle.std.specs.Option.{option_map, option_and_then}
+use Rattle.std.proofs.Common.{sym, ap, ◌∙◌}
+use Rattle.std.proofs.lemmas.List.{map-append}
+use Rattle.text_pieces.specs.declared.white_space.WhiteSpace.{WhiteSpace}
+use Rattle.block_layout.specs.declared.measure.Measure.{Measure}
+use Rattle.block_layout.specs.Laid.{Laid, is_ignored, start_awaited}
+use Rattle.block_renderer.specs.Renderers.{Marking, Sub, measure_of, mode_of, with_laid, on_laid, text_added, add_inline}
+
+other_branch : {B : Type 0} (b : Bool) (x y : B) → b ≡ false → (if b then x else y) ≡ y
+other_branch true x y e = cc
+other_branch false x y e = refl
+
+-- a text that isn't ignored, behind a block that may have been started
+pub inline_is : {H A : Type 0} (m : Marking H A) (cs : List ℕ) (s : Sub H A) (mode : WhiteSpace) (measure : Measure)
+    (laid : Laid (List A)) (b : Bool) (o : Option (Sub H A)) → mode ≡ mode_of s → measure ≡ measure_of s
+    → b ≡ is_ignored mode cs s.laid → b ≡ false → start_awaited measure s.annotations s.laid ≡ Some laid
+    → on_laid (with_laid s laid) (text_added m cs (with_laid s laid) laid) ≡ o → add_inline m cs s ≡ o
+inline_is m cs s mode measure laid b o e f test stays started added =
+    other_branch (is_ignored (mode_of s) cs s.laid) (Some s)
+        (on_laid s (option_and_then (text_added m cs s) (start_awaited (measure_of s) s.annotations s.laid)))
+        (sym (test ∙ ap (λ k. is_ignored k cs s.laid) e) ∙ stays)
+    ∙ ap (λ o. on_laid s (option_and_then (text_added m cs s) o))
+        (sym (ap (λ k. start_awaited k s.annotations s.laid) f) ∙ started)
+    ∙ added
+
+-- one more
+pub mapped_more : {T A : Type 0} (f : T → A) (old new : List T) (x : T) → new ≡ old ++ x ∷ []
+    → map f old ++ f x ∷ [] ≡ map f new
+mapped_more f old new x e = sym (ap (map f) e ∙ map-append f old (x ∷ []))

@@ -1,0 +1,6 @@
+pub mod Calls
+pub mod Defaults
+pub mod Footnotes
+pub mod Outcomes
+pub mod Renderers
+pub mod Seen

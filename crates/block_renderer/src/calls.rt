@@ -1,0 +1,382 @@
+//! The calls of a renderer over a decorator.
+
+use crate::renderer::Renderer;
+use crate::stacks::drop_last;
+use crate::sub_renderer::SubRenderer;
+use text_marks::{Colour, TextDecorator};
+use text_pieces::{BlockError, WhiteSpace};
+
+impl<D: TextDecorator + Drop> Renderer for SubRenderer<D> {
+    ghost use Rattle.std.specs.Prelude.{◌≡◌, true};
+    ghost use Rattle.block_renderer.specs.Calls.{step, call_of, adds_cells, adds_rows_below};
+    ghost use Rattle.block_renderer.specs.Outcomes.{IsOutcome};
+    ghost use Rattle.block_renderer.specs.Renderers.{new_sub};
+    ghost use Rattle.block_renderer.specs.Seen.{sub_of, has_failed, Comes, Fails};
+    ghost use Rattle.block_layout.specs.Laid.{is_nothing};
+
+    ghost has_failed = { has_failed };
+
+    ghost does = { λ c old new. Comes D.Annotation.seen D.held D.text D.gives D.marks D.after D.pops
+        (λ m s. step m (call_of (sub_of D.Annotation.seen D.held) c) s) old new };
+
+    ghost never = { λ c old. Fails D.Annotation.seen D.held D.text D.gives D.marks D.after D.pops
+        (λ m s. step m (call_of (sub_of D.Annotation.seen D.held) c) s) old };
+
+    ghost columns = { λ s. s.width };
+
+    ghost holds_nothing = { λ s. is_nothing (sub_of D.Annotation.seen D.held s).laid };
+
+    ghost prefix = { λ s kind. D.text (D.held s.decorator) kind };
+
+    ghost is_part = { λ s width part. sub_of D.Annotation.seen D.held part ≡ new_sub width s.options
+        (D.sub (D.held s.decorator)) (sub_of D.Annotation.seen D.held s).annotations };
+
+    fn width(&self) -> usize {
+        self.width
+    }
+
+    fn empty(&self) -> bool {
+        self.laid.is_empty()
+    }
+
+    fn new_sub_renderer(&self, width: usize) -> Result<SubRenderer<D>, BlockError> {
+        if self.failed {
+            return Err(BlockError::Failed);
+        }
+        Ok(self.part(width)?)
+    }
+
+    fn add_horizontal_border_width(&mut self, width: usize) -> Result<(), BlockError> {
+        if self.failed {
+            return Err(BlockError::Failed);
+        }
+        let result = self.put_border(width);
+        self.failed = result.is_err();
+        result
+    }
+
+    fn add_empty_line(&mut self) -> Result<(), BlockError> {
+        if self.failed {
+            return Err(BlockError::Failed);
+        }
+        let result = self.put_empty_line();
+        self.failed = result.is_err();
+        result
+    }
+
+    fn start_block(&mut self) -> Result<(), BlockError> {
+        if self.failed {
+            return Err(BlockError::Failed);
+        }
+        let result = self.open_block();
+        self.failed = result.is_err();
+        result
+    }
+
+    fn start_table(&mut self) -> Result<(), BlockError> {
+        if self.failed {
+            return Err(BlockError::Failed);
+        }
+        let result = self.open_table();
+        self.failed = result.is_err();
+        result
+    }
+
+    fn new_line(&mut self) -> Result<(), BlockError> {
+        if self.failed {
+            return Err(BlockError::Failed);
+        }
+        let result = self.flush();
+        self.failed = result.is_err();
+        result
+    }
+
+    fn new_line_hard(&mut self) -> Result<(), BlockError> {
+        if self.failed {
+            return Err(BlockError::Failed);
+        }
+        let result = self.break_line();
+        self.failed = result.is_err();
+        result
+    }
+
+    fn add_horizontal_border(&mut self) -> Result<(), BlockError> {
+        if self.failed {
+            return Err(BlockError::Failed);
+        }
+        let result = self.put_border(self.width);
+        self.failed = result.is_err();
+        result
+    }
+
+    fn push_preformat(&mut self) -> Result<(), BlockError> {
+        if self.failed {
+            return Err(BlockError::Failed);
+        }
+        let result = self.begin_preformat();
+        self.failed = result.is_err();
+        result
+    }
+
+    fn push_ws(&mut self, ws: WhiteSpace) -> Result<(), BlockError> {
+        if self.failed {
+            return Err(BlockError::Failed);
+        }
+        let result = self.begin_mode(ws);
+        self.failed = result.is_err();
+        result
+    }
+
+    fn add_inline_text(&mut self, text: &str) -> Result<(), BlockError> {
+        if self.failed {
+            return Err(BlockError::Failed);
+        }
+        let result = self.add_inline(text);
+        self.failed = result.is_err();
+        result
+    }
+
+    fn start_link(&mut self, target: &str) -> Result<(), BlockError> {
+        if self.failed {
+            return Err(BlockError::Failed);
+        }
+        let result = self.begin_link(target);
+        self.failed = result.is_err();
+        result
+    }
+
+    fn end_link(&mut self) -> Result<(), BlockError> {
+        if self.failed {
+            return Err(BlockError::Failed);
+        }
+        let result = self.finish_link();
+        self.failed = result.is_err();
+        result
+    }
+
+    fn start_emphasis(&mut self) -> Result<(), BlockError> {
+        if self.failed {
+            return Err(BlockError::Failed);
+        }
+        let result = self.begin_emphasis();
+        self.failed = result.is_err();
+        result
+    }
+
+    fn end_emphasis(&mut self) -> Result<(), BlockError> {
+        if self.failed {
+            return Err(BlockError::Failed);
+        }
+        let result = self.finish_emphasis();
+        self.failed = result.is_err();
+        result
+    }
+
+    fn start_strong(&mut self) -> Result<(), BlockError> {
+        if self.failed {
+            return Err(BlockError::Failed);
+        }
+        let result = self.begin_strong();
+        self.failed = result.is_err();
+        result
+    }
+
+    fn end_strong(&mut self) -> Result<(), BlockError> {
+        if self.failed {
+            return Err(BlockError::Failed);
+        }
+        let result = self.finish_strong();
+        self.failed = result.is_err();
+        result
+    }
+
+    fn start_strikeout(&mut self) -> Result<(), BlockError> {
+        if self.failed {
+            return Err(BlockError::Failed);
+        }
+        let result = self.begin_strikeout();
+        self.failed = result.is_err();
+        result
+    }
+
+    fn end_strikeout(&mut self) -> Result<(), BlockError> {
+        if self.failed {
+            return Err(BlockError::Failed);
+        }
+        let result = self.finish_strikeout();
+        self.failed = result.is_err();
+        result
+    }
+
+    fn start_code(&mut self) -> Result<(), BlockError> {
+        if self.failed {
+            return Err(BlockError::Failed);
+        }
+        let result = self.begin_code();
+        self.failed = result.is_err();
+        result
+    }
+
+    fn end_code(&mut self) -> Result<(), BlockError> {
+        if self.failed {
+            return Err(BlockError::Failed);
+        }
+        let result = self.finish_code();
+        self.failed = result.is_err();
+        result
+    }
+
+    fn start_superscript(&mut self) -> Result<(), BlockError> {
+        if self.failed {
+            return Err(BlockError::Failed);
+        }
+        let result = self.begin_superscript();
+        self.failed = result.is_err();
+        result
+    }
+
+    fn end_superscript(&mut self) -> Result<(), BlockError> {
+        if self.failed {
+            return Err(BlockError::Failed);
+        }
+        let result = self.finish_superscript();
+        self.failed = result.is_err();
+        result
+    }
+
+    fn add_image(&mut self, src: &str, title: &str) -> Result<(), BlockError> {
+        if self.failed {
+            return Err(BlockError::Failed);
+        }
+        let result = self.put_image(src, title);
+        self.failed = result.is_err();
+        result
+    }
+
+    fn record_frag_start(&mut self, name: &str) -> Result<(), BlockError> {
+        if self.failed {
+            return Err(BlockError::Failed);
+        }
+        let result = self.begin_fragment(name);
+        self.failed = result.is_err();
+        result
+    }
+
+    fn push_colour(&mut self, colour: Colour) -> Result<(), BlockError> {
+        if self.failed {
+            return Err(BlockError::Failed);
+        }
+        let result = self.begin_colour(colour);
+        self.failed = result.is_err();
+        result
+    }
+
+    fn push_bgcolour(&mut self, colour: Colour) -> Result<(), BlockError> {
+        if self.failed {
+            return Err(BlockError::Failed);
+        }
+        let result = self.begin_bgcolour(colour);
+        self.failed = result.is_err();
+        result
+    }
+
+    fn append_subrender(
+        &mut self,
+        other: SubRenderer<D>,
+        first: &str,
+        following: &str,
+    ) -> Result<(), BlockError> {
+        if self.failed {
+            return Err(BlockError::Failed);
+        }
+        let result = self.add_sub(other, first, following);
+        self.failed = result.is_err();
+        result
+    }
+
+    fn append_columns_with_borders(
+        &mut self,
+        cells: Vec<(SubRenderer<D>, usize)>,
+        collapse: bool,
+    ) -> Result<(), BlockError>
+        ensures { IsOutcome result (has_failed self.old) (has_failed self.new)
+            (Comes D.Annotation.seen D.held D.text D.gives D.marks D.after D.pops
+            (λ m s. step m (call_of (sub_of D.Annotation.seen D.held) (adds_cells cells.items collapse)) s) self.old self.new)
+            (Fails D.Annotation.seen D.held D.text D.gives D.marks D.after D.pops
+            (λ m s. step m (call_of (sub_of D.Annotation.seen D.held) (adds_cells cells.items collapse)) s) self.old) }
+    {
+        if self.failed {
+            return Err(BlockError::Failed);
+        }
+        let result = self.add_cells(cells, collapse);
+        self.failed = result.is_err();
+        result
+    }
+
+    fn append_vert_row(&mut self, cells: Vec<SubRenderer<D>>) -> Result<(), BlockError>
+        ensures { IsOutcome result (has_failed self.old) (has_failed self.new)
+            (Comes D.Annotation.seen D.held D.text D.gives D.marks D.after D.pops
+            (λ m s. step m (call_of (sub_of D.Annotation.seen D.held) (adds_rows_below cells.items)) s) self.old self.new)
+            (Fails D.Annotation.seen D.held D.text D.gives D.marks D.after D.pops
+            (λ m s. step m (call_of (sub_of D.Annotation.seen D.held) (adds_rows_below cells.items)) s) self.old) }
+    {
+        if self.failed {
+            return Err(BlockError::Failed);
+        }
+        let result = self.add_rows_below(cells);
+        self.failed = result.is_err();
+        result
+    }
+
+    fn pop_colour(&mut self) {
+        if self.decorator.pop_colour() {
+            self.pop_annotation();
+        }
+    }
+
+    fn pop_bgcolour(&mut self) {
+        if self.decorator.pop_bgcolour() {
+            self.pop_annotation();
+        }
+    }
+
+    fn end_block(&mut self) {
+        self.laid.end_block();
+    }
+
+    fn pop_preformat(&mut self) {
+        self.preformats = self.preformats.saturating_sub(1);
+    }
+
+    fn pop_ws(&mut self) {
+        drop_last(&mut self.modes);
+    }
+
+    fn header_prefix(&self, level: usize) -> Result<String, BlockError> {
+        if self.failed {
+            return Err(BlockError::Failed);
+        }
+        Ok(self.decorator.header_prefix(self.alloc(), level)?)
+    }
+
+    fn quote_prefix(&self) -> Result<String, BlockError> {
+        if self.failed {
+            return Err(BlockError::Failed);
+        }
+        Ok(self.decorator.quote_prefix(self.alloc())?)
+    }
+
+    fn unordered_item_prefix(&self) -> Result<String, BlockError> {
+        if self.failed {
+            return Err(BlockError::Failed);
+        }
+        Ok(self.decorator.unordered_item_prefix(self.alloc())?)
+    }
+
+    fn ordered_item_prefix(&self, i: i64) -> Result<String, BlockError> {
+        if self.failed {
+            return Err(BlockError::Failed);
+        }
+        Ok(self.decorator.ordered_item_prefix(self.alloc(), i)?)
+    }
+}

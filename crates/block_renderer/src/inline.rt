@@ -1,0 +1,96 @@
+//! Text of a renderer.
+ghost use Rattle.std.specs.Prelude.{◌≡◌, ◌⊎◌, ◌++◌, ◌∷◌, [], None, Some, map, chars, string_bytes, if◌then◌else◌, nat_lt, Err, IfOk, IfErr, OnOk};
+ghost use Rattle.text_marks.specs.Marks.{preformat_first, preformat_further};
+ghost use Rattle.text_pieces.specs.declared.fault.BlockError.TheVariants as errors;
+ghost use Rattle.block_layout.specs.Laid.{add_text};
+ghost use Rattle.block_renderer.specs.Renderers.{struck};
+
+use crate::sub_renderer::SubRenderer;
+use crate::striking::struck;
+use std::alloc::{AllocError, Global};
+use tagged_lines::EqualCopy;
+use text_marks::TextDecorator;
+use text_pieces::BlockError;
+
+impl<D: TextDecorator + Drop> SubRenderer<D> {
+    ghost use Rattle.block_renderer.specs.Renderers.{on_laid, preformatted_added, tagged_added, text_added, add_inline};
+    ghost use Rattle.block_renderer.specs.Seen.{sub_of, Comes, Fails};
+
+    /// Adds text, unless it is ignored behind a block.
+    pub(crate) fn add_inline(&mut self, text: &str) -> Result<(), BlockError>
+        ensures kinds { IfErr result (λ e. (e ≡ errors.TooNarrow) ⊎ (e ≡ errors.Memory)) }
+        ensures done { OnOk result (Comes D.Annotation.seen D.held D.text D.gives D.marks D.after D.pops
+            (λ m s. add_inline m (chars text.now) s) self.old self.new) }
+        ensures narrow { result ≡ Err errors.TooNarrow → Fails D.Annotation.seen D.held D.text D.gives D.marks D.after
+            D.pops (λ m s. add_inline m (chars text.now) s) self.old }
+    {
+        if self.laid.is_ignored(self.mode(), text) {
+            return Ok(());
+        }
+        let measure = self.measure();
+        self.laid.start_awaited(measure, &self.annotations)?;
+        self.add_struck(text)
+    }
+
+    /// Adds text, struck where strikeouts are drawn.
+    fn add_struck(&mut self, text: &str) -> Result<(), BlockError>
+        ensures kinds { IfErr result (λ e. (e ≡ errors.TooNarrow) ⊎ (e ≡ errors.Memory)) }
+        ensures done { OnOk result (Comes D.Annotation.seen D.held D.text D.gives D.marks D.after D.pops
+            (λ m s. on_laid s (text_added m (chars text.now) s s.laid)) self.old self.new) }
+        ensures narrow { result ≡ Err errors.TooNarrow → Fails D.Annotation.seen D.held D.text D.gives D.marks D.after
+            D.pops (λ m s. on_laid s (text_added m (chars text.now) s s.laid)) self.old }
+    {
+        if !self.options.use_unicode_strikeout {
+            return self.add_tagged(text);
+        }
+        let struck = struck(self.alloc(), self.strikeouts, text)?;
+        self.add_tagged(struck.as_str())
+    }
+
+    /// Adds text under the annotations that stand, in a preformatted part with one more.
+    fn add_tagged(&mut self, text: &str) -> Result<(), BlockError>
+        ensures kinds { IfErr result (λ e. (e ≡ errors.TooNarrow) ⊎ (e ≡ errors.Memory)) }
+        ensures done { OnOk result (Comes D.Annotation.seen D.held D.text D.gives D.marks D.after D.pops
+            (λ m s. on_laid s (tagged_added m (chars text.now) s s.laid)) self.old self.new) }
+        ensures narrow { result ≡ Err errors.TooNarrow → Fails D.Annotation.seen D.held D.text D.gives D.marks D.after
+            D.pops (λ m s. on_laid s (tagged_added m (chars text.now) s s.laid)) self.old }
+    {
+        if self.preformats > 0 {
+            return self.add_preformatted(text);
+        }
+        let measure = self.measure();
+        let mode = self.mode();
+        let tags = &self.annotations;
+        self.laid.add_text(measure, tags, mode, text, tags, tags)
+    }
+
+    fn add_preformatted(&mut self, text: &str) -> Result<(), BlockError>
+        ensures kinds { IfErr result (λ e. (e ≡ errors.TooNarrow) ⊎ (e ≡ errors.Memory)) }
+        ensures done { OnOk result (Comes D.Annotation.seen D.held D.text D.gives D.marks D.after D.pops
+            (λ m s. on_laid s (preformatted_added m (chars text.now) s s.laid)) self.old self.new) }
+        ensures narrow { result ≡ Err errors.TooNarrow → Fails D.Annotation.seen D.held D.text D.gives D.marks D.after
+            D.pops (λ m s. on_laid s (preformatted_added m (chars text.now) s s.laid)) self.old }
+    {
+        let alloc = self.alloc();
+        let first = self.decorator.decorate_preformat_first(alloc)?;
+        let first = with_annotation(&self.annotations, first)?;
+        let further = self.decorator.decorate_preformat_cont(alloc)?;
+        let further = with_annotation(&self.annotations, further)?;
+        let measure = self.measure();
+        let mode = self.mode();
+        self.laid.add_text(measure, &self.annotations, mode, text, &first, &further)
+    }
+}
+
+/// The annotations and one more.
+fn with_annotation<A: EqualCopy + Drop>(
+    annotations: &Vec<A>,
+    annotation: A,
+) -> Result<Vec<A>, AllocError>
+    ensures { IfOk result (λ all. map A.seen all.items
+        ≡ map A.seen annotations.now.items ++ A.seen annotation ∷ []) }
+{
+    let mut all = annotations.copy(*annotations.allocator())?;
+    all.push(annotation)?;
+    Ok(all)
+}

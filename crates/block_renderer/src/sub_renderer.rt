@@ -1,0 +1,254 @@
+//! Renderers over a decorator.
+ghost use Rattle.std.specs.Prelude.{◌≡◌, ◌⊎◌, [], false, true, None, Some, map, chars, string_bytes, Err, IfOk, IfErr, OnOk};
+ghost use Rattle.text_pieces.specs.declared.fault.BlockError.TheVariants as errors;
+
+use crate::options::RenderOptions;
+use block_layout::{BlockLayout, Measure};
+use std::alloc::{AllocError, Global};
+use tagged_lines::EqualCopy;
+use text_marks::TextDecorator;
+use text_borders::RenderLine;
+use text_pieces::{BlockError, TooNarrow, WhiteSpace};
+
+/// A renderer of a block of lines, whose text a decorator marks.
+#[derive(Drop)]
+pub struct SubRenderer<D: TextDecorator> {
+    /// How text is rendered.
+    pub options: RenderOptions,
+    pub(crate) width: usize,
+    pub(crate) decorator: D,
+    pub(crate) laid: BlockLayout<Vec<D::Annotation>>,
+    /// Of the parts around, the last of which counts.
+    pub(crate) modes: Vec<WhiteSpace>,
+    pub(crate) preformats: usize,
+    pub(crate) annotations: Vec<D::Annotation>,
+    pub(crate) strikeouts: usize,
+    pub(crate) failed: bool,
+}
+
+impl<D: TextDecorator + Drop> SubRenderer<D> {
+    ghost use Rattle.block_renderer.specs.Renderers.{new_sub, measure_of, mode_of, flush_sub};
+    ghost use Rattle.block_renderer.specs.Renderers.{with_empty_line, with_block_started, with_table_started};
+    ghost use Rattle.block_renderer.specs.Renderers.{with_line_broken, with_border_of, with_fragment};
+    ghost use Rattle.block_renderer.specs.Renderers.{with_preformat, with_mode};
+    ghost use Rattle.block_renderer.specs.Seen.{sub_of, has_failed};
+
+    /// An empty renderer of a block of so many columns.
+    pub fn new(
+        alloc: Global,
+        width: usize,
+        options: RenderOptions,
+        decorator: D,
+    ) -> SubRenderer<D>
+        ensures sub { sub_of D.Annotation.seen D.held result ≡ new_sub width options (D.held decorator) [] }
+        ensures works { has_failed result ≡ false }
+    {
+        SubRenderer {
+            options,
+            width,
+            decorator,
+            laid: BlockLayout::new(alloc),
+            modes: Vec::new(alloc),
+            preformats: 0,
+            annotations: Vec::new(alloc),
+            strikeouts: 0,
+            failed: false,
+        }
+    }
+
+    pub(crate) fn alloc(&self) -> Global {
+        *self.modes.allocator()
+    }
+
+    pub(crate) fn measure(&self) -> Measure
+        ensures { result ≡ measure_of (sub_of D.Annotation.seen D.held self.now) }
+    {
+        Measure {
+            width: self.width,
+            wrap_width: self.width.min(self.options.wrap_width.unwrap_or(self.width)),
+            overflow: self.options.allow_width_overflow,
+            pads: self.options.pad_block_width,
+        }
+    }
+
+    pub(crate) fn mode(&self) -> WhiteSpace
+        ensures { result ≡ mode_of (sub_of D.Annotation.seen D.held self.now) }
+    {
+        match self.modes.last() {
+            Some(mode) => *mode,
+            None => WhiteSpace::Normal,
+        }
+    }
+
+    /// Makes the text that runs lines.
+    pub(crate) fn flush(&mut self) -> Result<(), BlockError>
+        ensures kinds { IfErr result (λ e. (e ≡ errors.TooNarrow) ⊎ (e ≡ errors.Memory)) }
+        ensures done { OnOk result (flush_sub (sub_of D.Annotation.seen D.held self.old)
+            ≡ Some (sub_of D.Annotation.seen D.held self.new)) }
+        ensures narrow { result ≡ Err errors.TooNarrow
+            → flush_sub (sub_of D.Annotation.seen D.held self.old) ≡ None }
+    {
+        let measure = self.measure();
+        self.laid.flush(measure, &self.annotations)
+    }
+
+    /// Adds an empty line.
+    pub(crate) fn put_empty_line(&mut self) -> Result<(), BlockError>
+        ensures kinds { IfErr result (λ e. (e ≡ errors.TooNarrow) ⊎ (e ≡ errors.Memory)) }
+        ensures done { OnOk result (with_empty_line (sub_of D.Annotation.seen D.held self.old)
+            ≡ Some (sub_of D.Annotation.seen D.held self.new)) }
+        ensures narrow { result ≡ Err errors.TooNarrow
+            → with_empty_line (sub_of D.Annotation.seen D.held self.old) ≡ None }
+    {
+        let measure = self.measure();
+        self.laid.add_empty_line(measure, &self.annotations)
+    }
+
+    /// Starts a block.
+    pub(crate) fn open_block(&mut self) -> Result<(), BlockError>
+        ensures kinds { IfErr result (λ e. (e ≡ errors.TooNarrow) ⊎ (e ≡ errors.Memory)) }
+        ensures done { OnOk result (with_block_started (sub_of D.Annotation.seen D.held self.old)
+            ≡ Some (sub_of D.Annotation.seen D.held self.new)) }
+        ensures narrow { result ≡ Err errors.TooNarrow
+            → with_block_started (sub_of D.Annotation.seen D.held self.old) ≡ None }
+    {
+        let measure = self.measure();
+        self.laid.start_block(measure, &self.annotations)
+    }
+
+    /// Starts a table.
+    pub(crate) fn open_table(&mut self) -> Result<(), BlockError>
+        ensures kinds { IfErr result (λ e. (e ≡ errors.TooNarrow) ⊎ (e ≡ errors.Memory)) }
+        ensures done { OnOk result (with_table_started (sub_of D.Annotation.seen D.held self.old)
+            ≡ Some (sub_of D.Annotation.seen D.held self.new)) }
+        ensures narrow { result ≡ Err errors.TooNarrow
+            → with_table_started (sub_of D.Annotation.seen D.held self.old) ≡ None }
+    {
+        let measure = self.measure();
+        self.laid.start_table(measure, &self.annotations)
+    }
+
+    /// Ends a line that has columns, or adds an empty one.
+    pub(crate) fn break_line(&mut self) -> Result<(), BlockError>
+        ensures kinds { IfErr result (λ e. (e ≡ errors.TooNarrow) ⊎ (e ≡ errors.Memory)) }
+        ensures done { OnOk result (with_line_broken (sub_of D.Annotation.seen D.held self.old)
+            ≡ Some (sub_of D.Annotation.seen D.held self.new)) }
+        ensures narrow { result ≡ Err errors.TooNarrow
+            → with_line_broken (sub_of D.Annotation.seen D.held self.old) ≡ None }
+    {
+        let measure = self.measure();
+        self.laid.break_line(measure, &self.annotations)
+    }
+
+    /// Adds a border of so many columns.
+    pub(crate) fn put_border(&mut self, width: usize) -> Result<(), BlockError>
+        ensures kinds { IfErr result (λ e. (e ≡ errors.TooNarrow) ⊎ (e ≡ errors.Memory)) }
+        ensures done { OnOk result (with_border_of width (sub_of D.Annotation.seen D.held self.old)
+            ≡ Some (sub_of D.Annotation.seen D.held self.new)) }
+        ensures narrow { result ≡ Err errors.TooNarrow
+            → with_border_of width (sub_of D.Annotation.seen D.held self.old) ≡ None }
+    {
+        let measure = self.measure();
+        self.laid.add_horizontal_border(measure, &self.annotations, width)
+    }
+
+    /// A fragment starts.
+    pub(crate) fn begin_fragment(&mut self, name: &str) -> Result<(), BlockError>
+        ensures kinds { IfErr result (λ e. (e ≡ errors.TooNarrow) ⊎ (e ≡ errors.Memory)) }
+        ensures done { OnOk result (with_fragment (chars name.now) (sub_of D.Annotation.seen D.held self.old)
+            ≡ Some (sub_of D.Annotation.seen D.held self.new)) }
+        ensures narrow { result ≡ Err errors.TooNarrow
+            → with_fragment (chars name.now) (sub_of D.Annotation.seen D.held self.old) ≡ None }
+    {
+        let measure = self.measure();
+        let mode = self.mode();
+        self.laid.record_frag_start(measure, &self.annotations, mode, name)
+    }
+
+    /// A preformatted part begins.
+    pub(crate) fn begin_preformat(&mut self) -> Result<(), BlockError>
+        ensures kinds { IfErr result (λ e. (e ≡ errors.TooNarrow) ⊎ (e ≡ errors.Memory)) }
+        ensures done { OnOk result (with_preformat (sub_of D.Annotation.seen D.held self.old)
+            ≡ Some (sub_of D.Annotation.seen D.held self.new)) }
+        ensures narrow { result ≡ Err errors.TooNarrow
+            → with_preformat (sub_of D.Annotation.seen D.held self.old) ≡ None }
+    {
+        self.preformats = self.preformats.checked_add(1).ok_or(AllocError)?;
+        Ok(())
+    }
+
+    /// A part with a mode of white space begins.
+    pub(crate) fn begin_mode(&mut self, mode: WhiteSpace) -> Result<(), BlockError>
+        ensures kinds { IfErr result (λ e. (e ≡ errors.TooNarrow) ⊎ (e ≡ errors.Memory)) }
+        ensures done { OnOk result (with_mode mode (sub_of D.Annotation.seen D.held self.old)
+            ≡ Some (sub_of D.Annotation.seen D.held self.new)) }
+        ensures narrow { result ≡ Err errors.TooNarrow
+            → with_mode mode (sub_of D.Annotation.seen D.held self.old) ≡ None }
+    {
+        self.modes.push(mode)?;
+        Ok(())
+    }
+
+    /// An empty renderer for a part of the block.
+    pub(crate) fn part(&self, width: usize) -> Result<SubRenderer<D>, AllocError>
+        ensures part { IfOk result (λ part. sub_of D.Annotation.seen D.held part ≡ new_sub width self.now.options
+            (D.sub (D.held self.now.decorator)) (sub_of D.Annotation.seen D.held self.now).annotations) }
+        ensures works { IfOk result (λ part. has_failed part ≡ false) }
+    {
+        let alloc = self.alloc();
+        let decorator = self.decorator.make_subblock_decorator(alloc)?;
+        let annotations = self.annotations.copy(alloc)?;
+        let mut part = SubRenderer::new(alloc, width, self.options, decorator);
+        part.annotations = annotations;
+        Ok(part)
+    }
+}
+
+impl<D: TextDecorator + Drop> SubRenderer<D> {
+    ghost use Rattle.std.specs.Prelude.{map};
+    ghost use Rattle.text_borders.specs.Lines.{render_line_of};
+    ghost use Rattle.block_renderer.specs.Renderers.{lines_of_sub, room_behind};
+    ghost use Rattle.block_renderer.specs.Seen.{sub_of, tags_seen, has_failed};
+
+    /// The lines of the block, those of the text that runs too, filled where lines are. Refused as `TooNarrow` where a
+    /// character of the text that runs is wider than its lines and may not stand alone, as `Memory`, or as `Failed` behind
+    /// a refusal.
+    pub fn into_lines(self) -> Result<Vec<RenderLine<Vec<D::Annotation>>>, BlockError>
+        ensures failed { has_failed self ≡ true → result ≡ Err errors.Failed }
+        ensures kinds { has_failed self ≡ false
+            → IfErr result (λ e. (e ≡ errors.TooNarrow) ⊎ (e ≡ errors.Memory)) }
+        ensures lines { IfOk result (λ lines. lines_of_sub (sub_of D.Annotation.seen D.held self)
+            ≡ Some (map (render_line_of (tags_seen D.Annotation.seen)) lines.items)) }
+        ensures narrow { result ≡ Err errors.TooNarrow
+            → lines_of_sub (sub_of D.Annotation.seen D.held self) ≡ None }
+    {
+        if self.failed {
+            return Err(BlockError::Failed);
+        }
+        let measure = self.measure();
+        let SubRenderer {
+            laid, annotations, ..
+        } = self;
+        laid.into_lines(measure, &annotations)
+    }
+
+    /// The columns that are left behind a prefix of `prefix_len` columns, at least `max(1, min_width - prefix_len)`. Where
+    /// fewer are left, that least width is given if lines may pass the block's, and else refused. It is given behind a
+    /// refusal too.
+    pub fn width_minus(&self, prefix_len: usize, min_width: usize) -> Result<usize, TooNarrow>
+        ensures room { IfOk result (λ n. room_behind prefix_len min_width (sub_of D.Annotation.seen D.held self.now)
+            ≡ Some n) }
+        ensures narrow { IfErr result (λ _. room_behind prefix_len min_width
+            (sub_of D.Annotation.seen D.held self.now) ≡ None) }
+    {
+        let least = min_width.saturating_sub(prefix_len).max(1);
+        let left = self.width.saturating_sub(prefix_len);
+        if least <= left {
+            return Ok(left);
+        }
+        if self.options.allow_width_overflow {
+            return Ok(least);
+        }
+        Err(TooNarrow)
+    }
+}

@@ -1,0 +1,31 @@
+-- What contracts see of a renderer of a page.
+use Rattle.std.specs.Prelude.{◌≡◌, ℕ, Bool, List, Option, None, Some, map}
+use Rattle.text_marks.specs.Marks.{Mark}
+use Rattle.text_pieces.specs.Sources.{names}
+use Rattle.block_renderer.specs.Renderers.{Marking}
+use Rattle.text_block_renderer.specs.Parts.{Parts}
+use Rattle.block_renderer.specs.Seen.{sub_of, marking, IsTagging}
+use Rattle.text_block_renderer.specs.declared.text_renderer.TextRenderer.{TextRenderer}
+
+abbrev pub parts_of : {D T H A : Type 0} → (T → A) → (D → H) → TextRenderer D T → Parts H A
+parts_of seen held t = record {
+  below = map (sub_of seen held) t.below.items;
+  current = sub_of seen held t.current;
+  targets = names t.links.items;
+}
+
+abbrev pub page_has_failed : {D T : Type 0} → TextRenderer D T → Bool
+page_has_failed t = t.failed
+
+-- However the decorator's annotations are seen, the renderer comes from the old one by f, or comes to none.
+abbrev pub PartsCome : {D T H A : Type 0} → (T → A) → (D → H) → (H → Mark → List ℕ) → (H → Mark → T → Type 0)
+    → (H → Mark → Bool) → (H → Mark → H) → (H → Mark → Bool) → (Marking H A → Parts H A → Option (Parts H A))
+    → TextRenderer D T → TextRenderer D T → Type 0
+PartsCome seen held text gives marks after pops f old new = (tag : _) → IsTagging seen gives tag
+    → f (marking text tag marks after pops) (parts_of seen held old) ≡ Some (parts_of seen held new)
+
+abbrev pub PartsFail : {D T H A : Type 0} → (T → A) → (D → H) → (H → Mark → List ℕ) → (H → Mark → T → Type 0)
+    → (H → Mark → Bool) → (H → Mark → H) → (H → Mark → Bool) → (Marking H A → Parts H A → Option (Parts H A))
+    → TextRenderer D T → Type 0
+PartsFail seen held text gives marks after pops f old = (tag : _) → IsTagging seen gives tag
+    → f (marking text tag marks after pops) (parts_of seen held old) ≡ None
