@@ -44,14 +44,14 @@ add_row_lines m tag lines b = fold (add_row_line m tag) b lines
 abbrev pub with_row : {S : Type 0} → Measure → S → Bool → Row S → Laid S → Laid S
 with_row m tag draws row b =
     record (with_border (if draws then Some row.below else None)
-        (add_row_lines m tag row.lines (with_border row.above b))) { hanging = row.hanging }
+    (add_row_lines m tag row.lines (with_border row.above b))) { hanging = row.hanging }
 
 -- cells beside one another: the last line, where it is a border, is the one above them
 abbrev pub row_laid : {S : Type 0} → Measure → S → Bool → Bool → List (Cell S) → Laid S → Laid S
 row_laid m tag draws collapse cells b =
     let above = last_border b.lines in
     with_row m tag draws (across draws collapse tag above cells b.hanging)
-        (without_hanging (without_last_border above b))
+    (without_hanging (without_last_border above b))
 
 abbrev pub add_row : {S : Type 0} → Measure → S → Bool → Bool → List (Cell S) → Laid S → Option (Laid S)
 add_row m tag draws collapse cells b = option_map (row_laid m tag draws collapse cells) (flush m tag b)

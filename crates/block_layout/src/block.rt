@@ -108,12 +108,7 @@ impl<T: EqualCopy + Drop> BlockLayout<T> {
         }
     }
 
-    fn lay_text(
-        &mut self,
-        measure: Measure,
-        tag: &T,
-        running: Running<T>,
-    ) -> Result<(), BlockError>
+    fn lay_text(&mut self, measure: Measure, tag: &T, running: Running<T>) -> Result<(), BlockError>
         ensures kinds { IfErr result (λ e. (e ≡ errors.TooNarrow) ⊎ (e ≡ errors.Memory)) }
         ensures laid { OnOk result (flush_of measure (T.seen tag.now) (Some (running_of T.seen running))
             (laid_of T.seen self.old) ≡ Some (laid_of T.seen self.new)) }

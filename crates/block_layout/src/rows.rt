@@ -80,10 +80,7 @@ impl<T: EqualCopy + Drop> BlockLayout<T> {
     }
 
     /// The border that the line is; a text is put back.
-    fn border_or_back(
-        &mut self,
-        last: LaidLine<T>,
-    ) -> Result<Option<BorderHoriz<T>>, AllocError>
+    fn border_or_back(&mut self, last: LaidLine<T>) -> Result<Option<BorderHoriz<T>>, AllocError>
         ensures above { IfOk result (λ above. option_map (border_of T.seen) above
             ≡ border_line (laid_line_of T.seen last).line) }
         ensures lines { OnOk result (laid_of T.seen self.new

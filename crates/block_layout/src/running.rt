@@ -33,11 +33,7 @@ impl<T: EqualCopy + Drop> Running<T> {
     ghost use Rattle.block_layout.specs.Seen.{running_of};
 
     /// An empty text, whose lines are filled with spaces of the tag.
-    pub(crate) fn new(
-        alloc: Global,
-        measure: Measure,
-        tag: &T,
-    ) -> Result<Running<T>, AllocError>
+    pub(crate) fn new(alloc: Global, measure: Measure, tag: &T) -> Result<Running<T>, AllocError>
         ensures { IfOk result (λ r. running_of T.seen r ≡ running_or_new measure (T.seen tag.now) None) }
     {
         let Measure {
@@ -99,11 +95,7 @@ impl<T: EqualCopy + Drop> Running<T> {
     }
 
     /// The text with a marker behind it.
-    pub(crate) fn with_marker(
-        self,
-        mode: WhiteSpace,
-        name: &str,
-    ) -> Result<Running<T>, BlockError>
+    pub(crate) fn with_marker(self, mode: WhiteSpace, name: &str) -> Result<Running<T>, BlockError>
         ensures kinds { IfErr result (λ e. e ≡ errors.Memory) }
         ensures marked { IfOk result (λ r. running_of T.seen r
             ≡ with_marker mode (chars name.now) (running_of T.seen self)) }
@@ -128,7 +120,11 @@ impl<T: EqualCopy + Drop> Running<T> {
             (broken (running_of T.seen self).text) ≡ Some (r.0, running_of T.seen r.1)) }
         ensures narrow { result ≡ Err errors.TooNarrow → broken (running_of T.seen self).text ≡ None }
     {
-        let Running { mode, mut text, fill } = self;
+        let Running {
+            mode,
+            mut text,
+            fill,
+        } = self;
         let ends = text.break_text()?;
         Ok((ends, Running { mode, text, fill }))
     }

@@ -68,9 +68,7 @@ pub(crate) fn fill_line<T: EqualCopy + Drop>(
     ensures { OnOk result (line_items T.seen line.new
         ≡ padded width (if pads then Some (T.seen tag.now) else None) (line_items T.seen line.old)) }
 {
-    if pads {
-        pad(line, width, tag)
-    } else { Ok(()) }
+    if pads { pad(line, width, tag) } else { Ok(()) }
 }
 
 /// The line as it stands in the block, a border filled where lines are.

@@ -8,7 +8,6 @@ use Rattle.text_pieces.specs.Cuts.{Lacks, IsCutAt}
 use Rattle.block_renderer.specs.Renderers.{file_name, image_title}
 use Rattle.block_renderer.specs.declared.options.ImageRenderMode.{ImageRenderMode}
 
-
 pub name_behind : (text front back : List ℕ) → IsCutAt 0x2F text front back → file_name back ≡ file_name text
 name_behind text front back cut =
     sym (ap (fold (λ name c. if c == 0x2F then [] else name ++ c ∷ []) []) cut.whole

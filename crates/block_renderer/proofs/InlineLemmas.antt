@@ -1,6 +1,6 @@
 -- Text that is added under what stands.
-use Rattle.std.specs.Prelude.{◌≡◌, ℕ, Bool, true, false, List, [], ◌∷◌, ◌++◌, Option, None, Some, map, if◌then◌else◌, refl}
-use Rattle.std.specs.Option.{option_map, option_and_then}
+use Rattle.std.specs.Prelude.{◌≡◌, ℕ, Bool, true, false, List, [], ◌∷◌, ◌++◌, Option, Some, map, if◌then◌else◌, refl}
+use Rattle.std.specs.Option.{option_and_then}
 use Rattle.std.proofs.Common.{sym, ap, ◌∙◌}
 use Rattle.std.proofs.lemmas.List.{map-append}
 use Rattle.text_pieces.specs.declared.white_space.WhiteSpace.{WhiteSpace}
@@ -19,10 +19,10 @@ pub inline_is : {H A : Type 0} (m : Marking H A) (cs : List ℕ) (s : Sub H A) (
     → on_laid (with_laid s laid) (text_added m cs (with_laid s laid) laid) ≡ o → add_inline m cs s ≡ o
 inline_is m cs s mode measure laid b o e f test stays started added =
     other_branch (is_ignored (mode_of s) cs s.laid) (Some s)
-        (on_laid s (option_and_then (text_added m cs s) (start_awaited (measure_of s) s.annotations s.laid)))
-        (sym (test ∙ ap (λ k. is_ignored k cs s.laid) e) ∙ stays)
+    (on_laid s (option_and_then (text_added m cs s) (start_awaited (measure_of s) s.annotations s.laid)))
+    (sym (test ∙ ap (λ k. is_ignored k cs s.laid) e) ∙ stays)
     ∙ ap (λ o. on_laid s (option_and_then (text_added m cs s) o))
-        (sym (ap (λ k. start_awaited k s.annotations s.laid) f) ∙ started)
+    (sym (ap (λ k. start_awaited k s.annotations s.laid) f) ∙ started)
     ∙ added
 
 -- one more

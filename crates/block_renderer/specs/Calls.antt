@@ -1,6 +1,6 @@
 -- The calls of a renderer, and what each makes of one.
-use Rattle.std.specs.Prelude.{ℕ, ◌-◌, Bool, List, [], ◌∷◌, ◌++◌, Option, None, Some, map}
-use Rattle.text_marks.specs.Marks.{Mark, link_end, strikeout_start}
+use Rattle.std.specs.Prelude.{ℕ, ◌-◌, Bool, List, Option, Some, map}
+use Rattle.text_marks.specs.Marks.{Mark, link_end}
 use Rattle.text_pieces.specs.declared.white_space.WhiteSpace.{WhiteSpace}
 use Rattle.block_layout.specs.LaidRows.{before_last}
 use Rattle.block_renderer.specs.Renderers.{Marking, Sub, with_empty_line, with_block_started, with_table_started, with_block_ended, with_line_broken, with_border_of, with_fragment, with_preformat, with_mode, flush_sub, add_inline, begin, finish, begin_link, finish_link, begin_strikeout, finish_strikeout, add_image, begin_colour, finish_colour, add_sub, add_cells, add_rows_below}

@@ -1,9 +1,9 @@
 -- A renderer of a block: what it holds, and what each call makes of it. Where a call comes to no renderer, a character is
 -- wider than the lines at which its text wraps.
-use Rattle.std.specs.Prelude.{ℕ, ◌+◌, ◌-◌, ◌==◌, nat_lt, nat_le, min, max, Bool, true, false, List, [], ◌∷◌, ◌++◌, Option, None, Some, map, fold, flat_map, replicate, unwrap_or, chars, if◌then◌else◌}
+use Rattle.std.specs.Prelude.{ℕ, ◌+◌, ◌-◌, ◌==◌, nat_lt, nat_le, min, max, Bool, List, [], ◌∷◌, ◌++◌, Option, None, Some, fold, flat_map, replicate, unwrap_or, chars, if◌then◌else◌}
 use Rattle.std.specs.Option.{option_map, option_and_then}
 use Rattle.tagged_lines.specs.Columns.{width_of}
-use Rattle.text_marks.specs.Marks.{Mark, link_start, link_end, strikeout_start, strikeout_end, preformat_first, preformat_further, image, colour_start, colour_end, background_start, background_end}
+use Rattle.text_marks.specs.Marks.{Mark, strikeout_start, strikeout_end, preformat_first, preformat_further, image}
 use Rattle.text_pieces.specs.declared.white_space.WhiteSpace.{WhiteSpace}
 use Rattle.text_pieces.specs.declared.white_space.WhiteSpace.TheVariants.{Normal}
 use Rattle.text_borders.specs.Borders.{plain, horizontal}

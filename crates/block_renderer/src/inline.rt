@@ -5,8 +5,8 @@ ghost use Rattle.text_pieces.specs.declared.fault.BlockError.TheVariants as erro
 ghost use Rattle.block_layout.specs.Laid.{add_text};
 ghost use Rattle.block_renderer.specs.Renderers.{struck};
 
-use crate::sub_renderer::SubRenderer;
 use crate::striking::struck;
+use crate::sub_renderer::SubRenderer;
 use std::alloc::{AllocError, Global};
 use tagged_lines::EqualCopy;
 use text_marks::TextDecorator;
@@ -78,7 +78,8 @@ impl<D: TextDecorator + Drop> SubRenderer<D> {
         let further = with_annotation(&self.annotations, further)?;
         let measure = self.measure();
         let mode = self.mode();
-        self.laid.add_text(measure, &self.annotations, mode, text, &first, &further)
+        self.laid
+            .add_text(measure, &self.annotations, mode, text, &first, &further)
     }
 }
 

@@ -53,7 +53,8 @@ impl<D: TextDecorator + Drop> SubRenderer<D> {
         let inner = other.measure();
         let measure = self.measure();
         let lines = other.laid.into_laid_lines();
-        self.laid.add_block(inner, measure, &self.annotations, first, following, lines)?;
+        self.laid
+            .add_block(inner, measure, &self.annotations, first, following, lines)?;
         Ok(())
     }
 
@@ -73,7 +74,8 @@ impl<D: TextDecorator + Drop> SubRenderer<D> {
         let cells = cells_of_subs(self.alloc(), cells)?;
         let measure = self.measure();
         let draws = self.options.draw_borders;
-        self.laid.add_row(measure, &self.annotations, draws, collapse, cells)
+        self.laid
+            .add_row(measure, &self.annotations, draws, collapse, cells)
     }
 
     /// The renderer's lines as a cell that takes so many rows.

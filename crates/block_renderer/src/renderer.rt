@@ -184,7 +184,12 @@ pub trait Renderer {
             (does (starts_colour (background_start colour)) self.old self.new) (never (starts_colour (background_start colour)) self.old) };
 
     /// Adds the lines of another renderer behind prefixes: the first line's, and the others'.
-    fn append_subrender(&mut self, other: Self, first: &str, following: &str) -> Result<(), BlockError>
+    fn append_subrender(
+        &mut self,
+        other: Self,
+        first: &str,
+        following: &str,
+    ) -> Result<(), BlockError>
     where
         Self: Sized,
         ensures { IsOutcome result (has_failed self.old) (has_failed self.new)
@@ -192,7 +197,11 @@ pub trait Renderer {
 
     /// Adds cells beside one another, each with the rows that it takes. `collapse` takes the borders that are a cell's
     /// first and last line into those of the row.
-    fn append_columns_with_borders(&mut self, cells: Vec<(Self, usize)>, collapse: bool) -> Result<(), BlockError>
+    fn append_columns_with_borders(
+        &mut self,
+        cells: Vec<(Self, usize)>,
+        collapse: bool,
+    ) -> Result<(), BlockError>
     where
         Self: Sized,
         ensures { IsOutcome result (has_failed self.old) (has_failed self.new)

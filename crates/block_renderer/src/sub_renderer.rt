@@ -6,8 +6,8 @@ use crate::options::RenderOptions;
 use block_layout::{BlockLayout, Measure};
 use std::alloc::{AllocError, Global};
 use tagged_lines::EqualCopy;
-use text_marks::TextDecorator;
 use text_borders::RenderLine;
+use text_marks::TextDecorator;
 use text_pieces::{BlockError, TooNarrow, WhiteSpace};
 
 /// A renderer of a block of lines, whose text a decorator marks.
@@ -34,12 +34,7 @@ impl<D: TextDecorator + Drop> SubRenderer<D> {
     ghost use Rattle.block_renderer.specs.Seen.{sub_of, has_failed};
 
     /// An empty renderer of a block of so many columns.
-    pub fn new(
-        alloc: Global,
-        width: usize,
-        options: RenderOptions,
-        decorator: D,
-    ) -> SubRenderer<D>
+    pub fn new(alloc: Global, width: usize, options: RenderOptions, decorator: D) -> SubRenderer<D>
         ensures sub { sub_of D.Annotation.seen D.held result ≡ new_sub width options (D.held decorator) [] }
         ensures works { has_failed result ≡ false }
     {
@@ -65,7 +60,9 @@ impl<D: TextDecorator + Drop> SubRenderer<D> {
     {
         Measure {
             width: self.width,
-            wrap_width: self.width.min(self.options.wrap_width.unwrap_or(self.width)),
+            wrap_width: self
+                .width
+                .min(self.options.wrap_width.unwrap_or(self.width)),
             overflow: self.options.allow_width_overflow,
             pads: self.options.pad_block_width,
         }
@@ -149,7 +146,8 @@ impl<D: TextDecorator + Drop> SubRenderer<D> {
             → with_border_of width (sub_of D.Annotation.seen D.held self.old) ≡ None }
     {
         let measure = self.measure();
-        self.laid.add_horizontal_border(measure, &self.annotations, width)
+        self.laid
+            .add_horizontal_border(measure, &self.annotations, width)
     }
 
     /// A fragment starts.
@@ -162,7 +160,8 @@ impl<D: TextDecorator + Drop> SubRenderer<D> {
     {
         let measure = self.measure();
         let mode = self.mode();
-        self.laid.record_frag_start(measure, &self.annotations, mode, name)
+        self.laid
+            .record_frag_start(measure, &self.annotations, mode, name)
     }
 
     /// A preformatted part begins.
@@ -227,7 +226,9 @@ impl<D: TextDecorator + Drop> SubRenderer<D> {
         }
         let measure = self.measure();
         let SubRenderer {
-            laid, annotations, ..
+            laid,
+            annotations,
+            ..
         } = self;
         laid.into_lines(measure, &annotations)
     }

@@ -60,7 +60,12 @@ fn take<R: Renderer + Drop>(alloc: Global, block: &mut R, call: Call) -> Result<
 }
 
 fn lines_of(alloc: Global, width: usize, calls: &[Call]) -> Result<String, BlockError> {
-    let mut block = SubRenderer::new(alloc, width, RenderOptions::default(), PlainDecorator::new());
+    let mut block = SubRenderer::new(
+        alloc,
+        width,
+        RenderOptions::default(),
+        PlainDecorator::new(),
+    );
     for call in calls {
         take(alloc, &mut block, *call)?;
     }
@@ -83,18 +88,42 @@ const ROWS: [(usize, &[Call], &str); 7] = [
     (5, &[Call::Struck, Call::Text("a")], "a\u{336}\n"),
     (
         5,
-        &[Call::Struck, Call::Struck, Call::Text("a"), Call::StruckEnds, Call::Text("b")],
+        &[
+            Call::Struck,
+            Call::Struck,
+            Call::Text("a"),
+            Call::StruckEnds,
+            Call::Text("b"),
+        ],
         "a\u{336}\u{336}b\u{336}\n",
     ),
     (
         5,
-        &[Call::Text("a"), Call::BlockEnds, Call::Text("\u{a0}"), Call::EmptyLine, Call::Text("b")],
+        &[
+            Call::Text("a"),
+            Call::BlockEnds,
+            Call::Text("\u{a0}"),
+            Call::EmptyLine,
+            Call::Text("b"),
+        ],
         "a\n\nb\n",
     ),
-    (3, &[Call::Border, Call::Cells(&["a", "b"])], "─┬─\na│b\n─┴─\n"),
-    (3, &[Call::Border, Call::Below(&["a", "b"])], "───\na\n///\nb\n───\n"),
+    (
+        3,
+        &[Call::Border, Call::Cells(&["a", "b"])],
+        "─┬─\na│b\n─┴─\n",
+    ),
+    (
+        3,
+        &[Call::Border, Call::Below(&["a", "b"])],
+        "───\na\n///\nb\n───\n",
+    ),
     (6, &[Call::Quote("ab cde")], "> ab\n> cde\n"),
-    (6, &[Call::Text("a"), Call::BlockEnds, Call::Text("b c d e")], "a\n\nb c d\ne\n"),
+    (
+        6,
+        &[Call::Text("a"), Call::BlockEnds, Call::Text("b c d e")],
+        "a\n\nb c d\ne\n",
+    ),
 ];
 
 #[test]

@@ -1,4 +1,4 @@
-use Rattle.std.proofs.Common.{map, ap, sym, ◌∙◌, ◌≡◌, length, arith}
+use Rattle.std.proofs.Common.{map, ap, sym, ◌≡◌, length, arith}
 use Rattle.std.specs.Vec.Iter.{into_iter_items}
 use Rattle.text_cells.specs.Cells.{cell_of}
 use Rattle.block_renderer.specs.Seen.{sub_of, tags_seen}
@@ -29,7 +29,7 @@ returns-clause-cells g c =
     let seen = g.D.Annotation.EqualCopy.seen in
     let s = sub_of seen g.D.TextDecorator.held in
     let left : length (into_iter_items c.loop-cell.cell-iterator) ≡ 0
-        = omega (arith, c.loop-cell.cell-iterator.rest.ok.0, c.in-None.ensures.steps.0) in
+    = omega (arith, c.loop-cell.cell-iterator.rest.ok.0, c.in-None.ensures.steps.0) in
     all_cells (map (cell_of (tags_seen seen)) c.loop-cell.done.items)
-        (map (λ p. (s p.0, p.1)) (into_iter_items c.loop-cell.cell-iterator)) _
-        (no_items (λ p. (s p.0, p.1)) (into_iter_items c.loop-cell.cell-iterator) left) c.loop-cell.invariant.cells
+    (map (λ p. (s p.0, p.1)) (into_iter_items c.loop-cell.cell-iterator)) _
+    (no_items (λ p. (s p.0, p.1)) (into_iter_items c.loop-cell.cell-iterator) left) c.loop-cell.invariant.cells

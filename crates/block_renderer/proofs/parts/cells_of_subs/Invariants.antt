@@ -12,7 +12,7 @@ invariant-loop-cell g l =
     let held = g.D.TextDecorator.held in
     record {
       cells : option_map (λ cs. map (cell_of (tags_seen seen)) l.done.items ++ cs)
-              (cells_of_subs (map (λ c. (sub_of seen held c.0, c.1)) (into_iter_items l.cell-iterator)))
+          (cells_of_subs (map (λ c. (sub_of seen held c.0, c.1)) (into_iter_items l.cell-iterator)))
           ≡ cells_of_subs (map (λ c. (sub_of seen held c.0, c.1)) l.fn.cells.items);
       can_next : (goal.iterator-loop-cell g).can_next l.cell-iterator;
       is_finite : (goal.iterator-loop-cell g).is_finite l.cell-iterator;

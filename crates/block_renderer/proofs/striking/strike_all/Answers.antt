@@ -15,8 +15,8 @@ loop-c-preserved c =
     let t = YieldsList-turn (YieldsList-from_chars text c.utf8.text cc) c.loop-c.yielded _
     c.loop-c.yielded_by _ _ c.in-Some.c c.in-Some.is c.next.ensures.steps in
     next_flat (struck_character c.args.count) (chars text) c.loop-c.yielded c.in-Some.c c.in-Some.c
-        (chars (string_bytes c.loop-c.struck)) (chars (string_bytes c.push_struck.new.struck)) t
-        c.loop-c.invariant c.in_ok-push_struck.ensures
+    (chars (string_bytes c.loop-c.struck)) (chars (string_bytes c.push_struck.new.struck)) t
+    c.loop-c.invariant c.in_ok-push_struck.ensures
 
 pub returns : goal.returns
 returns c =
@@ -24,4 +24,4 @@ returns c =
     let t = YieldsList-end (YieldsList-from_chars text c.utf8.text cc) c.loop-c.yielded _
     c.loop-c.yielded_by _ _ c.in-None.is c.next.ensures.steps in
     all_flat (struck_character c.args.count) (chars text) c.loop-c.yielded (chars (string_bytes c.loop-c.struck)) t.1
-        c.loop-c.invariant
+    c.loop-c.invariant

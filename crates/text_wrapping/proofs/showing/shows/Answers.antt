@@ -7,7 +7,10 @@ use Rattle.text_wrapping.proofs.showing.shows.Goals as goal
 pub returns-in-Text : goal.returns-in-Text
 returns-in-Text g c =
     let seen = g.T.EqualCopy.seen in
-    search (c.has_visible_character.ensures, c.as_str.ensures.value,
-        shows_text (chars (string_bytes c.in-Text.piece.text)) (seen c.in-Text.piece.main_tag)
-            (seen c.in-Text.piece.wrap_tag),
-        ap (λ p. has_visible (piece_sources seen p)) c.in-Text.is)
+    search (
+      c.has_visible_character.ensures,
+      c.as_str.ensures.value,
+      shows_text (chars (string_bytes c.in-Text.piece.text)) (seen c.in-Text.piece.main_tag)
+          (seen c.in-Text.piece.wrap_tag),
+      ap (λ p. has_visible (piece_sources seen p)) c.in-Text.is,
+    )

@@ -9,6 +9,6 @@ abbrev pub invariant-loop-line : goal.invariant-loop-line
 invariant-loop-line g l =
     let seen = g.T.EqualCopy.seen in
     fold (add_prefixed l.other l.measure (seen l.tag) (chars l.following)) (laid_of seen l.self)
-        (map (laid_line_of seen) (into_iter_items l.line-iterator))
+    (map (laid_line_of seen) (into_iter_items l.line-iterator))
     ≡ add_block l.other l.measure (seen l.tag) (chars l.first) (chars l.following)
-        (map (laid_line_of seen) l.fn.lines.items) (laid_of seen l.fn.self)
+    (map (laid_line_of seen) l.fn.lines.items) (laid_of seen l.fn.self)

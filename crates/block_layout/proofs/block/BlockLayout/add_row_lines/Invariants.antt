@@ -9,5 +9,5 @@ abbrev pub invariant-loop-line : goal.invariant-loop-line
 invariant-loop-line g l =
     let seen = g.T.EqualCopy.seen in
     add_row_lines l.measure (seen l.tag) (map (row_line_of seen) (into_iter_items l.line-iterator))
-        (laid_of seen l.self)
+    (laid_of seen l.self)
     ≡ add_row_lines l.measure (seen l.tag) (map (row_line_of seen) l.fn.lines.items) (laid_of seen l.initial.self)

@@ -9,6 +9,6 @@ abbrev pub invariant-loop-line : goal.invariant-loop-line
 invariant-loop-line g l =
     let seen = g.T.EqualCopy.seen in
     add_text_lines l.measure (seen l.tag) (seen l.fill) (map (line_items seen) (into_iter_items l.line-iterator))
-        (laid_of seen l.self)
+    (laid_of seen l.self)
     ≡ add_text_lines l.measure (seen l.tag) (seen l.fill) (map (line_items seen) l.fn.lines.items)
-        (laid_of seen l.initial.self)
+    (laid_of seen l.initial.self)

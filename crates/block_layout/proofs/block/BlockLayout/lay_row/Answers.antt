@@ -14,11 +14,11 @@ returns g c =
     let seen = g.T.EqualCopy.seen in
     let b = laid_of seen c.args.self.now in
     on_ok_weaker c.put_row.result (λ e. e ∙ row_is c.args.measure (seen c.args.tag.now) c.args.draws c.args.collapse
-        (map (cell_of seen) c.args.cells.items) b _ (option_map (border_of seen) c.in_ok-above.above)
-        (map (hanging_of seen) c.take_hanging-hanging.result.items) (row_of seen c.in_ok-row.row)
-        c.in_ok-above.ensures.above
-        (c.take_hanging-hanging.ensures.hanging ∙ ap (λ x. x.hanging) c.in_ok-above.ensures.without
-            ∙ same_hanging (last_border b.lines) b)
-        c.in_ok-row.ensures
-        (c.take_hanging-hanging.ensures.without ∙ ap (λ x. without_hanging x) c.in_ok-above.ensures.without))
+    (map (cell_of seen) c.args.cells.items) b _ (option_map (border_of seen) c.in_ok-above.above)
+    (map (hanging_of seen) c.take_hanging-hanging.result.items) (row_of seen c.in_ok-row.row)
+    c.in_ok-above.ensures.above
+    (c.take_hanging-hanging.ensures.hanging ∙ ap (λ x. x.hanging) c.in_ok-above.ensures.without
+    ∙ same_hanging (last_border b.lines) b)
+    c.in_ok-row.ensures
+    (c.take_hanging-hanging.ensures.without ∙ ap (λ x. without_hanging x) c.in_ok-above.ensures.without))
     c.put_row.ensures

@@ -8,6 +8,6 @@ pub returns-in-Some-clause-without : goal.returns-in-Some-clause-without
 returns-in-Some-clause-without g c =
     let seen = g.T.EqualCopy.seen in
     on_ok_weaker c.border_or_back.result (λ e. taken_off (laid_of seen c.args.self.now)
-        (lines_of seen c.args.self.now.lines) (lines_of seen c.pop.new.self) (laid_line_of seen c.in-Some.last)
-        (laid_of seen c.border_or_back.new.self) c.in-Some.ensures.last e)
+    (lines_of seen c.args.self.now.lines) (lines_of seen c.pop.new.self) (laid_line_of seen c.in-Some.last)
+    (laid_of seen c.border_or_back.new.self) c.in-Some.ensures.last e)
     c.border_or_back.ensures.lines

@@ -1,4 +1,4 @@
-use Rattle.std.proofs.Common.{[], ◌∷◌, map, ap, sym, ◌∙◌}
+use Rattle.std.proofs.Common.{◌∷◌, map, ap, sym, ◌∙◌}
 use Rattle.std.proofs.lemmas.Str.{chars-nil}
 use Rattle.std.specs.Vec.Iter.{into_iter_items}
 use Rattle.block_renderer.specs.Renderers.{append_sub}
@@ -10,8 +10,8 @@ pub loop-cell-init : goal.loop-cell-init
 loop-cell-init g c =
     let s = sub_of g.D.Annotation.EqualCopy.seen g.D.TextDecorator.held in
     begun_below (s c.in-Some.first) (map s (into_iter_items c.into_iter-cell-iterator.result)) (map s c.args.cells.items)
-        (s c.args.self.now) (s c.append_sub.new.self)
-        (ap (map s) (sym c.into_iter-cells.ensures.rest ∙ c.in-Some.ensures.items
-            ∙ ap (λ it. c.in-Some.first ∷ into_iter_items it) (sym c.into_iter-cell-iterator.ensures.into_iter_gives)))
-        (ap (λ cs. append_sub (s c.in-Some.first) cs cs (s c.args.self.now)) (sym chars-nil)
-            ∙ c.in_ok-append_sub.ensures.done)
+    (s c.args.self.now) (s c.append_sub.new.self)
+    (ap (map s) (sym c.into_iter-cells.ensures.rest ∙ c.in-Some.ensures.items
+    ∙ ap (λ it. c.in-Some.first ∷ into_iter_items it) (sym c.into_iter-cell-iterator.ensures.into_iter_gives)))
+    (ap (λ cs. append_sub (s c.in-Some.first) cs cs (s c.args.self.now)) (sym chars-nil)
+    ∙ c.in_ok-append_sub.ensures.done)
