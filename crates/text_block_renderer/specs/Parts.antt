@@ -38,7 +38,10 @@ footnote_mark n = codes "[" ++ decimal n ++ codes "]"
 abbrev pub numbered : {H A : Type 0} → Marking H A → ℕ → Sub H A → Option (Sub H A)
 numbered m n s = if s.options.include_link_footnotes then add_inline m (footnote_mark n) s else Some s
 
+abbrev pub add_part_number : {H A : Type 0} → Marking H A → Parts H A → Option (Parts H A)
+add_part_number m p = option_map (with_current p) (numbered m (length p.targets) p.current)
+
 -- behind a link stands its number, where the targets of links stand behind the page
 abbrev pub finish_part_link : {H A : Type 0} → Marking H A → Parts H A → Option (Parts H A)
-finish_part_link m p = option_map (with_current p)
-    (option_and_then (numbered m (length p.targets)) (finish_link m link_end p.current))
+finish_part_link m p =
+    option_and_then (add_part_number m) (option_map (with_current p) (finish_link m link_end p.current))

@@ -17,6 +17,9 @@ parts_of seen held t = record {
 abbrev pub page_has_failed : {D T : Type 0} → TextRenderer D T → Bool
 page_has_failed t = t.failed
 
+abbrev pub current_has_failed : {D T : Type 0} → TextRenderer D T → Bool
+current_has_failed t = t.current.failed
+
 -- However the decorator's annotations are seen, the renderer comes from the old one by f, or comes to none.
 abbrev pub PartsCome : {D T H A : Type 0} → (T → A) → (D → H) → (H → Mark → List ℕ) → (H → Mark → T → Type 0)
     → (H → Mark → Bool) → (H → Mark → H) → (H → Mark → Bool) → (Marking H A → Parts H A → Option (Parts H A))

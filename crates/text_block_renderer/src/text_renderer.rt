@@ -1,5 +1,5 @@
 //! Renderers of the parts of a page, one within the other.
-ghost use Rattle.std.specs.Prelude.{◌≡◌, ◌⊎◌, ◌<◌, true, false, chars, is_err, IfErr, IfOk, OnOk, Err, string_bytes, codes, ◌++◌};
+ghost use Rattle.std.specs.Prelude.{◌≡◌, ◌⊎◌, ◌<◌, true, false, chars, string_bytes, is_err, IfErr, IfOk, OnOk, Err};
 ghost use Rattle.text_pieces.specs.declared.fault.BlockError.TheVariants as errors;
 ghost use Rattle.text_block_renderer.specs.Parts.{footnote_mark};
 
@@ -21,9 +21,9 @@ pub struct TextRenderer<D: TextDecorator> {
 }
 
 impl<D: TextDecorator + Drop> TextRenderer<D> {
-    ghost use Rattle.block_renderer.specs.Seen.{sub_of, has_failed};
-    ghost use Rattle.text_block_renderer.specs.Parts.{whole_page, depth_of, with_part, begin_part_link, finish_part_link};
-    ghost use Rattle.text_block_renderer.specs.SeenParts.{parts_of, page_has_failed, PartsCome, PartsFail};
+    ghost use Rattle.block_renderer.specs.Seen.{sub_of};
+    ghost use Rattle.text_block_renderer.specs.Parts.{whole_page, depth_of, with_part, begin_part_link, finish_part_link, add_part_number};
+    ghost use Rattle.text_block_renderer.specs.SeenParts.{parts_of, page_has_failed, current_has_failed, PartsCome, PartsFail};
     ghost use Rattle.text_pieces.specs.Sources.{names};
 
     /// A renderer of a page, of which no part has begun.
@@ -100,4 +100,91 @@ impl<D: TextDecorator + Drop> TextRenderer<D> {
         let TextRenderer { current, links, .. } = self;
         (current, links)
     }
+
+    /// A link to the target begins. Behind a refusal the error is `Failed`, and so it is where the current renderer was
+    /// refused a call; else it is `TooNarrow`, as the current renderer tells it, or `Memory`.
+    pub fn start_link(&mut self, target: &str) -> Result<(), BlockError>
+        ensures refused { is_err result ≡ page_has_failed self.new }
+        ensures failed { page_has_failed self.old ≡ true → result ≡ Err errors.Failed }
+        ensures kinds { page_has_failed self.old ≡ false → current_has_failed self.old ≡ false
+            → IfErr result (λ e. (e ≡ errors.TooNarrow) ⊎ (e ≡ errors.Memory)) }
+        ensures done { OnOk result (PartsCome D.Annotation.seen D.held D.text D.gives D.marks D.after D.pops
+            (λ m p. begin_part_link m (chars target.now) p) self.old self.new) }
+        ensures narrow { result ≡ Err errors.TooNarrow → PartsFail D.Annotation.seen D.held D.text D.gives D.marks
+            D.after D.pops (λ m p. begin_part_link m (chars target.now) p) self.old }
+    {
+        if self.failed {
+            return Err(BlockError::Failed);
+        }
+        let result = self.begin_link(target);
+        self.failed = result.is_err();
+        result
+    }
+
+    fn begin_link(&mut self, target: &str) -> Result<(), BlockError>
+        ensures kinds { current_has_failed self.old ≡ false
+            → IfErr result (λ e. (e ≡ errors.TooNarrow) ⊎ (e ≡ errors.Memory)) }
+        ensures done { OnOk result (PartsCome D.Annotation.seen D.held D.text D.gives D.marks D.after D.pops
+            (λ m p. begin_part_link m (chars target.now) p) self.old self.new) }
+        ensures narrow { result ≡ Err errors.TooNarrow → PartsFail D.Annotation.seen D.held D.text D.gives D.marks
+            D.after D.pops (λ m p. begin_part_link m (chars target.now) p) self.old }
+    {
+        let name = String::from_str(*self.links.allocator(), target)?;
+        self.links.push(name)?;
+        self.current.start_link(target)
+    }
+
+    /// A link ends; behind it stands its number in brackets, where the targets of links stand behind the page. Refused as
+    /// `start_link`.
+    pub fn end_link(&mut self) -> Result<(), BlockError>
+        ensures refused { is_err result ≡ page_has_failed self.new }
+        ensures failed { page_has_failed self.old ≡ true → result ≡ Err errors.Failed }
+        ensures kinds { page_has_failed self.old ≡ false → current_has_failed self.old ≡ false
+            → IfErr result (λ e. (e ≡ errors.TooNarrow) ⊎ (e ≡ errors.Memory)) }
+        ensures done { OnOk result (PartsCome D.Annotation.seen D.held D.text D.gives D.marks D.after D.pops
+            finish_part_link self.old self.new) }
+        ensures narrow { result ≡ Err errors.TooNarrow → PartsFail D.Annotation.seen D.held D.text D.gives D.marks
+            D.after D.pops finish_part_link self.old }
+    {
+        if self.failed {
+            return Err(BlockError::Failed);
+        }
+        let result = self.finish_link();
+        self.failed = result.is_err();
+        result
+    }
+
+    fn finish_link(&mut self) -> Result<(), BlockError>
+        ensures kinds { current_has_failed self.old ≡ false
+            → IfErr result (λ e. (e ≡ errors.TooNarrow) ⊎ (e ≡ errors.Memory)) }
+        ensures done { OnOk result (PartsCome D.Annotation.seen D.held D.text D.gives D.marks D.after D.pops
+            finish_part_link self.old self.new) }
+        ensures narrow { result ≡ Err errors.TooNarrow → PartsFail D.Annotation.seen D.held D.text D.gives D.marks
+            D.after D.pops finish_part_link self.old }
+    {
+        self.current.end_link()?;
+        self.add_number()
+    }
+
+    /// The number of the last link, where the targets of links stand behind the page.
+    fn add_number(&mut self) -> Result<(), BlockError>
+        ensures kinds { current_has_failed self.old ≡ false
+            → IfErr result (λ e. (e ≡ errors.TooNarrow) ⊎ (e ≡ errors.Memory)) }
+        ensures done { OnOk result (PartsCome D.Annotation.seen D.held D.text D.gives D.marks D.after D.pops
+            add_part_number self.old self.new) }
+        ensures narrow { result ≡ Err errors.TooNarrow → PartsFail D.Annotation.seen D.held D.text D.gives D.marks
+            D.after D.pops add_part_number self.old }
+    {
+        if !self.current.options.include_link_footnotes {
+            return Ok(());
+        }
+        let mark = footnote_mark(*self.links.allocator(), self.links.len())?;
+        self.current.add_inline_text(mark.as_str())
+    }
+}
+
+fn footnote_mark(alloc: Global, number: usize) -> Result<String, AllocError>
+    ensures { IfOk result (λ s. chars (string_bytes s) ≡ footnote_mark number) }
+{
+    format!(in alloc; "[{number}]")
 }
