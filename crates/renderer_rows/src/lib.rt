@@ -3,3 +3,5 @@
 
 #[cfg(test)]
 mod call_tests;
+#[cfg(test)]
+mod page_tests;

@@ -5,6 +5,7 @@ use Rattle.text_pieces.specs.Sources.{names}
 use Rattle.block_renderer.specs.Renderers.{Marking}
 use Rattle.text_block_renderer.specs.Parts.{Parts}
 use Rattle.block_renderer.specs.Seen.{sub_of, marking, IsTagging}
+use Rattle.block_renderer.specs.declared.sub_renderer.SubRenderer.{SubRenderer}
 use Rattle.text_block_renderer.specs.declared.text_renderer.TextRenderer.{TextRenderer}
 
 abbrev pub parts_of : {D T H A : Type 0} → (T → A) → (D → H) → TextRenderer D T → Parts H A
@@ -19,6 +20,10 @@ page_has_failed t = t.failed
 
 abbrev pub current_has_failed : {D T : Type 0} → TextRenderer D T → Bool
 current_has_failed t = t.current.failed
+
+-- the same with another current renderer
+abbrev pub with_current_renderer : {D T : Type 0} → TextRenderer D T → SubRenderer D T → TextRenderer D T
+with_current_renderer t s = record t { current = s }
 
 -- However the decorator's annotations are seen, the renderer comes from the old one by f, or comes to none.
 abbrev pub PartsCome : {D T H A : Type 0} → (T → A) → (D → H) → (H → Mark → List ℕ) → (H → Mark → T → Type 0)

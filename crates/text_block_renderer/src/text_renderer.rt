@@ -2,6 +2,9 @@
 ghost use Rattle.std.specs.Prelude.{◌≡◌, ◌⊎◌, ◌<◌, true, false, chars, string_bytes, is_err, IfErr, IfOk, OnOk, Err};
 ghost use Rattle.text_pieces.specs.declared.fault.BlockError.TheVariants as errors;
 ghost use Rattle.text_block_renderer.specs.Parts.{footnote_mark};
+ghost use Rattle.std.specs.Borrow.{sem, follows};
+ghost use Rattle.text_block_renderer.specs.contracts.text_renderer.TextRenderer.{the_row};
+ghost use Rattle.block_renderer.specs.contracts.sub_renderer.SubRenderer.{the_row as sub_row};
 
 use block_renderer::{Renderer, SubRenderer};
 use std::alloc::{AllocError, Global};
@@ -23,7 +26,7 @@ pub struct TextRenderer<D: TextDecorator> {
 impl<D: TextDecorator + Drop> TextRenderer<D> {
     ghost use Rattle.block_renderer.specs.Seen.{sub_of};
     ghost use Rattle.text_block_renderer.specs.Parts.{whole_page, depth_of, with_part, begin_part_link, finish_part_link, add_part_number};
-    ghost use Rattle.text_block_renderer.specs.SeenParts.{parts_of, page_has_failed, current_has_failed, PartsCome, PartsFail};
+    ghost use Rattle.text_block_renderer.specs.SeenParts.{parts_of, page_has_failed, current_has_failed, with_current_renderer, PartsCome, PartsFail};
     ghost use Rattle.text_pieces.specs.Sources.{names};
 
     /// A renderer of a page, of which no part has begun.
@@ -52,6 +55,16 @@ impl<D: TextDecorator + Drop> TextRenderer<D> {
             ≡ (parts_of D.Annotation.seen D.held self.now).current }
     {
         &self.current
+    }
+
+    /// The renderer to which text goes, to be called.
+    pub fn current_mut(&mut self) -> &mut SubRenderer<D>
+        ensures sub { sub_of D.Annotation.seen D.held result.now
+            ≡ (parts_of D.Annotation.seen D.held self.old).current }
+        ensures* writes_back { sem 𝓛 (follows (the_row D.row D.Annotation.row) (sub_row D.row D.Annotation.row)
+            self.entry.ghost_name result.ghost_name (with_current_renderer self.old)) }
+    {
+        &mut self.current
     }
 
     /// A part begins, to whose renderer text goes from here on. The error is want of memory, or `Failed` behind a refusal.
