@@ -243,8 +243,8 @@ row_within {S} laws m tag draws collapse cells b kept within all fits = by_flush
         → IfSome (option_map (row_laid m tag draws collapse cells) o) (IsWithin m)
     by_flush None is = tt
     by_flush (Some flushed) is =
-        laws.row_taken m tag draws collapse cells b flushed (row_laid m tag draws collapse cells flushed) kept within all
-        is (fits flushed is) (ap (option_map (row_laid m tag draws collapse cells)) is)
+        laws.row_taken m tag draws collapse cells b flushed (row_laid m tag draws collapse cells flushed) kept within
+        all is (fits flushed is) (ap (option_map (row_laid m tag draws collapse cells)) is)
 
 cells_added : {H A : Type 0} (laws : WidthLaws (List A)) (cells : List (Sub H A × ℕ)) (collapse : Bool) (s : Sub H A)
     → All CellIsKept cells → RowFits cells collapse s → IsKeptWithin s
@@ -360,8 +360,10 @@ step_stays laws m (starts_mark kind) s kept fits = begun laws m kind s kept
 step_stays laws m (ends_mark kind) s kept fits = finished laws m kind s kept
 step_stays laws m (adds_image source title) s kept fits =
     titled_added laws m source (image_title s.options.img_mode source title) s kept
-step_stays laws m (starts_fragment name) s kept fits =
-    ((kept.0, laws.marked (measure_of s) s.annotations (mode_of s) name s.laid (kept_measure s kept) kept.1), (refl, refl))
+step_stays laws m (starts_fragment name) s kept fits = (
+  (kept.0, laws.marked (measure_of s) s.annotations (mode_of s) name s.laid (kept_measure s kept) kept.1),
+  (refl, refl),
+)
 step_stays laws m (starts_colour kind) s kept fits = colour_begun m kind s kept
 step_stays laws m (ends_colour kind) s kept fits = colour_finished m kind s kept
 step_stays laws m (adds_block other first following) s kept fits =

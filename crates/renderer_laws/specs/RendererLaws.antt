@@ -54,5 +54,5 @@ HasRoom s = AllowsOverflow (measure_of s) s.laid
 abbrev pub CallHasRoom : {H A : Type 0} → Call (Sub H A) → Type 0
 CallHasRoom (adds_block other first following) = HasRoom other
 CallHasRoom (adds_cells cells collapse) = All (λ c. HasRoom c.0) cells
-CallHasRoom (adds_rows_below cells) = All (λ c. HasRoom c) cells
+CallHasRoom (adds_rows_below cells) = All HasRoom cells
 CallHasRoom _ = Unit

@@ -28,8 +28,8 @@ pub fn renderers_keep_the_width<D: TextDecorator>()
     calls_keep_the_width::<Vec<D::Annotation>>();
 }
 
-/// Where a character that is wider than the lines may stand alone on one, in each renderer that a call takes too, no call
-/// is refused, and each keeps it so.
+/// Where a character that is wider than the lines may stand alone on one, in each renderer that a call takes too, no
+/// call is refused, and each keeps it so; and there are lines.
 pub fn renderers_with_room_never_refuse<D: TextDecorator>()
     ensures new { (width : ℕ) (options : RenderOptions) (held : D.Held) (annotations : List D.Annotation.Seen)
         → options.allow_width_overflow ≡ true → HasRoom (new_sub width options held annotations) }
