@@ -64,10 +64,15 @@ stays s kept = (kept, (refl, refl))
 stays_on : {H A : Type 0} (s x new : Sub H A) → StaysWithin s x → StaysWithin x new → StaysWithin s new
 stays_on s x new before behind = (behind.0, (behind.1.0 ∙ before.1.0, behind.1.1 ∙ before.1.1))
 
+-- other lines, under the same measure
+relaid : {H A : Type 0} (s : Sub H A) (b : Laid (List A)) → IsKeptWithin s → IsWithin (measure_of s) b
+    → StaysWithin s (with_laid s b)
+relaid s b kept within = ((kept.0, within), (refl, refl))
+
 laid_on : {H A : Type 0} (s : Sub H A) (o : Option (Laid (List A))) → IsKeptWithin s
     → IfSome o (IsWithin (measure_of s)) → IfSome (on_laid s o) (StaysWithin s)
 laid_on s o kept within = mapped (IsWithin (measure_of s)) (StaysWithin s) (with_laid s) o
-    (λ b inside. ((kept.0, inside), (refl, refl))) within
+    (λ b inside. relaid s b kept inside) within
 
 -- as a law says it
 laid_by : {H A : Type 0} (s : Sub H A) (o : Option (Laid (List A))) → IsKeptWithin s
@@ -195,16 +200,11 @@ appended : {H A : Type 0} (laws : WidthLaws (List A)) (other : Sub H A) (first f
     → IfSome (append_sub other first following s) (StaysWithin s)
 appended laws other first following s taken here behind kept =
     mapped (StaysWithin other) (StaysWithin s) (with_block s first following) (flush_sub other)
-    (λ x inside. (
-      (
-        kept.0,
-        laws.block_taken (measure_of x) (measure_of s) s.annotations first following x.laid.lines
-            s.laid kept.1 inside.0.1.lines
-            (fits_as (text_columns first) other.width x.width s.width inside.1.0 here)
-            (fits_as (text_columns following) other.width x.width s.width inside.1.0 behind),
-      ),
-      (refl, refl),
-    ))
+    (λ x inside. relaid s
+    (add_block (measure_of x) (measure_of s) s.annotations first following x.laid.lines s.laid) kept
+    (laws.block_taken (measure_of x) (measure_of s) s.annotations first following x.laid.lines s.laid kept.1
+    inside.0.1.lines (fits_as (text_columns first) other.width x.width s.width inside.1.0 here)
+    (fits_as (text_columns following) other.width x.width s.width inside.1.0 behind)))
     (sub_flushed laws other taken)
 
 sub_added : {H A : Type 0} (laws : WidthLaws (List A)) (other : Sub H A) (first following : List ℕ) (s : Sub H A)
@@ -270,8 +270,8 @@ slashes_kept laws s kept = by_borders s.options.draw_borders
   where
     by_borders : (t : Bool) → StaysWithin s
         (if t then with_laid s (add_slashes s.width s.annotations s.laid) else s)
-    by_borders true =
-        ((kept.0, laws.slashes_taken (measure_of s) s.annotations s.width s.laid kept.1 (omega arith)), (refl, refl))
+    by_borders true = relaid s (add_slashes s.width s.annotations s.laid) kept
+        (laws.slashes_taken (measure_of s) s.annotations s.width s.laid kept.1 (omega arith))
     by_borders false = stays s kept
 
 rule_fits : {S : Type 0} (width : ℕ) (tag : S) → LineFits width (border (plain horizontal width tag))
@@ -282,14 +282,9 @@ rule_kept laws s kept = by_borders s.options.draw_borders
   where
     by_borders : (t : Bool) → StaysWithin s (if t then with_laid s
         (add_border (plain horizontal s.width s.annotations) s.laid) else s)
-    by_borders true = (
-      (
-        kept.0,
-        laws.border_taken (measure_of s) (plain horizontal s.width s.annotations) s.laid kept.1
-            (rule_fits s.width s.annotations),
-      ),
-      (refl, refl),
-    )
+    by_borders true = relaid s (add_border (plain horizontal s.width s.annotations) s.laid) kept
+        (laws.border_taken (measure_of s) (plain horizontal s.width s.annotations) s.laid kept.1
+        (rule_fits s.width s.annotations))
     by_borders false = stays s kept
 
 -- a cell without a prefix
@@ -336,7 +331,7 @@ step_stays laws m starts_block s kept fits = laid_by s (start_block (measure_of 
 step_stays laws m starts_table s kept fits = laid_by s (start_table (measure_of s) s.annotations s.laid) kept
     (λ new is. laws.table_started (measure_of s) s.annotations s.laid new (kept_measure s kept) kept.1 is)
 step_stays laws m ends_block s kept fits =
-    ((kept.0, laws.block_ended (measure_of s) s.laid kept.1), (refl, refl))
+    relaid s (end_block s.laid) kept (laws.block_ended (measure_of s) s.laid kept.1)
 step_stays laws m ends_line s kept fits = sub_flushed laws s kept
 step_stays laws m breaks_line s kept fits = laid_by s (break_line (measure_of s) s.annotations s.laid) kept
     (λ new is. laws.line_broken (measure_of s) s.annotations s.laid new (kept_measure s kept) kept.1 is)
@@ -360,10 +355,9 @@ step_stays laws m (starts_mark kind) s kept fits = begun laws m kind s kept
 step_stays laws m (ends_mark kind) s kept fits = finished laws m kind s kept
 step_stays laws m (adds_image source title) s kept fits =
     titled_added laws m source (image_title s.options.img_mode source title) s kept
-step_stays laws m (starts_fragment name) s kept fits = (
-  (kept.0, laws.marked (measure_of s) s.annotations (mode_of s) name s.laid (kept_measure s kept) kept.1),
-  (refl, refl),
-)
+step_stays laws m (starts_fragment name) s kept fits =
+    relaid s (mark (measure_of s) s.annotations (mode_of s) name s.laid) kept
+    (laws.marked (measure_of s) s.annotations (mode_of s) name s.laid (kept_measure s kept) kept.1)
 step_stays laws m (starts_colour kind) s kept fits = colour_begun m kind s kept
 step_stays laws m (ends_colour kind) s kept fits = colour_finished m kind s kept
 step_stays laws m (adds_block other first following) s kept fits =

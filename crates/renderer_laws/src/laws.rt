@@ -11,8 +11,8 @@ ghost use Rattle.renderer_laws.specs.RendererLaws.{IsKeptWithin, StaysWithin, Ca
 use layout_laws::{calls_keep_the_width, overflow_never_refuses};
 use text_marks::TextDecorator;
 
-/// No line of a renderer passes its width where no character may overflow: a new renderer has none, each call that fits
-/// and comes to a renderer keeps it so, at the same width and under the same options, and so do calls in turn.
+/// No line of a renderer passes its width where no character may overflow: so it is with a new renderer, each call that
+/// fits and comes to a renderer keeps it so, at the same width and under the same options, and so do calls in turn.
 pub fn renderers_keep_the_width<D: TextDecorator>()
     ensures new { (width : ℕ) (options : RenderOptions) (held : D.Held) (annotations : List D.Annotation.Seen)
         → options.allow_width_overflow ≡ false → IsKeptWithin (new_sub width options held annotations) }
