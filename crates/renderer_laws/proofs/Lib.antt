@@ -1,0 +1,2 @@
+pub mod KeptLemmas
+pub mod RoomLemmas

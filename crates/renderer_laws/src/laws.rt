@@ -1,0 +1,43 @@
+//! Laws of renderers: each is the contract of a function that does nothing. A decorator says only which values it holds
+//! and what is seen of its annotations; how it marks text is any `Marking` over these.
+ghost use Rattle.std.specs.Prelude.{◌≡◌, ℕ, ◌≤◌, All, true, false, List, Some, IsSome, IsSomeAnd};
+ghost use Rattle.tagged_lines.specs.Tagged.{line_columns};
+ghost use Rattle.text_borders.specs.Lines.{BlockLine, line_shown};
+ghost use Rattle.block_renderer.specs.declared.options.RenderOptions.{RenderOptions};
+ghost use Rattle.block_renderer.specs.Renderers.{Marking, Sub, new_sub, lines_of_sub};
+ghost use Rattle.block_renderer.specs.Calls.{Call, step};
+ghost use Rattle.renderer_laws.specs.RendererLaws.{IsKeptWithin, StaysWithin, CallFits, after, AllFit, HasRoom, CallHasRoom};
+
+use layout_laws::{calls_keep_the_width, overflow_never_refuses};
+use text_marks::TextDecorator;
+
+/// No line of a renderer passes its width where no character may overflow: so it is with a new renderer, each call that
+/// fits and comes to a renderer keeps it so, at the same width and under the same options, and so do calls in turn.
+pub fn renderers_keep_the_width<D: TextDecorator>()
+    ensures new { (width : ℕ) (options : RenderOptions) (held : D.Held) (annotations : List D.Annotation.Seen)
+        → options.allow_width_overflow ≡ false → IsKeptWithin (new_sub width options held annotations) }
+    ensures step { (m : Marking D.Held D.Annotation.Seen) (c : Call (Sub D.Held D.Annotation.Seen))
+        (s new : Sub D.Held D.Annotation.Seen) → IsKeptWithin s → CallFits c s → step m c s ≡ Some new
+        → StaysWithin s new }
+    ensures calls { (m : Marking D.Held D.Annotation.Seen) (calls : List (Call (Sub D.Held D.Annotation.Seen)))
+        (s new : Sub D.Held D.Annotation.Seen) → IsKeptWithin s → AllFit m calls s → after m calls s ≡ Some new
+        → StaysWithin s new }
+    ensures lines { (s : Sub D.Held D.Annotation.Seen) (lines : List (BlockLine (List D.Annotation.Seen)))
+        → IsKeptWithin s → lines_of_sub s ≡ Some lines → All (λ l. line_columns (line_shown l) ≤ s.width) lines }
+{
+    calls_keep_the_width::<Vec<D::Annotation>>();
+}
+
+/// Where a character that is wider than the lines may stand alone on one, in each renderer that a call takes too, no
+/// call is refused, and each keeps it so; and there are lines.
+pub fn renderers_with_room_never_refuse<D: TextDecorator>()
+    ensures new { (width : ℕ) (options : RenderOptions) (held : D.Held) (annotations : List D.Annotation.Seen)
+        → options.allow_width_overflow ≡ true → HasRoom (new_sub width options held annotations) }
+    ensures step { (m : Marking D.Held D.Annotation.Seen) (c : Call (Sub D.Held D.Annotation.Seen))
+        (s : Sub D.Held D.Annotation.Seen) → HasRoom s → CallHasRoom c → IsSomeAnd (step m c s) HasRoom }
+    ensures calls { (m : Marking D.Held D.Annotation.Seen) (calls : List (Call (Sub D.Held D.Annotation.Seen)))
+        (s : Sub D.Held D.Annotation.Seen) → HasRoom s → All CallHasRoom calls → IsSomeAnd (after m calls s) HasRoom }
+    ensures lines { (s : Sub D.Held D.Annotation.Seen) → HasRoom s → IsSome (lines_of_sub s) }
+{
+    overflow_never_refuses::<Vec<D::Annotation>>();
+}

@@ -1,0 +1,6 @@
+//! What holds of every renderer, said without what its calls do: laws, beside `block_renderer`.
+#![tactic(auto)]
+
+mod laws;
+
+pub use laws::{renderers_keep_the_width, renderers_with_room_never_refuse};
