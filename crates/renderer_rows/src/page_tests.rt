@@ -39,3 +39,16 @@ fn parts_of_a_page(rt: HostRuntime) -> Result<(), Fail> {
     }
     Ok(())
 }
+
+#[test]
+fn lines_behind_a_page_are_cut_by_characters(rt: HostRuntime) -> Result<(), Fail> {
+    let alloc = rt.alloc();
+    let options = RenderOptions::default();
+    let mut block = SubRenderer::new(alloc, 1, options, PlainDecorator::new());
+    let mut targets = Vec::new(alloc);
+    targets.push(String::from_str(alloc, "a")?)?;
+    let lines = block.finalise(targets)?;
+    block.fmt_links(lines)?;
+    assert_eq!(rt; block.into_string()?.as_str(), "[\n1\n]\n:\n \na\n");
+    Ok(())
+}
