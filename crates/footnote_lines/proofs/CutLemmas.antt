@@ -67,7 +67,8 @@ all_elements seen f es ys whole old new so_far =
 
 -- a character under its annotation alone
 pub noted_text : {A : Type 0} (width : Option ℕ) (cs : List ℕ) (annotation : A) (cut : Cut (List A))
-    → fold (placed_spaced width) cut (tagged cs (annotation ∷ [])) ≡ fold (placed_noted width) cut (tagged cs annotation)
+    → fold (placed_spaced width) cut (tagged cs (annotation ∷ []))
+    ≡ fold (placed_noted width) cut (tagged cs annotation)
 noted_text width [] annotation cut = refl
 noted_text width (c ∷ cs) annotation cut =
     noted_text width cs annotation (placed_noted width cut (character c annotation))
