@@ -18,8 +18,8 @@ impl<D: TextDecorator + Drop> SubRenderer<D> {
     ghost use Rattle.block_renderer.specs.Renderers.{with_held};
     ghost use Rattle.block_renderer.specs.Seen.{sub_of, has_failed};
 
-    /// Makes the text that runs lines, and adds what lines behind the page give: each annotation stands alone, and lines
-    /// are cut at the block's width where links are wrapped. Refused as `TooNarrow` where a character of the text that
+    /// Makes the text that runs lines, and adds what lines behind the page give: each annotation stands alone, and
+    /// lines are cut at the block's width where links are wrapped. Refused as `TooNarrow` where a character of the text that
     /// runs is wider than its lines and may not stand alone, as `Memory`, or as `Failed` behind a refusal.
     pub fn fmt_links(&mut self, lines: Vec<TaggedLine<D::Annotation>>) -> Result<(), BlockError>
         ensures { IsOutcome result (has_failed self.old) (has_failed self.new)
@@ -78,8 +78,8 @@ impl<D: TextDecorator + Drop> SubRenderer<D> {
         None
     }
 
-    /// The lines behind the page whose links have these targets. The error is `Failed` behind a refusal, else `Memory`, and
-    /// leaves the renderer as it was.
+    /// The lines behind the page whose links have these targets. The error is `Failed` behind a refusal, else `Memory`,
+    /// and leaves the renderer as it was.
     pub fn finalise(
         &mut self,
         links: Vec<String>,

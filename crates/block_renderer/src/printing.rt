@@ -1,5 +1,6 @@
 //! The text of all lines.
-ghost use Rattle.std.specs.Prelude.{◌≡◌, ◌⊎◌, ◌++◌, false, true, None, Some, map, chars, string_bytes, Err, IfOk, IfErr, OnOk};
+ghost use Rattle.std.specs.Prelude.{◌≡◌, ◌⊎◌, ◌++◌, false, true, None, Some, map, chars, string_bytes};
+ghost use Rattle.std.specs.Prelude.{Err, IfOk, IfErr, OnOk};
 ghost use Rattle.std.specs.Option.{option_map};
 ghost use Rattle.tagged_lines.specs.Tagged.{line_items, element_items, characters};
 ghost use Rattle.text_pieces.specs.declared.fault.BlockError.TheVariants as errors;

@@ -10,5 +10,6 @@ pub returns : goal.returns
 returns g c =
     let items = line_items g.A.EqualCopy.seen c.args.line.now in
     IfOk-weaker c.into_lines.result _ _ (λ _ h. h
-    ∙ ap all_lines (c.in_ok-push_line.ensures ∙ ap (λ cut. fold (placed_noted c.args.width) cut items) c.new-cut.ensures)
+    ∙ ap all_lines (c.in_ok-push_line.ensures
+    ∙ ap (λ cut. fold (placed_noted c.args.width) cut items) c.new-cut.ensures)
     ∙ all_placed c.args.width items) c.into_lines.ensures
