@@ -115,12 +115,14 @@ impl<T: EqualCopy + Drop> BlockLayout<T> {
         ensures narrow { result ≡ Err errors.TooNarrow → laid_text (running_of T.seen running).text ≡ None }
     {
         let (LaidText { lines, waiting }, fill) = running.laid()?;
-        self.add_text_lines(measure, tag, &fill, lines)?;
+        self.add_lines(measure, tag, &fill, lines)?;
         self.hold_markers(waiting)?;
         Ok(())
     }
 
-    fn add_text_lines(
+    /// Adds lines of text, the first behind the markers that wait, filled where lines are. The error is want of memory
+    /// alone.
+    pub fn add_lines(
         &mut self,
         measure: Measure,
         tag: &T,

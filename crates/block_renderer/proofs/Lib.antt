@@ -3,3 +3,4 @@ pub mod StackLemmas
 pub mod ImageLemmas
 pub mod CellLemmas
 pub mod InlineLemmas
+pub mod FootnoteLemmas

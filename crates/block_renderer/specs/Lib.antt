@@ -4,3 +4,4 @@ pub mod Footnotes
 pub mod Outcomes
 pub mod Renderers
 pub mod Seen
+pub mod Texts

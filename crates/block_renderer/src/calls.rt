@@ -22,14 +22,14 @@ impl<D: TextDecorator + Drop> Renderer for SubRenderer<D> {
     ghost never = { λ c old. Fails D.Annotation.seen D.held D.text D.gives D.marks D.after D.pops
         (λ m s. step m (call_of (sub_of D.Annotation.seen D.held) c) s) old };
 
-    ghost columns = { λ s. s.width };
+    ghost columns = { λ s. (sub_of D.Annotation.seen D.held s).width };
 
     ghost holds_nothing = { λ s. is_nothing (sub_of D.Annotation.seen D.held s).laid };
 
-    ghost prefix = { λ s kind. D.text (D.held s.decorator) kind };
+    ghost prefix = { λ s kind. D.text (sub_of D.Annotation.seen D.held s).held kind };
 
     ghost is_part = { λ s width part. sub_of D.Annotation.seen D.held part ≡ new_sub width s.options
-        (D.sub (D.held s.decorator)) (sub_of D.Annotation.seen D.held s).annotations };
+        (D.sub (sub_of D.Annotation.seen D.held s).held) (sub_of D.Annotation.seen D.held s).annotations };
 
     fn width(&self) -> usize {
         self.width

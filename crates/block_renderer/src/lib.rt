@@ -4,9 +4,11 @@
 mod calls;
 mod images;
 mod inline;
+mod links;
 mod marking;
 mod options;
 mod parts;
+mod printing;
 mod renderer;
 mod stacks;
 mod striking;

@@ -52,7 +52,7 @@ fn push_strokes(struck: &mut String, count: usize) -> Result<(), AllocError>
     Ok(())
 }
 
-fn push_character(text: &mut String, c: char) -> Result<(), AllocError>
+pub(crate) fn push_character(text: &mut String, c: char) -> Result<(), AllocError>
     ensures { OnOk result (chars (string_bytes text.new) ≡ chars (string_bytes text.old) ++ c ∷ []) }
 {
     text.push(c)?;

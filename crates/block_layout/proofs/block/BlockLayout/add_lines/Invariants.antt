@@ -3,7 +3,7 @@ use Rattle.std.specs.Vec.Iter.{into_iter_items}
 use Rattle.tagged_lines.specs.Tagged.{line_items}
 use Rattle.block_layout.specs.Laid.{add_text_lines}
 use Rattle.block_layout.specs.Seen.{laid_of}
-use Rattle.block_layout.proofs.block.BlockLayout.add_text_lines.Given as goal
+use Rattle.block_layout.proofs.block.BlockLayout.add_lines.Given as goal
 
 abbrev pub invariant-loop-line : goal.invariant-loop-line
 invariant-loop-line g l =

@@ -1,0 +1,110 @@
+//! Lines that are cut.
+ghost use Rattle.std.specs.Prelude.{◌≡◌, ◌+◌, nat_le, ◌∷◌, ◌++◌, fold, map, chars, OnOk, IfOk};
+ghost use Rattle.tagged_lines.specs.Tagged.{line_items, character, marker, tagged};
+ghost use Rattle.footnote_lines.specs.Footnotes.{nothing_cut, all_lines};
+ghost use Rattle.footnote_lines.specs.Cuts.{spaced, has_room};
+
+use std::alloc::{AllocError, Global};
+use std::mem;
+use tagged_lines::{EqualCopy, TaggedLine};
+use text_pieces::{has_text, width_of};
+
+/// Lines that are done, and the one that is begun.
+#[derive(Drop)]
+pub(crate) struct CutLines<T> {
+    pub(crate) done: Vec<TaggedLine<T>>,
+    pub(crate) line: TaggedLine<T>,
+}
+
+impl<T: EqualCopy + Drop> CutLines<T> {
+    ghost use Rattle.footnote_lines.specs.Cuts.{cut_of, with_room, placed_within, placed_noted, placed_spaced};
+
+    /// No line is done.
+    pub(crate) fn new(alloc: Global) -> CutLines<T>
+        ensures { cut_of T.seen result ≡ nothing_cut }
+    {
+        CutLines {
+            done: Vec::new(alloc),
+            line: TaggedLine::new(alloc),
+        }
+    }
+
+    /// All lines, the one that is begun too.
+    pub(crate) fn into_lines(self) -> Result<Vec<TaggedLine<T>>, AllocError>
+        ensures { IfOk result (λ lines. map (line_items T.seen) lines.items ≡ all_lines (cut_of T.seen self)) }
+    {
+        let CutLines { mut done, line } = self;
+        done.push(line)?;
+        Ok(done)
+    }
+
+    /// Adds a marker to the line.
+    pub(crate) fn push_marker(&mut self, width: Option<usize>, name: &str) -> Result<(), AllocError>
+        ensures { OnOk result (cut_of T.seen self.new
+            ≡ placed_within width (cut_of T.seen self.old) (marker (chars name.now))) }
+    {
+        self.line.push_marker(name)
+    }
+
+    /// Adds characters one after another; a line end is a space.
+    pub(crate) fn push_text(
+        &mut self,
+        width: Option<usize>,
+        text: &str,
+        tag: &T,
+    ) -> Result<(), AllocError>
+        ensures { OnOk result (cut_of T.seen self.new
+            ≡ fold (placed_spaced width) (cut_of T.seen self.old) (tagged (chars text.now) (T.seen tag.now))) }
+    {
+        for c in text.chars() {
+            self.push_character(width, spaced(c), tag)?;
+        }
+        Ok(())
+    }
+
+    /// Adds a character, to the line that it begins where the line at hand has no room for it.
+    fn push_character(&mut self, width: Option<usize>, c: char, tag: &T) -> Result<(), AllocError>
+        ensures { OnOk result (cut_of T.seen self.new
+            ≡ placed_within width (cut_of T.seen self.old) (character c (T.seen tag.now))) }
+    {
+        self.make_room(width, c)?;
+        self.line.push_char(c, tag)
+    }
+
+    /// Ends the line at hand where it has no room for the character.
+    fn make_room(&mut self, width: Option<usize>, c: char) -> Result<(), AllocError>
+        ensures { OnOk result (cut_of T.seen self.new ≡ with_room width c (cut_of T.seen self.old)) }
+    {
+        if self.has_room(width, c) {
+            return Ok(());
+        }
+        let empty = TaggedLine::new(*self.done.allocator());
+        let line = mem::replace(&mut self.line, empty);
+        self.done.push(line)?;
+        Ok(())
+    }
+
+    /// Whether the character goes on the line at hand.
+    fn has_room(&self, width: Option<usize>, c: char) -> bool
+        ensures { result ≡ has_room width (cut_of T.seen self.now).line c }
+    {
+        match width {
+            Some(width) => fits(self.line.width(), width_of(c), width) || !has_text(&self.line),
+            None => true,
+        }
+    }
+}
+
+/// Whether a line takes so many columns more.
+fn fits(taken: usize, more: usize, width: usize) -> bool
+    ensures { result ≡ nat_le (taken + more) width }
+{
+    taken <= width && more <= width - taken
+}
+
+/// A line end is a space.
+fn spaced(c: char) -> char
+    ensures { result ≡ spaced c }
+{
+    if c == '\n' { ' ' } else { c }
+}
