@@ -84,7 +84,8 @@ impl<D: TextDecorator + Drop> SubRenderer<D> {
         &mut self,
         links: Vec<String>,
     ) -> Result<Vec<TaggedLine<D::Annotation>>, BlockError>
-        ensures closes { IfOk result (λ lines. D.closes (sub_of D.Annotation.seen D.held self.old).held (names links.items) lines.items) }
+        ensures closes { IfOk result (λ lines.
+            D.closes (sub_of D.Annotation.seen D.held self.old).held (names links.items) lines.items) }
         ensures after { OnOk result (sub_of D.Annotation.seen D.held self.new
             ≡ with_held (D.after (sub_of D.Annotation.seen D.held self.old).held (page_end (names links.items)))
             (sub_of D.Annotation.seen D.held self.old)) }
