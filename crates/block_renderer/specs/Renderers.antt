@@ -1,5 +1,5 @@
--- A renderer of a block: what it holds, and what each call makes of it. Where a call comes to no renderer, a character is
--- wider than the lines at which its text wraps.
+-- A renderer of a block: what it holds, and what each call makes of it. Where a call comes to no renderer, a character
+-- is wider than the lines at which its text wraps.
 use Rattle.std.specs.Prelude.{ℕ, ◌+◌, ◌-◌, ◌==◌, nat_lt, nat_le, min, max, Bool, List, [], ◌∷◌, ◌++◌, Option, None, Some, fold, flat_map, replicate, unwrap_or, chars, if◌then◌else◌}
 use Rattle.std.specs.Option.{option_map, option_and_then}
 use Rattle.tagged_lines.specs.Columns.{width_of}
@@ -25,8 +25,9 @@ pub record Marking (H A : Type 0) : Type 0 where
   pub after : H → Mark → H
   pub ends_tag : H → Mark → Bool
 
--- The columns and the options; what the decorator holds; the lines and the text that runs; the modes of white space, the
--- last of which counts; how many parts around are preformatted; the annotations that stand; the strikeouts that have begun.
+-- The columns and the options; what the decorator holds; the lines and the text that runs; the modes of white space,
+-- the last of which counts; how many parts around are preformatted; the annotations that stand; the strikeouts that
+-- have begun.
 pub record Sub (H A : Type 0) : Type 0 where
   pub width : ℕ
   pub options : RenderOptions
@@ -86,8 +87,8 @@ struck_text s cs = if s.options.use_unicode_strikeout then struck s.strikeouts c
 abbrev pub preformatted_added : {H A : Type 0} → Marking H A → List ℕ → Sub H A → Laid (List A)
     → Option (Laid (List A))
 preformatted_added m cs s b = add_text (measure_of s) s.annotations (mode_of s) cs
-    (s.annotations ++ m.mark_tag s.held preformat_first ∷ []) (s.annotations ++ m.mark_tag s.held preformat_further ∷ [])
-    b
+    (s.annotations ++ m.mark_tag s.held preformat_first ∷ [])
+    (s.annotations ++ m.mark_tag s.held preformat_further ∷ []) b
 
 abbrev pub tagged_added : {H A : Type 0} → Marking H A → List ℕ → Sub H A → Laid (List A) → Option (Laid (List A))
 tagged_added m cs s b =

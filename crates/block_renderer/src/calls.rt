@@ -301,7 +301,8 @@ impl<D: TextDecorator + Drop> Renderer for SubRenderer<D> {
     ) -> Result<(), BlockError>
         ensures { IsOutcome result (has_failed self.old) (has_failed self.new)
             (Comes D.Annotation.seen D.held D.text D.gives D.marks D.after D.pops
-            (λ m s. step m (call_of (sub_of D.Annotation.seen D.held) (adds_cells cells.items collapse)) s) self.old self.new)
+            (λ m s. step m (call_of (sub_of D.Annotation.seen D.held) (adds_cells cells.items collapse)) s)
+            self.old self.new)
             (Fails D.Annotation.seen D.held D.text D.gives D.marks D.after D.pops
             (λ m s. step m (call_of (sub_of D.Annotation.seen D.held) (adds_cells cells.items collapse)) s) self.old) }
     {
@@ -316,7 +317,8 @@ impl<D: TextDecorator + Drop> Renderer for SubRenderer<D> {
     fn append_vert_row(&mut self, cells: Vec<SubRenderer<D>>) -> Result<(), BlockError>
         ensures { IsOutcome result (has_failed self.old) (has_failed self.new)
             (Comes D.Annotation.seen D.held D.text D.gives D.marks D.after D.pops
-            (λ m s. step m (call_of (sub_of D.Annotation.seen D.held) (adds_rows_below cells.items)) s) self.old self.new)
+            (λ m s. step m (call_of (sub_of D.Annotation.seen D.held) (adds_rows_below cells.items)) s)
+            self.old self.new)
             (Fails D.Annotation.seen D.held D.text D.gives D.marks D.after D.pops
             (λ m s. step m (call_of (sub_of D.Annotation.seen D.held) (adds_rows_below cells.items)) s) self.old) }
     {

@@ -19,8 +19,8 @@ impl<D: TextDecorator + Drop> SubRenderer<D> {
     ghost use Rattle.block_renderer.specs.Seen.{sub_of, has_failed};
 
     /// Makes the text that runs lines, and adds what lines behind the page give: each annotation stands alone, and
-    /// lines are cut at the block's width where links are wrapped. Refused as `TooNarrow` where a character of the text that
-    /// runs is wider than its lines and may not stand alone, as `Memory`, or as `Failed` behind a refusal.
+    /// lines are cut at the block's width where links are wrapped. Refused as `TooNarrow` where a character of the text
+    /// that runs is wider than its lines and may not stand alone, as `Memory`, or as `Failed` behind a refusal.
     pub fn fmt_links(&mut self, lines: Vec<TaggedLine<D::Annotation>>) -> Result<(), BlockError>
         ensures { IsOutcome result (has_failed self.old) (has_failed self.new)
             (add_footnotes (map (line_items D.Annotation.seen) lines.items) (sub_of D.Annotation.seen D.held self.old)

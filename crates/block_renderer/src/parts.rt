@@ -168,7 +168,8 @@ fn cells_of_subs<D: TextDecorator + Drop>(
     cells: Vec<(SubRenderer<D>, usize)>,
 ) -> Result<Vec<LineSet<Vec<D::Annotation>>>, BlockError>
     ensures kinds { IfErr result (λ e. (e ≡ errors.TooNarrow) ⊎ (e ≡ errors.Memory)) }
-    ensures cells { IfOk result (λ done. cells_of_subs (map (λ c. (sub_of D.Annotation.seen D.held c.0, c.1)) cells.items)
+    ensures cells { IfOk result (λ done.
+        cells_of_subs (map (λ c. (sub_of D.Annotation.seen D.held c.0, c.1)) cells.items)
         ≡ Some (map (cell_of (tags_seen D.Annotation.seen)) done.items)) }
     ensures narrow { result ≡ Err errors.TooNarrow
         → cells_of_subs (map (λ c. (sub_of D.Annotation.seen D.held c.0, c.1)) cells.items) ≡ None }

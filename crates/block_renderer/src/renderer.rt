@@ -18,8 +18,8 @@ use text_marks::Colour;
 use text_pieces::{BlockError, WhiteSpace};
 
 /// A renderer of a block. Contracts say of each call what it makes of the renderer (`does`), and when no lines hold its
-/// text (`never`). A call is refused as `TooNarrow`, where a character is wider than the lines at which its text wraps and
-/// may not stand alone, or as `Memory`; behind a refusal every call that can be refused is refused as `Failed`.
+/// text (`never`). A call is refused as `TooNarrow`, where a character is wider than the lines at which its text wraps
+/// and may not stand alone, or as `Memory`; behind a refusal every call that can be refused is refused as `Failed`.
 pub trait Renderer {
     ghost has_failed: { Self → Bool };
 
@@ -43,8 +43,8 @@ pub trait Renderer {
     fn empty(&self) -> bool
         ensures { result ≡ holds_nothing self.now };
 
-    /// An empty renderer of so many columns for a part of the block: with its options, a decorator for the part, and the
-    /// annotations that stand. The error is `Failed` behind a refusal, else `Memory`.
+    /// An empty renderer of so many columns for a part of the block: with its options, a decorator for the part, and
+    /// the annotations that stand. The error is `Failed` behind a refusal, else `Memory`.
     fn new_sub_renderer(&self, width: usize) -> Result<Self, BlockError>
     where
         Self: Sized,
@@ -106,7 +106,8 @@ pub trait Renderer {
     /// A link to the target begins.
     fn start_link(&mut self, target: &str) -> Result<(), BlockError>
         ensures { IsOutcome result (has_failed self.old) (has_failed self.new)
-            (does (starts_link (link_start (chars target.now))) self.old self.new) (never (starts_link (link_start (chars target.now))) self.old) };
+            (does (starts_link (link_start (chars target.now))) self.old self.new)
+            (never (starts_link (link_start (chars target.now))) self.old) };
 
     /// A link ends.
     fn end_link(&mut self) -> Result<(), BlockError>
@@ -166,22 +167,26 @@ pub trait Renderer {
     /// Adds an image. One with an empty title is rendered by the mode of the options.
     fn add_image(&mut self, src: &str, title: &str) -> Result<(), BlockError>
         ensures { IsOutcome result (has_failed self.old) (has_failed self.new)
-            (does (adds_image (chars src.now) (chars title.now)) self.old self.new) (never (adds_image (chars src.now) (chars title.now)) self.old) };
+            (does (adds_image (chars src.now) (chars title.now)) self.old self.new)
+            (never (adds_image (chars src.now) (chars title.now)) self.old) };
 
     /// The fragment of that name starts at the next word.
     fn record_frag_start(&mut self, name: &str) -> Result<(), BlockError>
         ensures { IsOutcome result (has_failed self.old) (has_failed self.new)
-            (does (starts_fragment (chars name.now)) self.old self.new) (never (starts_fragment (chars name.now)) self.old) };
+            (does (starts_fragment (chars name.now)) self.old self.new)
+            (never (starts_fragment (chars name.now)) self.old) };
 
     /// A text's colour begins.
     fn push_colour(&mut self, colour: Colour) -> Result<(), BlockError>
         ensures { IsOutcome result (has_failed self.old) (has_failed self.new)
-            (does (starts_colour (colour_start colour)) self.old self.new) (never (starts_colour (colour_start colour)) self.old) };
+            (does (starts_colour (colour_start colour)) self.old self.new)
+            (never (starts_colour (colour_start colour)) self.old) };
 
     /// A background's colour begins.
     fn push_bgcolour(&mut self, colour: Colour) -> Result<(), BlockError>
         ensures { IsOutcome result (has_failed self.old) (has_failed self.new)
-            (does (starts_colour (background_start colour)) self.old self.new) (never (starts_colour (background_start colour)) self.old) };
+            (does (starts_colour (background_start colour)) self.old self.new)
+            (never (starts_colour (background_start colour)) self.old) };
 
     /// Adds the lines of another renderer behind prefixes: the first line's, and the others'.
     fn append_subrender(
@@ -193,7 +198,8 @@ pub trait Renderer {
     where
         Self: Sized,
         ensures { IsOutcome result (has_failed self.old) (has_failed self.new)
-            (does (adds_block other (chars first.now) (chars following.now)) self.old self.new) (never (adds_block other (chars first.now) (chars following.now)) self.old) };
+            (does (adds_block other (chars first.now) (chars following.now)) self.old self.new)
+            (never (adds_block other (chars first.now) (chars following.now)) self.old) };
 
     /// Adds cells beside one another, each with the rows that it takes. `collapse` takes the borders that are a cell's
     /// first and last line into those of the row.
@@ -205,7 +211,8 @@ pub trait Renderer {
     where
         Self: Sized,
         ensures { IsOutcome result (has_failed self.old) (has_failed self.new)
-            (does (adds_cells cells.items collapse) self.old self.new) (never (adds_cells cells.items collapse) self.old) };
+            (does (adds_cells cells.items collapse) self.old self.new)
+            (never (adds_cells cells.items collapse) self.old) };
 
     /// Adds cells below one another.
     fn append_vert_row(&mut self, cells: Vec<Self>) -> Result<(), BlockError>

@@ -210,8 +210,8 @@ impl<D: TextDecorator + Drop> SubRenderer<D> {
     ghost use Rattle.block_renderer.specs.Seen.{sub_of, tags_seen, has_failed};
 
     /// The lines of the block, those of the text that runs too, filled where lines are. Refused as `TooNarrow` where a
-    /// character of the text that runs is wider than its lines and may not stand alone, as `Memory`, or as `Failed` behind
-    /// a refusal.
+    /// character of the text that runs is wider than its lines and may not stand alone, as `Memory`, or as `Failed`
+    /// behind a refusal.
     pub fn into_lines(self) -> Result<Vec<RenderLine<Vec<D::Annotation>>>, BlockError>
         ensures failed { has_failed self ≡ true → result ≡ Err errors.Failed }
         ensures kinds { has_failed self ≡ false
@@ -233,9 +233,9 @@ impl<D: TextDecorator + Drop> SubRenderer<D> {
         laid.into_lines(measure, &annotations)
     }
 
-    /// The columns that are left behind a prefix of `prefix_len` columns, at least `max(1, min_width - prefix_len)`. Where
-    /// fewer are left, that least width is given if lines may pass the block's, and else refused. It is given behind a
-    /// refusal too.
+    /// The columns that are left behind a prefix of `prefix_len` columns, at least `max(1, min_width - prefix_len)`.
+    /// Where fewer are left, that least width is given if lines may pass the block's, and else refused. It is given
+    /// behind a refusal too.
     pub fn width_minus(&self, prefix_len: usize, min_width: usize) -> Result<usize, TooNarrow>
         ensures room { IfOk result (λ n. room_behind prefix_len min_width (sub_of D.Annotation.seen D.held self.now)
             ≡ Some n) }

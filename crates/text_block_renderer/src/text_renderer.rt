@@ -12,8 +12,8 @@ use std::mem;
 use text_decorators::TextDecorator;
 use text_wrapping::BlockError;
 
-/// A renderer of a page: one of the whole, and above it those of the parts that have begun, to the last of which text goes;
-/// and the targets of the links so far.
+/// A renderer of a page: one of the whole, and above it those of the parts that have begun, to the last of which text
+/// goes; and the targets of the links so far.
 #[derive(Drop)]
 pub struct TextRenderer<D: TextDecorator> {
     /// Those below the current one, the whole page's first.
@@ -67,7 +67,8 @@ impl<D: TextDecorator + Drop> TextRenderer<D> {
         &mut self.current
     }
 
-    /// A part begins, to whose renderer text goes from here on. The error is want of memory, or `Failed` behind a refusal.
+    /// A part begins, to whose renderer text goes from here on. The error is want of memory, or `Failed` behind a
+    /// refusal.
     pub fn push(&mut self, sub: SubRenderer<D>) -> Result<(), BlockError>
         ensures failed { page_has_failed self.old ≡ true → result ≡ Err errors.Failed }
         ensures refused { is_err result ≡ page_has_failed self.new }
@@ -147,8 +148,8 @@ impl<D: TextDecorator + Drop> TextRenderer<D> {
         self.current.start_link(target)
     }
 
-    /// A link ends; behind it stands its number in brackets, where the targets of links stand behind the page. Refused as
-    /// `start_link`.
+    /// A link ends; behind it stands its number in brackets, where the targets of links stand behind the page. Refused
+    /// as `start_link`.
     pub fn end_link(&mut self) -> Result<(), BlockError>
         ensures refused { is_err result ≡ page_has_failed self.new }
         ensures failed { page_has_failed self.old ≡ true → result ≡ Err errors.Failed }
