@@ -6,7 +6,8 @@ use Rattle.std.proofs.lemmas.List.{map-append}
 use Rattle.text_pieces.specs.declared.white_space.WhiteSpace.{WhiteSpace}
 use Rattle.block_layout.specs.declared.measure.Measure.{Measure}
 use Rattle.block_layout.specs.Laid.{Laid, is_ignored, start_awaited}
-use Rattle.block_renderer.specs.Renderers.{Marking, Sub, measure_of, mode_of, with_laid, on_laid, text_added, add_inline}
+use Rattle.block_layout.specs.LaidRows.{before_last}
+use Rattle.renderer_calls.specs.Renderers.{Marking, Sub, measure_of, mode_of, with_laid, on_laid, text_added, add_inline}
 
 other_branch : {B : Type 0} (b : Bool) (x y : B) → b ≡ false → (if b then x else y) ≡ y
 other_branch true x y e = cc
@@ -29,3 +30,8 @@ inline_is m cs s mode measure laid b o e f test stays started added =
 pub mapped_more : {T A : Type 0} (f : T → A) (old new : List T) (x : T) → new ≡ old ++ x ∷ []
     → map f old ++ f x ∷ [] ≡ map f new
 mapped_more f old new x e = sym (ap (map f) e ∙ map-append f old (x ∷ []))
+
+pub mapped_off : {A B : Type 0} (f : A → B) (xs : List A) → map f (before_last xs) ≡ before_last (map f xs)
+mapped_off f [] = refl
+mapped_off f (x ∷ []) = refl
+mapped_off f (x ∷ y ∷ xs) = ap (λ ys. f x ∷ ys) (mapped_off f (y ∷ xs))

@@ -3,7 +3,7 @@ use Rattle.std.specs.Prelude.{◌≡◌, ℕ, Bool, List, Option, None, Some, ma
 use Rattle.std.specs.Global.{Global}
 use Rattle.text_marks.specs.Marks.{Mark}
 use Rattle.block_layout.specs.Seen.{laid_of}
-use Rattle.block_renderer.specs.Renderers.{Marking, Sub}
+use Rattle.renderer_calls.specs.Renderers.{Marking, Sub}
 use Rattle.block_renderer.specs.declared.sub_renderer.SubRenderer.{SubRenderer}
 
 -- annotations that stand together are a tag

@@ -1,16 +1,15 @@
 //! The calls of a renderer over a decorator.
 
-use crate::renderer::Renderer;
-use crate::stacks::drop_last;
 use crate::sub_renderer::SubRenderer;
+use renderer_calls::{Renderer, drop_last};
 use text_marks::{Colour, TextDecorator};
 use text_pieces::{BlockError, WhiteSpace};
 
 impl<D: TextDecorator + Drop> Renderer for SubRenderer<D> {
     ghost use Rattle.std.specs.Prelude.{◌≡◌, true};
-    ghost use Rattle.block_renderer.specs.Calls.{step, call_of, adds_cells, adds_rows_below};
-    ghost use Rattle.block_renderer.specs.Outcomes.{IsOutcome};
-    ghost use Rattle.block_renderer.specs.Renderers.{new_sub};
+    ghost use Rattle.renderer_calls.specs.Calls.{step, call_of, adds_cells, adds_rows_below};
+    ghost use Rattle.renderer_calls.specs.Outcomes.{IsOutcome};
+    ghost use Rattle.renderer_calls.specs.Renderers.{new_sub};
     ghost use Rattle.block_renderer.specs.Seen.{sub_of, has_failed, Comes, Fails};
     ghost use Rattle.block_layout.specs.Laid.{is_nothing};
 

@@ -3,17 +3,17 @@ ghost use Rattle.std.specs.Prelude.{◌≡◌, ◌⊎◌, ◌++◌, ◌∷◌, [
 ghost use Rattle.text_marks.specs.Marks.{preformat_first, preformat_further};
 ghost use Rattle.text_pieces.specs.declared.fault.BlockError.TheVariants as errors;
 ghost use Rattle.block_layout.specs.Laid.{add_text};
-ghost use Rattle.block_renderer.specs.Renderers.{struck};
+ghost use Rattle.renderer_calls.specs.Renderers.{struck};
 
-use crate::striking::struck;
 use crate::sub_renderer::SubRenderer;
+use renderer_calls::struck;
 use std::alloc::{AllocError, Global};
 use tagged_lines::EqualCopy;
 use text_marks::TextDecorator;
 use text_pieces::BlockError;
 
 impl<D: TextDecorator + Drop> SubRenderer<D> {
-    ghost use Rattle.block_renderer.specs.Renderers.{on_laid, preformatted_added, tagged_added, text_added, add_inline};
+    ghost use Rattle.renderer_calls.specs.Renderers.{on_laid, preformatted_added, tagged_added, text_added, add_inline};
     ghost use Rattle.block_renderer.specs.Seen.{sub_of, Comes, Fails};
 
     /// Adds text, unless it is ignored behind a block.

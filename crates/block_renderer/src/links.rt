@@ -14,8 +14,8 @@ use text_pieces::BlockError;
 
 impl<D: TextDecorator + Drop> SubRenderer<D> {
     ghost use Rattle.block_renderer.specs.Footnotes.{add_footnotes, with_footnote, footnote_width};
-    ghost use Rattle.block_renderer.specs.Outcomes.{IsOutcome};
-    ghost use Rattle.block_renderer.specs.Renderers.{with_held};
+    ghost use Rattle.renderer_calls.specs.Outcomes.{IsOutcome};
+    ghost use Rattle.renderer_calls.specs.Renderers.{with_held};
     ghost use Rattle.block_renderer.specs.Seen.{sub_of, has_failed};
 
     /// Makes the text that runs lines, and adds what lines behind the page give: each annotation stands alone, and

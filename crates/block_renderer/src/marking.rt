@@ -6,17 +6,16 @@ ghost use Rattle.text_marks.specs.Marks.{superscript_end, colour_start, backgrou
 ghost use Rattle.std.specs.Option.{option_map};
 ghost use Rattle.text_pieces.specs.declared.fault.BlockError.TheVariants as errors;
 
-use crate::images::shown_title;
-use crate::stacks::drop_last;
 use crate::sub_renderer::SubRenderer;
+use renderer_calls::{drop_last, shown_title};
 use std::alloc::AllocError;
 use text_marks::{Colour, TextDecorator};
 use text_pieces::BlockError;
 
 impl<D: TextDecorator + Drop> SubRenderer<D> {
-    ghost use Rattle.block_renderer.specs.Renderers.{add_inline, pushed, popped, begin, finish, begin_link, finish_link};
-    ghost use Rattle.block_renderer.specs.Renderers.{begin_strikeout, finish_strikeout, add_image, begin_colour};
-    ghost use Rattle.block_renderer.specs.Renderers.{finish_colour, struck_more, struck_less, add_titled};
+    ghost use Rattle.renderer_calls.specs.Renderers.{add_inline, pushed, popped, begin, finish, begin_link, finish_link};
+    ghost use Rattle.renderer_calls.specs.Renderers.{begin_strikeout, finish_strikeout, add_image, begin_colour};
+    ghost use Rattle.renderer_calls.specs.Renderers.{finish_colour, struck_more, struck_less, add_titled};
     ghost use Rattle.block_renderer.specs.Seen.{sub_of, has_failed, Comes, Fails};
 
     /// The annotation stands, and then the text is added.

@@ -2,8 +2,8 @@
 ghost use Rattle.std.specs.Prelude.{◌≡◌, ◌⊎◌, [], false, true, None, Some, map, chars, string_bytes, Err, IfOk, IfErr, OnOk};
 ghost use Rattle.text_pieces.specs.declared.fault.BlockError.TheVariants as errors;
 
-use crate::options::RenderOptions;
 use block_layout::{BlockLayout, Measure};
+use renderer_calls::RenderOptions;
 use std::alloc::{AllocError, Global};
 use tagged_lines::EqualCopy;
 use text_borders::RenderLine;
@@ -27,10 +27,10 @@ pub struct SubRenderer<D: TextDecorator> {
 }
 
 impl<D: TextDecorator + Drop> SubRenderer<D> {
-    ghost use Rattle.block_renderer.specs.Renderers.{new_sub, measure_of, mode_of, flush_sub};
-    ghost use Rattle.block_renderer.specs.Renderers.{with_empty_line, with_block_started, with_table_started};
-    ghost use Rattle.block_renderer.specs.Renderers.{with_line_broken, with_border_of, with_fragment};
-    ghost use Rattle.block_renderer.specs.Renderers.{with_preformat, with_mode};
+    ghost use Rattle.renderer_calls.specs.Renderers.{new_sub, measure_of, mode_of, flush_sub};
+    ghost use Rattle.renderer_calls.specs.Renderers.{with_empty_line, with_block_started, with_table_started};
+    ghost use Rattle.renderer_calls.specs.Renderers.{with_line_broken, with_border_of, with_fragment};
+    ghost use Rattle.renderer_calls.specs.Renderers.{with_preformat, with_mode};
     ghost use Rattle.block_renderer.specs.Seen.{sub_of, has_failed};
 
     /// An empty renderer of a block of so many columns.
@@ -206,7 +206,7 @@ impl<D: TextDecorator + Drop> SubRenderer<D> {
 impl<D: TextDecorator + Drop> SubRenderer<D> {
     ghost use Rattle.std.specs.Prelude.{map};
     ghost use Rattle.text_borders.specs.Lines.{render_line_of};
-    ghost use Rattle.block_renderer.specs.Renderers.{lines_of_sub, room_behind};
+    ghost use Rattle.renderer_calls.specs.Renderers.{lines_of_sub, room_behind};
     ghost use Rattle.block_renderer.specs.Seen.{sub_of, tags_seen, has_failed};
 
     /// The lines of the block, those of the text that runs too, filled where lines are. Refused as `TooNarrow` where a

@@ -12,8 +12,8 @@ use Rattle.block_layout.specs.Laid.{Laid, add_empty_line, start_block, start_tab
 use Rattle.block_layout.specs.LaidRows.{add_row, add_slashes}
 use Rattle.layout_laws.specs.LayoutLaws.{AllowsOverflow}
 use Rattle.layout_laws.proofs.OptionLemmas.{given_mapped, given_chained}
-use Rattle.block_renderer.specs.Renderers.{Marking, Sub, measure_of, mode_of, with_laid, on_laid, struck_text, preformatted_added, tagged_added, text_added, add_inline, with_held, pushed, popped, struck_more, struck_less, begin, finish, begin_link, finish_link, begin_strikeout, image_title, add_titled, begin_colour, finish_colour, flush_sub, with_block, append_sub, add_sub, cell_of_sub, before_cells, cells_of_subs, with_cells, add_cells, slashed, ruled, add_below, add_first, add_rows_below}
-use Rattle.block_renderer.specs.Calls.{Call, adds_empty_line, starts_block, starts_table, ends_block, ends_line, breaks_line, adds_border, adds_border_of, starts_preformat, ends_preformat, starts_mode, ends_mode, adds_text, starts_link, ends_link, starts_strikeout, ends_strikeout, starts_mark, ends_mark, adds_image, starts_fragment, starts_colour, ends_colour, adds_block, adds_cells, adds_rows_below, step}
+use Rattle.renderer_calls.specs.Renderers.{Marking, Sub, measure_of, mode_of, with_laid, on_laid, struck_text, preformatted_added, tagged_added, text_added, add_inline, with_held, pushed, popped, struck_more, struck_less, begin, finish, begin_link, finish_link, begin_strikeout, image_title, add_titled, begin_colour, finish_colour, flush_sub, with_block, append_sub, add_sub, cell_of_sub, before_cells, cells_of_subs, with_cells, add_cells, slashed, ruled, add_below, add_first, add_rows_below}
+use Rattle.renderer_calls.specs.Calls.{Call, adds_empty_line, starts_block, starts_table, ends_block, ends_line, breaks_line, adds_border, adds_border_of, starts_preformat, ends_preformat, starts_mode, ends_mode, adds_text, starts_link, ends_link, starts_strikeout, ends_strikeout, starts_mark, ends_mark, adds_image, starts_fragment, starts_colour, ends_colour, adds_block, adds_cells, adds_rows_below, step}
 use Rattle.renderer_laws.specs.RendererLaws.{HasRoom, CallHasRoom, after}
 
 -- what the crate below says of blocks

@@ -6,8 +6,8 @@ use Rattle.text_borders.specs.Across.{Cell, width_across}
 use Rattle.block_layout.specs.Laid.{Laid, flush}
 use Rattle.block_layout.specs.LaidRows.{last_border}
 use Rattle.layout_laws.specs.LayoutLaws.{IsWithin, AllowsOverflow}
-use Rattle.block_renderer.specs.Renderers.{Marking, Sub, measure_of, cells_of_subs}
-use Rattle.block_renderer.specs.Calls.{Call, adds_border_of, adds_block, adds_cells, adds_rows_below, step}
+use Rattle.renderer_calls.specs.Renderers.{Marking, Sub, measure_of, cells_of_subs}
+use Rattle.renderer_calls.specs.Calls.{Call, adds_border_of, adds_block, adds_cells, adds_rows_below, step}
 
 -- no character may overflow, and what is laid is within the width
 abbrev pub IsKeptWithin : {H A : Type 0} → Sub H A → Type 0

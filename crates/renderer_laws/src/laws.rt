@@ -3,9 +3,9 @@
 ghost use Rattle.std.specs.Prelude.{◌≡◌, ℕ, ◌≤◌, All, true, false, List, Some, IsSome, IsSomeAnd};
 ghost use Rattle.tagged_lines.specs.Tagged.{line_columns};
 ghost use Rattle.text_borders.specs.Lines.{BlockLine, line_shown};
-ghost use Rattle.block_renderer.specs.declared.options.RenderOptions.{RenderOptions};
-ghost use Rattle.block_renderer.specs.Renderers.{Marking, Sub, new_sub, lines_of_sub};
-ghost use Rattle.block_renderer.specs.Calls.{Call, step};
+ghost use Rattle.renderer_calls.specs.declared.options.RenderOptions.{RenderOptions};
+ghost use Rattle.renderer_calls.specs.Renderers.{Marking, Sub, new_sub, lines_of_sub};
+ghost use Rattle.renderer_calls.specs.Calls.{Call, step};
 ghost use Rattle.renderer_laws.specs.RendererLaws.{IsKeptWithin, StaysWithin, CallFits, after, AllFit, HasRoom, CallHasRoom};
 
 use layout_laws::{calls_keep_the_width, overflow_never_refuses};

@@ -2,7 +2,7 @@
 use Rattle.std.specs.Prelude.{◌≡◌, ℕ, Bool, List, Option, None, Some, map}
 use Rattle.text_marks.specs.Marks.{Mark}
 use Rattle.text_pieces.specs.Sources.{names}
-use Rattle.block_renderer.specs.Renderers.{Marking}
+use Rattle.renderer_calls.specs.Renderers.{Marking}
 use Rattle.text_block_renderer.specs.Parts.{Parts}
 use Rattle.block_renderer.specs.Seen.{sub_of, marking, IsTagging}
 use Rattle.block_renderer.specs.declared.sub_renderer.SubRenderer.{SubRenderer}

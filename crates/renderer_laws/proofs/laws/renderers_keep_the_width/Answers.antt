@@ -1,6 +1,6 @@
 use Rattle.std.specs.Prelude.{List, ⊤}
 use Rattle.std.proofs.lemmas.Option.{MatchOption-at_some}
-use Rattle.block_renderer.specs.Renderers.{measure_of}
+use Rattle.renderer_calls.specs.Renderers.{measure_of}
 use Rattle.renderer_laws.specs.RendererLaws.{StaysWithin}
 use Rattle.renderer_laws.proofs.KeptLemmas.{WidthLaws, kept_measure, step_stays, all_stay}
 use Rattle.renderer_laws.proofs.laws.renderers_keep_the_width.Goals as goal

@@ -1,6 +1,6 @@
 use Rattle.std.proofs.Common.{ap, ◌∙◌, map}
 use Rattle.block_renderer.specs.Seen.{sub_of}
-use Rattle.block_renderer.proofs.StackLemmas.{mapped_off}
+use Rattle.block_renderer.proofs.InlineLemmas.{mapped_off}
 use Rattle.block_renderer.proofs.sub_renderer.SubRenderer.pop_annotation.Goals as goal
 
 pub returns-clause-popped : goal.returns-clause-popped

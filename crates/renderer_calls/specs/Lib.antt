@@ -1,0 +1,5 @@
+pub mod Calls
+pub mod Defaults
+pub mod Outcomes
+pub mod Renderers
+pub mod Texts
