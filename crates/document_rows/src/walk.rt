@@ -1,5 +1,5 @@
 //! A tree as text, for tests.
-use html_render_dom::{Handle, NodeData, RcDom};
+use html_render_dom::{ChildNodes, Handle, NodeData, RcDom};
 use std::alloc::{AllocError, Global};
 
 // the most steps of a walk
@@ -29,9 +29,9 @@ pub(crate) fn walk(alloc: Global, dom: &RcDom) -> Result<String, AllocError> {
 }
 
 // the last is pushed first, so that the first is popped first
-fn push_all(steps: &mut Vec<Step>, nodes: &[Handle]) -> Result<(), AllocError> {
-    for node in nodes.iter().rev() {
-        steps.push(Step::Node(*node))?;
+fn push_all(steps: &mut Vec<Step>, nodes: ChildNodes<'_>) -> Result<(), AllocError> {
+    for node in nodes.rev() {
+        steps.push(Step::Node(node))?;
     }
     Ok(())
 }

@@ -1,5 +1,5 @@
 -- Steps of a walk.
-use Rattle.std.proofs.Common.{◌≡◌, ℕ, ◌<◌, List, [], ◌∷◌, ◌++◌, length, map, Result, Ok, Err, OnOk, IfErr, refl, sym}
+use Rattle.std.proofs.Common.{◌≡◌, ℕ, ◌<◌, List, [], ◌∷◌, ◌++◌, length, Result, Ok, Err, OnOk, IfErr, refl, sym}
 use Rattle.std.proofs.Common.{IsErrAnd, true, ap, subst, ◌∙◌, append_assoc, append-nil, arith}
 use Rattle.html_forest.specs.Forest.{Forest, IsElement, IsElementKind, Kind, attributes_of, comment, doctype}
 use Rattle.html_forest.specs.Forest.{document, element, element_of, instruction, text}
@@ -69,8 +69,8 @@ element_by (comment cs) inner is = absurd is
 element_by (instruction target cs) inner is = absurd is
 
 -- the calls of an element are its beginning, and those of the turns that are put
-pub element_calls : (f : Forest) (node : Handle) (ns : List Handle) (turns : List Turn) → Law f
-    → IsElement (number_of node) f → map number_of ns ≡ inner_of (number_of node) f
+pub element_calls : (f : Forest) (node : Handle) (ns : List ℕ) (turns : List Turn) → Law f
+    → IsElement (number_of node) f → ns ≡ inner_of (number_of node) f
     → calls_within (nodes f) f (number_of node) ++ pending f turns
     ≡ start (name_of (number_of node) f) (attributes_of (number_of node) f)
     ∷ pending f ((turns ++ End node ∷ []) ++ visits ns)
@@ -85,8 +85,8 @@ element_calls f node ns turns law is e =
     ∙ (ap (λ l. start (name_of n f) (attributes_of n f) ∷ l)
     (append_assoc inside (finish (name_of n f) ∷ []) (pending f turns) ∙ sym put))
 
-pub element_ready : (f : Forest) (node : Handle) (ns : List Handle) (turns : List Turn) → IsForest f
-    → IsElement (number_of node) f → map number_of ns ≡ inner_of (number_of node) f → AreReady f turns
+pub element_ready : (f : Forest) (node : Handle) (ns : List ℕ) (turns : List Turn) → IsForest f
+    → IsElement (number_of node) f → ns ≡ inner_of (number_of node) f → AreReady f turns
     → AreReady f ((turns ++ End node ∷ []) ++ visits ns)
 element_ready f node ns turns forest is e ready =
     ready-visits f (turns ++ End node ∷ []) ns (ready-push f turns (End node) ready is)
@@ -182,8 +182,8 @@ begun f n name attributes later law is same same_attributes =
     ∙ ap (λ x. start name x ∷ behind_start f n later) (sym same_attributes))
 
 pub begin_step : {S : Type 0} (means : S → Call → Reply → S → Type 0) (f : Forest) (s t : S) (node : Handle)
-    (name : QualName) (attributes : List Attribute) (ns : List Handle) (turns pushed new : List Turn) → Law f
-    → IsForest f → IsElement (number_of node) f → AreReady f turns → map number_of ns ≡ inner_of (number_of node) f
+    (name : QualName) (attributes : List Attribute) (ns : List ℕ) (turns pushed new : List Turn) → Law f
+    → IsForest f → IsElement (number_of node) f → AreReady f turns → ns ≡ inner_of (number_of node) f
     → name ≡ name_of (number_of node) f → attributes ≡ attributes_of (number_of node) f
     → pushed ≡ turns ++ End node ∷ [] → new ≡ pushed ++ visits ns → means s (start name attributes) done t
     → IsStep means f s (calls_within (nodes f) f (number_of node) ++ pending f turns) t new
@@ -197,17 +197,17 @@ begin_step means f s t node name attributes ns turns pushed new law forest is re
     (subst (λ x. means s (start x attributes) done t) same m)))
 
 -- where a walk begins
-pub first_inner : (f : Forest) (turns old : List Turn) (ns : List Handle) (n : ℕ) → old ≡ []
-    → turns ≡ old ++ visits ns → map number_of ns ≡ inner_of n f
+pub first_inner : (f : Forest) (turns old : List Turn) (ns : List ℕ) (n : ℕ) → old ≡ []
+    → turns ≡ old ++ visits ns → ns ≡ inner_of n f
     → pending f turns ≡ joined (calls_within (nodes f) f) (inner_of n f)
 first_inner f turns old ns n none e same =
     ap (λ l. pending f l) (e ∙ ap (λ l. l ++ visits ns) none)
     ∙ (pending-visits f [] ns
-    ∙ (append-nil (joined (calls_within (nodes f) f) (map number_of ns))
+    ∙ (append-nil (joined (calls_within (nodes f) f) ns)
     ∙ ap (joined (calls_within (nodes f) f)) same))
 
-pub first_ready : (f : Forest) (turns old : List Turn) (ns : List Handle) (n : ℕ) → IsForest f → old ≡ []
-    → turns ≡ old ++ visits ns → map number_of ns ≡ inner_of n f → AreReady f turns
+pub first_ready : (f : Forest) (turns old : List Turn) (ns : List ℕ) (n : ℕ) → IsForest f → old ≡ []
+    → turns ≡ old ++ visits ns → ns ≡ inner_of n f → AreReady f turns
 first_ready f turns old ns n forest none e same =
     subst (AreReady f) (sym (e ∙ ap (λ l. l ++ visits ns) none))
     (ready-visits f [] ns tt (λ m i. inner_plain f n forest m (subst (IsIn m) same i)))

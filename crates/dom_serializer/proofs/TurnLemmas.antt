@@ -1,9 +1,9 @@
 -- Turns that are put before others.
-use Rattle.std.proofs.Common.{◌≡◌, ℕ, inl, inr, List, [], ◌∷◌, ◌++◌, map, refl, sym, ap, subst, ◌∙◌}
+use Rattle.std.proofs.Common.{◌≡◌, ℕ, inl, inr, List, [], ◌∷◌, ◌++◌, refl, sym, ap, subst, ◌∙◌}
 use Rattle.std.proofs.Common.{append_assoc, append-nil, take, ◌-◌}
 use Rattle.html_forest.specs.Forest.{Forest, nodes}
 use Rattle.html_forest.specs.Orders.{IsDocument, IsIn}
-use Rattle.html_render_dom.specs.Numbers.{number_of}
+use Rattle.html_render_dom.specs.Numbers.{handle_of, number_of}
 use Rattle.html_render_dom.specs.declared.node.Handle.{Handle}
 use Rattle.html_serializer.specs.Calls.{Call}
 use Rattle.html_serializer.specs.Walks.{calls_within, joined}
@@ -16,14 +16,14 @@ pub pending-push : (f : Forest) (ts : List Turn) (t : Turn) (later : List Call)
 pending-push f [] t later = refl
 pending-push f (x ∷ ts) t later = pending-push f ts t (calls_of_turn f x ++ later)
 
-pub pending-visits : (f : Forest) (ts : List Turn) (ns : List Handle)
-    → pending f (ts ++ visits ns) ≡ joined (calls_within (nodes f) f) (map number_of ns) ++ pending f ts
+pub pending-visits : (f : Forest) (ts : List Turn) (ns : List ℕ)
+    → pending f (ts ++ visits ns) ≡ joined (calls_within (nodes f) f) ns ++ pending f ts
 pending-visits f ts [] = ap (λ l. pending f l) (append-nil ts)
 pending-visits f ts (n ∷ ns) =
-    ap (λ l. pending f l) (sym (append_assoc ts (visits ns) (Visit n ∷ [])))
-    ∙ (pending-push f (ts ++ visits ns) (Visit n) []
-    ∙ (ap (λ l. calls_within (nodes f) f (number_of n) ++ l) (pending-visits f ts ns)
-    ∙ sym (append_assoc (calls_within (nodes f) f (number_of n)) (joined (calls_within (nodes f) f) (map number_of ns))
+    ap (λ l. pending f l) (sym (append_assoc ts (visits ns) (Visit (handle_of n) ∷ [])))
+    ∙ (pending-push f (ts ++ visits ns) (Visit (handle_of n)) []
+    ∙ (ap (λ l. calls_within (nodes f) f n ++ l) (pending-visits f ts ns)
+    ∙ sym (append_assoc (calls_within (nodes f) f n) (joined (calls_within (nodes f) f) ns)
     (pending f ts))))
 
 pub ready-push : (f : Forest) (ts : List Turn) (t : Turn) → AreReady f ts → IsReady f t → AreReady f (ts ++ t ∷ [])
@@ -34,26 +34,26 @@ pub ready-pop : (f : Forest) (ts : List Turn) (t : Turn) → AreReady f (ts ++ t
 ready-pop f [] t h = (h.0, tt)
 ready-pop f (x ∷ ts) t h = let r = ready-pop f ts t h.1 in (r.0, (h.0, r.1))
 
-pub ready-visits : (f : Forest) (ts : List Turn) (ns : List Handle) → AreReady f ts
-    → ((n : ℕ) → IsIn n (map number_of ns) → ¬ (IsDocument n f)) → AreReady f (ts ++ visits ns)
+pub ready-visits : (f : Forest) (ts : List Turn) (ns : List ℕ) → AreReady f ts
+    → ((n : ℕ) → IsIn n ns → ¬ (IsDocument n f)) → AreReady f (ts ++ visits ns)
 ready-visits f ts [] h plain = subst (AreReady f) (sym (append-nil ts)) h
 ready-visits f ts (n ∷ ns) h plain =
-    subst (AreReady f) (append_assoc ts (visits ns) (Visit n ∷ []))
-    (ready-push f (ts ++ visits ns) (Visit n) (ready-visits f ts ns h (λ m i. plain m (inr i)))
-    (plain (number_of n) (inl refl)))
+    subst (AreReady f) (append_assoc ts (visits ns) (Visit (handle_of n) ∷ []))
+    (ready-push f (ts ++ visits ns) (Visit (handle_of n)) (ready-visits f ts ns h (λ m i. plain m (inr i)))
+    (plain n (inl refl)))
 
 -- a last node is the first turn of all
-last_visit : (ns : List Handle) (n : Handle) → visits (ns ++ n ∷ []) ≡ Visit n ∷ visits ns
+last_visit : (ns : List ℕ) (n : Handle) → visits (ns ++ number_of n ∷ []) ≡ Visit n ∷ visits ns
 last_visit [] n = refl
-last_visit (m ∷ ns) n = ap (λ l. l ++ Visit m ∷ []) (last_visit ns n)
+last_visit (m ∷ ns) n = ap (λ l. l ++ Visit (handle_of m) ∷ []) (last_visit ns n)
 
-pub visits-step : (ts whole : List Turn) (ns front : List Handle) (n : Handle) → ns ≡ front ++ n ∷ []
+pub visits-step : (ts whole : List Turn) (ns front : List ℕ) (n : Handle) → ns ≡ front ++ number_of n ∷ []
     → ts ++ visits ns ≡ whole → (ts ++ Visit n ∷ []) ++ visits front ≡ whole
 visits-step ts whole ns front n e h =
     append_assoc ts (Visit n ∷ []) (visits front)
     ∙ (ap (λ l. ts ++ l) (sym (ap visits e ∙ last_visit front n)) ∙ h)
 
-pub visits-end : (ts whole : List Turn) (ns : List Handle) → ns ≡ [] → ts ++ visits ns ≡ whole → ts ≡ whole
+pub visits-end : (ts whole : List Turn) (ns : List ℕ) → ns ≡ [] → ts ++ visits ns ≡ whole → ts ≡ whole
 visits-end ts whole ns e h = sym (append-nil ts) ∙ (ap (λ l. ts ++ visits l) (sym e) ∙ h)
 
 -- nothing was left to be popped

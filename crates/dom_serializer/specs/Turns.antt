@@ -1,10 +1,9 @@
 -- What is still to be told of a forest, the last turn first.
-use Rattle.std.specs.Prelude.{Bool, true, false, List, [], ◌∷◌, ◌++◌}
+use Rattle.std.specs.Prelude.{ℕ, Bool, true, false, List, [], ◌∷◌, ◌++◌}
 use Rattle.html_forest.specs.Forest.{Forest, IsElement, Kind, comment, doctype, document, element, instruction}
 use Rattle.html_forest.specs.Forest.{name_of, nodes, text}
 use Rattle.html_forest.specs.Orders.{IsDocument}
-use Rattle.html_render_dom.specs.Numbers.{number_of}
-use Rattle.html_render_dom.specs.declared.node.Handle.{Handle}
+use Rattle.html_render_dom.specs.Numbers.{handle_of, number_of}
 use Rattle.html_serializer.specs.Calls.{Call, finish}
 use Rattle.html_serializer.specs.Walks.{calls_within}
 use Rattle.dom_serializer.specs.declared.turn.Turn.{Turn}
@@ -33,9 +32,9 @@ AreReady f [] = Unit {0}
 AreReady f (t ∷ ts) = IsReady f t × AreReady f ts
 
 -- nodes that are to be told, the first one last
-abbrev pub visits : List Handle → List Turn
+abbrev pub visits : List ℕ → List Turn
 visits [] = []
-visits (n ∷ ns) = visits ns ++ Visit n ∷ []
+visits (n ∷ ns) = visits ns ++ Visit (handle_of n) ∷ []
 
 abbrev pub is_document : Kind → Bool
 is_document document = true

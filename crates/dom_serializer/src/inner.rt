@@ -1,15 +1,16 @@
 //! What stands in a node.
-ghost use Rattle.std.specs.Prelude.{◌≡◌, map};
+ghost use Rattle.std.specs.Prelude.{◌≡◌};
 ghost use Rattle.dom_serializer.specs.Turns.{is_document};
 ghost use Rattle.html_forest.specs.Forest.{contents_of, kind_at};
+ghost use Rattle.html_render_dom.specs.ChildNodes.{children_left};
 ghost use Rattle.html_render_dom.specs.Numbers.{number_of};
 ghost use Rattle.html_serializer.specs.Walks.{contents_or, inner_of};
 
-use html_render_dom::{Handle, NodeData, RcDom};
+use html_render_dom::{ChildNodes, Handle, NodeData, RcDom};
 
 // what stands in a node: a template's contents, or its children
-pub(crate) fn inner(dom: &RcDom, node: Handle) -> &[Handle]
-    ensures { map number_of result.now ≡ inner_of (number_of node) dom.now.forest }
+pub(crate) fn inner(dom: &RcDom, node: Handle) -> ChildNodes<'_>
+    ensures { children_left result ≡ inner_of (number_of node) dom.now.forest }
 {
     dom.children(holder(dom, node))
 }

@@ -38,6 +38,14 @@ stands_nowhere held n linked none found = of (parent_of n (forest_of held)) refl
   of None e = refl
   of (Some p) e = absurd (let both : None ≡ Some p = none ∙ linked.links.down n p (found p e) in cc)
 
+-- what a node has noted is its parent
+pub noted_parent : (held : Nodes) (n : ℕ) (at : Option ℕ) → IsLinked held → at ≡ link_at n (links_of held) →
+    ((p : ℕ) → parent_of n (forest_of held) ≡ Some p → IsIn n (children_at p (forest_of held))) →
+    ((p : ℕ) → IsIn n (children_at p (forest_of held)) → parent_of n (forest_of held) ≡ Some p) →
+    at ≡ parent_of n (forest_of held)
+noted_parent held n None linked noted found stands = sym (stands_nowhere held n linked noted found)
+noted_parent held n (Some p) linked noted found stands = sym (stands p (noted_child held n p linked noted))
+
 -- the changes by which an element is made
 abbrev pub element_kind : QualName → List Attribute → Bool → Option ℕ → Kind
 element_kind name attributes point contents =

@@ -1,4 +1,7 @@
+pub mod Asking
+pub mod ChildNodes
 pub mod Dom
 pub mod Links
 pub mod Nodes
 pub mod Numbers
+pub mod Styled

@@ -1,12 +1,14 @@
-ghost use Rattle.std.specs.Prelude.{◌≡◌, [], IfErr, IfOk, IfSome, is_some, map};
+ghost use Rattle.std.specs.Prelude.{◌≡◌, [], IfErr, IfOk, IfSome, is_some};
 ghost use Rattle.html_lexemes.specs.declared.fault.ParseFault.TheVariants.{Memory};
 ghost use Rattle.std.specs.Bool.{nat_lt};
 ghost use Rattle.html_forest.specs.Forest.{children_at, kind_at, nodes, page_alone};
 ghost use Rattle.html_forest.specs.Orders.{IsForest};
 ghost use Rattle.html_forest.specs.declared.sink.QuirksMode.TheVariants.{NoQuirks};
+ghost use Rattle.html_render_dom.specs.ChildNodes.{children_left};
 ghost use Rattle.html_render_dom.specs.Nodes.{kind_of};
 ghost use Rattle.html_render_dom.specs.Numbers.{number_of};
 
+use crate::child_nodes::ChildNodes;
 use crate::node::{Handle, NodeData};
 use crate::nodes::Nodes;
 use html_forest::{QuirksMode, a_page_alone_is_a_forest};
@@ -86,13 +88,13 @@ impl RcDom {
     }
 
     /// The children of a node, in order; none where the handle is not of this tree.
-    pub fn children(&self, target: Handle) -> &[Handle]
-        ensures { map number_of result.now ≡ children_at (number_of target) self.now.forest }
+    pub fn children(&self, target: Handle) -> ChildNodes<'_>
+        ensures { children_left result ≡ children_at (number_of target) self.now.forest }
     {
         if self.nodes.holds(target) {
-            self.nodes.children(target).as_slice()
+            ChildNodes::of(self.nodes.children(target))
         } else {
-            &[]
+            ChildNodes::none()
         }
     }
 }

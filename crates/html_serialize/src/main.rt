@@ -104,8 +104,8 @@ fn tree_of_fragment(alloc: Global, name: QualName, pieces: Vec<String>) -> Resul
 /// The root, which is the document's one child.
 fn root_of(dom: &RcDom) -> Handle {
     let document = dom.document();
-    match dom.children(document).first() {
-        Some(root) => *root,
+    match dom.children(document).next() {
+        Some(root) => root,
         None => document,
     }
 }

@@ -56,11 +56,8 @@ fn push_children(
     parent: Handle,
     level: usize,
 ) -> Result<(), AllocError> {
-    for child in dom.children(parent).iter().rev() {
-        coming.push(Coming {
-            node: *child,
-            level,
-        })?;
+    for child in dom.children(parent).rev() {
+        coming.push(Coming { node: child, level })?;
     }
     Ok(())
 }

@@ -1,7 +1,7 @@
 //! A tree as lines, for tests.
 use html_lexemes::{Attribute, Namespace};
 use html_render_dom::html_forest::{QuirksMode, TreeSink};
-use html_render_dom::{Handle, NodeData, RcDom};
+use html_render_dom::{ChildNodes, Handle, NodeData, RcDom};
 use std::alloc::{AllocError, Global};
 
 // the most nodes of a tree that is written
@@ -38,11 +38,11 @@ pub(crate) fn dump(alloc: Global, dom: &RcDom) -> Result<String, AllocError> {
 // the last is pushed first, so that the first is popped first
 fn push_all(
     open: &mut Vec<(Handle, usize)>,
-    nodes: &[Handle],
+    nodes: ChildNodes<'_>,
     depth: usize,
 ) -> Result<(), AllocError> {
-    for i in 0..nodes.len() {
-        open.push((nodes[nodes.len() - 1 - i], depth))?;
+    for node in nodes.rev() {
+        open.push((node, depth))?;
     }
     Ok(())
 }

@@ -255,11 +255,11 @@ fn is_foreign(alloc: Global) -> Result<bool, ParseFault> {
         QuirksMode::Quirks,
     )?;
     let is_own = matches!(page.data(page.document()), Some(NodeData::Document));
-    let Some(foreign) = larger.children(larger.document()).first() else {
+    let Some(foreign) = larger.children(larger.document()).next() else {
         return Ok(false);
     };
-    let is_none = page.data(*foreign).is_none() && page.children(*foreign).is_empty();
-    Ok(is_own && is_none && larger.data(*foreign).is_some())
+    let is_none = page.data(foreign).is_none() && page.children(foreign).next().is_none();
+    Ok(is_own && is_none && larger.data(foreign).is_some())
 }
 
 #[test]

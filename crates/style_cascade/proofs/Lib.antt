@@ -1,0 +1,3 @@
+mod KeyLemmas
+mod CascadeLemmas
+mod StyleLemmas

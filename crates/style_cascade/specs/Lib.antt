@@ -1,0 +1,4 @@
+pub mod Cascade
+pub mod Keys
+pub mod Seen
+pub mod Styles
