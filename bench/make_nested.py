@@ -7,6 +7,7 @@ KINDS = {
     "i": ("<!DOCTYPE html>", lambda n: "<i>", ""),
     "li": ("<!DOCTYPE html><ul>", lambda n: "<li>x", "</ul>"),
     "p": ("<!DOCTYPE html>", lambda n: "<p>x<b>y", ""),
+    "flat": ("<!DOCTYPE html>", lambda n: "<p>x", ""),
     "cells": ("<!DOCTYPE html><table><tr>", lambda n: "<td>x", "</table>"),
     "a": ("<!DOCTYPE html>", lambda n: "<a href=x>y", ""),
     "attributes": ("<!DOCTYPE html><p", lambda n: f" data-{n}=x", ">"),

@@ -1,0 +1,42 @@
+#!/usr/bin/env bash
+# Times trees written as lines, and dropped: 250,000, 500,000 and 1,000,000 nodes side by side, and elements within one
+# another. The program is no crate of the repository, so it is proved and built in a copy of the crates, in the folder
+# BENCH, which is kept: the first time that takes long.
+set -eu
+here=$(cd "$(dirname "$0")" && pwd)
+folder=${BENCH:-${TMPDIR:-/tmp}/dump_trees_bench}
+crate=$folder/crates/dump_trees
+mkdir -p "$crate/src"
+for name in $(grep -oE '^[a-z_0-9]+' "$here/../crates.txt"); do
+  mkdir -p "$folder/crates/$name"
+  # what was proved of the copy is kept
+  find "$folder/crates/$name" -mindepth 1 -maxdepth 1 ! -name out -exec rm -r {} +
+  find "$here/../crates/$name" -mindepth 1 -maxdepth 1 ! -name out -exec cp -r {} "$folder/crates/$name" \;
+done
+cp "$here/../HANDLES" "$folder"
+{
+  cat "$here/../crates.txt"
+  echo "dump_trees: dom_dump html_forest html_tree_builder html_render_dom thiserror"
+} >"$folder/crates.txt"
+cp "$here/dump_trees/main.rt.txt" "$crate/src/main.rt"
+echo '<p>' >"$crate/stdin"
+(cd "$crate" && rt run -- dump >"$folder/log" 2>&1) || { tail -n 20 "$folder/log"; exit 1; }
+
+tell() {
+  read -r bytes written dropped < <("$crate/out/dump_trees" "$2" <"$folder/page")
+  python3 -c "print(f'$1: $bytes bytes, written in {$written / 1000:.1f} ms, dropped in {$dropped / 1000:.1f} ms')"
+}
+
+for count in 125000 250000 500000; do
+  python3 "$here/make_nested.py" flat "$count" >"$folder/page"
+  tell "paragraphs with a text, $count" dump
+done
+# the lines of elements within one another are as long as their levels, so all together grow as the square
+for count in 5000 10000 20000; do
+  python3 "$here/make_nested.py" div "$count" >"$folder/page"
+  tell "elements within one another, $count" dump
+done
+for count in 50000 100000 200000; do
+  python3 "$here/make_nested.py" div "$count" >"$folder/page"
+  tell "elements within one another, $count" drop
+done
