@@ -4,16 +4,11 @@
 # BENCH, which is kept: the first time that takes long.
 set -eu
 here=$(cd "$(dirname "$0")" && pwd)
+. "$here/copy.sh"
 folder=${BENCH:-${TMPDIR:-/tmp}/dump_trees_bench}
 crate=$folder/crates/dump_trees
 mkdir -p "$crate/src"
-for name in $(grep -oE '^[a-z_0-9]+' "$here/../crates.txt"); do
-  mkdir -p "$folder/crates/$name"
-  # what was proved of the copy is kept
-  find "$folder/crates/$name" -mindepth 1 -maxdepth 1 ! -name out -exec rm -r {} +
-  find "$here/../crates/$name" -mindepth 1 -maxdepth 1 ! -name out -exec cp -r {} "$folder/crates/$name" \;
-done
-cp "$here/../HANDLES" "$folder"
+copy_crates "$here" "$folder" $(all_crates "$here")
 {
   cat "$here/../crates.txt"
   echo "dump_trees: dom_dump html_forest html_tree_builder html_render_dom thiserror"

@@ -4,17 +4,13 @@
 # stands on, in the folder BENCH, which is kept: the first time that takes minutes.
 set -eu
 here=$(cd "$(dirname "$0")" && pwd)
+. "$here/copy.sh"
 folder=${BENCH:-${TMPDIR:-/tmp}/nested_divs_bench}
 crate=$folder/crates/nested_divs
-below="html_lexemes html_forest name_sets formatting_list tree_words html_tree_state html_render_dom"
+below="html_lexemes html_forest name_sets formatting_list tree_words html_tree_state"
+below="$below tagged_lines text_marks text_pieces style_cascade html_render_dom"
 mkdir -p "$crate/src" "$crate/proofs/nest"
-for name in $below; do
-  mkdir -p "$folder/crates/$name"
-  # what was proved of the copy is kept
-  find "$folder/crates/$name" -mindepth 1 -maxdepth 1 ! -name out -exec rm -r {} +
-  find "$here/../crates/$name" -mindepth 1 -maxdepth 1 ! -name out -exec cp -r {} "$folder/crates/$name" \;
-done
-cp "$here/../HANDLES" "$folder"
+copy_crates "$here" "$folder" $below
 {
   for name in $below; do grep "^$name:" "$here/../crates.txt"; done
   echo "nested_divs: $below thiserror"

@@ -4,17 +4,12 @@
 # stands on, in the folder BENCH, which is kept: the first time that takes minutes.
 set -eu
 here=$(cd "$(dirname "$0")" && pwd)
+. "$here/copy.sh"
 piece=${1:-64}
 folder=${BENCH:-${TMPDIR:-/tmp}/count_tokens_bench}
 crate=$folder/crates/count_tokens
 mkdir -p "$crate/src" "$crate/proofs/count"
-for name in html_lexemes parse_errors html_grammar lexeme_places html_tokenizer; do
-  mkdir -p "$folder/crates/$name"
-  # what was proved of the copy is kept
-  find "$folder/crates/$name" -mindepth 1 -maxdepth 1 ! -name out -exec rm -r {} +
-  find "$here/../crates/$name" -mindepth 1 -maxdepth 1 ! -name out -exec cp -r {} "$folder/crates/$name" \;
-done
-cp "$here/../HANDLES" "$folder"
+copy_crates "$here" "$folder" html_lexemes parse_errors html_grammar lexeme_places html_tokenizer
 {
   grep -E "^(html_(lexemes|grammar|tokenizer)|parse_errors|lexeme_places):" "$here/../crates.txt"
   echo 'count_tokens: html_lexemes parse_errors html_grammar lexeme_places html_tokenizer thiserror'
