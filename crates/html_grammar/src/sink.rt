@@ -7,6 +7,7 @@ ghost use Rattle.html_grammar.specs.Reading.{IsLawful};
 
 use html_lexemes::states::State;
 use html_lexemes::{LocalName, ParseFault, Token, TokenSinkResult};
+use std::alloc::AllocError;
 
 /// What tokens are told to. Contracts see an abstract state, and what the sink `means` by it: its step over what is
 /// told, its reply, and whether the adjusted current node is foreign; nothing depends on the wording of errors or on
@@ -70,6 +71,29 @@ pub struct TokenizerOpts {
     pub initial_state: Option<State>,
     /// The name of the last start tag, which ends text that begins as an element's.
     pub last_start_tag_name: Option<LocalName>,
+}
+
+impl TokenizerOpts {
+    /// Equal options: one configuration reads many pages. The error is want of memory alone.
+    pub fn try_clone(&self) -> Result<TokenizerOpts, AllocError>
+        ensures { IfOk result (λ copy. copy ≡ self.now) }
+    {
+        Ok(TokenizerOpts {
+            exact_errors: self.exact_errors,
+            discard_bom: self.discard_bom,
+            initial_state: self.initial_state,
+            last_start_tag_name: clone_if_given(&self.last_start_tag_name)?,
+        })
+    }
+}
+
+fn clone_if_given(name: &Option<LocalName>) -> Result<Option<LocalName>, AllocError>
+    ensures { IfOk result (λ copy. copy ≡ name.now) }
+{
+    match name {
+        Some(name) => Ok(Some(name.try_clone()?)),
+        None => Ok(None),
+    }
 }
 
 impl Default for TokenizerOpts {

@@ -27,6 +27,20 @@ pub struct ReferenceTable {
     references: Vec<Reference>,
 }
 
+impl Reference {
+    ghost use Rattle.html_lexemes.specs.Table.{reference_of};
+
+    // an equal one
+    fn try_clone(&self) -> Result<Reference, AllocError>
+        ensures { IfOk result (λ copy. reference_of copy ≡ reference_of self.now) }
+    {
+        Ok(Reference {
+            name: String::from_str(*self.name.allocator(), self.name.as_str())?,
+            value: String::from_str(*self.value.allocator(), self.value.as_str())?,
+        })
+    }
+}
+
 impl Model for ReferenceTable {
     ghost use Rattle.html_lexemes.specs.References.{References, references_code};
 
@@ -110,6 +124,18 @@ impl ReferenceTable {
                 Ok(())
             }
         }
+    }
+
+    /// An equal table: one configuration reads many pages. The error is want of memory alone.
+    pub fn try_clone(&self) -> Result<ReferenceTable, AllocError>
+        ensures { IfOk result (λ copy. copy ≡ self.now) }
+    {
+        let alloc = *self.references.allocator();
+        let mut references = Vec::with_capacity(alloc, self.references.len())?;
+        'references: for reference in &self.references {
+            references.push(reference.try_clone()?)?;
+        }
+        Ok(ReferenceTable { references })
     }
 
     /// What a name stands for, and `None` for a text that is no name of the table.

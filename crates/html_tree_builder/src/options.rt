@@ -1,7 +1,8 @@
 //! How a page is parsed.
-ghost use Rattle.std.specs.Prelude.{◌≡◌};
+ghost use Rattle.std.specs.Prelude.{◌≡◌, IfOk};
 
 use html_tokenizer::TokenizerOpts;
+use std::alloc::AllocError;
 use tree_builder::TreeBuilderOpts;
 
 /// How a page is parsed.
@@ -11,6 +12,18 @@ pub struct ParseOpts {
     pub tokenizer: TokenizerOpts,
     /// How its tree is built.
     pub tree_builder: TreeBuilderOpts,
+}
+
+impl ParseOpts {
+    /// Equal options: one configuration parses many pages. The error is want of memory alone.
+    pub fn try_clone(&self) -> Result<ParseOpts, AllocError>
+        ensures { IfOk result (λ copy. copy ≡ self.now) }
+    {
+        Ok(ParseOpts {
+            tokenizer: self.tokenizer.try_clone()?,
+            tree_builder: self.tree_builder,
+        })
+    }
 }
 
 impl Default for ParseOpts {

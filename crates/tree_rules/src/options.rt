@@ -4,7 +4,7 @@ ghost use Rattle.std.specs.Prelude.{◌≡◌};
 use html_forest::QuirksMode;
 
 /// How a tree is built from the tokens of a page.
-#[derive(Drop)]
+#[derive(Clone, Copy)]
 pub struct TreeBuilderOpts {
     /// Whether errors are told with what stood there.
     pub exact_errors: bool,
