@@ -1,16 +1,19 @@
 -- Counts of names, one by one.
 use Rattle.std.proofs.Common.{◌≡◌, ℕ, Bool, ◌+◌, ◌-◌, ◌<◌, ◌≤◌, slice_index_or, slice_set, refl, ◌||◌, true, false}
 use Rattle.std.proofs.Common.{if◌then◌else◌, IsTrue, List, [], ◌∷◌, ◌++◌, length, drop, IsUtf8, chars, bytes_eq, sym}
-use Rattle.std.proofs.Common.{ap, subst, ◌∙◌, arith, zero, suc, length-drop, ◌==◌, ◌&&◌}
+use Rattle.std.proofs.Common.{ap, ap₂, subst, ◌∙◌, arith, zero, suc, length-drop, ◌==◌, ◌&&◌, ◌*◌, ◌%◌, map}
 use Rattle.std.specs.Borrow.{Bor}
-use Rattle.std.proofs.lemmas.Bool.{and_parts, eqb-false, eqb-true, false≢true, or_parts}
+use Rattle.std.proofs.lemmas.Bool.{and_parts, eqb-false, eqb-true, false≢true, lt-ltb, ltb-true, or_parts}
+use Rattle.std.proofs.lemmas.Str.Ascii.{lowercase-lowercase}
+use Rattle.std.specs.Bool.{nat_lt}
+use Rattle.std.specs.Char.{to_ascii_lowercase}
 use Rattle.std.proofs.lemmas.List.{drop_more, nil_from_length}
 use Rattle.html_lexemes.specs.declared.names.QualName.{QualName}
 use Rattle.html_lexemes.specs.declared.names.Namespace.{Namespace}
 use Rattle.html_lexemes.specs.declared.names.Namespace.TheVariants.{Html, MathMl, Svg, Other}
 use Rattle.std.proofs.lemmas.Slice.Eq.{bytes_eq-Decides}
-use Rattle.name_sets.specs.Counts.{count_in, count_of, counted_names, counts_of, has_counts, has_one, one_more}
-use Rattle.name_sets.specs.Counts.{words_before, zeros}
+use Rattle.name_sets.specs.Counts.{count_in, count_of, counted_names, counts_of, has_counts, has_foreign, has_one}
+use Rattle.name_sets.specs.Counts.{is_foreign_in, one_more, share_of, shared_count, words_before, zeros}
 use Rattle.name_sets.specs.Sets.{are_ascii, html_elements, is_ascii_word, is_element_of, is_one_of, words_in, words_of}
 use Rattle.name_sets.specs.Wanted.{one}
 use Rattle.std.proofs.lemmas.Str.{chars-IsAscii}
@@ -123,17 +126,31 @@ within : (words : List (List ℕ)) (name : List ℕ) → words_before words name
 within [] name = omega arith
 within (word ∷ words) name = within_by (bytes_eq name word) (words_before words name) (length words) (within words name)
 
-has_count_in : (ns : Namespace) (local : List ℕ) → count_in ns local < 61
-has_count_in Html local = omega (arith, within counted_names local)
-has_count_in MathMl local = omega arith
-has_count_in Svg local = omega arith
-has_count_in (Other text) local = omega arith
+-- a number that is made of letters stays below 128
+pub share_within : (cs : List ℕ) (share : ℕ) → share < 128 → share_of share cs < 128
+share_within [] share h = h
+share_within (c ∷ cs) share h = share_within cs ((share * 31 + c) % 128) (omega arith)
+
+pub shared_within : (name : List ℕ) → shared_count name < 188
+shared_within name = omega (arith, share_within (map to_ascii_lowercase name) 0 (omega arith))
+
+own_within : (place : ℕ) (name : List ℕ) (is_own : Bool) → nat_lt place 60 ≡ is_own →
+    (if is_own then place else shared_count name) < 188
+own_within place name true own = omega (arith, ltb-true place 60 own)
+own_within place name false own = shared_within name
+
+pub has_count_in : (ns : Namespace) (local : List ℕ) → count_in ns local < 188
+has_count_in Html local =
+    own_within (words_before counted_names local) local (nat_lt (words_before counted_names local) 60) refl
+has_count_in MathMl local = shared_within local
+has_count_in Svg local = shared_within local
+has_count_in (Other text) local = shared_within local
 
 -- each element has a count
-pub has_count : (name : QualName) → count_of name < 61
+pub has_count : (name : QualName) → count_of name < 188
 has_count name = has_count_in name.ns name.local
 
-pub as_many_counts : (names : List QualName) → length (counts_of names) ≡ 61
+pub as_many_counts : (names : List QualName) → length (counts_of names) ≡ 188
 as_many_counts [] = refl
 as_many_counts (name ∷ names) = more_length (count_of name) (counts_of names) ∙ as_many_counts names
 
@@ -144,7 +161,7 @@ zeros_at (suc size) (suc k) = zeros_at size k
 
 -- no count is greater than the number of elements
 pub at_most : (names : List QualName) (k : ℕ) → slice_index_or (counts_of names) k 0 ≤ length names
-at_most [] k = omega (arith, zeros_at 61 k)
+at_most [] k = omega (arith, zeros_at 188 k)
 at_most (name ∷ names) k = omega (arith, more_most k (count_of name) (counts_of names), at_most names k)
 
 -- an element that stands among others counts as the first one does
@@ -183,17 +200,17 @@ added front back name k cs is are = ap (λ l. slice_set l k (slice_index_or l k 
 
 module _ (word : List ℕ) (names : List QualName) where
   abbrev place : ℕ
-  place = words_before counted_names word
+  place = count_in Html word
 
   other_word : (local : List ℕ) (is_word : Bool) → bytes_eq local word ≡ is_word →
-      slice_index_or (one_more (words_before counted_names local) (counts_of names)) place 0 ≡ 0 → is_word ≡ false
+      slice_index_or (one_more (count_in Html local) (counts_of names)) place 0 ≡ 0 → is_word ≡ false
   other_word local false is none = refl
   other_word local true is none = absurd (omega (
     arith,
     none,
-    ap (λ w. slice_index_or (one_more (words_before counted_names w) (counts_of names)) place 0)
+    ap (λ w. slice_index_or (one_more (count_in Html w) (counts_of names)) place 0)
         ((bytes_eq-Decides local word).0 is),
-    more_there place (counts_of names) (omega (arith, within counted_names word, as_many_counts names)),
+    more_there place (counts_of names) (omega (arith, has_count_in Html word, as_many_counts names)),
   ))
 
   other_name : (ns : Namespace) (local : List ℕ) →
@@ -206,14 +223,14 @@ module _ (word : List ℕ) (names : List QualName) where
 
 -- where the count of a word is 0, no element of HTML has it for its name
 pub none_counted : (word : List ℕ) (names : List QualName) →
-    slice_index_or (counts_of names) (words_before counted_names word) 0 ≡ 0 → has_one (one word) names ≡ false
+    slice_index_or (counts_of names) (count_in Html word) 0 ≡ 0 → has_one (one word) names ≡ false
 none_counted word [] none = refl
 none_counted word (name ∷ names) none =
     let here = other_name word names name.ns name.local none in
     let there = none_counted word names (omega (
       arith,
       none,
-      more_least (words_before counted_names word) (count_of name) (counts_of names),
+      more_least (count_in Html word) (count_of name) (counts_of names),
     )) in
     ap (λ b. b || has_one (one word) names) here ∙ there
 
@@ -306,11 +323,21 @@ or_else true b e = refl
 or_else false b e = e
 
 module _ (word : List ℕ) (counted : is_one_of counted_names word ≡ true) where
+  own_place : count_in Html word ≡ words_before counted_names word
+  own_place = ap (λ b. if b then words_before counted_names word else shared_count word)
+      (lt-ltb (words_before counted_names word) 60 (found_within counted_names word counted))
+
   -- an element that is counted with it has it for its name
+  own_so : (local : List ℕ) (is_own : Bool) → nat_lt (words_before counted_names local) 60 ≡ is_own →
+      words_before counted_names word ≡ (if is_own then words_before counted_names local else shared_count local) →
+      local ≡ word
+  own_so local true own e = same_place counted_names word local counted (sym e)
+  own_so local false own e = absurd (omega (arith, e, found_within counted_names word counted))
+
   named_so : (ns : Namespace) (local : List ℕ) → words_before counted_names word ≡ count_in ns local →
       is_one_of (words_in (one word) ns) local ≡ true
-  named_so Html local e = ap (λ b. b || false)
-      ((bytes_eq-Decides local word).1 (same_place counted_names word local counted (sym e)))
+  named_so Html local e = ap (λ b. b || false) ((bytes_eq-Decides local word).1
+      (own_so local (nat_lt (words_before counted_names local) 60) refl e))
   named_so MathMl local e = absurd (omega (arith, e, found_within counted_names word counted))
   named_so Svg local e = absurd (omega (arith, e, found_within counted_names word counted))
   named_so (Other text) local e = absurd (omega (arith, e, found_within counted_names word counted))
@@ -326,12 +353,17 @@ module _ (word : List ℕ) (counted : is_one_of counted_names word ≡ true) whe
       (more (λ none. some (more_elsewhere (words_before counted_names word) (count_of name) (counts_of names)
       (eqb-false (words_before counted_names word) (count_of name) e) ∙ none)))
 
+  some_there : (names : List QualName) →
+      ¬ (slice_index_or (counts_of names) (words_before counted_names word) 0 ≡ 0) → has_one (one word) names ≡ true
+  some_there [] some = absurd (some (zeros_at 188 (words_before counted_names word)))
+  some_there (name ∷ names) some = some_by (words_before counted_names word == count_of name) name names refl
+      (some_there names) some
+
   -- where its count is not 0, an element of HTML has it for its name
   pub some_counted : (names : List QualName) →
-      ¬ (slice_index_or (counts_of names) (words_before counted_names word) 0 ≡ 0) → has_one (one word) names ≡ true
-  some_counted [] some = absurd (some (zeros_at 61 (words_before counted_names word)))
-  some_counted (name ∷ names) some = some_by (words_before counted_names word == count_of name) name names refl
-      (some_counted names) some
+      ¬ (slice_index_or (counts_of names) (count_in Html word) 0 ≡ 0) → has_one (one word) names ≡ true
+  some_counted names some = some_there names
+      (λ none. some (ap (λ k. slice_index_or (counts_of names) k 0) own_place ∙ none))
 
 -- more words leave no element out
 module _ (word : List ℕ) (words : List (List ℕ)) where
@@ -384,3 +416,41 @@ one_left words i d names more h is counts =
     ∙ one_among word (words_of (drop (i + 1) words)) names
     (subst (λ w. has_one (one w) names ≡ true) same
     (is (subst (λ w. has_counts (one w) ≡ true) (sym same) (counts_left words i d more counts).0)))
+
+-- where the count that a word shares is 0, no element of another namespace has it for its name in lower case
+same_share : (word name : List ℕ) → map to_ascii_lowercase name ≡ word → shared_count name ≡ shared_count word
+same_share word name is = ap (λ cs. 60 + share_of 0 cs) (sym (twice_lower name) ∙ ap (map to_ascii_lowercase) is) where
+  twice_lower : (cs : List ℕ) → map to_ascii_lowercase (map to_ascii_lowercase cs) ≡ map to_ascii_lowercase cs
+  twice_lower [] = refl
+  twice_lower (c ∷ cs) = ap₂ (λ d ds. d ∷ ds) (lowercase-lowercase c) (twice_lower cs)
+
+module _ (word : List ℕ) (names : List QualName) where
+  not_shared : (name : List ℕ) (is_word : Bool) → bytes_eq (map to_ascii_lowercase name) word ≡ is_word →
+      slice_index_or (one_more (shared_count name) (counts_of names)) (shared_count word) 0 ≡ 0 → is_word ≡ false
+  not_shared name false is none = refl
+  not_shared name true is none = absurd (omega (
+    arith,
+    none,
+    ap (λ k. slice_index_or (one_more k (counts_of names)) (shared_count word) 0)
+        (same_share word name ((bytes_eq-Decides (map to_ascii_lowercase name) word).0 is)),
+    more_there (shared_count word) (counts_of names) (omega (arith, shared_within word, as_many_counts names)),
+  ))
+
+  not_foreign : (ns : Namespace) (name : List ℕ) →
+      slice_index_or (one_more (count_in ns name) (counts_of names)) (shared_count word) 0 ≡ 0 →
+      is_foreign_in word ns name ≡ false
+  not_foreign Html name none = refl
+  not_foreign MathMl name none = not_shared name (bytes_eq (map to_ascii_lowercase name) word) refl none
+  not_foreign Svg name none = not_shared name (bytes_eq (map to_ascii_lowercase name) word) refl none
+  not_foreign (Other text) name none = not_shared name (bytes_eq (map to_ascii_lowercase name) word) refl none
+
+pub none_foreign : (word : List ℕ) (names : List QualName) →
+    slice_index_or (counts_of names) (shared_count word) 0 ≡ 0 → has_foreign word names ≡ false
+none_foreign word [] none = refl
+none_foreign word (name ∷ names) none =
+    let there = none_foreign word names (omega (
+      arith,
+      none,
+      more_least (shared_count word) (count_of name) (counts_of names),
+    )) in
+    ap (λ b. b || has_foreign word names) (not_foreign word names name.ns name.local none) ∙ there

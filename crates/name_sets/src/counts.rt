@@ -1,19 +1,22 @@
 //! How many elements of each name are open.
 ghost use Rattle.std.specs.Prelude.{◌≡◌, IsTrue, ℕ, ◌<◌, ◌++◌, true, false, List, [], ◌∷◌, chars, length};
 ghost use Rattle.html_lexemes.specs.declared.names.QualName.{QualName as SeenQualName};
-ghost use Rattle.name_sets.specs.Counts.{count_of, counted_names, counts_of, has_counts, has_one, words_before};
+ghost use Rattle.html_lexemes.specs.declared.names.Namespace.TheVariants.{Html};
+ghost use Rattle.name_sets.specs.Counts.{count_in, count_of, counted_names, counts_of, has_counts, has_foreign, has_one};
+ghost use Rattle.name_sets.specs.Counts.{shared_count, words_before};
 ghost use Rattle.name_sets.specs.Sets.{are_ascii, html_elements, words_of};
 ghost use Rattle.name_sets.specs.Wanted.{elements_of, one};
 
 use crate::wanted::ElementSet;
-use html_lexemes::{Namespace, QualName};
+use html_lexemes::{LocalName, Namespace, QualName};
 use std::marker::Model;
 
 /// How many elements are open, by name (WHATWG HTML, 13.2.4.2): with it a test of scope needs no walk where no element
-/// of the name is open. The names that tests of scope ask about have a count each, all others one together.
+/// of the name is open. The names that tests of scope ask about have a count each; all others share 128, by a number
+/// that is made of their letters.
 #[derive(Drop)]
 pub struct OpenCounts {
-    counts: [usize; 61],
+    counts: [usize; 188],
 }
 
 impl Model for OpenCounts {
@@ -29,7 +32,7 @@ impl OpenCounts {
     pub fn new() -> OpenCounts
         ensures { result ≡ counts_of [] }
     {
-        OpenCounts { counts: [0; 61] }
+        OpenCounts { counts: [0; 188] }
     }
 
     /// An element more is open, of so many that are open now.
@@ -110,6 +113,15 @@ impl OpenCounts {
         true
     }
 
+    /// Whether it is known by the counts that no element of another namespace than HTML is open whose name, in lower
+    /// case, is this one (WHATWG HTML, 13.2.6.5). `false` says nothing.
+    pub fn has_no_foreign(&self, name: &LocalName) -> bool
+        ensures { (names : List SeenQualName) → self.now ≡ counts_of names → result ≡ true →
+            has_foreign name.now names ≡ false }
+    {
+        self.counts[shared_place(name.as_str())] == 0
+    }
+
     // no element of HTML is open whose name is this word
     fn has_no(&self, word: &str) -> bool
         ensures none { (names : List SeenQualName) → self.now ≡ counts_of names → result ≡ true →
@@ -117,7 +129,7 @@ impl OpenCounts {
         ensures some { (names : List SeenQualName) → self.now ≡ counts_of names → result ≡ false →
             has_counts (one (chars word.now)) ≡ true → has_one (one (chars word.now)) names ≡ true }
     {
-        self.counts[words_before(word)] == 0
+        self.counts[place_in_html(word)] == 0
     }
 }
 
@@ -126,9 +138,34 @@ fn place_of(name: &QualName) -> usize
     ensures { result ≡ count_of name.now }
 {
     match name.ns {
-        Namespace::Html => words_before(name.local.as_str()),
-        Namespace::MathMl | Namespace::Svg | Namespace::Other(_) => 60,
+        Namespace::Html => place_in_html(name.local.as_str()),
+        Namespace::MathMl | Namespace::Svg | Namespace::Other(_) => {
+            shared_place(name.local.as_str())
+        }
     }
+}
+
+// which count elements of HTML have whose name is this word
+fn place_in_html(word: &str) -> usize
+    ensures { result ≡ count_in Html (chars word.now) }
+{
+    let place = words_before(word);
+    if place < 60 {
+        place
+    } else {
+        shared_place(word)
+    }
+}
+
+// which count a name has that has none of its own
+fn shared_place(word: &str) -> usize
+    ensures { result ≡ shared_count (chars word.now) }
+{
+    let mut share: u32 = 0;
+    for c in word.chars() {
+        share = (share * 31 + u32::from(c.to_ascii_lowercase())) % 128;
+    }
+    60 + share as usize
 }
 
 // how many counted names stand before a word

@@ -9,48 +9,17 @@ ghost use Rattle.name_sets.specs.TagSets as tags;
 
 fn tags_outside_tables_of_rows()
     ensures formatting { IsSetOf tags.formatting 14 (codes "a") (codes "u") (codes "span") (codes "p") }
-    ensures metadata { IsSetOf tags.metadata 10 (codes "base") (codes "title") (codes "head") (codes "noscript") }
-    ensures void_metadata { IsSetOf tags.void_metadata 5
-        (codes "base") (codes "meta") (codes "title") (codes "noframes") }
-    ensures noscript_metadata { IsSetOf tags.noscript_metadata 6
-        (codes "basefont") (codes "style") (codes "base") (codes "script") }
-    ensures kept_before_head { IsSetOf tags.kept_before_head 4 (codes "head") (codes "br") (codes "p") (codes "title") }
-    ensures kept_in_head { IsSetOf tags.kept_in_head 3 (codes "body") (codes "br") (codes "head") (codes "p") }
-    ensures blocks { IsSetOf tags.blocks 25 (codes "address") (codes "ul") (codes "pre") (codes "h1") }
-    ensures block_ends { IsSetOf tags.block_ends 28 (codes "address") (codes "ul") (codes "p") (codes "form") }
     ensures preformatted { IsSetOf tags.preformatted 2
         (codes "pre") (codes "listing") (codes "textarea") (codes "plaintext") }
     ensures definitions { IsSetOf tags.definitions 2 (codes "dd") (codes "dt") (codes "dl") (codes "li") }
     ensures marked_elements { IsSetOf tags.marked_elements 3
         (codes "applet") (codes "object") (codes "template") (codes "button") }
-    ensures void_phrases { IsSetOf tags.void_phrases 6 (codes "area") (codes "wbr") (codes "input") (codes "hr") }
     ensures void_sources { IsSetOf tags.void_sources 3 (codes "param") (codes "track") (codes "link") (codes "br") }
     ensures ruby_bases { IsSetOf tags.ruby_bases 2 (codes "rb") (codes "rtc") (codes "rt") (codes "ruby") }
     ensures ruby_texts { IsSetOf tags.ruby_texts 2 (codes "rp") (codes "rt") (codes "rb") (codes "rtc") }
-    ensures ignored_in_body { IsSetOf tags.ignored_in_body 11
-        (codes "caption") (codes "tr") (codes "table") (codes "frameset") }
-    ensures table_parts { IsSetOf tags.table_parts 9 (codes "caption") (codes "tr") (codes "table") (codes "template") }
 {}
 
 fn tags_of_tables_of_rows()
-    ensures table_row_parts { IsSetOf tags.table_row_parts 3
-        (codes "td") (codes "tr") (codes "tbody") (codes "caption") }
-    ensures ignored_in_table { IsSetOf tags.ignored_in_table 11
-        (codes "body") (codes "tr") (codes "table") (codes "template") }
-    ensures head_parts_in_table { IsSetOf tags.head_parts_in_table 3
-        (codes "style") (codes "template") (codes "title") (codes "noframes") }
-    ensures ignored_in_caption { IsSetOf tags.ignored_in_caption 10
-        (codes "body") (codes "tr") (codes "caption") (codes "table") }
-    ensures past_table_body { IsSetOf tags.past_table_body 6
-        (codes "caption") (codes "thead") (codes "tr") (codes "table") }
-    ensures ignored_in_table_body { IsSetOf tags.ignored_in_table_body 8
-        (codes "body") (codes "tr") (codes "tbody") (codes "table") }
-    ensures past_row { IsSetOf tags.past_row 7 (codes "caption") (codes "tr") (codes "td") (codes "th") }
-    ensures ignored_in_row { IsSetOf tags.ignored_in_row 7 (codes "body") (codes "th") (codes "tr") (codes "tbody") }
-    ensures past_cell { IsSetOf tags.past_cell 5 (codes "table") (codes "tr") (codes "td") (codes "caption") }
-    ensures ignored_in_cell { IsSetOf tags.ignored_in_cell 5 (codes "body") (codes "html") (codes "td") (codes "tr") }
-    ensures table_children { IsSetOf tags.table_children 5
-        (codes "caption") (codes "thead") (codes "col") (codes "tr") }
     ensures break_outs { IsSetOf tags.break_outs 44 (codes "b") (codes "var") (codes "a") (codes "font") }
     ensures math_ml_glyphs { IsSetOf tags.math_ml_glyphs 2
         (codes "mglyph") (codes "malignmark") (codes "mi") (codes "mtext") }
@@ -131,11 +100,11 @@ fn namespaces_of_rows()
 fn counts_of_rows()
     ensures first { count_of (html (codes "p")) ≡ 0 }
     ensures last { count_of (html (codes "object")) ≡ 59 }
-    ensures no_name_of_a_scope { count_of (html (codes "span")) ≡ 60 }
-    ensures foreign { count_of (svg (codes "p")) ≡ 60 }
+    ensures no_name_of_a_scope { count_of (html (codes "span")) ≡ 134 }
+    ensures foreign { count_of (svg (codes "p")) ≡ 172 }
     ensures two { slice_index_or (counts_of (html (codes "p") ∷ svg (codes "p") ∷ html (codes "p") ∷ [])) 0 0 ≡ 2 }
-    ensures one_other { slice_index_or (counts_of (html (codes "p") ∷ svg (codes "p") ∷ [])) 60 0 ≡ 1 }
-    ensures as_many { length (counts_of []) ≡ length counted_names + 1 }
+    ensures one_other { slice_index_or (counts_of (html (codes "p") ∷ svg (codes "p") ∷ [])) 172 0 ≡ 1 }
+    ensures as_many { length (counts_of []) ≡ length counted_names + 128 }
     ensures no_list_item { has_one (one (codes "li")) (html (codes "p") ∷ svg (codes "li") ∷ []) ≡ false }
     ensures counted_set { has_counts elements.table_body_context ≡ true }
     ensures other_name { has_counts (one (codes "span")) ≡ false }

@@ -13,8 +13,8 @@ pub fn is_html(name: &QualName, word: &str) -> bool
     is_html_one_of(name, &[word])
 }
 
-// an element is one of these of HTML
-pub(crate) fn is_html_one_of(name: &QualName, words: &[&str]) -> bool
+/// Whether an element is one of the HTML elements of these names, words of ASCII characters.
+pub fn is_html_one_of(name: &QualName, words: &[&str]) -> bool
     requires { IsTrue (are_ascii (words_of words.now)) }
     ensures { result ≡ is_element_of (html_elements (words_of words.now)) name.now }
 {

@@ -13,8 +13,8 @@ blocks = codes "address" ∷ codes "article" ∷ codes "aside" ∷ codes "blockq
     ∷ codes "footer" ∷ codes "header" ∷ codes "hgroup" ∷ codes "main" ∷ codes "menu" ∷ codes "nav" ∷ codes "ol"
     ∷ codes "search" ∷ codes "section" ∷ codes "summary" ∷ codes "ul" ∷ []
 
-abbrev pub formatting : List (List ℕ)
-formatting = codes "b" ∷ codes "big" ∷ codes "code" ∷ codes "em" ∷ codes "font" ∷ codes "i" ∷ codes "s"
+abbrev pub other_formatting : List (List ℕ)
+other_formatting = codes "b" ∷ codes "big" ∷ codes "code" ∷ codes "em" ∷ codes "font" ∷ codes "i" ∷ codes "s"
     ∷ codes "small" ∷ codes "strike" ∷ codes "strong" ∷ codes "tt" ∷ codes "u" ∷ []
 
 abbrev pub void_phrases : List (List ℕ)
@@ -49,7 +49,7 @@ tag_groups =
     ∷ (codes "plaintext" ∷ [], groups.Plaintext)
     ∷ (codes "button" ∷ [], groups.Button)
     ∷ (codes "a" ∷ [], groups.Anchor)
-    ∷ (formatting, groups.Formatting)
+    ∷ (other_formatting, groups.Formatting)
     ∷ (codes "nobr" ∷ [], groups.NoBreak)
     ∷ (marked_elements, groups.Marked)
     ∷ (codes "table" ∷ [], groups.Table)
