@@ -1,6 +1,6 @@
 -- Counts of open elements stay right.
 use Rattle.std.proofs.Common.{◌≡◌, ℕ, Bool, true, false, ◌==◌, inl, inr, refl, sym, ap, ap₂, ◌∙◌, if◌then◌else◌, ◌||◌}
-use Rattle.std.proofs.Common.{List, [], ◌∷◌, ◌++◌, length, map, bytes_eq, arith, ◌<◌}
+use Rattle.std.proofs.Common.{List, [], ◌∷◌, ◌++◌, length, map, bytes_eq, arith, ◌<◌, Option, None, Some}
 use Rattle.std.proofs.lemmas.Bool.{eqb-true}
 use Rattle.std.proofs.lemmas.List.{length-map, length-reverse, map-append}
 use Rattle.std.proofs.Common.{◌+◌, length-append}
@@ -9,13 +9,21 @@ use Rattle.html_forest.specs.Changes.{left_out}
 use Rattle.html_forest.specs.Forest.{Forest, is_in, name_of}
 use Rattle.html_forest.specs.Orders.{AreDistinct, IsIn}
 use Rattle.html_forest.specs.Places.{put_before}
+use Rattle.html_lexemes.specs.declared.names.Namespace.{Namespace}
+use Rattle.html_lexemes.specs.declared.names.Namespace.TheVariants.{Html, MathMl, Other, Svg}
 use Rattle.html_lexemes.specs.declared.names.QualName.{QualName}
-use Rattle.html_tree_state.specs.Adoption.{replaced}
+use Rattle.html_tree_state.specs.Adoption.{named_before_special, replaced}
 use Rattle.html_tree_state.specs.Building.{are_counted, stack_of}
+use Rattle.html_tree_state.specs.Foreign.{named_foreign}
+use Rattle.html_tree_state.specs.Scopes.{has_item, is_item_barrier}
 use Rattle.html_tree_state.specs.OpenElements.{farther, has_any, nearer, up_to}
 use Rattle.html_tree_state.proofs.OpenLemmas.{divided, left_out_is, left_out_none, put_before_is, put_before_none}
-use Rattle.name_sets.specs.Counts.{counts_of, has_one}
+use Rattle.name_sets.specs.Counts.{counts_of, has_foreign, has_one, is_foreign_in}
+use Rattle.name_sets.specs.ElementSets.{special_elements}
 use Rattle.name_sets.specs.Sets.{Elements, is_element_of}
+use Rattle.name_sets.specs.Wanted.{one}
+use Rattle.tree_words.specs.Attributes.{in_lower_case}
+use Rattle.tree_words.specs.Foreign.{is_of_html}
 
 abbrev pub names_in : Forest → List ℕ → List QualName
 names_in f ns = map (λ n. name_of n f) ns
@@ -174,3 +182,66 @@ put_size number n c old new is there =
       length-append (nearer n ns) (c ∷ n ∷ farther n ns),
       length-append (nearer n ns) (n ∷ farther n ns),
     )
+
+-- an end tag closes no element where none of its name is open, and no item where none is
+unnamed_by : (is_name is_end some : Bool) (n : ℕ) (found : Option ℕ) → (is_name || some) ≡ false →
+    (some ≡ false → found ≡ None) → (if is_name then Some n else if is_end then None else found) ≡ None
+unnamed_by true is_end some n found none rest = absurd (cc)
+unnamed_by false true some n found none rest = refl
+unnamed_by false false some n found none rest = rest none
+
+pub none_before_special : (name : List ℕ) (f : Forest) (ns : List ℕ) → has_one (one name) (names_in f ns) ≡ false →
+    named_before_special name f ns ≡ None
+none_before_special name f [] none = refl
+none_before_special name f (n ∷ ns) none =
+    unnamed_by (is_element_of (one name) (name_of n f)) (is_element_of special_elements (name_of n f))
+    (has_one (one name) (names_in f ns)) n (named_before_special name f ns) none (none_before_special name f ns)
+
+no_item_by : (is_item is_end some found : Bool) → (is_item || some) ≡ false → (some ≡ false → found ≡ false) →
+    (if is_item then true else if is_end then false else found) ≡ false
+no_item_by true is_end some found none rest = none
+no_item_by false true some found none rest = refl
+no_item_by false false some found none rest = rest none
+
+pub no_item : (set : Elements) (f : Forest) (ns : List ℕ) → has_one set (names_in f ns) ≡ false →
+    has_item set f ns ≡ false
+no_item set f [] none = refl
+no_item set f (n ∷ ns) none = no_item_by (is_element_of set (name_of n f)) (is_item_barrier (name_of n f))
+    (has_one set (names_in f ns)) (has_item set f ns) none (no_item set f ns)
+
+-- the same in foreign content
+unclosed_by : (is_closed some : Bool) (n : ℕ) (found : Option ℕ) → (is_closed || some) ≡ false →
+    (some ≡ false → found ≡ None) → (if is_closed then Some n else found) ≡ None
+unclosed_by true some n found none rest = absurd (cc)
+unclosed_by false some n found none rest = rest none
+
+unclosed_in : (tag : List ℕ) (ns : Namespace) (local : List ℕ) (some : Bool) (n : ℕ) (found : Option ℕ) →
+    (is_foreign_in tag ns local || some) ≡ false → (some ≡ false → found ≡ None) →
+    (if is_of_html ns then None else if bytes_eq (in_lower_case local) tag then Some n else found) ≡ None
+unclosed_in tag Html local some n found none rest = refl
+unclosed_in tag MathMl local some n found none rest = unclosed_by (bytes_eq (in_lower_case local) tag) some n found none rest
+unclosed_in tag Svg local some n found none rest = unclosed_by (bytes_eq (in_lower_case local) tag) some n found none rest
+unclosed_in tag (Other text) local some n found none rest =
+    unclosed_by (bytes_eq (in_lower_case local) tag) some n found none rest
+
+pub none_closed : (tag : List ℕ) (f : Forest) (ns : List ℕ) → has_foreign tag (names_in f ns) ≡ false →
+    named_foreign tag f ns ≡ None
+none_closed tag f [] none = refl
+none_closed tag f (n ∷ ns) none = unclosed_in tag (name_of n f).ns (name_of n f).local (has_foreign tag (names_in f ns))
+    n (named_foreign tag f ns) none (none_closed tag f ns)
+
+-- an element isn't open where none of its name is
+unopened_by : (n : ℕ) (ns : List ℕ) (f : Forest) (counts : List ℕ) (is_none is_open : Bool) →
+    ((front back : List QualName) → counts ≡ counts_of (front ++ name_of n f ∷ back) → is_none ≡ false) →
+    are_counted counts ns f ≡ true → is_none ≡ true → is_in n ns ≡ is_open → is_in n ns ≡ false
+unopened_by n ns f counts is_none true none counted is there =
+    let some = none (names_in f (nearer n ns)) (names_in f (farther n ns))
+    (counts_are counts ns f counted ∙ ap counts_of (divided_names n ns f there)) in
+    absurd (cc)
+unopened_by n ns f counts is_none false none counted is there = there
+
+pub unopened : (n : ℕ) (ns : List ℕ) (f : Forest) (counts : List ℕ) (is_none : Bool) →
+    ((front back : List QualName) → counts ≡ counts_of (front ++ name_of n f ∷ back) → is_none ≡ false) →
+    are_counted counts ns f ≡ true → is_none ≡ true → is_in n ns ≡ false
+unopened n ns f counts is_none none counted is =
+    unopened_by n ns f counts is_none (is_in n ns) none counted is refl

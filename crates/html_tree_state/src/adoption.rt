@@ -112,7 +112,7 @@ impl<S: TreeSink> Construction<S> {
         ensures forest { IsForest (S.forest self.new.sink) }
         ensures memory { IfErr result (λ e. e ≡ Memory) }
     {
-        if !self.is_open(element) {
+        if !self.is_element_open(element) {
             self.remove_from_list(element);
             return Ok(TurnOutcome::Over);
         }

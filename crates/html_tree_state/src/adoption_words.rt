@@ -1,6 +1,7 @@
 //! What the adoption agency asks of the open elements (WHATWG HTML, 13.2.6.4.7).
-ghost use Rattle.std.specs.Prelude.{◌≡◌, ◌<◌, ℕ, List, ◌∷◌, ◌++◌, length, option_map};
-ghost use Rattle.html_forest.specs.Forest.{is_in};
+ghost use Rattle.std.specs.Prelude.{◌≡◌, ◌<◌, ℕ, List, ◌∷◌, ◌++◌, IfSome, length, option_map};
+ghost use Rattle.formatting_list.specs.Entries.{last_named};
+ghost use Rattle.html_forest.specs.Forest.{IsElement, is_in};
 ghost use Rattle.name_sets.specs.ElementSets.{scope_barriers};
 ghost use Rattle.html_tree_state.specs.Adoption.{farther, furthest_block as furthest_block_of};
 ghost use Rattle.html_tree_state.specs.Building.{seen, stack_of};
@@ -10,6 +11,7 @@ ghost use Rattle.html_tree_state.specs.Sound.{Sound};
 use crate::construction::Construction;
 use crate::held::{last_element, position};
 use html_forest::TreeSink;
+use html_lexemes::LocalName;
 use name_sets::{Scope, is_special};
 
 impl<S: TreeSink> Construction<S> {
@@ -19,6 +21,34 @@ impl<S: TreeSink> Construction<S> {
             (seen S.number S.forest S.quirks self.now.held self.now.sink).stack }
     {
         position(self.held.open_elements(), &self.sink, element).is_some()
+    }
+
+    /// Whether an element is open; it is not looked for where no element of its name is.
+    pub fn is_element_open(&self, element: S::Handle) -> bool
+        requires sound { Sound (seen S.number S.forest S.quirks self.now.held self.now.sink) }
+        requires element { IsElement (S.number element) (S.forest self.now.sink) }
+        ensures { result ≡ is_in (S.number element)
+            (seen S.number S.forest S.quirks self.now.held self.now.sink).stack }
+    {
+        if self
+            .held
+            .counts()
+            .has_none_named(self.sink.elem_name(element))
+        {
+            return false;
+        }
+        self.is_open(element)
+    }
+
+    /// The latest element behind the last marker whose tag has a name.
+    pub fn last_listed(&self, name: &LocalName) -> Option<S::Handle>
+        requires { Sound (seen S.number S.forest S.quirks self.now.held self.now.sink) }
+        ensures named { option_map S.number result ≡ last_named name.now
+            (seen S.number S.forest S.quirks self.now.held self.now.sink).formatting }
+        ensures element { IfSome result (λ element. IsElement (S.number element) (S.forest self.now.sink)) }
+    {
+        let element = self.held.formatting().last_named(name)?;
+        Some(element)
     }
 
     /// Whether an element is in scope: it stands before the first barrier, or is that barrier.

@@ -74,6 +74,9 @@ impl<S: TreeSink> Construction<S> {
         ensures { option_map S.number result ≡ named_foreign name.now (S.forest self.now.sink)
             (seen S.number S.forest S.quirks self.now.held self.now.sink).stack }
     {
+        if self.held.counts().has_no_foreign(name) {
+            return None;
+        }
         let mut open = self.held.open_elements();
         while let Some((element, lower)) = open.split_last() {
             let found = self.sink.elem_name(*element);

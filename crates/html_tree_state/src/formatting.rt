@@ -1,6 +1,6 @@
 //! The list of active formatting elements and the tree (WHATWG HTML, 13.2.4.3).
 ghost use Rattle.std.specs.Prelude.{◌≡◌, IfErr, IfOk, OnOk, true};
-ghost use Rattle.html_forest.specs.Forest.{nodes};
+ghost use Rattle.html_forest.specs.Forest.{IsElement, nodes};
 ghost use Rattle.html_forest.specs.Orders.{IsForest};
 ghost use Rattle.name_sets.specs.Sets.{is_one_of};
 ghost use Rattle.name_sets.specs.TagSets.{formatting};
@@ -86,6 +86,20 @@ impl<S: TreeSink> Construction<S> {
     {
         adopting_keeps_sound();
         self.held.take_off(&self.sink, element);
+    }
+
+    /// Takes an element off the stack of open elements, wherever it stands; it is not looked for where none of its name
+    /// is open.
+    pub fn remove_element_from_stack(&mut self, element: S::Handle)
+        requires sound { Sound (seen S.number S.forest S.quirks self.old.held self.old.sink) }
+        requires element { IsElement (S.number element) (S.forest self.old.sink) }
+        ensures seen { seen S.number S.forest S.quirks self.new.held self.new.sink
+            ≡ taken_off (S.number element) (seen S.number S.forest S.quirks self.old.held self.old.sink) }
+        ensures sound { Sound (seen S.number S.forest S.quirks self.new.held self.new.sink) }
+    {
+        if self.is_element_open(element) {
+            self.remove_from_stack(element);
+        }
     }
 
     /// Closes a p element that is in button scope ("close a p element").

@@ -119,6 +119,9 @@ impl<S: TreeSink> Construction<S> {
         ensures { result ≡ is_item_open (elements_of set.entry) (S.forest self.now.sink)
             (seen S.number S.forest S.quirks self.now.held self.now.sink).stack }
     {
+        if self.held.counts().has_none(set) {
+            return false;
+        }
         let mut open = self.held.open_elements();
         while let Some((element, lower)) = open.split_last() {
             let name = self.sink.elem_name(*element);

@@ -113,6 +113,14 @@ impl OpenCounts {
         true
     }
 
+    /// Whether it is known by the counts that no element of this name is open. `false` says nothing.
+    pub fn has_none_named(&self, name: &QualName) -> bool
+        ensures { (front back : List SeenQualName) → self.now ≡ counts_of (front ++ name.now ∷ back) →
+            result ≡ false }
+    {
+        self.counts[place_of(name)] == 0
+    }
+
     /// Whether it is known by the counts that no element of another namespace than HTML is open whose name, in lower
     /// case, is this one (WHATWG HTML, 13.2.6.5). `false` says nothing.
     pub fn has_no_foreign(&self, name: &LocalName) -> bool

@@ -1,0 +1,11 @@
+use Rattle.std.proofs.Common.{sym, ◌∙◌}
+use Rattle.html_tree_state.specs.Building.{stack_of}
+use Rattle.html_tree_state.proofs.CountedLemmas.{counts_are, names_in, none_before_special}
+use Rattle.html_tree_state.proofs.construction.Construction.element_before_special.Goals as goal
+
+pub returns-then-has_none : goal.returns-then-has_none
+returns-then-has_none g c =
+    let f = g.S.TreeSink.forest c.args.self.now.sink in
+    let stack = stack_of g.S.TreeSink.number c.args.self.now.held.open_elements in
+    sym (none_before_special c.args.name.now f stack (c.has_none.ensures.none (names_in f stack)
+    (c.counts.ensures ∙ counts_are c.args.self.now.held.counts stack f c.requires.counted) c.if-has_none.true))

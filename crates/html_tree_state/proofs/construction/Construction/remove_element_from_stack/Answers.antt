@@ -1,0 +1,11 @@
+use Rattle.std.proofs.Common.{sym, ap, ◌∙◌}
+use Rattle.html_tree_state.specs.Building.{Building, seen}
+use Rattle.html_tree_state.proofs.OpenLemmas.{left_out_none}
+use Rattle.html_tree_state.proofs.construction.Construction.remove_element_from_stack.Goals as goal
+
+pub returns-else-is_element_open-clause-seen : goal.returns-else-is_element_open-clause-seen
+returns-else-is_element_open-clause-seen g c =
+    let tree = g.S.TreeSink in
+    let b : Building = seen tree.number tree.forest tree.quirks c.args.self.now.held c.args.self.now.sink in
+    ap (λ ns. record b { stack = ns }) (sym (left_out_none (tree.number c.args.element) b.stack
+    (sym c.is_element_open.ensures ∙ c.if-is_element_open.false)))
