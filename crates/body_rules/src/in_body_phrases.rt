@@ -38,12 +38,12 @@ pub fn anchor_start<S: TreeSink>(
         (parsed S.number S.forest S.quirks page.new.kept page.new.tree.held page.new.tree.sink)) }
     ensures memory { IfErr result (λ e. e ≡ Memory) }
 {
-    let Some(listed) = page.tree.held.formatting().last_named(&tag.name) else {
+    let Some(listed) = page.tree.last_listed(&tag.name) else {
         return formatting_start(page, tag);
     };
     page.adopt(&tag.name)?;
     page.unlist(listed);
-    page.take_off(listed);
+    page.take_off_element(listed);
     page.reconstruct()?;
     page.insert_formatting(tag)?;
     Ok(Flow::Done)

@@ -1,6 +1,7 @@
 //! What rules do to the stack of open elements and to the list of active formatting elements (WHATWG HTML, 13.2.4.2,
 //! 13.2.4.3 and 13.2.6.3).
-ghost use Rattle.std.specs.Prelude.{◌≡◌, IfErr, OnOk, true, IsTrue};
+ghost use Rattle.std.specs.Prelude.{◌≡◌, ℕ, IfErr, OnOk, true, IsTrue};
+ghost use Rattle.html_forest.specs.Forest.{IsElement};
 ghost use Rattle.html_lexemes.specs.declared.fault.ParseFault.TheVariants.{Memory};
 ghost use Rattle.tree_actions.specs.Parsed.{parsed};
 ghost use Rattle.tree_rules.specs.Settling.{Ready};
@@ -14,6 +15,7 @@ ghost use Rattle.name_sets.specs.Wanted.{elements_of};
 use crate::parse::Parse;
 use html_forest::TreeSink;
 use html_lexemes::{LocalName, ParseFault, Tag};
+use html_tree_state::words_keep_a_tree_sound;
 use name_sets::{ElementSet, Scope};
 use tree_rules::actions_keep_what_is_ready;
 
@@ -99,6 +101,20 @@ impl<S: TreeSink> Parse<S> {
     {
         actions_keep_what_is_ready();
         self.tree.remove_from_stack(element);
+    }
+
+    /// An element is taken off the stack; it is not looked for where none of its name is open.
+    #[tactic(auto, unfolding(tree_rules::specs::Actions::act))]
+    pub fn take_off_element(&mut self, element: S::Handle)
+        requires ready { Ready (parsed S.number S.forest S.quirks self.old.kept self.old.tree.held self.old.tree.sink) }
+        requires element { IsElement (S.number element) (S.forest self.old.tree.sink) }
+        ensures seen { parsed S.number S.forest S.quirks self.new.kept self.new.tree.held self.new.tree.sink
+            ≡ act (take_off (S.number element))
+            (parsed S.number S.forest S.quirks self.old.kept self.old.tree.held self.old.tree.sink) }
+        ensures ready { Ready (parsed S.number S.forest S.quirks self.new.kept self.new.tree.held self.new.tree.sink) }
+    {
+        actions_keep_what_is_ready();
+        self.tree.remove_element_from_stack(element);
     }
 
     /// Implied end tags are generated, but for those of a set.
@@ -248,7 +264,7 @@ impl<S: TreeSink> Parse<S> {
         self.tree.remove_from_list(element);
     }
 
-    /// The adoption agency closes an element of a name.
+    /// The adoption agency closes an element of a name. What was an element stays one.
     #[tactic(auto, unfolding(tree_rules::specs::Actions::act))]
     pub fn adopt(&mut self, name: &LocalName) -> Result<(), ParseFault>
         requires ready { Ready (parsed S.number S.forest S.quirks self.old.kept self.old.tree.held self.old.tree.sink) }
@@ -256,11 +272,14 @@ impl<S: TreeSink> Parse<S> {
             parsed S.number S.forest S.quirks self.new.kept self.new.tree.held self.new.tree.sink
             ≡ act (adopt name.now)
             (parsed S.number S.forest S.quirks self.old.kept self.old.tree.held self.old.tree.sink)) }
+        ensures elements { OnOk result ((n : ℕ) → IsElement n (S.forest self.old.tree.sink) →
+            IsElement n (S.forest self.new.tree.sink)) }
         ensures ready { OnOk result
             (Ready (parsed S.number S.forest S.quirks self.new.kept self.new.tree.held self.new.tree.sink)) }
         ensures memory { IfErr result (λ e. e ≡ Memory) }
     {
         actions_keep_what_is_ready();
+        words_keep_a_tree_sound();
         self.tree.adoption_agency(name)?;
         Ok(())
     }

@@ -1,5 +1,11 @@
-use Rattle.std.proofs.Common.{rules}
+use Rattle.std.proofs.Common.{ap, subst, sym}
+use Rattle.html_forest.specs.Forest.{IsElement}
+use Rattle.tree_rules.specs.Actions.{act}
 use Rattle.body_rules.proofs.in_body_phrases.anchor_start.Goals as goal
 
-pub returns-clause-came : goal.returns-clause-came
-returns-clause-came g c = search (rules, c.last_named.ensures g.S.TreeSink.number)
+pub take_off_element-requires-clause-element : goal.take_off_element-requires-clause-element
+unfolding act
+take_off_element-requires-clause-element g c =
+    let n = g.S.TreeSink.number c.in-Some.listed in
+    subst (IsElement n) (sym (ap (λ s. s.tree.forest) c.unlist.ensures.seen))
+    (c.in_ok-adopt.ensures.elements n c.in-Some.ensures.element)
