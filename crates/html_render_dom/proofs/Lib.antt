@@ -4,7 +4,7 @@ pub mod GivenLemmas
 pub mod LentLemmas
 pub mod LinkLemmas
 pub mod LinkedNodes
-pub mod MissingLemmas
+pub mod NamesLemmas
 pub mod NodeLemmas
 pub mod SayLemmas
 pub mod TakenBack

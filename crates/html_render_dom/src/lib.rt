@@ -4,9 +4,11 @@
 mod asking;
 mod child_nodes;
 mod children;
+mod content;
 mod dom;
 mod lent;
 mod linked;
+mod names;
 mod node;
 mod nodes;
 mod sink;

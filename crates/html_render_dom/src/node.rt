@@ -1,4 +1,5 @@
 use crate::children::Children;
+use crate::content::Content;
 use html_lexemes::{Attributes, QualName, Text};
 
 /// A node of a tree, by its number. It means something to the tree that gave it.
@@ -54,7 +55,7 @@ pub enum NodeData {
 /// A node in its place.
 #[derive(Drop)]
 pub(crate) struct Node {
-    pub(crate) data: NodeData,
+    pub(crate) data: Content,
     pub(crate) children: Children,
     pub(crate) parent: Option<Handle>,
 }

@@ -1,10 +1,9 @@
 ghost use Rattle.std.specs.Prelude.{◌≡◌, ℕ, ◌+◌, ◌<◌, [], ◌∷◌, ◌++◌, true, false, IfOk, None, OnErr, OnOk, Option};
 ghost use Rattle.std.specs.Prelude.{Some};
-ghost use Rattle.std.specs.Prelude.{List, chars, is_some, option_map, slice_set};
+ghost use Rattle.std.specs.Prelude.{chars, is_some, option_map, slice_set};
 ghost use Rattle.std.specs.Bool.{nat_lt};
-ghost use Rattle.html_forest.specs.Changes.{changed, childless, has_name, made, saying};
-ghost use Rattle.html_forest.specs.Changes.{with_attributes, with_missing, with_more, without_child};
-ghost use Rattle.html_lexemes.specs.declared.names.Attribute.{Attribute as SeenAttribute};
+ghost use Rattle.html_forest.specs.Changes.{changed, childless, made, saying, with_attributes, with_more};
+ghost use Rattle.html_forest.specs.Changes.{without_child};
 ghost use Rattle.html_forest.specs.Forest.{Holds, Node as ForestNode, children_at, kind_at, nodes, text_of};
 ghost use Rattle.html_forest.specs.Orders.{AreDistinct};
 ghost use Rattle.html_forest.specs.Places.{behind, in_front, last_of, one_before};
@@ -12,8 +11,9 @@ ghost use Rattle.html_render_dom.specs.Nodes.{forest_of, kind_of, link_at, links
 ghost use Rattle.html_render_dom.specs.Numbers.{number_of};
 
 use crate::children::Children;
+use crate::content::Content;
 use crate::node::{Handle, Node, NodeData};
-use html_lexemes::{Attribute, Attributes, QualName};
+use html_lexemes::Attributes;
 use std::alloc::{AllocError, Global};
 use std::mem;
 
@@ -67,7 +67,7 @@ impl Nodes {
     {
         let children = Children::new(*self.items.allocator());
         self.items.push(Node {
-            data: node,
+            data: Content::new(node),
             children,
             parent: None,
         })?;
@@ -95,7 +95,7 @@ impl Nodes {
         requires { Holds (number_of target) (forest_of self.now) }
         ensures { kind_of result.now ≡ kind_at (number_of target) (forest_of self.now) }
     {
-        &self.items[target.number].data
+        self.items[target.number].data.data()
     }
 
     /// The children of a node.
@@ -213,13 +213,7 @@ impl Nodes {
         ensures kept { OnErr result (forest_of self.new ≡ forest_of self.old) }
         ensures links { links_of self.new ≡ links_of self.old }
     {
-        match &mut self.items[target.number].data {
-            NodeData::Text { contents } => {
-                contents.push_str(words)?;
-                Ok(true)
-            }
-            _ => Ok(false),
-        }
+        self.items[target.number].data.say(words)
     }
 
     /// Adds the attributes whose names an element lacks; another node has none.
@@ -234,47 +228,7 @@ impl Nodes {
         ensures kept { OnErr result (forest_of self.new ≡ forest_of self.old) }
         ensures links { links_of self.new ≡ links_of self.old }
     {
-        match &mut self.items[target.number].data {
-            NodeData::Element { attrs, .. } => add_missing(attrs, more),
-            _ => Ok(()),
-        }
+        let alloc = *self.items.allocator();
+        self.items[target.number].data.add_attributes(alloc, more)
     }
-}
-
-// adds the attributes whose names are missing, in order; where memory is wanting, none
-fn add_missing(held: &mut Attributes, more: Attributes) -> Result<(), AllocError>
-    ensures ok { OnOk result (held.new ≡ with_missing held.old more) }
-    ensures err { OnErr result (held.new ≡ held.old) }
-{
-    let count = held.as_slice().len();
-    let result = push_missing(held, more);
-    if result.is_err() {
-        held.truncate(count);
-    }
-    result
-}
-
-// the same; where memory is wanting, some may be added
-fn push_missing(held: &mut Attributes, more: Attributes) -> Result<(), AllocError>
-    ensures ok { OnOk result (held.new ≡ with_missing held.old more) }
-    ensures err { OnErr result ((some : List SeenAttribute) × (held.new ≡ held.old ++ some)) }
-{
-    for attribute in more.into_vec() {
-        if !has_name(held.as_slice(), &attribute.name) {
-            held.push(attribute)?;
-        }
-    }
-    Ok(())
-}
-
-// some attribute has this name
-fn has_name(attributes: &[Attribute], name: &QualName) -> bool
-    ensures { result ≡ has_name name.now attributes.now }
-{
-    for attribute in attributes {
-        if *name == attribute.name {
-            return true;
-        }
-    }
-    false
 }

@@ -1,7 +1,9 @@
 ghost use Rattle.std.specs.Prelude.{◌≡◌, [], ◌∷◌, ◌++◌, false, IfErr, IfOk, OnErr, OnOk};
 ghost use Rattle.html_lexemes.specs.declared.fault.ParseFault.TheVariants.{Memory};
-ghost use Rattle.html_forest.specs.Conditions.{CanPut};
-ghost use Rattle.html_forest.specs.Places.{based_on, before, below, put};
+ghost use Rattle.html_forest.specs.Changes.{detached, made, made_element, reparented, with_attributes};
+ghost use Rattle.html_forest.specs.Conditions.{CanPut, CanReparent};
+ghost use Rattle.html_forest.specs.Forest.{IsElement, comment, instruction, nodes};
+ghost use Rattle.html_forest.specs.Places.{based_on, before, below, put, with_doctype};
 ghost use Rattle.html_forest.specs.Sinks.{child_of};
 ghost use Rattle.html_render_dom.specs.Numbers.{number_of};
 
@@ -32,7 +34,9 @@ impl TreeSink for RcDom {
 
     ghost named = { λ target. refl };
 
-    fn finish(self) -> RcDom {
+    fn finish(self) -> RcDom
+        ensures { result ≡ self }
+    {
         self
     }
 
@@ -60,15 +64,37 @@ impl TreeSink for RcDom {
         name: QualName,
         attrs: Attributes,
         flags: ElementFlags,
-    ) -> Result<Handle, ParseFault> {
+    ) -> Result<Handle, ParseFault>
+        ensures number { IfOk result (λ made. number_of made ≡ nodes self.old.forest) }
+        ensures forest { OnOk result (self.new.forest ≡ made_element name attrs flags.template
+            flags.mathml_annotation_xml_integration_point self.old.forest) }
+        ensures refused { OnErr result (self.new.forest ≡ self.old.forest) }
+        ensures quirks { self.new.quirks ≡ self.old.quirks }
+        ensures memory { IfErr result (λ e. e ≡ Memory) }
+        ensures errors { self.new.errors ≡ self.old.errors }
+    {
         Ok(self.nodes.make_element(name, attrs, flags)?)
     }
 
-    fn create_comment(&mut self, text: Text) -> Result<Handle, ParseFault> {
+    fn create_comment(&mut self, text: Text) -> Result<Handle, ParseFault>
+        ensures number { IfOk result (λ made. number_of made ≡ nodes self.old.forest) }
+        ensures forest { OnOk result (self.new.forest ≡ made (comment text) self.old.forest) }
+        ensures refused { OnErr result (self.new.forest ≡ self.old.forest) }
+        ensures quirks { self.new.quirks ≡ self.old.quirks }
+        ensures memory { IfErr result (λ e. e ≡ Memory) }
+        ensures errors { self.new.errors ≡ self.old.errors }
+    {
         Ok(self.nodes.make(NodeData::Comment { contents: text })?)
     }
 
-    fn create_pi(&mut self, target: Text, text: Text) -> Result<Handle, ParseFault> {
+    fn create_pi(&mut self, target: Text, text: Text) -> Result<Handle, ParseFault>
+        ensures number { IfOk result (λ made. number_of made ≡ nodes self.old.forest) }
+        ensures forest { OnOk result (self.new.forest ≡ made (instruction target text) self.old.forest) }
+        ensures refused { OnErr result (self.new.forest ≡ self.old.forest) }
+        ensures quirks { self.new.quirks ≡ self.old.quirks }
+        ensures memory { IfErr result (λ e. e ≡ Memory) }
+        ensures errors { self.new.errors ≡ self.old.errors }
+    {
         let node = NodeData::ProcessingInstruction {
             target,
             contents: text,
@@ -83,6 +109,7 @@ impl TreeSink for RcDom {
         ensures refused { OnErr result (self.new.forest ≡ self.old.forest) }
         ensures quirks { self.new.quirks ≡ self.old.quirks }
         ensures memory { IfErr result (λ e. e ≡ Memory) }
+        ensures errors { self.new.errors ≡ self.old.errors }
     {
         match child {
             NodeOrText::AppendNode(node) => self.nodes.put_below(parent, node)?,
@@ -102,6 +129,7 @@ impl TreeSink for RcDom {
         ensures refused { OnErr result (self.new.forest ≡ self.old.forest) }
         ensures quirks { self.new.quirks ≡ self.old.quirks }
         ensures memory { IfErr result (λ e. e ≡ Memory) }
+        ensures errors { self.new.errors ≡ self.old.errors }
     {
         match child {
             NodeOrText::AppendNode(node) => self.nodes.put_before(sibling, node)?,
@@ -124,6 +152,7 @@ impl TreeSink for RcDom {
         ensures refused { OnErr result (self.new.forest ≡ self.old.forest) }
         ensures quirks { self.new.quirks ≡ self.old.quirks }
         ensures memory { IfErr result (λ e. e ≡ Memory) }
+        ensures errors { self.new.errors ≡ self.old.errors }
     {
         where_children_stand();
         match self.nodes.parent(element) {
@@ -137,7 +166,13 @@ impl TreeSink for RcDom {
         name: Text,
         public_id: Text,
         system_id: Text,
-    ) -> Result<(), ParseFault> {
+    ) -> Result<(), ParseFault>
+        ensures forest { OnOk result (self.new.forest ≡ with_doctype name public_id system_id self.old.forest) }
+        ensures refused { OnErr result (self.new.forest ≡ self.old.forest) }
+        ensures quirks { self.new.quirks ≡ self.old.quirks }
+        ensures memory { IfErr result (λ e. e ≡ Memory) }
+        ensures errors { self.new.errors ≡ self.old.errors }
+    {
         let node = NodeData::Doctype {
             name,
             public_id,
@@ -148,11 +183,14 @@ impl TreeSink for RcDom {
         Ok(())
     }
 
-    fn add_attrs_if_missing(
-        &mut self,
-        target: Handle,
-        attrs: Attributes,
-    ) -> Result<(), ParseFault> {
+    fn add_attrs_if_missing(&mut self, target: Handle, attrs: Attributes) -> Result<(), ParseFault>
+        requires { IsElement (number_of target) self.old.forest }
+        ensures forest { OnOk result (self.new.forest ≡ with_attributes (number_of target) attrs self.old.forest) }
+        ensures refused { OnErr result (self.new.forest ≡ self.old.forest) }
+        ensures quirks { self.new.quirks ≡ self.old.quirks }
+        ensures memory { IfErr result (λ e. e ≡ Memory) }
+        ensures errors { self.new.errors ≡ self.old.errors }
+    {
         self.nodes.add_missing_attributes(target, attrs)?;
         Ok(())
     }
@@ -167,16 +205,31 @@ impl TreeSink for RcDom {
         ensures forest { self.new.forest ≡ self.old.forest }
         ensures quirks { self.new.quirks ≡ self.old.quirks }
         ensures memory { IfErr result (λ e. e ≡ Memory) }
+        ensures errors { self.new.errors ≡ self.old.errors }
     {
         Ok(())
     }
 
-    fn remove_from_parent(&mut self, target: Handle) -> Result<(), ParseFault> {
+    fn remove_from_parent(&mut self, target: Handle) -> Result<(), ParseFault>
+        ensures forest { OnOk result (self.new.forest ≡ detached (number_of target) self.old.forest) }
+        ensures refused { OnErr result (self.new.forest ≡ self.old.forest) }
+        ensures quirks { self.new.quirks ≡ self.old.quirks }
+        ensures memory { IfErr result (λ e. e ≡ Memory) }
+        ensures errors { self.new.errors ≡ self.old.errors }
+    {
         self.nodes.detach(target);
         Ok(())
     }
 
-    fn reparent_children(&mut self, node: Handle, new_parent: Handle) -> Result<(), ParseFault> {
+    fn reparent_children(&mut self, node: Handle, new_parent: Handle) -> Result<(), ParseFault>
+        requires { CanReparent (number_of node) (number_of new_parent) self.old.forest }
+        ensures forest { OnOk result (self.new.forest
+            ≡ reparented (number_of node) (number_of new_parent) self.old.forest) }
+        ensures refused { OnErr result (self.new.forest ≡ self.old.forest) }
+        ensures quirks { self.new.quirks ≡ self.old.quirks }
+        ensures memory { IfErr result (λ e. e ≡ Memory) }
+        ensures errors { self.new.errors ≡ self.old.errors }
+    {
         self.nodes.reparent(node, new_parent)?;
         Ok(())
     }
@@ -189,16 +242,34 @@ impl TreeSink for RcDom {
         x == y
     }
 
-    fn set_quirks_mode(&mut self, mode: QuirksMode) -> Result<(), ParseFault> {
+    fn set_quirks_mode(&mut self, mode: QuirksMode) -> Result<(), ParseFault>
+        ensures forest { self.new.forest ≡ self.old.forest }
+        ensures quirks { OnOk result (self.new.quirks ≡ mode) }
+        ensures refused { OnErr result (self.new.quirks ≡ self.old.quirks) }
+        ensures memory { IfErr result (λ e. e ≡ Memory) }
+        ensures errors { self.new.errors ≡ self.old.errors }
+    {
         self.quirks_mode = mode;
         Ok(())
     }
 
-    fn mark_script_already_started(&mut self, _target: Handle) -> Result<(), ParseFault> {
+    fn mark_script_already_started(&mut self, _target: Handle) -> Result<(), ParseFault>
+        requires { IsElement (number_of _target) self.old.forest }
+        ensures forest { self.new.forest ≡ self.old.forest }
+        ensures quirks { self.new.quirks ≡ self.old.quirks }
+        ensures memory { IfErr result (λ e. e ≡ Memory) }
+        ensures errors { self.new.errors ≡ self.old.errors }
+    {
         Ok(())
     }
 
-    fn pop(&mut self, _target: Handle) -> Result<(), ParseFault> {
+    fn pop(&mut self, _target: Handle) -> Result<(), ParseFault>
+        requires { IsElement (number_of _target) self.old.forest }
+        ensures forest { self.new.forest ≡ self.old.forest }
+        ensures quirks { self.new.quirks ≡ self.old.quirks }
+        ensures memory { IfErr result (λ e. e ≡ Memory) }
+        ensures errors { self.new.errors ≡ self.old.errors }
+    {
         Ok(())
     }
 
@@ -206,7 +277,12 @@ impl TreeSink for RcDom {
         self.nodes.is_integration_point(target)
     }
 
-    fn set_current_line(&mut self, _line: u64) -> Result<(), ParseFault> {
+    fn set_current_line(&mut self, _line: u64) -> Result<(), ParseFault>
+        ensures forest { self.new.forest ≡ self.old.forest }
+        ensures quirks { self.new.quirks ≡ self.old.quirks }
+        ensures memory { IfErr result (λ e. e ≡ Memory) }
+        ensures errors { self.new.errors ≡ self.old.errors }
+    {
         Ok(())
     }
 
@@ -220,6 +296,7 @@ impl TreeSink for RcDom {
         ensures quirks { self.new.quirks ≡ self.old.quirks }
         ensures memory { IfErr result (λ e. e ≡ Memory) }
         ensures never { IfOk result (λ is_attached. is_attached ≡ false) }
+        ensures errors { self.new.errors ≡ self.old.errors }
     {
         Ok(false)
     }
@@ -227,7 +304,12 @@ impl TreeSink for RcDom {
     fn maybe_clone_an_option_into_selectedcontent(
         &mut self,
         _option: Handle,
-    ) -> Result<(), ParseFault> {
+    ) -> Result<(), ParseFault>
+        ensures forest { self.new.forest ≡ self.old.forest }
+        ensures quirks { self.new.quirks ≡ self.old.quirks }
+        ensures memory { IfErr result (λ e. e ≡ Memory) }
+        ensures errors { self.new.errors ≡ self.old.errors }
+    {
         Ok(())
     }
 }

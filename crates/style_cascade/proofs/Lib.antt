@@ -1,3 +1,4 @@
 mod KeyLemmas
 mod CascadeLemmas
 mod StyleLemmas
+mod FunctionLemmas

@@ -1,4 +1,5 @@
 pub mod Cascade
+pub mod Hiding
 pub mod Keys
 pub mod Seen
 pub mod Styles

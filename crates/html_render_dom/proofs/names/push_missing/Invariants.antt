@@ -1,0 +1,7 @@
+use Rattle.std.proofs.Common.{◌≡◌, List}
+use Rattle.std.specs.Vec.Iter.{into_iter_items}
+use Rattle.html_render_dom.proofs.NamesLemmas.{IsPushing}
+use Rattle.html_render_dom.proofs.names.push_missing.Given as goal
+
+abbrev pub invariant-loop-attribute : goal.invariant-loop-attribute
+invariant-loop-attribute l = IsPushing l.fn.held l.fn.more l.held (into_iter_items l.attribute-iterator) l.known.value
