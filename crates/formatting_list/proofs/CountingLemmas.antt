@@ -104,13 +104,31 @@ module _ {H : Type 0} (tag : Tag) (whole rest before : List (FormatEntry H)) (al
         further = passed;
       }
 
+pub many_found : {H : Type 0} (tag : Tag) (whole rest : List (FormatEntry H)) (alike earliest : ℕ) →
+    IsCounting tag whole rest alike earliest → ((number : H → ℕ) → heads tag (entries_of number rest) ≡ 0) →
+    2 < alike → IsEarliest tag whole earliest
+many_found tag whole rest alike earliest old none some = record {
+  within = old.within (omega arith);
+  many = λ number. let e = old.count number in let z = none number in grind (arith, nat_tests);
+  goes = λ number. old.here number (omega arith) (none number);
+}
+
 pub many : {H : Type 0} (tag : Tag) (whole rest : List (FormatEntry H)) (alike earliest : ℕ) →
     IsCounting tag whole rest alike earliest → IsAtMarker rest → 2 < alike → IsEarliest tag whole earliest
-many tag whole rest alike earliest old end some = record {
-  within = old.within (omega arith);
-  many = λ number. let e = old.count number in let z = ap (count_alike tag) (end number) in grind (arith, nat_tests);
-  goes = λ number. old.here number (omega arith) (ap (count_alike tag) (end number));
-}
+many tag whole rest alike earliest old end some =
+    many_found tag whole rest alike earliest old (λ number. ap (count_alike tag) (end number)) some
+
+-- all that there are were passed
+pub many_passed : {H : Type 0} (tag : Tag) (whole rest : List (FormatEntry H)) (alike earliest most : ℕ) →
+    IsCounting tag whole rest alike earliest → ((number : H → ℕ) → heads tag (entries_of number whole) ≤ most) →
+    alike ≡ most → 2 < most → IsEarliest tag whole earliest
+many_passed tag whole rest alike earliest most old within all some =
+    many_found tag whole rest alike earliest old (λ number. omega (arith, old.count number, within number, all))
+    (omega (arith, all, some))
+
+pub few_within : {H : Type 0} (tag : Tag) (whole : List (FormatEntry H)) (most : ℕ) →
+    ((number : H → ℕ) → heads tag (entries_of number whole) ≤ most) → most ≤ 2 → HasRoom tag whole
+few_within tag whole most within some = λ number. let e = within number in grind (arith, nat_tests)
 
 pub few : {H : Type 0} (tag : Tag) (whole rest : List (FormatEntry H)) (alike earliest : ℕ) →
     IsCounting tag whole rest alike earliest → IsAtMarker rest → alike ≤ 2 → HasRoom tag whole

@@ -1,7 +1,9 @@
 pub mod AlikeLemmas
+pub mod CountLemmas
 pub mod CountingLemmas
 pub mod EntryLemmas
 pub mod FewLemmas
 pub mod PlaceLemmas
+pub mod PrintLemmas
 pub mod PushLemmas
 pub mod StepLemmas

@@ -18,7 +18,7 @@ use Rattle.formatting_list.proofs.EntryLemmas.{entries_of-push, handed_over_at}
 use Rattle.formatting_list.proofs.EntryLemmas.{is_listed-push, is_listed_at, put_behind_at}
 use Rattle.formatting_list.proofs.EntryLemmas.{put_behind_none, tag_in_at, tag_in_none, without_entry_at}
 
-split_at : {A : Type 0} (xs : List A) (k : ℕ) (d : A) → k < length xs →
+pub split_at : {A : Type 0} (xs : List A) (k : ℕ) (d : A) → k < length xs →
     xs ≡ take k xs ++ slice_index_or xs k d ∷ drop (suc k) xs
 split_at [] k d h = absurd (omega arith)
 split_at (x ∷ xs) zero d h = refl

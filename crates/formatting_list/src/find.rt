@@ -1,8 +1,7 @@
 //! Where entries stand, looked for from the end: what is asked for mostly stands there.
-ghost use Rattle.std.specs.Prelude.{◌≡◌, ℕ, ◌<◌, [], ◌∷◌, ◌++◌, IfSome, None, false, option_map, take, vec_len};
-ghost use Rattle.std.specs.List.{remove};
-ghost use Rattle.formatting_list.specs.Alike.{are_alike};
-ghost use Rattle.formatting_list.specs.Entries.{before_marker, entries_of, entry_of, is_listed, is_of, last_named};
+ghost use Rattle.std.specs.Prelude.{◌≡◌, ℕ, ◌≤◌, [], ◌∷◌, ◌++◌, IfSome, None, false, option_map};
+ghost use Rattle.formatting_list.specs.Alike.{are_alike, count_alike};
+ghost use Rattle.formatting_list.specs.Entries.{entries_of, entry_of, is_listed, is_of, last_named};
 ghost use Rattle.formatting_list.specs.Entries.{up_to_marker, without_entry};
 ghost use Rattle.formatting_list.specs.Found.{HasRoom, IsAtMarker, IsEarliest, StandsAt};
 ghost use Rattle.formatting_list.specs.declared.entry.FormatEntry.TheVariants.{Element};
@@ -45,14 +44,6 @@ pub(crate) fn position<H: Copy, S: TreeSink<Handle = H>>(
         }
     }
     None
-}
-
-/// Takes an entry off.
-pub(crate) fn take_off<H: Copy>(entries: &mut Vec<FormatEntry<H>>, at: usize)
-    requires { at < vec_len entries.old }
-    ensures { entries.new.items ≡ remove entries.old.items at }
-{
-    entries.remove(at);
 }
 
 /// The last entry, where it is an element: its handle, its tag, and the entries before it.
@@ -128,21 +119,6 @@ pub(crate) fn is_behind_marker_without<H: Copy, S: TreeSink<Handle = H>>(
     false
 }
 
-/// How many entries stand before the last marker.
-pub(crate) fn count_before_marker<H: Copy>(entries: &[FormatEntry<H>]) -> usize
-    ensures { (number : H → ℕ) →
-        entries_of number (take result entries.now) ≡ before_marker (entries_of number entries.now) }
-{
-    let mut at = entries.len();
-    'back: while at > 0 {
-        at -= 1;
-        if let FormatEntry::Marker = &entries[at] {
-            return at;
-        }
-    }
-    0
-}
-
 /// Whether two tags are the same but for the order of their attributes.
 fn is_alike(held: &Tag, tag: &Tag) -> bool
     ensures { result ≡ are_alike held.now tag.now }
@@ -150,11 +126,20 @@ fn is_alike(held: &Tag, tag: &Tag) -> bool
     held.equiv_modulo_attr_order(tag)
 }
 
-/// Where three or more entries behind the last marker were made for such a tag: how many stand before the earliest.
-pub(crate) fn earliest_of_three<H: Copy>(entries: &[FormatEntry<H>], tag: &Tag) -> Option<usize>
+/// Where three or more entries behind the last marker were made for such a tag: how many stand before the earliest. At
+/// most so many were, also before the marker, and the walk ends with the last of these.
+pub(crate) fn earliest_of_three<H: Copy>(
+    entries: &[FormatEntry<H>],
+    tag: &Tag,
+    most: usize,
+) -> Option<usize>
+    requires { (number : H → ℕ) → count_alike tag.now (up_to_marker (entries_of number entries.now)) ≤ most }
     ensures many { IfSome result (IsEarliest tag.now entries.now) }
     ensures few { result ≡ None → HasRoom tag.now entries.now }
 {
+    if most < MOST_ALIKE {
+        return None;
+    }
     let mut alike: usize = 0;
     let mut earliest: usize = 0;
     let mut rest = entries;
@@ -162,6 +147,9 @@ pub(crate) fn earliest_of_three<H: Copy>(entries: &[FormatEntry<H>], tag: &Tag) 
         if is_alike(held, tag) {
             alike += 1;
             earliest = before.len();
+            if alike == most {
+                return Some(earliest);
+            }
         }
         rest = before;
     }

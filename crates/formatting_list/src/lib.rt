@@ -1,12 +1,15 @@
 //! The list of active formatting elements (WHATWG HTML, 13.2.4.3): a part of html_tree_state.
 #![tactic(auto)]
 
+mod counted;
 mod entry;
 mod find;
 mod iter;
 mod laws;
 mod list;
+mod prints;
 mod rows;
+mod taken;
 
 pub use entry::FormatEntry;
 pub use iter::ActiveFormattingIter;

@@ -5,12 +5,11 @@ ghost use Rattle.formatting_list.specs.Pushing.{pushed};
 ghost use Rattle.formatting_list.specs.Steps.{all_of, left_of};
 ghost use Rattle.formatting_list.specs.declared.entry.FormatEntry.{FormatEntry};
 
+use crate::counted::TagCounts;
 use crate::entry::FormatEntry;
-use crate::find::{
-    count_before_marker, earliest_of_three, is_behind_marker_without, last_of_name, position,
-    take_off,
-};
+use crate::find::{earliest_of_three, is_behind_marker_without, last_of_name, position};
 use crate::iter::ActiveFormattingIter;
+use crate::taken::{take_off, take_off_to_marker};
 use html_forest::TreeSink;
 use html_lexemes::{LocalName, Tag};
 use std::alloc::{AllocError, Global};
@@ -21,15 +20,19 @@ use std::marker::Model;
 #[derive(Drop)]
 pub struct FormattingList<H> {
     entries: Vec<FormatEntry<H>>,
+    counts: TagCounts,
 }
 
 impl<H> Model for FormattingList<H> {
     ghost use Rattle.std.specs.Prelude.{List};
+    ghost use Rattle.formatting_list.specs.Counted.{IsCounted, tags_of};
     ghost use Rattle.formatting_list.specs.declared.entry.FormatEntry.{FormatEntry};
 
     ghost Value = { List (FormatEntry H) };
 
     ghost view = { λ list. list.entries.items };
+
+    ghost invariant = { λ list. IsCounted (tags_of list.entries.items) list.counts };
 }
 
 impl<H: Copy> FormattingList<H> {
@@ -39,6 +42,7 @@ impl<H: Copy> FormattingList<H> {
     {
         FormattingList {
             entries: Vec::new(alloc),
+            counts: TagCounts::new(alloc),
         }
     }
 
@@ -60,17 +64,18 @@ impl<H: Copy> FormattingList<H> {
     }
 
     /// Puts an element behind all entries; of three behind the last marker that were made for such a tag the earliest
-    /// goes. It compares with the entries behind the last marker, and looks at the attributes of those of that name
-    /// alone.
+    /// goes. Where fewer than three entries have the tag's print, it compares with none, else with those from the end
+    /// until it has come by as many as have it, or to the marker; of another name it looks at no attributes.
     pub fn push_element(&mut self, handle: H, tag: Tag) -> Result<(), AllocError>
         ensures ok { OnOk result ((number : H → ℕ) →
             entries_of number self.new ≡ pushed (number handle) tag (entries_of number self.old)) }
         ensures err { OnErr result (self.new ≡ self.old) }
     {
-        let earliest = earliest_of_three(self.entries.as_slice(), &tag);
+        let most = self.counts.count_in(&tag)?;
+        let earliest = earliest_of_three(self.entries.as_slice(), &tag, most);
         self.entries.push(FormatEntry::Element(handle, tag))?;
         if let Some(at) = earliest {
-            take_off(&mut self.entries, at);
+            take_off(&mut self.entries, &mut self.counts, at);
         }
         Ok(())
     }
@@ -79,14 +84,17 @@ impl<H: Copy> FormattingList<H> {
     pub fn clear_to_marker(&mut self)
         ensures { (number : H → ℕ) → entries_of number self.new ≡ before_marker (entries_of number self.old) }
     {
-        let kept = count_before_marker(self.entries.as_slice());
-        self.entries.truncate(kept);
+        take_off_to_marker(&mut self.entries, &mut self.counts);
     }
 
-    /// The latest element behind the last marker whose tag has this name.
+    /// The latest element behind the last marker whose tag has this name. Where no tag in the list has it, it goes over
+    /// no entries.
     pub fn last_named(&self, name: &LocalName) -> Option<H>
         ensures { (number : H → ℕ) → option_map number result ≡ last_named name.now (entries_of number self.now) }
     {
+        if self.counts.most_named(name) == 0 {
+            return None;
+        }
         last_of_name(self.entries.as_slice(), name).copied()
     }
 
@@ -126,7 +134,7 @@ impl<H: Copy> FormattingList<H> {
         ensures { entries_of S.number self.new ≡ without_entry (S.number target) (entries_of S.number self.old) }
     {
         if let Some(at) = position(self.entries.as_slice(), sink, target) {
-            take_off(&mut self.entries, at);
+            take_off(&mut self.entries, &mut self.counts, at);
         }
     }
 

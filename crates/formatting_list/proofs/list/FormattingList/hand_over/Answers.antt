@@ -2,6 +2,7 @@ use Rattle.std.proofs.Common.{ap, sym, ◌∙◌}
 use Rattle.formatting_list.specs.Entries.{entries_of, handed_over}
 use Rattle.formatting_list.proofs.PlaceLemmas.{given_at, stands_in}
 use Rattle.formatting_list.proofs.EntryLemmas.{handed_over_none}
+use Rattle.formatting_list.proofs.CountLemmas.{counted_same, tags_set}
 use Rattle.formatting_list.proofs.list.FormattingList.hand_over.Goals as goal
 
 pub returns-in-Element : goal.returns-in-Element
@@ -20,3 +21,8 @@ returns-in_default g c =
     ∙ sym (handed_over_none n m (entries_of g.S.TreeSink.number c.as_slice.result.now)
     (c.position.ensures.missing c.in_default.is))
     ∙ ap (λ v. handed_over n m (entries_of g.S.TreeSink.number v)) (c.as_slice.ensures.value ∙ c.self.view_is)
+
+pub invariant_of-self : goal.invariant_of-self
+invariant_of-self g c = counted_same c.self.inside.counts _ _
+    (tags_set c.self.inside.entries.items c.in-Some.at c.index_mut.result.now c.in-Element.handle c.in-Element.field-1
+    c.index_mut.ensures.value c.in-Element.is c.args.to) c.self.invariant

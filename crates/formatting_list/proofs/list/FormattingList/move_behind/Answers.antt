@@ -2,7 +2,8 @@ use Rattle.std.proofs.Common.{ap, sym, ◌∙◌}
 use Rattle.std.specs.List.{insert}
 use Rattle.formatting_list.specs.Entries.{entries_of, is_listed}
 use Rattle.formatting_list.specs.declared.entry.FormatEntry.TheVariants.{Element}
-use Rattle.formatting_list.proofs.PlaceLemmas.{moved, put, put_first, stands_in, stays}
+use Rattle.formatting_list.proofs.PlaceLemmas.{moved, put, put_first, stands_in, stays, within}
+use Rattle.formatting_list.proofs.CountLemmas.{moved_counted}
 use Rattle.formatting_list.proofs.list.FormattingList.move_behind.Goals as goal
 use Rattle.formatting_list.proofs.list.FormattingList.move_behind.Goals.{in-Some-position, in-None}
 
@@ -35,3 +36,13 @@ returns-clause-ok g c = moved g.S.TreeSink.number (g.S.TreeSink.number c.args.ta
           c.in-Element.tag (ap (λ v. is_listed (g.S.TreeSink.number c.args.after) (entries_of g.S.TreeSink.number v))
           (sym c.as_slice-2.ensures.value) ∙ c.position-2.ensures.missing w.in-None.is)
     ])
+
+pub invariant_of-self-2 : goal.invariant_of-self-2
+invariant_of-self-2 g c =
+    let n = g.S.TreeSink.number c.args.target in
+    moved_counted c.self.inside.entries.items c.in-Some.at c.remove.result
+    (within g.S.TreeSink.number n c.self.inside.entries.items c.in-Some.at (stands_in g.S.TreeSink.number n
+    c.as_slice.result.now c.self.inside.entries.items c.in-Some.at c.as_slice.ensures.value c.in-Some.ensures.found))
+    c.remove.ensures.value c.in-Element.field-0 c.args.to c.in-Element.tag c.in-Element.is c.self.inside.counts
+    c.remove.new.self.items c.remove.ensures.items _ c.insert.new.self.items c.in_ok-insert.ensures.items
+    c.self.invariant

@@ -8,7 +8,7 @@ use Rattle.formatting_list.proofs.list.FormattingList.remove.Goals as goal
 pub returns-in-Some : goal.returns-in-Some
 returns-in-Some g c =
     ap (entries_of g.S.TreeSink.number)
-    (c.take_off.ensures ∙ ap (λ v. remove v c.in-Some.at) (sym c.as_slice.ensures.value))
+    (c.take_off.ensures.items ∙ ap (λ v. remove v c.in-Some.at) (sym c.as_slice.ensures.value))
     ∙ removed g.S.TreeSink.number (g.S.TreeSink.number c.args.target) c.as_slice.result.now c.in-Some.at
     c.in-Some.ensures.found
     ∙ ap (λ v. without_entry (g.S.TreeSink.number c.args.target) (entries_of g.S.TreeSink.number v))
