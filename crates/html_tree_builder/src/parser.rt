@@ -56,16 +56,28 @@ impl<S: TreeSink> Parser<S> {
         Ok(())
     }
 
-    /// Reads the pieces of a text, one after another.
+    /// Whether a call was refused. Then every later one is.
+    #[tactic(auto, unfolding(crate::specs::Parsers::has_failed))]
+    pub fn has_failed(&self) -> bool
+        ensures { result ≡ has_failed self.now }
+    {
+        self.is_over
+    }
+
+    /// Reads the pieces of a text, one after another. Behind a refused call it is refused, even without pieces.
     pub fn process_all(&mut self, pieces: Vec<String>) -> Result<(), ParseFault>
         requires { IsFit S.number S.forest S.quirks self.old }
         ensures fit { IsFit S.number S.forest S.quirks self.new }
         ensures memory { has_failed self.old ≡ false → IfErr result (λ e. e ≡ Memory) }
-        ensures works { OnOk result (has_failed self.old ≡ false → has_failed self.new ≡ false) }
+        ensures failed { has_failed self.old ≡ true → result ≡ Err Failed }
+        ensures works { has_failed self.new ≡ is_err result }
         ensures reads { OnOk result ((rest : List ℕ) (final : State) →
             Completes S.number S.handle S.forest S.quirks self.new rest final →
             Completes S.number S.handle S.forest S.quirks self.old (joined pieces.items ++ rest) final) }
     {
+        if self.has_failed() {
+            return Err(ParseFault::Failed);
+        }
         'pieces: for piece in pieces {
             self.process(piece)?;
         }

@@ -67,6 +67,7 @@ begun = record {
   pending = [];
   quirks = NoQuirks;
   is_over = false;
+  has_failed = false;
   tree = record {
     stack = [];
     formatting = [];

@@ -20,5 +20,6 @@ parsed number forest quirks kept held sink = record {
   pending = kept.pending;
   quirks = kept.quirks;
   is_over = kept.is_over;
+  has_failed = kept.has_failed;
   tree = seen number forest quirks held sink;
 }

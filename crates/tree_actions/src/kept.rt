@@ -32,4 +32,6 @@ pub struct Kept<H> {
     pub quirks: QuirksMode,
     /// Whether nothing more is taken: the end was told, or a call was refused.
     pub is_over: bool,
+    /// Whether a call was refused.
+    pub has_failed: bool,
 }

@@ -25,6 +25,7 @@ with_parts number forest quirks options sink modes pending held = record {
   pending = pending;
   quirks = options.quirks_mode;
   is_over = false;
+  has_failed = false;
   tree = seen number forest quirks held sink;
 }
 

@@ -23,13 +23,13 @@ heard : (b : Bool) (item : Item) → b ≡ false → IsHeard b item
 heard b item e = subst (λ v. IsHeard v item) (sym e) tt
 
 opened_welcomes : (is_template : Bool) (s : State) (item : Item) → s.is_over ≡ false →
-    IsWelcome (act_all (root_actions is_template) s) item
+    s.has_failed ≡ false → IsWelcome (act_all (root_actions is_template) s) item
 unfolding act
-opened_welcomes true s item e = record { goes_on = e; heard = heard _ item (no_text _) }
-opened_welcomes false s item e = record { goes_on = e; heard = heard _ item (no_text _) }
+opened_welcomes true s item e f = record { works = f; goes_on = e; heard = heard _ item (no_text _) }
+opened_welcomes false s item e f = record { works = f; goes_on = e; heard = heard _ item (no_text _) }
 
 pub fragment_welcomes : (options : TreeBuilderOpts) (context : ℕ) (form : Option ℕ) (forest : Forest)
     (quirks : QuirksMode) (item : Item) → IsWelcome (begun_fragment options context form forest quirks) item
 fragment_welcomes options context form forest quirks item =
     opened_welcomes (is_html (codes "template") (name_of context forest))
-    (with_context context form (begun options forest quirks)) item refl
+    (with_context context form (begun options forest quirks)) item refl refl

@@ -28,6 +28,7 @@ begun options forest quirks = record {
   pending = [];
   quirks = options.quirks_mode;
   is_over = false;
+  has_failed = false;
   tree = record {
     stack = [];
     formatting = [];

@@ -43,6 +43,7 @@ impl<S: TreeSink> TreeBuilder<S> {
             pending: Text::from(String::new(alloc)),
             quirks,
             is_over: false,
+            has_failed: false,
         };
         let tree = Construction {
             held: Held::new(alloc),
@@ -51,6 +52,13 @@ impl<S: TreeSink> TreeBuilder<S> {
         TreeBuilder {
             page: Parse { kept, tree },
         }
+    }
+
+    /// Whether a call was refused. Then every later one is.
+    pub fn has_failed(&self) -> bool
+        ensures { result ≡ self.now.page.kept.has_failed }
+    {
+        self.page.kept.has_failed
     }
 
     /// Whether a fragment is parsed (WHATWG HTML, 13.4).

@@ -5,8 +5,10 @@
 mod builder;
 mod fragment;
 mod items;
+mod refusals;
 mod sink;
 
 pub use builder::TreeBuilder;
 pub use fragment::context_state;
+pub use refusals::{ends_twice, tells_twice};
 pub use tree_rules::TreeBuilderOpts;

@@ -1,5 +1,5 @@
 //! A tree builder as a sink of tokens.
-ghost use Rattle.std.specs.Prelude.{◌≡◌, ℕ, Err, IfErr, IfOk, OnErr, OnOk, false, true};
+ghost use Rattle.std.specs.Prelude.{◌≡◌, ℕ, Err, IfErr, IfOk, OnErr, OnOk, false, is_err, true};
 ghost use Rattle.html_forest.specs.Forest.{IsElement};
 ghost use Rattle.html_forest.specs.Orders.{IsIn};
 ghost use Rattle.html_grammar.specs.Items.{item_of};
@@ -10,7 +10,7 @@ ghost use Rattle.html_tree_state.specs.Building.{stack_of};
 ghost use Rattle.tree_actions.specs.Parsed.{parsed};
 ghost use Rattle.tree_rules.specs.Actions.{is_text};
 ghost use Rattle.tree_rules.specs.Settling.{Ready, reply, step};
-ghost use Rattle.tree_rules.specs.Welcome.{IsHeard, IsReady, IsWelcome};
+ghost use Rattle.tree_rules.specs.Welcome.{IsFit, IsHeard, IsReady, IsWelcome};
 
 use crate::builder::TreeBuilder;
 use crate::items::tell;
@@ -47,15 +47,17 @@ impl<S: TreeSink> TokenSink for TreeBuilder<S> {
     ghost hearing = { meaning-hearing S.handle };
 
     /// Takes a token by the rules of tree construction. What isn't text, an error, an end tag or the end is refused as
-    /// `Failed` while an element's text is read; else the error is want of memory. Behind a refused token, and behind the
-    /// end, every token is refused as `Failed`.
+    /// `Failed` while an element's text is read, and so is every token behind the end; else the error is want of memory.
+    /// Behind a refused call every token is refused as `Failed`.
     fn process_token(
         &mut self,
         token: Token,
         line: u64,
     ) -> Result<TokenSinkResult<S::Handle>, ParseFault>
-        requires { IsReady
+        requires { IsFit
             (parsed S.number S.forest S.quirks self.old.page.kept self.old.page.tree.held self.old.page.tree.sink) }
+        ensures fit { IsFit
+            (parsed S.number S.forest S.quirks self.new.page.kept self.new.page.tree.held self.new.page.tree.sink) }
         ensures state { IfOk result (λ _.
             parsed S.number S.forest S.quirks self.new.page.kept self.new.page.tree.held self.new.page.tree.sink
             ≡ step (parsed S.number S.forest S.quirks self.old.page.kept self.old.page.tree.held self.old.page.tree.sink)
@@ -66,31 +68,49 @@ impl<S: TreeSink> TokenSink for TreeBuilder<S> {
         ensures refused { IsWelcome
             (parsed S.number S.forest S.quirks self.old.page.kept self.old.page.tree.held self.old.page.tree.sink)
             (item_of token) → IfErr result (λ e. e ≡ Memory) }
-        ensures failed { self.old.page.kept.is_over ≡ true → result ≡ Err Failed }
+        ensures failed { self.old.page.kept.has_failed ≡ true → result ≡ Err Failed }
+        ensures ended { self.old.page.kept.is_over ≡ true → result ≡ Err Failed }
         ensures misplaced { ¬ (IsHeard (is_text self.old.page.kept.mode) (item_of token)) → result ≡ Err Failed }
         ensures over { OnErr result (self.new.page.kept.is_over ≡ true) }
+        ensures works { self.new.page.kept.has_failed ≡ is_err result }
     {
-        if self.page.kept.is_over {
-            return Err(ParseFault::Failed);
+        if self.page.kept.has_failed || self.page.kept.is_over {
+            return self.refuse(ParseFault::Failed);
         }
         if is_out_of_place(self.page.kept.mode, &token) {
-            self.page.kept.is_over = true;
-            return Err(ParseFault::Failed);
+            return self.refuse(ParseFault::Failed);
         }
         match tell(&mut self.page, token, line) {
             Ok(answer) => Ok(answer),
-            Err(fault) => {
-                // a refused call leaves it so
-                self.page.kept.is_over = true;
-                Err(fault)
-            }
+            Err(fault) => self.refuse(fault),
         }
     }
 
-    /// Tells the sink of trees that the open elements are so no longer, from the current node on. The error is want of
-    /// memory.
-    fn end(&mut self) -> Result<(), ParseFault> {
-        tell_closed(&mut self.page)
+    /// Tells the sink of trees that the open elements are so no longer, from the current node on. Behind a refused call
+    /// it is refused as `Failed`; else the error is want of memory.
+    fn end(&mut self) -> Result<(), ParseFault>
+        requires { IsFit
+            (parsed S.number S.forest S.quirks self.old.page.kept self.old.page.tree.held self.old.page.tree.sink) }
+        ensures fit { IsFit
+            (parsed S.number S.forest S.quirks self.new.page.kept self.new.page.tree.held self.new.page.tree.sink) }
+        ensures closed { IfOk result (λ _.
+            parsed S.number S.forest S.quirks self.new.page.kept self.new.page.tree.held self.new.page.tree.sink
+            ≡ parsed S.number S.forest S.quirks self.old.page.kept self.old.page.tree.held self.old.page.tree.sink) }
+        ensures refused { self.old.page.kept.has_failed ≡ false → IfErr result (λ e. e ≡ Memory) }
+        ensures failed { self.old.page.kept.has_failed ≡ true → result ≡ Err Failed }
+        ensures works { self.new.page.kept.has_failed ≡ is_err result }
+    {
+        if self.page.kept.has_failed {
+            return Err(ParseFault::Failed);
+        }
+        match tell_closed(&mut self.page) {
+            Ok(()) => Ok(()),
+            Err(fault) => {
+                // a refused call leaves it so
+                self.page.kept.has_failed = true;
+                Err(fault)
+            }
+        }
     }
 
     fn adjusted_current_node_present_but_not_in_html_namespace(&self) -> bool {
@@ -98,6 +118,19 @@ impl<S: TreeSink> TokenSink for TreeBuilder<S> {
             Some(node) => !is_of_html(&self.page.tree.sink.elem_name(node).ns),
             None => false,
         }
+    }
+}
+
+impl<S: TreeSink> TreeBuilder<S> {
+    // a refused call leaves it so
+    fn refuse(&mut self, fault: ParseFault) -> Result<TokenSinkResult<S::Handle>, ParseFault>
+        ensures result { result ≡ Err fault }
+        ensures failed { self.new.page.kept.has_failed ≡ true }
+        ensures over { self.new.page.kept.is_over ≡ true }
+    {
+        self.page.kept.has_failed = true;
+        self.page.kept.is_over = true;
+        Err(fault)
     }
 }
 

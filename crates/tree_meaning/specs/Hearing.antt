@@ -16,6 +16,7 @@ use Rattle.html_lexemes.specs.declared.token.TagKind.TheVariants.{EndTag, StartT
 use Rattle.tag_groups.specs.Groups.{tag_group}
 use Rattle.tag_groups.specs.declared.group.TagGroup.{TagGroup}
 use Rattle.tag_groups.specs.declared.group.TagGroup.TheVariants as groups
+use Rattle.tree_meaning.specs.Flags.{step-goes_on, step-works, tag-goes_on}
 use Rattle.tree_rules.specs.Actions.{act, act_all, Action, add_attributes, adopt, adopt_in_scope, append_doctype}
 use Rattle.tree_rules.specs.Actions.{break_out, but_text, clear_to_marker, close_foreign, close_item, close_other}
 use Rattle.tree_rules.specs.Actions.{close_p, comment_to_document, comment_to_root, forget_form, forget_pending}
@@ -137,84 +138,9 @@ act-stays skip_next_line_feed s h = h
 act-stays (keep_pending x) s h = h
 act-stays forget_pending s h = h
 
--- nor says that the page is over
-act-goes_on : (action : Action) (s : State) → (act action s).is_over ≡ s.is_over
-unfolding act
-act-goes_on (insert targets.AtPlace tag) s = refl
-act-goes_on (insert targets.IntoHead tag) s = refl
-act-goes_on (insert_void targets.AtPlace tag) s = refl
-act-goes_on (insert_void targets.IntoHead tag) s = refl
-act-goes_on (insert_named x) s = refl
-act-goes_on (insert_foreign x y) s = refl
-act-goes_on (insert_comment x) s = refl
-act-goes_on (comment_to_document x) s = refl
-act-goes_on (comment_to_root x) s = refl
-act-goes_on (append_doctype x) s = refl
-act-goes_on (set_quirks x) s = refl
-act-goes_on (say x) s = refl
-act-goes_on (add_attributes x y) s = refl
-act-goes_on (take_out x) s = refl
-act-goes_on (foster x) s = refl
-act-goes_on pop s = refl
-act-goes_on (pop_if x) s = refl
-act-goes_on (pop_to x) s = refl
-act-goes_on (pop_down_to x) s = refl
-act-goes_on (take_off x) s = refl
-act-goes_on (imply_but x) s = refl
-act-goes_on close_p s = refl
-act-goes_on (close_item x) s = refl
-act-goes_on (close_other x) s = refl
-act-goes_on break_out s = refl
-act-goes_on (close_foreign x) s = refl
-act-goes_on (insert_formatting x) s = refl
-act-goes_on reconstruct s = refl
-act-goes_on put_marker s = refl
-act-goes_on clear_to_marker s = refl
-act-goes_on (unlist x) s = refl
-act-goes_on (adopt x) s = refl
-act-goes_on (adopt_in_scope x) s = refl
-act-goes_on (go_to x) s = refl
-act-goes_on hold_mode s = refl
-act-goes_on go_back s = refl
-act-goes_on (push_template_mode x) s = refl
-act-goes_on pop_template_mode s = refl
-act-goes_on reset s = refl
-act-goes_on keep_head s = refl
-act-goes_on keep_form s = refl
-act-goes_on forget_form s = refl
-act-goes_on refuse_frameset s = refl
-act-goes_on skip_next_line_feed s = refl
-act-goes_on (keep_pending x) s = refl
-act-goes_on forget_pending s = refl
-
 act_all-stays : (actions : List Action) (s : State) → is_text s.mode ≡ false → is_text (act_all actions s).mode ≡ false
 act_all-stays [] s h = h
 act_all-stays (action ∷ actions) s h = act_all-stays actions (act action s) (act-stays action s h)
-
-act_all-goes_on : (actions : List Action) (s : State) → (act_all actions s).is_over ≡ s.is_over
-act_all-goes_on [] s = refl
-act_all-goes_on (action ∷ actions) s = act_all-goes_on actions (act action s) ∙ act-goes_on action s
-
-entered-goes_on : (ask : Ask) (s : State) → (entered ask s).is_over ≡ s.is_over
-entered-goes_on nothing s = refl
-entered-goes_on plaintext s = refl
-entered-goes_on (raw kind) s = refl
-entered-goes_on (script n) s = refl
-entered-goes_on (encoding name) s = refl
-
-given_by-goes_on : (row : Row) (s : State) (further : State → Settled) →
-    ((t : State) → (further t).state.is_over ≡ t.is_over) → (given_by row s further).state.is_over ≡ s.is_over
-given_by-goes_on (done actions) s further later = act_all-goes_on actions s
-given_by-goes_on (asks ask actions) s further later =
-    entered-goes_on ask (act_all actions s) ∙ act_all-goes_on actions s
-given_by-goes_on (again actions) s further later = later (act_all actions s) ∙ act_all-goes_on actions s
-
-settle-goes_on : (k : ℕ) (mark : Mark) (s : State) → (settle k mark s).state.is_over ≡ s.is_over
-settle-goes_on zero mark s = refl
-settle-goes_on (suc k) mark s = given_by-goes_on (rule mark s) s (settle k mark) (settle-goes_on k mark)
-
-taken-goes_on : (mark : Mark) (s : State) → (taken mark s).state.is_over ≡ s.is_over
-taken-goes_on mark s = settle-goes_on (suc (rank mark s)) mark s
 
 -- a mark that is no tag asks for nothing
 abbrev IsQuiet : Row → Type 0
@@ -396,22 +322,6 @@ characters-keep b (c ∷ cs) s h = characters-keep b cs (taken_character s c)
     (either-kept (s.skip_lf && c == 10) (past_tag s) (taken (character c) (past_tag s)).state
     (λ t. is_text t.mode ≡ b) h (taken-keeps b c (past_tag s) h))
 
-characters-go_on : (cs : List ℕ) (s : State) → (fold taken_character s cs).is_over ≡ s.is_over
-characters-go_on [] s = refl
-characters-go_on (c ∷ cs) s = characters-go_on cs (taken_character s c)
-    ∙ either-kept (s.skip_lf && c == 10) (past_tag s) (taken (character c) (past_tag s)).state
-    (λ t. t.is_over ≡ s.is_over) refl (taken-goes_on (character c) (past_tag s))
-
--- What is neither a tag nor the end leaves both.
-step-goes_on : (s : State) (item : Item) → IsWithin item → (step s item).is_over ≡ s.is_over
-step-goes_on s (items.characters cs) within = characters-go_on cs s
-step-goes_on s items.null_character within = taken-goes_on null (past_tag s)
-step-goes_on s (items.tag t) within = absurd within
-step-goes_on s (items.comment cs) within = taken-goes_on (comment cs) (past_tag s)
-step-goes_on s (items.doctype d) within = taken-goes_on (doctype d) (past_tag s)
-step-goes_on s items.error within = refl
-step-goes_on s items.end_of_file within = absurd within
-
 -- In the mode "text" neither NUL nor a comment nor a doctype is welcome.
 step-keeps : (b : Bool) (s : State) (item : Item) → IsWithin item → IsHeard b item → is_text s.mode ≡ b →
     is_text (step s item).mode ≡ b
@@ -429,6 +339,7 @@ step-keeps b s items.end_of_file within heard h = absurd within
 step-hears : (s : State) (item later : Item) → IsWithin item → IsWelcome s item → IsWelcome s later →
     IsWelcome (step s item) later
 step-hears s item later within hears hears_later = record {
+  works = step-works s item ∙ hears.works;
   goes_on = step-goes_on s item within ∙ hears.goes_on;
   heard = subst (λ (b : Bool). IsHeard b later)
       (sym (step-keeps (is_text s.mode) s item within hears.heard refl)) hears_later.heard;
@@ -612,7 +523,8 @@ plain_tag false t heard h = absurd (cc)
 tag-hears : {H : Type 0} (handle : ℕ → H) (s : State) (t : Tag) (later : Item) → IsWelcome s (items.tag t) →
     IsOf (text_behind (reply handle s (items.tag t))) later → IsWelcome (step s (items.tag t)) later
 tag-hears handle s t later hears asked = record {
-  goes_on = taken-goes_on (mark_by t.kind t) (past_tag s) ∙ hears.goes_on;
+  works = step-works s (items.tag t) ∙ hears.works;
+  goes_on = tag-goes_on s t ∙ hears.goes_on;
   heard = mark-asked handle later (is_text s.mode) t t.kind (past_tag s) refl
       (plain_tag (is_text s.mode) t hears.heard) asked;
 }

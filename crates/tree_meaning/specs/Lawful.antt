@@ -2,13 +2,14 @@
 -- are answered, what holds between two items is kept, and an error ends at most the rule of the line feed.
 use Rattle.std.specs.Prelude.{◌≡◌, ℕ, zero, suc, Bool, false, true, ◌==◌, ◌&&◌, List, [], ◌∷◌, ◌++◌, fold, refl}
 use Rattle.std.specs.Prelude.{if◌then◌else◌}
-use Rattle.std.proofs.Common.{sym, ap}
+use Rattle.std.proofs.Common.{sym, ap, ◌∙◌}
 use Rattle.std.proofs.lemmas.Bool.{ne_eqb}
 use Rattle.std.proofs.lemmas.List.Sums.{fold-append}
 use Rattle.html_grammar.specs.Items.{Item}
 use Rattle.html_grammar.specs.Items as items
 use Rattle.html_grammar.specs.Reading.{IsAfterError, IsAnswered, IsLawful}
 use Rattle.html_lexemes.specs.declared.token.TokenSinkResult.TheVariants as answers
+use Rattle.tree_meaning.specs.Flags.{act-works}
 use Rattle.tree_rules.specs.Actions.{Action, act, act_all}
 use Rattle.tree_rules.specs.Rank.{rank}
 use Rattle.tree_rules.specs.Rows.{Row, again, asks, done}
@@ -22,12 +23,14 @@ use Rattle.tree_rules.specs.Welcome.{IsReady}
 -- flags and modes are not read by what holds between two items
 past_tag-ready : (s : State) → IsReady s → IsReady (past_tag s)
 past_tag-ready s r = record {
+  works = r.works;
   ready = record { sound = r.ready.sound; head = r.ready.head; context = r.ready.context };
   actions = r.actions;
 }
 
 over-ready : (s : State) → IsReady s → IsReady (over s)
 over-ready s r = record {
+  works = r.works;
   ready = record { sound = r.ready.sound; head = r.ready.head; context = r.ready.context };
   actions = r.actions;
 }
@@ -36,6 +39,7 @@ entered-ready : (ask : Ask) (s : State) → IsReady s → IsReady (entered ask s
 entered-ready nothing s r = r
 entered-ready plaintext s r = r
 entered-ready (raw kind) s r = record {
+  works = r.works;
   ready = record { sound = r.ready.sound; head = r.ready.head; context = r.ready.context };
   actions = r.actions;
 }
@@ -43,7 +47,11 @@ entered-ready (script n) s r = r
 entered-ready (encoding name) s r = r
 
 act-ready : (action : Action) (s : State) → IsReady s → IsReady (act action s)
-act-ready action s r = record { ready = r.actions action s r.ready; actions = r.actions }
+act-ready action s r = record {
+  works = act-works action s ∙ r.works;
+  ready = r.actions action s r.ready;
+  actions = r.actions;
+}
 
 act_all-ready : (actions : List Action) (s : State) → IsReady s → IsReady (act_all actions s)
 act_all-ready [] s r = r

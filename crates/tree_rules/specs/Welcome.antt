@@ -12,15 +12,21 @@ use Rattle.tree_rules.specs.State.{State}
 abbrev pub ActionsKeep : Type 0
 ActionsKeep = (action : Action) (s : State) → Ready s → Ready (act action s)
 
--- what holds between two items, and by which law it stays so
+-- what holds between two items while no call was refused, and by which law it stays so
 pub record IsReady (s : State) : Type 0 where
+  pub works : s.has_failed ≡ false
   pub ready : Ready s
   pub actions : ActionsKeep
+
+-- what is asked before a call, and holds behind it whatever it answers
+abbrev pub IsFit : State → Type 0
+IsFit s = s.has_failed ≡ false → IsReady s
 
 abbrev pub IsHeard : (is_in_text : Bool) → Item → Type 0
 IsHeard true item = IsOf Plain item
 IsHeard false item = Unit {0}
 
 pub record IsWelcome (s : State) (item : Item) : Type 0 where
+  pub works : s.has_failed ≡ false
   pub goes_on : s.is_over ≡ false
   pub heard : IsHeard (is_text s.mode) item

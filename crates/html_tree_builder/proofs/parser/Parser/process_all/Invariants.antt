@@ -14,7 +14,7 @@ invariant-pieces g l =
     let quirks = g.S.TreeSink.quirks in
     record {
       fit : IsFit number forest quirks l.self;
-      works : has_failed l.fn.self ≡ false → has_failed l.self ≡ false;
+      works : has_failed l.self ≡ false;
       reads : (rest : List ℕ) (final : State) →
           Completes number handle forest quirks l.self (joined (into_iter_items l.piece-iterator) ++ rest) final →
           Completes number handle forest quirks l.fn.self (joined l.fn.pieces.items ++ rest) final;
