@@ -2,7 +2,7 @@
 ghost use Rattle.std.specs.Prelude.{◌≡◌, IfErr, IfOk, OnOk};
 ghost use Rattle.html_lexemes.specs.declared.fault.ParseFault.TheVariants.{Memory};
 ghost use Rattle.tree_actions.specs.Outcomes.{came_to, outcome};
-ghost use Rattle.tree_actions.specs.Parsed.{parsed};
+ghost use Rattle.tree_actions.specs.Parsed.{state_of};
 ghost use Rattle.tree_rules.specs.Settling.{Ready};
 ghost use Rattle.tree_rules.specs.BeforeHtml.{before_html_end, before_html_start, html_made};
 ghost use Rattle.tree_rules.specs.Rows.{again};
@@ -19,13 +19,10 @@ pub fn before_html_start<S: TreeSink>(
     group: TagGroup,
     tag: &Tag,
 ) -> Result<Flow<S::Handle>, ParseFault>
-    requires ready { Ready (parsed S.number S.forest S.quirks page.old.kept page.old.tree.held page.old.tree.sink) }
-    ensures came { IfOk result (λ flow.
-        came_to flow (parsed S.number S.forest S.quirks page.new.kept page.new.tree.held page.new.tree.sink)
-        ≡ outcome S.handle (before_html_start group tag.now)
-        (parsed S.number S.forest S.quirks page.old.kept page.old.tree.held page.old.tree.sink)) }
-    ensures ready { OnOk result (Ready
-        (parsed S.number S.forest S.quirks page.new.kept page.new.tree.held page.new.tree.sink)) }
+    requires ready { Ready (state_of S.number S.forest S.quirks page.old) }
+    ensures came { IfOk result (λ flow. came_to flow (state_of S.number S.forest S.quirks page.new)
+        ≡ outcome S.handle (before_html_start group tag.now) (state_of S.number S.forest S.quirks page.old)) }
+    ensures ready { OnOk result (Ready (state_of S.number S.forest S.quirks page.new)) }
     ensures memory { IfErr result (λ e. e ≡ Memory) }
 {
     match group {
@@ -43,13 +40,10 @@ pub fn before_html_end<S: TreeSink>(
     page: &mut Parse<S>,
     group: TagGroup,
 ) -> Result<Flow<S::Handle>, ParseFault>
-    requires ready { Ready (parsed S.number S.forest S.quirks page.old.kept page.old.tree.held page.old.tree.sink) }
-    ensures came { IfOk result (λ flow.
-        came_to flow (parsed S.number S.forest S.quirks page.new.kept page.new.tree.held page.new.tree.sink)
-        ≡ outcome S.handle (before_html_end group)
-        (parsed S.number S.forest S.quirks page.old.kept page.old.tree.held page.old.tree.sink)) }
-    ensures ready { OnOk result (Ready
-        (parsed S.number S.forest S.quirks page.new.kept page.new.tree.held page.new.tree.sink)) }
+    requires ready { Ready (state_of S.number S.forest S.quirks page.old) }
+    ensures came { IfOk result (λ flow. came_to flow (state_of S.number S.forest S.quirks page.new)
+        ≡ outcome S.handle (before_html_end group) (state_of S.number S.forest S.quirks page.old)) }
+    ensures ready { OnOk result (Ready (state_of S.number S.forest S.quirks page.new)) }
     ensures memory { IfErr result (λ e. e ≡ Memory) }
 {
     match group {
@@ -60,13 +54,10 @@ pub fn before_html_end<S: TreeSink>(
 
 /// Anything else: the root is made.
 pub fn make_html<S: TreeSink>(page: &mut Parse<S>) -> Result<Flow<S::Handle>, ParseFault>
-    requires ready { Ready (parsed S.number S.forest S.quirks page.old.kept page.old.tree.held page.old.tree.sink) }
-    ensures came { IfOk result (λ flow.
-        came_to flow (parsed S.number S.forest S.quirks page.new.kept page.new.tree.held page.new.tree.sink)
-        ≡ outcome S.handle (again html_made)
-        (parsed S.number S.forest S.quirks page.old.kept page.old.tree.held page.old.tree.sink)) }
-    ensures ready { OnOk result (Ready
-        (parsed S.number S.forest S.quirks page.new.kept page.new.tree.held page.new.tree.sink)) }
+    requires ready { Ready (state_of S.number S.forest S.quirks page.old) }
+    ensures came { IfOk result (λ flow. came_to flow (state_of S.number S.forest S.quirks page.new)
+        ≡ outcome S.handle (again html_made) (state_of S.number S.forest S.quirks page.old)) }
+    ensures ready { OnOk result (Ready (state_of S.number S.forest S.quirks page.new)) }
     ensures memory { IfErr result (λ e. e ≡ Memory) }
 {
     page.insert_named("html")?;

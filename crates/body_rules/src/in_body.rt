@@ -2,7 +2,7 @@
 ghost use Rattle.std.specs.Prelude.{◌≡◌, IfErr, IfOk, OnOk};
 ghost use Rattle.html_lexemes.specs.declared.fault.ParseFault.TheVariants.{Memory};
 ghost use Rattle.tree_actions.specs.Outcomes.{came_to, outcome};
-ghost use Rattle.tree_actions.specs.Parsed.{parsed};
+ghost use Rattle.tree_actions.specs.Parsed.{state_of};
 ghost use Rattle.tree_rules.specs.Settling.{Ready};
 ghost use Rattle.tag_groups.specs.Groups.{tag_group};
 ghost use Rattle.tree_rules.specs.InBody.{in_body_start};
@@ -37,15 +37,12 @@ pub fn in_body_start<S: TreeSink>(
     group: TagGroup,
     tag: &Tag,
 ) -> Result<Flow<S::Handle>, ParseFault>
-    requires ready { Ready (parsed S.number S.forest S.quirks page.old.kept page.old.tree.held page.old.tree.sink) }
+    requires ready { Ready (state_of S.number S.forest S.quirks page.old) }
     requires group { tag_group tag.now.name ≡ group }
-    ensures came { IfOk result (λ flow.
-        came_to flow (parsed S.number S.forest S.quirks page.new.kept page.new.tree.held page.new.tree.sink)
-        ≡ outcome S.handle (in_body_start group tag.now
-        (parsed S.number S.forest S.quirks page.old.kept page.old.tree.held page.old.tree.sink))
-        (parsed S.number S.forest S.quirks page.old.kept page.old.tree.held page.old.tree.sink)) }
-    ensures ready { OnOk result (Ready
-        (parsed S.number S.forest S.quirks page.new.kept page.new.tree.held page.new.tree.sink)) }
+    ensures came { IfOk result (λ flow. came_to flow (state_of S.number S.forest S.quirks page.new)
+        ≡ outcome S.handle (in_body_start group tag.now (state_of S.number S.forest S.quirks page.old))
+        (state_of S.number S.forest S.quirks page.old)) }
+    ensures ready { OnOk result (Ready (state_of S.number S.forest S.quirks page.new)) }
     ensures memory { IfErr result (λ e. e ≡ Memory) }
 {
     match group {
@@ -109,15 +106,12 @@ pub fn phrase_start<S: TreeSink>(
     group: TagGroup,
     tag: &Tag,
 ) -> Result<Flow<S::Handle>, ParseFault>
-    requires ready { Ready (parsed S.number S.forest S.quirks page.old.kept page.old.tree.held page.old.tree.sink) }
+    requires ready { Ready (state_of S.number S.forest S.quirks page.old) }
     requires group { tag_group tag.now.name ≡ group }
-    ensures came { IfOk result (λ flow.
-        came_to flow (parsed S.number S.forest S.quirks page.new.kept page.new.tree.held page.new.tree.sink)
-        ≡ outcome S.handle (in_body_phrase group tag.now
-        (parsed S.number S.forest S.quirks page.old.kept page.old.tree.held page.old.tree.sink))
-        (parsed S.number S.forest S.quirks page.old.kept page.old.tree.held page.old.tree.sink)) }
-    ensures ready { OnOk result (Ready
-        (parsed S.number S.forest S.quirks page.new.kept page.new.tree.held page.new.tree.sink)) }
+    ensures came { IfOk result (λ flow. came_to flow (state_of S.number S.forest S.quirks page.new)
+        ≡ outcome S.handle (in_body_phrase group tag.now (state_of S.number S.forest S.quirks page.old))
+        (state_of S.number S.forest S.quirks page.old)) }
+    ensures ready { OnOk result (Ready (state_of S.number S.forest S.quirks page.new)) }
     ensures memory { IfErr result (λ e. e ≡ Memory) }
 {
     formatting_groups_are_formatting();
@@ -153,14 +147,11 @@ pub fn in_body_end<S: TreeSink>(
     group: TagGroup,
     tag: &Tag,
 ) -> Result<Flow<S::Handle>, ParseFault>
-    requires ready { Ready (parsed S.number S.forest S.quirks page.old.kept page.old.tree.held page.old.tree.sink) }
-    ensures came { IfOk result (λ flow.
-        came_to flow (parsed S.number S.forest S.quirks page.new.kept page.new.tree.held page.new.tree.sink)
-        ≡ outcome S.handle (in_body_end group tag.now
-        (parsed S.number S.forest S.quirks page.old.kept page.old.tree.held page.old.tree.sink))
-        (parsed S.number S.forest S.quirks page.old.kept page.old.tree.held page.old.tree.sink)) }
-    ensures ready { OnOk result (Ready
-        (parsed S.number S.forest S.quirks page.new.kept page.new.tree.held page.new.tree.sink)) }
+    requires ready { Ready (state_of S.number S.forest S.quirks page.old) }
+    ensures came { IfOk result (λ flow. came_to flow (state_of S.number S.forest S.quirks page.new)
+        ≡ outcome S.handle (in_body_end group tag.now (state_of S.number S.forest S.quirks page.old))
+        (state_of S.number S.forest S.quirks page.old)) }
+    ensures ready { OnOk result (Ready (state_of S.number S.forest S.quirks page.new)) }
     ensures memory { IfErr result (λ e. e ≡ Memory) }
 {
     match group {

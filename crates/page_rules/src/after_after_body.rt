@@ -2,7 +2,7 @@
 ghost use Rattle.std.specs.Prelude.{◌≡◌, IfErr, IfOk, OnOk};
 ghost use Rattle.html_lexemes.specs.declared.fault.ParseFault.TheVariants.{Memory};
 ghost use Rattle.tree_actions.specs.Outcomes.{came_to, outcome};
-ghost use Rattle.tree_actions.specs.Parsed.{parsed};
+ghost use Rattle.tree_actions.specs.Parsed.{state_of};
 ghost use Rattle.tree_rules.specs.Settling.{Ready};
 ghost use Rattle.tree_rules.specs.AfterBody.{after_after_body_comment, after_after_body_end};
 ghost use Rattle.tree_rules.specs.AfterBody.{after_after_body_end_of_file};
@@ -18,13 +18,10 @@ pub fn after_after_body_comment<S: TreeSink>(
     page: &mut Parse<S>,
     text: Text,
 ) -> Result<Flow<S::Handle>, ParseFault>
-    requires ready { Ready (parsed S.number S.forest S.quirks page.old.kept page.old.tree.held page.old.tree.sink) }
-    ensures came { IfOk result (λ flow.
-        came_to flow (parsed S.number S.forest S.quirks page.new.kept page.new.tree.held page.new.tree.sink)
-        ≡ outcome S.handle (after_after_body_comment text)
-        (parsed S.number S.forest S.quirks page.old.kept page.old.tree.held page.old.tree.sink)) }
-    ensures ready { OnOk result (Ready
-        (parsed S.number S.forest S.quirks page.new.kept page.new.tree.held page.new.tree.sink)) }
+    requires ready { Ready (state_of S.number S.forest S.quirks page.old) }
+    ensures came { IfOk result (λ flow. came_to flow (state_of S.number S.forest S.quirks page.new)
+        ≡ outcome S.handle (after_after_body_comment text) (state_of S.number S.forest S.quirks page.old)) }
+    ensures ready { OnOk result (Ready (state_of S.number S.forest S.quirks page.new)) }
     ensures memory { IfErr result (λ e. e ≡ Memory) }
 {
     page.comment_to_document(text)?;
@@ -33,13 +30,10 @@ pub fn after_after_body_comment<S: TreeSink>(
 
 /// An end tag.
 pub fn after_after_body_end<S: TreeSink>(page: &mut Parse<S>) -> Result<Flow<S::Handle>, ParseFault>
-    requires ready { Ready (parsed S.number S.forest S.quirks page.old.kept page.old.tree.held page.old.tree.sink) }
-    ensures came { IfOk result (λ flow.
-        came_to flow (parsed S.number S.forest S.quirks page.new.kept page.new.tree.held page.new.tree.sink)
-        ≡ outcome S.handle after_after_body_end
-        (parsed S.number S.forest S.quirks page.old.kept page.old.tree.held page.old.tree.sink)) }
-    ensures ready { OnOk result (Ready
-        (parsed S.number S.forest S.quirks page.new.kept page.new.tree.held page.new.tree.sink)) }
+    requires ready { Ready (state_of S.number S.forest S.quirks page.old) }
+    ensures came { IfOk result (λ flow. came_to flow (state_of S.number S.forest S.quirks page.new)
+        ≡ outcome S.handle after_after_body_end (state_of S.number S.forest S.quirks page.old)) }
+    ensures ready { OnOk result (Ready (state_of S.number S.forest S.quirks page.new)) }
     ensures memory { IfErr result (λ e. e ≡ Memory) }
 {
     body_again(page)
@@ -49,13 +43,10 @@ pub fn after_after_body_end<S: TreeSink>(page: &mut Parse<S>) -> Result<Flow<S::
 pub fn after_after_body_end_of_file<S: TreeSink>(
     page: &mut Parse<S>,
 ) -> Result<Flow<S::Handle>, ParseFault>
-    requires ready { Ready (parsed S.number S.forest S.quirks page.old.kept page.old.tree.held page.old.tree.sink) }
-    ensures came { IfOk result (λ flow.
-        came_to flow (parsed S.number S.forest S.quirks page.new.kept page.new.tree.held page.new.tree.sink)
-        ≡ outcome S.handle after_after_body_end_of_file
-        (parsed S.number S.forest S.quirks page.old.kept page.old.tree.held page.old.tree.sink)) }
-    ensures ready { OnOk result (Ready
-        (parsed S.number S.forest S.quirks page.new.kept page.new.tree.held page.new.tree.sink)) }
+    requires ready { Ready (state_of S.number S.forest S.quirks page.old) }
+    ensures came { IfOk result (λ flow. came_to flow (state_of S.number S.forest S.quirks page.new)
+        ≡ outcome S.handle after_after_body_end_of_file (state_of S.number S.forest S.quirks page.old)) }
+    ensures ready { OnOk result (Ready (state_of S.number S.forest S.quirks page.new)) }
     ensures memory { IfErr result (λ e. e ≡ Memory) }
 {
     Ok(stop_parsing())

@@ -3,7 +3,7 @@
 ghost use Rattle.std.specs.Prelude.{◌≡◌, IfErr, IfOk, OnOk};
 ghost use Rattle.html_lexemes.specs.declared.fault.ParseFault.TheVariants.{Memory};
 ghost use Rattle.tree_actions.specs.Outcomes.{came_to, outcome};
-ghost use Rattle.tree_actions.specs.Parsed.{parsed};
+ghost use Rattle.tree_actions.specs.Parsed.{state_of};
 ghost use Rattle.tree_rules.specs.Settling.{Ready};
 ghost use Rattle.std.specs.Prelude.{ℕ, List, IfSome, if◌then◌else◌, is_some, option_map};
 ghost use Rattle.html_forest.specs.Forest.{IsElement};
@@ -22,11 +22,9 @@ use tree_words::{InsertionMode, is_of_html, takes_start_as_html, takes_text_as_h
 
 /// Whether the mode takes text, by the rules for HTML.
 pub fn takes_text_here<S: TreeSink>(page: &Parse<S>) -> bool
-    requires ready { Ready (parsed S.number S.forest S.quirks page.now.kept page.now.tree.held page.now.tree.sink) }
-    ensures text { (c : ℕ) → result ≡ is_by_mode (character c)
-        (parsed S.number S.forest S.quirks page.now.kept page.now.tree.held page.now.tree.sink) }
-    ensures null { result ≡ is_by_mode null
-        (parsed S.number S.forest S.quirks page.now.kept page.now.tree.held page.now.tree.sink) }
+    requires ready { Ready (state_of S.number S.forest S.quirks page.now) }
+    ensures text { (c : ℕ) → result ≡ is_by_mode (character c) (state_of S.number S.forest S.quirks page.now) }
+    ensures null { result ≡ is_by_mode null (state_of S.number S.forest S.quirks page.now) }
 {
     if is_text(page.kept.mode) {
         return true;
@@ -43,9 +41,8 @@ pub fn takes_text_here<S: TreeSink>(page: &Parse<S>) -> bool
 
 /// Whether the mode takes a start tag, by the rules for HTML.
 pub fn takes_start_here<S: TreeSink>(page: &Parse<S>, tag: &Tag) -> bool
-    requires ready { Ready (parsed S.number S.forest S.quirks page.now.kept page.now.tree.held page.now.tree.sink) }
-    ensures { result ≡ is_by_mode (start tag.now)
-        (parsed S.number S.forest S.quirks page.now.kept page.now.tree.held page.now.tree.sink) }
+    requires ready { Ready (state_of S.number S.forest S.quirks page.now) }
+    ensures { result ≡ is_by_mode (start tag.now) (state_of S.number S.forest S.quirks page.now) }
 {
     if is_text(page.kept.mode) {
         return true;
@@ -62,13 +59,10 @@ pub fn takes_start_here<S: TreeSink>(page: &Parse<S>, tag: &Tag) -> bool
 
 /// Whether the mode takes comments, doctypes and end tags, by the rules for HTML.
 pub fn is_html_here<S: TreeSink>(page: &Parse<S>) -> bool
-    requires ready { Ready (parsed S.number S.forest S.quirks page.now.kept page.now.tree.held page.now.tree.sink) }
-    ensures comment { (cs : List ℕ) → result ≡ is_by_mode (comment cs)
-        (parsed S.number S.forest S.quirks page.now.kept page.now.tree.held page.now.tree.sink) }
-    ensures doctype { (d : Doctype) → result ≡ is_by_mode (doctype d)
-        (parsed S.number S.forest S.quirks page.now.kept page.now.tree.held page.now.tree.sink) }
-    ensures finish { (t : AnyTag) → result ≡ is_by_mode (finish t)
-        (parsed S.number S.forest S.quirks page.now.kept page.now.tree.held page.now.tree.sink) }
+    requires ready { Ready (state_of S.number S.forest S.quirks page.now) }
+    ensures comment { (cs : List ℕ) → result ≡ is_by_mode (comment cs) (state_of S.number S.forest S.quirks page.now) }
+    ensures doctype { (d : Doctype) → result ≡ is_by_mode (doctype d) (state_of S.number S.forest S.quirks page.now) }
+    ensures finish { (t : AnyTag) → result ≡ is_by_mode (finish t) (state_of S.number S.forest S.quirks page.now) }
 {
     if is_text(page.kept.mode) {
         return true;
@@ -84,14 +78,11 @@ pub fn foreign_start<S: TreeSink>(
     page: &mut Parse<S>,
     tag: &Tag,
 ) -> Result<Flow<S::Handle>, ParseFault>
-    requires ready { Ready (parsed S.number S.forest S.quirks page.old.kept page.old.tree.held page.old.tree.sink) }
-    ensures came { IfOk result (λ flow.
-        came_to flow (parsed S.number S.forest S.quirks page.new.kept page.new.tree.held page.new.tree.sink)
-        ≡ outcome S.handle (foreign_start tag.now
-        (parsed S.number S.forest S.quirks page.old.kept page.old.tree.held page.old.tree.sink))
-        (parsed S.number S.forest S.quirks page.old.kept page.old.tree.held page.old.tree.sink)) }
-    ensures ready { OnOk result (Ready
-        (parsed S.number S.forest S.quirks page.new.kept page.new.tree.held page.new.tree.sink)) }
+    requires ready { Ready (state_of S.number S.forest S.quirks page.old) }
+    ensures came { IfOk result (λ flow. came_to flow (state_of S.number S.forest S.quirks page.new)
+        ≡ outcome S.handle (foreign_start tag.now (state_of S.number S.forest S.quirks page.old))
+        (state_of S.number S.forest S.quirks page.old)) }
+    ensures ready { OnOk result (Ready (state_of S.number S.forest S.quirks page.new)) }
     ensures memory { IfErr result (λ e. e ≡ Memory) }
 {
     let ns = namespace_here(page)?;
@@ -103,17 +94,14 @@ pub fn foreign_start<S: TreeSink>(
 /// none nothing changes, and the mode takes the tag.
 #[tactic(auto, unfolding(tree_rules::specs::Actions::act))]
 pub fn close_foreign_end<S: TreeSink>(page: &mut Parse<S>, tag: &Tag) -> Result<bool, ParseFault>
-    requires ready { Ready (parsed S.number S.forest S.quirks page.old.kept page.old.tree.held page.old.tree.sink) }
+    requires ready { Ready (state_of S.number S.forest S.quirks page.old) }
     ensures closed { IfOk result (λ closed. closed ≡ is_some (named_foreign tag.now.name
-        (parsed S.number S.forest S.quirks page.old.kept page.old.tree.held page.old.tree.sink).tree.forest
-        (parsed S.number S.forest S.quirks page.old.kept page.old.tree.held page.old.tree.sink).tree.stack)) }
-    ensures seen { IfOk result (λ closed.
-        parsed S.number S.forest S.quirks page.new.kept page.new.tree.held page.new.tree.sink
-        ≡ (if closed then act (close_foreign tag.now.name)
-        (parsed S.number S.forest S.quirks page.old.kept page.old.tree.held page.old.tree.sink)
-        else parsed S.number S.forest S.quirks page.old.kept page.old.tree.held page.old.tree.sink)) }
-    ensures ready { OnOk result (Ready
-        (parsed S.number S.forest S.quirks page.new.kept page.new.tree.held page.new.tree.sink)) }
+        (state_of S.number S.forest S.quirks page.old).tree.forest
+        (state_of S.number S.forest S.quirks page.old).tree.stack)) }
+    ensures seen { IfOk result (λ closed. state_of S.number S.forest S.quirks page.new ≡ (if closed then act
+        (close_foreign tag.now.name) (state_of S.number S.forest S.quirks page.old) else
+        state_of S.number S.forest S.quirks page.old)) }
+    ensures ready { OnOk result (Ready (state_of S.number S.forest S.quirks page.new)) }
     ensures memory { IfErr result (λ e. e ≡ Memory) }
 {
     actions_keep_what_is_ready();
@@ -123,10 +111,9 @@ pub fn close_foreign_end<S: TreeSink>(page: &mut Parse<S>, tag: &Tag) -> Result<
 
 // the namespace of the adjusted current node
 fn namespace_here<S: TreeSink>(page: &Parse<S>) -> Result<Namespace, ParseFault>
-    requires ready { Ready (parsed S.number S.forest S.quirks page.now.kept page.now.tree.held page.now.tree.sink) }
-    ensures namespace { IfOk result (λ ns. ns ≡ namespace_at
-        (parsed S.number S.forest S.quirks page.now.kept page.now.tree.held page.now.tree.sink).tree.forest
-        (node_here (parsed S.number S.forest S.quirks page.now.kept page.now.tree.held page.now.tree.sink))) }
+    requires ready { Ready (state_of S.number S.forest S.quirks page.now) }
+    ensures namespace { IfOk result (λ ns. ns ≡ namespace_at (state_of S.number S.forest S.quirks page.now).tree.forest
+        (node_here (state_of S.number S.forest S.quirks page.now))) }
     ensures memory { IfErr result (λ e. e ≡ Memory) }
 {
     let Some(node) = node_here(page) else {
@@ -138,9 +125,8 @@ fn namespace_here<S: TreeSink>(page: &Parse<S>) -> Result<Namespace, ParseFault>
 
 // the adjusted current node
 fn node_here<S: TreeSink>(page: &Parse<S>) -> Option<S::Handle>
-    requires ready { Ready (parsed S.number S.forest S.quirks page.now.kept page.now.tree.held page.now.tree.sink) }
-    ensures node { option_map S.number result ≡ node_here
-        (parsed S.number S.forest S.quirks page.now.kept page.now.tree.held page.now.tree.sink) }
+    requires ready { Ready (state_of S.number S.forest S.quirks page.now) }
+    ensures node { option_map S.number result ≡ node_here (state_of S.number S.forest S.quirks page.now) }
     ensures there { IfSome result (λ node. IsElement (S.number node) (S.forest page.now.tree.sink)) }
 {
     page.adjusted_current_node()

@@ -2,7 +2,7 @@
 ghost use Rattle.std.specs.Prelude.{◌≡◌, IfErr, IfOk, OnOk};
 ghost use Rattle.html_lexemes.specs.declared.fault.ParseFault.TheVariants.{Memory};
 ghost use Rattle.tree_actions.specs.Outcomes.{came_to, outcome};
-ghost use Rattle.tree_actions.specs.Parsed.{parsed};
+ghost use Rattle.tree_actions.specs.Parsed.{state_of};
 ghost use Rattle.tree_rules.specs.Settling.{Ready};
 ghost use Rattle.std.specs.Prelude.{option_map};
 ghost use Rattle.html_tree_state.specs.OpenElements.{below_current, first_of};
@@ -23,14 +23,11 @@ pub fn in_frameset_start<S: TreeSink>(
     group: TagGroup,
     tag: &Tag,
 ) -> Result<Flow<S::Handle>, ParseFault>
-    requires ready { Ready (parsed S.number S.forest S.quirks page.old.kept page.old.tree.held page.old.tree.sink) }
-    ensures came { IfOk result (λ flow.
-        came_to flow (parsed S.number S.forest S.quirks page.new.kept page.new.tree.held page.new.tree.sink)
-        ≡ outcome S.handle (in_frameset_start group tag.now
-        (parsed S.number S.forest S.quirks page.old.kept page.old.tree.held page.old.tree.sink))
-        (parsed S.number S.forest S.quirks page.old.kept page.old.tree.held page.old.tree.sink)) }
-    ensures ready { OnOk result (Ready
-        (parsed S.number S.forest S.quirks page.new.kept page.new.tree.held page.new.tree.sink)) }
+    requires ready { Ready (state_of S.number S.forest S.quirks page.old) }
+    ensures came { IfOk result (λ flow. came_to flow (state_of S.number S.forest S.quirks page.new)
+        ≡ outcome S.handle (in_frameset_start group tag.now (state_of S.number S.forest S.quirks page.old))
+        (state_of S.number S.forest S.quirks page.old)) }
+    ensures ready { OnOk result (Ready (state_of S.number S.forest S.quirks page.new)) }
     ensures memory { IfErr result (λ e. e ≡ Memory) }
 {
     match group {
@@ -53,14 +50,11 @@ pub fn in_frameset_end<S: TreeSink>(
     page: &mut Parse<S>,
     group: TagGroup,
 ) -> Result<Flow<S::Handle>, ParseFault>
-    requires ready { Ready (parsed S.number S.forest S.quirks page.old.kept page.old.tree.held page.old.tree.sink) }
-    ensures came { IfOk result (λ flow.
-        came_to flow (parsed S.number S.forest S.quirks page.new.kept page.new.tree.held page.new.tree.sink)
-        ≡ outcome S.handle (in_frameset_end group
-        (parsed S.number S.forest S.quirks page.old.kept page.old.tree.held page.old.tree.sink))
-        (parsed S.number S.forest S.quirks page.old.kept page.old.tree.held page.old.tree.sink)) }
-    ensures ready { OnOk result (Ready
-        (parsed S.number S.forest S.quirks page.new.kept page.new.tree.held page.new.tree.sink)) }
+    requires ready { Ready (state_of S.number S.forest S.quirks page.old) }
+    ensures came { IfOk result (λ flow. came_to flow (state_of S.number S.forest S.quirks page.new)
+        ≡ outcome S.handle (in_frameset_end group (state_of S.number S.forest S.quirks page.old))
+        (state_of S.number S.forest S.quirks page.old)) }
+    ensures ready { OnOk result (Ready (state_of S.number S.forest S.quirks page.new)) }
     ensures memory { IfErr result (λ e. e ≡ Memory) }
 {
     match group {
@@ -71,15 +65,11 @@ pub fn in_frameset_end<S: TreeSink>(
 
 // a frameset is closed; the root stays. Behind the outermost frameset of a page the mode is another.
 fn close_frameset<S: TreeSink>(page: &mut Parse<S>) -> Result<Flow<S::Handle>, ParseFault>
-    requires ready { Ready (parsed S.number S.forest S.quirks page.old.kept page.old.tree.held page.old.tree.sink) }
-    ensures came { IfOk result (λ flow.
-        came_to flow (parsed S.number S.forest S.quirks page.new.kept page.new.tree.held page.new.tree.sink)
-        ≡ outcome S.handle (frameset_closed
-        (parsed S.number S.forest S.quirks page.old.kept page.old.tree.held page.old.tree.sink).tree.stack
-        (parsed S.number S.forest S.quirks page.old.kept page.old.tree.held page.old.tree.sink))
-        (parsed S.number S.forest S.quirks page.old.kept page.old.tree.held page.old.tree.sink)) }
-    ensures ready { OnOk result (Ready
-        (parsed S.number S.forest S.quirks page.new.kept page.new.tree.held page.new.tree.sink)) }
+    requires ready { Ready (state_of S.number S.forest S.quirks page.old) }
+    ensures came { IfOk result (λ flow. came_to flow (state_of S.number S.forest S.quirks page.new)
+        ≡ outcome S.handle (frameset_closed (state_of S.number S.forest S.quirks page.old).tree.stack
+        (state_of S.number S.forest S.quirks page.old)) (state_of S.number S.forest S.quirks page.old)) }
+    ensures ready { OnOk result (Ready (state_of S.number S.forest S.quirks page.new)) }
     ensures memory { IfErr result (λ e. e ≡ Memory) }
 {
     let Some(outer) = below_current(page) else {
@@ -102,7 +92,7 @@ fn close_frameset<S: TreeSink>(page: &mut Parse<S>) -> Result<Flow<S::Handle>, P
 // the element below the current node
 fn below_current<S: TreeSink>(page: &Parse<S>) -> Option<S::Handle>
     ensures { option_map S.number result ≡ first_of (below_current
-        (parsed S.number S.forest S.quirks page.now.kept page.now.tree.held page.now.tree.sink).tree.stack) }
+        (state_of S.number S.forest S.quirks page.now).tree.stack) }
 {
     let (_, lower) = page.tree.held.open_elements().split_last()?;
     lower.last().copied()

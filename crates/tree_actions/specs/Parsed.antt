@@ -3,6 +3,7 @@ use Rattle.std.specs.Prelude.{ℕ, option_map, reverse}
 use Rattle.html_forest.specs.Forest.{Forest}
 use Rattle.html_forest.specs.declared.sink.QuirksMode.{QuirksMode}
 use Rattle.tree_actions.specs.declared.kept.Kept.{Kept}
+use Rattle.tree_actions.specs.declared.parse.Parse.{Parse}
 use Rattle.html_tree_state.specs.Building.{Parts, seen}
 use Rattle.tree_rules.specs.State.{State}
 
@@ -23,3 +24,7 @@ parsed number forest quirks kept held sink = record {
   has_failed = kept.has_failed;
   tree = seen number forest quirks held sink;
 }
+
+-- the same of a page that is being parsed
+abbrev pub state_of : {H S O : Type 0} → (H → ℕ) → (S → Forest) → (S → QuirksMode) → Parse S H O → State
+state_of number forest quirks page = parsed number forest quirks page.kept page.tree.held page.tree.sink

@@ -1,7 +1,7 @@
 //! What rules do to modes, pointers and flags (WHATWG HTML, 13.2.4).
 ghost use Rattle.std.specs.Prelude.{◌≡◌, IfErr, OnOk, chars, fold};
 ghost use Rattle.html_lexemes.specs.declared.fault.ParseFault.TheVariants.{Memory};
-ghost use Rattle.tree_actions.specs.Parsed.{parsed};
+ghost use Rattle.tree_actions.specs.Parsed.{state_of};
 ghost use Rattle.tree_rules.specs.Settling.{Ready};
 ghost use Rattle.tree_rules.specs.Actions.{act, forget_form, forget_pending, go_back, go_to, hold_mode, keep_form};
 ghost use Rattle.tree_rules.specs.Actions.{keep_head, keep_pending, mode_by_elements, pop_template_mode};
@@ -17,11 +17,10 @@ impl<S: TreeSink> Parse<S> {
     /// The mode becomes another.
     #[tactic(auto, unfolding(tree_rules::specs::Actions::act))]
     pub fn go_to(&mut self, mode: InsertionMode)
-        requires ready { Ready (parsed S.number S.forest S.quirks self.old.kept self.old.tree.held self.old.tree.sink) }
-        ensures seen { parsed S.number S.forest S.quirks self.new.kept self.new.tree.held self.new.tree.sink
-            ≡ act (go_to mode)
-            (parsed S.number S.forest S.quirks self.old.kept self.old.tree.held self.old.tree.sink) }
-        ensures ready { Ready (parsed S.number S.forest S.quirks self.new.kept self.new.tree.held self.new.tree.sink) }
+        requires ready { Ready (state_of S.number S.forest S.quirks self.old) }
+        ensures seen { state_of S.number S.forest S.quirks self.new ≡ act (go_to mode)
+            (state_of S.number S.forest S.quirks self.old) }
+        ensures ready { Ready (state_of S.number S.forest S.quirks self.new) }
     {
         actions_keep_what_is_ready();
         self.kept.mode = but_text(mode);
@@ -30,11 +29,10 @@ impl<S: TreeSink> Parse<S> {
     /// The mode is kept as the original one.
     #[tactic(auto, unfolding(tree_rules::specs::Actions::act))]
     pub fn hold_mode(&mut self)
-        requires ready { Ready (parsed S.number S.forest S.quirks self.old.kept self.old.tree.held self.old.tree.sink) }
-        ensures seen { parsed S.number S.forest S.quirks self.new.kept self.new.tree.held self.new.tree.sink
-            ≡ act hold_mode
-            (parsed S.number S.forest S.quirks self.old.kept self.old.tree.held self.old.tree.sink) }
-        ensures ready { Ready (parsed S.number S.forest S.quirks self.new.kept self.new.tree.held self.new.tree.sink) }
+        requires ready { Ready (state_of S.number S.forest S.quirks self.old) }
+        ensures seen { state_of S.number S.forest S.quirks self.new ≡ act hold_mode
+            (state_of S.number S.forest S.quirks self.old) }
+        ensures ready { Ready (state_of S.number S.forest S.quirks self.new) }
     {
         actions_keep_what_is_ready();
         self.kept.original = self.kept.mode;
@@ -43,11 +41,10 @@ impl<S: TreeSink> Parse<S> {
     /// The mode becomes the original one.
     #[tactic(auto, unfolding(tree_rules::specs::Actions::act))]
     pub fn go_back(&mut self)
-        requires ready { Ready (parsed S.number S.forest S.quirks self.old.kept self.old.tree.held self.old.tree.sink) }
-        ensures seen { parsed S.number S.forest S.quirks self.new.kept self.new.tree.held self.new.tree.sink
-            ≡ act go_back
-            (parsed S.number S.forest S.quirks self.old.kept self.old.tree.held self.old.tree.sink) }
-        ensures ready { Ready (parsed S.number S.forest S.quirks self.new.kept self.new.tree.held self.new.tree.sink) }
+        requires ready { Ready (state_of S.number S.forest S.quirks self.old) }
+        ensures seen { state_of S.number S.forest S.quirks self.new ≡ act go_back
+            (state_of S.number S.forest S.quirks self.old) }
+        ensures ready { Ready (state_of S.number S.forest S.quirks self.new) }
     {
         actions_keep_what_is_ready();
         self.kept.mode = out_of_text(self.kept.original);
@@ -56,13 +53,10 @@ impl<S: TreeSink> Parse<S> {
     /// A template is opened that has a mode.
     #[tactic(auto, unfolding(tree_rules::specs::Actions::act))]
     pub fn push_template_mode(&mut self, mode: InsertionMode) -> Result<(), ParseFault>
-        requires ready { Ready (parsed S.number S.forest S.quirks self.old.kept self.old.tree.held self.old.tree.sink) }
-        ensures seen { OnOk result (
-            parsed S.number S.forest S.quirks self.new.kept self.new.tree.held self.new.tree.sink
-            ≡ act (push_template_mode mode)
-            (parsed S.number S.forest S.quirks self.old.kept self.old.tree.held self.old.tree.sink)) }
-        ensures ready { OnOk result
-            (Ready (parsed S.number S.forest S.quirks self.new.kept self.new.tree.held self.new.tree.sink)) }
+        requires ready { Ready (state_of S.number S.forest S.quirks self.old) }
+        ensures seen { OnOk result (state_of S.number S.forest S.quirks self.new ≡ act (push_template_mode mode)
+            (state_of S.number S.forest S.quirks self.old)) }
+        ensures ready { OnOk result (Ready (state_of S.number S.forest S.quirks self.new)) }
         ensures memory { IfErr result (λ e. e ≡ Memory) }
     {
         actions_keep_what_is_ready();
@@ -73,11 +67,10 @@ impl<S: TreeSink> Parse<S> {
     /// The last template's mode is dropped.
     #[tactic(auto, unfolding(tree_rules::specs::Actions::act))]
     pub fn pop_template_mode(&mut self)
-        requires ready { Ready (parsed S.number S.forest S.quirks self.old.kept self.old.tree.held self.old.tree.sink) }
-        ensures seen { parsed S.number S.forest S.quirks self.new.kept self.new.tree.held self.new.tree.sink
-            ≡ act pop_template_mode
-            (parsed S.number S.forest S.quirks self.old.kept self.old.tree.held self.old.tree.sink) }
-        ensures ready { Ready (parsed S.number S.forest S.quirks self.new.kept self.new.tree.held self.new.tree.sink) }
+        requires ready { Ready (state_of S.number S.forest S.quirks self.old) }
+        ensures seen { state_of S.number S.forest S.quirks self.new ≡ act pop_template_mode
+            (state_of S.number S.forest S.quirks self.old) }
+        ensures ready { Ready (state_of S.number S.forest S.quirks self.new) }
     {
         actions_keep_what_is_ready();
         self.kept.template_modes.pop();
@@ -86,11 +79,10 @@ impl<S: TreeSink> Parse<S> {
     /// The current node is the head.
     #[tactic(auto, unfolding(tree_rules::specs::Actions::act))]
     pub fn keep_head(&mut self)
-        requires ready { Ready (parsed S.number S.forest S.quirks self.old.kept self.old.tree.held self.old.tree.sink) }
-        ensures seen { parsed S.number S.forest S.quirks self.new.kept self.new.tree.held self.new.tree.sink
-            ≡ act keep_head
-            (parsed S.number S.forest S.quirks self.old.kept self.old.tree.held self.old.tree.sink) }
-        ensures ready { Ready (parsed S.number S.forest S.quirks self.new.kept self.new.tree.held self.new.tree.sink) }
+        requires ready { Ready (state_of S.number S.forest S.quirks self.old) }
+        ensures seen { state_of S.number S.forest S.quirks self.new ≡ act keep_head
+            (state_of S.number S.forest S.quirks self.old) }
+        ensures ready { Ready (state_of S.number S.forest S.quirks self.new) }
     {
         actions_keep_what_is_ready();
         self.kept.head = self.tree.current_node();
@@ -99,11 +91,10 @@ impl<S: TreeSink> Parse<S> {
     /// The current node is the form.
     #[tactic(auto, unfolding(tree_rules::specs::Actions::act))]
     pub fn keep_form(&mut self)
-        requires ready { Ready (parsed S.number S.forest S.quirks self.old.kept self.old.tree.held self.old.tree.sink) }
-        ensures seen { parsed S.number S.forest S.quirks self.new.kept self.new.tree.held self.new.tree.sink
-            ≡ act keep_form
-            (parsed S.number S.forest S.quirks self.old.kept self.old.tree.held self.old.tree.sink) }
-        ensures ready { Ready (parsed S.number S.forest S.quirks self.new.kept self.new.tree.held self.new.tree.sink) }
+        requires ready { Ready (state_of S.number S.forest S.quirks self.old) }
+        ensures seen { state_of S.number S.forest S.quirks self.new ≡ act keep_form
+            (state_of S.number S.forest S.quirks self.old) }
+        ensures ready { Ready (state_of S.number S.forest S.quirks self.new) }
     {
         actions_keep_what_is_ready();
         self.kept.form = self.tree.current_node();
@@ -112,11 +103,10 @@ impl<S: TreeSink> Parse<S> {
     /// No form is open.
     #[tactic(auto, unfolding(tree_rules::specs::Actions::act))]
     pub fn forget_form(&mut self)
-        requires ready { Ready (parsed S.number S.forest S.quirks self.old.kept self.old.tree.held self.old.tree.sink) }
-        ensures seen { parsed S.number S.forest S.quirks self.new.kept self.new.tree.held self.new.tree.sink
-            ≡ act forget_form
-            (parsed S.number S.forest S.quirks self.old.kept self.old.tree.held self.old.tree.sink) }
-        ensures ready { Ready (parsed S.number S.forest S.quirks self.new.kept self.new.tree.held self.new.tree.sink) }
+        requires ready { Ready (state_of S.number S.forest S.quirks self.old) }
+        ensures seen { state_of S.number S.forest S.quirks self.new ≡ act forget_form
+            (state_of S.number S.forest S.quirks self.old) }
+        ensures ready { Ready (state_of S.number S.forest S.quirks self.new) }
     {
         actions_keep_what_is_ready();
         self.kept.form = None;
@@ -125,11 +115,10 @@ impl<S: TreeSink> Parse<S> {
     /// No frameset may take the body's place.
     #[tactic(auto, unfolding(tree_rules::specs::Actions::act))]
     pub fn refuse_frameset(&mut self)
-        requires ready { Ready (parsed S.number S.forest S.quirks self.old.kept self.old.tree.held self.old.tree.sink) }
-        ensures seen { parsed S.number S.forest S.quirks self.new.kept self.new.tree.held self.new.tree.sink
-            ≡ act refuse_frameset
-            (parsed S.number S.forest S.quirks self.old.kept self.old.tree.held self.old.tree.sink) }
-        ensures ready { Ready (parsed S.number S.forest S.quirks self.new.kept self.new.tree.held self.new.tree.sink) }
+        requires ready { Ready (state_of S.number S.forest S.quirks self.old) }
+        ensures seen { state_of S.number S.forest S.quirks self.new ≡ act refuse_frameset
+            (state_of S.number S.forest S.quirks self.old) }
+        ensures ready { Ready (state_of S.number S.forest S.quirks self.new) }
     {
         actions_keep_what_is_ready();
         self.kept.frameset_ok = false;
@@ -138,11 +127,10 @@ impl<S: TreeSink> Parse<S> {
     /// A line feed that comes next is left out.
     #[tactic(auto, unfolding(tree_rules::specs::Actions::act))]
     pub fn skip_next_line_feed(&mut self)
-        requires ready { Ready (parsed S.number S.forest S.quirks self.old.kept self.old.tree.held self.old.tree.sink) }
-        ensures seen { parsed S.number S.forest S.quirks self.new.kept self.new.tree.held self.new.tree.sink
-            ≡ act skip_next_line_feed
-            (parsed S.number S.forest S.quirks self.old.kept self.old.tree.held self.old.tree.sink) }
-        ensures ready { Ready (parsed S.number S.forest S.quirks self.new.kept self.new.tree.held self.new.tree.sink) }
+        requires ready { Ready (state_of S.number S.forest S.quirks self.old) }
+        ensures seen { state_of S.number S.forest S.quirks self.new ≡ act skip_next_line_feed
+            (state_of S.number S.forest S.quirks self.old) }
+        ensures ready { Ready (state_of S.number S.forest S.quirks self.new) }
     {
         actions_keep_what_is_ready();
         self.kept.skip_lf = true;
@@ -151,11 +139,10 @@ impl<S: TreeSink> Parse<S> {
     /// The mode is reset to what the open elements ask for (WHATWG HTML, 13.2.4.1).
     #[tactic(auto, unfolding(tree_rules::specs::Actions::act))]
     pub fn reset(&mut self)
-        requires ready { Ready (parsed S.number S.forest S.quirks self.old.kept self.old.tree.held self.old.tree.sink) }
-        ensures seen { parsed S.number S.forest S.quirks self.new.kept self.new.tree.held self.new.tree.sink
-            ≡ act reset
-            (parsed S.number S.forest S.quirks self.old.kept self.old.tree.held self.old.tree.sink) }
-        ensures ready { Ready (parsed S.number S.forest S.quirks self.new.kept self.new.tree.held self.new.tree.sink) }
+        requires ready { Ready (state_of S.number S.forest S.quirks self.old) }
+        ensures seen { state_of S.number S.forest S.quirks self.new ≡ act reset
+            (state_of S.number S.forest S.quirks self.old) }
+        ensures ready { Ready (state_of S.number S.forest S.quirks self.new) }
     {
         actions_keep_what_is_ready();
         self.kept.mode = but_text(self.mode_by_elements());
@@ -163,9 +150,8 @@ impl<S: TreeSink> Parse<S> {
 
     // the mode that the open elements ask for
     fn mode_by_elements(&self) -> InsertionMode
-        requires { Ready (parsed S.number S.forest S.quirks self.now.kept self.now.tree.held self.now.tree.sink) }
-        ensures { result ≡ mode_by_elements
-            (parsed S.number S.forest S.quirks self.now.kept self.now.tree.held self.now.tree.sink) }
+        requires { Ready (state_of S.number S.forest S.quirks self.now) }
+        ensures { result ≡ mode_by_elements (state_of S.number S.forest S.quirks self.now) }
     {
         let has_head = self.kept.head.is_some();
         let template_mode = self.kept.template_modes.last().copied();
@@ -184,11 +170,10 @@ impl<S: TreeSink> Parse<S> {
     /// The pending characters are dropped.
     #[tactic(auto, unfolding(tree_rules::specs::Actions::act))]
     pub fn forget_pending(&mut self)
-        requires ready { Ready (parsed S.number S.forest S.quirks self.old.kept self.old.tree.held self.old.tree.sink) }
-        ensures seen { parsed S.number S.forest S.quirks self.new.kept self.new.tree.held self.new.tree.sink
-            ≡ act forget_pending
-            (parsed S.number S.forest S.quirks self.old.kept self.old.tree.held self.old.tree.sink) }
-        ensures ready { Ready (parsed S.number S.forest S.quirks self.new.kept self.new.tree.held self.new.tree.sink) }
+        requires ready { Ready (state_of S.number S.forest S.quirks self.old) }
+        ensures seen { state_of S.number S.forest S.quirks self.new ≡ act forget_pending
+            (state_of S.number S.forest S.quirks self.old) }
+        ensures ready { Ready (state_of S.number S.forest S.quirks self.new) }
     {
         actions_keep_what_is_ready();
         self.kept.pending = Text::from(String::new(*self.kept.template_modes.allocator()));
@@ -197,13 +182,10 @@ impl<S: TreeSink> Parse<S> {
     /// Characters are put behind the pending ones.
     #[tactic(auto, unfolding(tree_rules::specs::Actions::act))]
     pub fn keep_pending(&mut self, more: &str) -> Result<(), ParseFault>
-        requires ready { Ready (parsed S.number S.forest S.quirks self.old.kept self.old.tree.held self.old.tree.sink) }
-        ensures seen { OnOk result (
-            parsed S.number S.forest S.quirks self.new.kept self.new.tree.held self.new.tree.sink
-            ≡ fold (λ s c. act (keep_pending c) s)
-            (parsed S.number S.forest S.quirks self.old.kept self.old.tree.held self.old.tree.sink) (chars more.now)) }
-        ensures ready { OnOk result
-            (Ready (parsed S.number S.forest S.quirks self.new.kept self.new.tree.held self.new.tree.sink)) }
+        requires ready { Ready (state_of S.number S.forest S.quirks self.old) }
+        ensures seen { OnOk result (state_of S.number S.forest S.quirks self.new ≡ fold (λ s c. act (keep_pending c) s)
+            (state_of S.number S.forest S.quirks self.old) (chars more.now)) }
+        ensures ready { OnOk result (Ready (state_of S.number S.forest S.quirks self.new)) }
         ensures memory { IfErr result (λ e. e ≡ Memory) }
     {
         actions_keep_what_is_ready();

@@ -1,7 +1,7 @@
 //! Elements, comments, doctypes and text that rules insert (WHATWG HTML, 13.2.6.1).
 ghost use Rattle.std.specs.Prelude.{◌≡◌, IfErr, OnOk, true, IsTrue};
 ghost use Rattle.html_lexemes.specs.declared.fault.ParseFault.TheVariants.{Memory};
-ghost use Rattle.tree_actions.specs.Parsed.{parsed};
+ghost use Rattle.tree_actions.specs.Parsed.{state_of};
 ghost use Rattle.tree_rules.specs.Settling.{Ready};
 ghost use Rattle.tree_rules.specs.Actions.{act, add_attributes, append_doctype, at_place, bare, comment_to_document};
 ghost use Rattle.tree_rules.specs.Actions.{comment_to_root, foster, insert, insert_comment, insert_named, insert_void};
@@ -19,13 +19,10 @@ impl<S: TreeSink> Parse<S> {
     /// An element is inserted for a tag ("insert an HTML element").
     #[tactic(auto, unfolding(tree_rules::specs::Actions::act))]
     pub fn insert(&mut self, tag: &Tag) -> Result<(), ParseFault>
-        requires ready { Ready (parsed S.number S.forest S.quirks self.old.kept self.old.tree.held self.old.tree.sink) }
-        ensures seen { OnOk result (
-            parsed S.number S.forest S.quirks self.new.kept self.new.tree.held self.new.tree.sink
-            ≡ act (insert at_place tag.now)
-            (parsed S.number S.forest S.quirks self.old.kept self.old.tree.held self.old.tree.sink)) }
-        ensures ready { OnOk result
-            (Ready (parsed S.number S.forest S.quirks self.new.kept self.new.tree.held self.new.tree.sink)) }
+        requires ready { Ready (state_of S.number S.forest S.quirks self.old) }
+        ensures seen { OnOk result (state_of S.number S.forest S.quirks self.new ≡ act (insert at_place tag.now)
+            (state_of S.number S.forest S.quirks self.old)) }
+        ensures ready { OnOk result (Ready (state_of S.number S.forest S.quirks self.new)) }
         ensures memory { IfErr result (λ e. e ≡ Memory) }
     {
         actions_keep_what_is_ready();
@@ -36,13 +33,10 @@ impl<S: TreeSink> Parse<S> {
     /// An element without contents is inserted for a tag, and popped at once.
     #[tactic(auto, unfolding(tree_rules::specs::Actions::act))]
     pub fn insert_void(&mut self, tag: &Tag) -> Result<(), ParseFault>
-        requires ready { Ready (parsed S.number S.forest S.quirks self.old.kept self.old.tree.held self.old.tree.sink) }
-        ensures seen { OnOk result (
-            parsed S.number S.forest S.quirks self.new.kept self.new.tree.held self.new.tree.sink
-            ≡ act (insert_void at_place tag.now)
-            (parsed S.number S.forest S.quirks self.old.kept self.old.tree.held self.old.tree.sink)) }
-        ensures ready { OnOk result
-            (Ready (parsed S.number S.forest S.quirks self.new.kept self.new.tree.held self.new.tree.sink)) }
+        requires ready { Ready (state_of S.number S.forest S.quirks self.old) }
+        ensures seen { OnOk result (state_of S.number S.forest S.quirks self.new ≡ act (insert_void at_place tag.now)
+            (state_of S.number S.forest S.quirks self.old)) }
+        ensures ready { OnOk result (Ready (state_of S.number S.forest S.quirks self.new)) }
         ensures memory { IfErr result (λ e. e ≡ Memory) }
     {
         actions_keep_what_is_ready();
@@ -55,13 +49,10 @@ impl<S: TreeSink> Parse<S> {
     /// An element is inserted for a tag, into the head where that is known.
     #[tactic(auto, unfolding(tree_rules::specs::Actions::act))]
     pub fn insert_into_head(&mut self, tag: &Tag) -> Result<(), ParseFault>
-        requires ready { Ready (parsed S.number S.forest S.quirks self.old.kept self.old.tree.held self.old.tree.sink) }
-        ensures seen { OnOk result (
-            parsed S.number S.forest S.quirks self.new.kept self.new.tree.held self.new.tree.sink
-            ≡ act (insert into_head tag.now)
-            (parsed S.number S.forest S.quirks self.old.kept self.old.tree.held self.old.tree.sink)) }
-        ensures ready { OnOk result
-            (Ready (parsed S.number S.forest S.quirks self.new.kept self.new.tree.held self.new.tree.sink)) }
+        requires ready { Ready (state_of S.number S.forest S.quirks self.old) }
+        ensures seen { OnOk result (state_of S.number S.forest S.quirks self.new ≡ act (insert into_head tag.now)
+            (state_of S.number S.forest S.quirks self.old)) }
+        ensures ready { OnOk result (Ready (state_of S.number S.forest S.quirks self.new)) }
         ensures memory { IfErr result (λ e. e ≡ Memory) }
     {
         actions_keep_what_is_ready();
@@ -77,13 +68,10 @@ impl<S: TreeSink> Parse<S> {
     /// An element without contents is inserted for a tag, into the head where that is known, and popped at once.
     #[tactic(auto, unfolding(tree_rules::specs::Actions::act))]
     pub fn insert_void_into_head(&mut self, tag: &Tag) -> Result<(), ParseFault>
-        requires ready { Ready (parsed S.number S.forest S.quirks self.old.kept self.old.tree.held self.old.tree.sink) }
-        ensures seen { OnOk result (
-            parsed S.number S.forest S.quirks self.new.kept self.new.tree.held self.new.tree.sink
-            ≡ act (insert_void into_head tag.now)
-            (parsed S.number S.forest S.quirks self.old.kept self.old.tree.held self.old.tree.sink)) }
-        ensures ready { OnOk result
-            (Ready (parsed S.number S.forest S.quirks self.new.kept self.new.tree.held self.new.tree.sink)) }
+        requires ready { Ready (state_of S.number S.forest S.quirks self.old) }
+        ensures seen { OnOk result (state_of S.number S.forest S.quirks self.new ≡ act (insert_void into_head tag.now)
+            (state_of S.number S.forest S.quirks self.old)) }
+        ensures ready { OnOk result (Ready (state_of S.number S.forest S.quirks self.new)) }
         ensures memory { IfErr result (λ e. e ≡ Memory) }
     {
         actions_keep_what_is_ready();
@@ -104,14 +92,11 @@ impl<S: TreeSink> Parse<S> {
     /// An element of a name, a word of ASCII characters, is inserted without attributes.
     #[tactic(auto, unfolding(tree_rules::specs::Actions::act))]
     pub fn insert_named(&mut self, word: &str) -> Result<(), ParseFault>
-        requires ready { Ready (parsed S.number S.forest S.quirks self.old.kept self.old.tree.held self.old.tree.sink) }
+        requires ready { Ready (state_of S.number S.forest S.quirks self.old) }
         requires ascii { IsTrue (is_ascii_word word.now) }
-        ensures seen { OnOk result (
-            parsed S.number S.forest S.quirks self.new.kept self.new.tree.held self.new.tree.sink
-            ≡ act (insert_named word.now)
-            (parsed S.number S.forest S.quirks self.old.kept self.old.tree.held self.old.tree.sink)) }
-        ensures ready { OnOk result
-            (Ready (parsed S.number S.forest S.quirks self.new.kept self.new.tree.held self.new.tree.sink)) }
+        ensures seen { OnOk result (state_of S.number S.forest S.quirks self.new ≡ act (insert_named word.now)
+            (state_of S.number S.forest S.quirks self.old)) }
+        ensures ready { OnOk result (Ready (state_of S.number S.forest S.quirks self.new)) }
         ensures memory { IfErr result (λ e. e ≡ Memory) }
     {
         actions_keep_what_is_ready();
@@ -125,13 +110,10 @@ impl<S: TreeSink> Parse<S> {
     /// A comment is inserted.
     #[tactic(auto, unfolding(tree_rules::specs::Actions::act))]
     pub fn insert_comment(&mut self, text: Text) -> Result<(), ParseFault>
-        requires ready { Ready (parsed S.number S.forest S.quirks self.old.kept self.old.tree.held self.old.tree.sink) }
-        ensures seen { OnOk result (
-            parsed S.number S.forest S.quirks self.new.kept self.new.tree.held self.new.tree.sink
-            ≡ act (insert_comment text)
-            (parsed S.number S.forest S.quirks self.old.kept self.old.tree.held self.old.tree.sink)) }
-        ensures ready { OnOk result
-            (Ready (parsed S.number S.forest S.quirks self.new.kept self.new.tree.held self.new.tree.sink)) }
+        requires ready { Ready (state_of S.number S.forest S.quirks self.old) }
+        ensures seen { OnOk result (state_of S.number S.forest S.quirks self.new ≡ act (insert_comment text)
+            (state_of S.number S.forest S.quirks self.old)) }
+        ensures ready { OnOk result (Ready (state_of S.number S.forest S.quirks self.new)) }
         ensures memory { IfErr result (λ e. e ≡ Memory) }
     {
         actions_keep_what_is_ready();
@@ -142,13 +124,10 @@ impl<S: TreeSink> Parse<S> {
     /// A comment is put behind the children of the document.
     #[tactic(auto, unfolding(tree_rules::specs::Actions::act))]
     pub fn comment_to_document(&mut self, text: Text) -> Result<(), ParseFault>
-        requires ready { Ready (parsed S.number S.forest S.quirks self.old.kept self.old.tree.held self.old.tree.sink) }
-        ensures seen { OnOk result (
-            parsed S.number S.forest S.quirks self.new.kept self.new.tree.held self.new.tree.sink
-            ≡ act (comment_to_document text)
-            (parsed S.number S.forest S.quirks self.old.kept self.old.tree.held self.old.tree.sink)) }
-        ensures ready { OnOk result
-            (Ready (parsed S.number S.forest S.quirks self.new.kept self.new.tree.held self.new.tree.sink)) }
+        requires ready { Ready (state_of S.number S.forest S.quirks self.old) }
+        ensures seen { OnOk result (state_of S.number S.forest S.quirks self.new ≡ act (comment_to_document text)
+            (state_of S.number S.forest S.quirks self.old)) }
+        ensures ready { OnOk result (Ready (state_of S.number S.forest S.quirks self.new)) }
         ensures memory { IfErr result (λ e. e ≡ Memory) }
     {
         actions_keep_what_is_ready();
@@ -159,13 +138,10 @@ impl<S: TreeSink> Parse<S> {
     /// A comment is put behind the children of the root.
     #[tactic(auto, unfolding(tree_rules::specs::Actions::act))]
     pub fn comment_to_root(&mut self, text: Text) -> Result<(), ParseFault>
-        requires ready { Ready (parsed S.number S.forest S.quirks self.old.kept self.old.tree.held self.old.tree.sink) }
-        ensures seen { OnOk result (
-            parsed S.number S.forest S.quirks self.new.kept self.new.tree.held self.new.tree.sink
-            ≡ act (comment_to_root text)
-            (parsed S.number S.forest S.quirks self.old.kept self.old.tree.held self.old.tree.sink)) }
-        ensures ready { OnOk result
-            (Ready (parsed S.number S.forest S.quirks self.new.kept self.new.tree.held self.new.tree.sink)) }
+        requires ready { Ready (state_of S.number S.forest S.quirks self.old) }
+        ensures seen { OnOk result (state_of S.number S.forest S.quirks self.new ≡ act (comment_to_root text)
+            (state_of S.number S.forest S.quirks self.old)) }
+        ensures ready { OnOk result (Ready (state_of S.number S.forest S.quirks self.new)) }
         ensures memory { IfErr result (λ e. e ≡ Memory) }
     {
         actions_keep_what_is_ready();
@@ -176,13 +152,10 @@ impl<S: TreeSink> Parse<S> {
     /// A doctype is put behind the children of the document.
     #[tactic(auto, unfolding(tree_rules::specs::Actions::act))]
     pub fn append_doctype(&mut self, doctype: Doctype) -> Result<(), ParseFault>
-        requires ready { Ready (parsed S.number S.forest S.quirks self.old.kept self.old.tree.held self.old.tree.sink) }
-        ensures seen { OnOk result (
-            parsed S.number S.forest S.quirks self.new.kept self.new.tree.held self.new.tree.sink
-            ≡ act (append_doctype doctype)
-            (parsed S.number S.forest S.quirks self.old.kept self.old.tree.held self.old.tree.sink)) }
-        ensures ready { OnOk result
-            (Ready (parsed S.number S.forest S.quirks self.new.kept self.new.tree.held self.new.tree.sink)) }
+        requires ready { Ready (state_of S.number S.forest S.quirks self.old) }
+        ensures seen { OnOk result (state_of S.number S.forest S.quirks self.new ≡ act (append_doctype doctype)
+            (state_of S.number S.forest S.quirks self.old)) }
+        ensures ready { OnOk result (Ready (state_of S.number S.forest S.quirks self.new)) }
         ensures memory { IfErr result (λ e. e ≡ Memory) }
     {
         actions_keep_what_is_ready();
@@ -193,13 +166,10 @@ impl<S: TreeSink> Parse<S> {
     /// The quirks mode is set.
     #[tactic(auto, unfolding(tree_rules::specs::Actions::act))]
     pub fn set_quirks(&mut self, mode: QuirksMode) -> Result<(), ParseFault>
-        requires ready { Ready (parsed S.number S.forest S.quirks self.old.kept self.old.tree.held self.old.tree.sink) }
-        ensures seen { OnOk result (
-            parsed S.number S.forest S.quirks self.new.kept self.new.tree.held self.new.tree.sink
-            ≡ act (set_quirks mode)
-            (parsed S.number S.forest S.quirks self.old.kept self.old.tree.held self.old.tree.sink)) }
-        ensures ready { OnOk result
-            (Ready (parsed S.number S.forest S.quirks self.new.kept self.new.tree.held self.new.tree.sink)) }
+        requires ready { Ready (state_of S.number S.forest S.quirks self.old) }
+        ensures seen { OnOk result (state_of S.number S.forest S.quirks self.new ≡ act (set_quirks mode)
+            (state_of S.number S.forest S.quirks self.old)) }
+        ensures ready { OnOk result (Ready (state_of S.number S.forest S.quirks self.new)) }
         ensures memory { IfErr result (λ e. e ≡ Memory) }
     {
         actions_keep_what_is_ready();
@@ -211,13 +181,10 @@ impl<S: TreeSink> Parse<S> {
     /// Characters are inserted.
     #[tactic(auto, unfolding(tree_rules::specs::Actions::act))]
     pub fn say(&mut self, text: Text) -> Result<(), ParseFault>
-        requires ready { Ready (parsed S.number S.forest S.quirks self.old.kept self.old.tree.held self.old.tree.sink) }
-        ensures seen { OnOk result (
-            parsed S.number S.forest S.quirks self.new.kept self.new.tree.held self.new.tree.sink
-            ≡ act (say text)
-            (parsed S.number S.forest S.quirks self.old.kept self.old.tree.held self.old.tree.sink)) }
-        ensures ready { OnOk result
-            (Ready (parsed S.number S.forest S.quirks self.new.kept self.new.tree.held self.new.tree.sink)) }
+        requires ready { Ready (state_of S.number S.forest S.quirks self.old) }
+        ensures seen { OnOk result (state_of S.number S.forest S.quirks self.new ≡ act (say text)
+            (state_of S.number S.forest S.quirks self.old)) }
+        ensures ready { OnOk result (Ready (state_of S.number S.forest S.quirks self.new)) }
         ensures memory { IfErr result (λ e. e ≡ Memory) }
     {
         actions_keep_what_is_ready();
@@ -232,15 +199,11 @@ impl<S: TreeSink> Parse<S> {
         element: S::Handle,
         attrs: &Attributes,
     ) -> Result<(), ParseFault>
-        requires ready { Ready (parsed S.number S.forest S.quirks self.old.kept self.old.tree.held self.old.tree.sink) }
-        requires there { is_in (S.number element) (parsed S.number S.forest S.quirks self.old.kept self.old.tree.held
-            self.old.tree.sink).tree.stack ≡ true }
-        ensures seen { OnOk result (
-            parsed S.number S.forest S.quirks self.new.kept self.new.tree.held self.new.tree.sink
-            ≡ act (add_attributes (S.number element) attrs.now)
-            (parsed S.number S.forest S.quirks self.old.kept self.old.tree.held self.old.tree.sink)) }
-        ensures ready { OnOk result
-            (Ready (parsed S.number S.forest S.quirks self.new.kept self.new.tree.held self.new.tree.sink)) }
+        requires ready { Ready (state_of S.number S.forest S.quirks self.old) }
+        requires there { is_in (S.number element) (state_of S.number S.forest S.quirks self.old).tree.stack ≡ true }
+        ensures seen { OnOk result (state_of S.number S.forest S.quirks self.new ≡ act (add_attributes (S.number
+            element) attrs.now) (state_of S.number S.forest S.quirks self.old)) }
+        ensures ready { OnOk result (Ready (state_of S.number S.forest S.quirks self.new)) }
         ensures memory { IfErr result (λ e. e ≡ Memory) }
     {
         actions_keep_what_is_ready();
@@ -253,11 +216,10 @@ impl<S: TreeSink> Parse<S> {
     /// Foster parenting is turned on or off.
     #[tactic(auto, unfolding(tree_rules::specs::Actions::act))]
     pub fn set_fostering(&mut self, is_on: bool)
-        requires ready { Ready (parsed S.number S.forest S.quirks self.old.kept self.old.tree.held self.old.tree.sink) }
-        ensures seen { parsed S.number S.forest S.quirks self.new.kept self.new.tree.held self.new.tree.sink
-            ≡ act (foster is_on)
-            (parsed S.number S.forest S.quirks self.old.kept self.old.tree.held self.old.tree.sink) }
-        ensures ready { Ready (parsed S.number S.forest S.quirks self.new.kept self.new.tree.held self.new.tree.sink) }
+        requires ready { Ready (state_of S.number S.forest S.quirks self.old) }
+        ensures seen { state_of S.number S.forest S.quirks self.new ≡ act (foster is_on)
+            (state_of S.number S.forest S.quirks self.old) }
+        ensures ready { Ready (state_of S.number S.forest S.quirks self.new) }
     {
         actions_keep_what_is_ready();
         self.tree.held.set_fostering(is_on);
@@ -267,14 +229,11 @@ impl<S: TreeSink> Parse<S> {
     /// once.
     #[tactic(auto, unfolding(tree_rules::specs::Actions::act))]
     pub fn insert_void_as(&mut self, word: &str, tag: &Tag) -> Result<(), ParseFault>
-        requires ready { Ready (parsed S.number S.forest S.quirks self.old.kept self.old.tree.held self.old.tree.sink) }
+        requires ready { Ready (state_of S.number S.forest S.quirks self.old) }
         requires ascii { IsTrue (is_ascii_word word.now) }
-        ensures seen { OnOk result (
-            parsed S.number S.forest S.quirks self.new.kept self.new.tree.held self.new.tree.sink
-            ≡ act (insert_void at_place (record tag.now { name = word.now }))
-            (parsed S.number S.forest S.quirks self.old.kept self.old.tree.held self.old.tree.sink)) }
-        ensures ready { OnOk result
-            (Ready (parsed S.number S.forest S.quirks self.new.kept self.new.tree.held self.new.tree.sink)) }
+        ensures seen { OnOk result (state_of S.number S.forest S.quirks self.new ≡ act (insert_void at_place (record
+            tag.now { name = word.now })) (state_of S.number S.forest S.quirks self.old)) }
+        ensures ready { OnOk result (Ready (state_of S.number S.forest S.quirks self.new)) }
         ensures memory { IfErr result (λ e. e ≡ Memory) }
     {
         actions_keep_what_is_ready();
@@ -289,14 +248,11 @@ impl<S: TreeSink> Parse<S> {
     /// An element of a name, a word of ASCII characters, is inserted without attributes, and popped at once.
     #[tactic(auto, unfolding(tree_rules::specs::Actions::act))]
     pub fn insert_void_named(&mut self, word: &str) -> Result<(), ParseFault>
-        requires ready { Ready (parsed S.number S.forest S.quirks self.old.kept self.old.tree.held self.old.tree.sink) }
+        requires ready { Ready (state_of S.number S.forest S.quirks self.old) }
         requires ascii { IsTrue (is_ascii_word word.now) }
-        ensures seen { OnOk result (
-            parsed S.number S.forest S.quirks self.new.kept self.new.tree.held self.new.tree.sink
-            ≡ act (insert_void at_place (bare word.now))
-            (parsed S.number S.forest S.quirks self.old.kept self.old.tree.held self.old.tree.sink)) }
-        ensures ready { OnOk result
-            (Ready (parsed S.number S.forest S.quirks self.new.kept self.new.tree.held self.new.tree.sink)) }
+        ensures seen { OnOk result (state_of S.number S.forest S.quirks self.new ≡ act (insert_void at_place (bare
+            word.now)) (state_of S.number S.forest S.quirks self.old)) }
+        ensures ready { OnOk result (Ready (state_of S.number S.forest S.quirks self.new)) }
         ensures memory { IfErr result (λ e. e ≡ Memory) }
     {
         actions_keep_what_is_ready();
@@ -309,12 +265,10 @@ impl<S: TreeSink> Parse<S> {
 
     /// An element is inserted for a tag, at the appropriate place or into the head.
     pub fn insert_at(&mut self, target: Target, tag: &Tag) -> Result<(), ParseFault>
-        requires ready { Ready (parsed S.number S.forest S.quirks self.old.kept self.old.tree.held self.old.tree.sink) }
-        ensures seen { OnOk result (parsed S.number S.forest S.quirks self.new.kept self.new.tree.held self.new.tree.sink
-            ≡ act (insert target tag.now)
-            (parsed S.number S.forest S.quirks self.old.kept self.old.tree.held self.old.tree.sink)) }
-        ensures ready { OnOk result (Ready
-            (parsed S.number S.forest S.quirks self.new.kept self.new.tree.held self.new.tree.sink)) }
+        requires ready { Ready (state_of S.number S.forest S.quirks self.old) }
+        ensures seen { OnOk result (state_of S.number S.forest S.quirks self.new ≡ act (insert target tag.now)
+            (state_of S.number S.forest S.quirks self.old)) }
+        ensures ready { OnOk result (Ready (state_of S.number S.forest S.quirks self.new)) }
         ensures memory { IfErr result (λ e. e ≡ Memory) }
     {
         match target {
@@ -325,12 +279,10 @@ impl<S: TreeSink> Parse<S> {
 
     /// An element without contents is inserted for a tag, at the appropriate place or into the head.
     pub fn insert_void_at(&mut self, target: Target, tag: &Tag) -> Result<(), ParseFault>
-        requires ready { Ready (parsed S.number S.forest S.quirks self.old.kept self.old.tree.held self.old.tree.sink) }
-        ensures seen { OnOk result (parsed S.number S.forest S.quirks self.new.kept self.new.tree.held self.new.tree.sink
-            ≡ act (insert_void target tag.now)
-            (parsed S.number S.forest S.quirks self.old.kept self.old.tree.held self.old.tree.sink)) }
-        ensures ready { OnOk result (Ready
-            (parsed S.number S.forest S.quirks self.new.kept self.new.tree.held self.new.tree.sink)) }
+        requires ready { Ready (state_of S.number S.forest S.quirks self.old) }
+        ensures seen { OnOk result (state_of S.number S.forest S.quirks self.new ≡ act (insert_void target tag.now)
+            (state_of S.number S.forest S.quirks self.old)) }
+        ensures ready { OnOk result (Ready (state_of S.number S.forest S.quirks self.new)) }
         ensures memory { IfErr result (λ e. e ≡ Memory) }
     {
         match target {

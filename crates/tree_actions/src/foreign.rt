@@ -3,7 +3,7 @@ ghost use Rattle.std.specs.Prelude.{◌≡◌, IfErr, IfSome, OnOk, option_map};
 ghost use Rattle.html_forest.specs.Forest.{IsElement};
 ghost use Rattle.html_lexemes.specs.declared.fault.ParseFault.TheVariants.{Memory};
 ghost use Rattle.html_tree_state.specs.Foreign.{adjusted_current};
-ghost use Rattle.tree_actions.specs.Parsed.{parsed};
+ghost use Rattle.tree_actions.specs.Parsed.{state_of};
 ghost use Rattle.tree_rules.specs.Settling.{Ready};
 ghost use Rattle.tree_rules.specs.Actions.{act, break_out, close_foreign, insert_foreign, take_out};
 
@@ -17,10 +17,10 @@ impl<S: TreeSink> Parse<S> {
     /// The adjusted current node: a fragment's context while no more than its root is open, else the current node
     /// (WHATWG HTML, 13.2.4.2).
     pub fn adjusted_current_node(&self) -> Option<S::Handle>
-        requires ready { Ready (parsed S.number S.forest S.quirks self.now.kept self.now.tree.held self.now.tree.sink) }
+        requires ready { Ready (state_of S.number S.forest S.quirks self.now) }
         ensures node { option_map S.number result ≡ adjusted_current
-            (parsed S.number S.forest S.quirks self.now.kept self.now.tree.held self.now.tree.sink).context
-            (parsed S.number S.forest S.quirks self.now.kept self.now.tree.held self.now.tree.sink).tree.stack }
+            (state_of S.number S.forest S.quirks self.now).context
+            (state_of S.number S.forest S.quirks self.now).tree.stack }
         ensures there { IfSome result (λ node. IsElement (S.number node) (S.forest self.now.tree.sink)) }
     {
         adjusted_current_nodes_are_elements();
@@ -31,13 +31,10 @@ impl<S: TreeSink> Parse<S> {
     /// An element is inserted for a tag in a namespace; one that closes itself is popped at once.
     #[tactic(auto, unfolding(tree_rules::specs::Actions::act))]
     pub fn insert_foreign(&mut self, ns: Namespace, tag: &Tag) -> Result<(), ParseFault>
-        requires ready { Ready (parsed S.number S.forest S.quirks self.old.kept self.old.tree.held self.old.tree.sink) }
-        ensures seen { OnOk result (
-            parsed S.number S.forest S.quirks self.new.kept self.new.tree.held self.new.tree.sink
-            ≡ act (insert_foreign ns tag.now)
-            (parsed S.number S.forest S.quirks self.old.kept self.old.tree.held self.old.tree.sink)) }
-        ensures ready { OnOk result
-            (Ready (parsed S.number S.forest S.quirks self.new.kept self.new.tree.held self.new.tree.sink)) }
+        requires ready { Ready (state_of S.number S.forest S.quirks self.old) }
+        ensures seen { OnOk result (state_of S.number S.forest S.quirks self.new ≡ act (insert_foreign ns tag.now)
+            (state_of S.number S.forest S.quirks self.old)) }
+        ensures ready { OnOk result (Ready (state_of S.number S.forest S.quirks self.new)) }
         ensures memory { IfErr result (λ e. e ≡ Memory) }
     {
         actions_keep_what_is_ready();
@@ -55,13 +52,10 @@ impl<S: TreeSink> Parse<S> {
     /// Elements are popped until breaking out of foreign content stops.
     #[tactic(auto, unfolding(tree_rules::specs::Actions::act))]
     pub fn break_out(&mut self) -> Result<(), ParseFault>
-        requires ready { Ready (parsed S.number S.forest S.quirks self.old.kept self.old.tree.held self.old.tree.sink) }
-        ensures seen { OnOk result (
-            parsed S.number S.forest S.quirks self.new.kept self.new.tree.held self.new.tree.sink
-            ≡ act break_out
-            (parsed S.number S.forest S.quirks self.old.kept self.old.tree.held self.old.tree.sink)) }
-        ensures ready { OnOk result
-            (Ready (parsed S.number S.forest S.quirks self.new.kept self.new.tree.held self.new.tree.sink)) }
+        requires ready { Ready (state_of S.number S.forest S.quirks self.old) }
+        ensures seen { OnOk result (state_of S.number S.forest S.quirks self.new ≡ act break_out
+            (state_of S.number S.forest S.quirks self.old)) }
+        ensures ready { OnOk result (Ready (state_of S.number S.forest S.quirks self.new)) }
         ensures memory { IfErr result (λ e. e ≡ Memory) }
     {
         actions_keep_what_is_ready();
@@ -72,13 +66,10 @@ impl<S: TreeSink> Parse<S> {
     /// An element of foreign content is closed that has a name.
     #[tactic(auto, unfolding(tree_rules::specs::Actions::act))]
     pub fn close_foreign(&mut self, name: &LocalName) -> Result<(), ParseFault>
-        requires ready { Ready (parsed S.number S.forest S.quirks self.old.kept self.old.tree.held self.old.tree.sink) }
-        ensures seen { OnOk result (
-            parsed S.number S.forest S.quirks self.new.kept self.new.tree.held self.new.tree.sink
-            ≡ act (close_foreign name.now)
-            (parsed S.number S.forest S.quirks self.old.kept self.old.tree.held self.old.tree.sink)) }
-        ensures ready { OnOk result
-            (Ready (parsed S.number S.forest S.quirks self.new.kept self.new.tree.held self.new.tree.sink)) }
+        requires ready { Ready (state_of S.number S.forest S.quirks self.old) }
+        ensures seen { OnOk result (state_of S.number S.forest S.quirks self.new ≡ act (close_foreign name.now)
+            (state_of S.number S.forest S.quirks self.old)) }
+        ensures ready { OnOk result (Ready (state_of S.number S.forest S.quirks self.new)) }
         ensures memory { IfErr result (λ e. e ≡ Memory) }
     {
         actions_keep_what_is_ready();
@@ -89,13 +80,10 @@ impl<S: TreeSink> Parse<S> {
     /// A node is taken out of the tree; it stays open.
     #[tactic(auto, unfolding(tree_rules::specs::Actions::act))]
     pub fn take_out(&mut self, element: S::Handle) -> Result<(), ParseFault>
-        requires ready { Ready (parsed S.number S.forest S.quirks self.old.kept self.old.tree.held self.old.tree.sink) }
-        ensures seen { OnOk result (
-            parsed S.number S.forest S.quirks self.new.kept self.new.tree.held self.new.tree.sink
-            ≡ act (take_out (S.number element))
-            (parsed S.number S.forest S.quirks self.old.kept self.old.tree.held self.old.tree.sink)) }
-        ensures ready { OnOk result
-            (Ready (parsed S.number S.forest S.quirks self.new.kept self.new.tree.held self.new.tree.sink)) }
+        requires ready { Ready (state_of S.number S.forest S.quirks self.old) }
+        ensures seen { OnOk result (state_of S.number S.forest S.quirks self.new ≡ act (take_out (S.number element))
+            (state_of S.number S.forest S.quirks self.old)) }
+        ensures ready { OnOk result (Ready (state_of S.number S.forest S.quirks self.new)) }
         ensures memory { IfErr result (λ e. e ≡ Memory) }
     {
         actions_keep_what_is_ready();

@@ -3,7 +3,7 @@
 ghost use Rattle.std.specs.Prelude.{◌≡◌, ℕ, IfErr, OnOk, true, IsTrue};
 ghost use Rattle.html_forest.specs.Forest.{IsElement};
 ghost use Rattle.html_lexemes.specs.declared.fault.ParseFault.TheVariants.{Memory};
-ghost use Rattle.tree_actions.specs.Parsed.{parsed};
+ghost use Rattle.tree_actions.specs.Parsed.{state_of};
 ghost use Rattle.tree_rules.specs.Settling.{Ready};
 ghost use Rattle.tree_rules.specs.Actions.{act, adopt, adopt_in_scope, clear_to_marker, close_item, close_other};
 ghost use Rattle.tree_rules.specs.Actions.{close_p, imply_but, insert_formatting, pop, pop_down_to, pop_if, pop_to};
@@ -23,13 +23,10 @@ impl<S: TreeSink> Parse<S> {
     /// The current node is popped.
     #[tactic(auto, unfolding(tree_rules::specs::Actions::act))]
     pub fn pop(&mut self) -> Result<(), ParseFault>
-        requires ready { Ready (parsed S.number S.forest S.quirks self.old.kept self.old.tree.held self.old.tree.sink) }
-        ensures seen { OnOk result (
-            parsed S.number S.forest S.quirks self.new.kept self.new.tree.held self.new.tree.sink
-            ≡ act pop
-            (parsed S.number S.forest S.quirks self.old.kept self.old.tree.held self.old.tree.sink)) }
-        ensures ready { OnOk result
-            (Ready (parsed S.number S.forest S.quirks self.new.kept self.new.tree.held self.new.tree.sink)) }
+        requires ready { Ready (state_of S.number S.forest S.quirks self.old) }
+        ensures seen { OnOk result (state_of S.number S.forest S.quirks self.new ≡ act pop
+            (state_of S.number S.forest S.quirks self.old)) }
+        ensures ready { OnOk result (Ready (state_of S.number S.forest S.quirks self.new)) }
         ensures memory { IfErr result (λ e. e ≡ Memory) }
     {
         actions_keep_what_is_ready();
@@ -40,13 +37,10 @@ impl<S: TreeSink> Parse<S> {
     /// The current node is popped, where it is one of a set.
     #[tactic(auto, unfolding(tree_rules::specs::Actions::act))]
     pub fn pop_if(&mut self, set: ElementSet<'_>) -> Result<(), ParseFault>
-        requires ready { Ready (parsed S.number S.forest S.quirks self.old.kept self.old.tree.held self.old.tree.sink) }
-        ensures seen { OnOk result (
-            parsed S.number S.forest S.quirks self.new.kept self.new.tree.held self.new.tree.sink
-            ≡ act (pop_if (elements_of set.entry))
-            (parsed S.number S.forest S.quirks self.old.kept self.old.tree.held self.old.tree.sink)) }
-        ensures ready { OnOk result
-            (Ready (parsed S.number S.forest S.quirks self.new.kept self.new.tree.held self.new.tree.sink)) }
+        requires ready { Ready (state_of S.number S.forest S.quirks self.old) }
+        ensures seen { OnOk result (state_of S.number S.forest S.quirks self.new ≡ act (pop_if (elements_of set.entry))
+            (state_of S.number S.forest S.quirks self.old)) }
+        ensures ready { OnOk result (Ready (state_of S.number S.forest S.quirks self.new)) }
         ensures memory { IfErr result (λ e. e ≡ Memory) }
     {
         actions_keep_what_is_ready();
@@ -59,13 +53,10 @@ impl<S: TreeSink> Parse<S> {
     /// The open elements up to the first one of a set are popped, and that one.
     #[tactic(auto, unfolding(tree_rules::specs::Actions::act))]
     pub fn pop_to(&mut self, set: ElementSet<'_>) -> Result<(), ParseFault>
-        requires ready { Ready (parsed S.number S.forest S.quirks self.old.kept self.old.tree.held self.old.tree.sink) }
-        ensures seen { OnOk result (
-            parsed S.number S.forest S.quirks self.new.kept self.new.tree.held self.new.tree.sink
-            ≡ act (pop_to (elements_of set.entry))
-            (parsed S.number S.forest S.quirks self.old.kept self.old.tree.held self.old.tree.sink)) }
-        ensures ready { OnOk result
-            (Ready (parsed S.number S.forest S.quirks self.new.kept self.new.tree.held self.new.tree.sink)) }
+        requires ready { Ready (state_of S.number S.forest S.quirks self.old) }
+        ensures seen { OnOk result (state_of S.number S.forest S.quirks self.new ≡ act (pop_to (elements_of set.entry))
+            (state_of S.number S.forest S.quirks self.old)) }
+        ensures ready { OnOk result (Ready (state_of S.number S.forest S.quirks self.new)) }
         ensures memory { IfErr result (λ e. e ≡ Memory) }
     {
         actions_keep_what_is_ready();
@@ -76,13 +67,10 @@ impl<S: TreeSink> Parse<S> {
     /// The open elements up to the first one of a set are popped; that one stays.
     #[tactic(auto, unfolding(tree_rules::specs::Actions::act))]
     pub fn pop_down_to(&mut self, set: ElementSet<'_>) -> Result<(), ParseFault>
-        requires ready { Ready (parsed S.number S.forest S.quirks self.old.kept self.old.tree.held self.old.tree.sink) }
-        ensures seen { OnOk result (
-            parsed S.number S.forest S.quirks self.new.kept self.new.tree.held self.new.tree.sink
-            ≡ act (pop_down_to (elements_of set.entry))
-            (parsed S.number S.forest S.quirks self.old.kept self.old.tree.held self.old.tree.sink)) }
-        ensures ready { OnOk result
-            (Ready (parsed S.number S.forest S.quirks self.new.kept self.new.tree.held self.new.tree.sink)) }
+        requires ready { Ready (state_of S.number S.forest S.quirks self.old) }
+        ensures seen { OnOk result (state_of S.number S.forest S.quirks self.new ≡ act (pop_down_to (elements_of
+            set.entry)) (state_of S.number S.forest S.quirks self.old)) }
+        ensures ready { OnOk result (Ready (state_of S.number S.forest S.quirks self.new)) }
         ensures memory { IfErr result (λ e. e ≡ Memory) }
     {
         actions_keep_what_is_ready();
@@ -93,11 +81,10 @@ impl<S: TreeSink> Parse<S> {
     /// An element is taken off the stack.
     #[tactic(auto, unfolding(tree_rules::specs::Actions::act))]
     pub fn take_off(&mut self, element: S::Handle)
-        requires ready { Ready (parsed S.number S.forest S.quirks self.old.kept self.old.tree.held self.old.tree.sink) }
-        ensures seen { parsed S.number S.forest S.quirks self.new.kept self.new.tree.held self.new.tree.sink
-            ≡ act (take_off (S.number element))
-            (parsed S.number S.forest S.quirks self.old.kept self.old.tree.held self.old.tree.sink) }
-        ensures ready { Ready (parsed S.number S.forest S.quirks self.new.kept self.new.tree.held self.new.tree.sink) }
+        requires ready { Ready (state_of S.number S.forest S.quirks self.old) }
+        ensures seen { state_of S.number S.forest S.quirks self.new ≡ act (take_off (S.number element))
+            (state_of S.number S.forest S.quirks self.old) }
+        ensures ready { Ready (state_of S.number S.forest S.quirks self.new) }
     {
         actions_keep_what_is_ready();
         self.tree.remove_from_stack(element);
@@ -106,12 +93,11 @@ impl<S: TreeSink> Parse<S> {
     /// An element is taken off the stack; it is not looked for where none of its name is open.
     #[tactic(auto, unfolding(tree_rules::specs::Actions::act))]
     pub fn take_off_element(&mut self, element: S::Handle)
-        requires ready { Ready (parsed S.number S.forest S.quirks self.old.kept self.old.tree.held self.old.tree.sink) }
+        requires ready { Ready (state_of S.number S.forest S.quirks self.old) }
         requires element { IsElement (S.number element) (S.forest self.old.tree.sink) }
-        ensures seen { parsed S.number S.forest S.quirks self.new.kept self.new.tree.held self.new.tree.sink
-            ≡ act (take_off (S.number element))
-            (parsed S.number S.forest S.quirks self.old.kept self.old.tree.held self.old.tree.sink) }
-        ensures ready { Ready (parsed S.number S.forest S.quirks self.new.kept self.new.tree.held self.new.tree.sink) }
+        ensures seen { state_of S.number S.forest S.quirks self.new ≡ act (take_off (S.number element))
+            (state_of S.number S.forest S.quirks self.old) }
+        ensures ready { Ready (state_of S.number S.forest S.quirks self.new) }
     {
         actions_keep_what_is_ready();
         self.tree.remove_element_from_stack(element);
@@ -120,13 +106,10 @@ impl<S: TreeSink> Parse<S> {
     /// Implied end tags are generated, but for those of a set.
     #[tactic(auto, unfolding(tree_rules::specs::Actions::act))]
     pub fn imply_but(&mut self, set: ElementSet<'_>) -> Result<(), ParseFault>
-        requires ready { Ready (parsed S.number S.forest S.quirks self.old.kept self.old.tree.held self.old.tree.sink) }
-        ensures seen { OnOk result (
-            parsed S.number S.forest S.quirks self.new.kept self.new.tree.held self.new.tree.sink
-            ≡ act (imply_but (elements_of set.entry))
-            (parsed S.number S.forest S.quirks self.old.kept self.old.tree.held self.old.tree.sink)) }
-        ensures ready { OnOk result
-            (Ready (parsed S.number S.forest S.quirks self.new.kept self.new.tree.held self.new.tree.sink)) }
+        requires ready { Ready (state_of S.number S.forest S.quirks self.old) }
+        ensures seen { OnOk result (state_of S.number S.forest S.quirks self.new ≡ act (imply_but (elements_of
+            set.entry)) (state_of S.number S.forest S.quirks self.old)) }
+        ensures ready { OnOk result (Ready (state_of S.number S.forest S.quirks self.new)) }
         ensures memory { IfErr result (λ e. e ≡ Memory) }
     {
         actions_keep_what_is_ready();
@@ -137,13 +120,10 @@ impl<S: TreeSink> Parse<S> {
     /// A p element that is in button scope is closed.
     #[tactic(auto, unfolding(tree_rules::specs::Actions::act))]
     pub fn close_p(&mut self) -> Result<(), ParseFault>
-        requires ready { Ready (parsed S.number S.forest S.quirks self.old.kept self.old.tree.held self.old.tree.sink) }
-        ensures seen { OnOk result (
-            parsed S.number S.forest S.quirks self.new.kept self.new.tree.held self.new.tree.sink
-            ≡ act close_p
-            (parsed S.number S.forest S.quirks self.old.kept self.old.tree.held self.old.tree.sink)) }
-        ensures ready { OnOk result
-            (Ready (parsed S.number S.forest S.quirks self.new.kept self.new.tree.held self.new.tree.sink)) }
+        requires ready { Ready (state_of S.number S.forest S.quirks self.old) }
+        ensures seen { OnOk result (state_of S.number S.forest S.quirks self.new ≡ act close_p
+            (state_of S.number S.forest S.quirks self.old)) }
+        ensures ready { OnOk result (Ready (state_of S.number S.forest S.quirks self.new)) }
         ensures memory { IfErr result (λ e. e ≡ Memory) }
     {
         actions_keep_what_is_ready();
@@ -154,13 +134,10 @@ impl<S: TreeSink> Parse<S> {
     /// A list item or a definition is closed.
     #[tactic(auto, unfolding(tree_rules::specs::Actions::act))]
     pub fn close_item(&mut self, set: ElementSet<'_>) -> Result<(), ParseFault>
-        requires ready { Ready (parsed S.number S.forest S.quirks self.old.kept self.old.tree.held self.old.tree.sink) }
-        ensures seen { OnOk result (
-            parsed S.number S.forest S.quirks self.new.kept self.new.tree.held self.new.tree.sink
-            ≡ act (close_item (elements_of set.entry))
-            (parsed S.number S.forest S.quirks self.old.kept self.old.tree.held self.old.tree.sink)) }
-        ensures ready { OnOk result
-            (Ready (parsed S.number S.forest S.quirks self.new.kept self.new.tree.held self.new.tree.sink)) }
+        requires ready { Ready (state_of S.number S.forest S.quirks self.old) }
+        ensures seen { OnOk result (state_of S.number S.forest S.quirks self.new ≡ act (close_item (elements_of
+            set.entry)) (state_of S.number S.forest S.quirks self.old)) }
+        ensures ready { OnOk result (Ready (state_of S.number S.forest S.quirks self.new)) }
         ensures memory { IfErr result (λ e. e ≡ Memory) }
     {
         actions_keep_what_is_ready();
@@ -171,13 +148,10 @@ impl<S: TreeSink> Parse<S> {
     /// An element is closed that no rule of its own closes ("any other end tag").
     #[tactic(auto, unfolding(tree_rules::specs::Actions::act))]
     pub fn close_other(&mut self, name: &LocalName) -> Result<(), ParseFault>
-        requires ready { Ready (parsed S.number S.forest S.quirks self.old.kept self.old.tree.held self.old.tree.sink) }
-        ensures seen { OnOk result (
-            parsed S.number S.forest S.quirks self.new.kept self.new.tree.held self.new.tree.sink
-            ≡ act (close_other name.now)
-            (parsed S.number S.forest S.quirks self.old.kept self.old.tree.held self.old.tree.sink)) }
-        ensures ready { OnOk result
-            (Ready (parsed S.number S.forest S.quirks self.new.kept self.new.tree.held self.new.tree.sink)) }
+        requires ready { Ready (state_of S.number S.forest S.quirks self.old) }
+        ensures seen { OnOk result (state_of S.number S.forest S.quirks self.new ≡ act (close_other name.now)
+            (state_of S.number S.forest S.quirks self.old)) }
+        ensures ready { OnOk result (Ready (state_of S.number S.forest S.quirks self.new)) }
         ensures memory { IfErr result (λ e. e ≡ Memory) }
     {
         actions_keep_what_is_ready();
@@ -188,14 +162,11 @@ impl<S: TreeSink> Parse<S> {
     /// An element with formatting is inserted for a tag, and listed.
     #[tactic(auto, unfolding(tree_rules::specs::Actions::act))]
     pub fn insert_formatting(&mut self, tag: &Tag) -> Result<(), ParseFault>
-        requires ready { Ready (parsed S.number S.forest S.quirks self.old.kept self.old.tree.held self.old.tree.sink) }
+        requires ready { Ready (state_of S.number S.forest S.quirks self.old) }
         requires formatting { is_one_of formatting tag.now.name ≡ true }
-        ensures seen { OnOk result (
-            parsed S.number S.forest S.quirks self.new.kept self.new.tree.held self.new.tree.sink
-            ≡ act (insert_formatting tag.now)
-            (parsed S.number S.forest S.quirks self.old.kept self.old.tree.held self.old.tree.sink)) }
-        ensures ready { OnOk result
-            (Ready (parsed S.number S.forest S.quirks self.new.kept self.new.tree.held self.new.tree.sink)) }
+        ensures seen { OnOk result (state_of S.number S.forest S.quirks self.new ≡ act (insert_formatting tag.now)
+            (state_of S.number S.forest S.quirks self.old)) }
+        ensures ready { OnOk result (Ready (state_of S.number S.forest S.quirks self.new)) }
         ensures memory { IfErr result (λ e. e ≡ Memory) }
     {
         actions_keep_what_is_ready();
@@ -207,13 +178,10 @@ impl<S: TreeSink> Parse<S> {
     /// The active formatting elements are reconstructed.
     #[tactic(auto, unfolding(tree_rules::specs::Actions::act))]
     pub fn reconstruct(&mut self) -> Result<(), ParseFault>
-        requires ready { Ready (parsed S.number S.forest S.quirks self.old.kept self.old.tree.held self.old.tree.sink) }
-        ensures seen { OnOk result (
-            parsed S.number S.forest S.quirks self.new.kept self.new.tree.held self.new.tree.sink
-            ≡ act reconstruct
-            (parsed S.number S.forest S.quirks self.old.kept self.old.tree.held self.old.tree.sink)) }
-        ensures ready { OnOk result
-            (Ready (parsed S.number S.forest S.quirks self.new.kept self.new.tree.held self.new.tree.sink)) }
+        requires ready { Ready (state_of S.number S.forest S.quirks self.old) }
+        ensures seen { OnOk result (state_of S.number S.forest S.quirks self.new ≡ act reconstruct
+            (state_of S.number S.forest S.quirks self.old)) }
+        ensures ready { OnOk result (Ready (state_of S.number S.forest S.quirks self.new)) }
         ensures memory { IfErr result (λ e. e ≡ Memory) }
     {
         actions_keep_what_is_ready();
@@ -224,13 +192,10 @@ impl<S: TreeSink> Parse<S> {
     /// A marker is put into the list of active formatting elements.
     #[tactic(auto, unfolding(tree_rules::specs::Actions::act))]
     pub fn put_marker(&mut self) -> Result<(), ParseFault>
-        requires ready { Ready (parsed S.number S.forest S.quirks self.old.kept self.old.tree.held self.old.tree.sink) }
-        ensures seen { OnOk result (
-            parsed S.number S.forest S.quirks self.new.kept self.new.tree.held self.new.tree.sink
-            ≡ act put_marker
-            (parsed S.number S.forest S.quirks self.old.kept self.old.tree.held self.old.tree.sink)) }
-        ensures ready { OnOk result
-            (Ready (parsed S.number S.forest S.quirks self.new.kept self.new.tree.held self.new.tree.sink)) }
+        requires ready { Ready (state_of S.number S.forest S.quirks self.old) }
+        ensures seen { OnOk result (state_of S.number S.forest S.quirks self.new ≡ act put_marker
+            (state_of S.number S.forest S.quirks self.old)) }
+        ensures ready { OnOk result (Ready (state_of S.number S.forest S.quirks self.new)) }
         ensures memory { IfErr result (λ e. e ≡ Memory) }
     {
         actions_keep_what_is_ready();
@@ -241,11 +206,10 @@ impl<S: TreeSink> Parse<S> {
     /// The list of active formatting elements is cleared up to the last marker.
     #[tactic(auto, unfolding(tree_rules::specs::Actions::act))]
     pub fn clear_to_marker(&mut self)
-        requires ready { Ready (parsed S.number S.forest S.quirks self.old.kept self.old.tree.held self.old.tree.sink) }
-        ensures seen { parsed S.number S.forest S.quirks self.new.kept self.new.tree.held self.new.tree.sink
-            ≡ act clear_to_marker
-            (parsed S.number S.forest S.quirks self.old.kept self.old.tree.held self.old.tree.sink) }
-        ensures ready { Ready (parsed S.number S.forest S.quirks self.new.kept self.new.tree.held self.new.tree.sink) }
+        requires ready { Ready (state_of S.number S.forest S.quirks self.old) }
+        ensures seen { state_of S.number S.forest S.quirks self.new ≡ act clear_to_marker
+            (state_of S.number S.forest S.quirks self.old) }
+        ensures ready { Ready (state_of S.number S.forest S.quirks self.new) }
     {
         actions_keep_what_is_ready();
         self.tree.clear_active_formatting_to_marker();
@@ -254,11 +218,10 @@ impl<S: TreeSink> Parse<S> {
     /// An element's entry is taken off the list.
     #[tactic(auto, unfolding(tree_rules::specs::Actions::act))]
     pub fn unlist(&mut self, element: S::Handle)
-        requires ready { Ready (parsed S.number S.forest S.quirks self.old.kept self.old.tree.held self.old.tree.sink) }
-        ensures seen { parsed S.number S.forest S.quirks self.new.kept self.new.tree.held self.new.tree.sink
-            ≡ act (unlist (S.number element))
-            (parsed S.number S.forest S.quirks self.old.kept self.old.tree.held self.old.tree.sink) }
-        ensures ready { Ready (parsed S.number S.forest S.quirks self.new.kept self.new.tree.held self.new.tree.sink) }
+        requires ready { Ready (state_of S.number S.forest S.quirks self.old) }
+        ensures seen { state_of S.number S.forest S.quirks self.new ≡ act (unlist (S.number element))
+            (state_of S.number S.forest S.quirks self.old) }
+        ensures ready { Ready (state_of S.number S.forest S.quirks self.new) }
     {
         actions_keep_what_is_ready();
         self.tree.remove_from_list(element);
@@ -267,15 +230,12 @@ impl<S: TreeSink> Parse<S> {
     /// The adoption agency closes an element of a name. What was an element stays one.
     #[tactic(auto, unfolding(tree_rules::specs::Actions::act))]
     pub fn adopt(&mut self, name: &LocalName) -> Result<(), ParseFault>
-        requires ready { Ready (parsed S.number S.forest S.quirks self.old.kept self.old.tree.held self.old.tree.sink) }
-        ensures seen { OnOk result (
-            parsed S.number S.forest S.quirks self.new.kept self.new.tree.held self.new.tree.sink
-            ≡ act (adopt name.now)
-            (parsed S.number S.forest S.quirks self.old.kept self.old.tree.held self.old.tree.sink)) }
+        requires ready { Ready (state_of S.number S.forest S.quirks self.old) }
+        ensures seen { OnOk result (state_of S.number S.forest S.quirks self.new ≡ act (adopt name.now)
+            (state_of S.number S.forest S.quirks self.old)) }
         ensures elements { OnOk result ((n : ℕ) → IsElement n (S.forest self.old.tree.sink) →
             IsElement n (S.forest self.new.tree.sink)) }
-        ensures ready { OnOk result
-            (Ready (parsed S.number S.forest S.quirks self.new.kept self.new.tree.held self.new.tree.sink)) }
+        ensures ready { OnOk result (Ready (state_of S.number S.forest S.quirks self.new)) }
         ensures memory { IfErr result (λ e. e ≡ Memory) }
     {
         actions_keep_what_is_ready();
@@ -287,13 +247,10 @@ impl<S: TreeSink> Parse<S> {
     /// An element of a name that is in scope is closed by the adoption agency, and what it leaves is reconstructed.
     #[tactic(auto, unfolding(tree_rules::specs::Actions::act))]
     pub fn adopt_in_scope(&mut self, name: &LocalName) -> Result<(), ParseFault>
-        requires ready { Ready (parsed S.number S.forest S.quirks self.old.kept self.old.tree.held self.old.tree.sink) }
-        ensures seen { OnOk result (
-            parsed S.number S.forest S.quirks self.new.kept self.new.tree.held self.new.tree.sink
-            ≡ act (adopt_in_scope name.now)
-            (parsed S.number S.forest S.quirks self.old.kept self.old.tree.held self.old.tree.sink)) }
-        ensures ready { OnOk result
-            (Ready (parsed S.number S.forest S.quirks self.new.kept self.new.tree.held self.new.tree.sink)) }
+        requires ready { Ready (state_of S.number S.forest S.quirks self.old) }
+        ensures seen { OnOk result (state_of S.number S.forest S.quirks self.new ≡ act (adopt_in_scope name.now)
+            (state_of S.number S.forest S.quirks self.old)) }
+        ensures ready { OnOk result (Ready (state_of S.number S.forest S.quirks self.new)) }
         ensures memory { IfErr result (λ e. e ≡ Memory) }
     {
         actions_keep_what_is_ready();

@@ -2,7 +2,7 @@
 ghost use Rattle.std.specs.Prelude.{◌≡◌, is_some};
 ghost use Rattle.html_forest.specs.Orders.{IsForest};
 ghost use Rattle.tree_builder.specs.Begun.{begun};
-ghost use Rattle.tree_actions.specs.Parsed.{parsed};
+ghost use Rattle.tree_actions.specs.Parsed.{state_of};
 ghost use Rattle.tree_rules.specs.Welcome.{IsReady};
 
 use html_forest::TreeSink;
@@ -23,10 +23,8 @@ impl<S: TreeSink> TreeBuilder<S> {
     /// Before the first token of a page. The sink's nodes are a forest, whose document has no children yet.
     pub fn new(alloc: Global, sink: S, opts: TreeBuilderOpts) -> TreeBuilder<S>
         requires { IsForest (S.forest sink) }
-        ensures begun { parsed S.number S.forest S.quirks result.page.kept result.page.tree.held result.page.tree.sink
-            ≡ begun opts (S.forest sink) (S.quirks sink) }
-        ensures ready { IsReady (parsed S.number S.forest S.quirks result.page.kept result.page.tree.held
-            result.page.tree.sink) }
+        ensures begun { state_of S.number S.forest S.quirks result.page ≡ begun opts (S.forest sink) (S.quirks sink) }
+        ensures ready { IsReady (state_of S.number S.forest S.quirks result.page) }
     {
         actions_keep_what_is_ready();
         let quirks = opts.quirks_mode;

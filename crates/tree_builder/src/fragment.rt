@@ -4,7 +4,7 @@ ghost use Rattle.html_forest.specs.Forest.{IsElement, name_of};
 ghost use Rattle.html_forest.specs.Orders.{IsForest};
 ghost use Rattle.html_grammar.specs.Items.{Item};
 ghost use Rattle.html_lexemes.specs.declared.fault.ParseFault.TheVariants.{Memory};
-ghost use Rattle.tree_actions.specs.Parsed.{parsed};
+ghost use Rattle.tree_actions.specs.Parsed.{state_of};
 ghost use Rattle.tree_builder.specs.Begun.{begun_fragment, context_state, root_actions, state_for, with_context};
 ghost use Rattle.tree_rules.specs.Actions.{act_all};
 ghost use Rattle.tree_rules.specs.Settling.{Ready};
@@ -34,13 +34,11 @@ impl<S: TreeSink + Drop> TreeBuilder<S> {
     ) -> Result<TreeBuilder<S>, ParseFault>
         requires forest { IsForest (S.forest sink) }
         requires context { IsElement (S.number context) (S.forest sink) }
-        ensures begun { IfOk result (λ made. parsed S.number S.forest S.quirks made.page.kept made.page.tree.held
-            made.page.tree.sink ≡ begun_fragment opts (S.number context) (option_map S.number form) (S.forest sink)
-            (S.quirks sink)) }
-        ensures ready { IfOk result (λ made. IsReady (parsed S.number S.forest S.quirks made.page.kept
-            made.page.tree.held made.page.tree.sink)) }
-        ensures hears { IfOk result (λ made. (item : Item) → IsWelcome (parsed S.number S.forest S.quirks
-            made.page.kept made.page.tree.held made.page.tree.sink) item) }
+        ensures begun { IfOk result (λ made. state_of S.number S.forest S.quirks made.page ≡ begun_fragment opts
+            (S.number context) (option_map S.number form) (S.forest sink) (S.quirks sink)) }
+        ensures ready { IfOk result (λ made. IsReady (state_of S.number S.forest S.quirks made.page)) }
+        ensures hears { IfOk result (λ made. (item : Item) → IsWelcome (state_of S.number S.forest S.quirks made.page)
+            item) }
         ensures memory { IfErr result (λ e. e ≡ Memory) }
     {
         let is_template = is_html(sink.elem_name(context), "template");
@@ -62,8 +60,7 @@ impl<S: TreeSink> TreeBuilder<S> {
     /// The state in which the text of a fragment begins, by its context; `scripting` says whether scripts would run
     /// where the context stands. Of a whole page it is `Data`.
     pub fn tokenizer_state_for_context_elem(&self, scripting: bool) -> State
-        requires { IsReady (parsed S.number S.forest S.quirks self.now.page.kept self.now.page.tree.held
-            self.now.page.tree.sink) }
+        requires { IsReady (state_of S.number S.forest S.quirks self.now.page) }
         ensures { result ≡ state_for scripting (option_map (λ context. name_of (S.number context)
             (S.forest self.now.page.tree.sink)) self.now.page.kept.context) }
     {
@@ -102,12 +99,11 @@ pub fn context_state(name: &QualName, scripting: bool) -> State
 
 // what is built is a fragment
 fn put_context<S: TreeSink>(page: &mut Parse<S>, context: S::Handle, form: Option<S::Handle>)
-    requires ready { Ready (parsed S.number S.forest S.quirks page.old.kept page.old.tree.held page.old.tree.sink) }
+    requires ready { Ready (state_of S.number S.forest S.quirks page.old) }
     requires element { IsElement (S.number context) (S.forest page.old.tree.sink) }
-    ensures seen { parsed S.number S.forest S.quirks page.new.kept page.new.tree.held page.new.tree.sink
-        ≡ with_context (S.number context) (option_map S.number form)
-        (parsed S.number S.forest S.quirks page.old.kept page.old.tree.held page.old.tree.sink) }
-    ensures ready { Ready (parsed S.number S.forest S.quirks page.new.kept page.new.tree.held page.new.tree.sink) }
+    ensures seen { state_of S.number S.forest S.quirks page.new ≡ with_context (S.number context) (option_map S.number
+        form) (state_of S.number S.forest S.quirks page.old) }
+    ensures ready { Ready (state_of S.number S.forest S.quirks page.new) }
 {
     page.kept.context = Some(context);
     page.kept.form = form;
@@ -115,12 +111,10 @@ fn put_context<S: TreeSink>(page: &mut Parse<S>, context: S::Handle, form: Optio
 
 // the root is opened, and the mode is reset
 fn open_root<S: TreeSink>(page: &mut Parse<S>, is_template: bool) -> Result<(), ParseFault>
-    requires ready { Ready (parsed S.number S.forest S.quirks page.old.kept page.old.tree.held page.old.tree.sink) }
-    ensures seen { OnOk result (parsed S.number S.forest S.quirks page.new.kept page.new.tree.held page.new.tree.sink
-        ≡ act_all (root_actions is_template)
-        (parsed S.number S.forest S.quirks page.old.kept page.old.tree.held page.old.tree.sink)) }
-    ensures ready { OnOk result
-        (Ready (parsed S.number S.forest S.quirks page.new.kept page.new.tree.held page.new.tree.sink)) }
+    requires ready { Ready (state_of S.number S.forest S.quirks page.old) }
+    ensures seen { OnOk result (state_of S.number S.forest S.quirks page.new ≡ act_all (root_actions is_template)
+        (state_of S.number S.forest S.quirks page.old)) }
+    ensures ready { OnOk result (Ready (state_of S.number S.forest S.quirks page.new)) }
     ensures memory { IfErr result (λ e. e ≡ Memory) }
 {
     page.insert_named("html")?;

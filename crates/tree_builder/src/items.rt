@@ -2,7 +2,7 @@
 ghost use Rattle.std.specs.Prelude.{◌≡◌, IfErr, IfOk, OnOk, chars, string_bytes};
 ghost use Rattle.html_grammar.specs.Items.{characters, comment as comment_item, doctype as doctype_item, end_of_file, error, item_of, null_character, tag as tag_item};
 ghost use Rattle.html_lexemes.specs.declared.fault.ParseFault.TheVariants.{Memory};
-ghost use Rattle.tree_actions.specs.Parsed.{parsed};
+ghost use Rattle.tree_actions.specs.Parsed.{state_of};
 ghost use Rattle.tree_rules.specs.Settling.{Ready, reply, step};
 
 use html_forest::TreeSink;
@@ -16,11 +16,9 @@ pub(crate) fn tell_characters<S: TreeSink>(
     page: &mut Parse<S>,
     text: Text,
 ) -> Result<(), ParseFault>
-    requires ready { Ready (parsed S.number S.forest S.quirks page.old.kept page.old.tree.held page.old.tree.sink) }
-    ensures seen { OnOk result (
-        parsed S.number S.forest S.quirks page.new.kept page.new.tree.held page.new.tree.sink
-        ≡ step (parsed S.number S.forest S.quirks page.old.kept page.old.tree.held page.old.tree.sink)
-        (characters text)) }
+    requires ready { Ready (state_of S.number S.forest S.quirks page.old) }
+    ensures seen { OnOk result (state_of S.number S.forest S.quirks page.new ≡ step
+        (state_of S.number S.forest S.quirks page.old) (characters text)) }
     ensures memory { IfErr result (λ e. e ≡ Memory) }
 {
     let text = text.as_str();
@@ -37,11 +35,9 @@ pub(crate) fn tell_characters<S: TreeSink>(
 
 /// NUL.
 pub(crate) fn tell_null<S: TreeSink>(page: &mut Parse<S>) -> Result<(), ParseFault>
-    requires ready { Ready (parsed S.number S.forest S.quirks page.old.kept page.old.tree.held page.old.tree.sink) }
-    ensures seen { OnOk result (
-        parsed S.number S.forest S.quirks page.new.kept page.new.tree.held page.new.tree.sink
-        ≡ step (parsed S.number S.forest S.quirks page.old.kept page.old.tree.held page.old.tree.sink)
-        null_character) }
+    requires ready { Ready (state_of S.number S.forest S.quirks page.old) }
+    ensures seen { OnOk result (state_of S.number S.forest S.quirks page.new ≡ step
+        (state_of S.number S.forest S.quirks page.old) null_character) }
     ensures memory { IfErr result (λ e. e ≡ Memory) }
 {
     page.kept.skip_lf = false;
@@ -51,11 +47,9 @@ pub(crate) fn tell_null<S: TreeSink>(page: &mut Parse<S>) -> Result<(), ParseFau
 
 /// A comment.
 pub(crate) fn tell_comment<S: TreeSink>(page: &mut Parse<S>, text: Text) -> Result<(), ParseFault>
-    requires ready { Ready (parsed S.number S.forest S.quirks page.old.kept page.old.tree.held page.old.tree.sink) }
-    ensures seen { OnOk result (
-        parsed S.number S.forest S.quirks page.new.kept page.new.tree.held page.new.tree.sink
-        ≡ step (parsed S.number S.forest S.quirks page.old.kept page.old.tree.held page.old.tree.sink)
-        (comment_item text)) }
+    requires ready { Ready (state_of S.number S.forest S.quirks page.old) }
+    ensures seen { OnOk result (state_of S.number S.forest S.quirks page.new ≡ step
+        (state_of S.number S.forest S.quirks page.old) (comment_item text)) }
     ensures memory { IfErr result (λ e. e ≡ Memory) }
 {
     page.kept.skip_lf = false;
@@ -68,11 +62,9 @@ pub(crate) fn tell_doctype<S: TreeSink>(
     page: &mut Parse<S>,
     doctype: Doctype,
 ) -> Result<(), ParseFault>
-    requires ready { Ready (parsed S.number S.forest S.quirks page.old.kept page.old.tree.held page.old.tree.sink) }
-    ensures seen { OnOk result (
-        parsed S.number S.forest S.quirks page.new.kept page.new.tree.held page.new.tree.sink
-        ≡ step (parsed S.number S.forest S.quirks page.old.kept page.old.tree.held page.old.tree.sink)
-        (doctype_item doctype)) }
+    requires ready { Ready (state_of S.number S.forest S.quirks page.old) }
+    ensures seen { OnOk result (state_of S.number S.forest S.quirks page.new ≡ step
+        (state_of S.number S.forest S.quirks page.old) (doctype_item doctype)) }
     ensures memory { IfErr result (λ e. e ≡ Memory) }
 {
     page.kept.skip_lf = false;
@@ -85,11 +77,9 @@ pub(crate) fn tell_error<S: TreeSink>(
     page: &mut Parse<S>,
     message: ErrorMessage,
 ) -> Result<(), ParseFault>
-    requires ready { Ready (parsed S.number S.forest S.quirks page.old.kept page.old.tree.held page.old.tree.sink) }
-    ensures seen { OnOk result (
-        parsed S.number S.forest S.quirks page.new.kept page.new.tree.held page.new.tree.sink
-        ≡ step (parsed S.number S.forest S.quirks page.old.kept page.old.tree.held page.old.tree.sink)
-        error) }
+    requires ready { Ready (state_of S.number S.forest S.quirks page.old) }
+    ensures seen { OnOk result (state_of S.number S.forest S.quirks page.new ≡ step
+        (state_of S.number S.forest S.quirks page.old) error) }
     ensures memory { IfErr result (λ e. e ≡ Memory) }
 {
     page.kept.skip_lf = false;
@@ -99,11 +89,9 @@ pub(crate) fn tell_error<S: TreeSink>(
 
 /// The end of the page.
 pub(crate) fn tell_end<S: TreeSink>(page: &mut Parse<S>) -> Result<(), ParseFault>
-    requires ready { Ready (parsed S.number S.forest S.quirks page.old.kept page.old.tree.held page.old.tree.sink) }
-    ensures seen { OnOk result (
-        parsed S.number S.forest S.quirks page.new.kept page.new.tree.held page.new.tree.sink
-        ≡ step (parsed S.number S.forest S.quirks page.old.kept page.old.tree.held page.old.tree.sink)
-        end_of_file) }
+    requires ready { Ready (state_of S.number S.forest S.quirks page.old) }
+    ensures seen { OnOk result (state_of S.number S.forest S.quirks page.new ≡ step
+        (state_of S.number S.forest S.quirks page.old) end_of_file) }
     ensures memory { IfErr result (λ e. e ≡ Memory) }
 {
     page.kept.skip_lf = false;
@@ -117,13 +105,10 @@ pub(crate) fn tell_tag<S: TreeSink>(
     page: &mut Parse<S>,
     tag: Tag,
 ) -> Result<TokenSinkResult<S::Handle>, ParseFault>
-    requires ready { Ready (parsed S.number S.forest S.quirks page.old.kept page.old.tree.held page.old.tree.sink) }
-    ensures seen { OnOk result (
-        parsed S.number S.forest S.quirks page.new.kept page.new.tree.held page.new.tree.sink
-        ≡ step (parsed S.number S.forest S.quirks page.old.kept page.old.tree.held page.old.tree.sink)
-        (tag_item tag)) }
-    ensures reply { IfOk result (λ answer. answer ≡ reply S.handle
-        (parsed S.number S.forest S.quirks page.old.kept page.old.tree.held page.old.tree.sink)
+    requires ready { Ready (state_of S.number S.forest S.quirks page.old) }
+    ensures seen { OnOk result (state_of S.number S.forest S.quirks page.new ≡ step
+        (state_of S.number S.forest S.quirks page.old) (tag_item tag)) }
+    ensures reply { IfOk result (λ answer. answer ≡ reply S.handle (state_of S.number S.forest S.quirks page.old)
         (tag_item tag)) }
     ensures memory { IfErr result (λ e. e ≡ Memory) }
 {
@@ -137,13 +122,10 @@ pub(crate) fn tell<S: TreeSink>(
     token: Token,
     line: u64,
 ) -> Result<TokenSinkResult<S::Handle>, ParseFault>
-    requires ready { Ready (parsed S.number S.forest S.quirks page.old.kept page.old.tree.held page.old.tree.sink) }
-    ensures seen { OnOk result (
-        parsed S.number S.forest S.quirks page.new.kept page.new.tree.held page.new.tree.sink
-        ≡ step (parsed S.number S.forest S.quirks page.old.kept page.old.tree.held page.old.tree.sink)
-        (item_of token)) }
-    ensures reply { IfOk result (λ answer. answer ≡ reply S.handle
-        (parsed S.number S.forest S.quirks page.old.kept page.old.tree.held page.old.tree.sink)
+    requires ready { Ready (state_of S.number S.forest S.quirks page.old) }
+    ensures seen { OnOk result (state_of S.number S.forest S.quirks page.new ≡ step
+        (state_of S.number S.forest S.quirks page.old) (item_of token)) }
+    ensures reply { IfOk result (λ answer. answer ≡ reply S.handle (state_of S.number S.forest S.quirks page.old)
         (item_of token)) }
     ensures memory { IfErr result (λ e. e ≡ Memory) }
 {

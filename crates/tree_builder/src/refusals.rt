@@ -1,7 +1,7 @@
 //! Calls behind a refusal can be made, whatever the sink of trees is.
 ghost use Rattle.std.specs.Prelude.{◌≡◌, IfErr, is_err};
 ghost use Rattle.html_lexemes.specs.declared.fault.ParseFault.TheVariants.{Failed};
-ghost use Rattle.tree_actions.specs.Parsed.{parsed};
+ghost use Rattle.tree_actions.specs.Parsed.{state_of};
 ghost use Rattle.tree_rules.specs.Welcome.{IsFit};
 
 use crate::builder::TreeBuilder;
@@ -16,10 +16,8 @@ pub fn tells_twice<S: TreeSink>(
     later: Token,
     line: u64,
 ) -> Result<TokenSinkResult<S::Handle>, ParseFault>
-    requires { IsFit
-        (parsed S.number S.forest S.quirks builder.old.page.kept builder.old.page.tree.held builder.old.page.tree.sink) }
-    ensures fit { IsFit
-        (parsed S.number S.forest S.quirks builder.new.page.kept builder.new.page.tree.held builder.new.page.tree.sink) }
+    requires { IsFit (state_of S.number S.forest S.quirks builder.old.page) }
+    ensures fit { IsFit (state_of S.number S.forest S.quirks builder.new.page) }
     ensures failed { IfErr result (λ e. e ≡ Failed) }
     ensures works { builder.new.page.kept.has_failed ≡ is_err result }
 {
@@ -31,10 +29,8 @@ pub fn tells_twice<S: TreeSink>(
 
 /// Ends a page and, where that is refused, ends it again, which is refused as `Failed`.
 pub fn ends_twice<S: TreeSink>(builder: &mut TreeBuilder<S>) -> Result<(), ParseFault>
-    requires { IsFit
-        (parsed S.number S.forest S.quirks builder.old.page.kept builder.old.page.tree.held builder.old.page.tree.sink) }
-    ensures fit { IsFit
-        (parsed S.number S.forest S.quirks builder.new.page.kept builder.new.page.tree.held builder.new.page.tree.sink) }
+    requires { IsFit (state_of S.number S.forest S.quirks builder.old.page) }
+    ensures fit { IsFit (state_of S.number S.forest S.quirks builder.new.page) }
     ensures failed { IfErr result (λ e. e ≡ Failed) }
     ensures works { builder.new.page.kept.has_failed ≡ is_err result }
 {

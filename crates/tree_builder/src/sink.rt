@@ -7,7 +7,7 @@ ghost use Rattle.html_grammar.specs.Kinds.{IsOf};
 ghost use Rattle.html_grammar.specs.declared.modes.TextKind.TheVariants.{Plain};
 ghost use Rattle.html_lexemes.specs.declared.fault.ParseFault.TheVariants.{Failed, Memory};
 ghost use Rattle.html_tree_state.specs.Building.{stack_of};
-ghost use Rattle.tree_actions.specs.Parsed.{parsed};
+ghost use Rattle.tree_actions.specs.Parsed.{state_of};
 ghost use Rattle.tree_rules.specs.Actions.{is_text};
 ghost use Rattle.tree_rules.specs.Settling.{Ready, reply, step};
 ghost use Rattle.tree_rules.specs.Welcome.{IsFit, IsHeard, IsReady, IsWelcome};
@@ -23,7 +23,7 @@ use tree_words::{InsertionMode, is_of_html};
 impl<S: TreeSink> TokenSink for TreeBuilder<S> {
     type Handle = S::Handle;
 
-    ghost use Rattle.tree_actions.specs.Parsed.{parsed};
+    ghost use Rattle.tree_actions.specs.Parsed.{state_of};
     ghost use Rattle.tree_meaning.specs.Hearing.{meaning-hearing};
     ghost use Rattle.tree_meaning.specs.Lawful.{meaning-lawful};
     ghost use Rattle.tree_rules.specs.Settling.{meaning};
@@ -32,7 +32,7 @@ impl<S: TreeSink> TokenSink for TreeBuilder<S> {
 
     ghost Abstract = { State };
 
-    ghost state = { λ b. parsed S.number S.forest S.quirks b.page.kept b.page.tree.held b.page.tree.sink };
+    ghost state = { λ b. state_of S.number S.forest S.quirks b.page };
 
     ghost means = { meaning S.handle };
 
@@ -54,20 +54,14 @@ impl<S: TreeSink> TokenSink for TreeBuilder<S> {
         token: Token,
         line: u64,
     ) -> Result<TokenSinkResult<S::Handle>, ParseFault>
-        requires { IsFit
-            (parsed S.number S.forest S.quirks self.old.page.kept self.old.page.tree.held self.old.page.tree.sink) }
-        ensures fit { IsFit
-            (parsed S.number S.forest S.quirks self.new.page.kept self.new.page.tree.held self.new.page.tree.sink) }
-        ensures state { IfOk result (λ _.
-            parsed S.number S.forest S.quirks self.new.page.kept self.new.page.tree.held self.new.page.tree.sink
-            ≡ step (parsed S.number S.forest S.quirks self.old.page.kept self.old.page.tree.held self.old.page.tree.sink)
-            (item_of token)) }
+        requires { IsFit (state_of S.number S.forest S.quirks self.old.page) }
+        ensures fit { IsFit (state_of S.number S.forest S.quirks self.new.page) }
+        ensures state { IfOk result (λ _. state_of S.number S.forest S.quirks self.new.page ≡ step
+            (state_of S.number S.forest S.quirks self.old.page) (item_of token)) }
         ensures reply { IfOk result (λ answer. answer ≡ reply S.handle
-            (parsed S.number S.forest S.quirks self.old.page.kept self.old.page.tree.held self.old.page.tree.sink)
-            (item_of token)) }
-        ensures refused { IsWelcome
-            (parsed S.number S.forest S.quirks self.old.page.kept self.old.page.tree.held self.old.page.tree.sink)
-            (item_of token) → IfErr result (λ e. e ≡ Memory) }
+            (state_of S.number S.forest S.quirks self.old.page) (item_of token)) }
+        ensures refused { IsWelcome (state_of S.number S.forest S.quirks self.old.page) (item_of token) → IfErr result
+            (λ e. e ≡ Memory) }
         ensures failed { self.old.page.kept.has_failed ≡ true → result ≡ Err Failed }
         ensures ended { self.old.page.kept.is_over ≡ true → result ≡ Err Failed }
         ensures misplaced { ¬ (IsHeard (is_text self.old.page.kept.mode) (item_of token)) → result ≡ Err Failed }
@@ -89,13 +83,10 @@ impl<S: TreeSink> TokenSink for TreeBuilder<S> {
     /// Tells the sink of trees that the open elements are so no longer, from the current node on. Behind a refused call
     /// it is refused as `Failed`; else the error is want of memory.
     fn end(&mut self) -> Result<(), ParseFault>
-        requires { IsFit
-            (parsed S.number S.forest S.quirks self.old.page.kept self.old.page.tree.held self.old.page.tree.sink) }
-        ensures fit { IsFit
-            (parsed S.number S.forest S.quirks self.new.page.kept self.new.page.tree.held self.new.page.tree.sink) }
-        ensures closed { IfOk result (λ _.
-            parsed S.number S.forest S.quirks self.new.page.kept self.new.page.tree.held self.new.page.tree.sink
-            ≡ parsed S.number S.forest S.quirks self.old.page.kept self.old.page.tree.held self.old.page.tree.sink) }
+        requires { IsFit (state_of S.number S.forest S.quirks self.old.page) }
+        ensures fit { IsFit (state_of S.number S.forest S.quirks self.new.page) }
+        ensures closed { IfOk result (λ _. state_of S.number S.forest S.quirks self.new.page ≡
+            state_of S.number S.forest S.quirks self.old.page) }
         ensures refused { self.old.page.kept.has_failed ≡ false → IfErr result (λ e. e ≡ Memory) }
         ensures failed { self.old.page.kept.has_failed ≡ true → result ≡ Err Failed }
         ensures works { self.new.page.kept.has_failed ≡ is_err result }
@@ -162,10 +153,9 @@ fn is_markup(token: &Token) -> bool
 
 // the open elements are told of, the current node first
 fn tell_closed<S: TreeSink>(page: &mut Parse<S>) -> Result<(), ParseFault>
-    requires ready { Ready (parsed S.number S.forest S.quirks page.old.kept page.old.tree.held page.old.tree.sink) }
-    ensures seen { OnOk result (
-        parsed S.number S.forest S.quirks page.new.kept page.new.tree.held page.new.tree.sink
-        ≡ parsed S.number S.forest S.quirks page.old.kept page.old.tree.held page.old.tree.sink) }
+    requires ready { Ready (state_of S.number S.forest S.quirks page.old) }
+    ensures seen { OnOk result (state_of S.number S.forest S.quirks page.new ≡
+        state_of S.number S.forest S.quirks page.old) }
     ensures memory { IfErr result (λ e. e ≡ Memory) }
 {
     tell_popped(page.tree.held.open_elements(), &mut page.tree.sink)

@@ -2,7 +2,7 @@
 ghost use Rattle.std.specs.Prelude.{◌≡◌, IfErr, IfOk, OnOk};
 ghost use Rattle.html_lexemes.specs.declared.fault.ParseFault.TheVariants.{Memory};
 ghost use Rattle.tree_actions.specs.Outcomes.{came_to, outcome};
-ghost use Rattle.tree_actions.specs.Parsed.{parsed};
+ghost use Rattle.tree_actions.specs.Parsed.{state_of};
 ghost use Rattle.tree_rules.specs.Settling.{Ready};
 ghost use Rattle.tree_rules.specs.Table.{comment_row, doctype_row, end_of_file_row};
 
@@ -23,14 +23,11 @@ use tree_words::InsertionMode;
 
 /// The end of the page.
 pub fn page_end<S: TreeSink>(page: &mut Parse<S>) -> Result<Flow<S::Handle>, ParseFault>
-    requires ready { Ready (parsed S.number S.forest S.quirks page.old.kept page.old.tree.held page.old.tree.sink) }
-    ensures came { IfOk result (λ flow.
-        came_to flow (parsed S.number S.forest S.quirks page.new.kept page.new.tree.held page.new.tree.sink)
-        ≡ outcome S.handle (end_of_file_row (parsed S.number S.forest S.quirks page.old.kept page.old.tree.held page.old.tree.sink).mode
-        (parsed S.number S.forest S.quirks page.old.kept page.old.tree.held page.old.tree.sink))
-        (parsed S.number S.forest S.quirks page.old.kept page.old.tree.held page.old.tree.sink)) }
-    ensures ready { OnOk result (Ready
-        (parsed S.number S.forest S.quirks page.new.kept page.new.tree.held page.new.tree.sink)) }
+    requires ready { Ready (state_of S.number S.forest S.quirks page.old) }
+    ensures came { IfOk result (λ flow. came_to flow (state_of S.number S.forest S.quirks page.new)
+        ≡ outcome S.handle (end_of_file_row (state_of S.number S.forest S.quirks page.old).mode
+        (state_of S.number S.forest S.quirks page.old)) (state_of S.number S.forest S.quirks page.old)) }
+    ensures ready { OnOk result (Ready (state_of S.number S.forest S.quirks page.new)) }
     ensures memory { IfErr result (λ e. e ≡ Memory) }
 {
     match page.kept.mode {
@@ -60,14 +57,11 @@ pub fn page_end<S: TreeSink>(page: &mut Parse<S>) -> Result<Flow<S::Handle>, Par
 
 /// A comment.
 pub fn comment<S: TreeSink>(page: &mut Parse<S>, text: &Text) -> Result<Flow<S::Handle>, ParseFault>
-    requires ready { Ready (parsed S.number S.forest S.quirks page.old.kept page.old.tree.held page.old.tree.sink) }
-    ensures came { IfOk result (λ flow.
-        came_to flow (parsed S.number S.forest S.quirks page.new.kept page.new.tree.held page.new.tree.sink)
-        ≡ outcome S.handle (comment_row (parsed S.number S.forest S.quirks page.old.kept page.old.tree.held page.old.tree.sink).mode text.now
-        (parsed S.number S.forest S.quirks page.old.kept page.old.tree.held page.old.tree.sink))
-        (parsed S.number S.forest S.quirks page.old.kept page.old.tree.held page.old.tree.sink)) }
-    ensures ready { OnOk result (Ready
-        (parsed S.number S.forest S.quirks page.new.kept page.new.tree.held page.new.tree.sink)) }
+    requires ready { Ready (state_of S.number S.forest S.quirks page.old) }
+    ensures came { IfOk result (λ flow. came_to flow (state_of S.number S.forest S.quirks page.new)
+        ≡ outcome S.handle (comment_row (state_of S.number S.forest S.quirks page.old).mode text.now
+        (state_of S.number S.forest S.quirks page.old)) (state_of S.number S.forest S.quirks page.old)) }
+    ensures ready { OnOk result (Ready (state_of S.number S.forest S.quirks page.new)) }
     ensures memory { IfErr result (λ e. e ≡ Memory) }
 {
     match page.kept.mode {
@@ -106,14 +100,11 @@ pub fn doctype<S: TreeSink>(
     page: &mut Parse<S>,
     doctype: &Doctype,
 ) -> Result<Flow<S::Handle>, ParseFault>
-    requires ready { Ready (parsed S.number S.forest S.quirks page.old.kept page.old.tree.held page.old.tree.sink) }
-    ensures came { IfOk result (λ flow.
-        came_to flow (parsed S.number S.forest S.quirks page.new.kept page.new.tree.held page.new.tree.sink)
-        ≡ outcome S.handle (doctype_row (parsed S.number S.forest S.quirks page.old.kept page.old.tree.held page.old.tree.sink).mode doctype.now
-        (parsed S.number S.forest S.quirks page.old.kept page.old.tree.held page.old.tree.sink))
-        (parsed S.number S.forest S.quirks page.old.kept page.old.tree.held page.old.tree.sink)) }
-    ensures ready { OnOk result (Ready
-        (parsed S.number S.forest S.quirks page.new.kept page.new.tree.held page.new.tree.sink)) }
+    requires ready { Ready (state_of S.number S.forest S.quirks page.old) }
+    ensures came { IfOk result (λ flow. came_to flow (state_of S.number S.forest S.quirks page.new)
+        ≡ outcome S.handle (doctype_row (state_of S.number S.forest S.quirks page.old).mode doctype.now
+        (state_of S.number S.forest S.quirks page.old)) (state_of S.number S.forest S.quirks page.old)) }
+    ensures ready { OnOk result (Ready (state_of S.number S.forest S.quirks page.new)) }
     ensures memory { IfErr result (λ e. e ≡ Memory) }
 {
     match page.kept.mode {

@@ -3,7 +3,7 @@
 ghost use Rattle.std.specs.Prelude.{◌≡◌, IfErr, IfOk, OnOk};
 ghost use Rattle.html_lexemes.specs.declared.fault.ParseFault.TheVariants.{Memory};
 ghost use Rattle.tree_actions.specs.Outcomes.{finished};
-ghost use Rattle.tree_actions.specs.Parsed.{parsed};
+ghost use Rattle.tree_actions.specs.Parsed.{state_of};
 ghost use Rattle.tree_rules.specs.Settling.{Ready, mark_by, taken};
 ghost use Rattle.tree_rules.specs.State.{comment, doctype as doctype_mark, end_of_file, null};
 ghost use Rattle.tree_steps.specs.Steps.{settled_as};
@@ -20,13 +20,10 @@ pub fn take_tag<S: TreeSink>(
     page: &mut Parse<S>,
     tag: &Tag,
 ) -> Result<TokenSinkResult<S::Handle>, ParseFault>
-    requires ready { Ready (parsed S.number S.forest S.quirks page.old.kept page.old.tree.held page.old.tree.sink) }
-    ensures came { IfOk result (λ answer. finished answer
-        (parsed S.number S.forest S.quirks page.new.kept page.new.tree.held page.new.tree.sink)
-        ≡ settled_as S.handle (taken (mark_by tag.now.kind tag.now)
-        (parsed S.number S.forest S.quirks page.old.kept page.old.tree.held page.old.tree.sink))) }
-    ensures ready { OnOk result (Ready
-        (parsed S.number S.forest S.quirks page.new.kept page.new.tree.held page.new.tree.sink)) }
+    requires ready { Ready (state_of S.number S.forest S.quirks page.old) }
+    ensures came { IfOk result (λ answer. finished answer (state_of S.number S.forest S.quirks page.new) ≡ settled_as
+        S.handle (taken (mark_by tag.now.kind tag.now) (state_of S.number S.forest S.quirks page.old))) }
+    ensures ready { OnOk result (Ready (state_of S.number S.forest S.quirks page.new)) }
     ensures memory { IfErr result (λ e. e ≡ Memory) }
 {
     the_rank_falls();
@@ -46,13 +43,10 @@ pub fn take_comment<S: TreeSink>(
     page: &mut Parse<S>,
     text: &Text,
 ) -> Result<TokenSinkResult<S::Handle>, ParseFault>
-    requires ready { Ready (parsed S.number S.forest S.quirks page.old.kept page.old.tree.held page.old.tree.sink) }
-    ensures came { IfOk result (λ answer. finished answer
-        (parsed S.number S.forest S.quirks page.new.kept page.new.tree.held page.new.tree.sink)
-        ≡ settled_as S.handle (taken (comment text.now)
-        (parsed S.number S.forest S.quirks page.old.kept page.old.tree.held page.old.tree.sink))) }
-    ensures ready { OnOk result (Ready
-        (parsed S.number S.forest S.quirks page.new.kept page.new.tree.held page.new.tree.sink)) }
+    requires ready { Ready (state_of S.number S.forest S.quirks page.old) }
+    ensures came { IfOk result (λ answer. finished answer (state_of S.number S.forest S.quirks page.new) ≡ settled_as
+        S.handle (taken (comment text.now) (state_of S.number S.forest S.quirks page.old))) }
+    ensures ready { OnOk result (Ready (state_of S.number S.forest S.quirks page.new)) }
     ensures memory { IfErr result (λ e. e ≡ Memory) }
 {
     the_rank_falls();
@@ -71,13 +65,10 @@ pub fn take_doctype<S: TreeSink>(
     page: &mut Parse<S>,
     doctype: &Doctype,
 ) -> Result<TokenSinkResult<S::Handle>, ParseFault>
-    requires ready { Ready (parsed S.number S.forest S.quirks page.old.kept page.old.tree.held page.old.tree.sink) }
-    ensures came { IfOk result (λ answer. finished answer
-        (parsed S.number S.forest S.quirks page.new.kept page.new.tree.held page.new.tree.sink)
-        ≡ settled_as S.handle (taken (doctype_mark doctype.now)
-        (parsed S.number S.forest S.quirks page.old.kept page.old.tree.held page.old.tree.sink))) }
-    ensures ready { OnOk result (Ready
-        (parsed S.number S.forest S.quirks page.new.kept page.new.tree.held page.new.tree.sink)) }
+    requires ready { Ready (state_of S.number S.forest S.quirks page.old) }
+    ensures came { IfOk result (λ answer. finished answer (state_of S.number S.forest S.quirks page.new) ≡ settled_as
+        S.handle (taken (doctype_mark doctype.now) (state_of S.number S.forest S.quirks page.old))) }
+    ensures ready { OnOk result (Ready (state_of S.number S.forest S.quirks page.new)) }
     ensures memory { IfErr result (λ e. e ≡ Memory) }
 {
     the_rank_falls();
@@ -93,13 +84,10 @@ pub fn take_doctype<S: TreeSink>(
 
 /// NUL.
 pub fn take_null<S: TreeSink>(page: &mut Parse<S>) -> Result<TokenSinkResult<S::Handle>, ParseFault>
-    requires ready { Ready (parsed S.number S.forest S.quirks page.old.kept page.old.tree.held page.old.tree.sink) }
-    ensures came { IfOk result (λ answer. finished answer
-        (parsed S.number S.forest S.quirks page.new.kept page.new.tree.held page.new.tree.sink)
-        ≡ settled_as S.handle (taken null
-        (parsed S.number S.forest S.quirks page.old.kept page.old.tree.held page.old.tree.sink))) }
-    ensures ready { OnOk result (Ready
-        (parsed S.number S.forest S.quirks page.new.kept page.new.tree.held page.new.tree.sink)) }
+    requires ready { Ready (state_of S.number S.forest S.quirks page.old) }
+    ensures came { IfOk result (λ answer. finished answer (state_of S.number S.forest S.quirks page.new) ≡ settled_as
+        S.handle (taken null (state_of S.number S.forest S.quirks page.old))) }
+    ensures ready { OnOk result (Ready (state_of S.number S.forest S.quirks page.new)) }
     ensures memory { IfErr result (λ e. e ≡ Memory) }
 {
     the_rank_falls();
@@ -117,13 +105,10 @@ pub fn take_null<S: TreeSink>(page: &mut Parse<S>) -> Result<TokenSinkResult<S::
 pub fn take_page_end<S: TreeSink>(
     page: &mut Parse<S>,
 ) -> Result<TokenSinkResult<S::Handle>, ParseFault>
-    requires ready { Ready (parsed S.number S.forest S.quirks page.old.kept page.old.tree.held page.old.tree.sink) }
-    ensures came { IfOk result (λ answer. finished answer
-        (parsed S.number S.forest S.quirks page.new.kept page.new.tree.held page.new.tree.sink)
-        ≡ settled_as S.handle (taken end_of_file
-        (parsed S.number S.forest S.quirks page.old.kept page.old.tree.held page.old.tree.sink))) }
-    ensures ready { OnOk result (Ready
-        (parsed S.number S.forest S.quirks page.new.kept page.new.tree.held page.new.tree.sink)) }
+    requires ready { Ready (state_of S.number S.forest S.quirks page.old) }
+    ensures came { IfOk result (λ answer. finished answer (state_of S.number S.forest S.quirks page.new) ≡ settled_as
+        S.handle (taken end_of_file (state_of S.number S.forest S.quirks page.old))) }
+    ensures ready { OnOk result (Ready (state_of S.number S.forest S.quirks page.new)) }
     ensures memory { IfErr result (λ e. e ≡ Memory) }
 {
     the_rank_falls();

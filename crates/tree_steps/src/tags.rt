@@ -3,7 +3,7 @@ ghost use Rattle.std.specs.Prelude.{◌≡◌, IfErr, IfOk, OnOk};
 ghost use Rattle.html_lexemes.specs.declared.fault.ParseFault.TheVariants.{Memory};
 ghost use Rattle.tag_groups.specs.Groups.{tag_group};
 ghost use Rattle.tree_actions.specs.Outcomes.{came_to, outcome};
-ghost use Rattle.tree_actions.specs.Parsed.{parsed};
+ghost use Rattle.tree_actions.specs.Parsed.{state_of};
 ghost use Rattle.tree_rules.specs.Settling.{Ready};
 ghost use Rattle.tree_rules.specs.Table.{end_row, start_row};
 
@@ -35,15 +35,12 @@ pub fn start_tag<S: TreeSink>(
     group: TagGroup,
     tag: &Tag,
 ) -> Result<Flow<S::Handle>, ParseFault>
-    requires ready { Ready (parsed S.number S.forest S.quirks page.old.kept page.old.tree.held page.old.tree.sink) }
+    requires ready { Ready (state_of S.number S.forest S.quirks page.old) }
     requires group { tag_group tag.now.name ≡ group }
-    ensures came { IfOk result (λ flow.
-        came_to flow (parsed S.number S.forest S.quirks page.new.kept page.new.tree.held page.new.tree.sink)
-        ≡ outcome S.handle (start_row (parsed S.number S.forest S.quirks page.old.kept page.old.tree.held page.old.tree.sink).mode group tag.now
-        (parsed S.number S.forest S.quirks page.old.kept page.old.tree.held page.old.tree.sink))
-        (parsed S.number S.forest S.quirks page.old.kept page.old.tree.held page.old.tree.sink)) }
-    ensures ready { OnOk result (Ready
-        (parsed S.number S.forest S.quirks page.new.kept page.new.tree.held page.new.tree.sink)) }
+    ensures came { IfOk result (λ flow. came_to flow (state_of S.number S.forest S.quirks page.new)
+        ≡ outcome S.handle (start_row (state_of S.number S.forest S.quirks page.old).mode group tag.now
+        (state_of S.number S.forest S.quirks page.old)) (state_of S.number S.forest S.quirks page.old)) }
+    ensures ready { OnOk result (Ready (state_of S.number S.forest S.quirks page.new)) }
     ensures memory { IfErr result (λ e. e ≡ Memory) }
 {
     match page.kept.mode {
@@ -77,15 +74,12 @@ pub fn end_tag<S: TreeSink>(
     group: TagGroup,
     tag: &Tag,
 ) -> Result<Flow<S::Handle>, ParseFault>
-    requires ready { Ready (parsed S.number S.forest S.quirks page.old.kept page.old.tree.held page.old.tree.sink) }
+    requires ready { Ready (state_of S.number S.forest S.quirks page.old) }
     requires group { tag_group tag.now.name ≡ group }
-    ensures came { IfOk result (λ flow.
-        came_to flow (parsed S.number S.forest S.quirks page.new.kept page.new.tree.held page.new.tree.sink)
-        ≡ outcome S.handle (end_row (parsed S.number S.forest S.quirks page.old.kept page.old.tree.held page.old.tree.sink).mode group tag.now
-        (parsed S.number S.forest S.quirks page.old.kept page.old.tree.held page.old.tree.sink))
-        (parsed S.number S.forest S.quirks page.old.kept page.old.tree.held page.old.tree.sink)) }
-    ensures ready { OnOk result (Ready
-        (parsed S.number S.forest S.quirks page.new.kept page.new.tree.held page.new.tree.sink)) }
+    ensures came { IfOk result (λ flow. came_to flow (state_of S.number S.forest S.quirks page.new)
+        ≡ outcome S.handle (end_row (state_of S.number S.forest S.quirks page.old).mode group tag.now
+        (state_of S.number S.forest S.quirks page.old)) (state_of S.number S.forest S.quirks page.old)) }
+    ensures ready { OnOk result (Ready (state_of S.number S.forest S.quirks page.new)) }
     ensures memory { IfErr result (λ e. e ≡ Memory) }
 {
     match page.kept.mode {

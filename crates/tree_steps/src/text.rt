@@ -3,7 +3,7 @@ ghost use Rattle.std.specs.Prelude.{◌≡◌, false, ℕ, ◌<◌, ◌∷◌, L
 ghost use Rattle.std.specs.Str.{IsUtf8};
 ghost use Rattle.html_lexemes.specs.declared.fault.ParseFault.TheVariants.{Memory};
 ghost use Rattle.html_grammar.specs.Slices.{first_passes};
-ghost use Rattle.tree_actions.specs.Parsed.{parsed};
+ghost use Rattle.tree_actions.specs.Parsed.{state_of};
 ghost use Rattle.tree_rules.specs.Rows.{is_white_space};
 ghost use Rattle.tree_rules.specs.Settling.{Ready};
 ghost use Rattle.tree_rules.specs.Table.{text_row};
@@ -23,13 +23,10 @@ use tree_texts::{TextClass, runs_of_text};
 
 /// Characters of text, where no line feed is left out.
 pub fn take_text<S: TreeSink>(page: &mut Parse<S>, text: &str) -> Result<(), ParseFault>
-    requires calm { IsCalm (parsed S.number S.forest S.quirks page.old.kept page.old.tree.held page.old.tree.sink) }
-    ensures seen { OnOk result (
-        parsed S.number S.forest S.quirks page.new.kept page.new.tree.held page.new.tree.sink
-        ≡ took (chars text.now)
-        (parsed S.number S.forest S.quirks page.old.kept page.old.tree.held page.old.tree.sink)) }
-    ensures calm { OnOk result (IsCalm
-        (parsed S.number S.forest S.quirks page.new.kept page.new.tree.held page.new.tree.sink)) }
+    requires calm { IsCalm (state_of S.number S.forest S.quirks page.old) }
+    ensures seen { OnOk result (state_of S.number S.forest S.quirks page.new ≡ took (chars text.now)
+        (state_of S.number S.forest S.quirks page.old)) }
+    ensures calm { OnOk result (IsCalm (state_of S.number S.forest S.quirks page.new)) }
     ensures memory { IfErr result (λ e. e ≡ Memory) }
 {
     let mut rest = text;
@@ -41,16 +38,13 @@ pub fn take_text<S: TreeSink>(page: &mut Parse<S>, text: &str) -> Result<(), Par
 
 // The longest run in front that the mode which takes the first character treats alike; the answer is what is left.
 fn take_run<'a, S: TreeSink>(page: &mut Parse<S>, text: &'a str) -> Result<&'a str, ParseFault>
-    requires calm { IsCalm (parsed S.number S.forest S.quirks page.old.kept page.old.tree.held page.old.tree.sink) }
+    requires calm { IsCalm (state_of S.number S.forest S.quirks page.old) }
     requires some { chars text.now ≡ [] → ⊥ }
-    ensures seen { IfOk result (λ left. took (chars left.now)
-        (parsed S.number S.forest S.quirks page.new.kept page.new.tree.held page.new.tree.sink)
-        ≡ took (chars text.now)
-        (parsed S.number S.forest S.quirks page.old.kept page.old.tree.held page.old.tree.sink)) }
+    ensures seen { IfOk result (λ left. took (chars left.now) (state_of S.number S.forest S.quirks page.new) ≡ took
+        (chars text.now) (state_of S.number S.forest S.quirks page.old)) }
     ensures less { IfOk result (λ left. length (chars left.now) < length (chars text.now)) }
     ensures utf8 { IfOk result (λ left. IsUtf8 left.now) }
-    ensures calm { OnOk result (IsCalm
-        (parsed S.number S.forest S.quirks page.new.kept page.new.tree.held page.new.tree.sink)) }
+    ensures calm { OnOk result (IsCalm (state_of S.number S.forest S.quirks page.new)) }
     ensures memory { IfErr result (λ e. e ≡ Memory) }
 {
     let is_space = first_is_white_space(text);
@@ -65,18 +59,14 @@ fn take_front<'a, S: TreeSink>(
     text: &'a str,
     is_space: bool,
 ) -> Result<&'a str, ParseFault>
-    requires calm { IsCalm (parsed S.number S.forest S.quirks page.old.kept page.old.tree.held page.old.tree.sink) }
-    requires settled { IsSettled is_space
-        (parsed S.number S.forest S.quirks page.old.kept page.old.tree.held page.old.tree.sink) }
+    requires calm { IsCalm (state_of S.number S.forest S.quirks page.old) }
+    requires settled { IsSettled is_space (state_of S.number S.forest S.quirks page.old) }
     requires first { first_passes (is_alike is_space) (chars text.now) ≡ true }
-    ensures seen { IfOk result (λ left. took (chars left.now)
-        (parsed S.number S.forest S.quirks page.new.kept page.new.tree.held page.new.tree.sink)
-        ≡ took (chars text.now)
-        (parsed S.number S.forest S.quirks page.old.kept page.old.tree.held page.old.tree.sink)) }
+    ensures seen { IfOk result (λ left. took (chars left.now) (state_of S.number S.forest S.quirks page.new) ≡ took
+        (chars text.now) (state_of S.number S.forest S.quirks page.old)) }
     ensures less { IfOk result (λ left. length (chars left.now) < length (chars text.now)) }
     ensures utf8 { IfOk result (λ left. IsUtf8 left.now) }
-    ensures calm { OnOk result (IsCalm
-        (parsed S.number S.forest S.quirks page.new.kept page.new.tree.held page.new.tree.sink)) }
+    ensures calm { OnOk result (IsCalm (state_of S.number S.forest S.quirks page.new)) }
     ensures memory { IfErr result (λ e. e ≡ Memory) }
 {
     runs_of_text();
@@ -96,15 +86,11 @@ fn take_front<'a, S: TreeSink>(
 
 // text goes from mode to mode, up to one that takes it
 fn hand_on<S: TreeSink>(page: &mut Parse<S>, is_space: bool) -> Result<(), ParseFault>
-    requires calm { IsCalm (parsed S.number S.forest S.quirks page.old.kept page.old.tree.held page.old.tree.sink) }
+    requires calm { IsCalm (state_of S.number S.forest S.quirks page.old) }
     ensures same { OnOk result ((c : ℕ) (cs : List ℕ) → is_white_space c ≡ is_space → took (c ∷ cs)
-        (parsed S.number S.forest S.quirks page.new.kept page.new.tree.held page.new.tree.sink)
-        ≡ took (c ∷ cs)
-        (parsed S.number S.forest S.quirks page.old.kept page.old.tree.held page.old.tree.sink)) }
-    ensures settled { OnOk result (IsSettled is_space
-        (parsed S.number S.forest S.quirks page.new.kept page.new.tree.held page.new.tree.sink)) }
-    ensures calm { OnOk result (IsCalm
-        (parsed S.number S.forest S.quirks page.new.kept page.new.tree.held page.new.tree.sink)) }
+        (state_of S.number S.forest S.quirks page.new) ≡ took (c ∷ cs) (state_of S.number S.forest S.quirks page.old)) }
+    ensures settled { OnOk result (IsSettled is_space (state_of S.number S.forest S.quirks page.new)) }
+    ensures calm { OnOk result (IsCalm (state_of S.number S.forest S.quirks page.new)) }
     ensures memory { IfErr result (λ e. e ≡ Memory) }
 {
     'rules: while is_handed_on(page, is_space) {
@@ -115,16 +101,13 @@ fn hand_on<S: TreeSink>(page: &mut Parse<S>, is_space: bool) -> Result<(), Parse
 
 // the mode hands text on once
 fn pass_on<S: TreeSink>(page: &mut Parse<S>, is_space: bool) -> Result<(), ParseFault>
-    requires calm { IsCalm (parsed S.number S.forest S.quirks page.old.kept page.old.tree.held page.old.tree.sink) }
-    requires mode { AreByMode (parsed S.number S.forest S.quirks page.old.kept page.old.tree.held page.old.tree.sink) }
-    requires handed { IsHandedOn (text_row
-        (parsed S.number S.forest S.quirks page.old.kept page.old.tree.held page.old.tree.sink).mode is_space
-        (parsed S.number S.forest S.quirks page.old.kept page.old.tree.held page.old.tree.sink)) }
-    ensures passed { OnOk result (IsPassedOn is_space
-        (parsed S.number S.forest S.quirks page.old.kept page.old.tree.held page.old.tree.sink)
-        (parsed S.number S.forest S.quirks page.new.kept page.new.tree.held page.new.tree.sink)) }
-    ensures ready { OnOk result (Ready
-        (parsed S.number S.forest S.quirks page.new.kept page.new.tree.held page.new.tree.sink)) }
+    requires calm { IsCalm (state_of S.number S.forest S.quirks page.old) }
+    requires mode { AreByMode (state_of S.number S.forest S.quirks page.old) }
+    requires handed { IsHandedOn (text_row (state_of S.number S.forest S.quirks page.old).mode is_space
+        (state_of S.number S.forest S.quirks page.old)) }
+    ensures passed { OnOk result (IsPassedOn is_space (state_of S.number S.forest S.quirks page.old)
+        (state_of S.number S.forest S.quirks page.new)) }
+    ensures ready { OnOk result (Ready (state_of S.number S.forest S.quirks page.new)) }
     ensures memory { IfErr result (λ e. e ≡ Memory) }
 {
     runs_of_text();
@@ -134,14 +117,10 @@ fn pass_on<S: TreeSink>(page: &mut Parse<S>, is_space: bool) -> Result<(), Parse
 
 // whether the mode hands text on
 fn is_handed_on<S: TreeSink>(page: &Parse<S>, is_space: bool) -> bool
-    requires ready { Ready (parsed S.number S.forest S.quirks page.now.kept page.now.tree.held page.now.tree.sink) }
-    ensures yes { result ≡ true → AreByMode
-        (parsed S.number S.forest S.quirks page.now.kept page.now.tree.held page.now.tree.sink)
-        × IsHandedOn (text_row
-        (parsed S.number S.forest S.quirks page.now.kept page.now.tree.held page.now.tree.sink).mode is_space
-        (parsed S.number S.forest S.quirks page.now.kept page.now.tree.held page.now.tree.sink)) }
-    ensures no { result ≡ false → IsSettled is_space
-        (parsed S.number S.forest S.quirks page.now.kept page.now.tree.held page.now.tree.sink) }
+    requires ready { Ready (state_of S.number S.forest S.quirks page.now) }
+    ensures yes { result ≡ true → AreByMode (state_of S.number S.forest S.quirks page.now) × IsHandedOn (text_row
+        (state_of S.number S.forest S.quirks page.now).mode is_space (state_of S.number S.forest S.quirks page.now)) }
+    ensures no { result ≡ false → IsSettled is_space (state_of S.number S.forest S.quirks page.now) }
 {
     if !takes_text_here(page) {
         return false;
@@ -151,13 +130,10 @@ fn is_handed_on<S: TreeSink>(page: &Parse<S>, is_space: bool) -> bool
 
 // characters are inserted; others than white space refuse framesets
 fn say_told<S: TreeSink>(page: &mut Parse<S>, run: &str) -> Result<(), ParseFault>
-    requires ready { Ready (parsed S.number S.forest S.quirks page.old.kept page.old.tree.held page.old.tree.sink) }
-    ensures seen { OnOk result (
-        parsed S.number S.forest S.quirks page.new.kept page.new.tree.held page.new.tree.sink
-        ≡ told (chars run.now)
-        (parsed S.number S.forest S.quirks page.old.kept page.old.tree.held page.old.tree.sink)) }
-    ensures ready { OnOk result (Ready
-        (parsed S.number S.forest S.quirks page.new.kept page.new.tree.held page.new.tree.sink)) }
+    requires ready { Ready (state_of S.number S.forest S.quirks page.old) }
+    ensures seen { OnOk result (state_of S.number S.forest S.quirks page.new ≡ told (chars run.now)
+        (state_of S.number S.forest S.quirks page.old)) }
+    ensures ready { OnOk result (Ready (state_of S.number S.forest S.quirks page.new)) }
     ensures memory { IfErr result (λ e. e ≡ Memory) }
 {
     let alloc = *page.kept.template_modes.allocator();
@@ -171,18 +147,14 @@ fn say_told<S: TreeSink>(page: &mut Parse<S>, run: &str) -> Result<(), ParseFaul
 
 // a run by the mode
 fn say_as<S: TreeSink>(page: &mut Parse<S>, class: TextClass, run: &str) -> Result<(), ParseFault>
-    requires calm { IsCalm (parsed S.number S.forest S.quirks page.old.kept page.old.tree.held page.old.tree.sink) }
-    requires mode { AreByMode (parsed S.number S.forest S.quirks page.old.kept page.old.tree.held page.old.tree.sink) }
-    requires all { AreOfClass class (chars run.now)
-        (parsed S.number S.forest S.quirks page.old.kept page.old.tree.held page.old.tree.sink) }
+    requires calm { IsCalm (state_of S.number S.forest S.quirks page.old) }
+    requires mode { AreByMode (state_of S.number S.forest S.quirks page.old) }
+    requires all { AreOfClass class (chars run.now) (state_of S.number S.forest S.quirks page.old) }
     requires some { chars run.now ≡ [] → ⊥ }
     requires apart { class ≡ HandedOn → ⊥ }
-    ensures seen { OnOk result (
-        parsed S.number S.forest S.quirks page.new.kept page.new.tree.held page.new.tree.sink
-        ≡ took (chars run.now)
-        (parsed S.number S.forest S.quirks page.old.kept page.old.tree.held page.old.tree.sink)) }
-    ensures calm { OnOk result (IsCalm
-        (parsed S.number S.forest S.quirks page.new.kept page.new.tree.held page.new.tree.sink)) }
+    ensures seen { OnOk result (state_of S.number S.forest S.quirks page.new ≡ took (chars run.now)
+        (state_of S.number S.forest S.quirks page.old)) }
+    ensures calm { OnOk result (IsCalm (state_of S.number S.forest S.quirks page.new)) }
     ensures memory { IfErr result (λ e. e ≡ Memory) }
 {
     runs_of_text();

@@ -1,6 +1,6 @@
 //! How a mode takes text (WHATWG HTML, 13.2.6.4).
 ghost use Rattle.std.specs.Prelude.{◌≡◌, Bool, false, true};
-ghost use Rattle.tree_actions.specs.Parsed.{parsed};
+ghost use Rattle.tree_actions.specs.Parsed.{state_of};
 ghost use Rattle.tree_rules.specs.InColumnGroup.{in_column_group_text};
 ghost use Rattle.tree_rules.specs.InTable.{in_table_text_row};
 ghost use Rattle.tree_rules.specs.Settling.{Ready};
@@ -16,10 +16,9 @@ use tree_words::InsertionMode;
 
 /// How the mode takes characters, all white space or none, by the rules for HTML.
 pub fn text_class<S: TreeSink>(page: &Parse<S>, is_space: bool) -> TextClass
-    requires ready { Ready (parsed S.number S.forest S.quirks page.now.kept page.now.tree.held page.now.tree.sink) }
-    ensures { IsOfClass result is_space (text_row
-        (parsed S.number S.forest S.quirks page.now.kept page.now.tree.held page.now.tree.sink).mode is_space
-        (parsed S.number S.forest S.quirks page.now.kept page.now.tree.held page.now.tree.sink)) }
+    requires ready { Ready (state_of S.number S.forest S.quirks page.now) }
+    ensures { IsOfClass result is_space (text_row (state_of S.number S.forest S.quirks page.now).mode is_space
+        (state_of S.number S.forest S.quirks page.now)) }
 {
     match page.kept.mode {
         InsertionMode::Initial | InsertionMode::BeforeHtml | InsertionMode::BeforeHead => {
@@ -71,9 +70,9 @@ pub fn text_class<S: TreeSink>(page: &Parse<S>, is_space: bool) -> TextClass
 
 // in a table text is collected where the current node is a part of it
 fn class_in_table<S: TreeSink>(page: &Parse<S>) -> TextClass
-    requires ready { Ready (parsed S.number S.forest S.quirks page.now.kept page.now.tree.held page.now.tree.sink) }
+    requires ready { Ready (state_of S.number S.forest S.quirks page.now) }
     ensures { (is_space : Bool) → IsOfClass result is_space (in_table_text_row is_space
-        (parsed S.number S.forest S.quirks page.now.kept page.now.tree.held page.now.tree.sink)) }
+        (state_of S.number S.forest S.quirks page.now)) }
 {
     if page.collects_text() {
         return TextClass::HandedOn;
@@ -83,9 +82,8 @@ fn class_in_table<S: TreeSink>(page: &Parse<S>) -> TextClass
 
 // in a group of columns white space is inserted
 fn class_in_column_group<S: TreeSink>(page: &Parse<S>, is_space: bool) -> TextClass
-    requires ready { Ready (parsed S.number S.forest S.quirks page.now.kept page.now.tree.held page.now.tree.sink) }
-    ensures { IsOfClass result is_space (in_column_group_text is_space
-        (parsed S.number S.forest S.quirks page.now.kept page.now.tree.held page.now.tree.sink)) }
+    requires ready { Ready (state_of S.number S.forest S.quirks page.now) }
+    ensures { IsOfClass result is_space (in_column_group_text is_space (state_of S.number S.forest S.quirks page.now)) }
 {
     if is_space {
         return TextClass::Inserted;

@@ -2,7 +2,7 @@
 ghost use Rattle.std.specs.Prelude.{◌≡◌, IfErr, IfOk, OnOk};
 ghost use Rattle.html_lexemes.specs.declared.fault.ParseFault.TheVariants.{Memory};
 ghost use Rattle.tree_actions.specs.Outcomes.{came_to, outcome};
-ghost use Rattle.tree_actions.specs.Parsed.{parsed};
+ghost use Rattle.tree_actions.specs.Parsed.{state_of};
 ghost use Rattle.tree_rules.specs.Settling.{Ready};
 ghost use Rattle.tree_rules.specs.InTable.{in_table_text_row};
 ghost use Rattle.std.specs.Prelude.{false};
@@ -22,15 +22,11 @@ pub fn hand_text_on<S: TreeSink>(
     page: &mut Parse<S>,
     is_space: bool,
 ) -> Result<Flow<S::Handle>, ParseFault>
-    requires ready { Ready (parsed S.number S.forest S.quirks page.old.kept page.old.tree.held page.old.tree.sink) }
-    ensures came { IfOk result (λ flow.
-        came_to flow (parsed S.number S.forest S.quirks page.new.kept page.new.tree.held page.new.tree.sink)
-        ≡ outcome S.handle (for_null (text_row
-        (parsed S.number S.forest S.quirks page.old.kept page.old.tree.held page.old.tree.sink).mode is_space
-        (parsed S.number S.forest S.quirks page.old.kept page.old.tree.held page.old.tree.sink)))
-        (parsed S.number S.forest S.quirks page.old.kept page.old.tree.held page.old.tree.sink)) }
-    ensures ready { OnOk result (Ready
-        (parsed S.number S.forest S.quirks page.new.kept page.new.tree.held page.new.tree.sink)) }
+    requires ready { Ready (state_of S.number S.forest S.quirks page.old) }
+    ensures came { IfOk result (λ flow. came_to flow (state_of S.number S.forest S.quirks page.new)
+        ≡ outcome S.handle (for_null (text_row (state_of S.number S.forest S.quirks page.old).mode is_space
+        (state_of S.number S.forest S.quirks page.old))) (state_of S.number S.forest S.quirks page.old)) }
+    ensures ready { OnOk result (Ready (state_of S.number S.forest S.quirks page.new)) }
     ensures memory { IfErr result (λ e. e ≡ Memory) }
 {
     match page.kept.mode {
@@ -105,14 +101,11 @@ pub fn hand_text_on<S: TreeSink>(
 
 // text in a table is collected where the current node is a part of a table
 fn collect_text_here<S: TreeSink>(page: &mut Parse<S>) -> Result<Flow<S::Handle>, ParseFault>
-    requires ready { Ready (parsed S.number S.forest S.quirks page.old.kept page.old.tree.held page.old.tree.sink) }
-    ensures came { IfOk result (λ flow.
-        came_to flow (parsed S.number S.forest S.quirks page.new.kept page.new.tree.held page.new.tree.sink)
-        ≡ outcome S.handle (for_null (in_table_text_row false
-        (parsed S.number S.forest S.quirks page.old.kept page.old.tree.held page.old.tree.sink)))
-        (parsed S.number S.forest S.quirks page.old.kept page.old.tree.held page.old.tree.sink)) }
-    ensures ready { OnOk result (Ready
-        (parsed S.number S.forest S.quirks page.new.kept page.new.tree.held page.new.tree.sink)) }
+    requires ready { Ready (state_of S.number S.forest S.quirks page.old) }
+    ensures came { IfOk result (λ flow. came_to flow (state_of S.number S.forest S.quirks page.new)
+        ≡ outcome S.handle (for_null (in_table_text_row false (state_of S.number S.forest S.quirks page.old)))
+        (state_of S.number S.forest S.quirks page.old)) }
+    ensures ready { OnOk result (Ready (state_of S.number S.forest S.quirks page.new)) }
     ensures memory { IfErr result (λ e. e ≡ Memory) }
 {
     if !page.collects_text() {

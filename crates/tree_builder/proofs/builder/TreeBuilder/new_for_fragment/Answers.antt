@@ -1,5 +1,5 @@
 use Rattle.std.proofs.Common.{option_map, rules, subst, sym}
-use Rattle.html_grammar.specs.Items.{Item}
+use Rattle.html_grammar.specs.Items.{Item, error}
 use Rattle.tree_builder.proofs.FragmentLemmas.{fragment_welcomes}
 use Rattle.tree_builder.proofs.builder.TreeBuilder.new_for_fragment.Goals as goal
 use Rattle.tree_rules.specs.State.{State}
@@ -14,3 +14,10 @@ returns-in-Ok-clause-hears g c =
     subst (λ (s : State). (item : Item) → IsWelcome s item) (sym (returns-in-Ok-clause-begun g c))
     (fragment_welcomes c.args.opts (tree.number c.args.context) (option_map tree.number c.args.form)
     (tree.forest c.args.sink) (tree.quirks c.args.sink))
+
+pub returns-in-Ok-clause-ready : goal.returns-in-Ok-clause-ready
+returns-in-Ok-clause-ready g c = record {
+  works = (returns-in-Ok-clause-hears g c error).works;
+  ready = c.in-Ok.ensures.ready;
+  actions = c.new-builder.ensures.ready.actions;
+}
