@@ -1,6 +1,7 @@
 //! The "in head" insertion mode (WHATWG HTML, 13.2.6.4.4).
 ghost use Rattle.std.specs.Prelude.{◌≡◌, IfErr, IfOk, OnOk};
 ghost use Rattle.html_lexemes.specs.declared.fault.ParseFault.TheVariants.{Memory};
+ghost use Rattle.html_lexemes.specs.declared.states.RawKind.TheVariants.{ScriptData};
 ghost use Rattle.tag_groups.specs.declared.group.TagGroup.TheVariants.{Template};
 ghost use Rattle.tree_actions.specs.Outcomes.{came_to, outcome};
 ghost use Rattle.tree_actions.specs.Parsed.{state_of};
@@ -48,7 +49,7 @@ pub fn in_head_start<S: TreeSink>(
         TagGroup::Title => raw_start(page, target, tag, RawKind::Rcdata),
         TagGroup::Noscript => noscript_in_head(page, target, tag),
         TagGroup::Noframes | TagGroup::Style => raw_start(page, target, tag, RawKind::Rawtext),
-        TagGroup::Script => raw_start(page, target, tag, RawKind::ScriptData),
+        TagGroup::Script => script_start(page, target, tag),
         TagGroup::Template => template_start(page, target, tag),
         TagGroup::Head => Ok(Flow::Done),
         _ => close_head(page),
@@ -74,6 +75,24 @@ pub fn meta_start<S: TreeSink>(
     };
     let encoding = Text::from_str(*page.kept.template_modes.allocator(), encoding)?;
     Ok(Flow::Asks(TokenSinkResult::EncodingIndicator(encoding)))
+}
+
+// "script": one of a fragment must not run
+fn script_start<S: TreeSink>(
+    page: &mut Parse<S>,
+    target: Target,
+    tag: &Tag,
+) -> Result<Flow<S::Handle>, ParseFault>
+    requires ready { Ready (state_of S.number S.forest S.quirks page.old) }
+    ensures came { IfOk result (λ flow. came_to flow (state_of S.number S.forest S.quirks page.new)
+        ≡ outcome S.handle (reads_raw ScriptData (insert target tag.now ∷ []))
+        (state_of S.number S.forest S.quirks page.old)) }
+    ensures ready { OnOk result (Ready (state_of S.number S.forest S.quirks page.new)) }
+    ensures memory { IfErr result (λ e. e ≡ Memory) }
+{
+    page.insert_at(target, tag)?;
+    page.mark_script_of_fragment()?;
+    Ok(read_raw(page, RawKind::ScriptData))
 }
 
 /// An element whose contents are text.

@@ -38,7 +38,7 @@ pub fn text_mode_end<S: TreeSink>(
     }
 }
 
-/// The end of the page: the mode that stood takes it.
+/// The end of the page: a script that is open must not run, and the mode that stood takes the end.
 pub fn text_mode_end_of_file<S: TreeSink>(
     page: &mut Parse<S>,
 ) -> Result<Flow<S::Handle>, ParseFault>
@@ -48,6 +48,7 @@ pub fn text_mode_end_of_file<S: TreeSink>(
     ensures ready { OnOk result (Ready (state_of S.number S.forest S.quirks page.new)) }
     ensures memory { IfErr result (λ e. e ≡ Memory) }
 {
+    page.mark_script()?;
     end_text(page)?;
     Ok(Flow::Again)
 }

@@ -14,6 +14,9 @@ use Rattle.tree_rules.specs.Actions.{act, inserted_and_listed, keep_pending, lat
 use Rattle.tree_rules.specs.State.{State}
 use Rattle.tree_words.specs.declared.modes.InsertionMode.{InsertionMode}
 
+pub with_building : (s : State) {old new : Building} → old ≡ new → record s { tree = old } ≡ record s { tree = new }
+with_building s e = ap (λ (b : Building). record s { tree = b }) e
+
 pub with_modes : (s : State) {old new : List InsertionMode} → old ≡ new →
     record s { template_modes = old } ≡ record s { template_modes = new }
 with_modes s e = ap (λ (modes : List InsertionMode). record s { template_modes = modes }) e

@@ -26,7 +26,9 @@ impl<S: TreeSink> Parse<S> {
         ensures memory { IfErr result (λ e. e ≡ Memory) }
     {
         actions_keep_what_is_ready();
-        self.tree.insert_element_for(tag)?;
+        let name = QualName::new(Namespace::Html, tag.name.try_clone()?);
+        let attrs = tag.attrs.try_clone()?;
+        self.insert_html(PushFlag::Push, name, attrs)?;
         Ok(())
     }
 
@@ -42,7 +44,7 @@ impl<S: TreeSink> Parse<S> {
         actions_keep_what_is_ready();
         let name = QualName::new(Namespace::Html, tag.name.try_clone()?);
         let attrs = tag.attrs.try_clone()?;
-        self.tree.insert_element(PushFlag::NoPush, name, attrs)?;
+        self.insert_html(PushFlag::NoPush, name, attrs)?;
         Ok(())
     }
 
@@ -240,8 +242,7 @@ impl<S: TreeSink> Parse<S> {
         let alloc = *self.kept.template_modes.allocator();
         let name = QualName::new(Namespace::Html, LocalName::from_str(alloc, word)?);
         let attributes = tag.attrs.try_clone()?;
-        self.tree
-            .insert_element(PushFlag::NoPush, name, attributes)?;
+        self.insert_html(PushFlag::NoPush, name, attributes)?;
         Ok(())
     }
 

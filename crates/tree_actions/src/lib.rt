@@ -7,8 +7,10 @@ mod changes;
 mod elements;
 mod flow;
 mod foreign;
+mod forms;
 mod kept;
 mod parse;
+mod scripts;
 mod stack;
 
 pub use flow::Flow;
