@@ -1,12 +1,11 @@
-//! Texts within a line: `\\`, `\n`, `\t`, `\r` and `\u{HEX}` stand for characters, and `\N` for no text.
-use crate::error::Error;
+use crate::field_fault::FieldFault;
 use std::alloc::{AllocError, Global};
 
 /// What stands for no text.
-pub(crate) const NO_TEXT: &str = "\\N";
+pub const NO_TEXT: &str = "\\N";
 
 /// The text that a field stands for.
-pub(crate) fn unescaped(alloc: Global, field: &str) -> Result<String, Error> {
+pub fn unescaped(alloc: Global, field: &str) -> Result<String, FieldFault> {
     let mut text = String::new(alloc);
     // whether the next part is taken as it stands: it is the first, or follows `\\`
     let mut is_plain = true;
@@ -19,19 +18,19 @@ pub(crate) fn unescaped(alloc: Global, field: &str) -> Result<String, Error> {
             is_plain = true;
         } else {
             let Some((c, rest)) = escaped_character(part) else {
-                return Err(Error::Case("a bad escape"));
+                return Err(FieldFault::Escape);
             };
             text.push(c)?;
             text.push_str(rest)?;
         }
     }
     if is_plain {
-        return Err(Error::Case("a backslash at the end"));
+        return Err(FieldFault::End);
     }
     Ok(text)
 }
 
-/// The character that a text behind a backslash begins with, and what follows it.
+// the character that a text behind a backslash begins with, and what follows it
 fn escaped_character(text: &str) -> Option<(char, &str)> {
     if let Some(rest) = text.strip_prefix('n') {
         return Some(('\n', rest));
@@ -46,7 +45,7 @@ fn escaped_character(text: &str) -> Option<(char, &str)> {
     Some((character_of(digits)?, rest))
 }
 
-/// The character of some hexadecimal digits.
+// the character of some hexadecimal digits
 fn character_of(digits: &str) -> Option<char> {
     if digits.is_empty() {
         return None;
@@ -59,8 +58,8 @@ fn character_of(digits: &str) -> Option<char> {
     char::from_u32(code)
 }
 
-/// Writes a text with its escapes.
-pub(crate) fn push_escaped(line: &mut String, text: &str) -> Result<(), AllocError> {
+/// Adds a text with its escapes to a line.
+pub fn push_escaped(line: &mut String, text: &str) -> Result<(), AllocError> {
     for c in text.chars() {
         match c {
             '\\' => line.push_str("\\\\")?,
@@ -74,7 +73,7 @@ pub(crate) fn push_escaped(line: &mut String, text: &str) -> Result<(), AllocErr
     Ok(())
 }
 
-/// Whether a character does not show by itself: a control, a mark on what precedes it, or U+FEFF.
+// whether a character does not show by itself: a control, a mark on what precedes it, or U+FEFF
 fn is_unseen(c: char) -> bool {
     c.is_control() || matches!(c, '\u{20d0}'..='\u{20ff}' | '\u{feff}')
 }

@@ -1,32 +1,35 @@
-//! The lines on the tokens of a case.
-use crate::escapes::{NO_TEXT, push_escaped};
-use html_tokenizer::html_lexemes::{Attribute, Doctype, Tag, TagKind, Text, Token};
+use html_lexemes::{Attribute, Doctype, Tag, TagKind, Text, Token};
+use row_fields::{NO_TEXT, push_field, push_line};
 use std::alloc::{AllocError, Global};
 
-/// Lines, and the text whose line is still to come, since more may follow it.
+/// A line for each token and each attribute. Neighbouring texts are one line; the end has none.
 #[derive(Drop)]
-struct Listing {
+pub struct TokenLines {
     lines: String,
+    // of the line that is still to come, since more may follow it
     text: String,
 }
 
-/// A line for each token and each attribute, and an empty line. Neighbouring texts are one line; errors and the end have none.
-pub(crate) fn lines_of(alloc: Global, tokens: &[Token]) -> Result<String, AllocError> {
-    let mut listing = Listing {
-        lines: String::new(alloc),
-        text: String::new(alloc),
-    };
+/// The lines of some tokens.
+pub fn lines_of(alloc: Global, tokens: &[Token]) -> Result<String, AllocError> {
+    let mut lines = TokenLines::new(alloc);
     for token in tokens {
-        listing.add(token)?;
+        lines.add(token)?;
     }
-    listing.end_text()?;
-    let Listing { mut lines, text: _ } = listing;
-    lines.push('\n')?;
-    Ok(lines)
+    lines.into_text()
 }
 
-impl Listing {
-    fn add(&mut self, token: &Token) -> Result<(), AllocError> {
+impl TokenLines {
+    /// No lines yet.
+    pub fn new(alloc: Global) -> TokenLines {
+        TokenLines {
+            lines: String::new(alloc),
+            text: String::new(alloc),
+        }
+    }
+
+    /// Adds what a token has, but for an error.
+    pub fn add(&mut self, token: &Token) -> Result<(), AllocError> {
         match token {
             Token::ParseError(_) | Token::EOFToken => Ok(()),
             Token::CharacterTokens(text) => self.text.push_str(text.as_str()),
@@ -49,7 +52,22 @@ impl Listing {
         }
     }
 
-    /// Writes the line of the text, if there is one.
+    /// Adds the line of an error, with the line of the page that it was told at.
+    pub fn add_error(&mut self, message: &str, line: u64) -> Result<(), AllocError> {
+        self.end_text()?;
+        write!(self.lines, "error\t{line}")?;
+        push_field(&mut self.lines, message)?;
+        self.lines.push('\n')
+    }
+
+    /// The lines.
+    pub fn into_text(mut self) -> Result<String, AllocError> {
+        self.end_text()?;
+        let TokenLines { lines, text: _ } = self;
+        Ok(lines)
+    }
+
+    // writes the line of the text, if there is one
     fn end_text(&mut self) -> Result<(), AllocError> {
         if !self.text.is_empty() {
             push_line(&mut self.lines, "text", self.text.as_str())?;
@@ -59,19 +77,7 @@ impl Listing {
     }
 }
 
-fn push_line(lines: &mut String, word: &str, text: &str) -> Result<(), AllocError> {
-    lines.push_str(word)?;
-    push_field(lines, text)?;
-    lines.push('\n')
-}
-
-/// Adds a text to a line, behind a tab.
-fn push_field(lines: &mut String, text: &str) -> Result<(), AllocError> {
-    lines.push('\t')?;
-    push_escaped(lines, text)
-}
-
-/// Adds a word where a flag is set, and else `-`.
+// adds a word where a flag is set, and else `-`
 fn push_flag(lines: &mut String, is_set: bool, word: &str) -> Result<(), AllocError> {
     push_field(lines, if is_set { word } else { "-" })
 }
@@ -107,7 +113,7 @@ fn push_doctype(lines: &mut String, doctype: &Doctype) -> Result<(), AllocError>
     lines.push('\n')
 }
 
-/// Adds a text to a line, or what stands for none.
+// adds a text to a line, or what stands for none
 fn push_if_given(lines: &mut String, text: &Option<Text>) -> Result<(), AllocError> {
     match text {
         Some(text) => push_field(lines, text.as_str()),
