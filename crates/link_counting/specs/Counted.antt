@@ -5,8 +5,8 @@ use Rattle.std.proofs.Common.{sym, ◌∙◌}
 use Rattle.text_marks.specs.Marks.{Mark, IsPrefix, IsSteady, link_start, link_end, header, quote, unordered_item, ordered_item}
 use Rattle.text_decorators.specs.Texts.{plain_text}
 use Rattle.text_decorators.specs.Steady.{plain_is_steady}
-use Rattle.decorator_rows.specs.declared.link_note.LinkNote.{LinkNote}
-use Rattle.decorator_rows.specs.declared.link_note.LinkNote.TheVariants.{Outside, Link}
+use Rattle.link_counting.specs.declared.link_note.LinkNote.{LinkNote}
+use Rattle.link_counting.specs.declared.link_note.LinkNote.TheVariants.{Outside, Link}
 
 -- plain text, but that a link's number stands behind it
 abbrev pub counter_text : ℕ → Mark → List ℕ

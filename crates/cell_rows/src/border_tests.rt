@@ -1,3 +1,4 @@
+use crate::checks::holds;
 use std::alloc::{AllocError, Global};
 use std::test::Fail;
 use tagged_lines::TaggedLine;
@@ -82,41 +83,43 @@ const ROWS: [(usize, &[Step], &str); 12] = [
     (2, &[Step::Hole(1, "abc")], "─abc"),
 ];
 
+// whether a border is drawn so, and its copy alike and as wide
+fn is_drawn(alloc: Global, border: BorderHoriz<()>, text: &str) -> Result<bool, AllocError> {
+    let copy = border.try_clone()?;
+    let width = copy.width();
+    let line = border.into_tagged_line()?;
+    let is_copy = copy.into_tagged_line()? == line;
+    Ok(is_copy && line.width() == width && text_of(alloc, &line)?.as_str() == text)
+}
+
 #[test]
 fn borders_are_drawn(rt: HostRuntime) -> Result<(), Fail> {
-    let alloc = rt.alloc();
     for (width, steps, text) in ROWS {
-        let border = made(alloc, width, steps)?;
-        let copy = border.try_clone()?;
-        let line = border.into_tagged_line()?;
-        assert_eq!(rt; text_of(alloc, &line)?.as_str(), text);
-        assert_eq!(rt; line.width(), copy.width(), "of {width}");
-        assert!(rt; copy.into_tagged_line()? == line, "a copy of {width}");
+        let border = made(rt.alloc(), width, steps)?;
+        holds(&rt, is_drawn(rt.alloc(), border, text)?, text);
     }
     Ok(())
+}
+
+// a border of slashes with joins
+fn slashes(alloc: Global) -> Result<BorderHoriz<()>, AllocError> {
+    let mut slashes = BorderHoriz::new_slashes(alloc, 3, ())?;
+    slashes.join_above(1)?;
+    slashes.join_below(2)?;
+    Ok(slashes)
 }
 
 #[test]
 fn borders_of_slashes_and_lines_above(rt: HostRuntime) -> Result<(), Fail> {
     let alloc = rt.alloc();
-    let mut slashes = BorderHoriz::new_slashes(alloc, 3, ())?;
-    slashes.join_above(1)?;
-    slashes.join_below(2)?;
-    assert!(rt; !slashes.has_holes());
-    assert_eq!(rt;
-        text_of(alloc, &slashes.into_tagged_line()?)?.as_str(),
-        "///"
-    );
-    let joined = made(
-        alloc,
-        5,
-        &[Step::Above(1), Step::Below(3), Step::Hole(4, "x")],
-    )?;
-    assert!(rt; joined.has_holes());
-    assert_eq!(rt;
-        text_of(alloc, &joined.lines_above(&())?)?.as_str(),
-        " │   "
-    );
+    let slashes = slashes(alloc)?;
+    holds(&rt, !slashes.has_holes(), "no holes");
+    holds(&rt, is_drawn(alloc, slashes, "///")?, "slashes");
+    let steps = [Step::Above(1), Step::Below(3), Step::Hole(4, "x")];
+    let joined = made(alloc, 5, &steps)?;
+    holds(&rt, joined.has_holes(), "a hole");
+    let above = text_of(alloc, &joined.lines_above(&())?)?;
+    holds(&rt, above.as_str() == " │   ", "lines above");
     Ok(())
 }
 
@@ -143,10 +146,8 @@ fn segments_lose_an_arm(rt: HostRuntime) {
         left.chop_left();
         let mut right = segment;
         right.chop_right();
-        assert_eq!(rt;
-            (segment.glyph(), left.glyph(), right.glyph()),
-            (whole, left_off, right_off)
-        );
+        let glyphs = (segment.glyph(), left.glyph(), right.glyph());
+        holds(&rt, glyphs == (whole, left_off, right_off), "a segment");
     }
 }
 
@@ -155,25 +156,35 @@ fn segments_lose_an_arm(rt: HostRuntime) {
 fn a_refused_hole_is_no_panic(rt: HostRuntime) {
     let steps = [Step::Below(1), Step::Hole(3, "x"), Step::FromAbove(5)];
     if let Ok(border) = made(rt.alloc(), 2, &steps) {
-        assert_eq!(rt; border.width(), 7);
+        holds(&rt, border.width() == 7, "a hole");
     }
+}
+
+// whether a line has so many columns, and it and its copy the text where it is widened
+fn is_widened(
+    alloc: Global,
+    line: RenderLine<()>,
+    columns: usize,
+    width: usize,
+    text: &str,
+) -> Result<bool, AllocError> {
+    let is_so = line.width() == columns;
+    let copy = line.try_clone()?.into_widened(alloc, width, &())?;
+    let wide = line.into_widened(alloc, width, &())?;
+    Ok(is_so && copy == wide && text_of(alloc, &wide)?.as_str() == text)
 }
 
 #[test]
 fn lines_of_blocks(rt: HostRuntime) -> Result<(), Fail> {
     let alloc = rt.alloc();
-    let border = RenderLine::Line(made(alloc, 3, &[Step::Below(1)])?);
-    assert_eq!(rt; border.width(), 3);
-    let copy = border.try_clone()?.into_tagged_line()?;
-    assert_eq!(rt; text_of(alloc, &copy)?.as_str(), "─┬─");
-    let text = String::from_str(alloc, "漢a")?;
-    let line = RenderLine::Text(TaggedLine::from_string(alloc, text, &())?);
-    assert_eq!(rt; line.width(), 3);
-    let copy = line.try_clone()?.into_tagged_line()?;
-    assert!(rt; copy == line.try_clone()?.into_tagged_line()?);
-    let wide = line.into_widened(alloc, 5, &())?;
-    assert_eq!(rt; text_of(alloc, &wide)?.as_str(), "漢a  ");
-    let wide = border.into_widened(alloc, 4, &())?;
-    assert_eq!(rt; text_of(alloc, &wide)?.as_str(), "─┬──");
+    for (width, text) in [(3, "─┬─"), (4, "─┬──")] {
+        let border = RenderLine::Line(made(alloc, 3, &[Step::Below(1)])?);
+        holds(&rt, is_widened(alloc, border, 3, width, text)?, text);
+    }
+    for (width, text) in [(3, "漢a"), (5, "漢a  ")] {
+        let line = TaggedLine::from_string(alloc, String::from_str(alloc, "漢a")?, &())?;
+        let line = RenderLine::Text(line);
+        holds(&rt, is_widened(alloc, line, 3, width, text)?, text);
+    }
     Ok(())
 }

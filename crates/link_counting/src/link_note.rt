@@ -13,7 +13,7 @@ pub enum LinkNote {
 
 impl EqualCopy for LinkNote {
     ghost use Rattle.std.proofs.Common.{rules};
-    ghost use Rattle.decorator_rows.specs.declared.link_note.LinkNote.{LinkNote};
+    ghost use Rattle.link_counting.specs.declared.link_note.LinkNote.{LinkNote};
 
     ghost Seen = { LinkNote };
 

@@ -1,7 +1,7 @@
 ghost use Rattle.std.specs.Prelude.{◌≡◌, ℕ, false};
-ghost use Rattle.decorator_rows.specs.Counted.{counter_text, note_at, links_behind, notes_are_one, counter_is_steady};
-ghost use Rattle.decorator_rows.specs.declared.link_note.LinkNote.{LinkNote as SeenNote};
-ghost use Rattle.decorator_rows.specs.declared.link_note.LinkNote.TheVariants.{Outside};
+ghost use Rattle.link_counting.specs.Counted.{counter_text, note_at, links_behind, notes_are_one, counter_is_steady};
+ghost use Rattle.link_counting.specs.declared.link_note.LinkNote.{LinkNote as SeenNote};
+ghost use Rattle.link_counting.specs.declared.link_note.LinkNote.TheVariants.{Outside};
 ghost use Rattle.text_decorators.specs.Texts.{AreFootnotes};
 ghost use Rattle.text_decorators.specs.Laws.{footnotes_are_one};
 

@@ -5,7 +5,7 @@ use Rattle.std.specs.Str.{chars}
 use Rattle.std.proofs.lemmas.Fmt.{IsAscii-decimal}
 use Rattle.std.proofs.lemmas.Str.{chars-append, chars-IsAscii, IsUtf8-from_ascii}
 use Rattle.text_marks.specs.Marks.{Mark, link_start, link_end}
-use Rattle.decorator_rows.specs.Linked.{linked}
+use Rattle.link_counting.specs.Linked.{linked}
 
 brackets : (cs : List ℕ) → chars (0x5D ∷ 0x5B ∷ cs) ≡ 0x5D ∷ 0x5B ∷ chars cs
 unfolding chars

@@ -1,7 +1,7 @@
 use Rattle.std.proofs.Common.{string_bytes, arith}
 use Rattle.std.proofs.lemmas.Result.{IfOk-weaker}
-use Rattle.decorator_rows.proofs.Characters.{numbered_end}
-use Rattle.decorator_rows.proofs.link_counter.LinkCounterTextDecorator.decorate_link_end.Goals as goal
+use Rattle.link_counting.proofs.Characters.{numbered_end}
+use Rattle.link_counting.proofs.link_counter.LinkCounterTextDecorator.decorate_link_end.Goals as goal
 
 pub returns-clause-text : goal.returns-clause-text
 returns-clause-text c = IfOk-weaker c.format.result _ _

@@ -1,6 +1,6 @@
 use Rattle.std.proofs.lemmas.Str.{IsUtf8-string_bytes}
-use Rattle.decorator_rows.proofs.Characters.{linked_bytes}
-use Rattle.decorator_rows.proofs.linked.link.Goals as goal
+use Rattle.link_counting.proofs.Characters.{linked_bytes}
+use Rattle.link_counting.proofs.linked.link.Goals as goal
 
 pub returns-clause-text : goal.returns-clause-text
 returns-clause-text g c = linked_bytes g.D.TextDecorator.text g.D.TextDecorator.after _ _ _ _ _ _ _ _ _

@@ -1,5 +1,5 @@
 ghost use Rattle.std.specs.Prelude.{◌≡◌, chars, string_bytes, IfOk, OnOk};
-ghost use Rattle.decorator_rows.specs.Linked.{linked, behind_link};
+ghost use Rattle.link_counting.specs.Linked.{linked, behind_link};
 
 use std::alloc::{AllocError, Global};
 use text_decorators::TextDecorator;
