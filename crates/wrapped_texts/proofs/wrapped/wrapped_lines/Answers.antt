@@ -2,9 +2,9 @@ use Rattle.std.proofs.Common.{false, map, subst, sym, ap, ◌∙◌}
 use Rattle.tagged_lines.specs.Tagged.{line_items}
 use Rattle.normal_text.specs.Layout.{AreLinesOf, NeverFits}
 use Rattle.text_wrapping.specs.Blocks.{ended_lines}
-use Rattle.text_rows.specs.Letters.{letters_of}
-use Rattle.text_rows.proofs.Pieces.{sources, letters_in_sources, no_marker_in_sources, piece_kept, pieces_kept, if_ok_map}
-use Rattle.text_rows.proofs.wrapped.wrapped_lines.Goals as goal
+use Rattle.wrapped_texts.specs.Letters.{letters_of}
+use Rattle.wrapped_texts.proofs.Pieces.{sources, letters_in_sources, no_marker_in_sources, piece_kept, pieces_kept, if_ok_map}
+use Rattle.wrapped_texts.proofs.wrapped.wrapped_lines.Goals as goal
 
 pub loop-piece-preserved : goal.loop-piece-preserved
 loop-piece-preserved g c =

@@ -9,7 +9,7 @@ use Rattle.normal_text.specs.Units.{lettered}
 use Rattle.normal_text.specs.Letters.{letters_of as letters_in, has_marker}
 use Rattle.text_wrapping.specs.Blocks.{Block, added}
 use Rattle.text_wrapping.specs.NormalBlocks.{normal_block}
-use Rattle.text_rows.specs.Letters.{letters_of}
+use Rattle.wrapped_texts.specs.Letters.{letters_of}
 
 -- what a block is given of the texts
 abbrev pub sources : {T S : Type 0} → (T → S) → List (TaggedString T) → List (Source S)

@@ -1,7 +1,7 @@
 ghost use Rattle.std.specs.Prelude.{◌≡◌, ◌⊎◌, false, map, All, ◌≤◌, IfOk, IfErr};
 ghost use Rattle.tagged_lines.specs.Tagged.{line_items, line_columns, IsJoined};
 ghost use Rattle.normal_text.specs.Layout.{AreLinesOf, NeverFits};
-ghost use Rattle.text_rows.specs.Letters.{letters_of};
+ghost use Rattle.wrapped_texts.specs.Letters.{letters_of};
 
 use std::alloc::Global;
 use text_block_renderer::{

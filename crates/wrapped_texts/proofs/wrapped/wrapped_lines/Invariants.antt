@@ -2,8 +2,8 @@ use Rattle.std.proofs.Common.{◌≡◌, take}
 use Rattle.std.specs.Prelude.{false}
 use Rattle.text_wrapping.specs.Blocks.{block_of, has_failed, HasJoinedLines}
 use Rattle.text_wrapping.specs.NormalBlocks.{normal_block}
-use Rattle.text_rows.proofs.Pieces.{sources}
-use Rattle.text_rows.proofs.wrapped.wrapped_lines.Given as goal
+use Rattle.wrapped_texts.proofs.Pieces.{sources}
+use Rattle.wrapped_texts.proofs.wrapped.wrapped_lines.Given as goal
 
 abbrev pub invariant-loop-piece : goal.invariant-loop-piece
 invariant-loop-piece g l =
