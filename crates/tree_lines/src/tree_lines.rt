@@ -1,8 +1,7 @@
-//! The lines on a tree.
-use crate::escapes::push_escaped;
+use html_lexemes::{Attribute, Attributes, Namespace, QualName};
 use html_render_dom::html_forest::QuirksMode;
 use html_render_dom::{Handle, NodeData, RcDom};
-use html_tree_builder::html_lexemes::{Attribute, Attributes, Namespace, QualName};
+use row_fields::{push_field, push_line};
 use std::alloc::{AllocError, Global};
 
 /// A node whose line is still to come, and how far below the document's children it stands.
@@ -12,33 +11,32 @@ struct Coming {
     level: usize,
 }
 
-/// A line for the quirks mode, of a page alone, and for each node, in order, one space before it for each level, and an
-/// empty line.
-pub(crate) fn lines_of(
-    alloc: Global,
-    dom: &RcDom,
-    is_fragment: bool,
-) -> Result<String, AllocError> {
+/// A line for the quirks mode, and the lines below the document.
+pub fn lines_of(alloc: Global, dom: &RcDom) -> Result<String, AllocError> {
     let mut lines = String::new(alloc);
-    if !is_fragment {
-        push_quirks(&mut lines, dom)?;
-    }
-    let mut coming = Vec::new(alloc);
+    push_line(&mut lines, "quirks", word_of(dom.quirks_mode()))?;
+    push_below(&mut lines, dom)?;
+    Ok(lines)
+}
+
+/// A line for each node below the document, in order, behind one space for each level. Below an element its attributes
+/// come first, and then a template's contents.
+pub fn lines_below(alloc: Global, dom: &RcDom) -> Result<String, AllocError> {
+    let mut lines = String::new(alloc);
+    push_below(&mut lines, dom)?;
+    Ok(lines)
+}
+
+fn push_below(lines: &mut String, dom: &RcDom) -> Result<(), AllocError> {
+    let mut coming = Vec::new(*lines.allocator());
     push_children(&mut coming, dom, dom.document(), 0)?;
     for _ in 0..u64::MAX {
         let Some(next) = coming.pop() else {
             break;
         };
-        push_node(&mut lines, &mut coming, dom, next)?;
+        push_node(lines, &mut coming, dom, next)?;
     }
-    lines.push('\n')?;
-    Ok(lines)
-}
-
-fn push_quirks(lines: &mut String, dom: &RcDom) -> Result<(), AllocError> {
-    lines.push_str("quirks")?;
-    push_field(lines, word_of(dom.quirks_mode()))?;
-    lines.push('\n')
+    Ok(())
 }
 
 fn word_of(mode: QuirksMode) -> &'static str {
@@ -103,9 +101,13 @@ fn push_node(
                 None => Ok(()),
             }
         }
-        Some(NodeData::ProcessingInstruction { .. }) | Some(NodeData::Document) | None => {
-            lines.push_str("another node\n")
+        Some(NodeData::ProcessingInstruction { target, contents }) => {
+            lines.push_str("instruction")?;
+            push_field(lines, target.as_str())?;
+            push_field(lines, contents.as_str())?;
+            lines.push('\n')
         }
+        Some(NodeData::Document) | None => lines.push_str("another node\n"),
     }
 }
 
@@ -158,16 +160,4 @@ fn push_level(lines: &mut String, level: usize) -> Result<(), AllocError> {
         lines.push(' ')?;
     }
     Ok(())
-}
-
-fn push_line(lines: &mut String, word: &str, text: &str) -> Result<(), AllocError> {
-    lines.push_str(word)?;
-    push_field(lines, text)?;
-    lines.push('\n')
-}
-
-/// Adds a text to a line, behind a tab.
-fn push_field(lines: &mut String, text: &str) -> Result<(), AllocError> {
-    lines.push('\t')?;
-    push_escaped(lines, text)
 }
