@@ -1,6 +1,6 @@
 //! Calls, as the lines of a script name them.
 use crate::error::{Error, ScriptFault};
-use crate::escapes::unescaped;
+use row_fields::unescaped;
 use std::alloc::Global;
 use text_block_renderer::WhiteSpace;
 
@@ -141,7 +141,7 @@ fn last_field(alloc: Global, field: &str) -> Result<String, Error> {
     if field.contains('\t') {
         return Err(Error::Script(ScriptFault::Call));
     }
-    unescaped(alloc, field)
+    Ok(unescaped(alloc, field)?)
 }
 
 fn mode_of(field: &str) -> Result<WhiteSpace, ScriptFault> {

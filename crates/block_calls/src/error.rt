@@ -1,3 +1,4 @@
+use row_fields::FieldFault;
 use std::alloc::{AllocError, AllocFailed};
 use std::io;
 use text_block_renderer::BlockError;
@@ -8,6 +9,9 @@ pub(crate) enum Error {
     /// A script that can't be done.
     #[error("bad script: {0}")]
     Script(#[from] ScriptFault),
+    /// A field of a script.
+    #[error("bad script: {0}")]
+    Field(#[from] FieldFault),
     /// A call was refused.
     #[error("a call was refused: {0}")]
     Refused(#[from] BlockError),
@@ -52,9 +56,6 @@ pub(crate) enum ScriptFault {
     /// A field that names no mark.
     #[error("no mark has that name")]
     Mark,
-    /// A text with an escape that stands for nothing.
-    #[error("a bad escape")]
-    Escape,
     /// An end where nothing has begun.
     #[error("an end without a start")]
     End,

@@ -10,7 +10,6 @@ mod blocks;
 mod call;
 mod case;
 mod error;
-mod escapes;
 mod telling;
 
 use case::Case;

@@ -1,6 +1,6 @@
 use crate::checks::holds;
 use crate::given::{ORANGE, given_by, lines_behind, pops_of, prefixes_of};
-use crate::{LinkCounter, LinkNote, counted_links, link, two_links};
+use link_counting::{LinkCounter, LinkNote, counted_links, link, two_links};
 use std::alloc::{AllocError, Global};
 use std::process::Abort;
 use std::test::Fail;

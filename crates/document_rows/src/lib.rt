@@ -1,5 +1,4 @@
-//! Tests alone: pages and the trees that the standard's rules make of them, parsed whole, a character at a time and cut
-//! in two everywhere; and each call of a parser.
+//! Tests alone: each call of a parser. What trees pages and fragments have is told by the program page_trees.
 #![tactic(auto)]
 
 #[cfg(test)]
@@ -7,8 +6,4 @@ mod checks;
 #[cfg(test)]
 mod parsing;
 #[cfg(test)]
-mod rows;
-#[cfg(test)]
 mod tests;
-#[cfg(test)]
-mod walk;

@@ -9,23 +9,8 @@ use html_render_dom::RcDom;
 use html_tree_builder::html_lexemes::{
     Attributes, LocalName, Namespace, ParseFault, QualName, ReferenceTable,
 };
-use html_tree_builder::{
-    ParseOpts, parse_document, parse_fragment_for_element, parse_fragment_pieces, parse_pieces,
-};
+use html_tree_builder::{ParseOpts, parse_document, parse_fragment_for_element};
 use std::alloc::{AllocError, Global};
-
-/// The tree of a page that comes in pieces.
-pub(crate) fn tree_of(alloc: Global, pieces: Vec<String>) -> Result<RcDom, ParseFault> {
-    a_page_alone_is_a_forest();
-    let table = ReferenceTable::basic(alloc)?;
-    parse_pieces(
-        alloc,
-        RcDom::new(alloc)?,
-        ParseOpts::default(),
-        table,
-        pieces,
-    )
-}
 
 /// The tree of a page, by each call of a parser: a piece, an error from outside, and the last piece or none.
 pub(crate) fn tree_by_calls(
@@ -57,28 +42,6 @@ fn tree_in<S: TreeSink + Drop>(
         Some(piece) => parser.one(piece),
         None => parser.finish(),
     }
-}
-
-/// The tree of a fragment that comes in pieces, in a context of this name.
-pub(crate) fn tree_of_fragment(
-    alloc: Global,
-    context: QualName,
-    pieces: Vec<String>,
-) -> Result<RcDom, ParseFault> {
-    a_page_alone_is_a_forest();
-    let table = ReferenceTable::basic(alloc)?;
-    let sink = RcDom::new(alloc)?;
-    let attrs = Attributes::new(alloc);
-    parse_fragment_pieces(
-        alloc,
-        sink,
-        ParseOpts::default(),
-        table,
-        context,
-        attrs,
-        true,
-        pieces,
-    )
 }
 
 /// The tree of a fragment in a context that stands in a form.
@@ -117,38 +80,7 @@ const PLAIN: ElementFlags = ElementFlags {
     mathml_annotation_xml_integration_point: false,
 };
 
-/// The name of an element of HTML.
-pub(crate) fn html_name(alloc: Global, word: &str) -> Result<QualName, AllocError> {
+// the name of an element of HTML
+fn html_name(alloc: Global, word: &str) -> Result<QualName, AllocError> {
     Ok(QualName::new(Namespace::Html, LocalName::from_str(alloc, word)?))
-}
-
-/// A text whole.
-pub(crate) fn whole(alloc: Global, text: &str) -> Result<Vec<String>, AllocError> {
-    let text = String::from_str(alloc, text)?;
-    Ok(vec![in alloc; text]?)
-}
-
-/// A text a character at a time.
-pub(crate) fn characters(alloc: Global, text: &str) -> Result<Vec<String>, AllocError> {
-    let mut pieces = Vec::new(alloc);
-    for c in text.chars() {
-        let mut piece = String::new(alloc);
-        piece.push(c)?;
-        pieces.push(piece)?;
-    }
-    Ok(pieces)
-}
-
-/// A text in two, cut behind so many characters.
-pub(crate) fn halves(alloc: Global, text: &str, count: usize) -> Result<Vec<String>, AllocError> {
-    let mut first = String::new(alloc);
-    let mut second = String::new(alloc);
-    for (at, c) in text.chars().enumerate() {
-        if at < count {
-            first.push(c)?;
-        } else {
-            second.push(c)?;
-        }
-    }
-    Ok(vec![in alloc; first, second]?)
 }

@@ -1,112 +1,44 @@
 use crate::checks::holds;
-use crate::parsing::{
-    characters, halves, html_name, tree_by_calls, tree_in_a_form, tree_of, tree_of_fragment, whole,
-};
-use crate::rows::{BODIES, FRAGMENTS, PAGES};
-use crate::walk::walk;
-use html_render_dom::html_forest::QuirksMode;
+use crate::parsing::{tree_by_calls, tree_in_a_form};
 use std::alloc::Global;
-use std::process::Abort;
 use std::test::Fail;
-
-// whether the tree of some pieces is written so
-fn is_parsed(alloc: Global, pieces: Vec<String>, expected: &str) -> Result<bool, Fail> {
-    let dom = tree_of(alloc, pieces)?;
-    Ok(walk(alloc, &dom)?.as_str() == expected)
-}
-
-// asks for the tree of a page that is parsed whole, a character at a time and cut in two everywhere
-fn check<R: Abort + AllocGlobal>(rt: &R, page: &str, expected: &str) -> Result<(), Fail> {
-    let alloc = rt.alloc();
-    holds(rt, is_parsed(alloc, whole(alloc, page)?, expected)?, page);
-    holds(
-        rt,
-        is_parsed(alloc, characters(alloc, page)?, expected)?,
-        page,
-    );
-    for count in 0..=page.chars().count() {
-        holds(
-            rt,
-            is_parsed(alloc, halves(alloc, page, count)?, expected)?,
-            page,
-        );
-    }
-    Ok(())
-}
-
-#[test]
-fn bodies_are_those_of_the_rules(rt: HostRuntime) -> Result<(), Fail> {
-    for (page, body) in &BODIES {
-        let mut expected = String::from_str(rt.alloc(), "<html><head></head><body>")?;
-        expected.push_str(body)?;
-        expected.push_str("</body></html>")?;
-        check(&rt, page, expected.as_str())?;
-    }
-    Ok(())
-}
-
-#[test]
-fn pages_are_those_of_the_rules(rt: HostRuntime) -> Result<(), Fail> {
-    for (page, expected) in &PAGES {
-        check(&rt, page, expected)?;
-    }
-    Ok(())
-}
-
-// whether what some pieces of a fragment make is written so
-fn is_fragment_parsed(
-    alloc: Global,
-    context: &str,
-    pieces: Vec<String>,
-    expected: &str,
-) -> Result<bool, Fail> {
-    let context = html_name(alloc, context)?;
-    let dom = tree_of_fragment(alloc, context, pieces)?;
-    Ok(walk(alloc, &dom)?.as_str() == expected)
-}
-
-#[test]
-fn fragments_are_those_of_the_rules(rt: HostRuntime) -> Result<(), Fail> {
-    let alloc = rt.alloc();
-    for (context, text, inner) in &FRAGMENTS {
-        let mut expected = String::from_str(alloc, "<html>")?;
-        expected.push_str(inner)?;
-        expected.push_str("</html>")?;
-        let expected = expected.as_str();
-        let at_once = is_fragment_parsed(alloc, context, whole(alloc, text)?, expected)?;
-        holds(&rt, at_once, text);
-        let by_one = is_fragment_parsed(alloc, context, characters(alloc, text)?, expected)?;
-        holds(&rt, by_one, text);
-        for count in 0..=text.chars().count() {
-            let cut = is_fragment_parsed(alloc, context, halves(alloc, text, count)?, expected)?;
-            holds(&rt, cut, text);
-        }
-    }
-    Ok(())
-}
+use tree_lines::{lines_below, lines_of};
 
 // a form in a form is left out, also where the outer one holds the context
 #[test]
 fn a_context_stands_in_a_form(rt: HostRuntime) -> Result<(), Fail> {
     let alloc = rt.alloc();
     let dom = tree_in_a_form(alloc, String::from_str(alloc, "<form>a")?)?;
-    holds(&rt, walk(alloc, &dom)?.as_str() == "<html>a</html>", "form");
+    let is_so = lines_below(alloc, &dom)?.as_str() == "element\thtml\thtml\n text\ta\n";
+    holds(&rt, is_so, "a form");
     Ok(())
 }
 
-// the text of a page that is parsed by each call, its errors and its quirks mode
+static PARAGRAPH: &str = "quirks\tNoQuirks\n\
+    doctype\thtml\t\t\n\
+    element\thtml\thtml\n\
+    \x20element\thtml\thead\n\
+    \x20element\thtml\tbody\n\
+    \x20\x20element\thtml\tp\n\
+    \x20\x20\x20text\tab\n";
+
+// whether a page that is parsed by each call, with an error from outside, has the tree of a paragraph and that error
+fn is_paragraph(alloc: Global, first: &str, last: Option<&str>) -> Result<bool, Fail> {
+    let first = String::from_str(alloc, first)?;
+    let last = match last {
+        Some(text) => Some(String::from_str(alloc, text)?),
+        None => None,
+    };
+    let dom = tree_by_calls(alloc, first, String::from_str(alloc, "seen")?, last)?;
+    Ok(dom.errors().len() == 1 && lines_of(alloc, &dom)?.as_str() == PARAGRAPH)
+}
+
 #[test]
 fn each_call_of_a_parser_is_made(rt: HostRuntime) -> Result<(), Fail> {
     let alloc = rt.alloc();
-    let expected = "<!DOCTYPE html><html><head></head><body><p>ab</p></body></html>";
-    let first = String::from_str(alloc, "<!DOCTYPE html><p>a")?;
-    let last = String::from_str(alloc, "b")?;
-    let dom = tree_by_calls(alloc, first, String::from_str(alloc, "seen")?, Some(last))?;
-    holds(&rt, walk(alloc, &dom)?.as_str() == expected, "one");
-    holds(&rt, dom.errors().len() == 1, "errors");
-    holds(&rt, dom.quirks_mode() == QuirksMode::NoQuirks, "quirks");
-    let whole_page = String::from_str(alloc, "<!DOCTYPE html><p>ab")?;
-    let dom = tree_by_calls(alloc, whole_page, String::from_str(alloc, "seen")?, None)?;
-    holds(&rt, walk(alloc, &dom)?.as_str() == expected, "finish");
+    let is_so = is_paragraph(alloc, "<!DOCTYPE html><p>a", Some("b"))?;
+    holds(&rt, is_so, "one");
+    let is_so = is_paragraph(alloc, "<!DOCTYPE html><p>ab", None)?;
+    holds(&rt, is_so, "finish");
     Ok(())
 }

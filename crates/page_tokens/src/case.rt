@@ -1,14 +1,19 @@
 use crate::error::Error;
-use crate::escapes::{NO_TEXT, unescaped};
 use crate::tables::TableName;
 use html_tokenizer::TokenizerOpts;
 use html_tokenizer::html_lexemes::states::{RawKind, State};
 use html_tokenizer::html_lexemes::{LocalName, Text};
+use row_fields::{NO_TEXT, unescaped};
 use std::alloc::{AllocError, Global};
+use token_lines::Told;
 
-/// A page, and how it is read.
+/// A page, how it is read, and what is told of it.
 #[derive(Drop)]
 pub(crate) struct Case {
+    /// Whether its tokens, its errors or both are told.
+    pub(crate) told: Told,
+    // whether its errors are told in the wording that names characters and states
+    has_exact_errors: bool,
     state: State,
     // the name of the last start tag
     last: Option<LocalName>,
@@ -21,8 +26,9 @@ pub(crate) struct Case {
 }
 
 impl Case {
-    /// The case of a line: five fields with tabs between them.
+    /// The case of a line: five fields with tabs between them, behind a word where not the tokens alone are told.
     pub(crate) fn from_line(alloc: Global, line: &str) -> Result<Case, Error> {
+        let (told, has_exact_errors, line) = told_of(line);
         let (state, behind) = first_field(line)?;
         let (name, behind) = first_field(behind)?;
         let (foreign, behind) = first_field(behind)?;
@@ -31,6 +37,8 @@ impl Case {
             return Err(Error::Case("more than five fields"));
         }
         Ok(Case {
+            told,
+            has_exact_errors,
             state: state_of(state)?,
             last: name_of(alloc, name)?,
             foreign: is_foreign(foreign)?,
@@ -46,11 +54,21 @@ impl Case {
             None => None,
         };
         Ok(TokenizerOpts {
-            exact_errors: false,
+            exact_errors: self.has_exact_errors,
             discard_bom: true,
             initial_state: Some(self.state),
             last_start_tag_name,
         })
+    }
+}
+
+// what is told, whether in the exact wording, and the fields behind the word that says so
+fn told_of(line: &str) -> (Told, bool, &str) {
+    match line.split_once('\t') {
+        Some(("errors", fields)) => (Told::Errors, false, fields),
+        Some(("exact_errors", fields)) => (Told::Errors, true, fields),
+        Some(("tokens_and_errors", fields)) => (Told::Both, false, fields),
+        _ => (Told::Tokens, false, line),
     }
 }
 

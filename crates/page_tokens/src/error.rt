@@ -1,4 +1,5 @@
 use html_tokenizer::html_lexemes::{ParseFault, TableError};
+use row_fields::FieldFault;
 use std::alloc::AllocError;
 use std::io;
 
@@ -8,6 +9,9 @@ pub(crate) enum Error {
     /// A line of standard input.
     #[error("a line is no case: {0}")]
     Case(&'static str),
+    /// A field of such a line.
+    #[error("a line is no case: {0}")]
+    Field(#[from] FieldFault),
     /// A growth was refused for want of memory.
     #[error("out of memory")]
     Memory(#[from] AllocError),
@@ -17,8 +21,8 @@ pub(crate) enum Error {
     /// The reading of a page.
     #[error("reading failed: {0}")]
     Page(#[from] ParseFault),
-    /// What the tokenizer tells, fed in some pieces, isn't what the plain reader tells.
-    #[error("the tokenizer, fed {0}, tells other tokens than the plain reader")]
+    /// What is told of a text that comes in some pieces isn't what is told of it otherwise.
+    #[error("fed {0}, the tokenizer tells something else")]
     Differs(&'static str),
     /// Standard input or output, or want of memory for it.
     #[error("read or write failed")]

@@ -1,12 +1,11 @@
-//! Tells the tokens of pages. Standard input has a case a line, and standard output gets the tokens of each case, one a line,
-//! with an empty line behind each case. Each case is told by the plain reader, and by the tokenizer in two ways: all three
+//! Tells the tokens and the errors of pages. Standard input has a case a line, and standard output gets what is told of
+//! each, one a line, with an empty line behind each case. Tokens are told by the plain reader, and all is told by the
+//! tokenizer, fed with the whole text, with one character after the other, and with two pieces, cut everywhere: all
 //! must agree.
 #![tactic(auto)]
 
 mod case;
 mod error;
-mod escapes;
-mod listing;
 mod tables;
 mod telling;
 
@@ -18,7 +17,7 @@ use std::io::{BufWriter, Write};
 use std::process::ExitCode;
 use telling::lines_told;
 
-/// Ends with status 0 where each line was a case and was told alike in three ways, and else 1 with a text on standard error.
+/// Ends with status 0 where each line was a case and was told alike in all ways, and else 1 with a text on standard error.
 fn main(rt: HostRuntime) -> ExitCode {
     match serve(&rt) {
         Ok(()) => ExitCode::from(0),

@@ -1,56 +1,48 @@
 //! The ways in which a case is told.
 use crate::case::Case;
 use crate::error::Error;
-use crate::listing::lines_of;
 use html_tokenizer::{read_pieces, read_plainly};
-use std::alloc::{AllocError, Global};
+use row_fields::{characters, halves, whole};
+use std::alloc::Global;
+use token_lines::{Listed, Told, lines_of};
 use token_sinks::KeptTokens;
 
-/// The lines on the tokens of a case, on which the plain reader and the tokenizer agree, fed with the whole text and
-/// with one character after the other.
+/// The lines of a case, which are the same however its text comes. Tokens are told by the plain reader too.
 pub(crate) fn lines_told(alloc: Global, case: &Case) -> Result<String, Error> {
-    let lines = lines_read_plainly(alloc, case)?;
-    if lines_fed(alloc, case, whole(alloc, case.text.as_str())?)? != lines {
+    let text = case.text.as_str();
+    let mut lines = lines_fed(alloc, case, whole(alloc, text)?)?;
+    if case.told == Told::Tokens && lines_read_plainly(alloc, case)? != lines {
         return Err(Error::Differs("a whole text"));
     }
-    if lines_fed(alloc, case, characters(alloc, case.text.as_str())?)? != lines {
+    if lines_fed(alloc, case, characters(alloc, text)?)? != lines {
         return Err(Error::Differs("single characters"));
     }
+    for count in 0..text.chars().count() {
+        if lines_fed(alloc, case, halves(alloc, text, count)?)? != lines {
+            return Err(Error::Differs("two pieces"));
+        }
+    }
+    lines.push('\n')?;
     Ok(lines)
 }
 
 fn lines_read_plainly(alloc: Global, case: &Case) -> Result<String, Error> {
     let mut sink = KeptTokens::new(alloc, case.foreign);
     let table = case.table.table(alloc)?;
-    read_plainly(
-        alloc,
-        &mut sink,
-        case.options()?,
-        &table,
-        case.text.as_str(),
-    )?;
+    let text = case.text.as_str();
+    read_plainly(alloc, &mut sink, case.options()?, &table, text)?;
     Ok(lines_of(alloc, sink.tokens())?)
 }
 
-/// The lines on what the tokenizer tells, fed with some pieces. The sink asks for no pause.
+/// The lines that the tokenizer tells, fed with some pieces. The sinks ask for no pause.
 fn lines_fed(alloc: Global, case: &Case, pieces: Vec<String>) -> Result<String, Error> {
-    let sink = KeptTokens::new(alloc, case.foreign);
     let table = case.table.table(alloc)?;
-    let told = read_pieces(alloc, sink, case.options()?, table, pieces)?;
-    Ok(lines_of(alloc, told.tokens())?)
-}
-
-fn whole(alloc: Global, text: &str) -> Result<Vec<String>, AllocError> {
-    let text = String::from_str(alloc, text)?;
-    Ok(vec![in alloc; text]?)
-}
-
-fn characters(alloc: Global, text: &str) -> Result<Vec<String>, AllocError> {
-    let mut pieces = Vec::new(alloc);
-    for c in text.chars() {
-        let mut piece = String::new(alloc);
-        piece.push(c)?;
-        pieces.push(piece)?;
+    if case.told == Told::Tokens {
+        let sink = KeptTokens::new(alloc, case.foreign);
+        let kept = read_pieces(alloc, sink, case.options()?, table, pieces)?;
+        return Ok(lines_of(alloc, kept.tokens())?);
     }
-    Ok(pieces)
+    let sink = Listed::new(alloc, case.told, case.foreign);
+    let listed = read_pieces(alloc, sink, case.options()?, table, pieces)?;
+    Ok(listed.into_text()?)
 }

@@ -1,6 +1,6 @@
 use crate::error::Error;
-use crate::escapes::{NO_TEXT, unescaped};
 use html_tree_builder::{ParseOpts, TokenizerOpts, TreeBuilderOpts};
+use row_fields::{NO_TEXT, unescaped};
 use std::alloc::Global;
 
 /// A page or a fragment, and how it is parsed.

@@ -1,13 +1,11 @@
 //! Tells the trees of pages and fragments. Standard input has one a line, and standard output gets the nodes of each
-//! tree, one a line, with an empty line behind each tree. Each is parsed whole and a character at a time, and both trees
-//! must agree. The table of references is the basic one, or with `--references FILE` the one that a file has, in the
+//! tree, one a line, with an empty line behind each tree. Each is parsed whole, a character at a time, and in two pieces,
+//! cut everywhere, and all trees must agree. The table of references is the basic one, or with `--references FILE` the one that a file has, in the
 //! form in which the standard publishes it (WHATWG HTML, 13.5).
 #![tactic(auto)]
 
 mod case;
-mod dump;
 mod error;
-mod escapes;
 mod telling;
 
 use case::Case;
@@ -20,7 +18,7 @@ use std::rt::Env;
 use std::{env, fs, io};
 use telling::{lines_told, table_of};
 
-/// Ends with status 0 where each line was a page and was parsed alike in both ways, and else 1 with a text on standard
+/// Ends with status 0 where each line was a page and was parsed alike in all ways, and else 1 with a text on standard
 /// error.
 fn main(rt: HostRuntime) -> ExitCode {
     match serve(&rt) {

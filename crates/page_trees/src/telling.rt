@@ -1,11 +1,12 @@
 //! The ways in which a case is told.
 use crate::case::Case;
-use crate::dump::lines_of;
 use crate::error::Error;
 use html_render_dom::RcDom;
 use html_tree_builder::html_lexemes::{Attributes, LocalName, Namespace, QualName, ReferenceTable};
 use html_tree_builder::{parse_fragment_pieces, parse_pieces};
+use row_fields::{characters, halves, whole};
 use std::alloc::{AllocError, Global};
+use tree_lines::{lines_below, lines_of};
 
 /// The table of references: the basic one, or that of a JSON text.
 pub(crate) fn table_of(alloc: Global, json: &Option<String>) -> Result<ReferenceTable, Error> {
@@ -15,23 +16,28 @@ pub(crate) fn table_of(alloc: Global, json: &Option<String>) -> Result<Reference
     }
 }
 
-/// The lines on the tree of a case, which is the same whether the page comes whole or a character at a time.
+// the most bytes of a page that is cut everywhere
+const MOST_CUT: usize = 64;
+
+/// The lines on the tree of a case, which is the same however the page comes. A long page isn't cut in two.
 pub(crate) fn lines_told(
     alloc: Global,
     case: &Case,
     json: &Option<String>,
 ) -> Result<String, Error> {
     let text = case.text.as_str();
-    let lines = lines_fed(alloc, case, table_of(alloc, json)?, whole(alloc, text)?)?;
-    if lines_fed(
-        alloc,
-        case,
-        table_of(alloc, json)?,
-        characters(alloc, text)?,
-    )? != lines
-    {
-        return Err(Error::Differs);
+    let mut lines = lines_fed(alloc, case, json, whole(alloc, text)?)?;
+    if lines_fed(alloc, case, json, characters(alloc, text)?)? != lines {
+        return Err(Error::Differs("a character at a time"));
     }
+    if text.len() <= MOST_CUT {
+        for count in 0..text.chars().count() {
+            if lines_fed(alloc, case, json, halves(alloc, text, count)?)? != lines {
+                return Err(Error::Differs("in two pieces"));
+            }
+        }
+    }
+    lines.push('\n')?;
     Ok(lines)
 }
 
@@ -39,11 +45,14 @@ pub(crate) fn lines_told(
 fn lines_fed(
     alloc: Global,
     case: &Case,
-    table: ReferenceTable,
+    json: &Option<String>,
     pieces: Vec<String>,
 ) -> Result<String, Error> {
-    let dom = tree_fed(alloc, case, table, pieces)?;
-    Ok(lines_of(alloc, &dom, case.context.is_some())?)
+    let dom = tree_fed(alloc, case, table_of(alloc, json)?, pieces)?;
+    Ok(match case.context {
+        Some(_) => lines_below(alloc, &dom)?,
+        None => lines_of(alloc, &dom)?,
+    })
 }
 
 fn tree_fed(
@@ -83,19 +92,4 @@ fn context_name(alloc: Global, context: &str) -> Result<QualName, AllocError> {
     }
     let local = LocalName::from_str(alloc, context)?;
     Ok(QualName::new(Namespace::Html, local))
-}
-
-fn whole(alloc: Global, text: &str) -> Result<Vec<String>, AllocError> {
-    let text = String::from_str(alloc, text)?;
-    Ok(vec![in alloc; text]?)
-}
-
-fn characters(alloc: Global, text: &str) -> Result<Vec<String>, AllocError> {
-    let mut pieces = Vec::new(alloc);
-    for c in text.chars() {
-        let mut piece = String::new(alloc);
-        piece.push(c)?;
-        pieces.push(piece)?;
-    }
-    Ok(pieces)
 }

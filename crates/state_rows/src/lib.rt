@@ -1,8 +1,7 @@
-//! Trees that are built by the calls of tree construction. It has tests alone.
+//! Trees that are built by the calls of tree construction. It has tests alone. What trees end tags that are not nested
+//! well have is told by the program page_trees.
 #![tactic(auto)]
 
-#[cfg(test)]
-mod adoption;
 #[cfg(test)]
 mod asked;
 #[cfg(test)]
@@ -18,8 +17,4 @@ mod made;
 #[cfg(test)]
 mod pages;
 #[cfg(test)]
-mod parts;
-#[cfg(test)]
 mod tests;
-#[cfg(test)]
-mod words;

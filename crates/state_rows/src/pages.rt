@@ -3,11 +3,11 @@ ghost use Rattle.std.specs.Prelude.{◌≡◌, OnOk};
 ghost use Rattle.html_tree_state.specs.Building.{seen};
 ghost use Rattle.html_tree_state.specs.Sound.{Sound};
 
-use crate::begin::{begin_body, bold, end, format, foster, open, open_svg, say};
-use crate::made::{attribute, html, tag_with};
+use crate::begin::{begin_body, end, format, foster, open, open_svg, say};
+use crate::made::{attribute, tag_with};
 use html_forest::{QuirksMode, TreeSink};
 use html_lexemes::{Attributes, ParseFault, TagKind, Text};
-use html_tree_state::{Construction, ElementSet, PushFlag};
+use html_tree_state::{Construction, ElementSet};
 use std::alloc::Global;
 
 /// Texts in pieces, a formatting element with an attribute, and comments.
@@ -84,23 +84,6 @@ pub(crate) fn page_of_a_table<S: TreeSink>(
     Ok(())
 }
 
-/// A template, whose contents are filled.
-pub(crate) fn page_of_a_template<S: TreeSink>(
-    tree: &mut Construction<S>,
-    alloc: Global,
-) -> Result<(), ParseFault>
-    requires { Sound (seen S.number S.forest S.quirks tree.old.held tree.old.sink) }
-{
-    begin_body(tree, alloc)?;
-    open(tree, alloc, "template")?;
-    say(tree, alloc, "x")?;
-    open(tree, alloc, "p")?;
-    say(tree, alloc, "y")?;
-    tree.pop_to(ElementSet::Template)?;
-    tree.insert_element(PushFlag::NoPush, html(alloc, "br")?, Attributes::new(alloc))?;
-    say(tree, alloc, "z")
-}
-
 /// Elements that are popped up to others.
 pub(crate) fn page_of_pops<S: TreeSink>(
     tree: &mut Construction<S>,
@@ -143,25 +126,6 @@ pub(crate) fn page_of_ends<S: TreeSink>(
     open(tree, alloc, "em")?;
     open(tree, alloc, "div")?;
     end(tree, alloc, "em")?;
-    say(tree, alloc, "y")
-}
-
-/// Four `b` in a paragraph that is closed, and a text behind it.
-pub(crate) fn page_of_formatting<S: TreeSink>(
-    tree: &mut Construction<S>,
-    alloc: Global,
-) -> Result<(), ParseFault>
-    requires { Sound (seen S.number S.forest S.quirks tree.old.held tree.old.sink) }
-{
-    begin_body(tree, alloc)?;
-    open(tree, alloc, "p")?;
-    bold(tree, alloc)?;
-    bold(tree, alloc)?;
-    bold(tree, alloc)?;
-    bold(tree, alloc)?;
-    say(tree, alloc, "x")?;
-    tree.close_p_element_in_button_scope()?;
-    tree.reconstruct_active_formatting_elements()?;
     say(tree, alloc, "y")
 }
 

@@ -1,5 +1,4 @@
 //! Trees that are built by tree construction's calls, compared with what WHATWG HTML says of each.
-use crate::adoption::PAGES;
 use crate::asked::{
     count_alike, count_marked, is_adjusted, mode_below_body, mode_of_root, scopes_behind,
     scopes_of_select, take_off,
@@ -10,12 +9,8 @@ use crate::dump::dump;
 use crate::lists::{asked_lists, changed_lists};
 use crate::made::html;
 use crate::pages::{
-    page_of_a_table, page_of_a_template, page_of_ends, page_of_formatting, page_of_paragraphs,
-    page_of_pops, page_of_svg, page_of_text,
+    page_of_a_table, page_of_ends, page_of_paragraphs, page_of_pops, page_of_svg, page_of_text,
 };
-use crate::parts::{Part, page_of_parts};
-use crate::words::{is_breaking, is_hidden_as, is_html_in_svg, quirks_of};
-use html_forest::QuirksMode;
 use html_lexemes::ParseFault;
 use html_render_dom::RcDom;
 use html_tree_state::Construction;
@@ -83,26 +78,6 @@ fn a_table_has_a_foster_parent(rt: HostRuntime) -> Result<(), Fail> {
     Ok(())
 }
 
-fn template_page(alloc: Global) -> Result<String, ParseFault> {
-    let mut tree = begun(alloc, RcDom::new(alloc)?);
-    let built = page_of_a_template(&mut tree, alloc);
-    let Construction { held: _, sink } = tree;
-    built?;
-    Ok(dump(alloc, &sink)?)
-}
-
-// inside a template is inside its contents (13.2.6.1); a `br` is popped at once
-#[test]
-fn a_template_has_contents(rt: HostRuntime) -> Result<(), Fail> {
-    let log = template_page(rt.alloc())?;
-    let expected =
-        "quirks NoQuirks\n element html\thtml\n  element html\thead\n  element html\tbody\n   \
-                    element html\ttemplate\n    contents\n     text\tx\n     element html\tp\n      text\ty\n   \
-                    element html\tbr\n   text\tz";
-    holds(&rt, log.as_str() == expected, "a template");
-    Ok(())
-}
-
 fn pop_page(alloc: Global) -> Result<String, ParseFault> {
     let mut tree = begun(alloc, RcDom::new(alloc)?);
     let built = page_of_pops(&mut tree, alloc);
@@ -141,50 +116,6 @@ fn end_tags_close(rt: HostRuntime) -> Result<(), Fail> {
                     element html\tdiv\n    element html\tem\n   text\tx\n   element html\tem\n    \
                     element html\tdiv\n     text\ty";
     holds(&rt, log.as_str() == expected, "end tags");
-    Ok(())
-}
-
-fn formatting_page(alloc: Global) -> Result<String, ParseFault> {
-    let mut tree = begun(alloc, RcDom::new(alloc)?);
-    let built = page_of_formatting(&mut tree, alloc);
-    let Construction { held: _, sink } = tree;
-    built?;
-    Ok(dump(alloc, &sink)?)
-}
-
-// of four that are alike three are listed, and each of these is made anew (13.2.4.3)
-#[test]
-fn formatting_is_made_anew(rt: HostRuntime) -> Result<(), Fail> {
-    let log = formatting_page(rt.alloc())?;
-    let expected =
-        "quirks NoQuirks\n element html\thtml\n  element html\thead\n  element html\tbody\n   \
-                    element html\tp\n    element html\tb\n     element html\tb\n      element html\tb\n       \
-                    element html\tb\n        text\tx\n   element html\tb\n    element html\tb\n     \
-                    element html\tb\n      text\ty";
-    holds(&rt, log.as_str() == expected, "formatting");
-    Ok(())
-}
-
-fn adoption_page(alloc: Global, parts: &[Part<'_>]) -> Result<String, ParseFault> {
-    let mut tree = begun(alloc, RcDom::new(alloc)?);
-    let built = page_of_parts(&mut tree, alloc, parts);
-    let Construction { held: _, sink } = tree;
-    built?;
-    Ok(dump(alloc, &sink)?)
-}
-
-// end tags that are not nested well (13.2.6.4.7 and 13.2.6.5)
-#[test]
-fn end_tags_need_not_be_nested(rt: HostRuntime) -> Result<(), Fail> {
-    let begin = "quirks NoQuirks\n element html\thtml\n  element html\thead\n  element html\tbody";
-    for page in PAGES.iter() {
-        let log = adoption_page(rt.alloc(), page.parts)?;
-        holds(
-            &rt,
-            log.as_str().strip_prefix(begin) == Some(page.tree),
-            page.name,
-        );
-    }
     Ok(())
 }
 
@@ -363,48 +294,5 @@ fn a_list_is_changed(rt: HostRuntime) -> Result<(), Fail> {
         asked(alloc)? == (true, false, true, true, true, false),
         "questions",
     );
-    Ok(())
-}
-
-// quirks (13.2.6.4.1), foreign content (13.2.6 and 13.2.6.5) and hidden inputs (13.2.6.4.7)
-#[test]
-fn words_are_known(rt: HostRuntime) -> Result<(), Fail> {
-    let alloc = rt.alloc();
-    for (name, public_id, mode) in [
-        ("html", "", QuirksMode::NoQuirks),
-        ("svg", "", QuirksMode::Quirks),
-        (
-            "html",
-            "-//W3C//DTD HTML 4.01 Frameset//EN",
-            QuirksMode::Quirks,
-        ),
-        (
-            "html",
-            "-//W3C//DTD XHTML 1.0 Transitional//EN",
-            QuirksMode::LimitedQuirks,
-        ),
-    ] {
-        holds(&rt, quirks_of(alloc, name, public_id)? == mode, public_id);
-    }
-    for (name, attribute, is_so) in [
-        ("p", "id", true),
-        ("font", "id", false),
-        ("font", "face", true),
-        ("a", "face", false),
-    ] {
-        holds(&rt, is_breaking(alloc, name, attribute)? == is_so, name);
-    }
-    holds(
-        &rt,
-        is_html_in_svg(alloc, "g")? == (false, false, false),
-        "g",
-    );
-    holds(
-        &rt,
-        is_html_in_svg(alloc, "desc")? == (true, true, true),
-        "desc",
-    );
-    holds(&rt, is_hidden_as(alloc, "HiDDen")?, "hidden");
-    holds(&rt, !is_hidden_as(alloc, "text")?, "shown");
     Ok(())
 }

@@ -1,10 +1,12 @@
+use crate::checks::holds;
 use crate::marks::Mark;
 use crate::rows::{MARKED, ROWS};
 use crate::shown::{shown, shown_marked, shown_texts};
-use crate::wrapped::wrapped_lines;
 use std::alloc::{AllocError, Global};
+use std::fmt::Display;
 use std::test::Fail;
 use text_block_renderer::{BlockError, TaggedString, TooNarrow, WhiteSpace, WrappedBlock};
+use wrapped_texts::wrapped_lines;
 
 fn piece(alloc: Global, text: &str) -> Result<TaggedString<()>, AllocError> {
     Ok(TaggedString {
@@ -13,65 +15,70 @@ fn piece(alloc: Global, text: &str) -> Result<TaggedString<()>, AllocError> {
     })
 }
 
-fn wrapped(alloc: Global, width: usize, overflow: bool, text: &str) -> Result<String, BlockError> {
-    let pieces = [piece(alloc, text)?];
+fn wrapped(
+    alloc: Global,
+    width: usize,
+    overflow: bool,
+    front: &str,
+    back: &str,
+) -> Result<String, BlockError> {
+    let pieces = [piece(alloc, front)?, piece(alloc, back)?];
     let lines = wrapped_lines(alloc, &pieces, width, overflow, ())?;
     Ok(shown(alloc, &lines)?)
+}
+
+// whether these are the lines of a text, wherever it is cut
+fn is_wrapped(alloc: Global, width: usize, text: &str, lines: &str) -> Result<bool, BlockError> {
+    for (at, _) in text.char_indices() {
+        let (front, back) = text.split_at(at);
+        if wrapped(alloc, width, false, front, back)?.as_str() != lines {
+            return Ok(false);
+        }
+    }
+    Ok(wrapped(alloc, width, false, text, "")?.as_str() == lines)
 }
 
 #[test]
 fn lines_of_texts(rt: HostRuntime) -> Result<(), Fail> {
     for (width, text, lines) in ROWS {
-        let made = wrapped(rt.alloc(), width, false, text)?;
-        assert_eq!(rt; made.as_str(), lines, "at {width}: {text}");
+        holds(&rt, is_wrapped(rt.alloc(), width, text, lines)?, text);
     }
     Ok(())
 }
 
 #[test]
 fn a_wider_character(rt: HostRuntime) -> Result<(), Fail> {
-    let refused = wrapped(rt.alloc(), 1, false, "漢");
-    assert!(rt; matches!(refused, Err(BlockError::TooNarrow)));
-    let alone = wrapped(rt.alloc(), 1, true, "漢")?;
-    assert_eq!(rt; alone.as_str(), "漢|");
-    let between = wrapped(rt.alloc(), 1, true, "a漢b")?;
-    assert_eq!(rt; between.as_str(), "a|漢|b|");
-    Ok(())
-}
-
-#[test]
-fn texts_cut_anywhere(rt: HostRuntime) -> Result<(), Fail> {
-    let alloc = rt.alloc();
-    for (width, text, lines) in ROWS {
-        for (at, _) in text.char_indices() {
-            let (front, back) = text.split_at(at);
-            let pieces = [piece(alloc, front)?, piece(alloc, back)?];
-            let made = shown(alloc, &wrapped_lines(alloc, &pieces, width, false, ())?)?;
-            assert_eq!(rt; made.as_str(), lines, "cut at {at}: {text}");
-        }
+    let refused = wrapped(rt.alloc(), 1, false, "漢", "");
+    let is_so = matches!(refused, Err(BlockError::TooNarrow));
+    holds(&rt, is_so, "refused");
+    for (text, lines) in [("漢", "漢|"), ("a漢b", "a|漢|b|")] {
+        let made = wrapped(rt.alloc(), 1, true, text, "")?;
+        holds(&rt, made.as_str() == lines, text);
     }
     Ok(())
 }
 
-#[test]
-fn padded_lines(rt: HostRuntime) -> Result<(), Fail> {
-    let alloc = rt.alloc();
+// the lines of a padded block
+fn padded(alloc: Global) -> Result<String, BlockError> {
     let mut block = WrappedBlock::new(alloc, 5, true, true, ());
     block.add_text("ab 漢字漢 x", WhiteSpace::Normal, &(), &())?;
-    let lines = shown(alloc, &block.into_lines()?)?;
-    assert_eq!(rt; lines.as_str(), "ab   |漢字 |漢 x |");
-    Ok(())
+    Ok(shown(alloc, &block.into_lines()?)?)
 }
 
-// That a character is wider than the lines is told for all the text.
-#[test]
-fn told_at_the_end(rt: HostRuntime) -> Result<(), Fail> {
-    let alloc = rt.alloc();
+// that a character is wider than the lines is told for all the text
+fn narrow(alloc: Global) -> Result<String, BlockError> {
     let mut block = WrappedBlock::new(alloc, 1, false, false, ());
     block.add_text("漢", WhiteSpace::Normal, &(), &())?;
     block.add_text("a", WhiteSpace::Normal, &(), &())?;
-    let lines = block.into_lines();
-    assert!(rt; matches!(lines, Err(BlockError::TooNarrow)));
+    Ok(shown(alloc, &block.into_lines()?)?)
+}
+
+#[test]
+fn padded_lines_and_narrow_ones(rt: HostRuntime) -> Result<(), Fail> {
+    let lines = padded(rt.alloc())?;
+    holds(&rt, lines.as_str() == "ab   |漢字 |漢 x |", "padded");
+    let is_so = matches!(narrow(rt.alloc()), Err(BlockError::TooNarrow));
+    holds(&rt, is_so, "told at the end");
     Ok(())
 }
 
@@ -88,26 +95,32 @@ fn marked(alloc: Global, width: usize, front: &str, back: &str) -> Result<String
 fn markers_ride_on_words(rt: HostRuntime) -> Result<(), Fail> {
     for (width, front, back, lines) in MARKED {
         let made = marked(rt.alloc(), width, front, back)?;
-        assert_eq!(rt; made.as_str(), lines, "at {width}: {front} and {back}");
+        holds(&rt, made.as_str() == lines, lines);
     }
     Ok(())
+}
+
+// the texts of the lines of two texts, the second of another tag
+fn tagged(alloc: Global, front: &str, back: &str) -> Result<String, BlockError> {
+    let mut block = WrappedBlock::new(alloc, 9, false, false, Mark::Plain);
+    block.add_text(front, WhiteSpace::Normal, &Mark::Plain, &Mark::Plain)?;
+    block.add_text(back, WhiteSpace::Normal, &Mark::Strong, &Mark::Plain)?;
+    Ok(shown_texts(alloc, &block.into_lines()?)?)
 }
 
 // The gap between two words has the tag of the first white space.
 #[test]
 fn tags_of_gaps(rt: HostRuntime) -> Result<(), Fail> {
-    let alloc = rt.alloc();
-    let mut block = WrappedBlock::new(alloc, 9, false, false, Mark::Plain);
-    block.add_text("a ", WhiteSpace::Normal, &Mark::Plain, &Mark::Plain)?;
-    block.add_text(" b", WhiteSpace::Normal, &Mark::Strong, &Mark::Plain)?;
-    let lines = shown_texts(alloc, &block.into_lines()?)?;
-    assert_eq!(rt; lines.as_str(), "a /b/|");
-    let mut block = WrappedBlock::new(alloc, 9, false, false, Mark::Plain);
-    block.add_text("a", WhiteSpace::Normal, &Mark::Plain, &Mark::Plain)?;
-    block.add_text(" b", WhiteSpace::Normal, &Mark::Strong, &Mark::Plain)?;
-    let lines = shown_texts(alloc, &block.into_lines()?)?;
-    assert_eq!(rt; lines.as_str(), "a/ b/|");
+    for (front, back, lines) in [("a ", " b", "a /b/|"), ("a", " b", "a/ b/|")] {
+        let made = tagged(rt.alloc(), front, back)?;
+        holds(&rt, made.as_str() == lines, lines);
+    }
     Ok(())
+}
+
+// whether this is how an error is told
+fn is_told<E: Display>(alloc: Global, error: &E, text: &str) -> Result<bool, AllocError> {
+    Ok(error.to_string(alloc)?.as_str() == text)
 }
 
 #[test]
@@ -118,11 +131,9 @@ fn texts_of_errors(rt: HostRuntime) -> Result<(), Fail> {
         (BlockError::Memory, "out of memory"),
         (BlockError::Failed, "refused after an earlier refusal"),
     ] {
-        assert_eq!(rt; format!(in alloc; "{error}")?.as_str(), text);
+        holds(&rt, is_told(alloc, &error, text)?, text);
     }
-    assert_eq!(rt;
-        format!(in alloc; "{TooNarrow}")?.as_str(),
-        "output width not wide enough"
-    );
+    let text = "output width not wide enough";
+    holds(&rt, is_told(alloc, &TooNarrow, text)?, text);
     Ok(())
 }

@@ -1,13 +1,10 @@
-//! Lines and blocks that are worked out by hand, and the lines of some texts in one call. Beside tests it has one theorem, on
-//! lists of texts.
+//! Tests alone: lines and blocks that are worked out by hand.
 #![tactic(auto)]
-
-mod wrapped;
-
-pub use wrapped::wrapped_lines;
 
 #[cfg(test)]
 mod block_tests;
+#[cfg(test)]
+mod checks;
 #[cfg(test)]
 mod columns_tests;
 #[cfg(test)]

@@ -1,3 +1,4 @@
+use crate::checks::holds;
 use crate::marks::Mark;
 use crate::preserved_rows::{Call, PRESERVED, SCRIPTS, Script};
 use crate::shown::{shown, shown_marked};
@@ -22,7 +23,7 @@ fn laid(
 fn lines_of_preserved_texts(rt: HostRuntime) -> Result<(), Fail> {
     for (mode, width, text, lines) in PRESERVED {
         let made = laid(rt.alloc(), mode, width, text, "")?;
-        assert_eq!(rt; made.as_str(), lines, "at {width}: {text}");
+        holds(&rt, made.as_str() == lines, text);
     }
     Ok(())
 }
@@ -48,8 +49,8 @@ fn is_played(alloc: Global, script: &Script) -> bool {
 
 #[test]
 fn scripts_of_a_model(rt: HostRuntime) -> Result<(), Fail> {
-    for (at, script) in SCRIPTS.iter().enumerate() {
-        assert!(rt; is_played(rt.alloc(), script), "script {at}");
+    for script in &SCRIPTS {
+        holds(&rt, is_played(rt.alloc(), script), script.lines);
     }
     Ok(())
 }
@@ -95,12 +96,12 @@ fn a_thousand_texts_in_every_cut(rt: HostRuntime) -> Result<(), Fail> {
             WhiteSpace::PreWrap
         };
         let same = is_same_in_cuts(rt.alloc(), mode, 2 + turn % 7, text.as_str())?;
-        assert!(rt; same, "text {turn}");
+        holds(&rt, same, text.as_str());
     }
     Ok(())
 }
 
-/// How many characters of a line have the second tag.
+// how many columns of a line have the second tag
 fn count_strong(line: &TaggedLine<Mark>) -> usize {
     let mut count = 0usize;
     for string in line.tagged_strings() {
@@ -114,41 +115,60 @@ fn count_strong(line: &TaggedLine<Mark>) -> usize {
 // From the first character past the width on a source line has the second tag.
 #[test]
 fn tags_of_wrapped_lines(rt: HostRuntime) -> Result<(), Fail> {
-    let alloc = rt.alloc();
-    let mut block = WrappedBlock::new(alloc, 4, false, false, Mark::Plain);
+    let mut block = WrappedBlock::new(rt.alloc(), 4, false, false, Mark::Plain);
     block.add_text("ab cdef", WhiteSpace::Pre, &Mark::Plain, &Mark::Strong)?;
-    let lines = block.into_lines()?;
-    let mut counts = String::new(alloc);
-    for line in &lines {
-        counts.push_str(format!(in alloc; "{} ", count_strong(line))?.as_str())?;
+    match block.into_lines()?.as_slice() {
+        [first, second] => {
+            let is_so = count_strong(first) == 0 && count_strong(second) == 3;
+            holds(&rt, is_so, "two lines");
+        }
+        _ => holds(&rt, false, "so many lines"),
     }
-    assert_eq!(rt; counts.as_str(), "0 3 ");
     Ok(())
 }
 
-#[test]
-fn trailing_fragments(rt: HostRuntime) -> Result<(), Fail> {
-    let alloc = rt.alloc();
+// the markers behind the last text, which are taken, and the lines then
+fn trailing(alloc: Global) -> Result<(Vec<String>, String), BlockError> {
     let mut block = WrappedBlock::new(alloc, 9, false, false, ());
     block.add_text("ab ", WhiteSpace::Normal, &(), &())?;
     block.record_frag_start("n")?;
     let names = block.take_trailing_fragments()?;
-    assert!(rt; names.len() == 1 && names[0].as_str() == "n");
-    let lines = shown_marked(alloc, &block.into_lines()?)?;
-    assert_eq!(rt; lines.as_str(), "ab|");
-    let mut narrow = WrappedBlock::new(alloc, 1, false, false, ());
+    Ok((names, shown_marked(alloc, &block.into_lines()?)?))
+}
+
+#[test]
+fn trailing_fragments(rt: HostRuntime) -> Result<(), Fail> {
+    let (names, lines) = trailing(rt.alloc())?;
+    let is_so = names.len() == 1 && names[0].as_str() == "n";
+    holds(&rt, is_so && lines.as_str() == "ab|", "a marker");
+    let mut narrow = WrappedBlock::new(rt.alloc(), 1, false, false, ());
     narrow.add_text("漢", WhiteSpace::Pre, &(), &())?;
-    assert!(rt; matches!(narrow.take_trailing_fragments(), Err(BlockError::TooNarrow)));
-    assert!(rt; matches!(narrow.take_trailing_fragments(), Err(BlockError::Failed)));
+    let first = narrow.take_trailing_fragments();
+    holds(
+        &rt,
+        matches!(first, Err(BlockError::TooNarrow)),
+        "too narrow",
+    );
+    let second = narrow.take_trailing_fragments();
+    holds(&rt, matches!(second, Err(BlockError::Failed)), "failed");
     Ok(())
 }
 
 #[test]
-fn modes_of_white_space(rt: HostRuntime) -> Result<(), Fail> {
-    let mode = WhiteSpace::default();
-    assert!(rt; mode == WhiteSpace::Normal && mode.do_wrap() && !mode.preserve_whitespace());
-    let (pre, wrap) = (WhiteSpace::Pre, WhiteSpace::PreWrap);
-    assert!(rt; !pre.do_wrap() && pre.preserve_whitespace());
-    assert!(rt; wrap.do_wrap() && wrap.preserve_whitespace() && wrap != pre);
-    Ok(())
+fn modes_of_white_space(rt: HostRuntime) {
+    for (mode, wraps, preserves) in [
+        (WhiteSpace::default(), true, false),
+        (WhiteSpace::Normal, true, false),
+        (WhiteSpace::Pre, false, true),
+        (WhiteSpace::PreWrap, true, true),
+    ] {
+        let is_so = mode.do_wrap() == wraps && mode.preserve_whitespace() == preserves;
+        holds(&rt, is_so, "a mode");
+    }
+    holds(
+        &rt,
+        WhiteSpace::default() == WhiteSpace::Normal,
+        "the default",
+    );
+    holds(&rt, WhiteSpace::Pre != WhiteSpace::PreWrap, "two modes");
 }

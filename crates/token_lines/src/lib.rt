@@ -1,0 +1,8 @@
+//! What a tokenizer tells, as lines: what programs and tests compare.
+#![tactic(auto)]
+
+mod listed;
+mod token_lines;
+
+pub use listed::{Listed, Told};
+pub use token_lines::{TokenLines, lines_of};
