@@ -57,11 +57,16 @@ fn check<R: Abort + AllocGlobal>(
 
 #[test]
 fn errors_of_lexemes_are_found(rt: HostRuntime) -> Result<(), Fail> {
-    check(&rt, false, &PLAIN)?;
-    check(&rt, true, &TAGS)?;
-    check(&rt, true, &REFERENCES)?;
-    check(&rt, true, &COMMENTS)?;
-    check(&rt, true, &DOCTYPES)
+    for (exact, rows) in [
+        (false, PLAIN.as_slice()),
+        (true, TAGS.as_slice()),
+        (true, REFERENCES.as_slice()),
+        (true, COMMENTS.as_slice()),
+        (true, DOCTYPES.as_slice()),
+    ] {
+        check(&rt, exact, rows)?;
+    }
+    Ok(())
 }
 
 // finds the errors of text in a state, where `heeds` is asked at each character

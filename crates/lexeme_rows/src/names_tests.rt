@@ -54,15 +54,19 @@ fn texts_are_compared_by_code_points(rt: HostRuntime) -> Result<(), Fail> {
     Ok(())
 }
 
-#[test]
-fn texts_are_made_and_given_back(rt: HostRuntime) -> Result<(), Fail> {
-    let text = Text::from(String::from_str(rt.alloc(), "né")?);
+// whether a text is a name's, and is given back
+fn is_given_back(alloc: Global) -> Result<bool, AllocError> {
+    let text = Text::from(String::from_str(alloc, "né")?);
     let copy = text.try_clone()?;
     let name = LocalName::from(text);
-    holds(&rt, name.as_str() == "né", "a name");
+    let is_name = name.as_str() == "né";
     let given = name.try_clone()?.into_text();
-    holds(&rt, given == copy, "a copy");
-    holds(&rt, copy.into_string().as_str() == "né", "a text");
+    Ok(is_name && given == copy && copy.into_string().as_str() == "né")
+}
+
+#[test]
+fn texts_are_made_and_given_back(rt: HostRuntime) -> Result<(), Fail> {
+    holds(&rt, is_given_back(rt.alloc())?, "a text");
     Ok(())
 }
 
@@ -73,25 +77,45 @@ fn attribute(alloc: Global, local: &str, value: &str) -> Result<Attribute, Alloc
     })
 }
 
+// whether an attribute is before another, and equals its copy
+fn is_before_and_copied(first: &Attribute, second: &Attribute) -> Result<bool, AllocError> {
+    let copy = first.try_clone()?;
+    let is_copy = copy == *first && hash_of(&copy) == hash_of(first);
+    Ok(is_copy && first < second && first != second)
+}
+
 #[test]
 fn attributes_are_compared_by_name_and_value(rt: HostRuntime) -> Result<(), Fail> {
     let first = attribute(rt.alloc(), "a", "2")?;
     let second = attribute(rt.alloc(), "b", "1")?;
-    holds(&rt, first < second && first != second, "two names");
-    let copy = first.try_clone()?;
-    holds(&rt, copy == first, "a copy");
-    holds(&rt, hash_of(&copy) == hash_of(&first), "its hash");
+    holds(&rt, is_before_and_copied(&first, &second)?, "two names");
     Ok(())
+}
+
+fn other_namespace(alloc: Global) -> Result<Namespace, AllocError> {
+    Ok(Namespace::Other(Text::from_str(alloc, "urn:x")?))
+}
+
+// whether a namespace is behind another, and equals its copy
+fn is_namespace_behind(alloc: Global) -> Result<bool, AllocError> {
+    let other = other_namespace(alloc)?;
+    let copy = other.try_clone()?;
+    Ok(copy == other && Namespace::Svg < other)
+}
+
+// whether a name is behind another, and equals its copy
+fn is_name_behind(name: &QualName, first: &QualName) -> Result<bool, AllocError> {
+    let copy = name.try_clone()?;
+    Ok(copy == *name && first < name)
 }
 
 #[test]
 fn names_are_compared_by_namespace_first(rt: HostRuntime) -> Result<(), Fail> {
-    let other = Namespace::Other(Text::from_str(rt.alloc(), "urn:x")?);
-    let copy = other.try_clone()?;
-    holds(&rt, copy == other && Namespace::Svg < other, "namespaces");
-    let name = QualName::new(other, LocalName::from_str(rt.alloc(), "a")?);
-    holds(&rt, name.try_clone()? == name, "a copy");
-    holds(&rt, attribute(rt.alloc(), "b", "")?.name < name, "names");
+    holds(&rt, is_namespace_behind(rt.alloc())?, "namespaces");
+    let local = LocalName::from_str(rt.alloc(), "a")?;
+    let name = QualName::new(other_namespace(rt.alloc())?, local);
+    let first = attribute(rt.alloc(), "b", "")?;
+    holds(&rt, is_name_behind(&name, &first.name)?, "names");
     Ok(())
 }
 
@@ -104,14 +128,18 @@ fn attributes(alloc: Global, pairs: &[(&str, &str)]) -> Result<Attributes, Alloc
     Ok(attributes)
 }
 
+// whether two attributes are a list, as a copy and as a vector
+fn are_a_list(alloc: Global) -> Result<bool, AllocError> {
+    let first = attributes(alloc, &[("x", "1"), ("y", "")])?;
+    let copy = first.try_clone()?;
+    let is_copy = copy == first && copy.as_slice().len() == 2;
+    let items = copy.into_vec();
+    Ok(is_copy && items.len() == 2 && Attributes::from(items) == first)
+}
+
 #[test]
 fn attributes_are_a_list(rt: HostRuntime) -> Result<(), Fail> {
-    let first = attributes(rt.alloc(), &[("x", "1"), ("y", "")])?;
-    let copy = first.try_clone()?;
-    holds(&rt, copy == first && copy.as_slice().len() == 2, "a copy");
-    let items = copy.into_vec();
-    holds(&rt, items.len() == 2, "a vector");
-    holds(&rt, Attributes::from(items) == first, "attributes of it");
+    holds(&rt, are_a_list(rt.alloc())?, "two attributes");
     Ok(())
 }
 
@@ -126,58 +154,75 @@ fn tag(alloc: Global, pairs: &[(&str, &str)]) -> Result<Tag, AllocError> {
     })
 }
 
+// whether a tag of three attributes is equivalent to one of these
+fn is_equivalent(alloc: Global, pairs: &[(&str, &str)]) -> Result<bool, AllocError> {
+    let first = tag(alloc, &[("x", "1"), ("y", "2"), ("x", "1")])?;
+    let other = tag(alloc, pairs)?;
+    Ok(first.equiv_modulo_attr_order(&other))
+}
+
 #[test]
 fn tags_are_equivalent_in_any_order_of_attributes(rt: HostRuntime) -> Result<(), Fail> {
-    let first = tag(rt.alloc(), &[("x", "1"), ("y", "2"), ("x", "1")])?;
     for (pairs, expected) in [
         ([("x", "1"), ("y", "2"), ("x", "1")], true),
         ([("y", "2"), ("x", "1"), ("x", "1")], true),
         ([("x", "1"), ("y", "2"), ("y", "2")], false),
         ([("x", "1"), ("y", "2"), ("x", "2")], false),
     ] {
-        let other = tag(rt.alloc(), &pairs)?;
-        holds(
-            &rt,
-            first.equiv_modulo_attr_order(&other) == expected,
-            pairs[2].1,
-        );
+        let is_so = is_equivalent(rt.alloc(), &pairs)? == expected;
+        holds(&rt, is_so, pairs[2].1);
     }
     Ok(())
 }
 
-#[test]
-fn tags_are_equivalent_of_one_kind_and_name(rt: HostRuntime) -> Result<(), Fail> {
-    let first = tag(rt.alloc(), &[("x", "1")])?;
-    let mut other = first.try_clone()?;
-    holds(&rt, other == first, "a copy");
+// Whether a tag is equivalent to itself once it is closed, to an end tag, and to one of another name.
+fn equivalences(alloc: Global) -> Result<(bool, bool, bool), AllocError> {
+    let first = tag(alloc, &[("x", "1")])?;
+    let mut other = tag(alloc, &[("x", "1")])?;
     other.self_closing = true;
-    holds(&rt, first.equiv_modulo_attr_order(&other), "a closed one");
+    let closed = first.equiv_modulo_attr_order(&other);
     other.kind = TagKind::EndTag;
-    holds(&rt, !first.equiv_modulo_attr_order(&other), "an end tag");
+    let end = first.equiv_modulo_attr_order(&other);
     other.kind = TagKind::StartTag;
-    other.name = LocalName::from_str(rt.alloc(), "b")?;
-    holds(&rt, !first.equiv_modulo_attr_order(&other), "another name");
-    Ok(())
+    other.name = LocalName::from_str(alloc, "b")?;
+    Ok((closed, end, first.equiv_modulo_attr_order(&other)))
+}
+
+fn is_tag_copied(alloc: Global) -> Result<bool, AllocError> {
+    let first = tag(alloc, &[("x", "1")])?;
+    Ok(first.try_clone()? == first)
 }
 
 #[test]
-fn doctypes_tell_missing_from_empty(rt: HostRuntime) -> Result<(), Fail> {
+fn tags_are_equivalent_of_one_kind_and_name(rt: HostRuntime) -> Result<(), Fail> {
+    holds(&rt, is_tag_copied(rt.alloc())?, "a copy");
+    let is_so = equivalences(rt.alloc())? == (true, false, false);
+    holds(&rt, is_so, "a closed one, an end tag, another name");
+    Ok(())
+}
+
+// whether a doctype equals its copy, and what it lacks isn't what is empty
+fn is_doctype_copied(alloc: Global) -> Result<bool, AllocError> {
     let doctype = Doctype {
         name: None,
         public_id: None,
-        system_id: Some(Text::from_str(rt.alloc(), "")?),
+        system_id: Some(Text::from_str(alloc, "")?),
         force_quirks: false,
     };
     let copy = doctype.try_clone()?;
-    holds(&rt, copy == doctype, "a copy");
-    holds(&rt, copy.public_id != copy.system_id, "an empty one");
-    Ok(())
+    Ok(copy == doctype && copy.public_id != copy.system_id)
+}
+
+// whether a text isn't a NUL
+fn is_text_apart(alloc: Global) -> Result<bool, AllocError> {
+    let text = Token::CharacterTokens(Text::from_str(alloc, "a")?);
+    Ok(text != Token::NullCharacterToken)
 }
 
 #[test]
-fn tokens_are_told_apart(rt: HostRuntime) -> Result<(), Fail> {
-    let text = Token::CharacterTokens(Text::from_str(rt.alloc(), "a")?);
-    holds(&rt, text != Token::NullCharacterToken, "a text");
+fn doctypes_and_tokens_are_told_apart(rt: HostRuntime) -> Result<(), Fail> {
+    holds(&rt, is_doctype_copied(rt.alloc())?, "a doctype");
+    holds(&rt, is_text_apart(rt.alloc())?, "a text");
     Ok(())
 }
 

@@ -58,6 +58,19 @@ fn an_empty_queue_gives_nothing(rt: HostRuntime) -> Result<(), Fail> {
     Ok(())
 }
 
+// whether a queue of a text answers so where it is to be eaten, and what it leaves then
+fn is_eaten(
+    alloc: Global,
+    text: &str,
+    wanted: &str,
+    answer: Option<bool>,
+    left: &str,
+) -> Result<bool, AllocError> {
+    let mut queue = BufferQueue::new(alloc);
+    add(alloc, &mut queue, text)?;
+    Ok(eaten(&mut queue, wanted) == answer && leaves(&mut queue, left))
+}
+
 #[test]
 fn a_text_is_eaten_whole_or_not_at_all(rt: HostRuntime) -> Result<(), Fail> {
     for (text, wanted, answer, left) in [
@@ -72,10 +85,7 @@ fn a_text_is_eaten_whole_or_not_at_all(rt: HostRuntime) -> Result<(), Fail> {
         ("éA€", "éa", Some(true), "€"),
         ("é", "éa", None, "é"),
     ] {
-        let mut queue = BufferQueue::new(rt.alloc());
-        add(rt.alloc(), &mut queue, text)?;
-        holds(&rt, eaten(&mut queue, wanted) == answer, text);
-        holds(&rt, leaves(&mut queue, left), text);
+        holds(&rt, is_eaten(rt.alloc(), text, wanted, answer, left)?, text);
     }
     Ok(())
 }

@@ -1,7 +1,7 @@
 //! Tells the trees of pages and fragments. Standard input has one a line, and standard output gets the nodes of each
-//! tree, one a line, with an empty line behind each tree. Each is parsed whole, a character at a time, and in two pieces,
-//! cut everywhere, and all trees must agree. The table of references is the basic one, or with `--references FILE` the one that a file has, in the
-//! form in which the standard publishes it (WHATWG HTML, 13.5).
+//! tree, one a line, with an empty line behind each tree. Each is parsed whole, a character at a time, and where it is
+//! short, in two pieces, cut everywhere; all trees must agree. The table of references is the basic one, or with
+//! `--references FILE` the one that a file has, in the form in which the standard publishes it (WHATWG HTML, 13.5).
 #![tactic(auto)]
 
 mod case;

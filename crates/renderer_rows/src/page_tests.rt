@@ -1,3 +1,4 @@
+use crate::checks::holds;
 use std::alloc::Global;
 use std::test::Fail;
 use text_block_renderer::{
@@ -24,31 +25,46 @@ fn quote(page: &mut TextRenderer<PlainDecorator>, text: &str) -> Result<(), Bloc
     Ok(())
 }
 
-#[test]
-fn parts_of_a_page(rt: HostRuntime) -> Result<(), Fail> {
-    let mut page = page(rt.alloc());
+// how many blocks a page has that is over, and how many links and lines it is of
+fn parts(alloc: Global) -> Result<(usize, usize, usize), BlockError> {
+    let mut page = page(alloc);
     page.start_link("target")?;
     page.current_mut().add_inline_text("a")?;
     page.end_link()?;
     quote(&mut page, "b c d")?;
-    assert_eq!(rt; page.depth(), 1);
-    if page.depth() == 1 {
-        let (block, links) = page.into_inner();
-        assert_eq!(rt; links.len(), 1);
-        assert_eq!(rt; block.into_lines()?.len(), 3);
+    let depth = page.depth();
+    if depth != 1 {
+        return Ok((depth, 0, 0));
     }
-    Ok(())
+    let (block, links) = page.into_inner();
+    let links = links.len();
+    Ok((depth, links, block.into_lines()?.len()))
 }
 
 #[test]
-fn lines_behind_a_page_are_cut_by_characters(rt: HostRuntime) -> Result<(), Fail> {
-    let alloc = rt.alloc();
+fn parts_of_a_page(rt: HostRuntime) -> Result<(), Fail> {
+    holds(
+        &rt,
+        parts(rt.alloc())? == (1, 1, 3),
+        "a block, links, lines",
+    );
+    Ok(())
+}
+
+// the text of the lines behind a page with a link
+fn footnotes(alloc: Global) -> Result<String, BlockError> {
     let options = RenderOptions::default();
     let mut block = SubRenderer::new(alloc, 1, options, PlainDecorator::new());
     let mut targets = Vec::new(alloc);
     targets.push(String::from_str(alloc, "a")?)?;
     let lines = block.finalise(targets)?;
     block.fmt_links(lines)?;
-    assert_eq!(rt; block.into_string()?.as_str(), "[\n1\n]\n:\n \na\n");
+    block.into_string()
+}
+
+#[test]
+fn lines_behind_a_page_are_cut_by_characters(rt: HostRuntime) -> Result<(), Fail> {
+    let text = footnotes(rt.alloc())?;
+    holds(&rt, text.as_str() == "[\n1\n]\n:\n \na\n", "footnotes");
     Ok(())
 }
