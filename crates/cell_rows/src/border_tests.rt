@@ -5,8 +5,7 @@ use tagged_lines::TaggedLine;
 use text_borders::{BorderHoriz, BorderSegHoriz, RenderLine};
 
 /// What is done to a border.
-#[derive(Clone, Copy)]
-enum Step {
+pub(crate) enum Step {
     Above(usize),
     Below(usize),
     Stretch(usize),
@@ -16,61 +15,103 @@ enum Step {
     Hole(usize, &'static str),
 }
 
-fn take(border: &mut BorderHoriz<()>, alloc: Global, step: Step) -> Result<(), AllocError> {
-    match step {
-        Step::Above(column) => border.join_above(column),
-        Step::Below(column) => border.join_below(column),
-        Step::Stretch(width) => border.stretch_to(width),
-        Step::FromBelow(place) => {
-            let mut other = BorderHoriz::new(alloc, 3, ())?;
-            other.join_above(1)?;
-            border.merge_from_below(&other, place)
-        }
-        Step::FromAbove(place) => {
-            let mut other = BorderHoriz::new(alloc, 3, ())?;
-            other.join_below(1)?;
-            border.merge_from_above(&other, place)
-        }
-        Step::Hole(place, text) => {
-            let text = String::from_str(alloc, text)?;
-            border.punch(place, TaggedLine::from_string(alloc, text, &())?)
-        }
-    }
-}
-
-fn text_of(alloc: Global, line: &TaggedLine<()>) -> Result<String, AllocError> {
-    let mut text = String::new(alloc);
-    for c in line.chars() {
-        text.push(c)?;
-    }
-    Ok(text)
-}
-
-fn made(alloc: Global, width: usize, steps: &[Step]) -> Result<BorderHoriz<()>, AllocError> {
-    let mut border = BorderHoriz::new(alloc, width, ())?;
+/// A border, joined to lines and with holes as the steps say.
+pub(crate) fn changed(
+    alloc: Global,
+    border: BorderHoriz<()>,
+    steps: &[Step],
+) -> Result<BorderHoriz<()>, AllocError> {
+    let mut border = border;
     for step in steps {
-        take(&mut border, alloc, *step)?;
+        match step {
+            Step::Above(column) => border.join_above(*column)?,
+            Step::Below(column) => border.join_below(*column)?,
+            Step::Stretch(width) => border.stretch_to(*width)?,
+            Step::FromBelow(place) => {
+                let mut other = BorderHoriz::new(alloc, 3, ())?;
+                other.join_above(1)?;
+                border.merge_from_below(&other, *place)?
+            }
+            Step::FromAbove(place) => {
+                let mut other = BorderHoriz::new(alloc, 3, ())?;
+                other.join_below(1)?;
+                border.merge_from_above(&other, *place)?
+            }
+            Step::Hole(place, text) => border.punch(*place, line_of(alloc, text)?)?,
+        }
     }
     Ok(border)
 }
 
-/// Steps, and the border that they make; rows of tables as html2text draws them, and corners.
-const ROWS: [(usize, &[Step], &str); 12] = [
-    (0, &[], ""),
-    (3, &[], "───"),
-    (5, &[Step::Below(1), Step::Below(3)], "─┬─┬─"),
-    (5, &[Step::Above(1), Step::Above(3)], "─┴─┴─"),
-    (3, &[Step::Below(1), Step::Above(1)], "─┼─"),
-    (1, &[Step::Below(2)], "──┬"),
-    (2, &[Step::Stretch(4), Step::Stretch(3)], "────"),
-    (5, &[Step::Below(0), Step::FromBelow(1)], "┬─┬──"),
-    (5, &[Step::Below(2), Step::FromAbove(1)], "──┼──"),
+/// A line of that text.
+pub(crate) fn line_of(alloc: Global, text: &str) -> Result<TaggedLine<()>, AllocError> {
+    TaggedLine::from_string(alloc, String::from_str(alloc, text)?, &())
+}
+
+/// Whether a border is of slashes, its columns, steps, how it is drawn then, the lines that come down on it (to `┴`,
+/// `┼`, `└` and `┘`), and whether it has holes; rows of tables as html2text draws them, and corners.
+static ROWS: [(bool, usize, &[Step], &str, &str, bool); 14] = [
+    (false, 0, &[], "", "", false),
+    (false, 3, &[], "───", "   ", false),
     (
+        false,
+        5,
+        &[Step::Below(1), Step::Below(3)],
+        "─┬─┬─",
+        "     ",
+        false,
+    ),
+    (
+        false,
+        5,
+        &[Step::Above(1), Step::Above(3)],
+        "─┴─┴─",
+        " │ │ ",
+        false,
+    ),
+    (
+        false,
+        3,
+        &[Step::Below(1), Step::Above(1)],
+        "─┼─",
+        " │ ",
+        false,
+    ),
+    (false, 1, &[Step::Below(2)], "──┬", "   ", false),
+    (
+        false,
+        2,
+        &[Step::Stretch(4), Step::Stretch(3)],
+        "────",
+        "    ",
+        false,
+    ),
+    (
+        false,
+        5,
+        &[Step::Below(0), Step::FromBelow(1)],
+        "┬─┬──",
+        "     ",
+        false,
+    ),
+    (
+        false,
+        5,
+        &[Step::Below(2), Step::FromAbove(1)],
+        "──┼──",
+        "  │  ",
+        false,
+    ),
+    (
+        false,
         3,
         &[Step::Below(1), Step::Above(1), Step::Hole(0, " ")],
         " ├─",
+        "   ",
+        true,
     ),
     (
+        false,
         7,
         &[
             Step::Above(1),
@@ -79,52 +120,51 @@ const ROWS: [(usize, &[Step], &str); 12] = [
             Step::Hole(4, "漢"),
         ],
         "─┘x│漢─",
+        " │     ",
+        true,
     ),
-    (2, &[Step::Hole(1, "abc")], "─abc"),
+    (false, 2, &[Step::Hole(1, "abc")], "─abc", "    ", true),
+    (
+        false,
+        5,
+        &[Step::Above(1), Step::Below(3), Step::Hole(4, "x")],
+        "─┴─┐x",
+        " │   ",
+        true,
+    ),
+    (
+        true,
+        3,
+        &[Step::Above(1), Step::Below(2)],
+        "///",
+        "   ",
+        false,
+    ),
 ];
-
-// whether a border is drawn so, and its copy alike and as wide
-fn is_drawn(alloc: Global, border: BorderHoriz<()>, text: &str) -> Result<bool, AllocError> {
-    let copy = border.try_clone()?;
-    let width = copy.width();
-    let line = border.into_tagged_line()?;
-    let is_copy = copy.into_tagged_line()? == line;
-    Ok(is_copy && line.width() == width && text_of(alloc, &line)?.as_str() == text)
-}
 
 #[test]
 fn borders_are_drawn(rt: HostRuntime) -> Result<(), Fail> {
-    for (width, steps, text) in ROWS {
-        let border = made(rt.alloc(), width, steps)?;
-        holds(&rt, is_drawn(rt.alloc(), border, text)?, text);
+    let alloc = rt.alloc();
+    for (slashes, width, steps, text, above, has_holes) in &ROWS {
+        let border = if *slashes {
+            BorderHoriz::new_slashes(alloc, *width, ())?
+        } else {
+            BorderHoriz::new(alloc, *width, ())?
+        };
+        let border = changed(alloc, border, steps)?;
+        let is_above = border.lines_above(&())? == line_of(alloc, above)?;
+        holds(&rt, is_above && border.has_holes() == *has_holes, text);
+        let wide = border.width();
+        let copy = border.try_clone()?.into_tagged_line()?;
+        let line = border.into_tagged_line()?;
+        holds(&rt, copy == line && line.width() == wide, text);
+        holds(&rt, line == line_of(alloc, text)?, text);
     }
     Ok(())
 }
 
-// a border of slashes with joins
-fn slashes(alloc: Global) -> Result<BorderHoriz<()>, AllocError> {
-    let mut slashes = BorderHoriz::new_slashes(alloc, 3, ())?;
-    slashes.join_above(1)?;
-    slashes.join_below(2)?;
-    Ok(slashes)
-}
-
-#[test]
-fn borders_of_slashes_and_lines_above(rt: HostRuntime) -> Result<(), Fail> {
-    let alloc = rt.alloc();
-    let slashes = slashes(alloc)?;
-    holds(&rt, !slashes.has_holes(), "no holes");
-    holds(&rt, is_drawn(alloc, slashes, "///")?, "slashes");
-    let steps = [Step::Above(1), Step::Below(3), Step::Hole(4, "x")];
-    let joined = made(alloc, 5, &steps)?;
-    holds(&rt, joined.has_holes(), "a hole");
-    let above = text_of(alloc, &joined.lines_above(&())?)?;
-    holds(&rt, above.as_str() == " │   ", "lines above");
-    Ok(())
-}
-
 /// Each segment without its left arm, and without its right one.
-const CHOPPED: [(BorderSegHoriz, char, char, char); 12] = [
+static CHOPPED: [(BorderSegHoriz, char, char, char); 12] = [
     (BorderSegHoriz::Horiz, '─', '─', '─'),
     (BorderSegHoriz::JoinAbove, '┴', '└', '┘'),
     (BorderSegHoriz::JoinBelow, '┬', '┌', '┐'),
@@ -151,40 +191,41 @@ fn segments_lose_an_arm(rt: HostRuntime) {
     }
 }
 
-/// This one holds also where a request for memory is refused, each in turn: `rt try --test --fail-alloc N`.
-#[test]
-fn a_refused_hole_is_no_panic(rt: HostRuntime) {
-    let steps = [Step::Below(1), Step::Hole(3, "x"), Step::FromAbove(5)];
-    if let Ok(border) = made(rt.alloc(), 2, &steps) {
-        holds(&rt, border.width() == 7, "a hole");
+/// A line of a block.
+pub(crate) enum Line {
+    Text(&'static str),
+    /// A border of so many columns, which the steps change.
+    Border(usize, &'static [Step]),
+}
+
+/// The line that is so made.
+pub(crate) fn line_made(alloc: Global, line: &Line) -> Result<RenderLine<()>, AllocError> {
+    match line {
+        Line::Text(text) => Ok(RenderLine::Text(line_of(alloc, text)?)),
+        Line::Border(width, steps) => {
+            let border = BorderHoriz::new(alloc, *width, ())?;
+            Ok(RenderLine::Line(changed(alloc, border, steps)?))
+        }
     }
 }
 
-// whether a line has so many columns, and it and its copy the text where it is widened
-fn is_widened(
-    alloc: Global,
-    line: RenderLine<()>,
-    columns: usize,
-    width: usize,
-    text: &str,
-) -> Result<bool, AllocError> {
-    let is_so = line.width() == columns;
-    let copy = line.try_clone()?.into_widened(alloc, width, &())?;
-    let wide = line.into_widened(alloc, width, &())?;
-    Ok(is_so && copy == wide && text_of(alloc, &wide)?.as_str() == text)
-}
+/// Lines of three columns, columns, and their text where they are widened to those.
+static WIDENED: [(Line, usize, &str); 4] = [
+    (Line::Border(3, &[Step::Below(1)]), 3, "─┬─"),
+    (Line::Border(3, &[Step::Below(1)]), 4, "─┬──"),
+    (Line::Text("漢a"), 3, "漢a"),
+    (Line::Text("漢a"), 5, "漢a  "),
+];
 
 #[test]
-fn lines_of_blocks(rt: HostRuntime) -> Result<(), Fail> {
+fn lines_of_blocks_are_widened(rt: HostRuntime) -> Result<(), Fail> {
     let alloc = rt.alloc();
-    for (width, text) in [(3, "─┬─"), (4, "─┬──")] {
-        let border = RenderLine::Line(made(alloc, 3, &[Step::Below(1)])?);
-        holds(&rt, is_widened(alloc, border, 3, width, text)?, text);
-    }
-    for (width, text) in [(3, "漢a"), (5, "漢a  ")] {
-        let line = TaggedLine::from_string(alloc, String::from_str(alloc, "漢a")?, &())?;
-        let line = RenderLine::Text(line);
-        holds(&rt, is_widened(alloc, line, 3, width, text)?, text);
+    for (line, width, text) in &WIDENED {
+        let line = line_made(alloc, line)?;
+        holds(&rt, line.width() == 3, text);
+        let wide = line.try_clone()?.into_widened(alloc, *width, &())?;
+        holds(&rt, wide == line_of(alloc, text)?, text);
+        holds(&rt, line.into_widened(alloc, *width, &())? == wide, text);
     }
     Ok(())
 }

@@ -1,5 +1,5 @@
 use crate::checks::holds;
-use crate::given::ORANGE;
+use crate::decorator_tests::ORANGE;
 use std::alloc::{AllocError, Global};
 use std::test::Fail;
 use tagged_lines::EqualCopy;
@@ -25,33 +25,27 @@ fn notes(alloc: Global) -> Result<Vec<RichAnnotation>, AllocError> {
 
 #[test]
 fn a_copy_equals_its_source_alone(rt: HostRuntime) -> Result<(), Fail> {
-    let alloc = rt.alloc();
-    let notes = notes(alloc)?;
-    let first = notes.first();
-    holds(&rt, first == Some(&RichAnnotation::Default), "the default");
+    let notes = notes(rt.alloc())?;
+    let is_so = notes.first() == Some(&RichAnnotation::Default);
+    holds(&rt, is_so, "the default");
     for (at, note) in notes.iter().enumerate() {
-        let copy = note.try_clone(alloc)?;
-        holds(&rt, is_only(&notes, at, &copy), "a copy");
-        let copy = note.copy(alloc)?;
-        holds(&rt, is_only(&notes, at, &copy), "a tag's copy");
+        let copy = note.try_clone(rt.alloc())?;
+        let tag = note.copy(rt.alloc())?;
+        for (place, other) in notes.iter().enumerate() {
+            let is_same = place == at;
+            let are_so = (*other == copy) == is_same && (*other == tag) == is_same;
+            holds(&rt, are_so, "a copy");
+        }
     }
     Ok(())
 }
 
-fn is_only(notes: &[RichAnnotation], at: usize, copy: &RichAnnotation) -> bool {
-    notes
-        .iter()
-        .enumerate()
-        .all(|(place, note)| (note == copy) == (place == at))
-}
-
 #[test]
 fn a_colours_text(rt: HostRuntime) -> Result<(), Fail> {
-    let alloc = rt.alloc();
-    let orange = format!(in alloc; "{ORANGE}")?;
-    holds(&rt, orange.as_str() == "#ff8000", "orange");
     let dark = Colour { r: 0, g: 10, b: 15 };
-    let dark = format!(in alloc; "{dark}")?;
-    holds(&rt, dark.as_str() == "#000a0f", "a dark blue");
+    for (colour, wanted) in [(ORANGE, "#ff8000"), (dark, "#000a0f")] {
+        let text = colour.to_string(rt.alloc())?;
+        holds(&rt, text.as_str() == wanted, wanted);
+    }
     Ok(())
 }

@@ -1,78 +1,166 @@
 use crate::checks::holds;
-use crate::given::{ORANGE, given_by, lines_behind, pops_of, prefixes_of};
 use link_counting::{LinkCounter, LinkNote, counted_links, link, two_links};
 use std::alloc::{AllocError, Global};
 use std::process::Abort;
 use std::test::Fail;
 use text_decorators::{
-    PlainDecorator, RichAnnotation, RichDecorator, SteadyPrefixes, TextDecorator, TrivialDecorator,
+    Colour, PlainDecorator, RichAnnotation, RichDecorator, TextDecorator, TrivialDecorator,
 };
 
-/// What a decorator is to answer.
-#[derive(Drop)]
-struct Answers<'a, A> {
-    marks: &'a str,
-    prefixes: &'a str,
-    notes: &'a [A],
-    ends_colours: bool,
+pub(crate) const ORANGE: Colour = Colour {
+    r: 0xff,
+    g: 0x80,
+    b: 0,
+};
+
+/// Adds the marks of a part with an `x` between them and a space behind it, and its annotation.
+fn add<A: Drop>(
+    marks: &mut String,
+    notes: &mut Vec<A>,
+    start: Result<(String, A), AllocError>,
+    end: Result<String, AllocError>,
+) -> Result<(), AllocError> {
+    let (start, note) = start?;
+    let end = end?;
+    notes.push(note)?;
+    marks.push_str(start.as_str())?;
+    marks.push('x')?;
+    marks.push_str(end.as_str())?;
+    marks.push(' ')
 }
 
-// Asks the sub-decorator of a clone.
-fn answers_are<R: Abort, D: SteadyPrefixes + Clone + Drop>(
-    rt: &R,
+/// Adds the marks and annotations of a link, of inline parts and of an image.
+fn add_marks<D: TextDecorator>(
     alloc: Global,
-    decorator: &D,
-    answers: Answers<D::Annotation>,
+    decorator: &mut D,
+    marks: &mut String,
+    notes: &mut Vec<D::Annotation>,
 ) -> Result<(), AllocError> {
+    let start = decorator.decorate_link_start(alloc, "u");
+    add(marks, notes, start, decorator.decorate_link_end(alloc))?;
+    let start = decorator.decorate_em_start(alloc);
+    add(marks, notes, start, decorator.decorate_em_end(alloc))?;
+    let start = decorator.decorate_strong_start(alloc);
+    add(marks, notes, start, decorator.decorate_strong_end(alloc))?;
+    let start = decorator.decorate_strikeout_start(alloc);
+    add(marks, notes, start, decorator.decorate_strikeout_end(alloc))?;
+    let start = decorator.decorate_code_start(alloc);
+    add(marks, notes, start, decorator.decorate_code_end(alloc))?;
+    let start = decorator.decorate_superscript_start(alloc);
+    add(
+        marks,
+        notes,
+        start,
+        decorator.decorate_superscript_end(alloc),
+    )?;
+    let (text, note) = decorator.decorate_image(alloc, "s", "t")?;
+    notes.push(note)?;
+    marks.push_str(text.as_str())
+}
+
+/// Adds the annotations that have no text.
+fn add_notes<D: TextDecorator>(
+    alloc: Global,
+    decorator: &mut D,
+    notes: &mut Vec<D::Annotation>,
+) -> Result<(), AllocError> {
+    notes.push(decorator.decorate_preformat_first(alloc)?)?;
+    notes.push(decorator.decorate_preformat_cont(alloc)?)?;
+    if let Some(note) = decorator.push_colour(alloc, ORANGE)? {
+        notes.push(note)?;
+    }
+    if let Some(note) = decorator.push_bgcolour(alloc, ORANGE)? {
+        notes.push(note)?;
+    }
+    Ok(())
+}
+
+fn add_prefix(prefixes: &mut String, prefix: Result<String, AllocError>) -> Result<(), AllocError> {
+    prefixes.push_str(prefix?.as_str())?;
+    prefixes.push('|')
+}
+
+/// The prefixes of headings, a quote and items, each ended by `|`.
+fn prefixes_of<D: TextDecorator>(alloc: Global, decorator: &D) -> Result<String, AllocError> {
+    let mut prefixes = String::new(alloc);
+    add_prefix(&mut prefixes, decorator.header_prefix(alloc, 1))?;
+    add_prefix(&mut prefixes, decorator.header_prefix(alloc, 3))?;
+    add_prefix(&mut prefixes, decorator.quote_prefix(alloc))?;
+    add_prefix(&mut prefixes, decorator.unordered_item_prefix(alloc))?;
+    add_prefix(&mut prefixes, decorator.ordered_item_prefix(alloc, 10))?;
+    add_prefix(&mut prefixes, decorator.ordered_item_prefix(alloc, -7))?;
+    Ok(prefixes)
+}
+
+/// The lines behind a page with two links, each ended by `|`.
+fn lines_behind<D: TextDecorator>(alloc: Global, decorator: &mut D) -> Result<String, AllocError> {
+    let mut urls = Vec::new(alloc);
+    urls.push(String::from_str(alloc, "u")?)?;
+    urls.push(String::from_str(alloc, "v")?)?;
+    let mut text = String::new(alloc);
+    for line in &decorator.finalise(alloc, urls)? {
+        for string in line.tagged_strings() {
+            text.push_str(string.s.as_str())?;
+        }
+        text.push('|')?;
+    }
+    Ok(text)
+}
+
+// Asks the sub-decorator of a clone for marks, prefixes and annotations, and whether its colours end.
+fn answers_are<R: AllocGlobal + Abort, D: TextDecorator + Clone + Drop>(
+    rt: &R,
+    decorator: &D,
+    marks: &str,
+    prefixes: &str,
+    notes: &[D::Annotation],
+    ends_colours: bool,
+) -> Result<(), AllocError> {
+    let alloc = rt.alloc();
     let mut sub = decorator.clone()?.make_subblock_decorator(alloc)?;
-    let given = given_by(alloc, &mut sub)?;
-    holds(rt, given.marks.as_str() == answers.marks, "marks");
-    holds(rt, given.notes.as_slice() == answers.notes, "notes");
-    let prefixes = prefixes_of(alloc, &sub)?;
-    holds(rt, prefixes.as_str() == answers.prefixes, "prefixes");
-    let ends = answers.ends_colours;
-    holds(rt, pops_of(&mut sub) == (ends, ends), "colours that end");
-    let lines = lines_behind(alloc, &mut sub)?;
-    holds(rt, lines.as_str() == "[1]: u|[2]: v|", "footnotes");
+    let mut text = String::new(alloc);
+    let mut given = Vec::new(alloc);
+    add_marks(alloc, &mut sub, &mut text, &mut given)?;
+    add_notes(alloc, &mut sub, &mut given)?;
+    holds(rt, text.as_str() == marks, marks);
+    holds(rt, given.as_slice() == notes, "notes");
+    let text = prefixes_of(alloc, &sub)?;
+    holds(rt, text.as_str() == prefixes, prefixes);
+    let ends = (sub.pop_colour(), sub.pop_bgcolour());
+    holds(rt, ends == (ends_colours, ends_colours), "colours that end");
+    let text = lines_behind(alloc, &mut sub)?;
+    holds(rt, text.as_str() == "[1]: u|[2]: v|", "footnotes");
     Ok(())
 }
 
 // The answers of html2text; the counter marks links and notes in its own way, and the rest as plain text does.
 #[test]
 fn answers_of_each_decorator(rt: HostRuntime) -> Result<(), Fail> {
-    let alloc = rt.alloc();
     let prefixes = "# |### |> |* |10. |-7. |";
-    let plain = Answers {
-        marks: "[x] x x x x ^{x} [t]",
+    let plain = "[x] x x x x ^{x} [t]";
+    answers_are(
+        &rt,
+        &PlainDecorator::new(),
+        plain,
         prefixes,
-        notes: &[(); 9],
-        ends_colours: false,
-    };
-    answers_are(&rt, alloc, &PlainDecorator::new(), plain)?;
-    let trivial = Answers {
-        marks: "x x x x x ^{x} t",
-        prefixes: "||||||",
-        notes: &[(); 9],
-        ends_colours: false,
-    };
-    answers_are(&rt, alloc, &TrivialDecorator::new(), trivial)?;
-    let rich_notes = rich_notes(alloc)?;
-    let rich = Answers {
-        marks: "x x x x x ^{x} t",
-        prefixes,
-        notes: &rich_notes,
-        ends_colours: true,
-    };
-    answers_are(&rt, alloc, &RichDecorator::new(), rich)?;
-    let mut counter_notes = [LinkNote::Outside; 9];
-    counter_notes[0] = LinkNote::Link(1);
-    let counter = Answers {
-        marks: "[x][1] x x x x ^{x} [t]",
-        prefixes,
-        notes: &counter_notes,
-        ends_colours: false,
-    };
-    answers_are(&rt, alloc, &LinkCounter::new(), counter)?;
+        &[(); 9],
+        false,
+    )?;
+    let bare = "x x x x x ^{x} t";
+    answers_are(
+        &rt,
+        &TrivialDecorator::new(),
+        bare,
+        "||||||",
+        &[(); 9],
+        false,
+    )?;
+    let notes = rich_notes(rt.alloc())?;
+    answers_are(&rt, &RichDecorator::new(), bare, prefixes, &notes, true)?;
+    let counted = "[x][1] x x x x ^{x} [t]";
+    let mut notes = [LinkNote::Outside; 9];
+    notes[0] = LinkNote::Link(1);
+    answers_are(&rt, &LinkCounter::new(), counted, prefixes, &notes, false)?;
     Ok(())
 }
 
@@ -106,11 +194,7 @@ fn a_second_link(rt: HostRuntime) -> Result<(), Fail> {
     let first = link(alloc, &mut counter, "u", "a")?;
     let mut sub = counter.make_subblock_decorator(alloc)?;
     let second = link(alloc, &mut sub, "v", "b")?;
-    holds(
-        &rt,
-        are(&(first, second), "[a][1]", "[b][2]"),
-        "its sub-decorator",
-    );
+    holds(&rt, are(&(first, second), "[a][1]", "[b][2]"), "a part's");
     Ok(())
 }
 
@@ -129,12 +213,8 @@ fn a_refused_link_is_not_counted(rt: HostRuntime) {
             links = links.saturating_add(1);
         }
         if let Ok(end) = counter.decorate_link_end(alloc) {
-            holds(&rt, is_end_of(links, end.as_str()), "a link's end");
+            let ends = ["][0]", "][1]", "][2]", "][3]"];
+            holds(&rt, ends.get(links) == Some(&end.as_str()), "a link's end");
         }
     }
-}
-
-fn is_end_of(links: usize, end: &str) -> bool {
-    let ends = ["][0]", "][1]", "][2]", "][3]"];
-    ends.get(links) == Some(&end)
 }

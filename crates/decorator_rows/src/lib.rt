@@ -7,5 +7,3 @@ mod annotation_tests;
 mod checks;
 #[cfg(test)]
 mod decorator_tests;
-#[cfg(test)]
-mod given;

@@ -1,6 +1,4 @@
 //! Trees of pages, by the calls of a parser.
-ghost use Rattle.html_forest.specs.Orders.{IsForest};
-
 use html_forest::{
     ElementFlags, TreeSink, a_page_alone_is_a_forest, elements_stay, making_keeps_a_forest,
     what_was_made_may_be_put,
@@ -13,28 +11,16 @@ use html_tree_builder::{ParseOpts, parse_document, parse_fragment_for_element};
 use std::alloc::{AllocError, Global};
 
 /// The tree of a page, by each call of a parser: a piece, an error from outside, and the last piece or none.
-pub(crate) fn tree_by_calls(
-    alloc: Global,
-    first: String,
-    message: String,
-    last: Option<String>,
-) -> Result<RcDom, ParseFault> {
+pub(crate) fn tree_of(alloc: Global, first: &str, last: Option<&str>) -> Result<RcDom, ParseFault> {
     a_page_alone_is_a_forest();
-    tree_in(alloc, RcDom::new(alloc)?, first, message, last)
-}
-
-// the same in any sink
-fn tree_in<S: TreeSink + Drop>(
-    alloc: Global,
-    sink: S,
-    first: String,
-    message: String,
-    last: Option<String>,
-) -> Result<S::Output, ParseFault>
-    requires { IsForest (S.forest sink) }
-{
     let table = ReferenceTable::basic(alloc)?;
-    let mut parser = parse_document(alloc, sink, ParseOpts::default(), table);
+    let first = String::from_str(alloc, first)?;
+    let message = String::from_str(alloc, "seen")?;
+    let last = match last {
+        Some(text) => Some(String::from_str(alloc, text)?),
+        None => None,
+    };
+    let mut parser = parse_document(alloc, RcDom::new(alloc)?, ParseOpts::default(), table);
     // a refused call is told by the next one
     let _ = parser.process(first);
     let _ = parser.error(message);
@@ -45,32 +31,18 @@ fn tree_in<S: TreeSink + Drop>(
 }
 
 /// The tree of a fragment in a context that stands in a form.
-pub(crate) fn tree_in_a_form(alloc: Global, piece: String) -> Result<RcDom, ParseFault> {
+pub(crate) fn tree_in_a_form(alloc: Global, piece: &str) -> Result<RcDom, ParseFault> {
     a_page_alone_is_a_forest();
-    fragment_in_a_form(alloc, RcDom::new(alloc)?, piece)
-}
-
-// the same in any sink
-fn fragment_in_a_form<S: TreeSink + Drop>(
-    alloc: Global,
-    sink: S,
-    piece: String,
-) -> Result<S::Output, ParseFault>
-    requires { IsForest (S.forest sink) }
-{
     making_keeps_a_forest();
     what_was_made_may_be_put();
     elements_stay();
-    let mut sink = sink;
-    let form = html_name(alloc, "form")?;
-    let attrs = Attributes::new(alloc);
-    let form = sink.create_element(form, attrs, PLAIN)?;
-    let context = html_name(alloc, "div")?;
-    let attrs = Attributes::new(alloc);
-    let context = sink.create_element(context, attrs, PLAIN)?;
+    let piece = String::from_str(alloc, piece)?;
+    let mut dom = RcDom::new(alloc)?;
+    let form = dom.create_element(html_name(alloc, "form")?, Attributes::new(alloc), PLAIN)?;
+    let context = dom.create_element(html_name(alloc, "div")?, Attributes::new(alloc), PLAIN)?;
     let table = ReferenceTable::basic(alloc)?;
     let opts = ParseOpts::default();
-    let parser = parse_fragment_for_element(alloc, sink, opts, table, context, true, Some(form))?;
+    let parser = parse_fragment_for_element(alloc, dom, opts, table, context, true, Some(form))?;
     parser.one(piece)
 }
 
@@ -80,7 +52,7 @@ const PLAIN: ElementFlags = ElementFlags {
     mathml_annotation_xml_integration_point: false,
 };
 
-// the name of an element of HTML
-fn html_name(alloc: Global, word: &str) -> Result<QualName, AllocError> {
+/// The name of an element of HTML.
+pub(crate) fn html_name(alloc: Global, word: &str) -> Result<QualName, AllocError> {
     Ok(QualName::new(Namespace::Html, LocalName::from_str(alloc, word)?))
 }

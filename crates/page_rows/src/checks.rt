@@ -10,14 +10,9 @@ pub(crate) fn holds<R: Abort>(rt: &R, is_so: bool, at: &str) {
 
 /// Whether a text, or an error, is the one that is wanted.
 pub(crate) fn is_answer(found: Result<String, Error>, wanted: Result<&str, Error>) -> bool {
-    match found {
-        Ok(text) => match wanted {
-            Ok(wanted) => text.as_str() == wanted,
-            Err(_) => false,
-        },
-        Err(error) => match wanted {
-            Ok(_) => false,
-            Err(wanted) => error == wanted,
-        },
+    match (found, wanted) {
+        (Ok(text), Ok(wanted)) => text.as_str() == wanted,
+        (Err(error), Err(wanted)) => error == wanted,
+        _ => false,
     }
 }

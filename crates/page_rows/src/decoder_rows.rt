@@ -6,7 +6,7 @@ use std::process::Abort;
 use std::test::Fail;
 
 // Bytes in two pieces and their text: the rows of the Unicode Standard's Tables 3-8 to 3-11 among them.
-const ROWS: [(&[u8], &[u8], &str); 15] = [
+static ROWS: [(&[u8], &[u8], &str); 15] = [
     (b"", b"", ""),
     (b"\xF0\x9F\x98", b"", "\u{FFFD}"),
     (b"\xF0\x9F", b"\x98\x80!", "\u{1F600}!"),

@@ -1,33 +1,20 @@
-//! Readers and writers in memory that give and take little at a time, or fail.
+//! A reader and a writer in memory that give and take little at a time, or fail.
 
+use std::alloc::Global;
 use std::io;
 use std::io::{ErrorKind, Read, Write};
 
-/// Gives its bytes a few at a time.
+/// Gives its bytes a few at a time, and fails where the count of reads is used up.
 #[derive(Drop)]
 pub(crate) struct Pieces<'a> {
-    pub(crate) bytes: &'a [u8],
-    pub(crate) most: usize,
-}
-
-impl Read for Pieces<'_> {
-    fn read(&mut self, buf: &mut [u8]) -> io::Result<usize> {
-        let most = buf.len().min(self.most);
-        (&mut self.bytes).read(&mut buf[..most])
-    }
-}
-
-/// Gives its bytes a few at a time, and fails where none is left or the count of reads is used up.
-#[derive(Drop)]
-pub(crate) struct Faltering<'a> {
     pub(crate) bytes: &'a [u8],
     pub(crate) most: usize,
     pub(crate) reads: usize,
 }
 
-impl Read for Faltering<'_> {
+impl Read for Pieces<'_> {
     fn read(&mut self, buf: &mut [u8]) -> io::Result<usize> {
-        if self.bytes.is_empty() || self.reads == 0 {
+        if self.reads == 0 {
             return Err(io::Error::from(ErrorKind::Interrupted));
         }
         self.reads -= 1;
@@ -36,16 +23,30 @@ impl Read for Faltering<'_> {
     }
 }
 
-/// Takes bytes while the count of writes lasts, and then fails, or takes none.
+/// Takes bytes while the count of writes lasts, and then fails, or takes none; it may refuse to pass them on.
 #[derive(Drop)]
-pub(crate) struct Full {
+pub(crate) struct Taker {
     pub(crate) taken: Vec<u8>,
     pub(crate) most: usize,
     pub(crate) writes: usize,
     pub(crate) takes_none: bool,
+    pub(crate) is_stuck: bool,
 }
 
-impl Write for Full {
+impl Taker {
+    /// A writer that takes all and never fails.
+    pub(crate) fn new(alloc: Global) -> Taker {
+        Taker {
+            taken: Vec::new(alloc),
+            most: usize::MAX,
+            writes: usize::MAX,
+            takes_none: false,
+            is_stuck: false,
+        }
+    }
+}
+
+impl Write for Taker {
     fn write(&mut self, buf: &[u8]) -> io::Result<usize> {
         if self.writes == 0 {
             if self.takes_none {
@@ -60,23 +61,9 @@ impl Write for Full {
     }
 
     fn flush(&mut self) -> io::Result<()> {
+        if self.is_stuck {
+            return Err(io::Error::from(ErrorKind::BrokenPipe));
+        }
         Ok(())
-    }
-}
-
-/// Takes all bytes, and refuses to pass them on.
-#[derive(Drop)]
-pub(crate) struct Stuck {
-    pub(crate) taken: Vec<u8>,
-}
-
-impl Write for Stuck {
-    fn write(&mut self, buf: &[u8]) -> io::Result<usize> {
-        self.taken.extend_from_slice(buf)?;
-        Ok(buf.len())
-    }
-
-    fn flush(&mut self) -> io::Result<()> {
-        Err(io::Error::from(ErrorKind::BrokenPipe))
     }
 }

@@ -1,12 +1,11 @@
 //! Pages from outside, through the public calls. Readers and writers are in memory.
 use crate::checks::{holds, is_answer};
-use crate::devices::{Faltering, Full, Pieces};
+use crate::devices::{Pieces, Taker};
 use html2text::{
     Config, Device, Error, PlainDecorator, ReferenceTable, from_read, one_answer, run,
 };
 use std::alloc::Global;
 use std::io;
-use std::io::Read;
 use std::test::Fail;
 
 fn plain(alloc: Global) -> Result<Config<PlainDecorator>, Error> {
@@ -15,7 +14,8 @@ fn plain(alloc: Global) -> Result<Config<PlainDecorator>, Error> {
 
 /// The text of a page whose bytes come `most` at a time.
 fn text_of(alloc: Global, bytes: &[u8], most: usize, width: usize) -> Result<String, Error> {
-    let mut input = Device::new(Pieces { bytes, most });
+    let reads = usize::MAX;
+    let mut input = Device::new(Pieces { bytes, most, reads });
     from_read(alloc, &mut input, width, ReferenceTable::basic(alloc)?)
 }
 
@@ -97,22 +97,6 @@ fn name_of(bytes: &[u8]) -> &str {
 }
 
 #[test]
-fn two_pieces_are_one_page(rt: HostRuntime) -> Result<(), Fail> {
-    let alloc = rt.alloc();
-    let mut input = Device::new(b"<p>caf\xC3".as_slice().chain(b"\xA9</p>".as_slice()));
-    let text = plain(alloc)?.string_from_read(alloc, &mut input, 20)?;
-    holds(
-        &rt,
-        text.as_str() == "caf\u{e9}\n",
-        "a character in two pieces",
-    );
-    let mut input = Device::new(b"<p>a\r".as_slice().chain(b"\nb</p>".as_slice()));
-    let text = plain(alloc)?.string_from_read(alloc, &mut input, 20)?;
-    holds(&rt, text.as_str() == "a b\n", "a line end in two pieces");
-    Ok(())
-}
-
-#[test]
 fn a_page_is_as_long_as_allowed(rt: HostRuntime) -> Result<(), Fail> {
     let alloc = rt.alloc();
     let rows: [(&[u8], usize, Result<&str, Error>); 4] = [
@@ -135,13 +119,15 @@ fn lines_are_given_one_by_one(rt: HostRuntime) -> Result<(), Fail> {
     let alloc = rt.alloc();
     let mut input = Device::new(b"<p>a b</p>".as_slice());
     let lines = plain(alloc)?.lines_from_read(alloc, &mut input, 1)?;
-    let [first, second] = lines.as_slice() else {
-        holds(&rt, false, "two lines");
-        return Ok(());
-    };
-    let text: String = first.chars().collect(alloc)?;
-    holds(&rt, text.as_str() == "a", "the first line");
-    holds(&rt, second.width() == 1, "the second line");
+    let mut text = String::new(alloc);
+    for line in &lines {
+        holds(&rt, line.width() == 1, "a line");
+        for string in line.tagged_strings() {
+            text.push_str(string.s.as_str())?;
+        }
+        text.push('|')?;
+    }
+    holds(&rt, text.as_str() == "a|b|", "two lines");
     Ok(())
 }
 
@@ -149,29 +135,29 @@ fn lines_are_given_one_by_one(rt: HostRuntime) -> Result<(), Fail> {
 fn a_page_is_written(rt: HostRuntime) -> Result<(), Fail> {
     let alloc = rt.alloc();
     let mut input = Device::new(FIRST_PAGE);
-    let mut output = Device::new(Vec::new(alloc));
+    let mut output = Device::new(Taker::new(alloc));
     run(alloc, &mut input, &mut output, plain(alloc)?, 8)?;
-    holds(
-        &rt,
-        output.into_inner().as_slice() == FIRST_TEXT.as_bytes(),
-        "the first page",
-    );
+    let taken = output.into_inner().taken;
+    let is_so = taken.as_slice() == FIRST_TEXT.as_bytes();
+    holds(&rt, is_so, "the first page");
     Ok(())
 }
 
+// The reader fails at each read of the page, the one at its end among them.
 #[test]
 fn a_reader_that_fails_leaves_nothing_written(rt: HostRuntime) -> Result<(), Fail> {
     let alloc = rt.alloc();
-    for reads in 0..9 {
-        let mut input = Device::new(Faltering {
+    for reads in 0..5 {
+        let mut input = Device::new(Pieces {
             bytes: b"<p>a",
             most: 1,
             reads,
         });
-        let mut output = Device::new(Vec::new(alloc));
+        let mut output = Device::new(Taker::new(alloc));
         let refused = run(alloc, &mut input, &mut output, plain(alloc)?, 20);
         holds(&rt, refused == Err(Error::IoError), "a reader that fails");
-        holds(&rt, output.into_inner().is_empty(), "what is written then");
+        let is_so = output.into_inner().taken.is_empty();
+        holds(&rt, is_so, "what is written then");
     }
     Ok(())
 }
@@ -179,24 +165,19 @@ fn a_reader_that_fails_leaves_nothing_written(rt: HostRuntime) -> Result<(), Fai
 #[test]
 fn a_writer_that_fails_has_a_beginning(rt: HostRuntime) -> Result<(), Fail> {
     let alloc = rt.alloc();
-    for takes_none in [false, true] {
-        for most in [1, 2, 64] {
-            for writes in 0..9 {
-                let mut input = Device::new(FIRST_PAGE);
-                let mut output = Device::new(Full {
-                    taken: Vec::new(alloc),
-                    most,
-                    writes,
-                    takes_none,
-                });
-                let refused = run(alloc, &mut input, &mut output, plain(alloc)?, 8);
-                holds(&rt, refused == Err(Error::IoError), "a writer that fails");
-                let taken = output.into_inner().taken;
-                let is_beginning = FIRST_TEXT.as_bytes().starts_with(taken.as_slice());
-                holds(&rt, is_beginning, "what it has then");
-                holds(&rt, writes == 0 || !taken.is_empty(), "its first write");
-            }
-        }
+    for case in 0..54 {
+        let mut input = Device::new(FIRST_PAGE);
+        let mut taker = Taker::new(alloc);
+        taker.takes_none = case % 2 == 0;
+        taker.most = [1, 2, 64][case / 2 % 3];
+        taker.writes = case / 6;
+        let mut output = Device::new(taker);
+        let refused = run(alloc, &mut input, &mut output, plain(alloc)?, 8);
+        holds(&rt, refused == Err(Error::IoError), "a writer that fails");
+        let taken = output.into_inner().taken;
+        let is_beginning = FIRST_TEXT.as_bytes().starts_with(taken.as_slice());
+        holds(&rt, is_beginning, "what it has then");
+        holds(&rt, case < 6 || !taken.is_empty(), "its first write");
     }
     Ok(())
 }

@@ -2,20 +2,16 @@
 use crate::checks::holds;
 use html2text::{Error, Outcome, WordFault, exit_status, read_words};
 use std::alloc::{AllocError, Global};
-use std::process::Abort;
 use std::test::Fail;
 
 // What a line of words, cut at spaces, comes to: its width, or why it has none.
-#[derive(Clone, Copy, PartialEq, Eq)]
 enum Answer {
     Width(usize),
     Help,
     Words,
-    NotUtf8,
-    Memory,
 }
 
-const LINES: [(&str, Answer); 32] = [
+static LINES: [(&str, Answer); 32] = [
     ("", Answer::Width(80)),
     ("--", Answer::Width(80)),
     ("--width 8", Answer::Width(8)),
@@ -50,7 +46,8 @@ const LINES: [(&str, Answer); 32] = [
     ("-- --help", Answer::Words),
 ];
 
-fn words_of(alloc: Global, line: &str) -> Result<Vec<String>, AllocError> {
+/// The words of a line, cut at spaces.
+pub(crate) fn words_of(alloc: Global, line: &str) -> Result<Vec<String>, AllocError> {
     let mut words = Vec::new(alloc);
     for word in line.split(' ') {
         if !word.is_empty() {
@@ -60,27 +57,25 @@ fn words_of(alloc: Global, line: &str) -> Result<Vec<String>, AllocError> {
     Ok(words)
 }
 
-fn answer_of(rt: &(impl AllocGlobal + Abort), words: &[String]) -> Answer {
-    match read_words(rt.alloc(), words) {
-        Ok(request) => Answer::Width(request.width),
+/// Whether words come to an answer, or, where memory may lack, are refused for want of it.
+fn is_answered(alloc: Global, words: &[String], wanted: &Answer, may_lack: bool) -> bool {
+    match read_words(alloc, words) {
+        Ok(request) => matches!(wanted, Answer::Width(width) if *width == request.width),
         Err(WordFault::Help(text)) => {
-            holds(rt, text.contains("--width <N>"), "the help");
-            Answer::Help
+            matches!(wanted, Answer::Help) && text.contains("--width <N>")
         }
-        Err(WordFault::Words(text)) => {
-            holds(rt, !text.is_empty(), "clap's text");
-            Answer::Words
-        }
-        Err(WordFault::NotUtf8) => Answer::NotUtf8,
-        Err(WordFault::Memory) => Answer::Memory,
+        Err(WordFault::Words(text)) => matches!(wanted, Answer::Words) && !text.is_empty(),
+        Err(WordFault::NotUtf8) => false,
+        Err(WordFault::Memory) => may_lack,
     }
 }
 
 #[test]
 fn reads_lines(rt: HostRuntime) -> Result<(), Fail> {
-    for (line, want) in LINES {
+    for (line, wanted) in &LINES {
         let words = words_of(rt.alloc(), line)?;
-        holds(&rt, answer_of(&rt, &words) == want, line);
+        let is_so = is_answered(rt.alloc(), &words, wanted, false);
+        holds(&rt, is_so, line);
     }
     Ok(())
 }
@@ -88,12 +83,11 @@ fn reads_lines(rt: HostRuntime) -> Result<(), Fail> {
 // It holds where memory is refused, too, as under `rt try --test --fail-alloc`.
 #[test]
 fn reads_lines_or_refuses(rt: HostRuntime) {
-    for (line, want) in LINES {
-        let Ok(words) = words_of(rt.alloc(), line) else {
-            continue;
-        };
-        let answer = answer_of(&rt, &words);
-        holds(&rt, answer == want || answer == Answer::Memory, line);
+    for (line, wanted) in &LINES {
+        if let Ok(words) = words_of(rt.alloc(), line) {
+            let is_so = is_answered(rt.alloc(), &words, wanted, true);
+            holds(&rt, is_so, line);
+        }
     }
 }
 

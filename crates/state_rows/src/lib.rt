@@ -3,18 +3,12 @@
 #![tactic(auto)]
 
 #[cfg(test)]
-mod asked;
-#[cfg(test)]
-mod begin;
-#[cfg(test)]
-mod checks;
-#[cfg(test)]
-mod dump;
+mod fact;
 #[cfg(test)]
 mod lists;
 #[cfg(test)]
-mod made;
+mod rows;
 #[cfg(test)]
-mod pages;
+mod step;
 #[cfg(test)]
 mod tests;

@@ -1,139 +1,200 @@
 use crate::checks::holds;
-use crate::marks::Mark;
-use crate::rows::{MARKED, ROWS};
-use crate::shown::{shown, shown_marked, shown_texts};
 use std::alloc::{AllocError, Global};
-use std::fmt::Display;
 use std::test::Fail;
-use text_block_renderer::{BlockError, TaggedString, TooNarrow, WhiteSpace, WrappedBlock};
+use text_block_renderer::{
+    BlockError, TaggedLine, TaggedString, TooNarrow, WhiteSpace, WrappedBlock,
+};
+use text_decorators::{Columns, UnicodeColumns};
 use wrapped_texts::wrapped_lines;
 
-fn piece(alloc: Global, text: &str) -> Result<TaggedString<()>, AllocError> {
-    Ok(TaggedString {
-        s: String::from_str(alloc, text)?,
-        tag: (),
-    })
+/// Widths, texts, and their lines, worked out by hand: word by word, U+200B and U+00A0 by CSS Text, widths by the
+/// Unicode Character Database. A piece without columns joins the word behind it.
+static ROWS: [(usize, &str, &[&str]); 14] = [
+    (
+        8,
+        "Hello, world.  Superlongwordreally",
+        &["Hello,", "world.", "Superlon", "gwordrea", "lly"],
+    ),
+    (3, "a\u{a0}b c", &["a\u{a0}b", "c"]),
+    (4, "aa\u{200b}bb cc", &["aabb", "cc"]),
+    (3, "a \u{200b}b", &["a b"]),
+    (3, "a\u{200b} b", &["a b"]),
+    (3, "a \u{301} b", &["a \u{301}b"]),
+    (4, "a\u{200b}\u{301} b c", &["a \u{301}b", "c"]),
+    (5, "ab cd", &["ab cd"]),
+    (5, "ab 漢字漢 x", &["ab", "漢字", "漢 x"]),
+    (1, "ab", &["a", "b"]),
+    (8, "\u{301}", &["\u{301}"]),
+    (5, " a \n b ", &["a b"]),
+    (5, "a\u{7}b cd", &["ab cd"]),
+    (0, " \n\u{200b} ", &[]),
+];
+
+// Each text is cut in two at each place.
+#[test]
+fn lines_of_texts(rt: HostRuntime) -> Result<(), Fail> {
+    for (width, text, lines) in &ROWS {
+        for (at, _) in text.char_indices() {
+            let (front, back) = text.split_at(at);
+            let made = wrapped(rt.alloc(), *width, front, back)?;
+            holds(&rt, are_lines(rt.alloc(), &made, lines)?, text);
+        }
+    }
+    Ok(())
 }
 
 fn wrapped(
     alloc: Global,
     width: usize,
-    overflow: bool,
     front: &str,
     back: &str,
-) -> Result<String, BlockError> {
-    let pieces = [piece(alloc, front)?, piece(alloc, back)?];
-    let lines = wrapped_lines(alloc, &pieces, width, overflow, ())?;
-    Ok(shown(alloc, &lines)?)
+) -> Result<Vec<TaggedLine<()>>, BlockError> {
+    let pieces = [
+        TaggedString {
+            s: String::from_str(alloc, front)?,
+            tag: (),
+        },
+        TaggedString {
+            s: String::from_str(alloc, back)?,
+            tag: (),
+        },
+    ];
+    wrapped_lines(alloc, &pieces, width, false, ())
 }
 
-// whether these are the lines of a text, wherever it is cut
-fn is_wrapped(alloc: Global, width: usize, text: &str, lines: &str) -> Result<bool, BlockError> {
-    for (at, _) in text.char_indices() {
-        let (front, back) = text.split_at(at);
-        if wrapped(alloc, width, false, front, back)?.as_str() != lines {
-            return Ok(false);
+fn are_lines(alloc: Global, lines: &[TaggedLine<()>], texts: &[&str]) -> Result<bool, AllocError> {
+    let mut are_so = lines.len() == texts.len();
+    for (line, text) in lines.iter().zip(texts) {
+        let text = String::from_str(alloc, text)?;
+        are_so = are_so && *line == TaggedLine::from_string(alloc, text, &())?;
+    }
+    Ok(are_so)
+}
+
+static ALPHABET: [char; 8] = ['a', 'b', ' ', '\t', '\n', '\u{200b}', '漢', '\u{301}'];
+
+/// A text of eight characters, made from a number, which changes.
+fn made_text(alloc: Global, number: &mut u32) -> Result<String, AllocError> {
+    let mut text = String::new(alloc);
+    for _at in 0..8 {
+        *number = number.wrapping_mul(1_103_515_245).wrapping_add(12_345);
+        text.push(ALPHABET[(*number >> 16) as usize % 8])?;
+    }
+    Ok(text)
+}
+
+fn laid(
+    alloc: Global,
+    mode: WhiteSpace,
+    width: usize,
+    front: &str,
+    back: &str,
+) -> Result<Vec<TaggedLine<()>>, BlockError> {
+    let mut block = WrappedBlock::new(alloc, width, false, false, ());
+    block.add_text(front, mode, &(), &())?;
+    block.add_text(back, mode, &(), &())?;
+    block.into_lines()
+}
+
+#[test]
+fn a_thousand_texts_in_every_cut(rt: HostRuntime) -> Result<(), Fail> {
+    let mut number = 1;
+    for turn in 0..1000 {
+        let text = made_text(rt.alloc(), &mut number)?;
+        let mode = if turn % 2 == 0 {
+            WhiteSpace::Pre
+        } else {
+            WhiteSpace::PreWrap
+        };
+        let width = 2 + turn % 7;
+        let whole = laid(rt.alloc(), mode, width, text.as_str(), "")?;
+        for (at, _) in text.char_indices() {
+            let (front, back) = text.split_at(at);
+            let made = laid(rt.alloc(), mode, width, front, back)?;
+            holds(&rt, made == whole, text.as_str());
         }
     }
-    Ok(wrapped(alloc, width, false, text, "")?.as_str() == lines)
-}
-
-#[test]
-fn lines_of_texts(rt: HostRuntime) -> Result<(), Fail> {
-    for (width, text, lines) in ROWS {
-        holds(&rt, is_wrapped(rt.alloc(), width, text, lines)?, text);
-    }
     Ok(())
 }
 
+// Markers behind the last text are taken, and stand in no line then.
 #[test]
-fn a_wider_character(rt: HostRuntime) -> Result<(), Fail> {
-    let refused = wrapped(rt.alloc(), 1, false, "漢", "");
-    let is_so = matches!(refused, Err(BlockError::TooNarrow));
-    holds(&rt, is_so, "refused");
-    for (text, lines) in [("漢", "漢|"), ("a漢b", "a|漢|b|")] {
-        let made = wrapped(rt.alloc(), 1, true, text, "")?;
-        holds(&rt, made.as_str() == lines, text);
-    }
-    Ok(())
-}
-
-// the lines of a padded block
-fn padded(alloc: Global) -> Result<String, BlockError> {
-    let mut block = WrappedBlock::new(alloc, 5, true, true, ());
-    block.add_text("ab 漢字漢 x", WhiteSpace::Normal, &(), &())?;
-    Ok(shown(alloc, &block.into_lines()?)?)
-}
-
-// that a character is wider than the lines is told for all the text
-fn narrow(alloc: Global) -> Result<String, BlockError> {
-    let mut block = WrappedBlock::new(alloc, 1, false, false, ());
-    block.add_text("漢", WhiteSpace::Normal, &(), &())?;
-    block.add_text("a", WhiteSpace::Normal, &(), &())?;
-    Ok(shown(alloc, &block.into_lines()?)?)
-}
-
-#[test]
-fn padded_lines_and_narrow_ones(rt: HostRuntime) -> Result<(), Fail> {
-    let lines = padded(rt.alloc())?;
-    holds(&rt, lines.as_str() == "ab   |漢字 |漢 x |", "padded");
-    let is_so = matches!(narrow(rt.alloc()), Err(BlockError::TooNarrow));
-    holds(&rt, is_so, "told at the end");
-    Ok(())
-}
-
-fn marked(alloc: Global, width: usize, front: &str, back: &str) -> Result<String, BlockError> {
-    let mut block = WrappedBlock::new(alloc, width, false, false, ());
-    block.add_text(front, WhiteSpace::Normal, &(), &())?;
+fn trailing_fragments(rt: HostRuntime) -> Result<(), Fail> {
+    let mut block = WrappedBlock::new(rt.alloc(), 9, false, false, ());
+    block.add_text("ab ", WhiteSpace::Normal, &(), &())?;
     block.record_frag_start("n")?;
-    block.add_text(back, WhiteSpace::Normal, &(), &())?;
-    Ok(shown_marked(alloc, &block.into_lines()?)?)
-}
-
-// In a cut word a marker stays, at a cut it ends the earlier piece, and else it waits for the next word.
-#[test]
-fn markers_ride_on_words(rt: HostRuntime) -> Result<(), Fail> {
-    for (width, front, back, lines) in MARKED {
-        let made = marked(rt.alloc(), width, front, back)?;
-        holds(&rt, made.as_str() == lines, lines);
-    }
+    let names = block.take_trailing_fragments()?;
+    holds(
+        &rt,
+        names.len() == 1 && names[0].as_str() == "n",
+        "a marker",
+    );
+    let lines = block.into_lines()?;
+    holds(&rt, are_lines(rt.alloc(), &lines, &["ab"])?, "the lines");
     Ok(())
 }
 
-// the texts of the lines of two texts, the second of another tag
-fn tagged(alloc: Global, front: &str, back: &str) -> Result<String, BlockError> {
-    let mut block = WrappedBlock::new(alloc, 9, false, false, Mark::Plain);
-    block.add_text(front, WhiteSpace::Normal, &Mark::Plain, &Mark::Plain)?;
-    block.add_text(back, WhiteSpace::Normal, &Mark::Strong, &Mark::Plain)?;
-    Ok(shown_texts(alloc, &block.into_lines()?)?)
-}
-
-// The gap between two words has the tag of the first white space.
 #[test]
-fn tags_of_gaps(rt: HostRuntime) -> Result<(), Fail> {
-    for (front, back, lines) in [("a ", " b", "a /b/|"), ("a", " b", "a/ b/|")] {
-        let made = tagged(rt.alloc(), front, back)?;
-        holds(&rt, made.as_str() == lines, lines);
-    }
+fn fragments_of_a_narrow_block(rt: HostRuntime) -> Result<(), Fail> {
+    let mut block = WrappedBlock::new(rt.alloc(), 1, false, false, ());
+    block.add_text("漢", WhiteSpace::Pre, &(), &())?;
+    let first = block.take_trailing_fragments();
+    let is_so = matches!(first, Err(BlockError::TooNarrow));
+    holds(&rt, is_so, "too narrow");
+    let second = block.take_trailing_fragments();
+    holds(&rt, matches!(second, Err(BlockError::Failed)), "failed");
     Ok(())
-}
-
-// whether this is how an error is told
-fn is_told<E: Display>(alloc: Global, error: &E, text: &str) -> Result<bool, AllocError> {
-    Ok(error.to_string(alloc)?.as_str() == text)
 }
 
 #[test]
 fn texts_of_errors(rt: HostRuntime) -> Result<(), Fail> {
-    let alloc = rt.alloc();
-    for (error, text) in [
+    for (error, wanted) in [
         (BlockError::TooNarrow, "output width not wide enough"),
         (BlockError::Memory, "out of memory"),
         (BlockError::Failed, "refused after an earlier refusal"),
     ] {
-        holds(&rt, is_told(alloc, &error, text)?, text);
+        let text = error.to_string(rt.alloc())?;
+        holds(&rt, text.as_str() == wanted, wanted);
     }
-    let text = "output width not wide enough";
-    holds(&rt, is_told(alloc, &TooNarrow, text)?, text);
+    let text = TooNarrow.to_string(rt.alloc())?;
+    let is_so = text.as_str() == "output width not wide enough";
+    holds(&rt, is_so, "too narrow");
     Ok(())
+}
+
+#[test]
+fn modes_of_white_space(rt: HostRuntime) {
+    for (mode, wraps, preserves) in [
+        (WhiteSpace::default(), true, false),
+        (WhiteSpace::Normal, true, false),
+        (WhiteSpace::Pre, false, true),
+        (WhiteSpace::PreWrap, true, true),
+    ] {
+        let is_so = mode.do_wrap() == wraps && mode.preserve_whitespace() == preserves;
+        holds(&rt, is_so, "a mode");
+    }
+    let is_so = WhiteSpace::default() == WhiteSpace::Normal;
+    holds(
+        &rt,
+        is_so && WhiteSpace::Pre != WhiteSpace::PreWrap,
+        "equality",
+    );
+}
+
+// The widths are those of the Unicode Character Database; `unicode_width` has three columns for U+17D8.
+#[test]
+fn columns_of_characters(rt: HostRuntime) {
+    for (c, columns) in [
+        ('a', Some(1)),
+        (' ', Some(1)),
+        ('漢', Some(2)),
+        ('\u{301}', Some(0)),
+        ('\u{200b}', Some(0)),
+        ('\n', None),
+        ('\0', None),
+        ('─', Some(1)),
+        ('\u{17d8}', Some(2)),
+    ] {
+        holds(&rt, UnicodeColumns::columns(c) == columns, "columns");
+    }
 }

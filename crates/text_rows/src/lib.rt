@@ -1,4 +1,5 @@
-//! Tests alone: lines and blocks that are worked out by hand.
+//! Tests alone: lines, blocks and renderers, with texts that are worked out by hand. What the calls of a renderer give
+//! is told by the program block_calls.
 #![tactic(auto)]
 
 #[cfg(test)]
@@ -6,16 +7,8 @@ mod block_tests;
 #[cfg(test)]
 mod checks;
 #[cfg(test)]
-mod columns_tests;
-#[cfg(test)]
 mod line_tests;
 #[cfg(test)]
-mod marks;
+mod mark;
 #[cfg(test)]
-mod preserved_rows;
-#[cfg(test)]
-mod preserved_tests;
-#[cfg(test)]
-mod rows;
-#[cfg(test)]
-mod shown;
+mod renderer_tests;

@@ -1,20 +1,25 @@
 use crate::checks::holds;
-use crate::marks::Mark;
-use crate::shown::texts_of;
+use crate::mark::Mark;
 use std::alloc::{AllocError, Global};
 use std::test::Fail;
 use text_decorators::{EqualCopy, TaggedLine, TaggedLineElement, TaggedString};
 
-// whether a line has these texts, each ended by `/`, and so many columns
+/// Whether a line has these texts, each ended by `/`, and so many columns.
 fn is_line<T: EqualCopy + Drop>(
     alloc: Global,
     line: &TaggedLine<T>,
     texts: &str,
     width: usize,
 ) -> Result<bool, AllocError> {
-    Ok(line.width() == width && texts_of(alloc, line)?.as_str() == texts)
+    let mut found = String::new(alloc);
+    for string in line.tagged_strings() {
+        found.push_str(string.s.as_str())?;
+        found.push('/')?;
+    }
+    Ok(line.width() == width && found.as_str() == texts)
 }
 
+/// `a漢b` of one tag, and `c` of another.
 fn two_tags(alloc: Global) -> Result<TaggedLine<Mark>, AllocError> {
     let mut line = TaggedLine::new(alloc);
     line.push_str("a漢", &Mark::Plain)?;
@@ -27,8 +32,8 @@ fn two_tags(alloc: Global) -> Result<TaggedLine<Mark>, AllocError> {
 #[test]
 fn equal_tags_join(rt: HostRuntime) -> Result<(), Fail> {
     let mut line = two_tags(rt.alloc())?;
-    let is_so = is_line(rt.alloc(), &line, "a漢b/c/", 5)?;
-    holds(&rt, is_so && !line.is_empty(), "two texts");
+    holds(&rt, is_line(rt.alloc(), &line, "a漢b/c/", 5)?, "two texts");
+    holds(&rt, !line.is_empty(), "a line");
     line.clear();
     holds(&rt, line.is_empty() && line.width() == 0, "a cleared line");
     Ok(())
@@ -40,25 +45,22 @@ fn line_of(alloc: Global, text: &str) -> Result<TaggedLine<Mark>, AllocError> {
 
 #[test]
 fn lines_join(rt: HostRuntime) -> Result<(), Fail> {
-    let alloc = rt.alloc();
-    let mut line = line_of(alloc, "ab")?;
-    let mut other = line_of(alloc, "cd")?;
+    let mut line = line_of(rt.alloc(), "ab")?;
+    let mut other = line_of(rt.alloc(), "cd")?;
     holds(&rt, other.try_clone()? == other && line != other, "a copy");
     line.push_line(&other)?;
-    holds(&rt, is_line(alloc, &line, "abcd/", 4)?, "one tag");
+    holds(&rt, is_line(rt.alloc(), &line, "abcd/", 4)?, "one tag");
     other.push_char('漢', &Mark::Strong)?;
-    line.push_line(&other)?;
-    holds(&rt, is_line(alloc, &line, "abcdcd/漢/", 8)?, "two tags");
-    line.push_line(&other)?;
-    let is_so = is_line(alloc, &line, "abcdcd/漢/cd/漢/", 12)?;
-    holds(&rt, is_so, "two and two");
+    for (texts, width) in [("abcdcd/漢/", 8), ("abcdcd/漢/cd/漢/", 12)] {
+        line.push_line(&other)?;
+        holds(&rt, is_line(rt.alloc(), &line, texts, width)?, texts);
+    }
     Ok(())
 }
 
 #[test]
 fn tags_change_alone(rt: HostRuntime) -> Result<(), Fail> {
-    let line = two_tags(rt.alloc())?;
-    let plain = line.map_tag(&|_| Mark::Plain)?;
+    let plain = two_tags(rt.alloc())?.map_tag(&|_| Mark::Plain)?;
     let is_so = is_line(rt.alloc(), &plain, "a漢b/c/", 5)?;
     holds(&rt, is_so && plain.iter().count() == 2, "two texts");
     for string in plain.tagged_strings() {
@@ -68,28 +70,19 @@ fn tags_change_alone(rt: HostRuntime) -> Result<(), Fail> {
     Ok(())
 }
 
-fn wide(alloc: Global) -> Result<TaggedString<Mark>, AllocError> {
-    Ok(TaggedString {
-        s: String::from_str(alloc, "漢")?,
-        tag: Mark::Plain,
-    })
-}
-
 #[test]
-fn a_text_and_its_tag(rt: HostRuntime) -> Result<(), Fail> {
-    let string = wide(rt.alloc())?;
-    let is_copy = string.try_clone()? == string;
-    holds(&rt, is_copy && string.width() == 2, "a text");
+fn a_text_and_an_element(rt: HostRuntime) -> Result<(), Fail> {
+    let string = TaggedString {
+        s: String::from_str(rt.alloc(), "漢")?,
+        tag: Mark::Plain,
+    };
+    let copy = string.try_clone()?;
+    holds(&rt, copy == string && string.width() == 2, "a text");
     let string = string.map_tag(&|_| Mark::Strong);
     holds(&rt, string.tag == Mark::Strong, "another tag");
-    Ok(())
-}
-
-#[test]
-fn an_element(rt: HostRuntime) -> Result<(), Fail> {
-    let element = TaggedLineElement::Str(wide(rt.alloc())?);
-    let is_copy = element.try_clone()? == element;
-    holds(&rt, is_copy && element.width() == 2, "an element");
+    let element = TaggedLineElement::Str(copy);
+    let copy = element.try_clone()?;
+    holds(&rt, copy == element && element.width() == 2, "an element");
     let element = element.map_tag(&|_| Mark::Strong);
     holds(&rt, element.as_str() == "漢", "its text");
     Ok(())

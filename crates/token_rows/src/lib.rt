@@ -1,16 +1,11 @@
-//! Pages from outside, told by the plain reader and by the tokenizer, however their text is cut. It has tests alone.
+//! What a tokenizer tells a sink that chooses kinds of text, pauses, states and refusals. It has tests alone; rows of
+//! pages are told by the stored run of page_tokens.
 #![tactic(auto)]
 
 #[cfg(test)]
 mod checks;
 #[cfg(test)]
-mod error_rows;
-#[cfg(test)]
-mod error_tests;
-#[cfg(test)]
 mod feeding;
-#[cfg(test)]
-mod rows;
 #[cfg(test)]
 mod sinks;
 #[cfg(test)]

@@ -1,63 +1,27 @@
 use crate::checks::holds;
-use crate::feeding::{
-    characters, fed, fed_plainly, first_answer, halves, later_faults, states_behind, whole,
-};
-use crate::rows::{DECLARATIONS_AND_RAW_TEXT, HTML, Start, TAGS_AND_REFERENCES};
-use crate::sinks::{Collected, Counting, SCRIPT_HANDLE, Switching, log_of};
-use html_grammar::read_plainly;
-use html_lexemes::{BufferQueue, ParseFault};
+use crate::feeding::{fed, fed_plainly, first_answer, later_faults, states_behind};
+use crate::sinks::{Counting, SCRIPT_HANDLE, Switching};
+use html_grammar::{TokenizerOpts, read_plainly};
+use html_lexemes::{BufferQueue, ParseFault, ReferenceTable};
 use html_tokenizer::{Tokenizer, TokenizerResult};
+use row_fields::{characters, halves};
 use std::alloc::Global;
-use std::process::Abort;
 use std::test::Fail;
-use token_sinks::{KeptTokens, PreformattedText};
+use token_lines::{Listed, Told};
+use token_sinks::PreformattedText;
 
-// whether this is the log of a text that is read plainly
-fn is_read(alloc: Global, start: Start, text: &str, expected: &str) -> Result<bool, Fail> {
-    let mut sink = KeptTokens::new(alloc, start.foreign);
-    let table = start.table(alloc)?;
-    read_plainly(alloc, &mut sink, start.options(alloc)?, &table, text)?;
-    Ok(log_of(alloc, sink.tokens())?.as_str() == expected)
-}
-
-// whether this is the log of a text that is fed in pieces
-fn is_fed(alloc: Global, start: Start, pieces: Vec<String>, expected: &str) -> Result<bool, Fail> {
-    let sink = KeptTokens::new(alloc, start.foreign);
-    let options = start.options(alloc)?;
-    let sink = fed(alloc, sink, options, start.table(alloc)?, pieces)?;
-    Ok(log_of(alloc, sink.tokens())?.as_str() == expected)
-}
-
-// asks for the logs of texts that are read plainly, and that are fed whole, a character at a time and cut in two
-// everywhere
-fn check<R: Abort + AllocGlobal>(rt: &R, rows: &[(Start, &str, &str)]) -> Result<(), Fail> {
-    let alloc = rt.alloc();
-    for (start, text, expected) in rows {
-        holds(rt, is_read(alloc, *start, text, expected)?, text);
-        let pieces = whole(alloc, text)?;
-        holds(rt, is_fed(alloc, *start, pieces, expected)?, text);
-        let pieces = characters(alloc, text)?;
-        holds(rt, is_fed(alloc, *start, pieces, expected)?, text);
-        for count in 0..=text.chars().count() {
-            let pieces = halves(alloc, text, count)?;
-            holds(rt, is_fed(alloc, *start, pieces, expected)?, text);
-        }
+// how a page is read of which nothing is dropped
+fn options() -> TokenizerOpts {
+    TokenizerOpts {
+        exact_errors: false,
+        discard_bom: false,
+        initial_state: None,
+        last_start_tag_name: None,
     }
-    Ok(())
 }
 
-#[test]
-fn tags_and_references_are_told_alike(rt: HostRuntime) -> Result<(), Fail> {
-    check(&rt, &TAGS_AND_REFERENCES)
-}
-
-#[test]
-fn declarations_and_raw_text_are_told_alike(rt: HostRuntime) -> Result<(), Fail> {
-    check(&rt, &DECLARATIONS_AND_RAW_TEXT)
-}
-
-// Pages, and the log of a sink that chooses the kind of the text behind tags.
-static SWITCHED: [(&str, &str); 2] = [
+// Pages, and the lines of a sink that chooses the kind of the text behind tags.
+static SWITCHED: [(&str, &str); 3] = [
     (
         "<p><title a>&lt;<b></p></title><script><!--&lt;<p></title></SCRIPT>\
          &lt;<meta><plaintext></plaintext>&lt;<p>",
@@ -72,7 +36,7 @@ static SWITCHED: [(&str, &str); 2] = [
          text\t<\n\
          start\tmeta\t-\t-\n\
          start\tplaintext\t-\t-\n\
-         text\t</plaintext>&lt;<p>",
+         text\t</plaintext>&lt;<p>\n",
     ),
     // behind end tags: the text still ends at the name of the last start tag (13.2.5, "appropriate end tag token")
     (
@@ -83,24 +47,31 @@ static SWITCHED: [(&str, &str); 2] = [
          end\tb\t-\t-\n\
          text\t<\n\
          end\tplaintext\t-\t-\n\
-         text\t&lt;<p>",
+         text\t&lt;<p>\n",
     ),
+    // a first U+FEFF that isn't dropped (13.2.3)
+    ("\u{feff}a", "text\t\\u{FEFF}a\n"),
 ];
 
 // whether this is the log of a sink that chooses kinds of text, and is told a page that is read plainly
 fn is_read_switched(alloc: Global, page: &str, expected: &str) -> Result<bool, Fail> {
     let mut sink = Switching::new(alloc, "x")?;
-    let table = HTML.table(alloc)?;
-    read_plainly(alloc, &mut sink, HTML.options(alloc)?, &table, page)?;
-    Ok(sink.told.log.as_str() == expected)
+    let table = ReferenceTable::basic(alloc)?;
+    read_plainly(alloc, &mut sink, options(), &table, page)?;
+    Ok(sink.told.into_text()?.as_str() == expected)
 }
 
 // whether this is the log of such a sink, of a page that is fed in pieces
 fn is_fed_switched(alloc: Global, pieces: Vec<String>, expected: &str) -> Result<bool, Fail> {
     let sink = Switching::new(alloc, "x")?;
-    let options = HTML.options(alloc)?;
-    let sink = fed(alloc, sink, options, HTML.table(alloc)?, pieces)?;
-    Ok(sink.told.log.as_str() == expected)
+    let sink = fed(
+        alloc,
+        sink,
+        options(),
+        ReferenceTable::basic(alloc)?,
+        pieces,
+    )?;
+    Ok(sink.told.into_text()?.as_str() == expected)
 }
 
 #[test]
@@ -121,8 +92,7 @@ fn a_sink_chooses_the_kind_of_text(rt: HostRuntime) -> Result<(), Fail> {
 // what the first feed of a page answers, and what it leaves in the queue
 fn paused(alloc: Global, page: &str) -> Result<(TokenizerResult<u32>, String), Fail> {
     let sink = Switching::new(alloc, "latin1")?;
-    let options = HTML.options(alloc)?;
-    let answer = first_answer(alloc, sink, options, HTML.table(alloc)?, page)?;
+    let answer = first_answer(alloc, sink, options(), ReferenceTable::basic(alloc)?, page)?;
     Ok(answer)
 }
 
@@ -147,9 +117,8 @@ fn a_pause_tells_an_encoding(rt: HostRuntime) -> Result<(), Fail> {
 
 // whether the state is one of text, and whether nothing is pending
 fn states(alloc: Global, page: &str) -> Result<(bool, bool), Fail> {
-    let sink = Collected::new(alloc, false);
-    let options = HTML.options(alloc)?;
-    let states = states_behind(alloc, sink, options, HTML.table(alloc)?, page)?;
+    let sink = Listed::new(alloc, Told::Tokens, false);
+    let states = states_behind(alloc, sink, options(), ReferenceTable::basic(alloc)?, page)?;
     Ok(states)
 }
 
@@ -172,17 +141,23 @@ fn a_tokenizer_tells_its_state(rt: HostRuntime) -> Result<(), Fail> {
 
 // the log of a page that is plain text from behind a front on
 fn log_plain(alloc: Global, front: &str, rest: &str) -> Result<String, Fail> {
-    let sink = Collected::new(alloc, false);
-    let options = HTML.options(alloc)?;
-    let sink = fed_plainly(alloc, sink, options, HTML.table(alloc)?, front, rest)?;
-    Ok(sink.log)
+    let sink = Listed::new(alloc, Told::Tokens, false);
+    let sink = fed_plainly(
+        alloc,
+        sink,
+        options(),
+        ReferenceTable::basic(alloc)?,
+        front,
+        rest,
+    )?;
+    Ok(sink.into_text()?)
 }
 
 #[test]
 fn plain_text_may_be_asked_for(rt: HostRuntime) -> Result<(), Fail> {
     let alloc = rt.alloc();
     let log = log_plain(alloc, "<p>a", "<b>&lt;\0")?;
-    let is_so = log.as_str() == "start\tp\t-\t-\ntext\ta<b>&lt;\u{fffd}";
+    let is_so = log.as_str() == "start\tp\t-\t-\ntext\ta<b>&lt;\u{fffd}\n";
     holds(&rt, is_so, "plain text");
     Ok(())
 }
@@ -190,15 +165,15 @@ fn plain_text_may_be_asked_for(rt: HostRuntime) -> Result<(), Fail> {
 #[test]
 fn nothing_is_read_behind_the_end(rt: HostRuntime) -> Result<(), Fail> {
     let alloc = rt.alloc();
-    let sink = Collected::new(alloc, false);
-    let mut tokenizer = Tokenizer::new(alloc, sink, HTML.options(alloc)?, HTML.table(alloc)?);
+    let sink = Listed::new(alloc, Told::Tokens, false);
+    let mut tokenizer = Tokenizer::new(alloc, sink, options(), ReferenceTable::basic(alloc)?);
     let mut queue = BufferQueue::new(alloc);
     tokenizer.end()?;
     queue.push_back(String::from_str(alloc, "a")?)?;
     let is_so = tokenizer.feed(&mut queue).err() == Some(ParseFault::Failed);
     holds(&rt, is_so, "a feed");
     holds(&rt, tokenizer.end() == Err(ParseFault::Failed), "an end");
-    let is_so = tokenizer.sink.log.is_empty() && queue.peek() == Some('a');
+    let is_so = queue.peek() == Some('a');
     holds(&rt, is_so, "what is left");
     Ok(())
 }
@@ -209,7 +184,7 @@ fn refused(
     taken: u64,
 ) -> Result<(Option<ParseFault>, [Option<ParseFault>; 3]), Fail> {
     let sink = Counting::new(taken);
-    let mut tokenizer = Tokenizer::new(alloc, sink, HTML.options(alloc)?, HTML.table(alloc)?);
+    let mut tokenizer = Tokenizer::new(alloc, sink, options(), ReferenceTable::basic(alloc)?);
     let mut queue = BufferQueue::new(alloc);
     queue.push_back(String::from_str(alloc, "<p>a")?)?;
     let fed = tokenizer.feed(&mut queue).err();
@@ -241,12 +216,22 @@ fn later_calls_are_refused(rt: HostRuntime) -> Result<(), Fail> {
     let alloc = rt.alloc();
     let failed = Some(ParseFault::Failed);
     let sink = PreformattedText::new(alloc)?;
-    let options = HTML.options(alloc)?;
-    let faults = later_faults(alloc, sink, options, HTML.table(alloc)?, "<pre>\na")?;
+    let faults = later_faults(
+        alloc,
+        sink,
+        options(),
+        ReferenceTable::basic(alloc)?,
+        "<pre>\na",
+    )?;
     holds(&rt, faults == [None, None, failed], "a sink that takes all");
-    let options = HTML.options(alloc)?;
     let sink = Counting::new(1);
-    let faults = later_faults(alloc, sink, options, HTML.table(alloc)?, "<pre>\na")?;
+    let faults = later_faults(
+        alloc,
+        sink,
+        options(),
+        ReferenceTable::basic(alloc)?,
+        "<pre>\na",
+    )?;
     holds(
         &rt,
         faults == [failed, failed, failed],
@@ -269,16 +254,16 @@ fn a_line_feed_is_left_out(rt: HostRuntime) -> Result<(), Fail> {
         ("<pre><b>\na", "\na"),
     ] {
         let mut sink = PreformattedText::new(alloc)?;
-        let table = HTML.table(alloc)?;
-        read_plainly(alloc, &mut sink, HTML.options(alloc)?, &table, page)?;
+        let table = ReferenceTable::basic(alloc)?;
+        read_plainly(alloc, &mut sink, options(), &table, page)?;
         holds(&rt, sink.text() == text, page);
         let sink = PreformattedText::new(alloc)?;
         let pieces = characters(alloc, page)?;
         let sink = fed(
             alloc,
             sink,
-            HTML.options(alloc)?,
-            HTML.table(alloc)?,
+            options(),
+            ReferenceTable::basic(alloc)?,
             pieces,
         )?;
         holds(&rt, sink.text() == text, page);
@@ -292,8 +277,8 @@ fn last_line(alloc: Global, pieces: Vec<String>) -> Result<u64, Fail> {
     let sink = fed(
         alloc,
         sink,
-        HTML.options(alloc)?,
-        HTML.table(alloc)?,
+        options(),
+        ReferenceTable::basic(alloc)?,
         pieces,
     )?;
     Ok(sink.tag_line)

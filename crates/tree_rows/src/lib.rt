@@ -2,10 +2,6 @@
 #![tactic(auto)]
 
 #[cfg(test)]
-mod checks;
-#[cfg(test)]
-mod dump;
-#[cfg(test)]
 mod elements;
 #[cfg(test)]
 mod finished;

@@ -11,7 +11,7 @@ pub(crate) enum Mark {
 }
 
 impl EqualCopy for Mark {
-    ghost use Rattle.text_rows.specs.declared.marks.Mark.{Mark};
+    ghost use Rattle.text_rows.specs.declared.mark.Mark.{Mark};
 
     ghost Seen = { Mark };
 

@@ -1,7 +1,6 @@
 use crate::checks::holds;
 use crate::parsing::tree_of;
 use html_lexemes::{LocalName, Text};
-use html_render_dom::RcDom;
 use std::alloc::{AllocError, Global};
 use std::test::Fail;
 use style_cascade::{
@@ -85,47 +84,29 @@ fn rule(
     })
 }
 
-fn is_colour(found: Option<&Colour>, wanted: Colour) -> bool {
-    match found {
-        Some(colour) => *colour == wanted,
-        None => false,
-    }
-}
-
-// whether of two rules for the colour of paragraphs that one holds
-fn is_cascaded(
-    alloc: Global,
-    dom: &RcDom,
-    first: (StyleOrigin, Importance, Colour),
-    second: (StyleOrigin, Importance, Colour),
-    wanted: Colour,
-) -> Result<bool, AllocError> {
-    let itself = StylePlace::Itself;
-    let rules = vec![in alloc;
-        rule(alloc, first.0, itself, first.1, Style::Colour(first.2))?,
-        rule(alloc, second.0, itself, second.1, Style::Colour(second.2))?,
-    ]?;
-    let Some(paragraph) = dom.get_node_by_path(&[0, 1, 0]) else {
-        return Ok(false);
-    };
-    let style = dom.computed_style(paragraph, rules.as_slice());
-    Ok(is_colour(style.itself.colour.val(), wanted) && style.itself.bg_colour.val().is_none())
-}
-
 #[test]
 fn styles_are_cascaded(rt: HostRuntime) -> Result<(), Fail> {
     let alloc = rt.alloc();
-    let dom = tree_of(alloc, "<p>a")?;
-    for (first, second, wanted) in &CASCADES {
-        let is_so = is_cascaded(alloc, &dom, *first, *second, *wanted)?;
-        holds(&rt, is_so, "two colours");
+    let dom = tree_of(alloc, "<p>a", None)?;
+    let paragraph = dom.get_node_by_path(&[0, 1, 0]).unwrap_or(dom.document());
+    for (row, (first, second, wanted)) in CASCADES.iter().enumerate() {
+        let itself = StylePlace::Itself;
+        let rules = vec![in alloc;
+            rule(alloc, first.0, itself, first.1, Style::Colour(first.2))?,
+            rule(alloc, second.0, itself, second.1, Style::Colour(second.2))?,
+        ]?;
+        let style = dom.computed_style(paragraph, rules.as_slice()).itself;
+        let is_so = style.colour.val() == Some(wanted) && style.bg_colour.val().is_none();
+        holds(&rt, is_so, row);
     }
     Ok(())
 }
 
-// whether each place and each property has its own
-fn are_apart(alloc: Global) -> Result<bool, Fail> {
-    let dom = tree_of(alloc, "<p>a<b>c")?;
+// each place and each property has its own
+#[test]
+fn places_and_properties_are_apart(rt: HostRuntime) -> Result<(), Fail> {
+    let alloc = rt.alloc();
+    let dom = tree_of(alloc, "<p>a<b>c", None)?;
     let star = Style::Content(Text::from_str(alloc, "*")?);
     let author = StyleOrigin::Author;
     let none = Style::Display(Display::None);
@@ -133,12 +114,10 @@ fn are_apart(alloc: Global) -> Result<bool, Fail> {
         rule(alloc, author, StylePlace::Before, NORMAL, star)?,
         rule(alloc, author, StylePlace::Itself, NORMAL, none)?,
     ]?;
-    let (Some(paragraph), Some(bold)) = (
-        dom.get_node_by_path(&[0, 1, 0]),
-        dom.get_node_by_path(&[0, 1, 0, 1]),
-    ) else {
-        return Ok(false);
-    };
+    let paragraph = dom.get_node_by_path(&[0, 1, 0]).unwrap_or(dom.document());
+    let bold = dom
+        .get_node_by_path(&[0, 1, 0, 1])
+        .unwrap_or(dom.document());
     let style = dom.computed_style(paragraph, rules.as_slice());
     let other = dom.computed_style(bold, rules.as_slice());
     let is_before = style.before.content.val() == Some(&"*")
@@ -147,12 +126,8 @@ fn are_apart(alloc: Global) -> Result<bool, Fail> {
         && style.itself.display.val() == Some(&Display::None)
         && style.itself.white_space.val().is_none();
     let is_after = style.after.content.val().is_none();
-    Ok(is_before && is_itself && is_after && other.itself.display.val().is_none())
-}
-
-#[test]
-fn places_and_properties_are_apart(rt: HostRuntime) -> Result<(), Fail> {
-    holds(&rt, are_apart(rt.alloc())?, "places");
+    let is_none = other.itself.display.val().is_none();
+    holds(&rt, is_before && is_itself && is_after && is_none, 0);
     Ok(())
 }
 
@@ -170,34 +145,27 @@ const CLASS: Specificity = Specificity {
     typ: 0,
 };
 
-fn declared(specificity: Specificity, val: u8) -> Declared<u8> {
-    Declared {
-        importance: NORMAL,
-        origin: StyleOrigin::Author,
-        specificity,
-        val,
-    }
-}
-
 // the value behind two declarations
 fn behind(first: Specificity, second: Specificity) -> Option<u8> {
     let mut property = WithSpec::default();
-    property.maybe_update(declared(first, 1));
-    property.maybe_update(declared(second, 2));
+    for (specificity, val) in [(first, 1), (second, 2)] {
+        property.maybe_update(Declared {
+            importance: NORMAL,
+            origin: StyleOrigin::Author,
+            specificity,
+            val,
+        });
+    }
     property.val().copied()
 }
 
+// a class goes over any names, a count that is full stays, and specificities are in order
 #[test]
-fn specificities_decide(rt: HostRuntime) -> Result<(), Fail> {
-    holds(
-        &rt,
-        behind(CLASS, NAMES) == Some(1),
-        "a class over any names",
-    );
-    holds(&rt, behind(NAMES, CLASS) == Some(2), "a class behind names");
-    holds(&rt, NAMES + NAMES == NAMES, "a count that is full");
+fn specificities_decide(rt: HostRuntime) {
+    holds(&rt, behind(CLASS, NAMES) == Some(1), 0);
+    holds(&rt, behind(NAMES, CLASS) == Some(2), 1);
+    holds(&rt, NAMES + NAMES == NAMES, 2);
     let mut sum = NAMES;
     sum += CLASS;
-    holds(&rt, sum > CLASS && CLASS > NAMES, "the order");
-    Ok(())
+    holds(&rt, sum > CLASS && CLASS > NAMES, 3);
 }

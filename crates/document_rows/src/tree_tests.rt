@@ -1,0 +1,170 @@
+use crate::checks::holds;
+use crate::parsing::{tree_in_a_form, tree_of};
+use dom_dump::DomString;
+use dom_serializer::SerializeDom;
+use html_lexemes::{Device, LocalName, Namespace, QualName, Text};
+use html_render_dom::{NodeData, RcDom};
+use std::alloc::Global;
+use std::test::Fail;
+use tree_lines::{lines_below, lines_of};
+
+/// How a tree is told.
+enum Told {
+    /// All of it, and that the one error is there.
+    Whole,
+    /// What is to be looked at.
+    Looked,
+    /// The same of the body alone.
+    LookedBody,
+    Html,
+}
+
+const PARAGRAPH: &str = "quirks\tNoQuirks
+doctype\thtml\t\t
+element\thtml\thtml
+ element\thtml\thead
+ element\thtml\tbody
+  element\thtml\tp
+   text\tab
+";
+
+// pages, of which the second piece may be missing, and their trees
+static PAGES: [(&str, Option<&str>, Told, &str); 9] = [
+    ("<!DOCTYPE html><p>a", Some("b"), Told::Whole, PARAGRAPH),
+    ("<!DOCTYPE html><p>ab", None, Told::Whole, PARAGRAPH),
+    (
+        "<p>a",
+        None,
+        Told::Looked,
+        "Document\n <html>\n  <head>\n  <body>\n   <p>\n    Text:a\n",
+    ),
+    // a line end and a backslash
+    (
+        "<!DOCTYPE html><!--a\\b--><pre>c\nd",
+        None,
+        Told::Looked,
+        "Document\n Doctype:html\n Comment:a\\\\b\n <html>\n  <head>\n  <body>\n   <pre>\n    Text:c\\nd\n",
+    ),
+    // what a template holds isn't written
+    (
+        "<template><p>x</p></template>y",
+        None,
+        Told::Looked,
+        "Document\n <html>\n  <head>\n   <template>\n  <body>\n   Text:y\n",
+    ),
+    // attributes aren't written, nor namespaces
+    (
+        "<p id=a>b<svg><path/></svg>c",
+        None,
+        Told::Looked,
+        "Document\n <html>\n  <head>\n  <body>\n   <p>\n    Text:b\n    <svg>\n     <path>\n    Text:c\n",
+    ),
+    (
+        "<ul><li>a<li>b</ul>",
+        None,
+        Told::Looked,
+        "Document\n <html>\n  <head>\n  <body>\n   <ul>\n    <li>\n     Text:a\n    <li>\n     Text:b\n",
+    ),
+    (
+        "<p>a<b>c",
+        None,
+        Told::LookedBody,
+        "<body>\n <p>\n  Text:a\n  <b>\n   Text:c\n",
+    ),
+    (
+        "<p title=\"a&quot;b\">x&nbsp;y",
+        None,
+        Told::Html,
+        "<html><head></head><body><p title=\"a&quot;b\">x&nbsp;y</p></body></html>",
+    ),
+];
+
+fn is_told(alloc: Global, dom: &RcDom, told: &Told, text: &str) -> Result<bool, Fail> {
+    Ok(match told {
+        Told::Whole => dom.errors().len() == 1 && lines_of(alloc, dom)?.as_str() == text,
+        Told::Looked => dom.as_dom_string(alloc)?.as_str() == text,
+        Told::LookedBody => match dom.get_node_by_path(&[0, 1]) {
+            Some(body) => dom.node_as_dom_string(alloc, body)?.as_str() == text,
+            None => false,
+        },
+        Told::Html => {
+            let mut writer = Device::new(Vec::new(alloc));
+            dom.serialize(alloc, &mut writer)?;
+            writer.into_inner().as_slice() == text.as_bytes()
+        }
+    })
+}
+
+#[test]
+fn trees_are_told(rt: HostRuntime) -> Result<(), Fail> {
+    let alloc = rt.alloc();
+    for (row, (first, last, told, text)) in PAGES.iter().enumerate() {
+        let dom = tree_of(alloc, first, *last)?;
+        holds(&rt, is_told(alloc, &dom, told, text)?, row);
+    }
+    Ok(())
+}
+
+// a form in a form is left out, also where the outer one holds the context
+#[test]
+fn a_context_stands_in_a_form(rt: HostRuntime) -> Result<(), Fail> {
+    let dom = tree_in_a_form(rt.alloc(), "<form>a")?;
+    let lines = lines_below(rt.alloc(), &dom)?;
+    holds(&rt, lines.as_str() == "element\thtml\thtml\n text\ta\n", 0);
+    Ok(())
+}
+
+// steps from the document of a page, and the name or the text of the node that they lead to
+static PATHS: [(&[usize], Option<&str>); 7] = [
+    (&[0], Some("html")),
+    (&[0, 0], Some("head")),
+    (&[0, 1, 0], Some("x")),
+    (&[0, 1, 1], Some("p")),
+    (&[0, 1, 1, 0], Some("y")),
+    (&[0, 1, 2], None),
+    (&[0, 1, 0, 0], None),
+];
+
+fn words_at<'a>(dom: &'a RcDom, path: &[usize]) -> Option<&'a str> {
+    let node = dom.get_node_by_path(path)?;
+    match (dom.element_name(node), dom.data(node)) {
+        (Some(name), _) => Some(name.local.as_str()),
+        (None, Some(NodeData::Text { contents })) => Some(contents.as_str()),
+        _ => None,
+    }
+}
+
+// attributes of the paragraph in no namespace
+static ATTRIBUTES: [(&str, Option<&str>); 3] = [
+    ("id", Some("a")),
+    ("class", Some("k")),
+    ("title", None),
+];
+
+#[test]
+fn nodes_tell_what_they_are(rt: HostRuntime) -> Result<(), Fail> {
+    let alloc = rt.alloc();
+    let dom = tree_of(alloc, "x<p class=k id=a>y</p>", None)?;
+    for (row, (path, words)) in PATHS.iter().enumerate() {
+        holds(&rt, words_at(&dom, path) == *words, row);
+    }
+    let (document, body) = (dom.document(), dom.get_node_by_path(&[0, 1]));
+    let mut children = dom.children(body.unwrap_or(document));
+    let text = children.next().unwrap_or(document);
+    let paragraph = children.next().unwrap_or(document);
+    let is_over = children.next().is_none() && children.next_back().is_none();
+    let is_placed = dom.get_node_by_path(&[]) == Some(document)
+        && dom.get_parent(document).is_none()
+        && dom.get_parent(text) == body
+        && dom.get_parent(paragraph) == body
+        && dom.element_name(text).is_none();
+    holds(&rt, is_over && is_placed, PATHS.len());
+    for (row, (word, value)) in ATTRIBUTES.iter().enumerate() {
+        let nowhere = Namespace::Other(Text::from_str(alloc, "")?);
+        let name = QualName::new(nowhere, LocalName::from_str(alloc, word)?);
+        let is_so = dom.attribute(paragraph, &name) == *value
+            && dom.attribute(text, &name).is_none();
+        holds(&rt, is_so, row);
+    }
+    Ok(())
+}

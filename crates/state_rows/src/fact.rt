@@ -1,0 +1,76 @@
+//! What is asked of a tree that is being built.
+ghost use Rattle.html_tree_state.specs.Building.{seen};
+ghost use Rattle.html_tree_state.specs.Sound.{Sound};
+
+use crate::step::set_of;
+use html_forest::TreeSink;
+use html_lexemes::{LocalName, Namespace, ParseFault, QualName};
+use html_render_dom::RcDom;
+use html_tree_state::{Construction, Scope, html_elem};
+use std::alloc::Global;
+use tree_words::InsertionMode;
+
+/// What should hold. A node is told by the path that leads to it from the document.
+pub(crate) enum Fact {
+    /// Whether an element is in scope, in list item scope, in button scope and in table scope.
+    Scopes(&'static str, bool, bool, bool, bool),
+    /// Whether an element is open.
+    IsOpen(&'static str, bool),
+    /// The mode that is asked for, where the page has a head and a template's mode is that of a table body.
+    Mode(InsertionMode),
+    /// The same without a template's mode: a fragment's context, whether there is a head, and the mode.
+    RootMode(Option<&'static str>, bool, InsertionMode),
+    /// The current node; and the adjusted one, where the document is the context.
+    Current(&'static [usize], &'static [usize]),
+    /// How many elements are open, and the first of them.
+    Root(usize, &'static [usize]),
+    /// How many elements are listed behind the last marker, and how many entries there are.
+    Listed(usize, usize),
+}
+
+/// Whether it holds.
+pub(crate) fn is_so(
+    tree: &Construction<RcDom>,
+    alloc: Global,
+    fact: &Fact,
+) -> Result<bool, ParseFault>
+    requires { Sound (seen ⟦<RcDom as TreeSink>⟧.number ⟦<RcDom as TreeSink>⟧.forest ⟦<RcDom as TreeSink>⟧.quirks
+        tree.now.held tree.now.sink) }
+{
+    let dom = &tree.sink;
+    Ok(match *fact {
+        Fact::Scopes(name, default, list_item, button, table) => {
+            let set = set_of(name);
+            tree.in_scope(Scope::Default, set) == default
+                && tree.in_scope(Scope::ListItemScope, set) == list_item
+                && tree.in_scope(Scope::ButtonScope, set) == button
+                && tree.in_scope(Scope::TableScope, set) == table
+        }
+        Fact::IsOpen(name, told) => tree.has_open(set_of(name)) == told,
+        Fact::Mode(told) => {
+            tree.reset_insertion_mode(None, true, Some(InsertionMode::InTableBody)) == told
+        }
+        Fact::RootMode(Some(name), has_head, told) => {
+            let context = QualName::new(Namespace::Html, LocalName::from_str(alloc, name)?);
+            tree.reset_insertion_mode(Some(&context), has_head, None) == told
+        }
+        Fact::RootMode(None, has_head, told) => {
+            tree.reset_insertion_mode(None, has_head, None) == told
+        }
+        Fact::Current(current, adjusted) => {
+            tree.adjusted_current_node(None) == dom.get_node_by_path(current)
+                && tree.adjusted_current_node(Some(dom.document()))
+                    == dom.get_node_by_path(adjusted)
+        }
+        Fact::Root(count, root) => {
+            let open = tree.held.open_elements();
+            !open.is_empty()
+                && open.len() == count
+                && Some(*html_elem(open)) == dom.get_node_by_path(root)
+        }
+        Fact::Listed(behind, count) => {
+            let list = tree.held.formatting();
+            list.iter_to_marker().count() == behind && list.as_slice().len() == count
+        }
+    })
+}
