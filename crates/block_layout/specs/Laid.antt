@@ -1,6 +1,6 @@
 -- A block of lines: what it holds, and what each call makes of it. Where a call comes to no block, a character is wider
 -- than the lines at which its text wraps.
-use Rattle.std.specs.Prelude.{ℕ, Bool, true, false, not, ◌&&◌, ◌||◌, List, [], ◌∷◌, ◌++◌, Option, None, Some, map, fold, unwrap_or, if◌then◌else◌}
+use Rattle.std.specs.Prelude.{ℕ, Bool, true, false, not, ◌&&◌, ◌||◌, List, [], ◌∷◌, ◌++◌, Option, None, Some, map, fold, if◌then◌else◌}
 use Rattle.std.specs.Char.{is_whitespace}
 use Rattle.std.specs.List.{list_all, list_any}
 use Rattle.std.specs.Option.{option_map, option_and_then}
@@ -9,7 +9,7 @@ use Rattle.text_pieces.specs.Items.{has_text}
 use Rattle.text_pieces.specs.Sources.{is_filled}
 use Rattle.text_pieces.specs.Modes.{is_preserved, is_same_mode}
 use Rattle.text_pieces.specs.declared.white_space.WhiteSpace.{WhiteSpace}
-use Rattle.text_wrapping.specs.Blocks.{Block, empty_block, padded, added, marked_by, fragments_taken, ended_lines, broken, is_empty}
+use Rattle.text_wrapping.specs.Blocks.{Block, empty_block, padded, added, marked_by, fragments_taken, ended_lines, broken, has_columns}
 use Rattle.text_borders.specs.Borders.{Border, has_holes, plain, horizontal, filled_to}
 use Rattle.text_borders.specs.Lines.{BlockLine, text, border}
 use Rattle.text_borders.specs.Across.{CellLine, Hanging, as_text}
@@ -127,8 +127,9 @@ mode_behind mode cs old = if is_filled cs then Some mode else old
 abbrev pub with_added : {S : Type 0} → WhiteSpace → List ℕ → Running S → Block S → Running S
 with_added mode cs r source = record r { mode = mode_behind mode cs r.mode; text = source }
 
-abbrev pub with_marker : {S : Type 0} → WhiteSpace → List ℕ → Running S → Running S
-with_marker mode name r = record r { mode = Some (unwrap_or r.mode mode); text = marked_by name r.text }
+-- a marker waits for the next word; it gives the text no mode
+abbrev pub with_marker : {S : Type 0} → List ℕ → Running S → Running S
+with_marker name r = record r { text = marked_by name r.text }
 
 abbrev pub with_text : {S : Type 0} → Running S → Block S → Running S
 with_text r source = record r { text = source }
@@ -166,9 +167,8 @@ abbrev pub start_awaited : {S : Type 0} → Measure → S → Laid S → Option 
 start_awaited m tag b = if b.awaits then start_block m tag b else Some b
 
 -- a marker stands in the running text
-abbrev pub mark : {S : Type 0} → Measure → S → WhiteSpace → List ℕ → Laid S → Laid S
-mark m tag mode name b =
-    with_running b (with_marker mode name (running_or_new m tag b.running))
+abbrev pub mark : {S : Type 0} → Measure → S → List ℕ → Laid S → Laid S
+mark m tag name b = with_running b (with_marker name (running_or_new m tag b.running))
 
 -- a line break: it ends a line that has columns, else it is an empty line
 abbrev pub with_text_of : {S : Type 0} → Running S → Bool × Block S → Bool × Running S
@@ -188,7 +188,7 @@ break_line m tag b = break_of m tag b.running b
 
 abbrev pub has_no_text : {S : Type 0} → Option (Running S) → Bool
 has_no_text None = true
-has_no_text (Some r) = is_empty r.text
+has_no_text (Some r) = not (has_columns r.text)
 
 abbrev pub is_nothing : {S : Type 0} → Laid S → Bool
 is_nothing b = not (is_filled b.lines) && has_no_text b.running
@@ -203,9 +203,14 @@ abbrev pub finished : {S : Type 0} → Measure → BlockLine S → BlockLine S
 finished m (text items) = text items
 finished m (border b) = border (if m.pads then filled_to m.width b else b)
 
+-- A border that is made text has content where it has a column; what fills it is none.
+abbrev pub content_as_text : {S : Type 0} → BlockLine S → Bool → Bool
+content_as_text (text items) content = content
+content_as_text (border b) content = is_filled b.segments
+
 -- a line of another block, which has the first measure, behind a prefix
 abbrev pub add_prefixed : {S : Type 0} → Measure → Measure → S → List ℕ → Laid S → CellLine S → Laid S
-add_prefixed other m tag prefix b l = add_line m tag (l.content || is_filled prefix)
+add_prefixed other m tag prefix b l = add_line m tag (content_as_text l.line l.content || is_filled prefix)
     (tagged prefix tag ++ as_text tag (finished other l.line)) b
 
 -- lines of another block, the first behind one prefix, the others behind another

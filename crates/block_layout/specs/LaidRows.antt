@@ -1,9 +1,11 @@
 -- Rows of cells in a block.
 use Rattle.std.specs.Prelude.{ℕ, Bool, List, [], ◌∷◌, ◌++◌, Option, None, Some, fold, if◌then◌else◌}
 use Rattle.std.specs.Option.{option_map}
+use Rattle.tagged_lines.specs.Tagged.{Item}
+use Rattle.text_pieces.specs.Items.{has_text}
 use Rattle.text_borders.specs.Borders.{Border, plain}
 use Rattle.text_borders.specs.Lines.{BlockLine, text, border}
-use Rattle.text_borders.specs.Across.{CellLine, Cell, RowLine, Row, across}
+use Rattle.text_borders.specs.Across.{CellLine, Cell, Row, across}
 use Rattle.block_layout.specs.declared.measure.Measure.{Measure}
 use Rattle.block_layout.specs.Laid.{Laid, add_line, add_border, without_hanging, flush}
 
@@ -34,10 +36,11 @@ abbrev pub with_border : {S : Type 0} → Option (Border S) → Laid S → Laid 
 with_border None b = b
 with_border (Some new) b = add_border new b
 
-abbrev pub add_row_line : {S : Type 0} → Measure → S → Laid S → RowLine S → Laid S
-add_row_line m tag b l = add_line m tag l.content l.items b
+-- A line of a row has content where it has a character, be it a space that a cell is filled with.
+abbrev pub add_row_line : {S : Type 0} → Measure → S → Laid S → List (Item S) → Laid S
+add_row_line m tag b line = add_line m tag (has_text line) line b
 
-abbrev pub add_row_lines : {S : Type 0} → Measure → S → List (RowLine S) → Laid S → Laid S
+abbrev pub add_row_lines : {S : Type 0} → Measure → S → List (List (Item S)) → Laid S → Laid S
 add_row_lines m tag lines b = fold (add_row_line m tag) b lines
 
 -- a row stands in the block: the border above it, its lines, and the border below it where borders are drawn

@@ -60,7 +60,7 @@ impl<T: EqualCopy + Drop> BlockLayout<T> {
         ensures { result ≡ has_no_text (laid_of T.seen self.now).running }
     {
         match &self.running {
-            Some(running) => running.is_empty(),
+            Some(running) => !running.has_columns(),
             None => true,
         }
     }

@@ -1,5 +1,6 @@
 //! The text that runs.
-ghost use Rattle.std.specs.Prelude.{◌≡◌, ◌⊎◌, ◌&&◌, not, None, Some, chars, IfErr, OnOk, IfOk};
+ghost use Rattle.std.specs.Prelude.{◌≡◌, ◌⊎◌, ◌&&◌, not, [], None, Some, chars, IfErr, OnOk, IfOk};
+ghost use Rattle.text_pieces.specs.declared.white_space.WhiteSpace.{WhiteSpace as SeenMode};
 ghost use Rattle.std.specs.List.{list_all};
 ghost use Rattle.std.specs.Char.{is_whitespace};
 ghost use Rattle.text_pieces.specs.Sources.{is_filled};
@@ -89,6 +90,16 @@ impl<T: EqualCopy + Drop> BlockLayout<T> {
         Ok(())
     }
 
+    /// Adds an empty text, which needs no tags: where none runs, one begins to. The error is want of memory alone.
+    pub fn begin_text(&mut self, measure: Measure, tag: &T) -> Result<(), AllocError>
+        ensures { OnOk result ((mode : SeenMode) (main further : T.Seen) → add_text measure (T.seen tag.now) mode []
+            main further (laid_of T.seen self.old) ≡ Some (laid_of T.seen self.new)) }
+    {
+        let running = self.take_running(measure, tag)?;
+        self.running = Some(running);
+        Ok(())
+    }
+
     /// The text that runs, or an empty one.
     fn take_running(&mut self, measure: Measure, tag: &T) -> Result<Running<T>, AllocError>
         ensures running { IfOk result (λ r. running_of T.seen r
@@ -129,15 +140,14 @@ impl<T: EqualCopy + Drop> BlockLayout<T> {
         &mut self,
         measure: Measure,
         tag: &T,
-        mode: WhiteSpace,
         name: &str,
     ) -> Result<(), BlockError>
         ensures kinds { IfErr result (λ e. e ≡ errors.Memory) }
         ensures marked { OnOk result (laid_of T.seen self.new
-            ≡ mark measure (T.seen tag.now) mode (chars name.now) (laid_of T.seen self.old)) }
+            ≡ mark measure (T.seen tag.now) (chars name.now) (laid_of T.seen self.old)) }
     {
         let running = self.take_running(measure, tag)?;
-        let running = running.with_marker(mode, name)?;
+        let running = running.with_marker(name)?;
         self.running = Some(running);
         Ok(())
     }

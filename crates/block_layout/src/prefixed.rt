@@ -2,8 +2,10 @@
 ghost use Rattle.std.specs.Prelude.{◌≡◌, ◌⊎◌, ◌++◌, ◌||◌, None, Some, chars, map, IfErr, OnOk, IfOk};
 ghost use Rattle.tagged_lines.specs.Tagged.{line_items, tagged};
 ghost use Rattle.text_borders.specs.Across.{as_text};
+ghost use Rattle.text_borders.specs.Lines.{render_line_of};
 ghost use Rattle.text_cells.specs.Cells.{laid_line_of};
 ghost use Rattle.text_pieces.specs.Sources.{is_filled};
+ghost use Rattle.block_layout.specs.Laid.{content_as_text};
 ghost use Rattle.text_pieces.specs.declared.fault.BlockError.TheVariants as errors;
 
 use crate::block::BlockLayout;
@@ -11,7 +13,7 @@ use crate::measure::Measure;
 use crate::texts::{finished, holds_text};
 use std::alloc::{AllocError, Global};
 use tagged_lines::{EqualCopy, TaggedLine};
-use text_borders::BorderHoriz;
+use text_borders::{BorderHoriz, RenderLine};
 use text_cells::LaidLine;
 use text_pieces::BlockError;
 
@@ -94,7 +96,7 @@ impl<T: EqualCopy + Drop> BlockLayout<T> {
         ensures { OnOk result (laid_of T.seen self.new ≡ add_prefixed other measure (T.seen tag.now) (chars prefix.now)
             (laid_of T.seen self.old) (laid_line_of T.seen line)) }
     {
-        let content = has_content_behind(prefix, line.content);
+        let content = has_content_behind(prefix, content_as_text(&line.line, line.content));
         let alloc = *self.markers.allocator();
         let text = finished(other, line.line)?.into_text(alloc, tag)?;
         let prefixed = behind_prefix(alloc, prefix, tag, &text)?;
@@ -116,6 +118,16 @@ fn behind_prefix<T: EqualCopy + Drop>(
     prefixed.push_str(prefix, tag)?;
     prefixed.push_line(line)?;
     Ok(prefixed)
+}
+
+/// Whether a line that is made text has content.
+fn content_as_text<T: EqualCopy + Drop>(line: &RenderLine<T>, content: bool) -> bool
+    ensures { result ≡ content_as_text (render_line_of T.seen line.now) content }
+{
+    match line {
+        RenderLine::Text(_) => content,
+        RenderLine::Line(border) => border.width() > 0,
+    }
 }
 
 /// Whether a line behind a prefix has content.

@@ -2,17 +2,18 @@
 ghost use Rattle.std.specs.Prelude.{◌≡◌, ◌⊎◌, None, Some, map, IfErr, IfOk, OnOk};
 ghost use Rattle.std.specs.Option.{option_map};
 ghost use Rattle.text_borders.specs.Borders.{border_of};
-ghost use Rattle.text_cells.specs.Cells.{cell_of, hanging_of, laid_line_of, row_of, row_line_of};
+ghost use Rattle.tagged_lines.specs.Tagged.{line_items};
+ghost use Rattle.text_cells.specs.Cells.{cell_of, hanging_of, laid_line_of, row_of};
 ghost use Rattle.text_pieces.specs.declared.fault.BlockError.TheVariants as errors;
 
 use crate::block::BlockLayout;
 use crate::measure::Measure;
 use std::alloc::AllocError;
 use std::mem;
-use tagged_lines::EqualCopy;
+use tagged_lines::{EqualCopy, TaggedLine};
 use text_borders::{BorderHoriz, RenderLine};
-use text_cells::{HangingCell, LaidLine, LineSet, Row, RowLine, lay_across};
-use text_pieces::BlockError;
+use text_cells::{HangingCell, LaidLine, LineSet, Row, lay_across};
+use text_pieces::{BlockError, has_text};
 
 impl<T: EqualCopy + Drop> BlockLayout<T> {
     ghost use Rattle.block_layout.specs.Seen.{laid_of};
@@ -136,12 +137,13 @@ impl<T: EqualCopy + Drop> BlockLayout<T> {
         &mut self,
         measure: Measure,
         tag: &T,
-        lines: Vec<RowLine<T>>,
+        lines: Vec<TaggedLine<T>>,
     ) -> Result<(), AllocError>
         ensures { OnOk result (laid_of T.seen self.new ≡ add_row_lines measure (T.seen tag.now)
-            (map (row_line_of T.seen) lines.items) (laid_of T.seen self.old)) }
+            (map (line_items T.seen) lines.items) (laid_of T.seen self.old)) }
     {
-        for RowLine { line, content } in lines {
+        for line in lines {
+            let content = has_text(&line);
             self.add_line(measure, tag, content, line)?;
         }
         Ok(())

@@ -28,7 +28,7 @@ impl<T: EqualCopy + Drop> Running<T> {
     ghost use Rattle.tagged_lines.specs.Tagged.{line_items};
     ghost use Rattle.text_pieces.specs.Sources.{names};
     ghost use Rattle.text_pieces.specs.declared.fault.BlockError.TheVariants as errors;
-    ghost use Rattle.text_wrapping.specs.Blocks.{added, broken, is_empty};
+    ghost use Rattle.text_wrapping.specs.Blocks.{added, broken, has_columns};
     ghost use Rattle.block_layout.specs.Laid.{running_or_new, is_other_mode, with_added, with_marker, with_text_of, laid_text};
     ghost use Rattle.block_layout.specs.Seen.{running_of};
 
@@ -60,10 +60,10 @@ impl<T: EqualCopy + Drop> Running<T> {
         }
     }
 
-    pub(crate) fn is_empty(&self) -> bool
-        ensures { result ≡ is_empty (running_of T.seen self.now).text }
+    pub(crate) fn has_columns(&self) -> bool
+        ensures { result ≡ has_columns (running_of T.seen self.now).text }
     {
-        self.text.is_empty()
+        self.text.has_columns()
     }
 
     /// The text with more behind it.
@@ -95,22 +95,18 @@ impl<T: EqualCopy + Drop> Running<T> {
     }
 
     /// The text with a marker behind it.
-    pub(crate) fn with_marker(self, mode: WhiteSpace, name: &str) -> Result<Running<T>, BlockError>
+    pub(crate) fn with_marker(self, name: &str) -> Result<Running<T>, BlockError>
         ensures kinds { IfErr result (λ e. e ≡ errors.Memory) }
         ensures marked { IfOk result (λ r. running_of T.seen r
-            ≡ with_marker mode (chars name.now) (running_of T.seen self)) }
+            ≡ with_marker (chars name.now) (running_of T.seen self)) }
     {
         let Running {
-            mode: begun,
+            mode,
             mut text,
             fill,
         } = self;
         text.record_frag_start(name)?;
-        Ok(Running {
-            mode: Some(begun.unwrap_or(mode)),
-            text,
-            fill,
-        })
+        Ok(Running { mode, text, fill })
     }
 
     /// Ends the text's line, and tells whether it has columns.

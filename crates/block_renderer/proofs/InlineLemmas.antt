@@ -3,11 +3,12 @@ use Rattle.std.specs.Prelude.{◌≡◌, ℕ, Bool, true, false, List, [], ◌�
 use Rattle.std.specs.Option.{option_and_then}
 use Rattle.std.proofs.Common.{sym, ap, ◌∙◌}
 use Rattle.std.proofs.lemmas.List.{map-append}
+use Rattle.text_marks.specs.Marks.{preformat_first, preformat_further}
 use Rattle.text_pieces.specs.declared.white_space.WhiteSpace.{WhiteSpace}
 use Rattle.block_layout.specs.declared.measure.Measure.{Measure}
-use Rattle.block_layout.specs.Laid.{Laid, is_ignored, start_awaited}
+use Rattle.block_layout.specs.Laid.{Laid, is_ignored, start_awaited, add_text}
 use Rattle.block_layout.specs.LaidRows.{before_last}
-use Rattle.renderer_calls.specs.Renderers.{Marking, Sub, measure_of, mode_of, with_laid, on_laid, text_added, add_inline}
+use Rattle.renderer_calls.specs.Renderers.{Marking, Sub, measure_of, mode_of, with_laid, on_laid, preformatted_added, text_added, add_inline}
 
 other_branch : {B : Type 0} (b : Bool) (x y : B) → b ≡ false → (if b then x else y) ≡ y
 other_branch true x y e = cc
@@ -25,6 +26,18 @@ inline_is m cs s mode measure laid b o e f test stays started added =
     ∙ ap (λ o. on_laid s (option_and_then (text_added m cs s) o))
     (sym (ap (λ k. start_awaited k s.annotations s.laid) f) ∙ started)
     ∙ added
+
+-- an empty text needs no tags
+pub empty_is : {H A : Type 0} (m : Marking H A) (cs : List ℕ) (s : Sub H A) (measure : Measure) (laid : Laid (List A))
+    → cs ≡ [] → measure ≡ measure_of s
+    → ((mode : WhiteSpace) (main further : List A) → add_text measure s.annotations mode [] main further s.laid
+    ≡ Some laid) → on_laid s (preformatted_added m cs s s.laid) ≡ Some (with_laid s laid)
+empty_is m cs s measure laid none is added =
+    let main = s.annotations ++ m.mark_tag s.held preformat_first ∷ [] in
+    let further = s.annotations ++ m.mark_tag s.held preformat_further ∷ [] in
+    ap (λ ds. on_laid s (preformatted_added m ds s s.laid)) none
+    ∙ ap (λ k. on_laid s (add_text k s.annotations (mode_of s) [] main further s.laid)) (sym is)
+    ∙ ap (on_laid s) (added (mode_of s) main further)
 
 -- one more
 pub mapped_more : {T A : Type 0} (f : T → A) (old new : List T) (x : T) → new ≡ old ++ x ∷ []

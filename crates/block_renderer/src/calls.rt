@@ -30,6 +30,8 @@ impl<D: TextDecorator + Drop> Renderer for SubRenderer<D> {
     ghost is_part = { λ s width part. sub_of D.Annotation.seen D.held part ≡ new_sub width s.options
         (D.sub (sub_of D.Annotation.seen D.held s).held) (sub_of D.Annotation.seen D.held s).annotations };
 
+    ghost stays = { λ old new. sub_of D.Annotation.seen D.held new ≡ sub_of D.Annotation.seen D.held old };
+
     fn width(&self) -> usize {
         self.width
     }
@@ -38,11 +40,17 @@ impl<D: TextDecorator + Drop> Renderer for SubRenderer<D> {
         self.laid.is_empty()
     }
 
-    fn new_sub_renderer(&self, width: usize) -> Result<SubRenderer<D>, BlockError> {
+    fn new_sub_renderer(&mut self, width: usize) -> Result<SubRenderer<D>, BlockError> {
         if self.failed {
             return Err(BlockError::Failed);
         }
-        Ok(self.part(width)?)
+        match self.part(width) {
+            Ok(part) => Ok(part),
+            Err(error) => {
+                self.failed = true;
+                Err(BlockError::from(error))
+            }
+        }
     }
 
     fn add_horizontal_border_width(&mut self, width: usize) -> Result<(), BlockError> {
@@ -353,31 +361,35 @@ impl<D: TextDecorator + Drop> Renderer for SubRenderer<D> {
         drop_last(&mut self.modes);
     }
 
-    fn header_prefix(&self, level: usize) -> Result<String, BlockError> {
+    fn header_prefix(&mut self, level: usize) -> Result<String, BlockError> {
         if self.failed {
             return Err(BlockError::Failed);
         }
-        Ok(self.decorator.header_prefix(self.alloc(), level)?)
+        let prefix = self.decorator.header_prefix(self.alloc(), level);
+        self.answered(prefix)
     }
 
-    fn quote_prefix(&self) -> Result<String, BlockError> {
+    fn quote_prefix(&mut self) -> Result<String, BlockError> {
         if self.failed {
             return Err(BlockError::Failed);
         }
-        Ok(self.decorator.quote_prefix(self.alloc())?)
+        let prefix = self.decorator.quote_prefix(self.alloc());
+        self.answered(prefix)
     }
 
-    fn unordered_item_prefix(&self) -> Result<String, BlockError> {
+    fn unordered_item_prefix(&mut self) -> Result<String, BlockError> {
         if self.failed {
             return Err(BlockError::Failed);
         }
-        Ok(self.decorator.unordered_item_prefix(self.alloc())?)
+        let prefix = self.decorator.unordered_item_prefix(self.alloc());
+        self.answered(prefix)
     }
 
-    fn ordered_item_prefix(&self, i: i64) -> Result<String, BlockError> {
+    fn ordered_item_prefix(&mut self, i: i64) -> Result<String, BlockError> {
         if self.failed {
             return Err(BlockError::Failed);
         }
-        Ok(self.decorator.ordered_item_prefix(self.alloc(), i)?)
+        let prefix = self.decorator.ordered_item_prefix(self.alloc(), i);
+        self.answered(prefix)
     }
 }

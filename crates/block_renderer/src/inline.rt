@@ -40,7 +40,7 @@ impl<D: TextDecorator + Drop> SubRenderer<D> {
         ensures narrow { result ≡ Err errors.TooNarrow → Fails D.Annotation.seen D.held D.text D.gives D.marks D.after
             D.pops (λ m s. on_laid s (text_added m (chars text.now) s s.laid)) self.old }
     {
-        if !self.options.use_unicode_strikeout {
+        if !self.options.use_unicode_strikeout || self.strikeouts == 0 {
             return self.add_tagged(text);
         }
         let struck = struck(self.alloc(), self.strikeouts, text)?;
@@ -71,12 +71,15 @@ impl<D: TextDecorator + Drop> SubRenderer<D> {
         ensures narrow { result ≡ Err errors.TooNarrow → Fails D.Annotation.seen D.held D.text D.gives D.marks D.after
             D.pops (λ m s. on_laid s (preformatted_added m (chars text.now) s s.laid)) self.old }
     {
+        let measure = self.measure();
+        if text.is_empty() {
+            return Ok(self.laid.begin_text(measure, &self.annotations)?);
+        }
         let alloc = self.alloc();
         let first = self.decorator.decorate_preformat_first(alloc)?;
         let first = with_annotation(&self.annotations, first)?;
         let further = self.decorator.decorate_preformat_cont(alloc)?;
         let further = with_annotation(&self.annotations, further)?;
-        let measure = self.measure();
         let mode = self.mode();
         self.laid
             .add_text(measure, &self.annotations, mode, text, &first, &further)

@@ -1,5 +1,5 @@
 //! Lines behind a page.
-ghost use Rattle.std.specs.Prelude.{◌≡◌, ◌⊎◌, false, true, None, Some, fold, map, Err, IfOk, IfErr, OnOk, OnErr};
+ghost use Rattle.std.specs.Prelude.{◌≡◌, ◌⊎◌, false, true, None, Some, fold, map, is_err, Err, IfOk, IfErr, OnOk, OnErr};
 ghost use Rattle.tagged_lines.specs.Tagged.{line_items};
 ghost use Rattle.text_marks.specs.Marks.{page_end};
 ghost use Rattle.text_pieces.specs.Sources.{names};
@@ -79,7 +79,7 @@ impl<D: TextDecorator + Drop> SubRenderer<D> {
     }
 
     /// The lines behind the page whose links have these targets. The error is `Failed` behind a refusal, else `Memory`,
-    /// and leaves the renderer as it was.
+    /// and leaves the renderer as it was, but that it has failed.
     pub fn finalise(
         &mut self,
         links: Vec<String>,
@@ -91,7 +91,7 @@ impl<D: TextDecorator + Drop> SubRenderer<D> {
             (sub_of D.Annotation.seen D.held self.old)) }
         ensures stays { OnErr result (sub_of D.Annotation.seen D.held self.new
             ≡ sub_of D.Annotation.seen D.held self.old) }
-        ensures flag { has_failed self.new ≡ has_failed self.old }
+        ensures refused { is_err result ≡ has_failed self.new }
         ensures failed { has_failed self.old ≡ true → result ≡ Err errors.Failed }
         ensures kinds { has_failed self.old ≡ false → IfErr result (λ e. e ≡ errors.Memory) }
     {
@@ -99,7 +99,8 @@ impl<D: TextDecorator + Drop> SubRenderer<D> {
             return Err(BlockError::Failed);
         }
         let alloc = self.alloc();
-        let lines = self.decorator.finalise(alloc, links)?;
-        Ok(lines)
+        let lines = self.decorator.finalise(alloc, links);
+        self.failed = lines.is_err();
+        Ok(lines?)
     }
 }

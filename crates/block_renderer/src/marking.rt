@@ -188,11 +188,10 @@ impl<D: TextDecorator + Drop> SubRenderer<D> {
         ensures narrow { result ≡ Err errors.TooNarrow → Fails D.Annotation.seen D.held D.text D.gives D.marks D.after
             D.pops (λ m s. begin_strikeout m s) self.old }
     {
-        let strikeouts = self.strikeouts.checked_add(1).ok_or(AllocError)?;
         let alloc = self.alloc();
         let (text, annotation) = self.decorator.decorate_strikeout_start(alloc)?;
         self.begin(text.as_str(), annotation)?;
-        self.strikeouts = strikeouts;
+        self.strikeouts = self.strikeouts.saturating_add(1);
         Ok(())
     }
 

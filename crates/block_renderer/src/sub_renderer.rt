@@ -1,5 +1,5 @@
 //! Renderers over a decorator.
-ghost use Rattle.std.specs.Prelude.{◌≡◌, ◌⊎◌, [], false, true, None, Some, map, chars, string_bytes, Err, IfOk, IfErr, OnOk};
+ghost use Rattle.std.specs.Prelude.{◌≡◌, ◌⊎◌, [], false, true, None, Some, map, chars, string_bytes, is_err, Ok, Err, IfOk, IfErr, OnOk};
 ghost use Rattle.text_pieces.specs.declared.fault.BlockError.TheVariants as errors;
 
 use block_layout::{BlockLayout, Measure};
@@ -159,9 +159,8 @@ impl<D: TextDecorator + Drop> SubRenderer<D> {
             → with_fragment (chars name.now) (sub_of D.Annotation.seen D.held self.old) ≡ None }
     {
         let measure = self.measure();
-        let mode = self.mode();
         self.laid
-            .record_frag_start(measure, &self.annotations, mode, name)
+            .record_frag_start(measure, &self.annotations, name)
     }
 
     /// A preformatted part begins.
@@ -172,7 +171,7 @@ impl<D: TextDecorator + Drop> SubRenderer<D> {
         ensures narrow { result ≡ Err errors.TooNarrow
             → with_preformat (sub_of D.Annotation.seen D.held self.old) ≡ None }
     {
-        self.preformats = self.preformats.checked_add(1).ok_or(AllocError)?;
+        self.preformats = self.preformats.saturating_add(1);
         Ok(())
     }
 
@@ -200,6 +199,17 @@ impl<D: TextDecorator + Drop> SubRenderer<D> {
         let mut part = SubRenderer::new(alloc, width, self.options, decorator);
         part.annotations = annotations;
         Ok(part)
+    }
+
+    /// What a call answers that leaves the renderer as it is; a refusal is noted.
+    pub(crate) fn answered<A>(&mut self, answer: Result<A, AllocError>) -> Result<A, BlockError>
+        ensures refused { is_err result ≡ has_failed self.new }
+        ensures kinds { IfErr result (λ e. e ≡ errors.Memory) }
+        ensures same { IfOk result (λ a. answer ≡ Ok a) }
+        ensures stays { sub_of D.Annotation.seen D.held self.new ≡ sub_of D.Annotation.seen D.held self.old }
+    {
+        self.failed = answer.is_err();
+        Ok(answer?)
     }
 }
 

@@ -3,5 +3,7 @@
 
 mod cutting;
 mod footnotes;
+mod laws;
 
 pub use footnotes::footnote_lines;
+pub use laws::footnotes_keep_the_width;

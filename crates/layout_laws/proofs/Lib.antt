@@ -2,3 +2,4 @@ pub mod OptionLemmas
 pub mod OverflowLemmas
 pub mod RowWidths
 pub mod WidthLemmas
+pub mod HangingLemmas

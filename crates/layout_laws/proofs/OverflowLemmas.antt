@@ -10,7 +10,7 @@ use Rattle.preserved_text.specs.Preserved.{names_of}
 use Rattle.text_wrapping.specs.Lines.{lines_in, is_wide_in}
 use Rattle.text_wrapping.specs.Blocks.{Block, lines_behind as with_lines_behind, lines_or_empty, is_too_narrow, ended, line_ended, line_feed, with_letter, took, took_all, with_mode, in_mode, added, broken, fragments_taken, without_source, lines_of, ended_lines, ends_in_columns}
 use Rattle.text_borders.specs.Borders.{Border, horizontal, plain}
-use Rattle.text_borders.specs.Across.{CellLine, Cell, RowLine, Row, across}
+use Rattle.text_borders.specs.Across.{CellLine, Cell, Row, across}
 use Rattle.block_layout.specs.declared.measure.Measure.{Measure}
 use Rattle.block_layout.specs.Laid.{Running, Laid, add_border, add_line, add_text_line, add_text_lines, without_running, lines_behind, laid_text, text_laid, flush_of, flush, started, behind_empty_line, add_empty_line, parted, start_block, without_hanging, start_table, running_or_new, with_added, with_running, run_on, runs_otherwise, enter_mode, add_text, start_awaited, mark, with_text_of, broken_line, break_of, break_line, has_content, add_horizontal_border, add_prefixed, add_block, finished, finished_lines}
 use Rattle.block_layout.specs.LaidRows.{last_border, without_last_border, with_border, add_row_line, add_row_lines, with_row, row_laid, add_row}
@@ -177,9 +177,9 @@ adds_text m tag mode cs main further b h =
     given_chained (AllowsOverflow m) (AllowsOverflow m) (run_on m tag mode cs main further) (enter_mode m tag mode cs b)
     (λ x inside. runs_on m tag mode cs main further x inside) (enters_mode m tag mode cs b h)
 
-pub marks : {S : Type 0} (m : Measure) (tag : S) (mode : WhiteSpace) (name : List ℕ) (b : Laid S) → AllowsOverflow m b
-    → AllowsOverflow m (mark m tag mode name b)
-marks m tag mode name b h =
+pub marks : {S : Type 0} (m : Measure) (tag : S) (name : List ℕ) (b : Laid S) → AllowsOverflow m b
+    → AllowsOverflow m (mark m tag name b)
+marks m tag name b h =
     record { measure = h.measure; running = or_new_over m tag b.running h.measure h.running }
 
 breaks : {S : Type 0} (m : Measure) (tag : S) (b : Laid S) (broke : Bool × Running S) → AllowsOverflow m b
@@ -239,7 +239,7 @@ border_given : {S : Type 0} (m : Measure) (new : Option (Border S)) (b : Laid S)
 border_given m None b h = h
 border_given m (Some new) b h = record { measure = h.measure; running = h.running }
 
-lines_given : {S : Type 0} (m : Measure) (tag : S) (lines : List (RowLine S)) (b : Laid S) → AllowsOverflow m b
+lines_given : {S : Type 0} (m : Measure) (tag : S) (lines : List (List (Item S))) (b : Laid S) → AllowsOverflow m b
     → AllowsOverflow m (add_row_lines m tag lines b)
 lines_given m tag [] b h = h
 lines_given m tag (l ∷ lines) b h =

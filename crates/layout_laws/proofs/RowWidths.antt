@@ -6,18 +6,19 @@ use Rattle.std.proofs.lemmas.Option.{MatchOption-at_some, same_Some}
 use Rattle.std.proofs.lemmas.List.{length-replicate}
 use Rattle.std.proofs.lemmas.List.Elements.{All-nil, All-cons, All-head, All-tail, All-map, All-weaker}
 use Rattle.tagged_lines.specs.Columns.{text_columns}
-use Rattle.tagged_lines.specs.Tagged.{tagged, characters, line_columns}
+use Rattle.tagged_lines.specs.Tagged.{Item, tagged, characters, line_columns}
+use Rattle.text_pieces.specs.Items.{has_text}
 use Rattle.text_pieces.specs.Sources.{is_filled}
 use Rattle.text_pieces.proofs.ItemColumns.{line_columns-append}
 use Rattle.text_borders.specs.Segments.{Segment}
 use Rattle.text_borders.specs.Borders.{Border, horizontal, plain, filled_to, shown}
 use Rattle.text_borders.specs.BorderLaws.{IsSound}
 use Rattle.text_borders.specs.Lines.{BlockLine, text, border, line_shown}
-use Rattle.text_borders.specs.Across.{CellLine, Cell, Hanging, RowLine, Row, as_text, across, width_across}
+use Rattle.text_borders.specs.Across.{CellLine, Cell, Hanging, Row, as_text, across, width_across}
 use Rattle.text_borders.specs.AcrossLaws.{LineFits, CellFits}
 use Rattle.text_borders.proofs.AcrossLemmas.{retagged_columns}
 use Rattle.block_layout.specs.declared.measure.Measure.{Measure}
-use Rattle.block_layout.specs.Laid.{Laid, add_border, add_horizontal_border, flush, finished, finished_lines, add_prefixed, add_block, without_hanging}
+use Rattle.block_layout.specs.Laid.{Laid, add_border, add_horizontal_border, flush, finished, finished_lines, content_as_text, add_prefixed, add_block, without_hanging}
 use Rattle.block_layout.specs.LaidRows.{border_line, last_border, before_last, without_last_border, with_border, add_row_line, add_row_lines, with_row, row_laid, add_row, add_slashes}
 use Rattle.layout_laws.specs.LayoutLaws.{IsKept, IsWithin}
 use Rattle.layout_laws.proofs.OptionLemmas.{mapped}
@@ -34,7 +35,7 @@ pub record BorderLaws (S : Type 0) : Type 0 where
 pub record RowLaws (S : Type 0) : Type 0 where
   pub lines : (draws collapse : Bool) (tag : S) (above : Option (Border S)) (cells : List (Cell S))
       (hanging : List (Hanging S)) → All CellFits cells → All (λ h. CellFits h.cell) hanging
-      → All (λ l. line_columns l.items ≡ width_across collapse tag above cells hanging)
+      → All (λ l. line_columns l ≡ width_across collapse tag above cells hanging)
       (across draws collapse tag above cells hanging).lines
   pub below_width : (draws collapse : Bool) (tag : S) (above : Option (Border S)) (cells : List (Cell S))
       (hanging : List (Hanging S)) → All CellFits cells → All (λ h. CellFits h.cell) hanging
@@ -129,7 +130,7 @@ prefixed : {S : Type 0} (laws : TextLaws S) (borders : BorderLaws S) (other m : 
 prefixed laws borders other m tag prefix b l room fits within =
     let items = as_text tag (finished other l.line) in
     let fit = text_fits borders other.width tag (finished other l.line) (finished_fits borders other l.line fits) in
-    line_added laws m tag (l.content || is_filled prefix) (tagged prefix tag ++ items) b
+    line_added laws m tag (content_as_text l.line l.content || is_filled prefix) (tagged prefix tag ++ items) b
     (omega (arith, line_columns-append (tagged prefix tag) items, tagged_columns prefix tag, fit, room)) within
 
 all_prefixed : {S : Type 0} (laws : TextLaws S) (borders : BorderLaws S) (other m : Measure) (tag : S) (prefix : List ℕ)
@@ -200,19 +201,19 @@ border_given : {S : Type 0} (m : Measure) (new : Option (Border S)) (b : Laid S)
 border_given m None b fits within = within
 border_given m (Some new) b fits within = border_added m new b fits within
 
-row_lines_added : {S : Type 0} (laws : TextLaws S) (m : Measure) (tag : S) (lines : List (RowLine S)) (b : Laid S)
-    → All (λ l. line_columns l.items ≤ m.width) lines → IsWithin m b → IsWithin m (add_row_lines m tag lines b)
+row_lines_added : {S : Type 0} (laws : TextLaws S) (m : Measure) (tag : S) (lines : List (List (Item S))) (b : Laid S)
+    → All (λ l. line_columns l ≤ m.width) lines → IsWithin m b → IsWithin m (add_row_lines m tag lines b)
 row_lines_added laws m tag [] b fit within = within
 row_lines_added {S = S} laws m tag (l ∷ lines) b fit within =
     row_lines_added laws m tag lines (add_row_line m tag b l)
-    (All-tail (λ (x : RowLine S). line_columns x.items ≤ m.width) l lines fit)
-    (line_added laws m tag l.content l.items b
-    (All-head (λ (x : RowLine S). line_columns x.items ≤ m.width) l lines fit) within)
+    (All-tail (λ (x : List (Item S)). line_columns x ≤ m.width) l lines fit)
+    (line_added laws m tag (has_text l) l b
+    (All-head (λ (x : List (Item S)). line_columns x ≤ m.width) l lines fit) within)
 
 -- of a row that is to stand in a block, what must fit
 record RowFits {S : Type 0} (width : ℕ) (row : Row S) : Type 0 where
   above : IfSome row.above (BorderFits width)
-  lines : All (λ l. line_columns l.items ≤ width) row.lines
+  lines : All (λ l. line_columns l ≤ width) row.lines
   below : BorderFits width row.below
   hanging : All (λ h. CellFits h.cell) row.hanging
 
@@ -243,8 +244,8 @@ row_fits : {S : Type 0} (rows : RowLaws S) (width : ℕ) (draws collapse : Bool)
     → RowFits width (across draws collapse tag above cells hanging)
 row_fits {S = S} rows width draws collapse tag above cells hanging all hangs fits wide = record {
   above = joined_fits rows width draws collapse tag above cells hanging all hangs fits wide;
-  lines = All-weaker (λ (l : RowLine S). line_columns l.items ≡ width_across collapse tag above cells hanging)
-      (λ (l : RowLine S). line_columns l.items ≤ width) (λ l same. omega (arith, same, wide))
+  lines = All-weaker (λ (l : List (Item S)). line_columns l ≡ width_across collapse tag above cells hanging)
+      (λ (l : List (Item S)). line_columns l ≤ width) (λ l same. omega (arith, same, wide))
       (across draws collapse tag above cells hanging).lines
       (rows.lines draws collapse tag above cells hanging all hangs);
   below = (

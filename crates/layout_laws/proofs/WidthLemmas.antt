@@ -214,11 +214,11 @@ text_added laws m tag mode cs main further b kept within =
     chained (IsWithin m) (IsWithin m) (run_on m tag mode cs main further) (enter_mode m tag mode cs b)
     (λ x inside. ran_on laws m tag mode cs main further x kept inside) (entered laws m tag mode cs b kept within)
 
-pub marked : {S : Type 0} (laws : TextLaws S) (m : Measure) (tag : S) (mode : WhiteSpace) (name : List ℕ) (b : Laid S)
-    → IsKept m → IsWithin m b → IsWithin m (mark m tag mode name b)
-marked laws m tag mode name b kept within =
+pub marked : {S : Type 0} (laws : TextLaws S) (m : Measure) (tag : S) (name : List ℕ) (b : Laid S) → IsKept m
+    → IsWithin m b → IsWithin m (mark m tag name b)
+marked laws m tag name b kept within =
     let r = running_or_new m tag b.running in
-    running_put m b (with_marker mode name r) within
+    running_put m b (with_marker name r) within
     (laws.marked m.wrap_width name r.text (running_or_empty laws m tag b.running kept within.running))
 
 -- ---- a line break

@@ -1,12 +1,12 @@
 //! Laws of blocks of lines: each is the contract of a function that does nothing.
-ghost use Rattle.std.specs.Prelude.{◌≡◌, ℕ, ◌+◌, ◌≤◌, All, Bool, true, List, Some, IsSome, IsSomeAnd};
+ghost use Rattle.std.specs.Prelude.{◌≡◌, ℕ, ◌+◌, ◌≤◌, All, Bool, true, List, [], Some, IfSome, IsSome, IsSomeAnd};
 ghost use Rattle.text_pieces.specs.declared.white_space.WhiteSpace.{WhiteSpace as SeenMode};
 ghost use Rattle.block_layout.specs.declared.measure.Measure.{Measure};
 ghost use Rattle.tagged_lines.specs.Columns.{text_columns};
 ghost use Rattle.tagged_lines.specs.Tagged.{line_columns};
 ghost use Rattle.text_borders.specs.Borders.{Border};
 ghost use Rattle.text_borders.specs.Lines.{BlockLine, border, line_shown};
-ghost use Rattle.text_borders.specs.Across.{CellLine, Cell, width_across};
+ghost use Rattle.text_borders.specs.Across.{CellLine, Cell, across, width_across};
 ghost use Rattle.text_borders.specs.AcrossLaws.{LineFits, CellFits};
 ghost use Rattle.block_layout.specs.Laid.{Laid, nothing_laid, flush, add_empty_line, start_block, start_table, end_block, start_awaited, add_text, mark, break_line, add_horizontal_border, add_border, add_block, finished_lines};
 ghost use Rattle.block_layout.specs.LaidRows.{last_border, add_row, add_slashes};
@@ -36,8 +36,8 @@ pub fn calls_keep_the_width<T: EqualCopy>()
     ensures add_text { (m : Measure) (tag : T.Seen) (mode : SeenMode) (cs : List ℕ) (main further : T.Seen)
         (b new : Laid T.Seen) → IsKept m → IsWithin m b → add_text m tag mode cs main further b ≡ Some new
         → IsWithin m new }
-    ensures mark { (m : Measure) (tag : T.Seen) (mode : SeenMode) (name : List ℕ) (b : Laid T.Seen) → IsKept m
-        → IsWithin m b → IsWithin m (mark m tag mode name b) }
+    ensures mark { (m : Measure) (tag : T.Seen) (name : List ℕ) (b : Laid T.Seen) → IsKept m → IsWithin m b
+        → IsWithin m (mark m tag name b) }
     ensures break_line { (m : Measure) (tag : T.Seen) (b new : Laid T.Seen) → IsKept m → IsWithin m b
         → break_line m tag b ≡ Some new → IsWithin m new }
     ensures add_horizontal_border { (m : Measure) (tag : T.Seen) (width : ℕ) (b new : Laid T.Seen) → IsKept m
@@ -82,8 +82,8 @@ pub fn overflow_never_refuses<T: EqualCopy>()
     ensures add_text { (m : Measure) (tag : T.Seen) (mode : SeenMode) (cs : List ℕ) (main further : T.Seen)
         (b : Laid T.Seen) → AllowsOverflow m b
         → IsSomeAnd (add_text m tag mode cs main further b) (AllowsOverflow m) }
-    ensures mark { (m : Measure) (tag : T.Seen) (mode : SeenMode) (name : List ℕ) (b : Laid T.Seen)
-        → AllowsOverflow m b → AllowsOverflow m (mark m tag mode name b) }
+    ensures mark { (m : Measure) (tag : T.Seen) (name : List ℕ) (b : Laid T.Seen) → AllowsOverflow m b
+        → AllowsOverflow m (mark m tag name b) }
     ensures break_line { (m : Measure) (tag : T.Seen) (b : Laid T.Seen) → AllowsOverflow m b
         → IsSomeAnd (break_line m tag b) (AllowsOverflow m) }
     ensures add_horizontal_border { (m : Measure) (tag : T.Seen) (width : ℕ) (b : Laid T.Seen) → AllowsOverflow m b
@@ -98,4 +98,33 @@ pub fn overflow_never_refuses<T: EqualCopy>()
         (b : Laid T.Seen) → AllowsOverflow m b → IsSomeAnd (add_row m tag draws collapse cells b) (AllowsOverflow m) }
     ensures finished_lines { (m : Measure) (tag : T.Seen) (b : Laid T.Seen) → AllowsOverflow m b
         → IsSome (finished_lines m tag b) }
+{}
+
+/// Cells that go on wait for a row: no other call touches them but the start of a table, which drops them. Behind a row
+/// those hang that go on from it.
+pub fn cells_hang_until_a_row<T: EqualCopy>()
+    ensures flush { (m : Measure) (tag : T.Seen) (b : Laid T.Seen)
+        → IfSome (flush m tag b) (λ new. new.hanging ≡ b.hanging) }
+    ensures add_empty_line { (m : Measure) (tag : T.Seen) (b : Laid T.Seen)
+        → IfSome (add_empty_line m tag b) (λ new. new.hanging ≡ b.hanging) }
+    ensures start_block { (m : Measure) (tag : T.Seen) (b : Laid T.Seen)
+        → IfSome (start_block m tag b) (λ new. new.hanging ≡ b.hanging) }
+    ensures start_table { (m : Measure) (tag : T.Seen) (b : Laid T.Seen)
+        → IfSome (start_table m tag b) (λ new. new.hanging ≡ []) }
+    ensures start_awaited { (m : Measure) (tag : T.Seen) (b : Laid T.Seen)
+        → IfSome (start_awaited m tag b) (λ new. new.hanging ≡ b.hanging) }
+    ensures end_block { (b : Laid T.Seen) → (end_block b).hanging ≡ b.hanging }
+    ensures mark { (m : Measure) (tag : T.Seen) (name : List ℕ) (b : Laid T.Seen)
+        → (mark m tag name b).hanging ≡ b.hanging }
+    ensures add_text { (m : Measure) (tag : T.Seen) (mode : SeenMode) (cs : List ℕ) (main further : T.Seen)
+        (b : Laid T.Seen) → IfSome (add_text m tag mode cs main further b) (λ new. new.hanging ≡ b.hanging) }
+    ensures break_line { (m : Measure) (tag : T.Seen) (b : Laid T.Seen)
+        → IfSome (break_line m tag b) (λ new. new.hanging ≡ b.hanging) }
+    ensures add_horizontal_border { (m : Measure) (tag : T.Seen) (width : ℕ) (b : Laid T.Seen)
+        → IfSome (add_horizontal_border m tag width b) (λ new. new.hanging ≡ b.hanging) }
+    ensures add_block { (other m : Measure) (tag : T.Seen) (first following : List ℕ) (lines : List (CellLine T.Seen))
+        (b : Laid T.Seen) → (add_block other m tag first following lines b).hanging ≡ b.hanging }
+    ensures add_row { (m : Measure) (tag : T.Seen) (draws collapse : Bool) (cells : List (Cell T.Seen))
+        (b flushed new : Laid T.Seen) → flush m tag b ≡ Some flushed → add_row m tag draws collapse cells b ≡ Some new
+        → new.hanging ≡ (across draws collapse tag (last_border flushed.lines) cells flushed.hanging).hanging }
 {}

@@ -3,4 +3,4 @@
 
 mod laws;
 
-pub use laws::{calls_keep_the_width, overflow_never_refuses};
+pub use laws::{calls_keep_the_width, cells_hang_until_a_row, overflow_never_refuses};

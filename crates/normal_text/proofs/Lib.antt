@@ -19,3 +19,5 @@ pub mod ShownLemmas
 pub mod LetterLemmas
 pub mod MarkedWidth
 pub mod MarkedKept
+pub mod MarkedShown
+pub mod MarkersAside

@@ -109,7 +109,7 @@ abbrev pub letters_in : {S : Type 0} → List (Mark S) → List (Letter S)
 letters_in [] = []
 letters_in (m ∷ ms) = m.letter ∷ letters_in ms
 
-letters_in-append : {S : Type 0} (xs ys : List (Mark S)) → letters_in (xs ++ ys) ≡ letters_in xs ++ letters_in ys
+pub letters_in-append : {S : Type 0} (xs ys : List (Mark S)) → letters_in (xs ++ ys) ≡ letters_in xs ++ letters_in ys
 letters_in-append [] ys = refl
 letters_in-append (x ∷ xs) ys = ap (λ ls. x.letter ∷ ls) (letters_in-append xs ys)
 
@@ -195,7 +195,7 @@ unit_plain width p h = by_fit (nat_le (letters_columns p.letters) width)
     by_fit true = marked_plain (opens p.space) inside p.letters h tt
     by_fit false = marked_plain starts cuttable p.letters tt tt
 
-units_marked : {S : Type 0} (width : ℕ) (ps : List (Piece S))
+pub units_marked : {S : Type 0} (width : ℕ) (ps : List (Piece S))
     → letters_in (flat_map (unit_marks width) ps) ≡ letters_of ps
 units_marked width [] = refl
 units_marked width (p ∷ ps) =
@@ -220,7 +220,7 @@ abbrev pub AreRiding : {S : Type 0} → List (Letter (Rider S)) → Type 0
 AreRiding [] = Unit {0}
 AreRiding (l ∷ ls) = IsRiding l.code l.tag × AreRiding ls
 
-riding_both : {S : Type 0} (xs ys : List (Letter (Rider S))) → AreRiding xs → AreRiding ys → AreRiding (xs ++ ys)
+pub riding_both : {S : Type 0} (xs ys : List (Letter (Rider S))) → AreRiding xs → AreRiding ys → AreRiding (xs ++ ys)
 riding_both [] ys h k = k
 riding_both (x ∷ xs) ys h k = (h.0, riding_both xs ys h.1 k)
 
@@ -386,7 +386,7 @@ fragment_carried {S = S} width name names k h = by_word k.in_word refl
       clear = λ within. absurd (false≢true (sym is ∙ within));
     }
 
-all_carried : {S : Type 0} (width : ℕ) (source : List (Source S)) (names : List (List ℕ)) (k : Carried S)
+pub all_carried : {S : Type 0} (width : ℕ) (source : List (Source S)) (names : List (List ℕ)) (k : Carried S)
     → IsCarrying names k → IsCarrying (names ++ names_of source) (fold (carry width) k source)
 all_carried width [] names k h =
     record { riding = h.riding; all = h.all ∙ sym (append-nil names); clear = h.clear }

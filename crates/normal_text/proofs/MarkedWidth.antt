@@ -49,7 +49,7 @@ one_room width c main h =
     All-cons (λ l. IsTrue (has_room width false l)) (plain_letter c main) [] h
     (All-nil (λ l. IsTrue (has_room width false l)))
 
-carried_room : {S : Type 0} (width : ℕ) (source : List (Source S)) (k : Carried S) → has_wide_text width source ≡ false
+pub carried_room : {S : Type 0} (width : ℕ) (source : List (Source S)) (k : Carried S) → has_wide_text width source ≡ false
     → AllHaveRoom width false k.letters → AllHaveRoom width false (fold (carry width) k source).letters
 carried_room width [] k narrow room = room
 carried_room {S = S} width (letter c main further ∷ source) k narrow room =

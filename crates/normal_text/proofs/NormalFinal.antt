@@ -24,13 +24,13 @@ low_test : (b : Bool) (n w : ℕ) → (b || nat_le n w) ≡ true → b ≡ false
 low_test true n w h e = cc
 low_test false n w h e = grind (arith, nat_tests)
 
-letters_fit : {S : Type 0} (width : ℕ) (overflow : Bool) (read : List (Letter S)) → AllHaveRoom width overflow read
+pub letters_fit : {S : Type 0} (width : ℕ) (overflow : Bool) (read : List (Letter S)) → AllHaveRoom width overflow read
     → (overflow ≡ true) ⊎ All (λ l. is_break_point l.code ≡ false → width_of l.code ≤ width) read
 letters_fit width true read h = inl refl
 letters_fit width false read h = inr (λ k d inside. low_test (is_break_point (get_or read k d).code)
     (width_of (get_or read k d).code) width (h k d inside))
 
-units_fit : {S : Type 0} (width : ℕ) (overflow : Bool) (read : List (Letter S)) → (overflow ≡ true) ⊎ All
+pub units_fit : {S : Type 0} (width : ℕ) (overflow : Bool) (read : List (Letter S)) → (overflow ≡ true) ⊎ All
     (λ l. is_break_point l.code ≡ false → width_of l.code ≤ width) read
     → (overflow ≡ true) ⊎ All (λ p. All (λ l. width_of l.code ≤ width) p.letters) (units read)
 units_fit width overflow read (inl over) = inl over

@@ -1,13 +1,13 @@
 //! Laws of texts and their lines: each is the contract of a function that does nothing.
-ghost use Rattle.std.specs.Prelude.{◌≡◌, ℕ, ◌≤◌, All, flat_map, Bool, true, false, List, ◌++◌, ◌||◌, not};
-ghost use Rattle.tagged_lines.specs.Tagged.{line_columns};
+ghost use Rattle.std.specs.Prelude.{◌≡◌, ℕ, ◌≤◌, All, flat_map, filter, map, Bool, true, false, List, ◌++◌, ◌||◌, not};
+ghost use Rattle.tagged_lines.specs.Tagged.{line_columns, characters};
 ghost use Rattle.text_pieces.specs.Sources.{Source, sourced};
 ghost use Rattle.text_pieces.specs.Sources.{names_of};
 ghost use Rattle.text_pieces.specs.Items.{markers_of};
 ghost use Rattle.normal_text.specs.Units.{lettered};
 ghost use Rattle.normal_text.specs.Layout.{AreLinesOf, NeverFits};
 ghost use Rattle.normal_text.specs.Riders.{normal_lines, normal_waiting, has_wide_text};
-ghost use Rattle.normal_text.specs.Letters.{letters_of, has_marker};
+ghost use Rattle.normal_text.specs.Letters.{letters_of, has_marker, is_shown, codes_of, texts_of};
 
 use tagged_lines::EqualCopy;
 
@@ -47,4 +47,19 @@ pub fn normal_lines_keep_markers<T: EqualCopy>()
     ensures { (width : ℕ) (source : List (Source T.Seen))
         → flat_map (markers_of {S = T.Seen}) (normal_lines width source) ++ normal_waiting width source
         ≡ names_of source }
+{}
+
+/// White space aside, the characters of the lines are those of the text that have a width, in order.
+pub fn normal_lines_show_each_character<T: EqualCopy>()
+    ensures { (width : ℕ) (source : List (Source T.Seen))
+        → filter is_shown (flat_map (characters {S = T.Seen}) (normal_lines width source))
+        ≡ filter is_shown (codes_of source) }
+{}
+
+/// Where no character that a line is to show is wider than the width, markers change no line: line by line, the
+/// characters are those of the text without its markers.
+pub fn markers_change_no_line<T: EqualCopy>()
+    ensures { (width : ℕ) (source : List (Source T.Seen)) → has_wide_text width source ≡ false
+        → map (characters {S = T.Seen}) (normal_lines width source)
+        ≡ map (characters {S = T.Seen}) (normal_lines width (texts_of source)) }
 {}

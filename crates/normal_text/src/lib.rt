@@ -15,8 +15,8 @@ mod units_rows;
 mod word_ends;
 
 pub use laws::{
-    letters_of_texts, normal_lines_are_fullest, normal_lines_keep_markers,
-    normal_lines_keep_the_width, wide_text_never_fits,
+    letters_of_texts, markers_change_no_line, normal_lines_are_fullest, normal_lines_keep_markers,
+    normal_lines_keep_the_width, normal_lines_show_each_character, wide_text_never_fits,
 };
 pub use layout_laws::{fewest_lines, lines_keep_the_width, one_fullest_layout};
 pub use normal_lines::lay_normal;

@@ -114,8 +114,12 @@ pushed annotation s = record s { annotations = s.annotations ++ annotation ∷ [
 abbrev pub popped : {H A : Type 0} → Sub H A → Sub H A
 popped s = record s { annotations = before_last s.annotations }
 
+-- Parts that have begun are counted up to 2^64 - 1.
+abbrev pub one_more : ℕ → ℕ
+one_more n = min (n + 1) 0xFFFFFFFFFFFFFFFF
+
 abbrev pub struck_more : {H A : Type 0} → Sub H A → Sub H A
-struck_more s = record s { strikeouts = s.strikeouts + 1 }
+struck_more s = record s { strikeouts = one_more s.strikeouts }
 
 abbrev pub struck_less : {H A : Type 0} → Sub H A → Sub H A
 struck_less s = record s { strikeouts = s.strikeouts - 1 }
@@ -245,10 +249,10 @@ abbrev pub with_border_of : {H A : Type 0} → ℕ → Sub H A → Option (Sub H
 with_border_of width s = on_laid s (add_horizontal_border (measure_of s) s.annotations width s.laid)
 
 abbrev pub with_fragment : {H A : Type 0} → List ℕ → Sub H A → Option (Sub H A)
-with_fragment name s = Some (with_laid s (mark (measure_of s) s.annotations (mode_of s) name s.laid))
+with_fragment name s = Some (with_laid s (mark (measure_of s) s.annotations name s.laid))
 
 abbrev pub with_preformat : {H A : Type 0} → Sub H A → Option (Sub H A)
-with_preformat s = Some (record s { preformats = s.preformats + 1 })
+with_preformat s = Some (record s { preformats = one_more s.preformats })
 
 abbrev pub with_mode : {H A : Type 0} → WhiteSpace → Sub H A → Option (Sub H A)
 with_mode mode s = Some (record s { modes = s.modes ++ mode ∷ [] })

@@ -10,8 +10,7 @@ ghost use Rattle.renderer_calls.specs.Calls.{ends_preformat, starts_mode, ends_m
 ghost use Rattle.renderer_calls.specs.Calls.{starts_strikeout, ends_strikeout, starts_mark, ends_mark, adds_image};
 ghost use Rattle.renderer_calls.specs.Calls.{starts_fragment, starts_colour, ends_colour, adds_block, adds_cells};
 ghost use Rattle.renderer_calls.specs.Calls.{adds_rows_below};
-ghost use Rattle.renderer_calls.specs.Outcomes.{IsOutcome};
-ghost use Rattle.text_pieces.specs.declared.fault.BlockError.TheVariants as errors;
+ghost use Rattle.renderer_calls.specs.Outcomes.{IsOutcome, IsAnswered};
 
 use std::alloc::Global;
 use text_marks::Colour;
@@ -35,6 +34,8 @@ pub trait Renderer {
 
     ghost is_part: { Self → ℕ → Self → Type 0 };
 
+    ghost stays: { Self → Self → Type 0 };
+
     /// The columns of the block.
     fn width(&self) -> usize
         ensures { result ≡ columns self.now };
@@ -45,13 +46,12 @@ pub trait Renderer {
 
     /// An empty renderer of so many columns for a part of the block: with its options, a decorator for the part, and
     /// the annotations that stand. The error is `Failed` behind a refusal, else `Memory`.
-    fn new_sub_renderer(&self, width: usize) -> Result<Self, BlockError>
+    fn new_sub_renderer(&mut self, width: usize) -> Result<Self, BlockError>
     where
         Self: Sized,
-        ensures part { IfOk result (is_part self.now width) }
-        ensures works { IfOk result (λ sub. has_failed sub ≡ false) }
-        ensures failed { has_failed self.now ≡ true → result ≡ Err errors.Failed }
-        ensures kinds { has_failed self.now ≡ false → IfErr result (λ e. e ≡ errors.Memory) };
+        ensures part { IsAnswered result (has_failed self.old) (has_failed self.new) (stays self.old self.new)
+            (is_part self.old width) }
+        ensures works { IfOk result (λ sub. has_failed sub ≡ false) };
 
     /// Adds a border of so many columns.
     fn add_horizontal_border_width(&mut self, width: usize) -> Result<(), BlockError>
@@ -88,7 +88,7 @@ pub trait Renderer {
         ensures { IsOutcome result (has_failed self.old) (has_failed self.new)
             (does adds_border self.old self.new) (never adds_border self.old) };
 
-    /// A part begins whose text is preformatted. It is refused where no number counts these parts.
+    /// A part begins whose text is preformatted.
     fn push_preformat(&mut self) -> Result<(), BlockError>
         ensures { IsOutcome result (has_failed self.old) (has_failed self.new)
             (does starts_preformat self.old self.new) (never starts_preformat self.old) };
@@ -247,26 +247,22 @@ pub trait Renderer {
         ensures failed { has_failed self.new ≡ has_failed self.old };
 
     /// The prefix of a heading's lines. The error is `Failed` behind a refusal, else `Memory`.
-    fn header_prefix(&self, level: usize) -> Result<String, BlockError>
-        ensures text { IfOk result (λ s. chars (string_bytes s) ≡ prefix self.now (header level)) }
-        ensures failed { has_failed self.now ≡ true → result ≡ Err errors.Failed }
-        ensures kinds { has_failed self.now ≡ false → IfErr result (λ e. e ≡ errors.Memory) };
+    fn header_prefix(&mut self, level: usize) -> Result<String, BlockError>
+        ensures { IsAnswered result (has_failed self.old) (has_failed self.new) (stays self.old self.new)
+            (λ s. chars (string_bytes s) ≡ prefix self.old (header level)) };
 
     /// The prefix of a quote's lines. The error is `Failed` behind a refusal, else `Memory`.
-    fn quote_prefix(&self) -> Result<String, BlockError>
-        ensures text { IfOk result (λ s. chars (string_bytes s) ≡ prefix self.now quote) }
-        ensures failed { has_failed self.now ≡ true → result ≡ Err errors.Failed }
-        ensures kinds { has_failed self.now ≡ false → IfErr result (λ e. e ≡ errors.Memory) };
+    fn quote_prefix(&mut self) -> Result<String, BlockError>
+        ensures { IsAnswered result (has_failed self.old) (has_failed self.new) (stays self.old self.new)
+            (λ s. chars (string_bytes s) ≡ prefix self.old quote) };
 
     /// The prefix of an item of a list without numbers. The error is `Failed` behind a refusal, else `Memory`.
-    fn unordered_item_prefix(&self) -> Result<String, BlockError>
-        ensures text { IfOk result (λ s. chars (string_bytes s) ≡ prefix self.now unordered_item) }
-        ensures failed { has_failed self.now ≡ true → result ≡ Err errors.Failed }
-        ensures kinds { has_failed self.now ≡ false → IfErr result (λ e. e ≡ errors.Memory) };
+    fn unordered_item_prefix(&mut self) -> Result<String, BlockError>
+        ensures { IsAnswered result (has_failed self.old) (has_failed self.new) (stays self.old self.new)
+            (λ s. chars (string_bytes s) ≡ prefix self.old unordered_item) };
 
     /// The prefix of the item of that number. The error is `Failed` behind a refusal, else `Memory`.
-    fn ordered_item_prefix(&self, i: i64) -> Result<String, BlockError>
-        ensures text { IfOk result (λ s. chars (string_bytes s) ≡ prefix self.now (ordered_item i)) }
-        ensures failed { has_failed self.now ≡ true → result ≡ Err errors.Failed }
-        ensures kinds { has_failed self.now ≡ false → IfErr result (λ e. e ≡ errors.Memory) };
+    fn ordered_item_prefix(&mut self, i: i64) -> Result<String, BlockError>
+        ensures { IsAnswered result (has_failed self.old) (has_failed self.new) (stays self.old self.new)
+            (λ s. chars (string_bytes s) ≡ prefix self.old (ordered_item i)) };
 }

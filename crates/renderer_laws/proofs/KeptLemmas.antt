@@ -35,8 +35,8 @@ pub record WidthLaws (S : Type 0) : Type 0 where
       → start_awaited m tag b ≡ Some new → IsWithin m new
   pub text_taken : (m : Measure) (tag : S) (mode : WhiteSpace) (cs : List ℕ) (main further : S) (b new : Laid S)
       → IsKept m → IsWithin m b → add_text m tag mode cs main further b ≡ Some new → IsWithin m new
-  pub marked : (m : Measure) (tag : S) (mode : WhiteSpace) (name : List ℕ) (b : Laid S) → IsKept m → IsWithin m b
-      → IsWithin m (mark m tag mode name b)
+  pub marked : (m : Measure) (tag : S) (name : List ℕ) (b : Laid S) → IsKept m → IsWithin m b
+      → IsWithin m (mark m tag name b)
   pub line_broken : (m : Measure) (tag : S) (b new : Laid S) → IsKept m → IsWithin m b
       → break_line m tag b ≡ Some new → IsWithin m new
   pub border_drawn : (m : Measure) (tag : S) (width : ℕ) (b new : Laid S) → IsKept m → IsWithin m b
@@ -356,8 +356,8 @@ step_stays laws m (ends_mark kind) s kept fits = finished laws m kind s kept
 step_stays laws m (adds_image source title) s kept fits =
     titled_added laws m source (image_title s.options.img_mode source title) s kept
 step_stays laws m (starts_fragment name) s kept fits =
-    relaid s (mark (measure_of s) s.annotations (mode_of s) name s.laid) kept
-    (laws.marked (measure_of s) s.annotations (mode_of s) name s.laid (kept_measure s kept) kept.1)
+    relaid s (mark (measure_of s) s.annotations name s.laid) kept
+    (laws.marked (measure_of s) s.annotations name s.laid (kept_measure s kept) kept.1)
 step_stays laws m (starts_colour kind) s kept fits = colour_begun m kind s kept
 step_stays laws m (ends_colour kind) s kept fits = colour_finished m kind s kept
 step_stays laws m (adds_block other first following) s kept fits =

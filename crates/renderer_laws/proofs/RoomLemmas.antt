@@ -31,8 +31,8 @@ pub record RoomLaws (S : Type 0) : Type 0 where
       → IsSomeAnd (start_awaited m tag b) (AllowsOverflow m)
   pub takes_text : (m : Measure) (tag : S) (mode : WhiteSpace) (cs : List ℕ) (main further : S) (b : Laid S)
       → AllowsOverflow m b → IsSomeAnd (add_text m tag mode cs main further b) (AllowsOverflow m)
-  pub marks : (m : Measure) (tag : S) (mode : WhiteSpace) (name : List ℕ) (b : Laid S) → AllowsOverflow m b
-      → AllowsOverflow m (mark m tag mode name b)
+  pub marks : (m : Measure) (tag : S) (name : List ℕ) (b : Laid S) → AllowsOverflow m b
+      → AllowsOverflow m (mark m tag name b)
   pub line_breaks : (m : Measure) (tag : S) (b : Laid S) → AllowsOverflow m b
       → IsSomeAnd (break_line m tag b) (AllowsOverflow m)
   pub draws_border : (m : Measure) (tag : S) (width : ℕ) (b : Laid S) → AllowsOverflow m b
@@ -250,7 +250,7 @@ step_given laws m (ends_mark kind) s room taken = finishes laws m kind s room
 step_given laws m (adds_image source title) s room taken =
     adds_titled laws m source (image_title s.options.img_mode source title) s room
 step_given laws m (starts_fragment name) s room taken =
-    laws.marks (measure_of s) s.annotations (mode_of s) name s.laid room
+    laws.marks (measure_of s) s.annotations name s.laid room
 step_given laws m (starts_colour kind) s room taken = begins_colour m kind s room
 step_given laws m (ends_colour kind) s room taken = finishes_colour m kind s room
 step_given laws m (adds_block other first following) s room taken = adds_sub laws other first following s taken room

@@ -13,4 +13,4 @@ pub use columns::{Columns, UnicodeColumns};
 pub use equal_copy::EqualCopy;
 pub use line_iterators::{LineChars, TaggedStrings};
 pub use tagged_line::TaggedLine;
-pub use tagged_string::{TaggedLineElement, TaggedString};
+pub use tagged_string::{TaggedLineElement, TaggedString, columns_of};

@@ -151,8 +151,8 @@ impl<T: EqualCopy> TaggedLineElement<T> {
     }
 }
 
-/// The columns of a text.
-pub(crate) fn columns_of(text: &str) -> usize
+/// The columns of a text: the sum of those of its characters that have a width.
+pub fn columns_of(text: &str) -> usize
     ensures { result ≡ text_columns (chars text.now) }
 {
     // The common case: a text of printable ASCII has a column for each byte.

@@ -1,5 +1,5 @@
 -- The columns of rows of cells.
-use Rattle.std.proofs.Common.{◌≡◌, ℕ, zero, suc, ◌+◌, ◌-◌, ◌<◌, ◌≤◌, Bool, true, false, List, [], ◌∷◌, ◌++◌, map, length, drop, replicate, if◌then◌else◌, ◌∙◌, refl, inl, inr, arith}
+use Rattle.std.proofs.Common.{◌≡◌, ℕ, zero, suc, ◌+◌, ◌-◌, ◌<◌, ◌≤◌, Bool, true, false, List, [], ◌∷◌, ◌++◌, map, length, drop, replicate, if◌then◌else◌, sym, subst, ◌∙◌, refl, inl, inr, arith}
 use Rattle.std.specs.Prelude.{nat_le, nat_lt, fold, max, All, Option, Some}
 use Rattle.std.specs.Option.{option_map}
 use Rattle.std.proofs.lemmas.List.{length-replicate}
@@ -8,12 +8,12 @@ use Rattle.tagged_lines.specs.Columns.{width_of}
 use Rattle.tagged_lines.specs.Tagged.{Item, character, marker, tagged, line_columns}
 use Rattle.text_pieces.proofs.ItemColumns.{line_columns-append, line_columns-cons}
 use Rattle.text_borders.specs.Segments.{Segment, with_up, with_down, joins_above, joins_below, runs_above}
-use Rattle.text_borders.specs.Borders.{Border, horizontal, stretched, change_to, columns_where, with_segments, punched, shown, line_above}
+use Rattle.text_borders.specs.Borders.{Border, horizontal, stretched, change_to, columns_where, with_segments, punched_at, punched, shown, line_above}
 use Rattle.text_borders.specs.Lines.{BlockLine, text, border}
 use Rattle.text_borders.specs.BorderLaws.{AreInOrder, IsSound}
 use Rattle.text_borders.specs.Across.{CellLine, Cell, Hanging, empty_cell, seated_behind, seated, OpenCell, spaces, whole, open_line, open_first, close_line, close_behind, close_last, opened, row_width, signs, of_cells, joined_to_row, border_below, retagged, widened, line_or, cell_items, row_items, row_lines, row_height, goes_on, with_holes, further, hanging_of, sign_of, is_given, row_cells, width_across, across}
 use Rattle.text_borders.specs.AcrossLaws.{LineFits, CellFits}
-use Rattle.text_borders.proofs.BorderLemmas.{one_column, length-stretched, length-change_to, length-punched, order_wider, order_more, border_columns}
+use Rattle.text_borders.proofs.BorderLemmas.{one_column, length-stretched, length-change_to, length-punched, order_wider, order_more, stands_at, punched_sound, border_columns}
 
 -- ---- lines of cells
 
@@ -215,10 +215,10 @@ row_columns sign tag i (c ∷ d ∷ cells) one all =
     )
 
 lines_columns : {S : Type 0} (sign : ℕ) (tag : S) (cells : List (OpenCell S)) (i n : ℕ) → width_of sign ≡ 1
-    → AllOpen cells → All (λ l. line_columns l.items ≡ row_width cells) (row_lines sign tag cells i n)
-lines_columns sign tag cells i zero one all = All-nil (λ l. line_columns l.items ≡ row_width cells)
+    → AllOpen cells → All (λ l. line_columns l ≡ row_width cells) (row_lines sign tag cells i n)
+lines_columns sign tag cells i zero one all = All-nil (λ l. line_columns l ≡ row_width cells)
 lines_columns sign tag cells i (suc n) one all =
-    All-cons (λ l. line_columns l.items ≡ row_width cells) _ (row_lines sign tag cells (i + 1) n)
+    All-cons (λ l. line_columns l ≡ row_width cells) _ (row_lines sign tag cells (i + 1) n)
     (row_columns sign tag i cells one all) (lines_columns sign tag cells (i + 1) n one all)
 
 -- ---- the border below
@@ -322,11 +322,12 @@ holed : {S : Type 0} (total m at : ℕ) (tag : S) (height : ℕ) (c : OpenCell S
 holed total m at tag height c b true fits behind within e =
     let items = line_or c.width tag (spaces c.width tag) (drop height c.lines) in
     let n = hole_columns tag height c fits in
-    record {
+    let before = order_wider 0 m at b.holes behind e.order in
+    subst (EndsBefore total (at + c.width)) (sym (stands_at at items b before)) (record {
       width = length-punched at items b ∙ omega (arith, e.width, n, within);
-      order = order_wider 0 (at + line_columns items) (at + c.width) (punched at items b).holes (omega (arith, n))
-          (order_more 0 at items b.holes (order_wider 0 m at b.holes behind e.order));
-    }
+      order = order_wider 0 (at + line_columns items) (at + c.width) (punched_at at items b).holes (omega (arith, n))
+          (order_more 0 at items b.holes before);
+    })
 holed total m at tag height c b false fits behind within e = record {
   width = e.width;
   order = order_wider 0 m (at + c.width) b.holes (omega (arith, behind)) e.order;
@@ -410,7 +411,7 @@ sign_column false = space_column
 
 pub row_lines_columns : {S : Type 0} (draws collapse : Bool) (tag : S) (above : Option (Border S)) (cells : List (Cell S))
     (hanging : List (Hanging S)) → All CellFits cells → All (λ h. CellFits h.cell) hanging
-    → All (λ l. line_columns l.items ≡ width_across collapse tag above cells hanging)
+    → All (λ l. line_columns l ≡ width_across collapse tag above cells hanging)
     (across draws collapse tag above cells hanging).lines
 row_lines_columns draws collapse tag above cells hanging all hangs =
     lines_columns (sign_of draws) tag (row_cells collapse tag above cells hanging) 0
@@ -469,6 +470,39 @@ pub row_above_sound : {S : Type 0} (collapse : Bool) (tag : S) (above : Border S
 row_above_sound collapse tag above cells hanging all hangs sound =
     let n = row_above_width collapse tag above cells hanging all hangs in
     order_wider 0 (length above.segments) _ above.holes (omega (arith, n)) sound
+
+-- ---- whatever the cells hold
+
+holes_sound : {S : Type 0} (tag : S) (height at : ℕ) (cells : List (OpenCell S)) (b : Border S) → IsSound b
+    → IsSound (with_holes tag height at cells b)
+holes_sound tag height at [] b sound = sound
+holes_sound tag height at (c ∷ cells) b sound = holes_sound tag height (at + c.width + 1) cells
+    (if goes_on c then punched at (line_or c.width tag (spaces c.width tag) (drop height c.lines)) b else b)
+    (by_rows (goes_on c))
+  where
+    by_rows : (on : Bool) → IsSound (if on then punched at (line_or c.width tag (spaces c.width tag)
+        (drop height c.lines)) b else b)
+    by_rows true = punched_sound at (line_or c.width tag (spaces c.width tag) (drop height c.lines)) b sound
+    by_rows false = sound
+
+pub below_sound : {S : Type 0} (draws collapse : Bool) (tag : S) (above : Option (Border S)) (cells : List (Cell S))
+    (hanging : List (Hanging S)) → IsSound (across draws collapse tag above cells hanging).below
+below_sound draws collapse tag above cells hanging =
+    let row = row_cells collapse tag above cells hanging in
+    holes_sound tag (row_height row) 0 row (border_below tag row) (omega arith)
+
+change_grows : (f : Segment → Segment) (ks : List ℕ) (ss : List Segment) → length ss ≤ length (fold (change_to f) ss ks)
+change_grows f [] ss = omega arith
+change_grows f (k ∷ ks) ss =
+    let rest = change_grows f ks (change_to f ss k) in omega (arith, rest, length-change_to f ss k)
+
+pub above_sound : {S : Type 0} (cells : List (OpenCell S)) (above : Border S) → IsSound above
+    → IsSound (joined_to_row cells above)
+above_sound cells above sound =
+    let grows = change_grows (option_map with_down) (signs 0 cells ++ of_cells (λ c. c.asks_above) 0 cells)
+    (stretched (row_width cells) above.segments) in
+    order_wider 0 (length above.segments) _ above.holes
+    (omega (arith, grows, length-stretched (row_width cells) above.segments)) sound
 
 -- ---- the cells that go on
 

@@ -8,7 +8,7 @@ use Rattle.tagged_lines.specs.Columns.{width_of, columns_of-one, IsOfOneColumn}
 use Rattle.tagged_lines.specs.Tagged.{Item, character, line_columns}
 use Rattle.text_pieces.proofs.ItemColumns.{line_columns-append, line_columns-cons}
 use Rattle.text_borders.specs.Segments.{Segment, glyph, glyph_of, with_up, with_down, without_left, without_right}
-use Rattle.text_borders.specs.Borders.{Border, Hole, horizontal, stretched, change_at, change_to, chop_before, columns_where, glyphs, shown_from, shown, punched}
+use Rattle.text_borders.specs.Borders.{Border, Hole, horizontal, stretched, change_at, change_to, chop_before, columns_where, glyphs, shown_from, shown, punched_at, holes_end, punched}
 use Rattle.text_borders.specs.BorderLaws.{segment_at, asks_at, IsChangedWhereAsked, AreInOrder, IsSound}
 
 -- ---- one column
@@ -197,7 +197,7 @@ length-chop_before k ss = by_first (k == 0)
     by_first false = length-change_at (option_map without_right) (k - 1) ss
 
 pub length-punched : {S : Type 0} (place : ℕ) (items : List (Item S)) (b : Border S)
-    → length (punched place items b).segments ≡ max (length b.segments) (place + line_columns items)
+    → length (punched_at place items b).segments ≡ max (length b.segments) (place + line_columns items)
 length-punched place items b =
     let end = place + line_columns items in
     length-change_at (option_map without_left) end (chop_before place (stretched end b.segments))
@@ -221,6 +221,33 @@ pub order_more : {S : Type 0} (at place : ℕ) (items : List (Item S)) (holes : 
 order_more at place items [] h = (h, omega arith)
 order_more at place items (x ∷ holes) h =
     (h.0, order_more (x.place + line_columns x.items) place items holes h.1)
+
+-- in order, holes end at their last end
+order_at_end : {S : Type 0} (at end : ℕ) (holes : List (Hole S)) → AreInOrder at end holes
+    → AreInOrder at (holes_end at holes) holes
+order_at_end at end [] o = omega arith
+order_at_end at end (x ∷ holes) o = (o.0, order_at_end (x.place + line_columns x.items) end holes o.1)
+
+pub ends_within : {S : Type 0} (at end : ℕ) (holes : List (Hole S)) → AreInOrder at end holes
+    → holes_end at holes ≤ end
+ends_within at end [] o = o
+ends_within at end (x ∷ holes) o = ends_within (x.place + line_columns x.items) end holes o.1
+
+pub stands_at : {S : Type 0} (place : ℕ) (items : List (Item S)) (b : Border S) → AreInOrder 0 place b.holes
+    → punched place items b ≡ punched_at place items b
+stands_at place items b o =
+    let ends = ends_within 0 place b.holes o in
+    let free : max place (holes_end 0 b.holes) ≡ place = omega (arith, ends) in
+    ap (λ k. punched_at k items b) free
+
+pub punched_sound : {S : Type 0} (place : ℕ) (items : List (Item S)) (b : Border S) → IsSound b
+    → IsSound (punched place items b)
+punched_sound place items b sound =
+    let ends = holes_end 0 b.holes in
+    let start = max place ends in
+    let order = order_wider 0 ends start b.holes (omega arith) (order_at_end 0 (length b.segments) b.holes sound) in
+    order_wider 0 (start + line_columns items) (length (punched place items b).segments) (punched place items b).holes
+    (omega (arith, length-punched start items b)) (order_more 0 start items b.holes order)
 
 -- ---- what is shown
 

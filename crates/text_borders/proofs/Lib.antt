@@ -2,4 +2,5 @@ pub mod AcrossLemmas
 pub mod BorderLemmas
 pub mod FillLemmas
 pub mod RetagLemmas
+pub mod SeatLemmas
 pub mod SegmentLemmas

@@ -155,15 +155,6 @@ row_items sign tag i (c ∷ []) = cell_items tag i c
 row_items sign tag i (c ∷ d ∷ cells) =
     cell_items tag i c ++ (character sign tag ∷ row_items sign tag i (d ∷ cells))
 
--- the first of the lines has content
-abbrev pub begins_with_content : {S : Type 0} → List (CellLine S) → Bool
-begins_with_content [] = false
-begins_with_content (l ∷ rest) = l.content
-
-abbrev pub row_content : {S : Type 0} → ℕ → List (OpenCell S) → Bool
-row_content i [] = false
-row_content i (c ∷ cells) = begins_with_content (drop i c.lines) || row_content i cells
-
 -- the lines that a cell takes of the row: all where it ends there, else its share
 abbrev pub cell_height : {S : Type 0} → OpenCell S → ℕ
 cell_height c = if nat_le c.rows 1 then length c.lines else length c.lines / c.rows
@@ -171,15 +162,9 @@ cell_height c = if nat_le c.rows 1 then length c.lines else length c.lines / c.r
 abbrev pub row_height : {S : Type 0} → List (OpenCell S) → ℕ
 row_height cells = fold (λ n c. max n (cell_height c)) 0 cells
 
-pub record RowLine (S : Type 0) : Type 0 where
-  pub items : List (Item S)
-  pub content : Bool
-
-abbrev pub row_lines : {S : Type 0} → ℕ → S → List (OpenCell S) → ℕ → ℕ → List (RowLine S)
+abbrev pub row_lines : {S : Type 0} → ℕ → S → List (OpenCell S) → ℕ → ℕ → List (List (Item S))
 row_lines sign tag cells i zero = []
-row_lines sign tag cells i (suc n) =
-    (record { items = row_items sign tag i cells; content = row_content i cells })
-    ∷ row_lines sign tag cells (i + 1) n
+row_lines sign tag cells i (suc n) = row_items sign tag i cells ∷ row_lines sign tag cells (i + 1) n
 
 -- ---- what goes on
 
@@ -206,7 +191,7 @@ hanging_of height at (c ∷ cells) =
 
 pub record Row (S : Type 0) : Type 0 where
   pub above : Option (Border S)
-  pub lines : List (RowLine S)
+  pub lines : List (List (Item S))
   pub below : Border S
   pub hanging : List (Hanging S)
 

@@ -1,5 +1,5 @@
 -- Borders: lists of segments, with holes in which text stands.
-use Rattle.std.specs.Prelude.{ℕ, zero, suc, ◌+◌, ◌-◌, Bool, true, false, ◌==◌, nat_lt, List, [], ◌∷◌, ◌++◌, map, fold, length, take, drop, replicate, if◌then◌else◌}
+use Rattle.std.specs.Prelude.{ℕ, zero, suc, ◌+◌, ◌-◌, max, Bool, true, false, ◌==◌, nat_lt, List, [], ◌∷◌, ◌++◌, map, fold, length, take, drop, replicate, if◌then◌else◌}
 use Rattle.std.specs.Option.{option_map}
 use Rattle.tagged_lines.specs.Tagged.{Item, character, tagged, line_items, line_columns}
 use Rattle.text_borders.specs.Segments.{Segment, arms, segment_of, glyph_of, with_up, with_down, without_left, without_right, joins_above, joins_below, runs_above}
@@ -90,10 +90,18 @@ chopped_behind k b = with_segments (change_at (option_map without_left) k b.segm
 abbrev pub with_hole : {S : Type 0} → ℕ → List (Item S) → Border S → Border S
 with_hole place items b = record b { holes = b.holes ++ (record { place = place; items = items }) ∷ [] }
 
-abbrev pub punched : {S : Type 0} → ℕ → List (Item S) → Border S → Border S
-punched place items b =
+abbrev pub punched_at : {S : Type 0} → ℕ → List (Item S) → Border S → Border S
+punched_at place items b =
     let end = place + line_columns items in
     with_hole place items (chopped_behind end (chopped_before place (with_segments (stretched end b.segments) b)))
+
+-- the column behind the last text, or behind another
+abbrev pub holes_end : {S : Type 0} → ℕ → List (Hole S) → ℕ
+holes_end at holes = fold (λ _ h. h.place + line_columns h.items) at holes
+
+-- A text whose place another one takes stands behind that, so no column is shown twice.
+abbrev pub punched : {S : Type 0} → ℕ → List (Item S) → Border S → Border S
+punched place items b = punched_at (max place (holes_end 0 b.holes)) items b
 
 -- Spaces fill a border up to a width: they stand behind it as a text, which takes no arm off.
 abbrev pub filled_to : {S : Type 0} → ℕ → Border S → Border S

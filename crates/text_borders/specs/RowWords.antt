@@ -11,7 +11,7 @@ above_shown (Some b) = characters (shown b) ∷ []
 
 -- the border above, the lines and the border below, as characters
 abbrev pub row_shown : {S : Type 0} → Row S → List (List ℕ)
-row_shown r = above_shown r.above ++ (map (λ l. characters l.items) r.lines ++ characters (shown r.below) ∷ [])
+row_shown r = above_shown r.above ++ (map characters r.lines ++ characters (shown r.below) ∷ [])
 
 abbrev pub text_line : {S : Type 0} → S → List ℕ → CellLine S
 text_line tag cs = record { line = text (tagged cs tag); content = true }

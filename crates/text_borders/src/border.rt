@@ -106,7 +106,7 @@ impl<T: EqualCopy + Drop> BorderHoriz<T> {
 }
 
 impl<T: EqualCopy + Drop> BorderHoriz<T> {
-    ghost use Rattle.text_borders.specs.Borders.{border_of, merged_above, merged_below, chopped_before, chopped_behind, punched, filled_to};
+    ghost use Rattle.text_borders.specs.Borders.{border_of, merged_above, merged_below, chopped_before, chopped_behind, punched_at, holes_end, punched, filled_to};
 
     /// Takes in a border that stands below, from a column on: the border is joined to a line below where the other has
     /// `┴ ┬ ┼ └ ┘`. The error is want of memory alone.
@@ -193,10 +193,19 @@ impl<T: EqualCopy + Drop> BorderHoriz<T> {
     }
 
     /// Puts a text into the border, from a column on, to whose end it is stretched: the segments beside it lose the arm
-    /// that points to it. Texts are put in from left to right. The error is want of memory alone.
+    /// that points to it. Where the text before ends behind that column, it stands behind that text. Texts are put in from
+    /// left to right. The error is want of memory alone.
     pub fn punch(&mut self, place: usize, line: TaggedLine<T>) -> Result<(), AllocError>
         ensures { OnOk result (border_of T.seen self.new
             ≡ punched place (line_items T.seen line) (border_of T.seen self.old)) }
+    {
+        let place = place.max(self.holes_end()?);
+        self.punch_at(place, line)
+    }
+
+    fn punch_at(&mut self, place: usize, line: TaggedLine<T>) -> Result<(), AllocError>
+        ensures { OnOk result (border_of T.seen self.new
+            ≡ punched_at place (line_items T.seen line) (border_of T.seen self.old)) }
     {
         let end = place.checked_add(line.width()).ok_or(AllocError)?;
         self.stretch_to(end)?;
@@ -204,6 +213,16 @@ impl<T: EqualCopy + Drop> BorderHoriz<T> {
         self.chop_behind(end);
         self.holes.push(Hole { place, line })?;
         Ok(())
+    }
+
+    /// The column behind the last text.
+    fn holes_end(&self) -> Result<usize, AllocError>
+        ensures { IfOk result (λ n. n ≡ holes_end 0 (border_of T.seen self.now).holes) }
+    {
+        match self.holes.split_last() {
+            Some((last, _)) => last.end(),
+            None => Ok(0),
+        }
     }
 
     /// Fills the border up to the width with spaces of its tag, where it is narrower. They stand behind it as a text, and

@@ -1,12 +1,12 @@
 //! Laws of borders: each is the contract of a function that does nothing.
-ghost use Rattle.std.specs.Prelude.{◌≡◌, ℕ, ◌+◌, ◌≤◌, Bool, Option, Some, IfSome, List, All, length, max};
+ghost use Rattle.std.specs.Prelude.{◌≡◌, ℕ, ◌+◌, ◌≤◌, Bool, Option, Some, IfSome, List, All, length, map, max};
 ghost use Rattle.std.specs.Option.{option_map};
 ghost use Rattle.tagged_lines.specs.Tagged.{Item, line_columns};
 ghost use Rattle.text_borders.specs.Segments.{Segment, with_up, with_down, joins_above, joins_below};
-ghost use Rattle.text_borders.specs.Borders.{Border, merged_above, merged_below, punched, filled_to, shown};
+ghost use Rattle.text_borders.specs.Borders.{Border, merged_above, merged_below, punched_at, punched, filled_to, shown};
 ghost use Rattle.text_borders.specs.BorderLaws.{IsChangedWhereAsked, AreInOrder, IsSound};
-ghost use Rattle.text_borders.specs.Across.{Cell, Hanging, across, width_across};
-ghost use Rattle.text_borders.specs.AcrossLaws.{CellFits};
+ghost use Rattle.text_borders.specs.Across.{Cell, Hanging, seated, across, width_across};
+ghost use Rattle.text_borders.specs.AcrossLaws.{CellFits, cells_width, AreSeatedIn, seat_of, seats_behind};
 
 use tagged_lines::EqualCopy;
 
@@ -37,15 +37,26 @@ pub fn shown_borders_have_their_width<T: EqualCopy>()
     ensures { (b : Border T.Seen) → IsSound b → line_columns (shown b) ≡ length b.segments }
 {}
 
-/// Texts that are put in from left to right stand one behind the other within the border, which is stretched to the last
-/// one's end.
+/// Texts that are put in stand one behind the other within the border, which is stretched to the last one's end. A text
+/// stands at its place where those before it end before that.
 pub fn punched_borders_stay_sound<T: EqualCopy>()
+    ensures place { (place : ℕ) (items : List (Item T.Seen)) (b : Border T.Seen) → AreInOrder 0 place b.holes
+        → punched place items b ≡ punched_at place items b }
     ensures order { (place : ℕ) (items : List (Item T.Seen)) (b : Border T.Seen) → AreInOrder 0 place b.holes
-        → AreInOrder 0 (place + line_columns items) (punched place items b).holes }
+        → AreInOrder 0 (place + line_columns items) (punched_at place items b).holes }
     ensures width { (place : ℕ) (items : List (Item T.Seen)) (b : Border T.Seen)
-        → length (punched place items b).segments ≡ max (length b.segments) (place + line_columns items) }
-    ensures sound { (place : ℕ) (items : List (Item T.Seen)) (b : Border T.Seen) → AreInOrder 0 place b.holes
+        → length (punched_at place items b).segments ≡ max (length b.segments) (place + line_columns items) }
+    ensures sound { (place : ℕ) (items : List (Item T.Seen)) (b : Border T.Seen) → IsSound b
         → IsSound (punched place items b) }
+{}
+
+/// The border below a row has a column for each segment whatever the cells hold, and so has the one above where it had.
+pub fn borders_of_rows_are_sound<T: EqualCopy>()
+    ensures below { (draws collapse : Bool) (tag : T.Seen) (above : Option (Border T.Seen)) (cells : List (Cell T.Seen))
+        (hanging : List (Hanging T.Seen)) → IsSound (across draws collapse tag above cells hanging).below }
+    ensures above { (draws collapse : Bool) (tag : T.Seen) (above : Border T.Seen) (cells : List (Cell T.Seen))
+        (hanging : List (Hanging T.Seen)) → IsSound above
+        → IfSome (across draws collapse tag (Some above) cells hanging).above IsSound }
 {}
 
 /// A border that is filled up to a width has so many columns, or its own where it is wider, and its texts still stand one
@@ -61,7 +72,7 @@ pub fn filled_borders_stay_sound<T: EqualCopy>()
 pub fn rows_keep_their_width<T: EqualCopy>()
     ensures lines { (draws collapse : Bool) (tag : T.Seen) (above : Option (Border T.Seen)) (cells : List (Cell T.Seen))
         (hanging : List (Hanging T.Seen)) → All CellFits cells → All (λ h. CellFits h.cell) hanging
-        → All (λ l. line_columns l.items ≡ width_across collapse tag above cells hanging)
+        → All (λ l. line_columns l ≡ width_across collapse tag above cells hanging)
         (across draws collapse tag above cells hanging).lines }
     ensures below { (draws collapse : Bool) (tag : T.Seen) (above : Option (Border T.Seen)) (cells : List (Cell T.Seen))
         (hanging : List (Hanging T.Seen)) → All CellFits cells → All (λ h. CellFits h.cell) hanging
@@ -86,4 +97,15 @@ pub fn rows_keep_their_width<T: EqualCopy>()
         (cells : List (Cell T.Seen)) (hanging : List (Hanging T.Seen)) → All CellFits cells
         → All (λ h. CellFits h.cell) hanging
         → All (λ h. CellFits h.cell) (across draws collapse tag above cells hanging).hanging }
+{}
+
+/// Where each cell that goes on has the place and the columns of a cell that is handed in, a row is as wide as the cells
+/// handed in with the signs between them. What goes on from a row are its cells that take more rows, at their places.
+pub fn cells_keep_their_places<T: EqualCopy>()
+    ensures width { (collapse : Bool) (tag : T.Seen) (above : Option (Border T.Seen)) (cells : List (Cell T.Seen))
+        (hanging : List (Hanging T.Seen)) → AreSeatedIn 0 cells hanging
+        → width_across collapse tag above cells hanging ≡ cells_width cells }
+    ensures seats { (draws collapse : Bool) (tag : T.Seen) (above : Option (Border T.Seen)) (cells : List (Cell T.Seen))
+        (hanging : List (Hanging T.Seen)) → map (seat_of {S = T.Seen}) (across draws collapse tag above cells hanging).hanging
+        ≡ seats_behind 0 (seated 0 cells hanging) }
 {}

@@ -31,6 +31,8 @@ fn holes_chop_their_neighbours<T: EqualCopy>()
         (joined_below 1 (plain horizontal 3 tag)))) ≡ codes "─┐ab" }
     ensures between { (tag : T.Seen) → characters (shown (punched 2 (tagged (codes "a") tag) (joined_above 1
         (joined_above 3 (plain horizontal 5 tag))))) ≡ codes "─┘a└─" }
+    ensures pushed { (tag : T.Seen) → characters (shown (punched 1 (tagged (codes "d") tag)
+        (punched 0 (tagged (codes "abc") tag) (plain horizontal 5 tag)))) ≡ codes "abcd─" }
 {}
 
 /// Vertical lines come down to `┴ ┼ └ ┘` alone.
@@ -57,8 +59,8 @@ fn cells_stand_beside_one_another<T: EqualCopy>()
         ∷ cell tag 1 1 (codes "b") ∷ []) []) ≡ codes "a b" ∷ codes "─┴─" ∷ [] }
 {}
 
-/// A cell that takes two rows shares its lines between them, and its next line stands in the border between. A line has
-/// content where a cell's line has, and nothing goes on of cells that end with their row.
+/// A cell that takes two rows shares its lines between them, and its next line stands in the border between. A cell is
+/// filled with spaces, and nothing goes on of cells that end with their row.
 fn cells_go_on<T: EqualCopy>()
     ensures first { (tag : T.Seen) → row_shown (first_row tag 5 (tall_cell tag 3 2 (codes "x" ∷ codes "y" ∷ codes "z"
         ∷ codes "c.." ∷ []) ∷ cell tag 1 1 (codes "b") ∷ []))
@@ -66,8 +68,8 @@ fn cells_go_on<T: EqualCopy>()
     ensures second { (tag : T.Seen) → row_shown (next_row tag (first_row tag 5 (tall_cell tag 3 2 (codes "x"
         ∷ codes "y" ∷ codes "z" ∷ codes "c.." ∷ []) ∷ cell tag 1 1 (codes "b") ∷ [])) (empty_cell 3
         ∷ cell tag 1 1 (codes "d") ∷ [])) ≡ codes "z  ├─" ∷ codes "c..│d" ∷ codes "───┴─" ∷ [] }
-    ensures content { (tag : T.Seen) → map (λ l. l.content) (first_row tag 3 (blank_cell 1 2
-        ∷ cell tag 1 1 (codes "a") ∷ [])).lines ≡ true ∷ false ∷ [] }
+    ensures blank { (tag : T.Seen) → row_shown (first_row tag 3 (blank_cell 1 2 ∷ cell tag 1 1 (codes "a") ∷ []))
+        ≡ codes "─┬─" ∷ codes " │a" ∷ codes " │ " ∷ codes "─┴─" ∷ [] }
     ensures nothing { (tag : T.Seen) → (first_row tag 3 (tall_cell tag 1 1 (codes "a" ∷ codes "b" ∷ [])
         ∷ cell tag 1 1 (codes "c") ∷ [])).hanging ≡ [] }
 {}

@@ -4,7 +4,7 @@ use Rattle.std.specs.Prelude.{nat_lt, ◌||◌}
 use Rattle.std.proofs.lemmas.Bool.Decides.{nat_tests}
 use Rattle.std.proofs.lemmas.List.{drop-drop, drop_more, map_more, get_or_at, set_at, length-map, length-take-le, map-set, get_or-map}
 use Rattle.tagged_lines.specs.Tagged.{Item, character}
-use Rattle.text_borders.specs.Across.{OpenCell, RowLine, cell_items, row_items, begins_with_content, row_content, row_lines}
+use Rattle.text_borders.specs.Across.{OpenCell, cell_items, row_items, row_lines}
 use Rattle.text_cells.specs.OpenCells.{after, sign_before}
 
 -- ---- the text of a line
@@ -87,21 +87,6 @@ items_after sign tag i (c ∷ []) = refl
 items_after sign tag i (c ∷ d ∷ cells) =
     ap (λ l. cell_items tag i c ++ (character sign tag ∷ l)) (items_after sign tag i (d ∷ cells))
 
-content_after : {S : Type 0} (i : ℕ) (cells : List (OpenCell S))
-    → row_content 0 (map (after i) cells) ≡ row_content i cells
-content_after i [] = refl
-content_after i (c ∷ cells) = ap (λ b. begins_with_content (drop i c.lines) || b) (content_after i cells)
-
-line_after : {S : Type 0} (sign : ℕ) (tag : S) (i : ℕ) (cells now : List (OpenCell S)) (l : RowLine S)
-    → now ≡ map (after i) cells
-    → l ≡ record { items = row_items sign tag 0 now; content = row_content 0 now }
-    → l ≡ record { items = row_items sign tag i cells; content = row_content i cells }
-line_after sign tag i cells now l taken is =
-    is ∙ ap (λ cs. record { items = row_items sign tag 0 cs; content = row_content 0 cs }) taken
-    ∙ ap (λ items. record { items = items; content = row_content 0 (map (after i) cells) })
-    (items_after sign tag i cells)
-    ∙ ap (λ content. record { items = row_items sign tag i cells; content = content }) (content_after i cells)
-
 after_again : {S : Type 0} (i : ℕ) (cells : List (OpenCell S))
     → map (after 1) (map (after i) cells) ≡ map (after (i + 1)) cells
 after_again i [] = refl
@@ -118,29 +103,24 @@ after_none [] = refl
 after_none (c ∷ cells) = ap (λ cs. c ∷ cs) (after_none cells)
 
 pub one_line_more : {S : Type 0} (sign : ℕ) (tag : S) (cells : List (OpenCell S)) (i n : ℕ)
-    → row_lines sign tag cells i n
-    ++ (record { items = row_items sign tag (i + n) cells; content = row_content (i + n) cells }) ∷ []
-    ≡ row_lines sign tag cells i (n + 1)
+    → row_lines sign tag cells i n ++ row_items sign tag (i + n) cells ∷ [] ≡ row_lines sign tag cells i (n + 1)
 one_line_more sign tag cells i zero =
     let here : i + 0 ≡ i = omega arith in
-    ap (λ k. (record { items = row_items sign tag k cells; content = row_content k cells }) ∷ []) here
+    ap (λ k. row_items sign tag k cells ∷ []) here
 one_line_more sign tag cells i (suc n) =
     let next : i + suc n ≡ i + 1 + n = omega arith in
     let more : suc n + 1 ≡ suc (n + 1) = omega arith in
-    ap (λ k. row_lines sign tag cells i (suc n)
-    ++ (record { items = row_items sign tag k cells; content = row_content k cells }) ∷ []) next
-    ∙ ap (λ ls. (record { items = row_items sign tag i cells; content = row_content i cells }) ∷ ls)
-    (one_line_more sign tag cells (i + 1) n)
+    ap (λ k. row_lines sign tag cells i (suc n) ++ row_items sign tag k cells ∷ []) next
+    ∙ ap (λ ls. row_items sign tag i cells ∷ ls) (one_line_more sign tag cells (i + 1) n)
     ∙ sym (ap (row_lines sign tag cells i) more)
 
-pub lines_more : {S : Type 0} (sign : ℕ) (tag : S) (cells now : List (OpenCell S)) (i : ℕ) (lines : List (RowLine S))
-    (l : RowLine S) → lines ≡ row_lines sign tag cells 0 i → now ≡ map (after i) cells
-    → l ≡ record { items = row_items sign tag 0 now; content = row_content 0 now }
-    → lines ++ l ∷ [] ≡ row_lines sign tag cells 0 (i + 1)
+pub lines_more : {S : Type 0} (sign : ℕ) (tag : S) (cells now : List (OpenCell S)) (i : ℕ)
+    (lines : List (List (Item S))) (l : List (Item S)) → lines ≡ row_lines sign tag cells 0 i
+    → now ≡ map (after i) cells → l ≡ row_items sign tag 0 now → lines ++ l ∷ [] ≡ row_lines sign tag cells 0 (i + 1)
 lines_more sign tag cells now i lines l so_far taken is =
     let first : i ≡ 0 + i = omega arith in
     ap (λ ls. ls ++ l ∷ []) so_far
-    ∙ ap (λ x. row_lines sign tag cells 0 i ++ x ∷ []) (line_after sign tag i cells now l taken is)
-    ∙ ap (λ k. row_lines sign tag cells 0 i
-    ++ (record { items = row_items sign tag k cells; content = row_content k cells }) ∷ []) first
+    ∙ ap (λ x. row_lines sign tag cells 0 i ++ x ∷ [])
+    (is ∙ ap (row_items sign tag 0) taken ∙ items_after sign tag i cells)
+    ∙ ap (λ k. row_lines sign tag cells 0 i ++ row_items sign tag k cells ∷ []) first
     ∙ one_line_more sign tag cells 0 i

@@ -3,9 +3,10 @@ use Rattle.std.proofs.Common.{◌≡◌, ℕ, Bool, List, ◌++◌, map, length,
 use Rattle.std.specs.Prelude.{Option, None, Some, fold, is_some}
 use Rattle.std.specs.Option.{option_map}
 use Rattle.std.proofs.lemmas.List.{take_at}
+use Rattle.tagged_lines.specs.Tagged.{Item}
 use Rattle.text_borders.specs.Segments.{with_up, with_down}
 use Rattle.text_borders.specs.Borders.{Border, horizontal, plain, stretched, change_to, with_segments}
-use Rattle.text_borders.specs.Across.{Cell, Hanging, OpenCell, RowLine, seated, opened, row_width, signs, of_cells, joined_to_row, border_below, sign_of, row_height, row_lines, with_holes, hanging_of, row_of, is_given, row_cells, across}
+use Rattle.text_borders.specs.Across.{Cell, Hanging, OpenCell, seated, opened, row_width, signs, of_cells, joined_to_row, border_below, sign_of, row_height, row_lines, with_holes, hanging_of, row_of, is_given, row_cells, across}
 use Rattle.text_cells.specs.OpenCells.{after}
 use Rattle.text_cells.proofs.GoingLemmas.{holes_after, hanging_after}
 
@@ -48,7 +49,7 @@ below_is tag row width ks below width_is signs_are is =
     (js ++ of_cells (λ c. c.asks_below) 0 row)) (plain horizontal 0 tag)) signs_are
 
 pub lines_are : {S : Type 0} (draws : Bool) (tag : S) (row : List (OpenCell S)) (sign height : ℕ)
-    (lines : List (RowLine S)) → sign ≡ sign_of draws → height ≡ row_height row
+    (lines : List (List (Item S))) → sign ≡ sign_of draws → height ≡ row_height row
     → lines ≡ row_lines sign tag row 0 height → lines ≡ row_lines (sign_of draws) tag row 0 (row_height row)
 lines_are draws tag row sign height lines sign_is height_is are =
     are ∙ ap (λ s. row_lines s tag row 0 height) sign_is ∙ ap (row_lines (sign_of draws) tag row 0) height_is
@@ -68,7 +69,7 @@ hanging_are row left height hanging height_is taken are =
     are ∙ ap (hanging_of 0 0) taken ∙ hanging_after height 0 row ∙ ap (λ n. hanging_of n 0 row) height_is
 
 pub row_is : {S : Type 0} (draws collapse : Bool) (tag : S) (above : Option (Border S)) (cells : List (Cell S))
-    (hanging : List (Hanging S)) (row : List (OpenCell S)) (joined : Option (Border S)) (lines : List (RowLine S))
+    (hanging : List (Hanging S)) (row : List (OpenCell S)) (joined : Option (Border S)) (lines : List (List (Item S)))
     (below : Border S) (going : List (Hanging S)) → row ≡ row_cells collapse tag above cells hanging
     → joined ≡ option_map (joined_to_row row) above → lines ≡ row_lines (sign_of draws) tag row 0 (row_height row)
     → below ≡ with_holes tag (row_height row) 0 row (border_below tag row) → going ≡ hanging_of (row_height row) 0 row

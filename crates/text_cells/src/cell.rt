@@ -32,22 +32,13 @@ pub struct HangingCell<T> {
     pub cell: LineSet<T>,
 }
 
-/// A line of a row.
-#[derive(Drop)]
-pub struct RowLine<T> {
-    /// Its text.
-    pub line: TaggedLine<T>,
-    /// Whether a cell has content there.
-    pub content: bool,
-}
-
 /// A row of cells.
 #[derive(Drop)]
 pub struct Row<T> {
     /// The border above, joined to the row.
     pub above: Option<BorderHoriz<T>>,
     /// The lines, from above to below.
-    pub lines: Vec<RowLine<T>>,
+    pub lines: Vec<TaggedLine<T>>,
     /// The border below, in which what goes on makes holes.
     pub below: BorderHoriz<T>,
     /// The cells that go on into the next row.

@@ -22,7 +22,7 @@ pub(crate) fn spaces<T: EqualCopy + Drop>(
 
 impl<T: EqualCopy + Drop> OpenCell<T> {
     ghost use Rattle.std.specs.Prelude.{◌-◌};
-    ghost use Rattle.text_borders.specs.Across.{cell_height, cell_items, line_or, begins_with_content, Cell};
+    ghost use Rattle.text_borders.specs.Across.{cell_height, cell_items, line_or, Cell};
     ghost use Rattle.text_cells.specs.Cells.{cell_of};
     ghost use Rattle.text_cells.specs.OpenCells.{open_cell_of, after, next_cell};
 
@@ -34,16 +34,6 @@ impl<T: EqualCopy + Drop> OpenCell<T> {
             self.lines.len()
         } else {
             self.lines.len() / self.rows
-        }
-    }
-
-    /// Whether the next line has content.
-    pub(crate) fn has_content(&self) -> bool
-        ensures { result ≡ begins_with_content (open_cell_of T.seen self.now).lines }
-    {
-        match self.lines.front() {
-            Some(next) => next.content,
-            None => false,
         }
     }
 

@@ -12,4 +12,4 @@ mod row_lines;
 mod seating;
 
 pub use across::lay_across;
-pub use cell::{HangingCell, LaidLine, LineSet, Row, RowLine};
+pub use cell::{HangingCell, LaidLine, LineSet, Row};

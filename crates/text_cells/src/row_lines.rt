@@ -1,11 +1,9 @@
 //! The lines of a row.
 ghost use Rattle.std.specs.Prelude.{◌≡◌, ◌++◌, map, IfOk, OnOk};
 ghost use Rattle.tagged_lines.specs.Tagged.{line_items};
-ghost use Rattle.text_borders.specs.Across.{sign_of, row_height, row_lines, row_items, row_content};
-ghost use Rattle.text_cells.specs.Cells.{row_line_of};
+ghost use Rattle.text_borders.specs.Across.{sign_of, row_height, row_lines, row_items};
 ghost use Rattle.text_cells.specs.OpenCells.{open_cell_of, after, sign_before};
 
-use crate::cell::RowLine;
 use crate::opening::OpenCell;
 use std::alloc::{AllocError, Global};
 use tagged_lines::{EqualCopy, TaggedLine};
@@ -37,8 +35,8 @@ pub(crate) fn row_lines<T: EqualCopy + Drop>(
     tag: &T,
     cells: &mut [OpenCell<T>],
     height: usize,
-) -> Result<Vec<RowLine<T>>, AllocError>
-    ensures lines { IfOk result (λ lines. map (row_line_of T.seen) lines.items
+) -> Result<Vec<TaggedLine<T>>, AllocError>
+    ensures lines { IfOk result (λ lines. map (line_items T.seen) lines.items
         ≡ row_lines sign (T.seen tag.now) (map (open_cell_of T.seen) cells.old) 0 height) }
     ensures rest { OnOk result (map (open_cell_of T.seen) cells.new
         ≡ map (after height) (map (open_cell_of T.seen) cells.old)) }
@@ -50,43 +48,8 @@ pub(crate) fn row_lines<T: EqualCopy + Drop>(
     Ok(lines)
 }
 
-/// The cells' next lines beside one another.
-fn row_line<T: EqualCopy + Drop>(
-    alloc: Global,
-    sign: char,
-    tag: &T,
-    cells: &mut [OpenCell<T>],
-) -> Result<RowLine<T>, AllocError>
-    ensures line { IfOk result (λ l. row_line_of T.seen l ≡ record {
-      items = row_items sign (T.seen tag.now) 0 (map (open_cell_of T.seen) cells.old);
-      content = row_content 0 (map (open_cell_of T.seen) cells.old);
-    }) }
-    ensures rest { OnOk result (map (open_cell_of T.seen) cells.new
-        ≡ map (after 1) (map (open_cell_of T.seen) cells.old)) }
-{
-    let content = has_content(cells);
-    Ok(RowLine {
-        line: row_text(alloc, sign, tag, cells)?,
-        content,
-    })
-}
-
-/// Whether the next line of a cell has content.
-fn has_content<T: EqualCopy + Drop>(cells: &[OpenCell<T>]) -> bool
-    ensures { result ≡ row_content 0 (map (open_cell_of T.seen) cells.now) }
-{
-    let mut rest = cells;
-    while let Some((cell, others)) = rest.split_first() {
-        if cell.has_content() {
-            return true;
-        }
-        rest = others;
-    }
-    false
-}
-
 /// The cells' next lines, with the sign between them.
-fn row_text<T: EqualCopy + Drop>(
+fn row_line<T: EqualCopy + Drop>(
     alloc: Global,
     sign: char,
     tag: &T,

@@ -1,5 +1,6 @@
 -- Blocks of text: what a block holds, and what each call makes of it.
 use Rattle.std.specs.Prelude.{ℕ, ◌-◌, ◌==◌, nat_lt, Bool, false, not, ◌&&◌, ◌||◌, List, [], ◌∷◌, ◌++◌, Option, None, Some, All, map, fold, replicate, if◌then◌else◌}
+use Rattle.std.specs.List.{list_any}
 use Rattle.std.specs.Option.{option_map, option_and_then}
 use Rattle.tagged_lines.specs.Tagged.{Item, character, line_items, line_columns, IsJoined}
 use Rattle.tagged_lines.specs.Columns.{width_of}
@@ -144,9 +145,9 @@ has_visible [] = false
 has_visible (letter c main further ∷ rest) = is_visible c || has_visible rest
 has_visible (fragment name ∷ rest) = has_visible rest
 
--- no line has ended, and no such character is held
-abbrev pub is_empty : {S : Type 0} → Block S → Bool
-is_empty b = not (is_filled b.lines) && not (has_visible b.source)
+-- a line that has ended has columns, or such a character is held
+abbrev pub has_columns : {S : Type 0} → Block S → Bool
+has_columns b = list_any (λ line. nat_lt 0 (line_columns line)) b.lines || has_visible b.source
 
 -- no text of the lines is empty, and none stands next to one with an equal tag
 abbrev pub HasJoinedLines : {T S : Type 0} → (T → S) → WrappedBlock T → Type 0

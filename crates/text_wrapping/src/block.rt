@@ -7,7 +7,7 @@ ghost use Rattle.text_wrapping.specs.Blocks.{lines_or_empty};
 ghost use Rattle.tagged_lines.specs.Tagged.{line_items, IsJoined};
 
 use crate::padding::pad_lines;
-use crate::showing::{ends_in_columns, has_visible};
+use crate::showing::{ends_in_columns, has_visible, have_columns};
 use normal_text::lay_normal;
 use preserved_text::lay_preserved;
 use std::alloc::{AllocError, Global};
@@ -30,7 +30,7 @@ pub struct WrappedBlock<T> {
 }
 
 impl<T: EqualCopy + Drop> WrappedBlock<T> {
-    ghost use Rattle.text_wrapping.specs.Blocks.{block_of, has_failed, empty_block, added, took_all, in_mode, ended, line_ended, ended_lines, fragments_taken, behind_sources, with_lines, with_source, marked_by, padded, padding_of, is_too_narrow, broken, is_empty, HasJoinedLines};
+    ghost use Rattle.text_wrapping.specs.Blocks.{block_of, has_failed, empty_block, added, took_all, in_mode, ended, line_ended, ended_lines, fragments_taken, behind_sources, with_lines, with_source, marked_by, padded, padding_of, is_too_narrow, broken, has_columns, HasJoinedLines};
     ghost use Rattle.text_wrapping.specs.Lines.{lines_in, waiting_in};
     ghost use Rattle.text_pieces.specs.Sources.{sourced, sources_of, fragments, names};
 
@@ -322,11 +322,11 @@ impl<T: EqualCopy + Drop> WrappedBlock<T> {
         Ok(ends)
     }
 
-    /// Whether no line has ended yet, and no character is held that would take a column of one.
-    pub fn is_empty(&self) -> bool
-        ensures { result ≡ is_empty (block_of T.seen self.now) }
+    /// Whether a line that has ended has columns, or a character is held that takes one.
+    pub fn has_columns(&self) -> bool
+        ensures { result ≡ has_columns (block_of T.seen self.now) }
     {
-        self.lines.is_empty() && !has_visible(&self.pieces)
+        have_columns(&self.lines) || has_visible(&self.pieces)
     }
 
     fn take_waiting(&mut self) -> Result<Vec<String>, BlockError>

@@ -1,7 +1,7 @@
 //! What is seen of texts and lines.
-ghost use Rattle.std.specs.Prelude.{◌≡◌, map, chars};
+ghost use Rattle.std.specs.Prelude.{◌≡◌, nat_lt, map, chars};
 ghost use Rattle.std.specs.List.{list_any};
-ghost use Rattle.tagged_lines.specs.Tagged.{line_items};
+ghost use Rattle.tagged_lines.specs.Tagged.{line_items, line_columns};
 ghost use Rattle.text_pieces.specs.Sources.{sources_of, piece_sources};
 ghost use Rattle.text_wrapping.specs.Blocks.{ends_in_columns, is_visible, has_visible};
 
@@ -54,4 +54,18 @@ fn is_visible(c: char) -> bool
     ensures { result ≡ is_visible c }
 {
     !is_white_space(c) && width_of(c) > 0
+}
+
+/// Whether a line has columns.
+pub(crate) fn have_columns<T: EqualCopy + Drop>(lines: &[TaggedLine<T>]) -> bool
+    ensures { result ≡ list_any (λ line. nat_lt 0 (line_columns line)) (map (line_items T.seen) lines.now) }
+{
+    let mut rest = lines;
+    while let Some((line, others)) = rest.split_first() {
+        if line.width() > 0 {
+            return true;
+        }
+        rest = others;
+    }
+    false
 }

@@ -51,7 +51,7 @@ returns g c =
           MatchOption-at_some ⊤ (IsWithin m) new is (awaited_started laws m tag b kept h);
       add_text = λ m tag mode cs main further b new kept h is.
           MatchOption-at_some ⊤ (IsWithin m) new is (text_added laws m tag mode cs main further b kept h);
-      mark = λ m tag mode name b kept h. marked laws m tag mode name b kept h;
+      mark = λ m tag name b kept h. marked laws m tag name b kept h;
       break_line = λ m tag b new kept h is.
           MatchOption-at_some ⊤ (IsWithin m) new is (line_broken laws m tag b kept h);
       add_horizontal_border = λ m tag width b new kept h narrow is.

@@ -26,7 +26,7 @@ pub returns-clause-add_text : goal.returns-clause-add_text
 returns-clause-add_text g c = λ m tag mode cs main further b h. adds_text m tag mode cs main further b h
 
 pub returns-clause-mark : goal.returns-clause-mark
-returns-clause-mark g c = λ m tag mode name b h. marks m tag mode name b h
+returns-clause-mark g c = λ m tag name b h. marks m tag name b h
 
 pub returns-clause-break_line : goal.returns-clause-break_line
 returns-clause-break_line g c = λ m tag b h. breaks_line m tag b h

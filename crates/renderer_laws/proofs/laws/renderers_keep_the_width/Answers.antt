@@ -16,7 +16,7 @@ returns g c =
       awaited = λ m tag b new kept h is. c.calls_keep_the_width.ensures.start_awaited m tag b new kept h is;
       text_taken = λ m tag mode cs main further b new kept h is.
           c.calls_keep_the_width.ensures.add_text m tag mode cs main further b new kept h is;
-      marked = λ m tag mode name b kept h. c.calls_keep_the_width.ensures.mark m tag mode name b kept h;
+      marked = λ m tag name b kept h. c.calls_keep_the_width.ensures.mark m tag name b kept h;
       line_broken = λ m tag b new kept h is. c.calls_keep_the_width.ensures.break_line m tag b new kept h is;
       border_drawn = λ m tag width b new kept h narrow is.
           c.calls_keep_the_width.ensures.add_horizontal_border m tag width b new kept h narrow is;

@@ -13,7 +13,7 @@ returns g c =
       begins_awaited = λ m tag b h. c.overflow_never_refuses.ensures.start_awaited m tag b h;
       takes_text = λ m tag mode cs main further b h.
           c.overflow_never_refuses.ensures.add_text m tag mode cs main further b h;
-      marks = λ m tag mode name b h. c.overflow_never_refuses.ensures.mark m tag mode name b h;
+      marks = λ m tag name b h. c.overflow_never_refuses.ensures.mark m tag name b h;
       line_breaks = λ m tag b h. c.overflow_never_refuses.ensures.break_line m tag b h;
       draws_border = λ m tag width b h. c.overflow_never_refuses.ensures.add_horizontal_border m tag width b h;
       takes_border = λ m new b h. c.overflow_never_refuses.ensures.add_border m new b h;

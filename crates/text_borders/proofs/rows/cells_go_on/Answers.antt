@@ -11,9 +11,9 @@ pub returns-clause-second : goal.returns-clause-second
 unfolding columns_of width_of char_width
 returns-clause-second g c = λ tag. refl
 
-pub returns-clause-content : goal.returns-clause-content
+pub returns-clause-blank : goal.returns-clause-blank
 unfolding columns_of width_of char_width
-returns-clause-content g c = λ tag. refl
+returns-clause-blank g c = λ tag. refl
 
 pub returns-clause-nothing : goal.returns-clause-nothing
 unfolding columns_of width_of char_width

@@ -14,3 +14,7 @@ returns-clause-last g c = λ tag. refl
 pub returns-clause-between : goal.returns-clause-between
 unfolding columns_of width_of char_width
 returns-clause-between g c = λ tag. refl
+
+pub returns-clause-pushed : goal.returns-clause-pushed
+unfolding columns_of width_of char_width
+returns-clause-pushed g c = λ tag. refl

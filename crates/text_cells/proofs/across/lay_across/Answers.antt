@@ -4,7 +4,8 @@ use Rattle.std.specs.Option.{option_map}
 use Rattle.text_borders.specs.Segments.{with_up, with_down}
 use Rattle.text_borders.specs.Borders.{border_of, horizontal, plain, stretched, change_to, with_segments}
 use Rattle.text_borders.specs.Across.{row_width, signs, of_cells, row_height, row_lines, with_holes, hanging_of as left_of}
-use Rattle.text_cells.specs.Cells.{cell_of, hanging_of, row_line_of}
+use Rattle.tagged_lines.specs.Tagged.{line_items}
+use Rattle.text_cells.specs.Cells.{cell_of, hanging_of}
 use Rattle.text_cells.specs.OpenCells.{open_cell_of, after}
 use Rattle.text_cells.proofs.WholeRow.{given_is, written, cells_are, above_is, below_is, lines_are, holes_are, hanging_are, row_is}
 use Rattle.text_cells.proofs.across.lay_across.Goals as goal
@@ -33,7 +34,7 @@ returns g c =
     omega (arith, c.row_lines.auto.cells, ap length c.deref_mut.ensures.value, c.in_ok-row.row.ok.0) in
     let lent = written c.row_lines.new.cells items c.in_ok-row.row.len long in
     row_is c.args.draws c.args.collapse tag above cells waiting row (option_map (border_of seen) c.in_ok-joined.joined)
-    (map (row_line_of seen) c.in_ok-lines.lines.items) (border_of seen c.going_on.new.below)
+    (map (line_items seen) c.in_ok-lines.lines.items) (border_of seen c.going_on.new.below)
     (map (hanging_of seen) c.in_ok-hanging.hanging.items)
     (cells_are c.args.collapse c.is_some.result tag above cells waiting (map (cell_of seen) c.in_ok-seated.seated.items)
     row (c.is_some.ensures ∙ given_is (border_of seen) c.args.above) c.in_ok-seated.ensures c.in_ok-row.ensures)
@@ -42,7 +43,7 @@ returns g c =
     (stretched width b.segments) (ks ++ of_cells (λ x. x.asks_above) 0 (map (open_cell_of seen) xs))) b) above)
     c.deref-2.ensures.value))
     (lines_are c.args.draws tag row c.sign_of.result c.row_height-height.result
-    (map (row_line_of seen) c.in_ok-lines.lines.items) c.sign_of.ensures height_is
+    (map (line_items seen) c.in_ok-lines.lines.items) c.sign_of.ensures height_is
     (c.in_ok-lines.ensures.lines ∙ ap (λ xs. row_lines c.sign_of.result tag (map (open_cell_of seen) xs) 0
     c.row_height-height.result) c.deref_mut.ensures.value))
     (holes_are tag row left c.row_height-height.result (border_of seen c.in_ok-below.below)

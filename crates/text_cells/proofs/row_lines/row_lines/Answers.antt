@@ -1,6 +1,6 @@
 use Rattle.std.proofs.Common.{map, ap, ◌∙◌}
 use Rattle.std.proofs.lemmas.List.{map_push}
-use Rattle.text_cells.specs.Cells.{row_line_of}
+use Rattle.tagged_lines.specs.Tagged.{line_items}
 use Rattle.text_cells.specs.OpenCells.{open_cell_of}
 use Rattle.text_cells.proofs.RowLemmas.{lines_more, after_more, after_none}
 use Rattle.text_cells.proofs.row_lines.row_lines.Goals as goal
@@ -9,7 +9,7 @@ pub loop-line-init : goal.loop-line-init
 loop-line-init g c =
     let seen = g.T.EqualCopy.seen in
     record {
-      lines = ap (map (row_line_of seen)) c.new-lines.ensures.items;
+      lines = ap (map (line_items seen)) c.new-lines.ensures.items;
       rest = after_none (map (open_cell_of seen) c.args.cells.now);
     }
 
@@ -19,10 +19,10 @@ loop-line-preserved g c =
     let start = map (open_cell_of seen) c.args.cells.now in
     let now = map (open_cell_of seen) c.loop-line.cells in
     record {
-      lines = ap (map (row_line_of seen)) c.in_ok-push.ensures.items
-          ∙ map_push (row_line_of seen) c.loop-line.lines.items c.in_ok-row_line.field-0
+      lines = ap (map (line_items seen)) c.in_ok-push.ensures.items
+          ∙ map_push (line_items seen) c.loop-line.lines.items c.in_ok-row_line.field-0
           ∙ lines_more c.args.sign (seen c.args.tag.now) start now c.loop-line._line
-          (map (row_line_of seen) c.loop-line.lines.items) (row_line_of seen c.in_ok-row_line.field-0)
-          c.loop-line.invariant.lines c.loop-line.invariant.rest c.in_ok-row_line.ensures.line;
+          (map (line_items seen) c.loop-line.lines.items) (line_items seen c.in_ok-row_line.field-0)
+          c.loop-line.invariant.lines c.loop-line.invariant.rest c.in_ok-row_line.ensures.items;
       rest = c.in_ok-row_line.ensures.rest ∙ after_more c.loop-line._line start now c.loop-line.invariant.rest;
     }

@@ -1,6 +1,6 @@
 use Rattle.std.proofs.Common.{◌≡◌, map}
 use Rattle.text_borders.specs.Across.{row_lines}
-use Rattle.text_cells.specs.Cells.{row_line_of}
+use Rattle.tagged_lines.specs.Tagged.{line_items}
 use Rattle.text_cells.specs.OpenCells.{open_cell_of, after}
 use Rattle.text_cells.proofs.row_lines.row_lines.Given as goal
 
@@ -9,6 +9,6 @@ invariant-loop-line g l =
     let seen = g.T.EqualCopy.seen in
     let start = map (open_cell_of seen) l.fn.cells in
     record {
-      lines : map (row_line_of seen) l.lines.items ≡ row_lines l.sign (seen l.tag) start 0 l._line;
+      lines : map (line_items seen) l.lines.items ≡ row_lines l.sign (seen l.tag) start 0 l._line;
       rest : map (open_cell_of seen) l.cells ≡ map (after l._line) start;
     }

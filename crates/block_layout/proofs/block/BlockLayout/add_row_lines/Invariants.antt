@@ -1,6 +1,6 @@
 use Rattle.std.proofs.Common.{◌≡◌, map}
 use Rattle.std.specs.Vec.Iter.{into_iter_items}
-use Rattle.text_cells.specs.Cells.{row_line_of}
+use Rattle.tagged_lines.specs.Tagged.{line_items}
 use Rattle.block_layout.specs.LaidRows.{add_row_lines}
 use Rattle.block_layout.specs.Seen.{laid_of}
 use Rattle.block_layout.proofs.block.BlockLayout.add_row_lines.Given as goal
@@ -8,6 +8,6 @@ use Rattle.block_layout.proofs.block.BlockLayout.add_row_lines.Given as goal
 abbrev pub invariant-loop-line : goal.invariant-loop-line
 invariant-loop-line g l =
     let seen = g.T.EqualCopy.seen in
-    add_row_lines l.measure (seen l.tag) (map (row_line_of seen) (into_iter_items l.line-iterator))
+    add_row_lines l.measure (seen l.tag) (map (line_items seen) (into_iter_items l.line-iterator))
     (laid_of seen l.self)
-    ≡ add_row_lines l.measure (seen l.tag) (map (row_line_of seen) l.fn.lines.items) (laid_of seen l.initial.self)
+    ≡ add_row_lines l.measure (seen l.tag) (map (line_items seen) l.fn.lines.items) (laid_of seen l.initial.self)

@@ -1,0 +1,41 @@
+use Rattle.std.proofs.Common.{◌≡◌, ◌+◌, ◌-◌, ◌<◌, map, length, drop, sym, ap, ◌∙◌, arith}
+use Rattle.std.proofs.lemmas.List.{length-drop, length-map}
+use Rattle.tagged_lines.specs.Tagged.{line_items}
+use Rattle.text_borders.specs.Across.{cell_items}
+use Rattle.text_cells.specs.OpenCells.{open_cell_of, after}
+use Rattle.text_cells.proofs.RowLemmas.{more_text, changed_more, still_there}
+use Rattle.text_cells.proofs.row_lines.row_line.Goals as goal
+
+pub loop-cell-preserved : goal.loop-cell-preserved
+loop-cell-preserved g c =
+    let seen = g.T.EqualCopy.seen in
+    let tag = seen c.args.tag.now in
+    let first = c.args.cells.now in
+    let start = map (open_cell_of seen) first in
+    let i = c.loop-cell.cell-index in
+    let inside : i < length first =
+    omega (arith, c.loop-cell-test.true, c.loop-cell.auto.cells, c.loop-cell.auto.cell-index-end) in
+    let same : length c.loop-cell.cells ≡ length first = c.loop-cell.auto.cells in
+    let left : c.loop-cell.left - 1 ≡ length (drop (i + 1) start) =
+    omega (
+      arith,
+      c.loop-cell.invariant.left,
+      length-drop (i + 1) start,
+      length-map first (open_cell_of seen),
+      inside,
+    ) in
+    record {
+      left = omega (arith, c.loop-cell.invariant.left, inside);
+      items = more_text c.args.sign tag start i (c.loop-cell.left - 1)
+          (open_cell_of seen c.cell-item.result) (line_items seen c.in_ok-next.next)
+          (line_items seen c.loop-cell.line) (line_items seen c.push_line.new.self)
+          (line_items seen c.push_sign.new.line)
+          (still_there (open_cell_of seen) (after 1) first c.loop-cell.cells i c.cell-item.result inside same
+          c.loop-cell.invariant.cells c.cell-item.is) left
+          (c.in_ok-next.ensures.items ∙ ap (λ x. cell_items tag 0 (open_cell_of seen x)) (sym c.cell-item.is))
+          c.in_ok-push_line.ensures.ok
+          c.in_ok-push_sign.ensures ∙ c.loop-cell.invariant.items;
+      cells = changed_more (open_cell_of seen) (after 1) first c.loop-cell.cells i c.cell-item.result
+          c.take_line.new.self inside same c.loop-cell.invariant.cells c.cell-item.is
+          (c.take_line.ensures.rest ∙ ap (λ x. after 1 (open_cell_of seen x)) (sym c.cell-item.is));
+    }
