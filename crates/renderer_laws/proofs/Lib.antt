@@ -1,2 +1,3 @@
 pub mod KeptLemmas
 pub mod RoomLemmas
+pub mod PrefixLemmas

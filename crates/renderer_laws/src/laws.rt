@@ -1,10 +1,10 @@
 //! Laws of renderers: each is the contract of a function that does nothing. A decorator says only which values it holds
 //! and what is seen of its annotations; how it marks text is any `Marking` over these.
-ghost use Rattle.std.specs.Prelude.{◌≡◌, ℕ, ◌≤◌, All, true, false, List, Some, IsSome, IsSomeAnd};
+ghost use Rattle.std.specs.Prelude.{◌≡◌, ℕ, ◌+◌, ◌≤◌, All, true, false, List, Some, IfSome, IsSome, IsSomeAnd};
 ghost use Rattle.tagged_lines.specs.Tagged.{line_columns};
 ghost use Rattle.text_borders.specs.Lines.{BlockLine, line_shown};
 ghost use Rattle.renderer_calls.specs.declared.options.RenderOptions.{RenderOptions};
-ghost use Rattle.renderer_calls.specs.Renderers.{Marking, Sub, new_sub, lines_of_sub};
+ghost use Rattle.renderer_calls.specs.Renderers.{Marking, Sub, new_sub, lines_of_sub, room_behind};
 ghost use Rattle.renderer_calls.specs.Calls.{Call, step};
 ghost use Rattle.renderer_laws.specs.RendererLaws.{IsKeptWithin, StaysWithin, CallFits, after, AllFit, HasRoom, CallHasRoom};
 
@@ -41,3 +41,12 @@ pub fn renderers_with_room_never_refuse<D: TextDecorator>()
 {
     overflow_never_refuses::<Vec<D::Annotation>>();
 }
+
+/// Where no character may overflow, a prefix and the room behind it are the width, of which at least one column is room,
+/// and the width is what was asked for, or more. Where it may, there is always room.
+pub fn a_prefix_and_its_room_are_the_width<D: TextDecorator>()
+    ensures within { (prefix least : ℕ) (s : Sub D.Held D.Annotation.Seen) → s.options.allow_width_overflow ≡ false
+        → IfSome (room_behind prefix least s) (λ n. (prefix + n ≡ s.width) × ((1 ≤ n) × (least ≤ s.width))) }
+    ensures beyond { (prefix least : ℕ) (s : Sub D.Held D.Annotation.Seen) → s.options.allow_width_overflow ≡ true
+        → IsSome (room_behind prefix least s) }
+{}

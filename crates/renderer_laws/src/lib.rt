@@ -3,4 +3,6 @@
 
 mod laws;
 
-pub use laws::{renderers_keep_the_width, renderers_with_room_never_refuse};
+pub use laws::{
+    a_prefix_and_its_room_are_the_width, renderers_keep_the_width, renderers_with_room_never_refuse,
+};

@@ -7,10 +7,23 @@ pub use block_renderer::{
     BorderHoriz, BorderSegHoriz, ImageRenderMode, LineSet, RenderLine, RenderOptions, Renderer,
     SubRenderer,
 };
+pub use footnote_lines::footnotes_keep_the_width;
+pub use layout_laws::{calls_keep_the_width, cells_hang_until_a_row, overflow_never_refuses};
+pub use normal_text::{markers_change_no_line, normal_lines_show_each_character};
+pub use renderer_laws::{
+    a_prefix_and_its_room_are_the_width, renderers_keep_the_width, renderers_with_room_never_refuse,
+};
+pub use tagged_lines::columns_of;
+pub use text_borders::{
+    borders_of_rows_are_sound, cells_keep_their_places, filled_borders_stay_sound,
+    joined_above_where_asked, joined_below_where_asked, merges_keep_the_width,
+    punched_borders_stay_sound, rows_keep_their_width, shown_borders_have_their_width,
+};
+pub use text_cells::LaidLine;
 pub use text_decorators::{
     Colour, Columns, EqualCopy, LineChars, PlainDecorator, RichAnnotation, RichDecorator,
     SteadyPrefixes, TaggedLine, TaggedLineElement, TaggedString, TaggedStrings, TextDecorator,
-    TrivialDecorator, UnicodeColumns,
+    TrivialDecorator, UnicodeColumns, footnotes, superscript_end, superscript_start,
 };
 pub use text_renderer::TextRenderer;
 pub use text_wrapping::{

@@ -24,8 +24,10 @@ pub struct TextRenderer<D: TextDecorator> {
 }
 
 impl<D: TextDecorator + Drop> TextRenderer<D> {
-    ghost use Rattle.block_renderer.specs.Seen.{sub_of};
-    ghost use Rattle.text_block_renderer.specs.Parts.{whole_page, depth_of, with_part, begin_part_link, finish_part_link, add_part_number};
+    ghost use Rattle.block_renderer.specs.Seen.{sub_of, has_failed};
+    ghost use Rattle.renderer_calls.specs.Renderers.{Sub};
+    ghost use Rattle.text_block_renderer.specs.Parts.{Parts, whole_page, depth_of, with_part, with_current};
+    ghost use Rattle.text_block_renderer.specs.Parts.{begin_part_link, finish_part_link, add_part_number};
     ghost use Rattle.text_block_renderer.specs.SeenParts.{parts_of, page_has_failed, current_has_failed, with_current_renderer, PartsCome, PartsFail};
     ghost use Rattle.text_pieces.specs.Sources.{names};
 
@@ -53,6 +55,7 @@ impl<D: TextDecorator + Drop> TextRenderer<D> {
     pub fn current(&self) -> &SubRenderer<D>
         ensures sub { sub_of D.Annotation.seen D.held result.now
             ≡ (parts_of D.Annotation.seen D.held self.now).current }
+        ensures failed { has_failed result.now ≡ current_has_failed self.now }
     {
         &self.current
     }
@@ -61,10 +64,24 @@ impl<D: TextDecorator + Drop> TextRenderer<D> {
     pub fn current_mut(&mut self) -> &mut SubRenderer<D>
         ensures sub { sub_of D.Annotation.seen D.held result.now
             ≡ (parts_of D.Annotation.seen D.held self.old).current }
+        ensures failed { has_failed result.now ≡ current_has_failed self.old }
         ensures* writes_back { sem 𝓛 (follows (the_row D.row D.Annotation.row) (sub_row D.row D.Annotation.row)
             self.entry.ghost_name result.ghost_name (with_current_renderer self.old)) }
     {
         &mut self.current
+    }
+
+    /// Text goes to another renderer from here on; the one to which it went is given.
+    pub fn replace_current(&mut self, sub: SubRenderer<D>) -> SubRenderer<D>
+        ensures outer { sub_of D.Annotation.seen D.held result
+            ≡ (parts_of D.Annotation.seen D.held self.old).current }
+        ensures new { parts_of D.Annotation.seen D.held self.new
+            ≡ with_current (parts_of D.Annotation.seen D.held self.old) (sub_of D.Annotation.seen D.held sub) }
+        ensures given { has_failed result ≡ current_has_failed self.old }
+        ensures taken { current_has_failed self.new ≡ has_failed sub }
+        ensures failed { page_has_failed self.new ≡ page_has_failed self.old }
+    {
+        mem::replace(self.current_mut(), sub)
     }
 
     /// A part begins, to whose renderer text goes from here on. The error is want of memory, or `Failed` behind a
@@ -99,6 +116,19 @@ impl<D: TextDecorator + Drop> TextRenderer<D> {
         requires { 1 < depth_of (parts_of D.Annotation.seen D.held self.old) }
         ensures popped { parts_of D.Annotation.seen D.held self.old
             ≡ with_part (sub_of D.Annotation.seen D.held result) (parts_of D.Annotation.seen D.held self.new) }
+        ensures below { (below : Parts D.Held D.Annotation.Seen) (part : Sub D.Held D.Annotation.Seen)
+            → parts_of D.Annotation.seen D.held self.old ≡ with_part part below
+            → (sub_of D.Annotation.seen D.held result ≡ part)
+            × (parts_of D.Annotation.seen D.held self.new ≡ below) }
+        ensures failed { page_has_failed self.new ≡ page_has_failed self.old }
+    {
+        self.end_part()
+    }
+
+    fn end_part(&mut self) -> SubRenderer<D>
+        requires { 1 < depth_of (parts_of D.Annotation.seen D.held self.old) }
+        ensures popped { parts_of D.Annotation.seen D.held self.old
+            ≡ with_part (sub_of D.Annotation.seen D.held result) (parts_of D.Annotation.seen D.held self.new) }
         ensures failed { page_has_failed self.new ≡ page_has_failed self.old }
     {
         let below = self.below.pop().unwrap();
@@ -122,6 +152,8 @@ impl<D: TextDecorator + Drop> TextRenderer<D> {
         ensures failed { page_has_failed self.old ≡ true → result ≡ Err errors.Failed }
         ensures kinds { page_has_failed self.old ≡ false → current_has_failed self.old ≡ false
             → IfErr result (λ e. (e ≡ errors.TooNarrow) ⊎ (e ≡ errors.Memory)) }
+        ensures current { current_has_failed self.old ≡ true → result ≡ Err errors.Failed }
+        ensures works { OnOk result (current_has_failed self.new ≡ false) }
         ensures done { OnOk result (PartsCome D.Annotation.seen D.held D.text D.gives D.marks D.after D.pops
             (λ m p. begin_part_link m (chars target.now) p) self.old self.new) }
         ensures narrow { result ≡ Err errors.TooNarrow → PartsFail D.Annotation.seen D.held D.text D.gives D.marks
@@ -138,14 +170,17 @@ impl<D: TextDecorator + Drop> TextRenderer<D> {
     fn begin_link(&mut self, target: &str) -> Result<(), BlockError>
         ensures kinds { current_has_failed self.old ≡ false
             → IfErr result (λ e. (e ≡ errors.TooNarrow) ⊎ (e ≡ errors.Memory)) }
+        ensures current { current_has_failed self.old ≡ true → result ≡ Err errors.Failed }
+        ensures works { OnOk result (current_has_failed self.new ≡ false) }
         ensures done { OnOk result (PartsCome D.Annotation.seen D.held D.text D.gives D.marks D.after D.pops
             (λ m p. begin_part_link m (chars target.now) p) self.old self.new) }
         ensures narrow { result ≡ Err errors.TooNarrow → PartsFail D.Annotation.seen D.held D.text D.gives D.marks
             D.after D.pops (λ m p. begin_part_link m (chars target.now) p) self.old }
     {
+        self.current.start_link(target)?;
         let name = String::from_str(*self.links.allocator(), target)?;
         self.links.push(name)?;
-        self.current.start_link(target)
+        Ok(())
     }
 
     /// A link ends; behind it stands its number in brackets, where the targets of links stand behind the page. Refused
@@ -155,6 +190,8 @@ impl<D: TextDecorator + Drop> TextRenderer<D> {
         ensures failed { page_has_failed self.old ≡ true → result ≡ Err errors.Failed }
         ensures kinds { page_has_failed self.old ≡ false → current_has_failed self.old ≡ false
             → IfErr result (λ e. (e ≡ errors.TooNarrow) ⊎ (e ≡ errors.Memory)) }
+        ensures current { current_has_failed self.old ≡ true → result ≡ Err errors.Failed }
+        ensures works { OnOk result (current_has_failed self.new ≡ false) }
         ensures done { OnOk result (PartsCome D.Annotation.seen D.held D.text D.gives D.marks D.after D.pops
             finish_part_link self.old self.new) }
         ensures narrow { result ≡ Err errors.TooNarrow → PartsFail D.Annotation.seen D.held D.text D.gives D.marks
@@ -171,6 +208,8 @@ impl<D: TextDecorator + Drop> TextRenderer<D> {
     fn finish_link(&mut self) -> Result<(), BlockError>
         ensures kinds { current_has_failed self.old ≡ false
             → IfErr result (λ e. (e ≡ errors.TooNarrow) ⊎ (e ≡ errors.Memory)) }
+        ensures current { current_has_failed self.old ≡ true → result ≡ Err errors.Failed }
+        ensures works { OnOk result (current_has_failed self.new ≡ false) }
         ensures done { OnOk result (PartsCome D.Annotation.seen D.held D.text D.gives D.marks D.after D.pops
             finish_part_link self.old self.new) }
         ensures narrow { result ≡ Err errors.TooNarrow → PartsFail D.Annotation.seen D.held D.text D.gives D.marks
@@ -184,6 +223,7 @@ impl<D: TextDecorator + Drop> TextRenderer<D> {
     fn add_number(&mut self) -> Result<(), BlockError>
         ensures kinds { current_has_failed self.old ≡ false
             → IfErr result (λ e. (e ≡ errors.TooNarrow) ⊎ (e ≡ errors.Memory)) }
+        ensures works { current_has_failed self.old ≡ false → OnOk result (current_has_failed self.new ≡ false) }
         ensures done { OnOk result (PartsCome D.Annotation.seen D.held D.text D.gives D.marks D.after D.pops
             add_part_number self.old self.new) }
         ensures narrow { result ≡ Err errors.TooNarrow → PartsFail D.Annotation.seen D.held D.text D.gives D.marks
