@@ -1,2 +1,3 @@
 pub mod CountLemmas
+pub mod JoinedLemmas
 pub mod RowLemmas

@@ -1,10 +1,12 @@
 -- What contracts see of a block of lines.
-use Rattle.std.specs.Prelude.{List, map}
+use Rattle.std.specs.Prelude.{List, All, IfSome, map}
 use Rattle.std.specs.Option.{option_map}
 use Rattle.text_pieces.specs.Sources.{names}
-use Rattle.text_wrapping.specs.Blocks.{block_of}
+use Rattle.text_wrapping.specs.Blocks.{block_of, HasJoinedLines}
 use Rattle.text_borders.specs.Across.{CellLine}
+use Rattle.text_borders.specs.Lines.{IsJoinedText}
 use Rattle.text_cells.specs.Cells.{laid_line_of, hanging_of}
+use Rattle.text_cells.specs.declared.cell.LaidLine.{LaidLine}
 use Rattle.block_layout.specs.Laid.{Running as SeenRunning, Laid}
 use Rattle.block_layout.specs.declared.lines.LaidLines.{LaidLines}
 use Rattle.block_layout.specs.declared.running.Running.{Running}
@@ -28,3 +30,19 @@ laid_of seen block = record {
   markers = names block.markers.items;
   hanging = map (hanging_of seen) block.hanging.items;
 }
+
+-- No text of the lines is empty, and none stands next to one with an equal tag. A border is joined where it is made
+-- text.
+abbrev pub AreLinesJoined : {T S : Type 0} → (T → S) → List (LaidLine T) → Type 0
+AreLinesJoined seen lines = All (λ l. IsJoinedText seen l.line) lines
+
+abbrev pub HoldsJoinedLines : {T S : Type 0} → (T → S) → LaidLines T → Type 0
+HoldsJoinedLines seen lines = AreLinesJoined seen lines.lines.items
+
+abbrev pub RunsJoined : {T S : Type 0} → (T → S) → Running T → Type 0
+RunsJoined seen running = HasJoinedLines seen running.text
+
+-- The same of a block: its lines, and those of its text that are done. What stands in a border or in a cell that goes
+-- on is joined where it is made text.
+abbrev pub HasJoinedTexts : {T S : Type 0} → (T → S) → BlockLayout T → Type 0
+HasJoinedTexts seen block = HoldsJoinedLines seen block.lines × IfSome block.running (RunsJoined seen)

@@ -1,6 +1,6 @@
 //! Blocks of lines.
-ghost use Rattle.std.specs.Prelude.{◌≡◌, ◌⊎◌, Bool, [], None, Some, map, IfOk, IfErr, OnOk};
-ghost use Rattle.tagged_lines.specs.Tagged.{line_items};
+ghost use Rattle.std.specs.Prelude.{◌≡◌, ◌⊎◌, Bool, [], None, Some, map, All, IfOk, IfErr, OnOk};
+ghost use Rattle.tagged_lines.specs.Tagged.{line_items, IsJoined};
 ghost use Rattle.text_pieces.specs.declared.fault.BlockError.TheVariants as errors;
 
 use crate::lines::LaidLines;
@@ -27,18 +27,19 @@ pub struct BlockLayout<T> {
 }
 
 impl<T: EqualCopy + Drop> BlockLayout<T> {
-    ghost use Rattle.block_layout.specs.Seen.{laid_of, running_of};
+    ghost use Rattle.block_layout.specs.Seen.{laid_of, running_of, AreLinesJoined, RunsJoined, HasJoinedTexts};
     ghost use Rattle.block_layout.specs.Laid.{nothing_laid, is_nothing, has_no_text, add_line, add_border, add_text_line};
     ghost use Rattle.block_layout.specs.Laid.{add_text_lines, laid_text, flush_of, flush, with_markers, behind_empty_line};
     ghost use Rattle.block_layout.specs.Laid.{add_empty_line, parted, start_block, start_table, end_block, finished_lines};
     ghost use Rattle.text_borders.specs.Borders.{border_of};
-    ghost use Rattle.text_borders.specs.Lines.{render_line_of};
+    ghost use Rattle.text_borders.specs.Lines.{render_line_of, IsJoinedText};
     ghost use Rattle.text_cells.specs.Cells.{laid_line_of};
     ghost use Rattle.text_pieces.specs.Sources.{names};
 
     /// A block without lines.
     pub fn new(alloc: Global) -> BlockLayout<T>
-        ensures { laid_of T.seen result ≡ nothing_laid }
+        ensures laid { laid_of T.seen result ≡ nothing_laid }
+        ensures joined { HasJoinedTexts T.seen result }
     {
         BlockLayout {
             lines: LaidLines::new(alloc),
@@ -73,8 +74,10 @@ impl<T: EqualCopy + Drop> BlockLayout<T> {
         content: bool,
         line: TaggedLine<T>,
     ) -> Result<(), AllocError>
-        ensures { OnOk result (laid_of T.seen self.new ≡ add_line measure (T.seen tag.now) content
+        ensures laid { OnOk result (laid_of T.seen self.new ≡ add_line measure (T.seen tag.now) content
             (line_items T.seen line) (laid_of T.seen self.old)) }
+        ensures joined { HasJoinedTexts T.seen self.old → IsJoined T.seen line
+            → HasJoinedTexts T.seen self.new }
     {
         let mut line = behind_names(&self.markers, line)?;
         self.markers.clear();
@@ -85,8 +88,9 @@ impl<T: EqualCopy + Drop> BlockLayout<T> {
 
     /// Adds a border.
     pub(crate) fn add_border(&mut self, border: BorderHoriz<T>) -> Result<(), AllocError>
-        ensures { OnOk result (laid_of T.seen self.new
+        ensures laid { OnOk result (laid_of T.seen self.new
             ≡ add_border (border_of T.seen border) (laid_of T.seen self.old)) }
+        ensures joined { HasJoinedTexts T.seen self.old → HasJoinedTexts T.seen self.new }
     {
         let content = !border.has_holes();
         let line = RenderLine::Line(border);
@@ -101,6 +105,7 @@ impl<T: EqualCopy + Drop> BlockLayout<T> {
             ≡ Some (laid_of T.seen self.new)) }
         ensures narrow { result ≡ Err errors.TooNarrow
             → flush measure (T.seen tag.now) (laid_of T.seen self.old) ≡ None }
+        ensures joined { HasJoinedTexts T.seen self.old → HasJoinedTexts T.seen self.new }
     {
         match self.running.take() {
             Some(running) => self.lay_text(measure, tag, running),
@@ -113,6 +118,8 @@ impl<T: EqualCopy + Drop> BlockLayout<T> {
         ensures laid { OnOk result (flush_of measure (T.seen tag.now) (Some (running_of T.seen running))
             (laid_of T.seen self.old) ≡ Some (laid_of T.seen self.new)) }
         ensures narrow { result ≡ Err errors.TooNarrow → laid_text (running_of T.seen running).text ≡ None }
+        ensures joined { HasJoinedTexts T.seen self.old → RunsJoined T.seen running
+            → HasJoinedTexts T.seen self.new }
     {
         let (LaidText { lines, waiting }, fill) = running.laid()?;
         self.add_lines(measure, tag, &fill, lines)?;
@@ -129,8 +136,10 @@ impl<T: EqualCopy + Drop> BlockLayout<T> {
         fill: &T,
         lines: Vec<TaggedLine<T>>,
     ) -> Result<(), AllocError>
-        ensures { OnOk result (laid_of T.seen self.new ≡ add_text_lines measure (T.seen tag.now) (T.seen fill.now)
+        ensures laid { OnOk result (laid_of T.seen self.new ≡ add_text_lines measure (T.seen tag.now) (T.seen fill.now)
             (map (line_items T.seen) lines.items) (laid_of T.seen self.old)) }
+        ensures joined { HasJoinedTexts T.seen self.old → All (IsJoined T.seen) lines.items
+            → HasJoinedTexts T.seen self.new }
     {
         for line in lines {
             self.add_text_line(measure, tag, fill, line)?;
@@ -145,8 +154,10 @@ impl<T: EqualCopy + Drop> BlockLayout<T> {
         fill: &T,
         line: TaggedLine<T>,
     ) -> Result<(), AllocError>
-        ensures { OnOk result (laid_of T.seen self.new ≡ add_text_line measure (T.seen tag.now) (T.seen fill.now)
+        ensures laid { OnOk result (laid_of T.seen self.new ≡ add_text_line measure (T.seen tag.now) (T.seen fill.now)
             (laid_of T.seen self.old) (line_items T.seen line)) }
+        ensures joined { HasJoinedTexts T.seen self.old → IsJoined T.seen line
+            → HasJoinedTexts T.seen self.new }
     {
         let content = has_text(&line);
         let mut line = line;
@@ -155,7 +166,9 @@ impl<T: EqualCopy + Drop> BlockLayout<T> {
     }
 
     fn hold_markers(&mut self, waiting: Vec<String>) -> Result<(), AllocError>
-        ensures { OnOk result (laid_of T.seen self.new ≡ with_markers (names waiting.items) (laid_of T.seen self.old)) }
+        ensures laid { OnOk result (laid_of T.seen self.new
+            ≡ with_markers (names waiting.items) (laid_of T.seen self.old)) }
+        ensures joined { HasJoinedTexts T.seen self.old → HasJoinedTexts T.seen self.new }
     {
         let mut waiting = waiting;
         self.markers.append(&mut waiting)
@@ -168,6 +181,7 @@ impl<T: EqualCopy + Drop> BlockLayout<T> {
             ≡ Some (laid_of T.seen self.new)) }
         ensures narrow { result ≡ Err errors.TooNarrow
             → add_empty_line measure (T.seen tag.now) (laid_of T.seen self.old) ≡ None }
+        ensures joined { HasJoinedTexts T.seen self.old → HasJoinedTexts T.seen self.new }
     {
         self.flush(measure, tag)?;
         self.put_empty_line(measure, tag)?;
@@ -175,8 +189,9 @@ impl<T: EqualCopy + Drop> BlockLayout<T> {
     }
 
     fn put_empty_line(&mut self, measure: Measure, tag: &T) -> Result<(), AllocError>
-        ensures { OnOk result (laid_of T.seen self.new
+        ensures laid { OnOk result (laid_of T.seen self.new
             ≡ behind_empty_line measure (T.seen tag.now) (laid_of T.seen self.old)) }
+        ensures joined { HasJoinedTexts T.seen self.old → HasJoinedTexts T.seen self.new }
     {
         let empty = TaggedLine::new(*self.markers.allocator());
         self.add_line(measure, tag, false, empty)?;
@@ -191,6 +206,7 @@ impl<T: EqualCopy + Drop> BlockLayout<T> {
             ≡ Some (laid_of T.seen self.new)) }
         ensures narrow { result ≡ Err errors.TooNarrow
             → start_block measure (T.seen tag.now) (laid_of T.seen self.old) ≡ None }
+        ensures joined { HasJoinedTexts T.seen self.old → HasJoinedTexts T.seen self.new }
     {
         self.flush(measure, tag)?;
         self.part(measure, tag)?;
@@ -198,7 +214,9 @@ impl<T: EqualCopy + Drop> BlockLayout<T> {
     }
 
     fn part(&mut self, measure: Measure, tag: &T) -> Result<(), AllocError>
-        ensures { OnOk result (laid_of T.seen self.new ≡ parted measure (T.seen tag.now) (laid_of T.seen self.old)) }
+        ensures laid { OnOk result (laid_of T.seen self.new
+            ≡ parted measure (T.seen tag.now) (laid_of T.seen self.old)) }
+        ensures joined { HasJoinedTexts T.seen self.old → HasJoinedTexts T.seen self.new }
     {
         if self.lines.has_content() {
             return self.put_empty_line(measure, tag);
@@ -214,6 +232,7 @@ impl<T: EqualCopy + Drop> BlockLayout<T> {
             ≡ Some (laid_of T.seen self.new)) }
         ensures narrow { result ≡ Err errors.TooNarrow
             → start_table measure (T.seen tag.now) (laid_of T.seen self.old) ≡ None }
+        ensures joined { HasJoinedTexts T.seen self.old → HasJoinedTexts T.seen self.new }
     {
         self.start_block(measure, tag)?;
         self.hanging.clear();
@@ -222,7 +241,8 @@ impl<T: EqualCopy + Drop> BlockLayout<T> {
 
     /// Ends a block: the next text starts another.
     pub fn end_block(&mut self)
-        ensures { laid_of T.seen self.new ≡ end_block (laid_of T.seen self.old) }
+        ensures laid { laid_of T.seen self.new ≡ end_block (laid_of T.seen self.old) }
+        ensures joined { HasJoinedTexts T.seen self.old → HasJoinedTexts T.seen self.new }
     {
         self.awaits = true;
     }
@@ -234,6 +254,7 @@ impl<T: EqualCopy + Drop> BlockLayout<T> {
             ≡ Some (map (render_line_of T.seen) lines.items)) }
         ensures narrow { result ≡ Err errors.TooNarrow
             → finished_lines measure (T.seen tag.now) (laid_of T.seen self) ≡ None }
+        ensures joined { HasJoinedTexts T.seen self → IfOk result (λ lines. All (IsJoinedText T.seen) lines.items) }
     {
         let mut block = self;
         block.flush(measure, tag)?;
@@ -243,7 +264,8 @@ impl<T: EqualCopy + Drop> BlockLayout<T> {
 
     /// The lines that are laid out.
     pub fn into_laid_lines(self) -> Vec<LaidLine<T>>
-        ensures { map (laid_line_of T.seen) result.items ≡ (laid_of T.seen self).lines }
+        ensures lines { map (laid_line_of T.seen) result.items ≡ (laid_of T.seen self).lines }
+        ensures joined { HasJoinedTexts T.seen self → AreLinesJoined T.seen result.items }
     {
         let BlockLayout { lines, .. } = self;
         lines.into_vec()

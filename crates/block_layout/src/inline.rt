@@ -16,7 +16,7 @@ use tagged_lines::EqualCopy;
 use text_pieces::{BlockError, WhiteSpace};
 
 impl<T: EqualCopy + Drop> BlockLayout<T> {
-    ghost use Rattle.block_layout.specs.Seen.{laid_of, running_of};
+    ghost use Rattle.block_layout.specs.Seen.{laid_of, running_of, RunsJoined, HasJoinedTexts};
     ghost use Rattle.block_layout.specs.Laid.{flush, add_text, enter_mode, run_on, runs_otherwise, running_or_new, without_running};
     ghost use Rattle.block_layout.specs.Laid.{is_ignored, start_awaited, mark, break_line, break_of, broken_line};
 
@@ -36,6 +36,7 @@ impl<T: EqualCopy + Drop> BlockLayout<T> {
             (T.seen wrap_tag.now) (laid_of T.seen self.old) ≡ Some (laid_of T.seen self.new)) }
         ensures narrow { result ≡ Err errors.TooNarrow → add_text measure (T.seen tag.now) mode (chars text.now)
             (T.seen main_tag.now) (T.seen wrap_tag.now) (laid_of T.seen self.old) ≡ None }
+        ensures joined { HasJoinedTexts T.seen self.old → HasJoinedTexts T.seen self.new }
     {
         self.enter_mode(measure, tag, mode, text)?;
         self.run_on(measure, tag, mode, text, main_tag, wrap_tag)
@@ -53,6 +54,7 @@ impl<T: EqualCopy + Drop> BlockLayout<T> {
             (laid_of T.seen self.old) ≡ Some (laid_of T.seen self.new)) }
         ensures narrow { result ≡ Err errors.TooNarrow → enter_mode measure (T.seen tag.now) mode (chars text.now)
             (laid_of T.seen self.old) ≡ None }
+        ensures joined { HasJoinedTexts T.seen self.old → HasJoinedTexts T.seen self.new }
     {
         if holds_text(text) && self.runs_otherwise(mode) {
             return self.flush(measure, tag);
@@ -83,6 +85,7 @@ impl<T: EqualCopy + Drop> BlockLayout<T> {
             (T.seen wrap_tag.now) (laid_of T.seen self.old) ≡ Some (laid_of T.seen self.new)) }
         ensures narrow { result ≡ Err errors.TooNarrow → run_on measure (T.seen tag.now) mode (chars text.now)
             (T.seen main_tag.now) (T.seen wrap_tag.now) (laid_of T.seen self.old) ≡ None }
+        ensures joined { HasJoinedTexts T.seen self.old → HasJoinedTexts T.seen self.new }
     {
         let running = self.take_running(measure, tag)?;
         let running = running.with_text(mode, text, main_tag, wrap_tag)?;
@@ -92,8 +95,10 @@ impl<T: EqualCopy + Drop> BlockLayout<T> {
 
     /// Adds an empty text, which needs no tags: where none runs, one begins to. The error is want of memory alone.
     pub fn begin_text(&mut self, measure: Measure, tag: &T) -> Result<(), AllocError>
-        ensures { OnOk result ((mode : SeenMode) (main further : T.Seen) → add_text measure (T.seen tag.now) mode []
-            main further (laid_of T.seen self.old) ≡ Some (laid_of T.seen self.new)) }
+        ensures laid { OnOk result ((mode : SeenMode) (main further : T.Seen)
+            → add_text measure (T.seen tag.now) mode [] main further (laid_of T.seen self.old)
+            ≡ Some (laid_of T.seen self.new)) }
+        ensures joined { HasJoinedTexts T.seen self.old → HasJoinedTexts T.seen self.new }
     {
         let running = self.take_running(measure, tag)?;
         self.running = Some(running);
@@ -105,6 +110,8 @@ impl<T: EqualCopy + Drop> BlockLayout<T> {
         ensures running { IfOk result (λ r. running_of T.seen r
             ≡ running_or_new measure (T.seen tag.now) (laid_of T.seen self.old).running) }
         ensures without { OnOk result (laid_of T.seen self.new ≡ without_running (laid_of T.seen self.old)) }
+        ensures joined { HasJoinedTexts T.seen self.old → IfOk result (RunsJoined T.seen) }
+        ensures kept { HasJoinedTexts T.seen self.old → HasJoinedTexts T.seen self.new }
     {
         match self.running.take() {
             Some(running) => Ok(running),
@@ -127,6 +134,7 @@ impl<T: EqualCopy + Drop> BlockLayout<T> {
             ≡ Some (laid_of T.seen self.new)) }
         ensures narrow { result ≡ Err errors.TooNarrow
             → start_awaited measure (T.seen tag.now) (laid_of T.seen self.old) ≡ None }
+        ensures joined { HasJoinedTexts T.seen self.old → HasJoinedTexts T.seen self.new }
     {
         if self.awaits {
             return self.start_block(measure, tag);
@@ -145,6 +153,7 @@ impl<T: EqualCopy + Drop> BlockLayout<T> {
         ensures kinds { IfErr result (λ e. e ≡ errors.Memory) }
         ensures marked { OnOk result (laid_of T.seen self.new
             ≡ mark measure (T.seen tag.now) (chars name.now) (laid_of T.seen self.old)) }
+        ensures joined { HasJoinedTexts T.seen self.old → HasJoinedTexts T.seen self.new }
     {
         let running = self.take_running(measure, tag)?;
         let running = running.with_marker(name)?;
@@ -159,6 +168,7 @@ impl<T: EqualCopy + Drop> BlockLayout<T> {
             ≡ Some (laid_of T.seen self.new)) }
         ensures narrow { result ≡ Err errors.TooNarrow
             → break_line measure (T.seen tag.now) (laid_of T.seen self.old) ≡ None }
+        ensures joined { HasJoinedTexts T.seen self.old → HasJoinedTexts T.seen self.new }
     {
         match self.running.take() {
             Some(running) => self.break_text(measure, tag, running),
@@ -177,6 +187,8 @@ impl<T: EqualCopy + Drop> BlockLayout<T> {
             (laid_of T.seen self.old) ≡ Some (laid_of T.seen self.new)) }
         ensures narrow { result ≡ Err errors.TooNarrow → break_of measure (T.seen tag.now)
             (Some (running_of T.seen running)) (laid_of T.seen self.old) ≡ None }
+        ensures joined { HasJoinedTexts T.seen self.old → RunsJoined T.seen running
+            → HasJoinedTexts T.seen self.new }
     {
         let (ends, running) = running.broken()?;
         self.running = Some(running);

@@ -19,12 +19,14 @@ ghost use Rattle.block_layout.specs.Counts.{content_count};
 impl<T: EqualCopy + Drop> LaidLines<T> {
     ghost use Rattle.std.specs.Prelude.{◌∷◌, ◌++◌, [], not, map, OnOk, IfSome, IsNone};
     ghost use Rattle.text_pieces.specs.Sources.{is_filled};
-    ghost use Rattle.block_layout.specs.Seen.{lines_of};
+    ghost use Rattle.block_layout.specs.Seen.{lines_of, AreLinesJoined, HoldsJoinedLines};
     ghost use Rattle.block_layout.specs.Laid.{has_content};
+    ghost use Rattle.text_borders.specs.Lines.{IsJoinedText};
     ghost use Rattle.text_cells.specs.Cells.{laid_line_of};
 
     pub(crate) fn new(alloc: Global) -> LaidLines<T>
-        ensures { lines_of T.seen result ≡ [] }
+        ensures lines { lines_of T.seen result ≡ [] }
+        ensures joined { HoldsJoinedLines T.seen result }
     {
         LaidLines {
             lines: Vec::new(alloc),
@@ -45,7 +47,10 @@ impl<T: EqualCopy + Drop> LaidLines<T> {
     }
 
     pub(crate) fn push(&mut self, line: LaidLine<T>) -> Result<(), AllocError>
-        ensures { OnOk result (lines_of T.seen self.new ≡ lines_of T.seen self.old ++ laid_line_of T.seen line ∷ []) }
+        ensures lines { OnOk result (lines_of T.seen self.new
+            ≡ lines_of T.seen self.old ++ laid_line_of T.seen line ∷ []) }
+        ensures joined { HoldsJoinedLines T.seen self.old → IsJoinedText T.seen line.line
+            → HoldsJoinedLines T.seen self.new }
     {
         let filled = sum(self.filled, weight(&line))?;
         self.lines.push(line)?;
@@ -59,6 +64,9 @@ impl<T: EqualCopy + Drop> LaidLines<T> {
             ≡ lines_of T.seen self.new ++ laid_line_of T.seen l ∷ []) }
         ensures none { IsNone result → lines_of T.seen self.old ≡ [] }
         ensures nothing { IsNone result → lines_of T.seen self.new ≡ [] }
+        ensures joined { HoldsJoinedLines T.seen self.old → HoldsJoinedLines T.seen self.new }
+        ensures taken { HoldsJoinedLines T.seen self.old
+            → IfSome result (λ l. IsJoinedText T.seen l.line) }
     {
         let last = self.lines.pop()?;
         self.filled = self.filled.saturating_sub(weight(&last));
@@ -66,7 +74,8 @@ impl<T: EqualCopy + Drop> LaidLines<T> {
     }
 
     pub(crate) fn into_vec(self) -> Vec<LaidLine<T>>
-        ensures { map (laid_line_of T.seen) result.items ≡ lines_of T.seen self }
+        ensures lines { map (laid_line_of T.seen) result.items ≡ lines_of T.seen self }
+        ensures joined { HoldsJoinedLines T.seen self → AreLinesJoined T.seen result.items }
     {
         let LaidLines { lines, .. } = self;
         lines

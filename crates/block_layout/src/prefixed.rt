@@ -1,6 +1,6 @@
 //! Lines of other blocks.
 ghost use Rattle.std.specs.Prelude.{◌≡◌, ◌⊎◌, ◌++◌, ◌||◌, None, Some, chars, map, IfErr, OnOk, IfOk};
-ghost use Rattle.tagged_lines.specs.Tagged.{line_items, tagged};
+ghost use Rattle.tagged_lines.specs.Tagged.{line_items, tagged, IsJoined};
 ghost use Rattle.text_borders.specs.Across.{as_text};
 ghost use Rattle.text_borders.specs.Lines.{render_line_of};
 ghost use Rattle.text_cells.specs.Cells.{laid_line_of};
@@ -18,7 +18,7 @@ use text_cells::LaidLine;
 use text_pieces::BlockError;
 
 impl<T: EqualCopy + Drop> BlockLayout<T> {
-    ghost use Rattle.block_layout.specs.Seen.{laid_of};
+    ghost use Rattle.block_layout.specs.Seen.{laid_of, HasJoinedTexts};
     ghost use Rattle.block_layout.specs.Laid.{flush, add_border, add_horizontal_border, add_block, add_prefixed};
     ghost use Rattle.block_layout.specs.LaidRows.{add_slashes};
     ghost use Rattle.text_borders.specs.Borders.{plain, horizontal};
@@ -35,6 +35,7 @@ impl<T: EqualCopy + Drop> BlockLayout<T> {
             ≡ Some (laid_of T.seen self.new)) }
         ensures narrow { result ≡ Err errors.TooNarrow
             → add_horizontal_border measure (T.seen tag.now) width (laid_of T.seen self.old) ≡ None }
+        ensures joined { HasJoinedTexts T.seen self.old → HasJoinedTexts T.seen self.new }
     {
         self.flush(measure, tag)?;
         self.put_border(tag, width)?;
@@ -43,8 +44,9 @@ impl<T: EqualCopy + Drop> BlockLayout<T> {
 
     /// Adds a border of so many slashes. The error is want of memory alone.
     pub fn add_slashes(&mut self, tag: &T, width: usize) -> Result<(), AllocError>
-        ensures { OnOk result (laid_of T.seen self.new
+        ensures laid { OnOk result (laid_of T.seen self.new
             ≡ add_slashes width (T.seen tag.now) (laid_of T.seen self.old)) }
+        ensures joined { HasJoinedTexts T.seen self.old → HasJoinedTexts T.seen self.new }
     {
         let alloc = *self.markers.allocator();
         let border = BorderHoriz::new_slashes(alloc, width, tag.copy(alloc)?)?;
@@ -53,8 +55,9 @@ impl<T: EqualCopy + Drop> BlockLayout<T> {
 
     /// Adds a border of so many columns where no text runs. The error is want of memory alone.
     pub fn put_border(&mut self, tag: &T, width: usize) -> Result<(), AllocError>
-        ensures { OnOk result (laid_of T.seen self.new
+        ensures laid { OnOk result (laid_of T.seen self.new
             ≡ add_border (plain horizontal width (T.seen tag.now)) (laid_of T.seen self.old)) }
+        ensures joined { HasJoinedTexts T.seen self.old → HasJoinedTexts T.seen self.new }
     {
         let alloc = *self.markers.allocator();
         let border = BorderHoriz::new(alloc, width, tag.copy(alloc)?)?;
@@ -72,13 +75,15 @@ impl<T: EqualCopy + Drop> BlockLayout<T> {
         following: &str,
         lines: Vec<LaidLine<T>>,
     ) -> Result<(), AllocError>
-        ensures { OnOk result (laid_of T.seen self.new ≡ add_block other measure (T.seen tag.now) (chars first.now)
+        ensures laid { OnOk result (laid_of T.seen self.new ≡ add_block other measure (T.seen tag.now) (chars first.now)
             (chars following.now) (map (laid_line_of T.seen) lines.items) (laid_of T.seen self.old)) }
+        ensures joined { HasJoinedTexts T.seen self.old → HasJoinedTexts T.seen self.new }
     {
         let mut lines = lines.into_iter();
-        if let Some(line) = lines.next() {
-            self.add_prefixed(other, measure, tag, first, line)?;
-        }
+        let Some(line) = lines.next() else {
+            return Ok(());
+        };
+        self.add_prefixed(other, measure, tag, first, line)?;
         for line in lines {
             self.add_prefixed(other, measure, tag, following, line)?;
         }
@@ -93,8 +98,9 @@ impl<T: EqualCopy + Drop> BlockLayout<T> {
         prefix: &str,
         line: LaidLine<T>,
     ) -> Result<(), AllocError>
-        ensures { OnOk result (laid_of T.seen self.new ≡ add_prefixed other measure (T.seen tag.now) (chars prefix.now)
-            (laid_of T.seen self.old) (laid_line_of T.seen line)) }
+        ensures laid { OnOk result (laid_of T.seen self.new ≡ add_prefixed other measure (T.seen tag.now)
+            (chars prefix.now) (laid_of T.seen self.old) (laid_line_of T.seen line)) }
+        ensures joined { HasJoinedTexts T.seen self.old → HasJoinedTexts T.seen self.new }
     {
         let content = has_content_behind(prefix, content_as_text(&line.line, line.content));
         let alloc = *self.markers.allocator();
@@ -111,8 +117,9 @@ fn behind_prefix<T: EqualCopy + Drop>(
     tag: &T,
     line: &TaggedLine<T>,
 ) -> Result<TaggedLine<T>, AllocError>
-    ensures { IfOk result (λ prefixed. line_items T.seen prefixed
+    ensures items { IfOk result (λ prefixed. line_items T.seen prefixed
         ≡ tagged (chars prefix.now) (T.seen tag.now) ++ line_items T.seen line.now) }
+    ensures joined { IfOk result (IsJoined T.seen) }
 {
     let mut prefixed = TaggedLine::new(alloc);
     prefixed.push_str(prefix, tag)?;

@@ -1,8 +1,9 @@
 //! Rows of cells in a block.
-ghost use Rattle.std.specs.Prelude.{◌≡◌, ◌⊎◌, None, Some, map, IfErr, IfOk, OnOk};
+ghost use Rattle.std.specs.Prelude.{◌≡◌, ◌⊎◌, None, Some, map, All, IfErr, IfOk, OnOk};
 ghost use Rattle.std.specs.Option.{option_map};
 ghost use Rattle.text_borders.specs.Borders.{border_of};
-ghost use Rattle.tagged_lines.specs.Tagged.{line_items};
+ghost use Rattle.text_borders.specs.Lines.{IsJoinedText};
+ghost use Rattle.tagged_lines.specs.Tagged.{line_items, IsJoined};
 ghost use Rattle.text_cells.specs.Cells.{cell_of, hanging_of, laid_line_of, row_of};
 ghost use Rattle.text_pieces.specs.declared.fault.BlockError.TheVariants as errors;
 
@@ -16,7 +17,7 @@ use text_cells::{HangingCell, LaidLine, LineSet, Row, lay_across};
 use text_pieces::{BlockError, has_text};
 
 impl<T: EqualCopy + Drop> BlockLayout<T> {
-    ghost use Rattle.block_layout.specs.Seen.{laid_of};
+    ghost use Rattle.block_layout.specs.Seen.{laid_of, HasJoinedTexts};
     ghost use Rattle.block_layout.specs.Laid.{add_border, without_hanging};
     ghost use Rattle.block_layout.specs.LaidRows.{border_line, put_back, last_border, without_last_border, with_border, add_row_line, add_row_lines, with_row, row_laid, add_row};
 
@@ -35,6 +36,7 @@ impl<T: EqualCopy + Drop> BlockLayout<T> {
             (laid_of T.seen self.old) ≡ Some (laid_of T.seen self.new)) }
         ensures narrow { result ≡ Err errors.TooNarrow → add_row measure (T.seen tag.now) draws collapse
             (map (cell_of T.seen) cells.items) (laid_of T.seen self.old) ≡ None }
+        ensures joined { HasJoinedTexts T.seen self.old → HasJoinedTexts T.seen self.new }
     {
         self.flush(measure, tag)?;
         self.lay_row(measure, tag, draws, collapse, cells)?;
@@ -49,8 +51,9 @@ impl<T: EqualCopy + Drop> BlockLayout<T> {
         collapse: bool,
         cells: Vec<LineSet<T>>,
     ) -> Result<(), AllocError>
-        ensures { OnOk result (laid_of T.seen self.new ≡ row_laid measure (T.seen tag.now) draws collapse
+        ensures laid { OnOk result (laid_of T.seen self.new ≡ row_laid measure (T.seen tag.now) draws collapse
             (map (cell_of T.seen) cells.items) (laid_of T.seen self.old)) }
+        ensures joined { HasJoinedTexts T.seen self.old → HasJoinedTexts T.seen self.new }
     {
         let alloc = *self.markers.allocator();
         let above = self.take_border()?;
@@ -62,6 +65,7 @@ impl<T: EqualCopy + Drop> BlockLayout<T> {
     fn take_hanging(&mut self) -> Vec<HangingCell<T>>
         ensures hanging { map (hanging_of T.seen) result.items ≡ (laid_of T.seen self.old).hanging }
         ensures without { laid_of T.seen self.new ≡ without_hanging (laid_of T.seen self.old) }
+        ensures joined { HasJoinedTexts T.seen self.old → HasJoinedTexts T.seen self.new }
     {
         let alloc = *self.markers.allocator();
         mem::replace(&mut self.hanging, Vec::new(alloc))
@@ -73,6 +77,7 @@ impl<T: EqualCopy + Drop> BlockLayout<T> {
             ≡ last_border (laid_of T.seen self.old).lines) }
         ensures without { OnOk result (laid_of T.seen self.new
             ≡ without_last_border (last_border (laid_of T.seen self.old).lines) (laid_of T.seen self.old)) }
+        ensures joined { HasJoinedTexts T.seen self.old → HasJoinedTexts T.seen self.new }
     {
         match self.lines.pop() {
             Some(last) => self.border_or_back(last),
@@ -86,6 +91,8 @@ impl<T: EqualCopy + Drop> BlockLayout<T> {
             ≡ border_line (laid_line_of T.seen last).line) }
         ensures lines { OnOk result (laid_of T.seen self.new
             ≡ put_back (laid_line_of T.seen last).line (laid_line_of T.seen last) (laid_of T.seen self.old)) }
+        ensures joined { HasJoinedTexts T.seen self.old → IsJoinedText T.seen last.line
+            → HasJoinedTexts T.seen self.new }
     {
         let LaidLine { line, content } = last;
         match line {
@@ -105,8 +112,10 @@ impl<T: EqualCopy + Drop> BlockLayout<T> {
         draws: bool,
         row: Row<T>,
     ) -> Result<(), AllocError>
-        ensures { OnOk result (laid_of T.seen self.new
+        ensures laid { OnOk result (laid_of T.seen self.new
             ≡ with_row measure (T.seen tag.now) draws (row_of T.seen row) (laid_of T.seen self.old)) }
+        ensures joined { HasJoinedTexts T.seen self.old → All (IsJoined T.seen) row.lines.items
+            → HasJoinedTexts T.seen self.new }
     {
         let Row {
             above,
@@ -124,8 +133,9 @@ impl<T: EqualCopy + Drop> BlockLayout<T> {
     }
 
     fn put_above(&mut self, above: Option<BorderHoriz<T>>) -> Result<(), AllocError>
-        ensures { OnOk result (laid_of T.seen self.new
+        ensures laid { OnOk result (laid_of T.seen self.new
             ≡ with_border (option_map (border_of T.seen) above) (laid_of T.seen self.old)) }
+        ensures joined { HasJoinedTexts T.seen self.old → HasJoinedTexts T.seen self.new }
     {
         match above {
             Some(border) => self.add_border(border),
@@ -139,8 +149,10 @@ impl<T: EqualCopy + Drop> BlockLayout<T> {
         tag: &T,
         lines: Vec<TaggedLine<T>>,
     ) -> Result<(), AllocError>
-        ensures { OnOk result (laid_of T.seen self.new ≡ add_row_lines measure (T.seen tag.now)
+        ensures laid { OnOk result (laid_of T.seen self.new ≡ add_row_lines measure (T.seen tag.now)
             (map (line_items T.seen) lines.items) (laid_of T.seen self.old)) }
+        ensures joined { HasJoinedTexts T.seen self.old → All (IsJoined T.seen) lines.items
+            → HasJoinedTexts T.seen self.new }
     {
         for line in lines {
             let content = has_text(&line);

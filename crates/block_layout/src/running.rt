@@ -23,18 +23,19 @@ ghost use Rattle.block_layout.specs.Laid.{mode_behind};
 ghost use Rattle.text_wrapping.specs.Blocks.{has_failed};
 
 impl<T: EqualCopy + Drop> Running<T> {
-    ghost use Rattle.std.specs.Prelude.{◌⊎◌, None, Some, map, IfOk, IfErr};
+    ghost use Rattle.std.specs.Prelude.{◌⊎◌, None, Some, map, All, IfOk, IfErr};
     ghost use Rattle.std.specs.Option.{option_map};
-    ghost use Rattle.tagged_lines.specs.Tagged.{line_items};
+    ghost use Rattle.tagged_lines.specs.Tagged.{line_items, IsJoined};
     ghost use Rattle.text_pieces.specs.Sources.{names};
     ghost use Rattle.text_pieces.specs.declared.fault.BlockError.TheVariants as errors;
     ghost use Rattle.text_wrapping.specs.Blocks.{added, broken, has_columns};
     ghost use Rattle.block_layout.specs.Laid.{running_or_new, is_other_mode, with_added, with_marker, with_text_of, laid_text};
-    ghost use Rattle.block_layout.specs.Seen.{running_of};
+    ghost use Rattle.block_layout.specs.Seen.{running_of, RunsJoined};
 
     /// An empty text, whose lines are filled with spaces of the tag.
     pub(crate) fn new(alloc: Global, measure: Measure, tag: &T) -> Result<Running<T>, AllocError>
-        ensures { IfOk result (λ r. running_of T.seen r ≡ running_or_new measure (T.seen tag.now) None) }
+        ensures running { IfOk result (λ r. running_of T.seen r ≡ running_or_new measure (T.seen tag.now) None) }
+        ensures joined { IfOk result (RunsJoined T.seen) }
     {
         let Measure {
             wrap_width,
@@ -80,6 +81,7 @@ impl<T: EqualCopy + Drop> Running<T> {
             ≡ Some (running_of T.seen r)) }
         ensures narrow { result ≡ Err errors.TooNarrow → added mode (chars text.now) (T.seen main_tag.now)
             (T.seen wrap_tag.now) (running_of T.seen self).text ≡ None }
+        ensures joined { RunsJoined T.seen self → IfOk result (RunsJoined T.seen) }
     {
         let Running {
             mode: begun,
@@ -99,6 +101,7 @@ impl<T: EqualCopy + Drop> Running<T> {
         ensures kinds { IfErr result (λ e. e ≡ errors.Memory) }
         ensures marked { IfOk result (λ r. running_of T.seen r
             ≡ with_marker (chars name.now) (running_of T.seen self)) }
+        ensures joined { RunsJoined T.seen self → IfOk result (RunsJoined T.seen) }
     {
         let Running {
             mode,
@@ -115,6 +118,7 @@ impl<T: EqualCopy + Drop> Running<T> {
         ensures broken { IfOk result (λ r. option_map (with_text_of (running_of T.seen self))
             (broken (running_of T.seen self).text) ≡ Some (r.0, running_of T.seen r.1)) }
         ensures narrow { result ≡ Err errors.TooNarrow → broken (running_of T.seen self).text ≡ None }
+        ensures joined { RunsJoined T.seen self → IfOk result (λ r. RunsJoined T.seen r.1) }
     {
         let Running {
             mode,
@@ -132,6 +136,7 @@ impl<T: EqualCopy + Drop> Running<T> {
             ≡ Some (names r.0.waiting.items, map (line_items T.seen) r.0.lines.items)) }
         ensures fill { IfOk result (λ r. T.seen r.1 ≡ (running_of T.seen self).fill) }
         ensures narrow { result ≡ Err errors.TooNarrow → laid_text (running_of T.seen self).text ≡ None }
+        ensures joined { RunsJoined T.seen self → IfOk result (λ r. All (IsJoined T.seen) r.0.lines.items) }
     {
         let Running { mut text, fill, .. } = self;
         let waiting = text.take_trailing_fragments()?;

@@ -10,15 +10,15 @@ impl<D: TextDecorator + Drop> Renderer for SubRenderer<D> {
     ghost use Rattle.renderer_calls.specs.Calls.{step, call_of, adds_cells, adds_rows_below};
     ghost use Rattle.renderer_calls.specs.Outcomes.{IsOutcome};
     ghost use Rattle.renderer_calls.specs.Renderers.{new_sub};
-    ghost use Rattle.block_renderer.specs.Seen.{sub_of, has_failed, Comes, Fails};
+    ghost use Rattle.block_renderer.specs.Seen.{sub_of, has_failed, Comes, Fails, IsJoinedSub};
     ghost use Rattle.block_layout.specs.Laid.{is_nothing};
 
     ghost has_failed = { has_failed };
 
-    ghost does = { λ c old new. Comes D.Annotation.seen D.held D.text D.gives D.marks D.after D.pops
+    ghost does = { λ c old new. Comes D.Annotation.seen D.held D.text D.gives D.marks D.after D.pops D.sub
         (λ m s. step m (call_of (sub_of D.Annotation.seen D.held) c) s) old new };
 
-    ghost never = { λ c old. Fails D.Annotation.seen D.held D.text D.gives D.marks D.after D.pops
+    ghost never = { λ c old. Fails D.Annotation.seen D.held D.text D.gives D.marks D.after D.pops D.sub
         (λ m s. step m (call_of (sub_of D.Annotation.seen D.held) c) s) old };
 
     ghost columns = { λ s. (sub_of D.Annotation.seen D.held s).width };
@@ -29,6 +29,8 @@ impl<D: TextDecorator + Drop> Renderer for SubRenderer<D> {
 
     ghost is_part = { λ s width part. sub_of D.Annotation.seen D.held part ≡ new_sub width s.options
         (D.sub (sub_of D.Annotation.seen D.held s).held) (sub_of D.Annotation.seen D.held s).annotations };
+
+    ghost is_joined = { IsJoinedSub D.Annotation.seen };
 
     ghost stays = { λ old new. sub_of D.Annotation.seen D.held new ≡ sub_of D.Annotation.seen D.held old };
 
@@ -306,12 +308,13 @@ impl<D: TextDecorator + Drop> Renderer for SubRenderer<D> {
         cells: Vec<(SubRenderer<D>, usize)>,
         collapse: bool,
     ) -> Result<(), BlockError>
-        ensures { IsOutcome result (has_failed self.old) (has_failed self.new)
-            (Comes D.Annotation.seen D.held D.text D.gives D.marks D.after D.pops
+        ensures outcome { IsOutcome result (has_failed self.old) (has_failed self.new)
+            (Comes D.Annotation.seen D.held D.text D.gives D.marks D.after D.pops D.sub
             (λ m s. step m (call_of (sub_of D.Annotation.seen D.held) (adds_cells cells.items collapse)) s)
             self.old self.new)
-            (Fails D.Annotation.seen D.held D.text D.gives D.marks D.after D.pops
+            (Fails D.Annotation.seen D.held D.text D.gives D.marks D.after D.pops D.sub
             (λ m s. step m (call_of (sub_of D.Annotation.seen D.held) (adds_cells cells.items collapse)) s) self.old) }
+        ensures joined { IsJoinedSub D.Annotation.seen self.old → IsJoinedSub D.Annotation.seen self.new }
     {
         if self.failed {
             return Err(BlockError::Failed);
@@ -322,12 +325,13 @@ impl<D: TextDecorator + Drop> Renderer for SubRenderer<D> {
     }
 
     fn append_vert_row(&mut self, cells: Vec<SubRenderer<D>>) -> Result<(), BlockError>
-        ensures { IsOutcome result (has_failed self.old) (has_failed self.new)
-            (Comes D.Annotation.seen D.held D.text D.gives D.marks D.after D.pops
+        ensures outcome { IsOutcome result (has_failed self.old) (has_failed self.new)
+            (Comes D.Annotation.seen D.held D.text D.gives D.marks D.after D.pops D.sub
             (λ m s. step m (call_of (sub_of D.Annotation.seen D.held) (adds_rows_below cells.items)) s)
             self.old self.new)
-            (Fails D.Annotation.seen D.held D.text D.gives D.marks D.after D.pops
+            (Fails D.Annotation.seen D.held D.text D.gives D.marks D.after D.pops D.sub
             (λ m s. step m (call_of (sub_of D.Annotation.seen D.held) (adds_rows_below cells.items)) s) self.old) }
+        ensures joined { IsJoinedSub D.Annotation.seen self.old → IsJoinedSub D.Annotation.seen self.new }
     {
         if self.failed {
             return Err(BlockError::Failed);

@@ -14,15 +14,16 @@ use text_pieces::BlockError;
 
 impl<D: TextDecorator + Drop> SubRenderer<D> {
     ghost use Rattle.renderer_calls.specs.Renderers.{on_laid, preformatted_added, tagged_added, text_added, add_inline};
-    ghost use Rattle.block_renderer.specs.Seen.{sub_of, Comes, Fails};
+    ghost use Rattle.block_renderer.specs.Seen.{sub_of, Comes, Fails, IsJoinedSub};
 
     /// Adds text, unless it is ignored behind a block.
     pub(crate) fn add_inline(&mut self, text: &str) -> Result<(), BlockError>
         ensures kinds { IfErr result (λ e. (e ≡ errors.TooNarrow) ⊎ (e ≡ errors.Memory)) }
-        ensures done { OnOk result (Comes D.Annotation.seen D.held D.text D.gives D.marks D.after D.pops
+        ensures done { OnOk result (Comes D.Annotation.seen D.held D.text D.gives D.marks D.after D.pops D.sub
             (λ m s. add_inline m (chars text.now) s) self.old self.new) }
         ensures narrow { result ≡ Err errors.TooNarrow → Fails D.Annotation.seen D.held D.text D.gives D.marks D.after
-            D.pops (λ m s. add_inline m (chars text.now) s) self.old }
+            D.pops D.sub (λ m s. add_inline m (chars text.now) s) self.old }
+        ensures joined { IsJoinedSub D.Annotation.seen self.old → IsJoinedSub D.Annotation.seen self.new }
     {
         if self.laid.is_ignored(self.mode(), text) {
             return Ok(());
@@ -35,10 +36,11 @@ impl<D: TextDecorator + Drop> SubRenderer<D> {
     /// Adds text, struck where strikeouts are drawn.
     fn add_struck(&mut self, text: &str) -> Result<(), BlockError>
         ensures kinds { IfErr result (λ e. (e ≡ errors.TooNarrow) ⊎ (e ≡ errors.Memory)) }
-        ensures done { OnOk result (Comes D.Annotation.seen D.held D.text D.gives D.marks D.after D.pops
+        ensures done { OnOk result (Comes D.Annotation.seen D.held D.text D.gives D.marks D.after D.pops D.sub
             (λ m s. on_laid s (text_added m (chars text.now) s s.laid)) self.old self.new) }
         ensures narrow { result ≡ Err errors.TooNarrow → Fails D.Annotation.seen D.held D.text D.gives D.marks D.after
-            D.pops (λ m s. on_laid s (text_added m (chars text.now) s s.laid)) self.old }
+            D.pops D.sub (λ m s. on_laid s (text_added m (chars text.now) s s.laid)) self.old }
+        ensures joined { IsJoinedSub D.Annotation.seen self.old → IsJoinedSub D.Annotation.seen self.new }
     {
         if !self.options.use_unicode_strikeout || self.strikeouts == 0 {
             return self.add_tagged(text);
@@ -50,10 +52,11 @@ impl<D: TextDecorator + Drop> SubRenderer<D> {
     /// Adds text under the annotations that stand, in a preformatted part with one more.
     fn add_tagged(&mut self, text: &str) -> Result<(), BlockError>
         ensures kinds { IfErr result (λ e. (e ≡ errors.TooNarrow) ⊎ (e ≡ errors.Memory)) }
-        ensures done { OnOk result (Comes D.Annotation.seen D.held D.text D.gives D.marks D.after D.pops
+        ensures done { OnOk result (Comes D.Annotation.seen D.held D.text D.gives D.marks D.after D.pops D.sub
             (λ m s. on_laid s (tagged_added m (chars text.now) s s.laid)) self.old self.new) }
         ensures narrow { result ≡ Err errors.TooNarrow → Fails D.Annotation.seen D.held D.text D.gives D.marks D.after
-            D.pops (λ m s. on_laid s (tagged_added m (chars text.now) s s.laid)) self.old }
+            D.pops D.sub (λ m s. on_laid s (tagged_added m (chars text.now) s s.laid)) self.old }
+        ensures joined { IsJoinedSub D.Annotation.seen self.old → IsJoinedSub D.Annotation.seen self.new }
     {
         if self.preformats > 0 {
             return self.add_preformatted(text);
@@ -66,10 +69,11 @@ impl<D: TextDecorator + Drop> SubRenderer<D> {
 
     fn add_preformatted(&mut self, text: &str) -> Result<(), BlockError>
         ensures kinds { IfErr result (λ e. (e ≡ errors.TooNarrow) ⊎ (e ≡ errors.Memory)) }
-        ensures done { OnOk result (Comes D.Annotation.seen D.held D.text D.gives D.marks D.after D.pops
+        ensures done { OnOk result (Comes D.Annotation.seen D.held D.text D.gives D.marks D.after D.pops D.sub
             (λ m s. on_laid s (preformatted_added m (chars text.now) s s.laid)) self.old self.new) }
         ensures narrow { result ≡ Err errors.TooNarrow → Fails D.Annotation.seen D.held D.text D.gives D.marks D.after
-            D.pops (λ m s. on_laid s (preformatted_added m (chars text.now) s s.laid)) self.old }
+            D.pops D.sub (λ m s. on_laid s (preformatted_added m (chars text.now) s s.laid)) self.old }
+        ensures joined { IsJoinedSub D.Annotation.seen self.old → IsJoinedSub D.Annotation.seen self.new }
     {
         let measure = self.measure();
         if text.is_empty() {

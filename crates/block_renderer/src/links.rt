@@ -16,17 +16,18 @@ impl<D: TextDecorator + Drop> SubRenderer<D> {
     ghost use Rattle.block_renderer.specs.Footnotes.{add_footnotes, with_footnote, footnote_width};
     ghost use Rattle.renderer_calls.specs.Outcomes.{IsOutcome};
     ghost use Rattle.renderer_calls.specs.Renderers.{with_held};
-    ghost use Rattle.block_renderer.specs.Seen.{sub_of, has_failed};
+    ghost use Rattle.block_renderer.specs.Seen.{sub_of, has_failed, IsJoinedSub};
 
     /// Makes the text that runs lines, and adds what lines behind the page give: each annotation stands alone, and
     /// lines are cut at the block's width where links are wrapped. Refused as `TooNarrow` where a character of the text
     /// that runs is wider than its lines and may not stand alone, as `Memory`, or as `Failed` behind a refusal.
     pub fn fmt_links(&mut self, lines: Vec<TaggedLine<D::Annotation>>) -> Result<(), BlockError>
-        ensures { IsOutcome result (has_failed self.old) (has_failed self.new)
+        ensures outcome { IsOutcome result (has_failed self.old) (has_failed self.new)
             (add_footnotes (map (line_items D.Annotation.seen) lines.items) (sub_of D.Annotation.seen D.held self.old)
             ≡ Some (sub_of D.Annotation.seen D.held self.new))
             (add_footnotes (map (line_items D.Annotation.seen) lines.items) (sub_of D.Annotation.seen D.held self.old)
             ≡ None) }
+        ensures joined { IsJoinedSub D.Annotation.seen self.old → IsJoinedSub D.Annotation.seen self.new }
     {
         if self.failed {
             return Err(BlockError::Failed);
@@ -42,6 +43,7 @@ impl<D: TextDecorator + Drop> SubRenderer<D> {
             (sub_of D.Annotation.seen D.held self.old) ≡ Some (sub_of D.Annotation.seen D.held self.new)) }
         ensures narrow { result ≡ Err errors.TooNarrow → add_footnotes (map (line_items D.Annotation.seen) lines.items)
             (sub_of D.Annotation.seen D.held self.old) ≡ None }
+        ensures joined { IsJoinedSub D.Annotation.seen self.old → IsJoinedSub D.Annotation.seen self.new }
     {
         self.flush()?;
         self.put_footnotes(lines)?;
@@ -49,8 +51,9 @@ impl<D: TextDecorator + Drop> SubRenderer<D> {
     }
 
     fn put_footnotes(&mut self, lines: Vec<TaggedLine<D::Annotation>>) -> Result<(), AllocError>
-        ensures { OnOk result (sub_of D.Annotation.seen D.held self.new ≡ fold with_footnote
+        ensures done { OnOk result (sub_of D.Annotation.seen D.held self.new ≡ fold with_footnote
             (sub_of D.Annotation.seen D.held self.old) (map (line_items D.Annotation.seen) lines.items)) }
+        ensures joined { IsJoinedSub D.Annotation.seen self.old → IsJoinedSub D.Annotation.seen self.new }
     {
         for line in lines {
             self.put_footnote(line)?;
@@ -59,8 +62,9 @@ impl<D: TextDecorator + Drop> SubRenderer<D> {
     }
 
     fn put_footnote(&mut self, line: TaggedLine<D::Annotation>) -> Result<(), AllocError>
-        ensures { OnOk result (sub_of D.Annotation.seen D.held self.new ≡ with_footnote
+        ensures done { OnOk result (sub_of D.Annotation.seen D.held self.new ≡ with_footnote
             (sub_of D.Annotation.seen D.held self.old) (line_items D.Annotation.seen line)) }
+        ensures joined { IsJoinedSub D.Annotation.seen self.old → IsJoinedSub D.Annotation.seen self.new }
     {
         let measure = self.measure();
         let lines = footnote_lines(self.alloc(), self.footnote_width(), &line)?;
@@ -94,6 +98,7 @@ impl<D: TextDecorator + Drop> SubRenderer<D> {
         ensures refused { is_err result ≡ has_failed self.new }
         ensures failed { has_failed self.old ≡ true → result ≡ Err errors.Failed }
         ensures kinds { has_failed self.old ≡ false → IfErr result (λ e. e ≡ errors.Memory) }
+        ensures joined { IsJoinedSub D.Annotation.seen self.old → IsJoinedSub D.Annotation.seen self.new }
     {
         if self.failed {
             return Err(BlockError::Failed);

@@ -16,15 +16,16 @@ impl<D: TextDecorator + Drop> SubRenderer<D> {
     ghost use Rattle.renderer_calls.specs.Renderers.{add_inline, pushed, popped, begin, finish, begin_link, finish_link};
     ghost use Rattle.renderer_calls.specs.Renderers.{begin_strikeout, finish_strikeout, add_image, begin_colour};
     ghost use Rattle.renderer_calls.specs.Renderers.{finish_colour, struck_more, struck_less, add_titled};
-    ghost use Rattle.block_renderer.specs.Seen.{sub_of, has_failed, Comes, Fails};
+    ghost use Rattle.block_renderer.specs.Seen.{sub_of, has_failed, Comes, Fails, IsJoinedSub};
 
     /// The annotation stands, and then the text is added.
     fn begin(&mut self, text: &str, annotation: D::Annotation) -> Result<(), BlockError>
         ensures kinds { IfErr result (λ e. (e ≡ errors.TooNarrow) ⊎ (e ≡ errors.Memory)) }
-        ensures done { OnOk result (Comes D.Annotation.seen D.held D.text D.gives D.marks D.after D.pops
+        ensures done { OnOk result (Comes D.Annotation.seen D.held D.text D.gives D.marks D.after D.pops D.sub
             (λ m s. add_inline m (chars text.now) (pushed (D.Annotation.seen annotation) s)) self.old self.new) }
         ensures narrow { result ≡ Err errors.TooNarrow → Fails D.Annotation.seen D.held D.text D.gives D.marks D.after
-            D.pops (λ m s. add_inline m (chars text.now) (pushed (D.Annotation.seen annotation) s)) self.old }
+            D.pops D.sub (λ m s. add_inline m (chars text.now) (pushed (D.Annotation.seen annotation) s)) self.old }
+        ensures joined { IsJoinedSub D.Annotation.seen self.old → IsJoinedSub D.Annotation.seen self.new }
     {
         self.annotations.push(annotation)?;
         self.add_inline(text)
@@ -33,10 +34,11 @@ impl<D: TextDecorator + Drop> SubRenderer<D> {
     /// The text is added, and then the last annotation ends.
     fn finish(&mut self, text: &str) -> Result<(), BlockError>
         ensures kinds { IfErr result (λ e. (e ≡ errors.TooNarrow) ⊎ (e ≡ errors.Memory)) }
-        ensures done { OnOk result (Comes D.Annotation.seen D.held D.text D.gives D.marks D.after D.pops
+        ensures done { OnOk result (Comes D.Annotation.seen D.held D.text D.gives D.marks D.after D.pops D.sub
             (λ m s. option_map popped (add_inline m (chars text.now) s)) self.old self.new) }
         ensures narrow { result ≡ Err errors.TooNarrow → Fails D.Annotation.seen D.held D.text D.gives D.marks D.after
-            D.pops (λ m s. option_map popped (add_inline m (chars text.now) s)) self.old }
+            D.pops D.sub (λ m s. option_map popped (add_inline m (chars text.now) s)) self.old }
+        ensures joined { IsJoinedSub D.Annotation.seen self.old → IsJoinedSub D.Annotation.seen self.new }
     {
         self.add_inline(text)?;
         self.pop_annotation();
@@ -46,6 +48,7 @@ impl<D: TextDecorator + Drop> SubRenderer<D> {
     pub(crate) fn pop_annotation(&mut self)
         ensures popped { sub_of D.Annotation.seen D.held self.new ≡ popped (sub_of D.Annotation.seen D.held self.old) }
         ensures failed { has_failed self.new ≡ has_failed self.old }
+        ensures joined { IsJoinedSub D.Annotation.seen self.old → IsJoinedSub D.Annotation.seen self.new }
     {
         drop_last(&mut self.annotations);
     }
@@ -53,10 +56,11 @@ impl<D: TextDecorator + Drop> SubRenderer<D> {
     /// Begins emphasis.
     pub(crate) fn begin_emphasis(&mut self) -> Result<(), BlockError>
         ensures kinds { IfErr result (λ e. (e ≡ errors.TooNarrow) ⊎ (e ≡ errors.Memory)) }
-        ensures done { OnOk result (Comes D.Annotation.seen D.held D.text D.gives D.marks D.after D.pops
+        ensures done { OnOk result (Comes D.Annotation.seen D.held D.text D.gives D.marks D.after D.pops D.sub
             (λ m s. begin m emphasis_start s) self.old self.new) }
         ensures narrow { result ≡ Err errors.TooNarrow → Fails D.Annotation.seen D.held D.text D.gives D.marks D.after
-            D.pops (λ m s. begin m emphasis_start s) self.old }
+            D.pops D.sub (λ m s. begin m emphasis_start s) self.old }
+        ensures joined { IsJoinedSub D.Annotation.seen self.old → IsJoinedSub D.Annotation.seen self.new }
     {
         let alloc = self.alloc();
         let (text, annotation) = self.decorator.decorate_em_start(alloc)?;
@@ -66,10 +70,11 @@ impl<D: TextDecorator + Drop> SubRenderer<D> {
     /// Ends emphasis.
     pub(crate) fn finish_emphasis(&mut self) -> Result<(), BlockError>
         ensures kinds { IfErr result (λ e. (e ≡ errors.TooNarrow) ⊎ (e ≡ errors.Memory)) }
-        ensures done { OnOk result (Comes D.Annotation.seen D.held D.text D.gives D.marks D.after D.pops
+        ensures done { OnOk result (Comes D.Annotation.seen D.held D.text D.gives D.marks D.after D.pops D.sub
             (λ m s. finish m emphasis_end s) self.old self.new) }
         ensures narrow { result ≡ Err errors.TooNarrow → Fails D.Annotation.seen D.held D.text D.gives D.marks D.after
-            D.pops (λ m s. finish m emphasis_end s) self.old }
+            D.pops D.sub (λ m s. finish m emphasis_end s) self.old }
+        ensures joined { IsJoinedSub D.Annotation.seen self.old → IsJoinedSub D.Annotation.seen self.new }
     {
         let alloc = self.alloc();
         let text = self.decorator.decorate_em_end(alloc)?;
@@ -79,10 +84,11 @@ impl<D: TextDecorator + Drop> SubRenderer<D> {
     /// Begins strong text.
     pub(crate) fn begin_strong(&mut self) -> Result<(), BlockError>
         ensures kinds { IfErr result (λ e. (e ≡ errors.TooNarrow) ⊎ (e ≡ errors.Memory)) }
-        ensures done { OnOk result (Comes D.Annotation.seen D.held D.text D.gives D.marks D.after D.pops
+        ensures done { OnOk result (Comes D.Annotation.seen D.held D.text D.gives D.marks D.after D.pops D.sub
             (λ m s. begin m strong_start s) self.old self.new) }
         ensures narrow { result ≡ Err errors.TooNarrow → Fails D.Annotation.seen D.held D.text D.gives D.marks D.after
-            D.pops (λ m s. begin m strong_start s) self.old }
+            D.pops D.sub (λ m s. begin m strong_start s) self.old }
+        ensures joined { IsJoinedSub D.Annotation.seen self.old → IsJoinedSub D.Annotation.seen self.new }
     {
         let alloc = self.alloc();
         let (text, annotation) = self.decorator.decorate_strong_start(alloc)?;
@@ -92,10 +98,11 @@ impl<D: TextDecorator + Drop> SubRenderer<D> {
     /// Ends strong text.
     pub(crate) fn finish_strong(&mut self) -> Result<(), BlockError>
         ensures kinds { IfErr result (λ e. (e ≡ errors.TooNarrow) ⊎ (e ≡ errors.Memory)) }
-        ensures done { OnOk result (Comes D.Annotation.seen D.held D.text D.gives D.marks D.after D.pops
+        ensures done { OnOk result (Comes D.Annotation.seen D.held D.text D.gives D.marks D.after D.pops D.sub
             (λ m s. finish m strong_end s) self.old self.new) }
         ensures narrow { result ≡ Err errors.TooNarrow → Fails D.Annotation.seen D.held D.text D.gives D.marks D.after
-            D.pops (λ m s. finish m strong_end s) self.old }
+            D.pops D.sub (λ m s. finish m strong_end s) self.old }
+        ensures joined { IsJoinedSub D.Annotation.seen self.old → IsJoinedSub D.Annotation.seen self.new }
     {
         let alloc = self.alloc();
         let text = self.decorator.decorate_strong_end(alloc)?;
@@ -105,10 +112,11 @@ impl<D: TextDecorator + Drop> SubRenderer<D> {
     /// Begins code.
     pub(crate) fn begin_code(&mut self) -> Result<(), BlockError>
         ensures kinds { IfErr result (λ e. (e ≡ errors.TooNarrow) ⊎ (e ≡ errors.Memory)) }
-        ensures done { OnOk result (Comes D.Annotation.seen D.held D.text D.gives D.marks D.after D.pops
+        ensures done { OnOk result (Comes D.Annotation.seen D.held D.text D.gives D.marks D.after D.pops D.sub
             (λ m s. begin m code_start s) self.old self.new) }
         ensures narrow { result ≡ Err errors.TooNarrow → Fails D.Annotation.seen D.held D.text D.gives D.marks D.after
-            D.pops (λ m s. begin m code_start s) self.old }
+            D.pops D.sub (λ m s. begin m code_start s) self.old }
+        ensures joined { IsJoinedSub D.Annotation.seen self.old → IsJoinedSub D.Annotation.seen self.new }
     {
         let alloc = self.alloc();
         let (text, annotation) = self.decorator.decorate_code_start(alloc)?;
@@ -118,10 +126,11 @@ impl<D: TextDecorator + Drop> SubRenderer<D> {
     /// Ends code.
     pub(crate) fn finish_code(&mut self) -> Result<(), BlockError>
         ensures kinds { IfErr result (λ e. (e ≡ errors.TooNarrow) ⊎ (e ≡ errors.Memory)) }
-        ensures done { OnOk result (Comes D.Annotation.seen D.held D.text D.gives D.marks D.after D.pops
+        ensures done { OnOk result (Comes D.Annotation.seen D.held D.text D.gives D.marks D.after D.pops D.sub
             (λ m s. finish m code_end s) self.old self.new) }
         ensures narrow { result ≡ Err errors.TooNarrow → Fails D.Annotation.seen D.held D.text D.gives D.marks D.after
-            D.pops (λ m s. finish m code_end s) self.old }
+            D.pops D.sub (λ m s. finish m code_end s) self.old }
+        ensures joined { IsJoinedSub D.Annotation.seen self.old → IsJoinedSub D.Annotation.seen self.new }
     {
         let alloc = self.alloc();
         let text = self.decorator.decorate_code_end(alloc)?;
@@ -131,10 +140,11 @@ impl<D: TextDecorator + Drop> SubRenderer<D> {
     /// Begins a superscript.
     pub(crate) fn begin_superscript(&mut self) -> Result<(), BlockError>
         ensures kinds { IfErr result (λ e. (e ≡ errors.TooNarrow) ⊎ (e ≡ errors.Memory)) }
-        ensures done { OnOk result (Comes D.Annotation.seen D.held D.text D.gives D.marks D.after D.pops
+        ensures done { OnOk result (Comes D.Annotation.seen D.held D.text D.gives D.marks D.after D.pops D.sub
             (λ m s. begin m superscript_start s) self.old self.new) }
         ensures narrow { result ≡ Err errors.TooNarrow → Fails D.Annotation.seen D.held D.text D.gives D.marks D.after
-            D.pops (λ m s. begin m superscript_start s) self.old }
+            D.pops D.sub (λ m s. begin m superscript_start s) self.old }
+        ensures joined { IsJoinedSub D.Annotation.seen self.old → IsJoinedSub D.Annotation.seen self.new }
     {
         let alloc = self.alloc();
         let (text, annotation) = self.decorator.decorate_superscript_start(alloc)?;
@@ -144,10 +154,11 @@ impl<D: TextDecorator + Drop> SubRenderer<D> {
     /// Ends a superscript.
     pub(crate) fn finish_superscript(&mut self) -> Result<(), BlockError>
         ensures kinds { IfErr result (λ e. (e ≡ errors.TooNarrow) ⊎ (e ≡ errors.Memory)) }
-        ensures done { OnOk result (Comes D.Annotation.seen D.held D.text D.gives D.marks D.after D.pops
+        ensures done { OnOk result (Comes D.Annotation.seen D.held D.text D.gives D.marks D.after D.pops D.sub
             (λ m s. finish m superscript_end s) self.old self.new) }
         ensures narrow { result ≡ Err errors.TooNarrow → Fails D.Annotation.seen D.held D.text D.gives D.marks D.after
-            D.pops (λ m s. finish m superscript_end s) self.old }
+            D.pops D.sub (λ m s. finish m superscript_end s) self.old }
+        ensures joined { IsJoinedSub D.Annotation.seen self.old → IsJoinedSub D.Annotation.seen self.new }
     {
         let alloc = self.alloc();
         let text = self.decorator.decorate_superscript_end(alloc)?;
@@ -157,10 +168,11 @@ impl<D: TextDecorator + Drop> SubRenderer<D> {
     /// Begins a link.
     pub(crate) fn begin_link(&mut self, target: &str) -> Result<(), BlockError>
         ensures kinds { IfErr result (λ e. (e ≡ errors.TooNarrow) ⊎ (e ≡ errors.Memory)) }
-        ensures done { OnOk result (Comes D.Annotation.seen D.held D.text D.gives D.marks D.after D.pops
+        ensures done { OnOk result (Comes D.Annotation.seen D.held D.text D.gives D.marks D.after D.pops D.sub
             (λ m s. begin_link m (link_start (chars target.now)) s) self.old self.new) }
         ensures narrow { result ≡ Err errors.TooNarrow → Fails D.Annotation.seen D.held D.text D.gives D.marks D.after
-            D.pops (λ m s. begin_link m (link_start (chars target.now)) s) self.old }
+            D.pops D.sub (λ m s. begin_link m (link_start (chars target.now)) s) self.old }
+        ensures joined { IsJoinedSub D.Annotation.seen self.old → IsJoinedSub D.Annotation.seen self.new }
     {
         let alloc = self.alloc();
         let (text, annotation) = self.decorator.decorate_link_start(alloc, target)?;
@@ -170,10 +182,11 @@ impl<D: TextDecorator + Drop> SubRenderer<D> {
     /// Ends a link.
     pub(crate) fn finish_link(&mut self) -> Result<(), BlockError>
         ensures kinds { IfErr result (λ e. (e ≡ errors.TooNarrow) ⊎ (e ≡ errors.Memory)) }
-        ensures done { OnOk result (Comes D.Annotation.seen D.held D.text D.gives D.marks D.after D.pops
+        ensures done { OnOk result (Comes D.Annotation.seen D.held D.text D.gives D.marks D.after D.pops D.sub
             (λ m s. finish_link m link_end s) self.old self.new) }
         ensures narrow { result ≡ Err errors.TooNarrow → Fails D.Annotation.seen D.held D.text D.gives D.marks D.after
-            D.pops (λ m s. finish_link m link_end s) self.old }
+            D.pops D.sub (λ m s. finish_link m link_end s) self.old }
+        ensures joined { IsJoinedSub D.Annotation.seen self.old → IsJoinedSub D.Annotation.seen self.new }
     {
         let alloc = self.alloc();
         let text = self.decorator.decorate_link_end(alloc)?;
@@ -183,10 +196,11 @@ impl<D: TextDecorator + Drop> SubRenderer<D> {
     /// Begins struck text.
     pub(crate) fn begin_strikeout(&mut self) -> Result<(), BlockError>
         ensures kinds { IfErr result (λ e. (e ≡ errors.TooNarrow) ⊎ (e ≡ errors.Memory)) }
-        ensures done { OnOk result (Comes D.Annotation.seen D.held D.text D.gives D.marks D.after D.pops
+        ensures done { OnOk result (Comes D.Annotation.seen D.held D.text D.gives D.marks D.after D.pops D.sub
             (λ m s. begin_strikeout m s) self.old self.new) }
         ensures narrow { result ≡ Err errors.TooNarrow → Fails D.Annotation.seen D.held D.text D.gives D.marks D.after
-            D.pops (λ m s. begin_strikeout m s) self.old }
+            D.pops D.sub (λ m s. begin_strikeout m s) self.old }
+        ensures joined { IsJoinedSub D.Annotation.seen self.old → IsJoinedSub D.Annotation.seen self.new }
     {
         let alloc = self.alloc();
         let (text, annotation) = self.decorator.decorate_strikeout_start(alloc)?;
@@ -198,10 +212,11 @@ impl<D: TextDecorator + Drop> SubRenderer<D> {
     /// Ends struck text.
     pub(crate) fn finish_strikeout(&mut self) -> Result<(), BlockError>
         ensures kinds { IfErr result (λ e. (e ≡ errors.TooNarrow) ⊎ (e ≡ errors.Memory)) }
-        ensures done { OnOk result (Comes D.Annotation.seen D.held D.text D.gives D.marks D.after D.pops
+        ensures done { OnOk result (Comes D.Annotation.seen D.held D.text D.gives D.marks D.after D.pops D.sub
             (λ m s. finish_strikeout m s) self.old self.new) }
         ensures narrow { result ≡ Err errors.TooNarrow → Fails D.Annotation.seen D.held D.text D.gives D.marks D.after
-            D.pops (λ m s. finish_strikeout m s) self.old }
+            D.pops D.sub (λ m s. finish_strikeout m s) self.old }
+        ensures joined { IsJoinedSub D.Annotation.seen self.old → IsJoinedSub D.Annotation.seen self.new }
     {
         self.strikeouts = self.strikeouts.saturating_sub(1);
         let alloc = self.alloc();
@@ -212,10 +227,11 @@ impl<D: TextDecorator + Drop> SubRenderer<D> {
     /// Adds an image.
     pub(crate) fn put_image(&mut self, src: &str, title: &str) -> Result<(), BlockError>
         ensures kinds { IfErr result (λ e. (e ≡ errors.TooNarrow) ⊎ (e ≡ errors.Memory)) }
-        ensures done { OnOk result (Comes D.Annotation.seen D.held D.text D.gives D.marks D.after D.pops
+        ensures done { OnOk result (Comes D.Annotation.seen D.held D.text D.gives D.marks D.after D.pops D.sub
             (λ m s. add_image m (chars src.now) (chars title.now) s) self.old self.new) }
         ensures narrow { result ≡ Err errors.TooNarrow → Fails D.Annotation.seen D.held D.text D.gives D.marks D.after
-            D.pops (λ m s. add_image m (chars src.now) (chars title.now) s) self.old }
+            D.pops D.sub (λ m s. add_image m (chars src.now) (chars title.now) s) self.old }
+        ensures joined { IsJoinedSub D.Annotation.seen self.old → IsJoinedSub D.Annotation.seen self.new }
     {
         match shown_title(self.options.img_mode, src, title) {
             Some(title) => self.put_titled(src, title),
@@ -226,10 +242,11 @@ impl<D: TextDecorator + Drop> SubRenderer<D> {
     /// Adds an image with a title.
     pub(crate) fn put_titled(&mut self, src: &str, title: &str) -> Result<(), BlockError>
         ensures kinds { IfErr result (λ e. (e ≡ errors.TooNarrow) ⊎ (e ≡ errors.Memory)) }
-        ensures done { OnOk result (Comes D.Annotation.seen D.held D.text D.gives D.marks D.after D.pops
+        ensures done { OnOk result (Comes D.Annotation.seen D.held D.text D.gives D.marks D.after D.pops D.sub
             (λ m s. add_titled m (chars src.now) (Some (chars title.now)) s) self.old self.new) }
         ensures narrow { result ≡ Err errors.TooNarrow → Fails D.Annotation.seen D.held D.text D.gives D.marks D.after
-            D.pops (λ m s. add_titled m (chars src.now) (Some (chars title.now)) s) self.old }
+            D.pops D.sub (λ m s. add_titled m (chars src.now) (Some (chars title.now)) s) self.old }
+        ensures joined { IsJoinedSub D.Annotation.seen self.old → IsJoinedSub D.Annotation.seen self.new }
     {
         let alloc = self.alloc();
         let (text, annotation) = self.decorator.decorate_image(alloc, src, title)?;
@@ -241,10 +258,11 @@ impl<D: TextDecorator + Drop> SubRenderer<D> {
     /// Begins a text's colour.
     pub(crate) fn begin_colour(&mut self, colour: Colour) -> Result<(), BlockError>
         ensures kinds { IfErr result (λ e. (e ≡ errors.TooNarrow) ⊎ (e ≡ errors.Memory)) }
-        ensures done { OnOk result (Comes D.Annotation.seen D.held D.text D.gives D.marks D.after D.pops
+        ensures done { OnOk result (Comes D.Annotation.seen D.held D.text D.gives D.marks D.after D.pops D.sub
             (λ m s. Some (begin_colour m (colour_start colour) s)) self.old self.new) }
         ensures narrow { result ≡ Err errors.TooNarrow → Fails D.Annotation.seen D.held D.text D.gives D.marks D.after
-            D.pops (λ m s. Some (begin_colour m (colour_start colour) s)) self.old }
+            D.pops D.sub (λ m s. Some (begin_colour m (colour_start colour) s)) self.old }
+        ensures joined { IsJoinedSub D.Annotation.seen self.old → IsJoinedSub D.Annotation.seen self.new }
     {
         let alloc = self.alloc();
         if let Some(annotation) = self.decorator.push_colour(alloc, colour)? {
@@ -256,10 +274,11 @@ impl<D: TextDecorator + Drop> SubRenderer<D> {
     /// Begins a background's colour.
     pub(crate) fn begin_bgcolour(&mut self, colour: Colour) -> Result<(), BlockError>
         ensures kinds { IfErr result (λ e. (e ≡ errors.TooNarrow) ⊎ (e ≡ errors.Memory)) }
-        ensures done { OnOk result (Comes D.Annotation.seen D.held D.text D.gives D.marks D.after D.pops
+        ensures done { OnOk result (Comes D.Annotation.seen D.held D.text D.gives D.marks D.after D.pops D.sub
             (λ m s. Some (begin_colour m (background_start colour) s)) self.old self.new) }
         ensures narrow { result ≡ Err errors.TooNarrow → Fails D.Annotation.seen D.held D.text D.gives D.marks D.after
-            D.pops (λ m s. Some (begin_colour m (background_start colour) s)) self.old }
+            D.pops D.sub (λ m s. Some (begin_colour m (background_start colour) s)) self.old }
+        ensures joined { IsJoinedSub D.Annotation.seen self.old → IsJoinedSub D.Annotation.seen self.new }
     {
         let alloc = self.alloc();
         if let Some(annotation) = self.decorator.push_bgcolour(alloc, colour)? {

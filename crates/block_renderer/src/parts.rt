@@ -15,7 +15,7 @@ use text_pieces::BlockError;
 impl<D: TextDecorator + Drop> SubRenderer<D> {
     ghost use Rattle.renderer_calls.specs.Renderers.{add_sub, append_sub, add_cells, flush_sub, cell_of_sub};
     ghost use Rattle.renderer_calls.specs.Renderers.{slashed, ruled, add_below, add_first, add_rows_below};
-    ghost use Rattle.block_renderer.specs.Seen.{sub_of};
+    ghost use Rattle.block_renderer.specs.Seen.{sub_of, IsJoinedSub};
 
     /// Adds the lines of another renderer behind prefixes.
     pub(crate) fn add_sub(
@@ -30,6 +30,7 @@ impl<D: TextDecorator + Drop> SubRenderer<D> {
             ≡ Some (sub_of D.Annotation.seen D.held self.new)) }
         ensures narrow { result ≡ Err errors.TooNarrow → add_sub (sub_of D.Annotation.seen D.held other)
             (chars first.now) (chars following.now) (sub_of D.Annotation.seen D.held self.old) ≡ None }
+        ensures joined { IsJoinedSub D.Annotation.seen self.old → IsJoinedSub D.Annotation.seen self.new }
     {
         self.flush()?;
         self.append_sub(other, first, following)
@@ -47,6 +48,7 @@ impl<D: TextDecorator + Drop> SubRenderer<D> {
             ≡ Some (sub_of D.Annotation.seen D.held self.new)) }
         ensures narrow { result ≡ Err errors.TooNarrow → append_sub (sub_of D.Annotation.seen D.held other)
             (chars first.now) (chars following.now) (sub_of D.Annotation.seen D.held self.old) ≡ None }
+        ensures joined { IsJoinedSub D.Annotation.seen self.old → IsJoinedSub D.Annotation.seen self.new }
     {
         let mut other = other;
         other.flush()?;
@@ -70,6 +72,7 @@ impl<D: TextDecorator + Drop> SubRenderer<D> {
         ensures narrow { result ≡ Err errors.TooNarrow
             → add_cells (map (λ c. (sub_of D.Annotation.seen D.held c.0, c.1)) cells.items) collapse
             (sub_of D.Annotation.seen D.held self.old) ≡ None }
+        ensures joined { IsJoinedSub D.Annotation.seen self.old → IsJoinedSub D.Annotation.seen self.new }
     {
         let cells = cells_of_subs(self.alloc(), cells)?;
         let measure = self.measure();
@@ -102,6 +105,7 @@ impl<D: TextDecorator + Drop> SubRenderer<D> {
         ensures narrow { result ≡ Err errors.TooNarrow
             → add_rows_below (map (sub_of D.Annotation.seen D.held) cells.items)
             (sub_of D.Annotation.seen D.held self.old) ≡ None }
+        ensures joined { IsJoinedSub D.Annotation.seen self.old → IsJoinedSub D.Annotation.seen self.new }
     {
         self.flush()?;
         self.add_all_below(cells)?;
@@ -116,6 +120,7 @@ impl<D: TextDecorator + Drop> SubRenderer<D> {
         ensures narrow { result ≡ Err errors.TooNarrow
             → add_first (map (sub_of D.Annotation.seen D.held) cells.items)
             (sub_of D.Annotation.seen D.held self.old) ≡ None }
+        ensures joined { IsJoinedSub D.Annotation.seen self.old → IsJoinedSub D.Annotation.seen self.new }
     {
         let mut cells = cells.into_iter();
         let Some(first) = cells.next() else {
@@ -134,6 +139,7 @@ impl<D: TextDecorator + Drop> SubRenderer<D> {
             (slashed (sub_of D.Annotation.seen D.held self.old)) ≡ Some (sub_of D.Annotation.seen D.held self.new)) }
         ensures narrow { result ≡ Err errors.TooNarrow → append_sub (sub_of D.Annotation.seen D.held cell) [] []
             (slashed (sub_of D.Annotation.seen D.held self.old)) ≡ None }
+        ensures joined { IsJoinedSub D.Annotation.seen self.old → IsJoinedSub D.Annotation.seen self.new }
     {
         self.add_slashes()?;
         self.append_sub(cell, "", "")
@@ -141,8 +147,9 @@ impl<D: TextDecorator + Drop> SubRenderer<D> {
 
     /// A border of slashes between two cells, where borders are drawn.
     fn add_slashes(&mut self) -> Result<(), AllocError>
-        ensures { OnOk result (sub_of D.Annotation.seen D.held self.new
+        ensures done { OnOk result (sub_of D.Annotation.seen D.held self.new
             ≡ slashed (sub_of D.Annotation.seen D.held self.old)) }
+        ensures joined { IsJoinedSub D.Annotation.seen self.old → IsJoinedSub D.Annotation.seen self.new }
     {
         if self.options.draw_borders {
             return self.laid.add_slashes(&self.annotations, self.width);
@@ -152,8 +159,9 @@ impl<D: TextDecorator + Drop> SubRenderer<D> {
 
     /// A border below the cells, where borders are drawn.
     fn rule(&mut self) -> Result<(), AllocError>
-        ensures { OnOk result (sub_of D.Annotation.seen D.held self.new
+        ensures done { OnOk result (sub_of D.Annotation.seen D.held self.new
             ≡ ruled (sub_of D.Annotation.seen D.held self.old)) }
+        ensures joined { IsJoinedSub D.Annotation.seen self.old → IsJoinedSub D.Annotation.seen self.new }
     {
         if self.options.draw_borders {
             return self.laid.put_border(&self.annotations, self.width);

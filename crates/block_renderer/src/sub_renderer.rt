@@ -31,12 +31,13 @@ impl<D: TextDecorator + Drop> SubRenderer<D> {
     ghost use Rattle.renderer_calls.specs.Renderers.{with_empty_line, with_block_started, with_table_started};
     ghost use Rattle.renderer_calls.specs.Renderers.{with_line_broken, with_border_of, with_fragment};
     ghost use Rattle.renderer_calls.specs.Renderers.{with_preformat, with_mode};
-    ghost use Rattle.block_renderer.specs.Seen.{sub_of, has_failed};
+    ghost use Rattle.block_renderer.specs.Seen.{sub_of, has_failed, IsJoinedSub};
 
     /// An empty renderer of a block of so many columns.
     pub fn new(alloc: Global, width: usize, options: RenderOptions, decorator: D) -> SubRenderer<D>
         ensures sub { sub_of D.Annotation.seen D.held result ≡ new_sub width options (D.held decorator) [] }
         ensures works { has_failed result ≡ false }
+        ensures joined { IsJoinedSub D.Annotation.seen result }
     {
         SubRenderer {
             options,
@@ -84,6 +85,7 @@ impl<D: TextDecorator + Drop> SubRenderer<D> {
             ≡ Some (sub_of D.Annotation.seen D.held self.new)) }
         ensures narrow { result ≡ Err errors.TooNarrow
             → flush_sub (sub_of D.Annotation.seen D.held self.old) ≡ None }
+        ensures joined { IsJoinedSub D.Annotation.seen self.old → IsJoinedSub D.Annotation.seen self.new }
     {
         let measure = self.measure();
         self.laid.flush(measure, &self.annotations)
@@ -96,6 +98,7 @@ impl<D: TextDecorator + Drop> SubRenderer<D> {
             ≡ Some (sub_of D.Annotation.seen D.held self.new)) }
         ensures narrow { result ≡ Err errors.TooNarrow
             → with_empty_line (sub_of D.Annotation.seen D.held self.old) ≡ None }
+        ensures joined { IsJoinedSub D.Annotation.seen self.old → IsJoinedSub D.Annotation.seen self.new }
     {
         let measure = self.measure();
         self.laid.add_empty_line(measure, &self.annotations)
@@ -108,6 +111,7 @@ impl<D: TextDecorator + Drop> SubRenderer<D> {
             ≡ Some (sub_of D.Annotation.seen D.held self.new)) }
         ensures narrow { result ≡ Err errors.TooNarrow
             → with_block_started (sub_of D.Annotation.seen D.held self.old) ≡ None }
+        ensures joined { IsJoinedSub D.Annotation.seen self.old → IsJoinedSub D.Annotation.seen self.new }
     {
         let measure = self.measure();
         self.laid.start_block(measure, &self.annotations)
@@ -120,6 +124,7 @@ impl<D: TextDecorator + Drop> SubRenderer<D> {
             ≡ Some (sub_of D.Annotation.seen D.held self.new)) }
         ensures narrow { result ≡ Err errors.TooNarrow
             → with_table_started (sub_of D.Annotation.seen D.held self.old) ≡ None }
+        ensures joined { IsJoinedSub D.Annotation.seen self.old → IsJoinedSub D.Annotation.seen self.new }
     {
         let measure = self.measure();
         self.laid.start_table(measure, &self.annotations)
@@ -132,6 +137,7 @@ impl<D: TextDecorator + Drop> SubRenderer<D> {
             ≡ Some (sub_of D.Annotation.seen D.held self.new)) }
         ensures narrow { result ≡ Err errors.TooNarrow
             → with_line_broken (sub_of D.Annotation.seen D.held self.old) ≡ None }
+        ensures joined { IsJoinedSub D.Annotation.seen self.old → IsJoinedSub D.Annotation.seen self.new }
     {
         let measure = self.measure();
         self.laid.break_line(measure, &self.annotations)
@@ -144,6 +150,7 @@ impl<D: TextDecorator + Drop> SubRenderer<D> {
             ≡ Some (sub_of D.Annotation.seen D.held self.new)) }
         ensures narrow { result ≡ Err errors.TooNarrow
             → with_border_of width (sub_of D.Annotation.seen D.held self.old) ≡ None }
+        ensures joined { IsJoinedSub D.Annotation.seen self.old → IsJoinedSub D.Annotation.seen self.new }
     {
         let measure = self.measure();
         self.laid
@@ -157,6 +164,7 @@ impl<D: TextDecorator + Drop> SubRenderer<D> {
             ≡ Some (sub_of D.Annotation.seen D.held self.new)) }
         ensures narrow { result ≡ Err errors.TooNarrow
             → with_fragment (chars name.now) (sub_of D.Annotation.seen D.held self.old) ≡ None }
+        ensures joined { IsJoinedSub D.Annotation.seen self.old → IsJoinedSub D.Annotation.seen self.new }
     {
         let measure = self.measure();
         self.laid
@@ -170,6 +178,7 @@ impl<D: TextDecorator + Drop> SubRenderer<D> {
             ≡ Some (sub_of D.Annotation.seen D.held self.new)) }
         ensures narrow { result ≡ Err errors.TooNarrow
             → with_preformat (sub_of D.Annotation.seen D.held self.old) ≡ None }
+        ensures joined { IsJoinedSub D.Annotation.seen self.old → IsJoinedSub D.Annotation.seen self.new }
     {
         self.preformats = self.preformats.saturating_add(1);
         Ok(())
@@ -182,6 +191,7 @@ impl<D: TextDecorator + Drop> SubRenderer<D> {
             ≡ Some (sub_of D.Annotation.seen D.held self.new)) }
         ensures narrow { result ≡ Err errors.TooNarrow
             → with_mode mode (sub_of D.Annotation.seen D.held self.old) ≡ None }
+        ensures joined { IsJoinedSub D.Annotation.seen self.old → IsJoinedSub D.Annotation.seen self.new }
     {
         self.modes.push(mode)?;
         Ok(())
@@ -192,6 +202,7 @@ impl<D: TextDecorator + Drop> SubRenderer<D> {
         ensures part { IfOk result (λ part. sub_of D.Annotation.seen D.held part ≡ new_sub width self.now.options
             (D.sub (D.held self.now.decorator)) (sub_of D.Annotation.seen D.held self.now).annotations) }
         ensures works { IfOk result (λ part. has_failed part ≡ false) }
+        ensures joined { IfOk result (IsJoinedSub D.Annotation.seen) }
     {
         let alloc = self.alloc();
         let decorator = self.decorator.make_subblock_decorator(alloc)?;
@@ -207,6 +218,7 @@ impl<D: TextDecorator + Drop> SubRenderer<D> {
         ensures kinds { IfErr result (λ e. e ≡ errors.Memory) }
         ensures same { IfOk result (λ a. answer ≡ Ok a) }
         ensures stays { sub_of D.Annotation.seen D.held self.new ≡ sub_of D.Annotation.seen D.held self.old }
+        ensures joined { IsJoinedSub D.Annotation.seen self.old → IsJoinedSub D.Annotation.seen self.new }
     {
         self.failed = answer.is_err();
         Ok(answer?)
@@ -214,14 +226,14 @@ impl<D: TextDecorator + Drop> SubRenderer<D> {
 }
 
 impl<D: TextDecorator + Drop> SubRenderer<D> {
-    ghost use Rattle.std.specs.Prelude.{map};
-    ghost use Rattle.text_borders.specs.Lines.{render_line_of};
+    ghost use Rattle.std.specs.Prelude.{map, All};
+    ghost use Rattle.text_borders.specs.Lines.{render_line_of, IsJoinedText};
     ghost use Rattle.renderer_calls.specs.Renderers.{lines_of_sub, room_behind};
-    ghost use Rattle.block_renderer.specs.Seen.{sub_of, tags_seen, has_failed};
+    ghost use Rattle.block_renderer.specs.Seen.{sub_of, tags_seen, has_failed, IsJoinedSub};
 
     /// The lines of the block, those of the text that runs too, filled where lines are. Refused as `TooNarrow` where a
     /// character of the text that runs is wider than its lines and may not stand alone, as `Memory`, or as `Failed`
-    /// behind a refusal.
+    /// behind a refusal. The lines are joined where the renderer's texts are.
     pub fn into_lines(self) -> Result<Vec<RenderLine<Vec<D::Annotation>>>, BlockError>
         ensures failed { has_failed self ≡ true → result ≡ Err errors.Failed }
         ensures kinds { has_failed self ≡ false
@@ -230,6 +242,8 @@ impl<D: TextDecorator + Drop> SubRenderer<D> {
             ≡ Some (map (render_line_of (tags_seen D.Annotation.seen)) lines.items)) }
         ensures narrow { result ≡ Err errors.TooNarrow
             → lines_of_sub (sub_of D.Annotation.seen D.held self) ≡ None }
+        ensures joined { IsJoinedSub D.Annotation.seen self
+            → IfOk result (λ lines. All (IsJoinedText (tags_seen D.Annotation.seen)) lines.items) }
     {
         if self.failed {
             return Err(BlockError::Failed);

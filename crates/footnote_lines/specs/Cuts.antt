@@ -1,8 +1,8 @@
 -- Lines that are cut at a width, where there is one.
-use Rattle.std.specs.Prelude.{ℕ, ◌+◌, ◌==◌, nat_le, Bool, true, false, not, ◌||◌, List, [], ◌∷◌, ◌++◌, Option, None, Some, map, Vec, if◌then◌else◌}
+use Rattle.std.specs.Prelude.{ℕ, ◌+◌, ◌==◌, nat_le, Bool, true, false, not, ◌||◌, List, [], ◌∷◌, ◌++◌, Option, None, Some, map, Vec, All, if◌then◌else◌}
 use Rattle.std.specs.Global.{Global}
 use Rattle.tagged_lines.specs.Columns.{width_of}
-use Rattle.tagged_lines.specs.Tagged.{Item, character, marker, line_items, line_columns}
+use Rattle.tagged_lines.specs.Tagged.{Item, character, marker, line_items, line_columns, IsJoined}
 use Rattle.text_pieces.specs.Items.{has_text}
 use Rattle.footnote_lines.specs.Footnotes.{Cut, placed, noted, footnote_lines}
 use Rattle.footnote_lines.specs.declared.cutting.CutLines.{CutLines}
@@ -13,6 +13,10 @@ tags_seen seen tags = map seen tags.items
 
 abbrev pub cut_of : {T S : Type 0} → (T → S) → CutLines T → Cut S
 cut_of seen cut = record { done = map (line_items seen) cut.done.items; line = line_items seen cut.line }
+
+-- no text of its lines is empty, and none stands next to one with an equal tag
+abbrev pub HasJoinedTexts : {T S : Type 0} → (T → S) → CutLines T → Type 0
+HasJoinedTexts seen cut = All (IsJoined seen) cut.done.items × IsJoined seen cut.line
 
 -- the lines that a line behind the page gives, cut where there is a width
 abbrev pub lines_within : {A : Type 0} → Option ℕ → List (Item A) → List (List (Item (List A)))

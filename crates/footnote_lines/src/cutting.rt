@@ -1,6 +1,6 @@
 //! Lines that are cut.
-ghost use Rattle.std.specs.Prelude.{◌≡◌, ◌+◌, nat_le, ◌∷◌, ◌++◌, fold, map, chars, OnOk, IfOk};
-ghost use Rattle.tagged_lines.specs.Tagged.{line_items, character, marker, tagged};
+ghost use Rattle.std.specs.Prelude.{◌≡◌, ◌+◌, nat_le, ◌∷◌, ◌++◌, fold, map, chars, All, OnOk, IfOk};
+ghost use Rattle.tagged_lines.specs.Tagged.{line_items, character, marker, tagged, IsJoined};
 ghost use Rattle.footnote_lines.specs.Footnotes.{nothing_cut, all_lines};
 ghost use Rattle.footnote_lines.specs.Cuts.{spaced, has_room};
 
@@ -17,11 +17,12 @@ pub(crate) struct CutLines<T> {
 }
 
 impl<T: EqualCopy + Drop> CutLines<T> {
-    ghost use Rattle.footnote_lines.specs.Cuts.{cut_of, with_room, placed_within, placed_noted, placed_spaced};
+    ghost use Rattle.footnote_lines.specs.Cuts.{cut_of, HasJoinedTexts, with_room, placed_within, placed_noted, placed_spaced};
 
     /// No line is done.
     pub(crate) fn new(alloc: Global) -> CutLines<T>
-        ensures { cut_of T.seen result ≡ nothing_cut }
+        ensures cut { cut_of T.seen result ≡ nothing_cut }
+        ensures joined { HasJoinedTexts T.seen result }
     {
         CutLines {
             done: Vec::new(alloc),
@@ -31,7 +32,8 @@ impl<T: EqualCopy + Drop> CutLines<T> {
 
     /// All lines, the one that is begun too.
     pub(crate) fn into_lines(self) -> Result<Vec<TaggedLine<T>>, AllocError>
-        ensures { IfOk result (λ lines. map (line_items T.seen) lines.items ≡ all_lines (cut_of T.seen self)) }
+        ensures lines { IfOk result (λ lines. map (line_items T.seen) lines.items ≡ all_lines (cut_of T.seen self)) }
+        ensures joined { HasJoinedTexts T.seen self → IfOk result (λ lines. All (IsJoined T.seen) lines.items) }
     {
         let CutLines { mut done, line } = self;
         done.push(line)?;
@@ -40,8 +42,9 @@ impl<T: EqualCopy + Drop> CutLines<T> {
 
     /// Adds a marker to the line.
     pub(crate) fn push_marker(&mut self, width: Option<usize>, name: &str) -> Result<(), AllocError>
-        ensures { OnOk result (cut_of T.seen self.new
+        ensures placed { OnOk result (cut_of T.seen self.new
             ≡ placed_within width (cut_of T.seen self.old) (marker (chars name.now))) }
+        ensures joined { HasJoinedTexts T.seen self.old → HasJoinedTexts T.seen self.new }
     {
         self.line.push_marker(name)
     }
@@ -53,8 +56,9 @@ impl<T: EqualCopy + Drop> CutLines<T> {
         text: &str,
         tag: &T,
     ) -> Result<(), AllocError>
-        ensures { OnOk result (cut_of T.seen self.new
+        ensures placed { OnOk result (cut_of T.seen self.new
             ≡ fold (placed_spaced width) (cut_of T.seen self.old) (tagged (chars text.now) (T.seen tag.now))) }
+        ensures joined { HasJoinedTexts T.seen self.old → HasJoinedTexts T.seen self.new }
     {
         for c in text.chars() {
             self.push_character(width, spaced(c), tag)?;
@@ -64,8 +68,9 @@ impl<T: EqualCopy + Drop> CutLines<T> {
 
     /// Adds a character, to the line that it begins where the line at hand has no room for it.
     fn push_character(&mut self, width: Option<usize>, c: char, tag: &T) -> Result<(), AllocError>
-        ensures { OnOk result (cut_of T.seen self.new
+        ensures placed { OnOk result (cut_of T.seen self.new
             ≡ placed_within width (cut_of T.seen self.old) (character c (T.seen tag.now))) }
+        ensures joined { HasJoinedTexts T.seen self.old → HasJoinedTexts T.seen self.new }
     {
         self.make_room(width, c)?;
         self.line.push_char(c, tag)
@@ -73,7 +78,8 @@ impl<T: EqualCopy + Drop> CutLines<T> {
 
     /// Ends the line at hand where it has no room for the character.
     fn make_room(&mut self, width: Option<usize>, c: char) -> Result<(), AllocError>
-        ensures { OnOk result (cut_of T.seen self.new ≡ with_room width c (cut_of T.seen self.old)) }
+        ensures placed { OnOk result (cut_of T.seen self.new ≡ with_room width c (cut_of T.seen self.old)) }
+        ensures joined { HasJoinedTexts T.seen self.old → HasJoinedTexts T.seen self.new }
     {
         if self.has_room(width, c) {
             return Ok(());

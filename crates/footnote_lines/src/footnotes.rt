@@ -1,7 +1,7 @@
 //! Lines behind a page.
-ghost use Rattle.std.specs.Prelude.{◌≡◌, [], ◌∷◌, fold, map, chars, string_bytes, OnOk, IfOk};
-ghost use Rattle.tagged_lines.specs.Tagged.{line_items, element_items, tagged};
-ghost use Rattle.footnote_lines.specs.Cuts.{cut_of, tags_seen, placed_noted, lines_within};
+ghost use Rattle.std.specs.Prelude.{◌≡◌, [], ◌∷◌, fold, map, chars, string_bytes, All, OnOk, IfOk};
+ghost use Rattle.tagged_lines.specs.Tagged.{line_items, element_items, tagged, IsJoined};
+ghost use Rattle.footnote_lines.specs.Cuts.{cut_of, tags_seen, HasJoinedTexts, placed_noted, lines_within};
 
 use crate::cutting::CutLines;
 use std::alloc::{AllocError, Global};
@@ -14,8 +14,9 @@ pub fn footnote_lines<A: EqualCopy + Drop>(
     width: Option<usize>,
     line: &TaggedLine<A>,
 ) -> Result<Vec<TaggedLine<Vec<A>>>, AllocError>
-    ensures { IfOk result (λ lines. map (line_items (tags_seen A.seen)) lines.items
+    ensures lines { IfOk result (λ lines. map (line_items (tags_seen A.seen)) lines.items
         ≡ lines_within width (line_items A.seen line.now)) }
+    ensures joined { IfOk result (λ lines. All (IsJoined (tags_seen A.seen)) lines.items) }
 {
     let mut cut = CutLines::new(alloc);
     push_line(&mut cut, alloc, width, line)?;
@@ -28,8 +29,9 @@ fn push_line<A: EqualCopy + Drop>(
     width: Option<usize>,
     line: &TaggedLine<A>,
 ) -> Result<(), AllocError>
-    ensures { OnOk result (cut_of (tags_seen A.seen) cut.new
+    ensures placed { OnOk result (cut_of (tags_seen A.seen) cut.new
         ≡ fold (placed_noted width) (cut_of (tags_seen A.seen) cut.old) (line_items A.seen line.now)) }
+    ensures joined { HasJoinedTexts (tags_seen A.seen) cut.old → HasJoinedTexts (tags_seen A.seen) cut.new }
 {
     for element in line.iter() {
         push_element(cut, alloc, width, element)?;
@@ -43,8 +45,9 @@ fn push_element<A: EqualCopy + Drop>(
     width: Option<usize>,
     element: &TaggedLineElement<A>,
 ) -> Result<(), AllocError>
-    ensures { OnOk result (cut_of (tags_seen A.seen) cut.new
+    ensures placed { OnOk result (cut_of (tags_seen A.seen) cut.new
         ≡ fold (placed_noted width) (cut_of (tags_seen A.seen) cut.old) (element_items A.seen element.now)) }
+    ensures joined { HasJoinedTexts (tags_seen A.seen) cut.old → HasJoinedTexts (tags_seen A.seen) cut.new }
 {
     match element {
         TaggedLineElement::Str(string) => push_string(cut, alloc, width, string),
@@ -58,9 +61,10 @@ fn push_string<A: EqualCopy + Drop>(
     width: Option<usize>,
     string: &TaggedString<A>,
 ) -> Result<(), AllocError>
-    ensures { OnOk result (cut_of (tags_seen A.seen) cut.new
+    ensures placed { OnOk result (cut_of (tags_seen A.seen) cut.new
         ≡ fold (placed_noted width) (cut_of (tags_seen A.seen) cut.old)
         (tagged (chars (string_bytes string.now.s)) (A.seen string.now.tag))) }
+    ensures joined { HasJoinedTexts (tags_seen A.seen) cut.old → HasJoinedTexts (tags_seen A.seen) cut.new }
 {
     let tags = alone(alloc, &string.tag)?;
     cut.push_text(width, string.s.as_str(), &tags)

@@ -86,7 +86,7 @@ line_allows : {S : Type 0} (m : Measure) (tag : S) (content : Bool) (items : Lis
     → AllowsOverflow m b → AllowsOverflow m (add_line m tag content items b)
 line_allows m tag content items b h = record { measure = h.measure; running = h.running }
 
-texts_allow : {S : Type 0} (m : Measure) (tag fill : S) (lines : List (List (Item S))) (b : Laid S)
+pub texts_allow : {S : Type 0} (m : Measure) (tag fill : S) (lines : List (List (Item S))) (b : Laid S)
     → AllowsOverflow m b → AllowsOverflow m (add_text_lines m tag fill lines b)
 texts_allow m tag fill [] b h = h
 texts_allow m tag fill (line ∷ lines) b h =

@@ -1,9 +1,11 @@
 -- Each call keeps the lines of a block within its width.
-use Rattle.std.proofs.Common.{◌≡◌, ℕ, ◌≤◌, Bool, true, false, ◌&&◌, List, [], ◌∷◌, ◌++◌, Option, None, Some, IfSome, map, sym, subst, refl, arith}
-use Rattle.std.specs.Prelude.{All, if◌then◌else◌}
+use Rattle.std.proofs.Common.{◌≡◌, ℕ, ◌-◌, ◌<◌, ◌≤◌, ⊎_elim, Bool, true, false, ◌&&◌, List, [], ◌∷◌, ◌++◌, Option, None, Some, IfSome, map, sym, subst, refl, arith}
+use Rattle.std.specs.Prelude.{All, replicate, if◌then◌else◌}
 use Rattle.std.specs.Option.{option_map}
+use Rattle.std.proofs.lemmas.Bool.{cases_lt}
+use Rattle.std.proofs.lemmas.List.{append-nil}
 use Rattle.std.proofs.lemmas.List.Elements.{All-nil, All-head, All-tail, All-push}
-use Rattle.tagged_lines.specs.Tagged.{Item, marker, line_columns}
+use Rattle.tagged_lines.specs.Tagged.{Item, character, marker, line_columns}
 use Rattle.text_pieces.specs.Items.{has_text}
 use Rattle.text_pieces.specs.Sources.{is_filled}
 use Rattle.text_pieces.specs.declared.white_space.WhiteSpace.{WhiteSpace}
@@ -72,6 +74,32 @@ line_added {S = S} laws m tag content items b fits within =
     record { lines = put.lines; running = put.running; hanging = put.hanging }
 
 -- ---- the running text becomes lines
+
+-- filled up to where text wraps, where it isn't wider
+filled_fits : {S : Type 0} (laws : TextLaws S) (wrap width : ℕ) (padding : Option S) (line : List (Item S))
+    → wrap ≤ width → line_columns line ≤ width → line_columns (padded wrap padding line) ≤ width
+filled_fits laws wrap width None line narrow fits = fits
+filled_fits {S = S} laws wrap width (Some tag) line narrow fits = ⊎_elim past short (cases_lt wrap (line_columns line))
+  where
+    past : wrap < line_columns line → line_columns (padded wrap (Some tag) line) ≤ width
+    past wide =
+        let none : wrap - line_columns line ≡ 0 = omega (arith, wide) in
+        subst (λ n. line_columns (line ++ replicate n (character 0x20 tag)) ≤ width) (sym none)
+        (subst (λ l. line_columns l ≤ width) (sym (append-nil line)) fits)
+
+    short : line_columns line ≤ wrap → line_columns (padded wrap (Some tag) line) ≤ width
+    short fits_there = let same = laws.filled wrap tag line fits_there in omega (arith, same, narrow)
+
+pub lines_added : {S : Type 0} (laws : TextLaws S) (m : Measure) (tag fill : S) (lines : List (List (Item S)))
+    (b : Laid S) → IsKept m → All (FitsIn m.width) lines → IsWithin m b
+    → IsWithin m (add_text_lines m tag fill lines b)
+lines_added laws m tag fill [] b kept fit within = within
+lines_added laws m tag fill (line ∷ lines) b kept fit within =
+    lines_added laws m tag fill lines (add_text_line m tag fill b line) kept
+    (All-tail (FitsIn m.width) line lines fit)
+    (line_added laws m tag (has_text line) (padded m.wrap_width (padding m fill) line) b
+    (filled_fits laws m.wrap_width m.width (padding m fill) line kept.wraps_within
+    (All-head (FitsIn m.width) line lines fit)) within)
 
 texts_added : {S : Type 0} (laws : TextLaws S) (m : Measure) (tag fill : S) (lines : List (List (Item S))) (b : Laid S)
     → IsKept m → All (FitsIn m.wrap_width) lines → IsWithin m b → IsWithin m (add_text_lines m tag fill lines b)

@@ -3,12 +3,12 @@ ghost use Rattle.std.specs.Prelude.{◌≡◌, ℕ, ◌+◌, ◌≤◌, All, Boo
 ghost use Rattle.text_pieces.specs.declared.white_space.WhiteSpace.{WhiteSpace as SeenMode};
 ghost use Rattle.block_layout.specs.declared.measure.Measure.{Measure};
 ghost use Rattle.tagged_lines.specs.Columns.{text_columns};
-ghost use Rattle.tagged_lines.specs.Tagged.{line_columns};
+ghost use Rattle.tagged_lines.specs.Tagged.{Item, line_columns};
 ghost use Rattle.text_borders.specs.Borders.{Border};
 ghost use Rattle.text_borders.specs.Lines.{BlockLine, border, line_shown};
 ghost use Rattle.text_borders.specs.Across.{CellLine, Cell, across, width_across};
 ghost use Rattle.text_borders.specs.AcrossLaws.{LineFits, CellFits};
-ghost use Rattle.block_layout.specs.Laid.{Laid, nothing_laid, flush, add_empty_line, start_block, start_table, end_block, start_awaited, add_text, mark, break_line, add_horizontal_border, add_border, add_block, finished_lines};
+ghost use Rattle.block_layout.specs.Laid.{Laid, nothing_laid, flush, add_text_lines, add_empty_line, start_block, start_table, end_block, start_awaited, add_text, mark, break_line, add_horizontal_border, add_border, add_block, finished_lines};
 ghost use Rattle.block_layout.specs.LaidRows.{last_border, add_row, add_slashes};
 ghost use Rattle.layout_laws.specs.LayoutLaws.{IsKept, IsWithin, AllowsOverflow};
 
@@ -24,6 +24,9 @@ pub fn calls_keep_the_width<T: EqualCopy>()
     ensures nothing { (m : Measure) → IsWithin {S = T.Seen} m nothing_laid }
     ensures flush { (m : Measure) (tag : T.Seen) (b new : Laid T.Seen) → IsKept m → IsWithin m b
         → flush m tag b ≡ Some new → IsWithin m new }
+    ensures add_text_lines { (m : Measure) (tag fill : T.Seen) (lines : List (List (Item T.Seen))) (b : Laid T.Seen)
+        → IsKept m → IsWithin m b → All (λ line. line_columns line ≤ m.width) lines
+        → IsWithin m (add_text_lines m tag fill lines b) }
     ensures add_empty_line { (m : Measure) (tag : T.Seen) (b new : Laid T.Seen) → IsKept m → IsWithin m b
         → add_empty_line m tag b ≡ Some new → IsWithin m new }
     ensures start_block { (m : Measure) (tag : T.Seen) (b new : Laid T.Seen) → IsKept m → IsWithin m b
@@ -70,6 +73,8 @@ pub fn overflow_never_refuses<T: EqualCopy>()
     ensures nothing { (m : Measure) → m.overflow ≡ true → AllowsOverflow {S = T.Seen} m nothing_laid }
     ensures flush { (m : Measure) (tag : T.Seen) (b : Laid T.Seen) → AllowsOverflow m b
         → IsSomeAnd (flush m tag b) (AllowsOverflow m) }
+    ensures add_text_lines { (m : Measure) (tag fill : T.Seen) (lines : List (List (Item T.Seen))) (b : Laid T.Seen)
+        → AllowsOverflow m b → AllowsOverflow m (add_text_lines m tag fill lines b) }
     ensures add_empty_line { (m : Measure) (tag : T.Seen) (b : Laid T.Seen) → AllowsOverflow m b
         → IsSomeAnd (add_empty_line m tag b) (AllowsOverflow m) }
     ensures start_block { (m : Measure) (tag : T.Seen) (b : Laid T.Seen) → AllowsOverflow m b

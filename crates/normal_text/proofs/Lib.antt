@@ -3,6 +3,7 @@ pub mod NormalFinal
 pub mod NormalItems
 pub mod NormalReading
 pub mod NormalRuns
+pub mod NormalWords
 pub mod LayoutFewest
 pub mod LayoutFilling
 pub mod LayoutFullest
@@ -20,4 +21,5 @@ pub mod LetterLemmas
 pub mod MarkedWidth
 pub mod MarkedKept
 pub mod MarkedShown
+pub mod NotesAside
 pub mod MarkersAside

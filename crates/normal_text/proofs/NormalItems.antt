@@ -2,8 +2,8 @@
 use Rattle.std.proofs.Common.{◌≡◌, ℕ, ◌+◌, List, [], ◌∷◌, ◌++◌, map, sym, ap, ◌∙◌, refl, inr, append_assoc, arith}
 use Rattle.std.specs.Prelude.{Option, None, Some, unwrap_or}
 use Rattle.std.proofs.lemmas.List.Sums.{sum_by-cons}
-use Rattle.tagged_lines.specs.Columns.{columns_of, width_of, columns_of-one}
-use Rattle.tagged_lines.specs.Tagged.{Item, character, characters, line_columns}
+use Rattle.tagged_lines.specs.Columns.{columns_of, text_columns, width_of, columns_of-one}
+use Rattle.tagged_lines.specs.Tagged.{Item, character, characters, line_columns, tagged}
 use Rattle.normal_text.specs.Units.{Letter, letters_columns}
 use Rattle.normal_text.specs.Layout.{Mark, Joint, mark, opens, starts, inside, cuttable, marked, gap, columns, following_columns, gap_items, following_items, marks_items}
 use Rattle.normal_text.specs.NormalStates.{letter_items, space_columns, space_behind, AreGapless, ShowsAs}
@@ -40,6 +40,13 @@ marks_counted (m ∷ ms) =
     let rest = following_counted ms in
     let one = one_more m.letter.code m.letter.tag (following_items ms) in
     omega (arith, rest, one)
+
+pub run_counted : {S : Type 0} (cs : List ℕ) (tag : S) → text_columns cs ≡ line_columns (tagged cs tag)
+run_counted cs tag = ap text_columns (same cs)
+  where
+    same : (cs : List ℕ) → cs ≡ characters (tagged cs tag)
+    same [] = refl
+    same (c ∷ cs) = ap (λ rest. c ∷ rest) (same cs)
 
 pub letters_counted : {S : Type 0} (ls : List (Letter S)) → line_columns (letter_items ls) ≡ letters_columns ls
 letters_counted [] = refl

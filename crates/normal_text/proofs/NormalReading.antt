@@ -51,7 +51,7 @@ lay_moved seen old new space word space_is word_is some laid w no_space no_word 
 
 -- ---- a word is ended
 
-positive : (n : ℕ) → (n ≡ 0 → ⊥) → nat_lt 0 n ≡ true
+pub positive : (n : ℕ) → (n ≡ 0 → ⊥) → nat_lt 0 n ≡ true
 positive n h = grind (arith, nat_tests)
 
 not_positive : (n : ℕ) → n ≡ 0 → nat_lt 0 n ≡ false
@@ -119,6 +119,12 @@ lone_room : {S : Type 0} (width : ℕ) (overflow : Bool) (l : Letter S) → has_
 lone_room width overflow l h = All-cons (λ x. IsTrue (has_room width overflow x)) l [] h
     (All-nil (λ x. IsTrue (has_room width overflow x)))
 
+pub break_room : {S : Type 0} (width : ℕ) (overflow : Bool) (l : Letter S) → is_break_point l.code ≡ true
+    → AllHaveRoom width overflow (l ∷ [])
+break_room width overflow l is_break =
+    lone_room width overflow l (or_right overflow (is_break_point l.code || nat_le (width_of l.code) width)
+    (or_left (is_break_point l.code) (nat_le (width_of l.code) width) is_break))
+
 break_same : {S : Type 0} (b : Bool) (r : Reading S) (lines : Filled S) (space : Option S)
     → (if b then reading lines space [] else reading r.lines (first_of r.space space) r.letters)
     ≡ (let q = if b then reading lines None [] else r in reading q.lines (first_of q.space space) q.letters)
@@ -142,9 +148,7 @@ break_read seen old mid new code tag is_break ended kept =
             is_break))
             (kept.moves width overflow (end_read width r) (ended.moves width overflow r h));
       };
-      room = λ width overflow r h. lone_room width overflow l
-          (or_right overflow (is_break_point code || nat_le (width_of code) width)
-          (or_left (is_break_point code) (nat_le (width_of code) width) is_break));
+      room = λ width overflow r h. break_room width overflow l is_break;
     }
 
 -- a letter that is no break point

@@ -1,20 +1,20 @@
 -- Characters of a word that are added all at once.
-use Rattle.std.proofs.Common.{◌≡◌, ℕ, Bool, true, false, nat_le, ◌||◌, List, [], ◌∷◌, ◌++◌, sym, ap, ◌∙◌, refl, subst, append_assoc, chars, IsUtf8, encode_utf8, ◌≤◌, inr, arith}
+use Rattle.std.proofs.Common.{◌≡◌, ℕ, Bool, true, false, nat_le, ◌||◌, List, [], ◌∷◌, ◌++◌, sym, ap, ◌∙◌, refl, subst, append_assoc, chars, encode_utf8, ◌≤◌, inr, arith}
 use Rattle.std.specs.Prelude.{Some, is_some, IsTrue, All}
 use Rattle.std.specs.Option.{option_map}
 use Rattle.std.specs.Char.{IsScalar}
 use Rattle.std.proofs.lemmas.List.{map-append, append-nil}
 use Rattle.std.proofs.lemmas.List.Elements.{All-nil, All-cons, All-head, All-tail, All-same, All-push}
-use Rattle.std.proofs.lemmas.Str.{chars-nil, chars-append, chars_past_char, IsUtf8-nil, IsUtf8-append, IsUtf8-encode}
+use Rattle.std.proofs.lemmas.Str.{chars-nil, chars-append, IsUtf8-nil, IsUtf8-append, IsUtf8-encode}
 use Rattle.tagged_lines.proofs.Joins.{chars_of_one}
 use Rattle.std.proofs.lemmas.Bool.Decides.{nat_tests}
 use Rattle.tagged_lines.specs.Columns.{columns_of, columns_of-one, width_of}
 use Rattle.tagged_lines.specs.Tagged.{line_items, tagged, character}
 use Rattle.normal_text.specs.Units.{Letter, lettered, is_break_point}
 use Rattle.normal_text.specs.Filling.{Reading, reading, read_letters}
-use Rattle.normal_text.specs.NormalStates.{HoldsLines, HoldsReading, Reads, MeetsWider, AllHaveRoom, has_room, letter_items, JoinsWord, RunsTo, ReadsFront}
+use Rattle.normal_text.specs.NormalStates.{HoldsLines, HoldsReading, Reads, AllHaveRoom, has_room, letter_items, JoinsWord, RunsTo}
 use Rattle.normal_text.specs.declared.normal.NormalText.{NormalText}
-use Rattle.normal_text.proofs.NormalReading.{other_same, or_skips, width_read, wider_within, reads_more}
+use Rattle.normal_text.proofs.NormalReading.{other_same, or_skips, width_read}
 
 -- ---- finding the run
 
@@ -63,7 +63,7 @@ visible_joins block c fits is fits_is holds =
 
 -- ---- reading the run
 
-letters_run : {T S : Type 0} (block : NormalText T) (width : ℕ) (r : Reading S) (cs : List ℕ) (tag : S)
+pub letters_run : {T S : Type 0} (block : NormalText T) (width : ℕ) (r : Reading S) (cs : List ℕ) (tag : S)
     → All (JoinsWord block) cs
     → read_letters width r (lettered cs tag) ≡ reading r.lines r.space (r.letters ++ lettered cs tag)
 letters_run block width r [] tag all = ap (λ ls. reading r.lines r.space ls) (sym (append-nil r.letters))
@@ -75,7 +75,7 @@ letters_run block width r (c ∷ cs) tag all =
     (All-tail (JoinsWord block) c cs all)
     ∙ ap (λ ls. reading r.lines r.space ls) (append_assoc r.letters (l ∷ []) (lettered cs tag))
 
-run_room : {T S : Type 0} (seen : T → S) (width : ℕ) (overflow : Bool) (old : NormalText T) (r : Reading S)
+pub run_room : {T S : Type 0} (seen : T → S) (width : ℕ) (overflow : Bool) (old : NormalText T) (r : Reading S)
     (cs : List ℕ) (tag : S) → HoldsReading seen width overflow old r → All (JoinsWord old) cs
     → AllHaveRoom width overflow (lettered cs tag)
 run_room seen width overflow old r [] tag h all = All-nil (λ x. IsTrue (has_room width overflow x))
@@ -88,11 +88,11 @@ run_room seen width overflow old r (c ∷ cs) tag h all =
     All-cons (λ x. IsTrue (has_room width overflow x)) l (lettered cs tag) room
     (run_room seen width overflow old r cs tag h (All-tail (JoinsWord old) c cs all))
 
-lettered_items : {S : Type 0} (cs : List ℕ) (tag : S) → tagged cs tag ≡ letter_items (lettered cs tag)
+pub lettered_items : {S : Type 0} (cs : List ℕ) (tag : S) → tagged cs tag ≡ letter_items (lettered cs tag)
 lettered_items [] tag = refl
 lettered_items (c ∷ cs) tag = ap (λ rest. character c tag ∷ rest) (lettered_items cs tag)
 
-run_reads : {T S : Type 0} (seen : T → S) (old new : NormalText T) (cs : List ℕ) (tag : S) → All (JoinsWord old) cs
+pub run_reads : {T S : Type 0} (seen : T → S) (old new : NormalText T) (cs : List ℕ) (tag : S) → All (JoinsWord old) cs
     → new.width ≡ old.width → new.lines ≡ old.lines → new.space ≡ old.space
     → line_items seen new.word ≡ line_items seen old.word ++ tagged cs tag → Reads seen old new (lettered cs tag)
 run_reads seen old new cs tag all w l s added =
@@ -111,57 +111,3 @@ run_reads seen old new cs tag all w l s added =
       };
       room = λ width overflow r h. run_room seen width overflow old r cs tag h all;
     }
-
--- ---- the run cut off
-
-pub front_reads : {T S : Type 0} (seen : T → S) (old new : NormalText T) (text rest run back : List ℕ) (tag : S)
-    → RunsTo old text rest → ((front : List ℕ) → text ≡ front ++ rest → run ≡ front) → back ≡ rest
-    → new.width ≡ old.width → new.lines ≡ old.lines → new.space ≡ old.space
-    → line_items seen new.word ≡ line_items seen old.word ++ tagged (chars run) tag
-    → ReadsFront seen old new text back tag
-front_reads seen old new text rest run back tag r only back_is w l s added =
-    let p = r.parts in
-    record {
-      front = chars p.front;
-      whole = ap chars p.whole ∙ chars-append p.front rest p.utf8 ∙ ap (λ b. chars p.front ++ chars b) (sym back_is);
-      reads = run_reads seen old new (chars p.front) tag r.joins w l s
-          (added ∙ ap (λ b. line_items seen old.word ++ tagged (chars b) tag) (only p.front p.whole));
-    }
-
--- ---- run after run
-
-pub front_more : {T S : Type 0} (seen : T → S) (old mid next new : NormalText T) (text rest after back : List ℕ)
-    (c : ℕ) (tag : S) → ReadsFront seen old mid text rest tag → IsUtf8 rest → rest ≡ encode_utf8 c ++ after
-    → Reads seen mid next (lettered (c ∷ []) tag) → ReadsFront seen next new after back tag
-    → ReadsFront seen old new text back tag
-front_more seen old mid next new text rest after back c tag first utf8 split one second =
-    let rest_is = chars_past_char rest after c utf8 split ∙ ap (λ l. c ∷ l) second.whole in
-    let both = reads_more seen mid next new (lettered (c ∷ []) tag) (lettered second.front tag) one second.reads in
-    record {
-      front = first.front ++ c ∷ second.front;
-      whole = first.whole ∙ ap (λ l. first.front ++ l) rest_is
-          ∙ sym (append_assoc first.front (c ∷ second.front) (chars back));
-      reads = subst (Reads seen old new) (sym (map-append _ first.front (c ∷ second.front)))
-          (reads_more seen old mid new (lettered first.front tag) (lettered (c ∷ second.front) tag) first.reads both);
-    }
-
-pub front_wider : {T S : Type 0} (seen : T → S) (old mid : NormalText T) (text rest after : List ℕ) (c : ℕ) (tag : S)
-    → ReadsFront seen old mid text rest tag → IsUtf8 rest → rest ≡ encode_utf8 c ++ after
-    → MeetsWider seen mid (lettered (c ∷ []) tag) → MeetsWider seen old (lettered (chars text) tag)
-front_wider seen old mid text rest after c tag first utf8 split meets =
-    let text_is = first.whole ∙ ap (λ l. first.front ++ l) (chars_past_char rest after c utf8 split) in
-    let mapped = ap (λ x. lettered x tag) text_is ∙ map-append _ first.front (c ∷ chars after) in
-    record {
-      wider = λ width overflow r h.
-          wider_within width overflow (lettered first.front tag) (lettered (c ∷ []) tag) (lettered (chars after) tag)
-          (lettered (chars text) tag) mapped
-          (meets.wider width overflow (read_letters width r (lettered first.front tag))
-          (first.reads.moves.moves width overflow r h));
-    }
-
-pub front_all : {T S : Type 0} (seen : T → S) (old new : NormalText T) (text rest : List ℕ) (tag : S)
-    → ReadsFront seen old new text rest tag → rest ≡ [] → Reads seen old new (lettered (chars text) tag)
-front_all seen old new text rest tag first none =
-    let text_is = first.whole ∙ ap (λ l. first.front ++ chars l) none ∙ ap (λ l. first.front ++ l) chars-nil
-    ∙ append-nil first.front in
-    subst (Reads seen old new) (sym (ap (λ cs. lettered cs tag) text_is)) first.reads

@@ -1,5 +1,5 @@
 -- What contracts see of a `NormalText`: how its lines, its white space and its word follow from what was read.
-use Rattle.std.specs.Prelude.{◌≡◌, ℕ, ◌+◌, ◌<◌, Bool, true, false, ◌||◌, nat_le, List, [], ◌∷◌, ◌++◌, Option, None, Some, map, fold, is_some, All, IsTrue, if◌then◌else◌, chars}
+use Rattle.std.specs.Prelude.{◌≡◌, ◌≢◌, length, encode_utf8, ℕ, ◌+◌, ◌<◌, Bool, true, false, ◌||◌, nat_le, List, [], ◌∷◌, ◌++◌, Option, None, Some, map, fold, is_some, All, IsTrue, if◌then◌else◌, chars}
 use Rattle.std.specs.Option.{option_map}
 use Rattle.tagged_lines.specs.Columns.{columns_of, width_of}
 use Rattle.tagged_lines.specs.Tagged.{Item, character, line_items, IsJoined}
@@ -138,6 +138,30 @@ pub record ReadsFront {T S : Type 0} (seen : T → S) (old new : NormalText T) (
   pub front : List ℕ
   pub whole : chars text ≡ front ++ chars rest
   pub reads : Reads seen old new (lettered front tag)
+
+-- The block reads characters, and maybe some of what follows them, of which the rest is left.
+pub record ReadsRun {T S : Type 0} (seen : T → S) (old new : NormalText T) (run rest left : List ℕ)
+    (tag : S) : Type 0 where
+  pub front : List ℕ
+  pub whole : run ++ rest ≡ front ++ left
+  pub reads : Reads seen old new (lettered front tag)
+
+-- Characters of so many columns are a whole word: none is at hand, and they have columns in front of a break point.
+pub record EndsWord {T S : Type 0} (seen : T → S) (block : NormalText T) (columns : ℕ) (rest : List ℕ) (code : ℕ)
+    (behind : List ℕ) : Type 0 where
+  pub some : columns ≢ 0
+  pub none_held : line_items seen block.word ≡ []
+  pub is_break : is_break_point code ≡ true
+  pub whole : rest ≡ encode_utf8 code ++ behind
+  pub shorter : length behind < length rest
+
+-- Where no word is at hand, the characters are laid as one, and the break point behind them is read.
+pub record LaysWord {T S : Type 0} (seen : T → S) (old new : NormalText T) (run : List ℕ) (code : ℕ)
+    (tag : S) : Type 0 where
+  pub lays : (width : ℕ) (overflow : Bool) (r : Reading S) → HoldsReading seen width overflow old r → r.letters ≡ []
+      → run ≢ [] → is_break_point code ≡ true → HoldsReading seen width overflow new
+      (reading (add_unit width r.lines (piece r.space (lettered run tag))) (if is_white_space code then Some tag else None)
+      [])
 
 -- Some of the letters finds no line.
 pub record MeetsWider {T S : Type 0} (seen : T → S) (old : NormalText T) (ls : List (Letter S)) : Type 0 where

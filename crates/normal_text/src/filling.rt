@@ -1,12 +1,11 @@
 ghost use Rattle.std.specs.Prelude.{◌≡◌, ℕ, Bool, ◌+◌, ◌||◌, nat_le, [], ◌∷◌, ◌++◌, map, All, option_copied, chars, string_bytes, IfOk, IfErr, OnOk};
 ghost use Rattle.std.specs.Option.{option_map};
+ghost use Rattle.tagged_lines.specs.Columns.{text_columns};
 ghost use Rattle.tagged_lines.specs.Tagged.{line_items, element_items, line_columns, tagged, IsJoined};
 ghost use Rattle.normal_text.specs.NormalStates.{space_behind, space_columns};
 
 use std::alloc::{AllocError, Global};
-use tagged_lines::{
-    Columns, EqualCopy, TaggedLine, TaggedLineElement, TaggedString, UnicodeColumns,
-};
+use tagged_lines::{Columns, EqualCopy, TaggedLine, TaggedLineElement, UnicodeColumns};
 use text_pieces::BlockError;
 
 /// Lines of at most `width` columns that are filled from the front, each with as many characters as go.
@@ -74,6 +73,51 @@ impl<T: EqualCopy + Drop> Filling<T> {
         }
     }
 
+    /// Adds a word that is a text of one tag, and has that many columns, as `add_word` does.
+    pub(crate) fn add_run(
+        &mut self,
+        space: Option<&T>,
+        run: &str,
+        columns: usize,
+        tag: &T,
+    ) -> Result<(), BlockError>
+        requires { columns ≡ text_columns (chars run.now) }
+        ensures laid { OnOk result (LaysUnit T.seen self.old self.new (option_map T.seen (option_copied space.entry))
+            (tagged (chars run.now) (T.seen tag.now))) }
+        ensures kinds { IfErr result (λ e. e ≡ BlockError.Memory) }
+    {
+        if columns > self.width {
+            self.add_cut_run(run, tag)
+        } else {
+            self.add_whole_run(space, run, columns, tag)
+        }
+    }
+
+    fn add_whole_run(
+        &mut self,
+        space: Option<&T>,
+        run: &str,
+        columns: usize,
+        tag: &T,
+    ) -> Result<(), BlockError>
+        requires { columns ≡ text_columns (chars run.now) }
+        ensures laid { OnOk result (LaysWhole T.seen self.old self.new (option_map T.seen (option_copied space.entry))
+            (tagged (chars run.now) (T.seen tag.now))) }
+        ensures kinds { IfErr result (λ e. e ≡ BlockError.Memory) }
+    {
+        self.make_room(space_columns(space), columns)?;
+        push_run_behind(&mut self.line, space, run, columns, tag)?;
+        Ok(())
+    }
+
+    fn add_cut_run(&mut self, run: &str, tag: &T) -> Result<(), BlockError>
+        ensures laid { OnOk result (LaysCut T.seen self.old self.new (tagged (chars run.now) (T.seen tag.now))) }
+        ensures kinds { IfErr result (λ e. e ≡ BlockError.Memory) }
+    {
+        self.end_line()?;
+        self.cut_text(run, tag)
+    }
+
     fn add_whole(&mut self, space: Option<&T>, word: &TaggedLine<T>) -> Result<(), BlockError>
         ensures laid { OnOk result (LaysWhole T.seen self.old self.new
             (option_map T.seen (option_copied space.entry)) (line_items T.seen word.now)) }
@@ -107,18 +151,17 @@ impl<T: EqualCopy + Drop> Filling<T> {
         ensures kinds { IfErr result (λ e. e ≡ BlockError.Memory) }
     {
         match element {
-            TaggedLineElement::Str(string) => self.cut_string(string),
+            TaggedLineElement::Str(string) => self.cut_text(string.s.as_str(), &string.tag),
             TaggedLineElement::FragmentStart(_) => Ok(()),
         }
     }
 
-    fn cut_string(&mut self, string: &TaggedString<T>) -> Result<(), BlockError>
-        ensures laid { OnOk result (Cuts T.seen self.old self.new
-            (tagged (chars (string_bytes string.now.s)) (T.seen string.now.tag))) }
+    fn cut_text(&mut self, text: &str, tag: &T) -> Result<(), BlockError>
+        ensures laid { OnOk result (Cuts T.seen self.old self.new (tagged (chars text.now) (T.seen tag.now))) }
         ensures kinds { IfErr result (λ e. e ≡ BlockError.Memory) }
     {
-        for c in string.s.as_str().chars() {
-            self.add_char(c, &string.tag)?;
+        for c in text.chars() {
+            self.add_char(c, tag)?;
         }
         Ok(())
     }
@@ -198,6 +241,24 @@ fn push_behind<T: EqualCopy + Drop>(
 {
     push_space(line, space)?;
     line.push_line(word)
+}
+
+/// Adds a text, which has that many columns, at a line's end, behind a space of the given tag where the line has text.
+fn push_run_behind<T: EqualCopy + Drop>(
+    line: &mut TaggedLine<T>,
+    space: Option<&T>,
+    run: &str,
+    columns: usize,
+    tag: &T,
+) -> Result<(), AllocError>
+    requires { columns ≡ text_columns (chars run.now) }
+    ensures pushed { OnOk result (line_items T.seen line.new ≡ line_items T.seen line.old
+        ++ space_behind (line_items T.seen line.old) (option_map T.seen (option_copied space.entry))
+        ++ tagged (chars run.now) (T.seen tag.now)) }
+    ensures joined { IsJoined T.seen line.old → IsJoined T.seen line.new }
+{
+    push_space(line, space)?;
+    line.push_counted(run, columns, tag)
 }
 
 /// Adds a space of the given tag at a line's end, where the line has text.

@@ -1,11 +1,12 @@
-ghost use Rattle.std.specs.Prelude.{◌≡◌, ◌↔◌, ◌⊎◌, ℕ, Bool, true, false, ◌||◌, nat_le, List, [], ◌∷◌, ◌++◌, map, chars, is_err, IsTrue, All, length, ◌<◌, ◌≤◌, IfOk, IfErr, IfSome, IsNone, IsUtf8, encode_utf8, OnOk, if◌then◌else◌};
+ghost use Rattle.std.specs.Prelude.{◌≡◌, ◌≢◌, ◌↔◌, ◌⊎◌, ℕ, Bool, true, false, ◌||◌, nat_le, List, [], ◌∷◌, ◌++◌, map, chars, is_err, IsTrue, All, length, ◌<◌, ◌≤◌, IfOk, IfErr, IfSome, IsNone, IsUtf8, encode_utf8, OnOk, if◌then◌else◌};
 ghost use Rattle.std.specs.Char.{IsScalar};
+ghost use Rattle.tagged_lines.specs.Columns.{text_columns};
 ghost use Rattle.tagged_lines.specs.Tagged.{line_items, line_columns, IsJoined};
 ghost use Rattle.normal_text.specs.Units.{is_break_point};
 
 use crate::filling::Filling;
 use std::alloc::{AllocError, Global};
-use tagged_lines::{Columns, EqualCopy, TaggedLine, UnicodeColumns};
+use tagged_lines::{Columns, EqualCopy, TaggedLine, UnicodeColumns, columns_of};
 use text_pieces::{BlockError, first_char, is_break_point, split_before};
 
 /// A stretch of normal text that is wrapped into lines of at most `width` columns (characters that have no
@@ -28,7 +29,7 @@ impl<T: EqualCopy + Drop> NormalText<T> {
     ghost use Rattle.normal_text.specs.Units.{units};
     ghost use Rattle.normal_text.specs.Greedy.{all_lines, add_units};
     ghost use Rattle.normal_text.specs.Filling.{Reading, read_letters, nothing_read, lines_read};
-    ghost use Rattle.normal_text.specs.NormalStates.{HasRead, HasWider, HoldsReading, Moves, MeetsWider, Reads, ReadsFront, JoinsWord, RunsTo, end_read, space_read, word_read, lay_read};
+    ghost use Rattle.normal_text.specs.NormalStates.{HasRead, HasWider, HoldsReading, Moves, MeetsWider, Reads, ReadsFront, JoinsWord, RunsTo, ReadsRun, EndsWord, LaysWord, end_read, space_read, word_read, lay_read};
 
     /// No text yet. With `allow_overflow` a character wider than the width stands alone on a line.
     pub(crate) fn new(alloc: Global, width: usize, allow_overflow: bool) -> NormalText<T>
@@ -61,23 +62,95 @@ impl<T: EqualCopy + Drop> NormalText<T> {
         ensures narrow { result ≡ Err BlockError.TooNarrow
             → MeetsWider T.seen self.old (lettered (chars text.now) (T.seen tag.now)) }
     {
-        let mut rest = self.add_run(text, tag)?;
-        while let Some((c, after)) = first_char(rest) {
-            self.add_char(c, tag)?;
-            rest = self.add_run(after, tag)?;
+        let mut rest = text;
+        while !rest.is_empty() {
+            rest = self.add_front(rest, tag)?;
         }
         Ok(())
     }
 
-    /// Adds the characters in front that join the word at hand, all at once; what follows them is left.
-    fn add_run<'a>(&mut self, text: &'a str, tag: &T) -> Result<&'a str, AllocError>
+    /// Adds the characters in front that join the word at hand, all at once, or the first character where it joins none;
+    /// what follows is left.
+    fn add_front<'a>(&mut self, text: &'a str, tag: &T) -> Result<&'a str, BlockError>
+        ensures kinds { IfErr result (λ e. (e ≡ BlockError.TooNarrow) ⊎ (e ≡ BlockError.Memory)) }
         ensures read { IfOk result (λ rest. ReadsFront T.seen self.old self.new text.now rest.now (T.seen tag.now)) }
+        ensures narrow { result ≡ Err BlockError.TooNarrow
+            → MeetsWider T.seen self.old (lettered (chars text.now) (T.seen tag.now)) }
         ensures text { IfOk result (λ rest. IsUtf8 rest.now) }
-        ensures no_longer { IfOk result (λ rest. length rest.now ≤ length text.now) }
+        ensures shorter { IfOk result (λ rest. text.now ≢ [] → length rest.now < length text.now) }
     {
         let (run, rest) = split_before(text, self.after_run(text));
-        self.word.push_str(run, tag)?;
-        Ok(rest)
+        if run.is_empty() {
+            return self.add_first(text, tag);
+        }
+        self.add_run(run, rest, tag)
+    }
+
+    /// Adds the first character; what follows is left.
+    fn add_first<'a>(&mut self, text: &'a str, tag: &T) -> Result<&'a str, BlockError>
+        ensures kinds { IfErr result (λ e. (e ≡ BlockError.TooNarrow) ⊎ (e ≡ BlockError.Memory)) }
+        ensures read { IfOk result (λ rest. ReadsFront T.seen self.old self.new text.now rest.now (T.seen tag.now)) }
+        ensures narrow { result ≡ Err BlockError.TooNarrow
+            → MeetsWider T.seen self.old (lettered (chars text.now) (T.seen tag.now)) }
+        ensures text { IfOk result (λ rest. IsUtf8 rest.now) }
+        ensures shorter { IfOk result (λ rest. text.now ≢ [] → length rest.now < length text.now) }
+    {
+        let Some((c, after)) = first_char(text) else {
+            return Ok(text);
+        };
+        self.add_char(c, tag)?;
+        Ok(after)
+    }
+
+    /// Adds characters that join the word at hand. Where they are a whole word, it is laid without being held, and the break
+    /// point behind it is added too; what follows is left.
+    fn add_run<'a>(&mut self, run: &str, rest: &'a str, tag: &T) -> Result<&'a str, BlockError>
+        requires { All (JoinsWord self.old) (chars run.now) }
+        ensures kinds { IfErr result (λ e. e ≡ BlockError.Memory) }
+        ensures read { IfOk result (λ left. ReadsRun T.seen self.old self.new (chars run.now) (chars rest.now)
+            (chars left.now) (T.seen tag.now)) }
+        ensures text { IfOk result (λ left. IsUtf8 left.now) }
+        ensures no_longer { IfOk result (λ left. length left.now ≤ length rest.now) }
+    {
+        let columns = columns_of(run);
+        match self.end_of_word(columns, rest) {
+            Some((c, behind)) => {
+                self.add_word(run, columns, c, tag)?;
+                Ok(behind)
+            }
+            None => {
+                self.word.push_counted(run, columns, tag)?;
+                Ok(rest)
+            }
+        }
+    }
+
+    /// The break point behind characters of so many columns, and what follows it, where the characters are a whole word.
+    fn end_of_word<'a>(&self, columns: usize, rest: &'a str) -> Option<(char, &'a str)>
+        ensures ends { IfSome result (λ parts. EndsWord T.seen self.now columns rest.now parts.0 parts.1.now) }
+        ensures texts { IfSome result (λ parts. IsScalar parts.0 × IsUtf8 parts.1.now) }
+    {
+        if columns == 0 || !self.word.is_empty() {
+            return None;
+        }
+        let (c, behind) = first_char(rest)?;
+        if is_break_point(c) {
+            Some((c, behind))
+        } else {
+            None
+        }
+    }
+
+    /// Lays a whole word, and adds the break point behind it.
+    fn add_word(&mut self, run: &str, columns: usize, c: char, tag: &T) -> Result<(), BlockError>
+        requires { columns ≡ text_columns (chars run.now) }
+        ensures kinds { IfErr result (λ e. e ≡ BlockError.Memory) }
+        ensures laid { OnOk result (LaysWord T.seen self.old self.new (chars run.now) c (T.seen tag.now)) }
+    {
+        let space = self.space.take();
+        self.lines.add_run(space.as_ref(), run, columns, tag)?;
+        self.add_space(c, tag)?;
+        Ok(())
     }
 
     /// What follows the characters in front that join the word at hand.

@@ -51,7 +51,7 @@ impl<T: EqualCopy + Drop> SourceLine<T> {
             Piece::Text(piece) => self.read_text(
                 piece.text.as_str(),
                 &piece.main_tag,
-                &piece.wrap_tag,
+                piece.wrap_tag_or_main(),
             ),
             Piece::Fragment(name) => self.read_marker(name.as_str()),
         }
@@ -78,7 +78,11 @@ impl<T: EqualCopy + Drop> SourceLine<T> {
     {
         match piece {
             Piece::Text(piece) => {
-                self.read_trimmed_text(piece.text.as_str(), &piece.main_tag, &piece.wrap_tag)
+                self.read_trimmed_text(
+                    piece.text.as_str(),
+                    &piece.main_tag,
+                    piece.wrap_tag_or_main(),
+                )
             }
             Piece::Fragment(name) => self.read_marker(name.as_str()),
         }

@@ -17,13 +17,15 @@ use Rattle.renderer_calls.specs.declared.options.ImageRenderMode.{ImageRenderMod
 use Rattle.renderer_calls.specs.declared.options.ImageRenderMode.TheVariants.{IgnoreEmpty, ShowAlways, Replace, Filename}
 
 -- How a decorator marks text: the texts of its marks and what contracts see of their annotations; whether a colour has
--- one; what it holds behind a mark; whether a colour's annotation ends with it.
+-- one; what it holds behind a mark; whether a colour's annotation ends with it; what one made for a part of the block
+-- holds.
 pub record Marking (H A : Type 0) : Type 0 where
   pub mark_text : H → Mark → List ℕ
   pub mark_tag : H → Mark → A
   pub has_tag : H → Mark → Bool
   pub after : H → Mark → H
   pub ends_tag : H → Mark → Bool
+  pub sub : H → H
 
 -- The columns and the options; what the decorator holds; the lines and the text that runs; the modes of white space,
 -- the last of which counts; how many parts around are preformatted; the annotations that stand; the strikeouts that

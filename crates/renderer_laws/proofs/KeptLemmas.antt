@@ -1,18 +1,21 @@
 -- Each call of a renderer that fits keeps its lines within its width.
-use Rattle.std.proofs.Common.{◌≡◌, ℕ, ◌+◌, ◌≤◌, Bool, true, false, List, [], ◌∷◌, Option, None, Some, IfSome, ap, ◌∙◌, refl, arith}
-use Rattle.std.specs.Prelude.{All, nat_lt, if◌then◌else◌}
+use Rattle.std.proofs.Common.{◌≡◌, ℕ, ◌+◌, ◌≤◌, Bool, true, false, List, [], ◌∷◌, Option, None, Some, IfSome, ap, ◌∙◌, refl, sym, subst, arith}
+use Rattle.std.specs.Prelude.{All, fold, nat_lt, if◌then◌else◌}
 use Rattle.std.specs.Option.{option_map, option_and_then}
 use Rattle.std.proofs.lemmas.List.{length-replicate}
 use Rattle.std.proofs.lemmas.List.Elements.{All-nil, All-cons, All-head, All-tail}
 use Rattle.text_pieces.specs.declared.white_space.WhiteSpace.{WhiteSpace}
 use Rattle.text_marks.specs.Marks.{Mark, link_end, strikeout_start, strikeout_end, image}
 use Rattle.tagged_lines.specs.Columns.{text_columns}
+use Rattle.tagged_lines.specs.Tagged.{Item, line_columns}
+use Rattle.footnote_lines.specs.Footnotes.{footnote_lines}
+use Rattle.block_renderer.specs.Footnotes.{add_footnote, add_footnotes}
 use Rattle.text_borders.specs.Borders.{Border, plain, horizontal}
 use Rattle.text_borders.specs.Lines.{border}
 use Rattle.text_borders.specs.Across.{Cell, CellLine, width_across}
 use Rattle.text_borders.specs.AcrossLaws.{LineFits, CellFits}
 use Rattle.block_layout.specs.declared.measure.Measure.{Measure}
-use Rattle.block_layout.specs.Laid.{Laid, add_empty_line, start_block, start_table, end_block, flush, break_line, is_ignored, start_awaited, add_text, mark, add_border, add_horizontal_border, add_block}
+use Rattle.block_layout.specs.Laid.{Laid, add_text_lines, add_empty_line, start_block, start_table, end_block, flush, break_line, is_ignored, start_awaited, add_text, mark, add_border, add_horizontal_border, add_block}
 use Rattle.block_layout.specs.LaidRows.{add_row, row_laid, add_slashes, last_border}
 use Rattle.layout_laws.specs.LayoutLaws.{IsKept, IsWithin}
 use Rattle.layout_laws.proofs.OptionLemmas.{known, mapped, chained}
@@ -24,6 +27,8 @@ use Rattle.renderer_laws.specs.RendererLaws.{IsKeptWithin, StaysWithin, FitsBehi
 pub record WidthLaws (S : Type 0) : Type 0 where
   pub flushed : (m : Measure) (tag : S) (b new : Laid S) → IsKept m → IsWithin m b → flush m tag b ≡ Some new
       → IsWithin m new
+  pub lines_taken : (m : Measure) (tag fill : S) (lines : List (List (Item S))) (b : Laid S) → IsKept m → IsWithin m b
+      → All (λ line. line_columns line ≤ m.width) lines → IsWithin m (add_text_lines m tag fill lines b)
   pub empty_line : (m : Measure) (tag : S) (b new : Laid S) → IsKept m → IsWithin m b
       → add_empty_line m tag b ≡ Some new → IsWithin m new
   pub block_started : (m : Measure) (tag : S) (b new : Laid S) → IsKept m → IsWithin m b
@@ -319,6 +324,34 @@ rows_added laws cells s all kept =
     (λ x inside. stays_on s x (ruled x) inside (rule_kept laws x inside.0))
     (stays_through s (flush_sub s) (add_first cells)
     (λ x inside. first_added laws s.width cells x all inside.1.0 inside.0) (sub_flushed laws s kept))
+
+-- ---- lines behind the page
+
+abbrev NotesFit : Type 0 → Type 0
+NotesFit A = (width : ℕ) (items : List (Item A)) → 2 ≤ width
+    → All (λ line. line_columns line ≤ width) (footnote_lines true width items)
+
+notes_within : {H A : Type 0} (laws : WidthLaws (List A)) (notes : NotesFit A) (lines : List (List (Item A)))
+    (s : Sub H A) (b : Laid (List A)) → IsKeptWithin s → s.options.wrap_links ≡ true → 2 ≤ s.width
+    → IsWithin (measure_of s) b → IsWithin (measure_of s) (fold (add_footnote s) b lines)
+notes_within laws notes [] s b kept wraps wide within = within
+notes_within {H} {A} laws notes (line ∷ lines) s b kept wraps wide within =
+    notes_within laws notes lines s (add_footnote s b line) kept wraps wide
+    (laws.lines_taken (measure_of s) s.annotations s.annotations
+    (footnote_lines s.options.wrap_links s.width line) b (kept_measure s kept) within
+    (subst (λ w. All (λ (l : List (Item (List A))). line_columns l ≤ s.width) (footnote_lines w s.width line))
+    (sym wraps) (notes s.width line wide)))
+
+pub notes_added : {H A : Type 0} (laws : WidthLaws (List A)) (notes : NotesFit A) (lines : List (List (Item A)))
+    (s : Sub H A) → IsKeptWithin s → s.options.wrap_links ≡ true → 2 ≤ s.width
+    → IfSome (add_footnotes lines s) (StaysWithin s)
+notes_added laws notes lines s kept wraps wide =
+    laid_on s (option_map (λ b. fold (add_footnote s) b lines) (flush (measure_of s) s.annotations s.laid)) kept
+    (mapped (IsWithin (measure_of s)) (IsWithin (measure_of s)) (λ b. fold (add_footnote s) b lines)
+    (flush (measure_of s) s.annotations s.laid)
+    (λ b inside. notes_within laws notes lines s b kept wraps wide inside)
+    (known (IsWithin (measure_of s)) (flush (measure_of s) s.annotations s.laid)
+    (λ new is. laws.flushed (measure_of s) s.annotations s.laid new (kept_measure s kept) kept.1 is)))
 
 -- ---- calls
 

@@ -1,14 +1,17 @@
 -- Where a character that is wider than the lines may stand alone on one, no call of a renderer is refused.
 use Rattle.std.proofs.Common.{ℕ, Bool, true, false, List, [], ◌∷◌, Option, None, Some}
-use Rattle.std.specs.Prelude.{IsSomeAnd, All, nat_lt, if◌then◌else◌}
-use Rattle.std.specs.Option.{option_and_then}
+use Rattle.std.specs.Prelude.{IsSomeAnd, All, fold, nat_lt, if◌then◌else◌}
+use Rattle.std.specs.Option.{option_map, option_and_then}
 use Rattle.std.proofs.lemmas.List.Elements.{All-head, All-tail}
 use Rattle.text_pieces.specs.declared.white_space.WhiteSpace.{WhiteSpace}
 use Rattle.text_marks.specs.Marks.{Mark, link_end, strikeout_start, strikeout_end, image}
+use Rattle.tagged_lines.specs.Tagged.{Item}
+use Rattle.footnote_lines.specs.Footnotes.{footnote_lines}
+use Rattle.block_renderer.specs.Footnotes.{add_footnote, add_footnotes}
 use Rattle.text_borders.specs.Borders.{Border, plain, horizontal}
 use Rattle.text_borders.specs.Across.{Cell, CellLine}
 use Rattle.block_layout.specs.declared.measure.Measure.{Measure}
-use Rattle.block_layout.specs.Laid.{Laid, add_empty_line, start_block, start_table, end_block, flush, break_line, is_ignored, start_awaited, add_text, mark, add_border, add_horizontal_border, add_block}
+use Rattle.block_layout.specs.Laid.{Laid, add_text_lines, add_empty_line, start_block, start_table, end_block, flush, break_line, is_ignored, start_awaited, add_text, mark, add_border, add_horizontal_border, add_block}
 use Rattle.block_layout.specs.LaidRows.{add_row, add_slashes}
 use Rattle.layout_laws.specs.LayoutLaws.{AllowsOverflow}
 use Rattle.layout_laws.proofs.OptionLemmas.{given_mapped, given_chained}
@@ -20,6 +23,8 @@ use Rattle.renderer_laws.specs.RendererLaws.{HasRoom, CallHasRoom, after}
 pub record RoomLaws (S : Type 0) : Type 0 where
   pub flushes : (m : Measure) (tag : S) (b : Laid S) → AllowsOverflow m b
       → IsSomeAnd (flush m tag b) (AllowsOverflow m)
+  pub takes_lines : (m : Measure) (tag fill : S) (lines : List (List (Item S))) (b : Laid S) → AllowsOverflow m b
+      → AllowsOverflow m (add_text_lines m tag fill lines b)
   pub adds_line : (m : Measure) (tag : S) (b : Laid S) → AllowsOverflow m b
       → IsSomeAnd (add_empty_line m tag b) (AllowsOverflow m)
   pub begins_block : (m : Measure) (tag : S) (b : Laid S) → AllowsOverflow m b
@@ -211,6 +216,25 @@ adds_rows laws cells s all room =
     (λ x inside. rules laws x inside)
     (given_chained HasRoom HasRoom (add_first cells) (flush_sub s) (λ x inside. adds_first laws cells x all inside)
     (flushes_sub laws s room))
+
+-- ---- lines behind the page
+
+takes_notes : {H A : Type 0} (laws : RoomLaws (List A)) (lines : List (List (Item A))) (s : Sub H A)
+    (b : Laid (List A)) → AllowsOverflow (measure_of s) b
+    → AllowsOverflow (measure_of s) (fold (add_footnote s) b lines)
+takes_notes laws [] s b room = room
+takes_notes laws (line ∷ lines) s b room =
+    takes_notes laws lines s (add_footnote s b line)
+    (laws.takes_lines (measure_of s) s.annotations s.annotations
+    (footnote_lines s.options.wrap_links s.width line) b room)
+
+pub adds_notes : {H A : Type 0} (laws : RoomLaws (List A)) (lines : List (List (Item A))) (s : Sub H A) → HasRoom s
+    → IsSomeAnd (add_footnotes lines s) HasRoom
+adds_notes laws lines s room =
+    laid_on s (option_map (λ b. fold (add_footnote s) b lines) (flush (measure_of s) s.annotations s.laid))
+    (given_mapped (AllowsOverflow (measure_of s)) (AllowsOverflow (measure_of s)) (λ b. fold (add_footnote s) b lines)
+    (flush (measure_of s) s.annotations s.laid) (λ b inside. takes_notes laws lines s b inside)
+    (laws.flushes (measure_of s) s.annotations s.laid room))
 
 -- ---- calls
 

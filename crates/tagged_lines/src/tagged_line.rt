@@ -119,8 +119,8 @@ impl<T: EqualCopy + Drop> TaggedLine<T> {
         Ok(())
     }
 
-    // Adds a text, which has that many columns, at the end.
-    fn push_counted(&mut self, text: &str, columns: usize, tag: &T) -> Result<(), AllocError>
+    /// Adds a text whose columns are known at the end. The error is want of memory alone, and leaves the line as it was.
+    pub fn push_counted(&mut self, text: &str, columns: usize, tag: &T) -> Result<(), AllocError>
         requires { columns ≡ text_columns (chars text.now) }
         ensures ok { OnOk result (line_items T.seen self.new
             ≡ line_items T.seen self.old ++ tagged (chars text.now) (T.seen tag.now)) }

@@ -1,2 +1,3 @@
+pub mod LinkLaws
 pub mod NumberLemmas
 pub mod PartLemmas

@@ -1,9 +1,10 @@
 -- What stands below a part is one thing.
-use Rattle.std.proofs.Common.{◌≡◌, List, [], ◌∷◌, ◌++◌, refl, sym, ap, ◌∙◌}
-use Rattle.std.specs.Prelude.{fold}
+use Rattle.std.proofs.Common.{◌≡◌, ℕ, true, length, if◌then◌else◌, List, [], ◌∷◌, ◌++◌, refl, sym, ap, ◌∙◌}
+use Rattle.std.specs.Prelude.{Option, Some, fold}
+use Rattle.std.specs.Option.{option_map}
 use Rattle.block_layout.specs.LaidRows.{before_last}
-use Rattle.renderer_calls.specs.Renderers.{Sub}
-use Rattle.text_block_renderer.specs.Parts.{Parts, with_part}
+use Rattle.renderer_calls.specs.Renderers.{Marking, Sub, add_inline}
+use Rattle.text_block_renderer.specs.Parts.{Parts, with_part, with_current, footnote_mark, add_part_number}
 
 front_of : {A : Type 0} (front : List A) (x : A) → before_last (front ++ x ∷ []) ≡ front
 front_of [] x = refl
@@ -30,3 +31,14 @@ parts_split {H} {A} s t p q e = (
     current_is : p.current ≡ q.current
     current_is = sym (last_of p.below p.current p.current)
         ∙ ap (λ (r : Parts H A). fold (λ _ z. z) p.current r.below) e ∙ last_of q.below q.current p.current
+
+-- the number of the last link is added
+pub number_added : {H A : Type 0} (m : Marking H A) (p : Parts H A) (n : ℕ) (cs : List ℕ) (o : Option (Sub H A))
+    → p.current.options.include_link_footnotes ≡ true → n ≡ length p.targets → cs ≡ footnote_mark n
+    → add_inline m cs p.current ≡ o → add_part_number m p ≡ option_map (with_current p) o
+number_added m p n cs o asked number mark added =
+    ap (λ t. option_map (with_current p) (if t then add_inline m (footnote_mark (length p.targets)) p.current
+    else Some p.current)) asked
+    ∙ ap (λ k. option_map (with_current p) (add_inline m (footnote_mark k) p.current)) (sym number)
+    ∙ ap (λ ds. option_map (with_current p) (add_inline m ds p.current)) (sym mark)
+    ∙ ap (option_map (with_current p)) added

@@ -27,13 +27,13 @@ with_current_renderer t s = record t { current = s }
 
 -- However the decorator's annotations are seen, the renderer comes from the old one by f, or comes to none.
 abbrev pub PartsCome : {D T H A : Type 0} → (T → A) → (D → H) → (H → Mark → List ℕ) → (H → Mark → T → Type 0)
-    → (H → Mark → Bool) → (H → Mark → H) → (H → Mark → Bool) → (Marking H A → Parts H A → Option (Parts H A))
-    → TextRenderer D T → TextRenderer D T → Type 0
-PartsCome seen held text gives marks after pops f old new = (tag : _) → IsTagging seen gives tag
-    → f (marking text tag marks after pops) (parts_of seen held old) ≡ Some (parts_of seen held new)
+    → (H → Mark → Bool) → (H → Mark → H) → (H → Mark → Bool) → (H → H)
+    → (Marking H A → Parts H A → Option (Parts H A)) → TextRenderer D T → TextRenderer D T → Type 0
+PartsCome seen held text gives marks after pops sub f old new = (tag : _) → IsTagging seen gives tag
+    → f (marking text tag marks after pops sub) (parts_of seen held old) ≡ Some (parts_of seen held new)
 
 abbrev pub PartsFail : {D T H A : Type 0} → (T → A) → (D → H) → (H → Mark → List ℕ) → (H → Mark → T → Type 0)
-    → (H → Mark → Bool) → (H → Mark → H) → (H → Mark → Bool) → (Marking H A → Parts H A → Option (Parts H A))
-    → TextRenderer D T → Type 0
-PartsFail seen held text gives marks after pops f old = (tag : _) → IsTagging seen gives tag
-    → f (marking text tag marks after pops) (parts_of seen held old) ≡ None
+    → (H → Mark → Bool) → (H → Mark → H) → (H → Mark → Bool) → (H → H)
+    → (Marking H A → Parts H A → Option (Parts H A)) → TextRenderer D T → Type 0
+PartsFail seen held text gives marks after pops sub f old = (tag : _) → IsTagging seen gives tag
+    → f (marking text tag marks after pops sub) (parts_of seen held old) ≡ None

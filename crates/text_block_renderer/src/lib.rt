@@ -1,6 +1,7 @@
 //! Text laid out in blocks, and the decorators that mark it.
 #![tactic(auto)]
 
+mod laws;
 mod text_renderer;
 
 pub use block_renderer::{
@@ -8,6 +9,7 @@ pub use block_renderer::{
     SubRenderer,
 };
 pub use footnote_lines::footnotes_keep_the_width;
+pub use laws::{parts_keep_the_width, parts_with_room_never_refuse};
 pub use layout_laws::{calls_keep_the_width, cells_hang_until_a_row, overflow_never_refuses};
 pub use normal_text::{markers_change_no_line, normal_lines_show_each_character};
 pub use renderer_laws::{

@@ -154,10 +154,10 @@ impl<D: TextDecorator + Drop> TextRenderer<D> {
             → IfErr result (λ e. (e ≡ errors.TooNarrow) ⊎ (e ≡ errors.Memory)) }
         ensures current { current_has_failed self.old ≡ true → result ≡ Err errors.Failed }
         ensures works { OnOk result (current_has_failed self.new ≡ false) }
-        ensures done { OnOk result (PartsCome D.Annotation.seen D.held D.text D.gives D.marks D.after D.pops
+        ensures done { OnOk result (PartsCome D.Annotation.seen D.held D.text D.gives D.marks D.after D.pops D.sub
             (λ m p. begin_part_link m (chars target.now) p) self.old self.new) }
         ensures narrow { result ≡ Err errors.TooNarrow → PartsFail D.Annotation.seen D.held D.text D.gives D.marks
-            D.after D.pops (λ m p. begin_part_link m (chars target.now) p) self.old }
+            D.after D.pops D.sub (λ m p. begin_part_link m (chars target.now) p) self.old }
     {
         if self.failed {
             return Err(BlockError::Failed);
@@ -172,10 +172,10 @@ impl<D: TextDecorator + Drop> TextRenderer<D> {
             → IfErr result (λ e. (e ≡ errors.TooNarrow) ⊎ (e ≡ errors.Memory)) }
         ensures current { current_has_failed self.old ≡ true → result ≡ Err errors.Failed }
         ensures works { OnOk result (current_has_failed self.new ≡ false) }
-        ensures done { OnOk result (PartsCome D.Annotation.seen D.held D.text D.gives D.marks D.after D.pops
+        ensures done { OnOk result (PartsCome D.Annotation.seen D.held D.text D.gives D.marks D.after D.pops D.sub
             (λ m p. begin_part_link m (chars target.now) p) self.old self.new) }
         ensures narrow { result ≡ Err errors.TooNarrow → PartsFail D.Annotation.seen D.held D.text D.gives D.marks
-            D.after D.pops (λ m p. begin_part_link m (chars target.now) p) self.old }
+            D.after D.pops D.sub (λ m p. begin_part_link m (chars target.now) p) self.old }
     {
         self.current.start_link(target)?;
         let name = String::from_str(*self.links.allocator(), target)?;
@@ -192,10 +192,10 @@ impl<D: TextDecorator + Drop> TextRenderer<D> {
             → IfErr result (λ e. (e ≡ errors.TooNarrow) ⊎ (e ≡ errors.Memory)) }
         ensures current { current_has_failed self.old ≡ true → result ≡ Err errors.Failed }
         ensures works { OnOk result (current_has_failed self.new ≡ false) }
-        ensures done { OnOk result (PartsCome D.Annotation.seen D.held D.text D.gives D.marks D.after D.pops
+        ensures done { OnOk result (PartsCome D.Annotation.seen D.held D.text D.gives D.marks D.after D.pops D.sub
             finish_part_link self.old self.new) }
         ensures narrow { result ≡ Err errors.TooNarrow → PartsFail D.Annotation.seen D.held D.text D.gives D.marks
-            D.after D.pops finish_part_link self.old }
+            D.after D.pops D.sub finish_part_link self.old }
     {
         if self.failed {
             return Err(BlockError::Failed);
@@ -210,10 +210,10 @@ impl<D: TextDecorator + Drop> TextRenderer<D> {
             → IfErr result (λ e. (e ≡ errors.TooNarrow) ⊎ (e ≡ errors.Memory)) }
         ensures current { current_has_failed self.old ≡ true → result ≡ Err errors.Failed }
         ensures works { OnOk result (current_has_failed self.new ≡ false) }
-        ensures done { OnOk result (PartsCome D.Annotation.seen D.held D.text D.gives D.marks D.after D.pops
+        ensures done { OnOk result (PartsCome D.Annotation.seen D.held D.text D.gives D.marks D.after D.pops D.sub
             finish_part_link self.old self.new) }
         ensures narrow { result ≡ Err errors.TooNarrow → PartsFail D.Annotation.seen D.held D.text D.gives D.marks
-            D.after D.pops finish_part_link self.old }
+            D.after D.pops D.sub finish_part_link self.old }
     {
         self.current.end_link()?;
         self.add_number()
@@ -224,10 +224,10 @@ impl<D: TextDecorator + Drop> TextRenderer<D> {
         ensures kinds { current_has_failed self.old ≡ false
             → IfErr result (λ e. (e ≡ errors.TooNarrow) ⊎ (e ≡ errors.Memory)) }
         ensures works { current_has_failed self.old ≡ false → OnOk result (current_has_failed self.new ≡ false) }
-        ensures done { OnOk result (PartsCome D.Annotation.seen D.held D.text D.gives D.marks D.after D.pops
+        ensures done { OnOk result (PartsCome D.Annotation.seen D.held D.text D.gives D.marks D.after D.pops D.sub
             add_part_number self.old self.new) }
         ensures narrow { result ≡ Err errors.TooNarrow → PartsFail D.Annotation.seen D.held D.text D.gives D.marks
-            D.after D.pops add_part_number self.old }
+            D.after D.pops D.sub add_part_number self.old }
     {
         if !self.current.options.include_link_footnotes {
             return Ok(());

@@ -77,7 +77,8 @@ impl<T: EqualCopy + Drop> RenderLine<T> {
 
     /// An equal line. The error is want of memory alone.
     pub fn try_clone(&self) -> Result<RenderLine<T>, AllocError>
-        ensures { IfOk result (λ copy. render_line_of T.seen copy ≡ render_line_of T.seen self.now) }
+        ensures line { IfOk result (λ copy. render_line_of T.seen copy ≡ render_line_of T.seen self.now) }
+        ensures joined { IsJoinedText T.seen self.now → IfOk result (IsJoinedText T.seen) }
     {
         match self {
             RenderLine::Text(line) => Ok(RenderLine::Text(line.try_clone()?)),

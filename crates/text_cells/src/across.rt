@@ -1,6 +1,7 @@
 //! A row of cells beside one another.
-ghost use Rattle.std.specs.Prelude.{◌≡◌, map, IfOk};
+ghost use Rattle.std.specs.Prelude.{◌≡◌, map, All, IfOk};
 ghost use Rattle.std.specs.Option.{option_map};
+ghost use Rattle.tagged_lines.specs.Tagged.{IsJoined};
 ghost use Rattle.text_borders.specs.Borders.{border_of};
 ghost use Rattle.text_borders.specs.Across.{across};
 ghost use Rattle.text_cells.specs.Cells.{cell_of, hanging_of, row_of};
@@ -19,7 +20,7 @@ use text_borders::BorderHoriz;
 /// A row of cells beside one another, with the cells that go on from the row before among them: below a border, which
 /// is joined to it, or below none. `draws` tells whether `│` or a space stands between cells, `collapse` whether
 /// borders at the beginning and at the end of a cell are taken into those of the row. What is added is tagged `tag`.
-/// The error is want of memory alone.
+/// The lines are joined, whether those of the cells are or not. The error is want of memory alone.
 pub fn lay_across<T: EqualCopy + Drop>(
     alloc: Global,
     draws: bool,
@@ -29,9 +30,10 @@ pub fn lay_across<T: EqualCopy + Drop>(
     cells: Vec<LineSet<T>>,
     hanging: Vec<HangingCell<T>>,
 ) -> Result<Row<T>, AllocError>
-    ensures { IfOk result (λ row. row_of T.seen row ≡ across draws collapse (T.seen tag.now)
+    ensures row { IfOk result (λ row. row_of T.seen row ≡ across draws collapse (T.seen tag.now)
         (option_map (border_of T.seen) above) (map (cell_of T.seen) cells.items)
         (map (hanging_of T.seen) hanging.items)) }
+    ensures joined { IfOk result (λ row. All (IsJoined T.seen) row.lines.items) }
 {
     let seated = seated(alloc, cells, hanging)?;
     let mut row = opened_cells(alloc, collapse, above.is_some(), tag, seated)?;

@@ -1,6 +1,6 @@
 //! The lines of a row.
-ghost use Rattle.std.specs.Prelude.{◌≡◌, ◌++◌, map, IfOk, OnOk};
-ghost use Rattle.tagged_lines.specs.Tagged.{line_items};
+ghost use Rattle.std.specs.Prelude.{◌≡◌, ◌++◌, map, All, IfOk, OnOk};
+ghost use Rattle.tagged_lines.specs.Tagged.{line_items, IsJoined};
 ghost use Rattle.text_borders.specs.Across.{sign_of, row_height, row_lines, row_items};
 ghost use Rattle.text_cells.specs.OpenCells.{open_cell_of, after, sign_before};
 
@@ -40,6 +40,7 @@ pub(crate) fn row_lines<T: EqualCopy + Drop>(
         ≡ row_lines sign (T.seen tag.now) (map (open_cell_of T.seen) cells.old) 0 height) }
     ensures rest { OnOk result (map (open_cell_of T.seen) cells.new
         ≡ map (after height) (map (open_cell_of T.seen) cells.old)) }
+    ensures joined { IfOk result (λ lines. All (IsJoined T.seen) lines.items) }
 {
     let mut lines = Vec::new(alloc);
     for _line in 0..height {
@@ -59,6 +60,7 @@ fn row_line<T: EqualCopy + Drop>(
         ≡ row_items sign (T.seen tag.now) 0 (map (open_cell_of T.seen) cells.old)) }
     ensures rest { OnOk result (map (open_cell_of T.seen) cells.new
         ≡ map (after 1) (map (open_cell_of T.seen) cells.old)) }
+    ensures joined { IfOk result (IsJoined T.seen) }
 {
     let mut line = TaggedLine::new(alloc);
     let mut left = cells.len();
@@ -78,8 +80,9 @@ fn push_sign<T: EqualCopy + Drop>(
     tag: &T,
     left: usize,
 ) -> Result<(), AllocError>
-    ensures { OnOk result (line_items T.seen line.new
+    ensures items { OnOk result (line_items T.seen line.new
         ≡ line_items T.seen line.old ++ sign_before sign (T.seen tag.now) left) }
+    ensures joined { IsJoined T.seen line.old → IsJoined T.seen line.new }
 {
     if left == 0 {
         return Ok(());

@@ -2,4 +2,5 @@ pub mod CharacterLemmas
 pub mod ElementLemmas
 pub mod FrontLemmas
 pub mod ItemColumns
+pub mod PieceJoins
 pub mod TextCuts

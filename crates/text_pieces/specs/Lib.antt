@@ -1,5 +1,6 @@
 pub mod Cuts
 pub mod Faults
 pub mod Items
+pub mod Joins
 pub mod Modes
 pub mod Sources

@@ -1,8 +1,10 @@
 -- What is laid out: characters with their tags, and markers between them.
-use Rattle.std.specs.Prelude.{ℕ, Bool, true, false, not, ◌&&◌, ◌||◌, ◌==◌, List, [], ◌∷◌, map, flat_map, chars, string_bytes, String}
+use Rattle.std.specs.Prelude.{ℕ, Bool, true, false, not, ◌&&◌, ◌||◌, ◌==◌, List, [], ◌∷◌, map, flat_map, chars, string_bytes, String, unwrap_or}
+use Rattle.std.specs.Option.{option_map}
 use Rattle.std.specs.Global.{Global}
 use Rattle.std.specs.Char.{is_whitespace}
 use Rattle.text_pieces.specs.declared.piece.Piece.{Piece}
+use Rattle.text_pieces.specs.declared.piece.TextPiece.{TextPiece}
 use Rattle.text_pieces.specs.declared.piece.Piece.TheVariants.{Text, Fragment}
 
 -- White space: std's, other than U+00A0.
@@ -26,8 +28,15 @@ sourced cs main further = map (λ c. letter c main further) cs
 abbrev pub fragments : {S : Type 0} → List (List ℕ) → List (Source S)
 fragments names = map (λ name. fragment name) names
 
+-- the tag of a piece's characters where a preserved line was wrapped: the main one, where the piece has no other
+abbrev pub wrap_seen : {T S : Type 0} → (T → S) → TextPiece T → S
+wrap_seen seen piece = unwrap_or (option_map seen piece.wrap_tag) (seen piece.main_tag)
+
+abbrev pub text_sources : {T S : Type 0} → (T → S) → TextPiece T → List (Source S)
+text_sources seen piece = sourced (chars (string_bytes piece.text)) (seen piece.main_tag) (wrap_seen seen piece)
+
 abbrev pub piece_sources : {T S : Type 0} → (T → S) → Piece T → List (Source S)
-piece_sources seen (Text piece) = sourced (chars (string_bytes piece.text)) (seen piece.main_tag) (seen piece.wrap_tag)
+piece_sources seen (Text piece) = text_sources seen piece
 piece_sources seen (Fragment name) = fragment (chars (string_bytes name)) ∷ []
 
 abbrev pub sources_of : {T S : Type 0} → (T → S) → List (Piece T) → List (Source S)

@@ -4,3 +4,5 @@ pub mod NormalPadding
 pub mod BlockLaws
 pub mod BlockWidths
 pub mod ShowingLemmas
+pub mod CopyLemmas
+pub mod NothingLemmas

@@ -6,13 +6,14 @@ ghost use Rattle.text_pieces.specs.Modes.{is_preserved, is_same_mode};
 ghost use Rattle.text_wrapping.specs.Blocks.{lines_or_empty};
 ghost use Rattle.tagged_lines.specs.Tagged.{line_items, IsJoined};
 
+use crate::copies::{clone_lines, clone_pieces};
 use crate::padding::pad_lines;
 use crate::showing::{ends_in_columns, has_visible, have_columns};
 use normal_text::lay_normal;
 use preserved_text::lay_preserved;
 use std::alloc::{AllocError, Global};
 use tagged_lines::{EqualCopy, TaggedLine};
-use text_pieces::{BlockError, LaidText, Piece, TextPiece, WhiteSpace, cut_at};
+use text_pieces::{BlockError, LaidText, Piece, WhiteSpace, cut_at, push_text};
 
 /// Text that is wrapped into lines of at most `width` columns, or preserved, by modes of white space.
 #[derive(Drop)]
@@ -59,6 +60,25 @@ impl<T: EqualCopy + Drop> WrappedBlock<T> {
             pieces: Vec::new(alloc),
             failed: false,
         }
+    }
+
+    /// An equal block, in the memory of this one. The error is want of memory alone.
+    pub fn try_clone(&self) -> Result<WrappedBlock<T>, AllocError>
+        ensures block { IfOk result (λ copy. block_of T.seen copy ≡ block_of T.seen self.now) }
+        ensures failed { IfOk result (λ copy. has_failed copy ≡ has_failed self.now) }
+        ensures joined { HasJoinedLines T.seen self.now → IfOk result (λ copy. HasJoinedLines T.seen copy) }
+    {
+        let alloc = *self.lines.allocator();
+        Ok(WrappedBlock {
+            width: self.width,
+            pad_blocks: self.pad_blocks,
+            allow_overflow: self.allow_overflow,
+            default_tag: self.default_tag.copy(alloc)?,
+            lines: clone_lines(alloc, &self.lines)?,
+            mode: self.mode,
+            pieces: clone_pieces(alloc, &self.pieces)?,
+            failed: self.failed,
+        })
     }
 
     /// Adds text behind what was added before. In normal mode its words are wrapped, each character tagged `main_tag`. Where
@@ -170,13 +190,7 @@ impl<T: EqualCopy + Drop> WrappedBlock<T> {
         if text.is_empty() {
             return Ok(());
         }
-        let alloc = *self.lines.allocator();
-        let piece = TextPiece {
-            text: String::from_str(alloc, text)?,
-            main_tag: main_tag.copy(alloc)?,
-            wrap_tag: wrap_tag.copy(alloc)?,
-        };
-        self.pieces.push(Piece::Text(piece))?;
+        push_text(&mut self.pieces, text, main_tag, wrap_tag)?;
         Ok(())
     }
 
@@ -201,6 +215,9 @@ impl<T: EqualCopy + Drop> WrappedBlock<T> {
         ensures narrow { result ≡ Err BlockError.TooNarrow → ended (block_of T.seen self.old) ≡ None }
         ensures joined { HasJoinedLines T.seen self.old → HasJoinedLines T.seen self.new }
     {
+        if self.pieces.is_empty() {
+            return Ok(());
+        }
         let LaidText { lines, waiting } = self.lay()?;
         self.put_lines(lines)?;
         self.wait(waiting)?;

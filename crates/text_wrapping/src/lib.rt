@@ -2,6 +2,7 @@
 #![tactic(auto)]
 
 mod block;
+mod copies;
 mod laws;
 mod padding;
 mod showing;

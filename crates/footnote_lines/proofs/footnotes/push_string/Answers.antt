@@ -5,8 +5,8 @@ use Rattle.footnote_lines.specs.Cuts.{cut_of, tags_seen, placed_spaced, placed_n
 use Rattle.footnote_lines.proofs.CutLemmas.{noted_text}
 use Rattle.footnote_lines.proofs.footnotes.push_string.Goals as goal
 
-pub returns : goal.returns
-returns g c =
+pub returns-clause-placed : goal.returns-clause-placed
+returns-clause-placed g c =
     let text = c.as_str.result.now in
     let annotation = g.A.EqualCopy.seen c.args.string.now.tag in
     let cut = cut_of (tags_seen g.A.EqualCopy.seen) c.args.cut.now in
@@ -14,4 +14,4 @@ returns g c =
     ∙ ap (λ tag. fold (placed_spaced c.args.width) cut (tagged (chars text) tag)) c.in_ok-tags.ensures
     ∙ noted_text c.args.width (chars text) annotation cut
     ∙ ap (λ bytes. fold (placed_noted c.args.width) cut (tagged (chars bytes) annotation)) c.as_str.ensures.value)
-    c.push_text.ensures
+    c.push_text.ensures.placed

@@ -3,7 +3,7 @@ use Rattle.std.proofs.lemmas.Option.{MatchOption-at_some}
 use Rattle.tagged_lines.specs.Tagged.{line_columns}
 use Rattle.text_borders.specs.Lines.{line_shown}
 use Rattle.layout_laws.specs.LayoutLaws.{IsWithin}
-use Rattle.layout_laws.proofs.WidthLemmas.{TextLaws, nothing_within, flushed, empty_line_added, block_started, table_started, block_ended, awaited_started, text_added, marked, line_broken}
+use Rattle.layout_laws.proofs.WidthLemmas.{TextLaws, nothing_within, flushed, lines_added, empty_line_added, block_started, table_started, block_ended, awaited_started, text_added, marked, line_broken}
 use Rattle.layout_laws.proofs.RowWidths.{BorderLaws, RowLaws, border_added, horizontal_added, slashes_added, block_added, row_of_flushed, lines_finished}
 use Rattle.layout_laws.proofs.laws.calls_keep_the_width.Goals as goal
 
@@ -40,6 +40,7 @@ returns g c =
     record {
       nothing = λ m. nothing_within m;
       flush = λ m tag b new kept h is. MatchOption-at_some ⊤ (IsWithin m) new is (flushed laws m tag b kept h);
+      add_text_lines = λ m tag fill lines b kept h fit. lines_added laws m tag fill lines b kept fit h;
       add_empty_line = λ m tag b new kept h is.
           MatchOption-at_some ⊤ (IsWithin m) new is (empty_line_added laws m tag b kept h);
       start_block = λ m tag b new kept h is.

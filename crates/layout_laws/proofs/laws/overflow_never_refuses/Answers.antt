@@ -1,4 +1,4 @@
-use Rattle.layout_laws.proofs.OverflowLemmas.{flushes, adds_empty_line, starts_block, starts_table, starts_awaited, adds_text, breaks_line, adds_horizontal, adds_block, adds_row, finishes, marks}
+use Rattle.layout_laws.proofs.OverflowLemmas.{flushes, texts_allow, adds_empty_line, starts_block, starts_table, starts_awaited, adds_text, breaks_line, adds_horizontal, adds_block, adds_row, finishes, marks}
 use Rattle.layout_laws.proofs.laws.overflow_never_refuses.Goals as goal
 
 pub returns-clause-nothing : goal.returns-clause-nothing
@@ -6,6 +6,9 @@ returns-clause-nothing g c = λ m allows. record { measure = allows; running = t
 
 pub returns-clause-flush : goal.returns-clause-flush
 returns-clause-flush g c = λ m tag b h. flushes m tag b h
+
+pub returns-clause-add_text_lines : goal.returns-clause-add_text_lines
+returns-clause-add_text_lines g c = λ m tag fill lines b h. texts_allow m tag fill lines b h
 
 pub returns-clause-add_empty_line : goal.returns-clause-add_empty_line
 returns-clause-add_empty_line g c = λ m tag b h. adds_empty_line m tag b h

@@ -1,11 +1,12 @@
 use Rattle.std.specs.Prelude.{List}
-use Rattle.renderer_laws.proofs.RoomLemmas.{RoomLaws, step_given, all_given}
+use Rattle.renderer_laws.proofs.RoomLemmas.{RoomLaws, adds_notes, step_given, all_given}
 use Rattle.renderer_laws.proofs.laws.renderers_with_room_never_refuse.Goals as goal
 
 pub returns : goal.returns
 returns g c =
     let laws : RoomLaws (List g.D.Annotation.EqualCopy.Seen) = record {
       flushes = λ m tag b h. c.overflow_never_refuses.ensures.flush m tag b h;
+      takes_lines = λ m tag fill lines b h. c.overflow_never_refuses.ensures.add_text_lines m tag fill lines b h;
       adds_line = λ m tag b h. c.overflow_never_refuses.ensures.add_empty_line m tag b h;
       begins_block = λ m tag b h. c.overflow_never_refuses.ensures.start_block m tag b h;
       begins_table = λ m tag b h. c.overflow_never_refuses.ensures.start_table m tag b h;
@@ -27,5 +28,6 @@ returns g c =
       new = λ width options held annotations allows. record { measure = allows; running = tt };
       step = λ m call s room taken. step_given laws m call s room taken;
       calls = λ m calls s room all. all_given laws m calls s room all;
+      footnotes = λ lines s room. adds_notes laws lines s room;
       lines = λ s room. c.overflow_never_refuses.ensures.finished_lines _ s.annotations s.laid room;
     }

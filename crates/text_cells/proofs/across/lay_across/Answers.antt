@@ -10,8 +10,8 @@ use Rattle.text_cells.specs.OpenCells.{open_cell_of, after}
 use Rattle.text_cells.proofs.WholeRow.{given_is, written, cells_are, above_is, below_is, lines_are, holes_are, hanging_are, row_is}
 use Rattle.text_cells.proofs.across.lay_across.Goals as goal
 
-pub returns : goal.returns
-returns g c =
+pub returns-clause-row : goal.returns-clause-row
+returns-clause-row g c =
     let seen = g.T.EqualCopy.seen in
     let tag = seen c.args.tag.now in
     let above = option_map (border_of seen) c.args.above in

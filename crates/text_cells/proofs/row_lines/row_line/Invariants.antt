@@ -1,5 +1,5 @@
 use Rattle.std.proofs.Common.{◌≡◌, ◌+◌, ◌++◌, map, take, drop, length}
-use Rattle.tagged_lines.specs.Tagged.{line_items}
+use Rattle.tagged_lines.specs.Tagged.{line_items, IsJoined}
 use Rattle.text_borders.specs.Across.{row_items}
 use Rattle.text_cells.specs.OpenCells.{open_cell_of, after}
 use Rattle.text_cells.proofs.row_lines.row_line.Given as goal
@@ -13,4 +13,5 @@ invariant-loop-cell g l =
       items : line_items seen l.line ++ row_items l.sign (seen l.tag) 0 (drop l.cell-index start)
           ≡ row_items l.sign (seen l.tag) 0 start;
       cells : map (open_cell_of seen) l.cells ≡ map (after 1) (take l.cell-index start) ++ drop l.cell-index start;
+      joined : IsJoined seen l.line;
     }

@@ -1,6 +1,8 @@
-use Rattle.std.proofs.Common.{map, ap, ◌∙◌}
+use Rattle.std.proofs.Common.{map, ap, sym, subst, ◌∙◌}
+use Rattle.std.specs.Prelude.{All}
+use Rattle.std.proofs.lemmas.List.Elements.{All-nil, All-push}
 use Rattle.std.proofs.lemmas.List.{map_push}
-use Rattle.tagged_lines.specs.Tagged.{line_items}
+use Rattle.tagged_lines.specs.Tagged.{line_items, IsJoined}
 use Rattle.text_cells.specs.OpenCells.{open_cell_of}
 use Rattle.text_cells.proofs.RowLemmas.{lines_more, after_more, after_none}
 use Rattle.text_cells.proofs.row_lines.row_lines.Goals as goal
@@ -11,6 +13,7 @@ loop-line-init g c =
     record {
       lines = ap (map (line_items seen)) c.new-lines.ensures.items;
       rest = after_none (map (open_cell_of seen) c.args.cells.now);
+      joined = subst (All (IsJoined seen)) (sym c.new-lines.ensures.items) (All-nil (IsJoined seen));
     }
 
 pub loop-line-preserved : goal.loop-line-preserved
@@ -25,4 +28,7 @@ loop-line-preserved g c =
           (map (line_items seen) c.loop-line.lines.items) (line_items seen c.in_ok-row_line.field-0)
           c.loop-line.invariant.lines c.loop-line.invariant.rest c.in_ok-row_line.ensures.items;
       rest = c.in_ok-row_line.ensures.rest ∙ after_more c.loop-line._line start now c.loop-line.invariant.rest;
+      joined = subst (All (IsJoined seen)) (sym c.in_ok-push.ensures.items) (All-push (IsJoined seen)
+          c.loop-line.lines.items c.in_ok-row_line.field-0 c.loop-line.invariant.joined
+          c.in_ok-row_line.ensures.joined);
     }

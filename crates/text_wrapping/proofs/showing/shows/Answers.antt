@@ -1,6 +1,6 @@
 use Rattle.std.proofs.Common.{ap, chars, string_bytes}
 use Rattle.text_wrapping.specs.Blocks.{has_visible}
-use Rattle.text_pieces.specs.Sources.{piece_sources}
+use Rattle.text_pieces.specs.Sources.{piece_sources, wrap_seen}
 use Rattle.text_wrapping.proofs.ShowingLemmas.{shows_text}
 use Rattle.text_wrapping.proofs.showing.shows.Goals as goal
 
@@ -11,6 +11,6 @@ returns-in-Text g c =
       c.has_visible_character.ensures,
       c.as_str.ensures.value,
       shows_text (chars (string_bytes c.in-Text.piece.text)) (seen c.in-Text.piece.main_tag)
-          (seen c.in-Text.piece.wrap_tag),
+          (wrap_seen seen c.in-Text.piece),
       ap (λ p. has_visible (piece_sources seen p)) c.in-Text.is,
     )

@@ -1,13 +1,18 @@
 use Rattle.std.proofs.Common.{◌≡◌, map}
+use Rattle.std.specs.Prelude.{All}
 use Rattle.std.specs.Vec.Iter.{into_iter_items}
-use Rattle.tagged_lines.specs.Tagged.{line_items}
+use Rattle.tagged_lines.specs.Tagged.{line_items, IsJoined}
 use Rattle.block_layout.specs.LaidRows.{add_row_lines}
-use Rattle.block_layout.specs.Seen.{laid_of}
+use Rattle.block_layout.specs.Seen.{laid_of, HasJoinedTexts}
 use Rattle.block_layout.proofs.block.BlockLayout.add_row_lines.Given as goal
 
 abbrev pub invariant-loop-line : goal.invariant-loop-line
 invariant-loop-line g l =
     let seen = g.T.EqualCopy.seen in
-    add_row_lines l.measure (seen l.tag) (map (line_items seen) (into_iter_items l.line-iterator))
-    (laid_of seen l.self)
-    ≡ add_row_lines l.measure (seen l.tag) (map (line_items seen) l.fn.lines.items) (laid_of seen l.initial.self)
+    record {
+      laid : add_row_lines l.measure (seen l.tag) (map (line_items seen) (into_iter_items l.line-iterator))
+          (laid_of seen l.self)
+          ≡ add_row_lines l.measure (seen l.tag) (map (line_items seen) l.fn.lines.items) (laid_of seen l.initial.self);
+      joined : HasJoinedTexts seen l.initial.self → All (IsJoined seen) l.fn.lines.items
+          → HasJoinedTexts seen l.self × All (IsJoined seen) (into_iter_items l.line-iterator);
+    }

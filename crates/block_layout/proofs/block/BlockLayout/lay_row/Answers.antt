@@ -9,8 +9,8 @@ use Rattle.block_layout.specs.Seen.{laid_of}
 use Rattle.block_layout.proofs.RowLemmas.{row_is, same_hanging}
 use Rattle.block_layout.proofs.block.BlockLayout.lay_row.Goals as goal
 
-pub returns : goal.returns
-returns g c =
+pub returns-clause-laid : goal.returns-clause-laid
+returns-clause-laid g c =
     let seen = g.T.EqualCopy.seen in
     let b = laid_of seen c.args.self.now in
     on_ok_weaker c.put_row.result (λ e. e ∙ row_is c.args.measure (seen c.args.tag.now) c.args.draws c.args.collapse
@@ -19,6 +19,6 @@ returns g c =
     c.in_ok-above.ensures.above
     (c.take_hanging-hanging.ensures.hanging ∙ ap (λ x. x.hanging) c.in_ok-above.ensures.without
     ∙ same_hanging (last_border b.lines) b)
-    c.in_ok-row.ensures
+    c.in_ok-row.ensures.row
     (c.take_hanging-hanging.ensures.without ∙ ap (λ x. without_hanging x) c.in_ok-above.ensures.without))
-    c.put_row.ensures
+    c.put_row.ensures.laid

@@ -12,4 +12,4 @@ returns-clause-done g c =
     let s = sub_of seen g.D.TextDecorator.held c.args.self.now in
     footnotes_done (flush (measure_of s) s.annotations s.laid) s (sub_of seen g.D.TextDecorator.held c.flush.new.self)
     (sub_of seen g.D.TextDecorator.held c.put_footnotes.new.self) (map (line_items seen) c.args.lines.items)
-    c.in_ok-flush.ensures.done c.in_ok-put_footnotes.ensures
+    c.in_ok-flush.ensures.done c.in_ok-put_footnotes.ensures.done

@@ -9,6 +9,6 @@ pub returns-clause-done : goal.returns-clause-done
 returns-clause-done g c =
     let s = sub_of g.D.Annotation.EqualCopy.seen g.D.TextDecorator.held in
     on_ok_weaker c.append_sub.result (λ h.
-    ap (λ r. append_sub (s c.args.cell) [] [] r) (sym c.in_ok-add_slashes.ensures)
+    ap (λ r. append_sub (s c.args.cell) [] [] r) (sym c.in_ok-add_slashes.ensures.done)
     ∙ ap (λ cs. append_sub (s c.args.cell) cs cs (s c.add_slashes.new.self)) (sym chars-nil) ∙ h)
     c.append_sub.ensures.done

@@ -10,7 +10,7 @@ returns-clause-done g c =
     let seen = g.D.Annotation.EqualCopy.seen in
     let d = g.D.TextDecorator in
     on_ok_weaker c.add_inline.result (λ h. λ tag p.
-    ap (λ tags. add_inline (marking d.text tag d.marks d.after d.pops) (chars c.args.text.now)
+    ap (λ tags. add_inline (marking d.text tag d.marks d.after d.pops d.sub) (chars c.args.text.now)
     (record (sub_of seen d.held c.args.self.now) { annotations = tags }))
     (mapped_more seen c.args.self.now.annotations.items c.push.new.self.items c.args.annotation
     c.in_ok-push.ensures.items)
@@ -21,7 +21,7 @@ pub returns-clause-narrow : goal.returns-clause-narrow
 returns-clause-narrow g c = λ e. λ tag p.
     let seen = g.D.Annotation.EqualCopy.seen in
     let d = g.D.TextDecorator in
-    ap (λ tags. add_inline (marking d.text tag d.marks d.after d.pops) (chars c.args.text.now)
+    ap (λ tags. add_inline (marking d.text tag d.marks d.after d.pops d.sub) (chars c.args.text.now)
     (record (sub_of seen d.held c.args.self.now) { annotations = tags }))
     (mapped_more seen c.args.self.now.annotations.items c.push.new.self.items c.args.annotation
     c.in_ok-push.ensures.items)

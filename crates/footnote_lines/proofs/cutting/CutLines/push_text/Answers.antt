@@ -13,16 +13,19 @@ loop-c-preserved g c =
     let tag = seen c.args.tag.now in
     let t = YieldsList-turn (YieldsList-from_chars text c.utf8.text cc) c.loop-c.yielded _
     c.loop-c.yielded_by _ _ c.in-Some.c c.in-Some.is c.next.ensures.steps in
-    next_letter (placed_spaced c.args.width) (chars text) c.loop-c.yielded c.in-Some.c c.in-Some.c tag t
-    (cut_of seen c.args.self.now) (cut_of seen c.loop-c.self) (cut_of seen c.push_character.new.self)
-    c.loop-c.invariant (c.in_ok-push_character.ensures
-    ∙ ap (λ n. placed_within c.args.width (cut_of seen c.loop-c.self) (character n tag)) c.spaced.ensures)
+    record {
+      placed = next_letter (placed_spaced c.args.width) (chars text) c.loop-c.yielded c.in-Some.c c.in-Some.c tag t
+          (cut_of seen c.args.self.now) (cut_of seen c.loop-c.self) (cut_of seen c.push_character.new.self)
+          c.loop-c.invariant.placed (c.in_ok-push_character.ensures.placed
+          ∙ ap (λ n. placed_within c.args.width (cut_of seen c.loop-c.self) (character n tag)) c.spaced.ensures);
+      joined = λ h. c.push_character.ensures.joined (c.loop-c.invariant.joined h);
+    }
 
-pub returns : goal.returns
-returns g c =
+pub returns-clause-placed : goal.returns-clause-placed
+returns-clause-placed g c =
     let seen = g.T.EqualCopy.seen in
     let text = c.args.text.now in
     let t = YieldsList-end (YieldsList-from_chars text c.utf8.text cc) c.loop-c.yielded _
     c.loop-c.yielded_by _ _ c.in-None.is c.next.ensures.steps in
     all_letters (placed_spaced c.args.width) (chars text) c.loop-c.yielded (seen c.args.tag.now) t.1
-    (cut_of seen c.args.self.now) (cut_of seen c.loop-c.self) c.loop-c.invariant
+    (cut_of seen c.args.self.now) (cut_of seen c.loop-c.self) c.loop-c.invariant.placed

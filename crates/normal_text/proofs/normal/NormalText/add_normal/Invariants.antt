@@ -4,12 +4,12 @@ use denote.Shadow.{shadow}
 use Rattle.normal_text.specs.NormalStates.{ReadsFront}
 use Rattle.normal_text.proofs.normal.NormalText.add_normal.Given as goal
 
-abbrev pub invariant-loop-c : goal.invariant-loop-c
-invariant-loop-c g l =
+abbrev pub invariant-loop-rest : goal.invariant-loop-rest
+invariant-loop-rest g l =
     record {
       text : shadow (Utf8 l.rest);
       reads : ReadsFront g.T.EqualCopy.seen l.fn.self l.self l.text l.rest (g.T.EqualCopy.seen l.tag);
     }
 
-abbrev pub decreases-loop-c : goal.decreases-loop-c
-decreases-loop-c g l = length l.rest
+abbrev pub decreases-loop-rest : goal.decreases-loop-rest
+decreases-loop-rest g l = length l.rest

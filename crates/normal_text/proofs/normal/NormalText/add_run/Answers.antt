@@ -1,12 +1,14 @@
-use Rattle.std.proofs.Common.{refl}
-use Rattle.normal_text.proofs.NormalRuns.{front_reads}
+use Rattle.std.proofs.Common.{refl, chars}
+use Rattle.normal_text.proofs.NormalWords.{run_laid, run_held}
 use Rattle.normal_text.proofs.normal.NormalText.add_run.Goals as goal
 
-pub split_before-requires : goal.split_before-requires
-split_before-requires g c = c.after_run.ensures.parts
+pub returns-in_ok-add_word-in-Some-clause-read : goal.returns-in_ok-add_word-in-Some-clause-read
+returns-in_ok-add_word-in-Some-clause-read g c =
+    run_laid g.T.EqualCopy.seen c.args.self.now c.add_word.new.self (chars c.args.run.now) c.columns_of-columns.result
+    c.args.rest.now c.in-Some.behind.now c.in-Some.c (g.T.EqualCopy.seen c.args.tag.now) c.requires
+    c.columns_of-columns.ensures c.in-Some.ensures.ends c.utf8.rest c.in_ok-add_word-in-Some.ensures.laid
 
-pub returns-clause-read : goal.returns-clause-read
-returns-clause-read g c =
-    front_reads g.T.EqualCopy.seen c.args.self.now _ c.args.text.now c.after_run.result.now
-    c.split_before.result.0.now c.split_before.result.1.now (g.T.EqualCopy.seen c.args.tag.now) c.after_run.ensures
-    c.split_before.ensures.front c.split_before.ensures.rest refl refl refl c.in_ok-push_str.ensures.ok
+pub returns-in_ok-push_counted-in-None-clause-read : goal.returns-in_ok-push_counted-in-None-clause-read
+returns-in_ok-push_counted-in-None-clause-read g c =
+    run_held g.T.EqualCopy.seen c.args.self.now _ (chars c.args.run.now) (chars c.args.rest.now)
+    (g.T.EqualCopy.seen c.args.tag.now) c.requires refl refl refl c.in_ok-push_counted-in-None.ensures.ok
