@@ -1,12 +1,11 @@
 //! What a serializer writes, with texts written down from the standard (WHATWG HTML, 13.3).
-use crate::checks::holds;
+use crate::checks::{holds, told};
 use crate::parsing::html_name;
 use html_lexemes::{Attribute, Device, LocalName, Namespace, QualName, Text};
 use html_serializer::{HtmlSerializer, SerializeFault, SerializeOpts, Serializer};
 use std::alloc::Global;
 use std::io;
 use std::io::{ErrorKind, Write};
-use std::test::Fail;
 
 /// Takes at most three bytes a write while the count of writes lasts, and then fails.
 #[derive(Drop)]
@@ -97,7 +96,9 @@ const ANCHOR: &[Call] = &[
 const ANCHOR_TEXT: &str = "<a x=\"&quot;&lt;&amp;&gt;\">&lt;&gt;\"&amp;&nbsp;</a>";
 
 // calls, how many are done before one finds no parent, and what is written
-static CALLS: [(&[Call], usize, &str); 3] = [
+type Row = (&'static [Call], usize, &'static str);
+
+static CALLS: [Row; 3] = [
     (ANCHOR, 3, ANCHOR_TEXT),
     (
         &[
@@ -126,29 +127,34 @@ static CALLS: [(&[Call], usize, &str); 3] = [
     ),
 ];
 
+fn is_written(alloc: Global, row: &Row) -> Result<bool, SerializeFault> {
+    let (calls, most, text) = *row;
+    let (done, refused, bytes) = written(alloc, usize::MAX, calls, SerializeFault::NoParent)?;
+    let is_told = done == most && done.saturating_add(refused) == calls.len();
+    Ok(is_told && bytes.as_slice() == text.as_bytes())
+}
+
 #[test]
-fn each_call_writes_its_text(rt: HostRuntime) -> Result<(), Fail> {
-    for (row, (calls, most, text)) in CALLS.iter().enumerate() {
-        let fault = SerializeFault::NoParent;
-        let (done, refused, bytes) = written(rt.alloc(), usize::MAX, calls, fault)?;
-        let is_written = bytes.as_slice() == text.as_bytes();
-        let is_told = done == *most && done.saturating_add(refused) == calls.len();
-        holds(&rt, is_written && is_told, row);
+fn each_call_writes_its_text(rt: HostRuntime) {
+    for (row, calls) in CALLS.iter().enumerate() {
+        told(&rt, is_written(rt.alloc(), calls), row);
     }
-    Ok(())
+}
+
+// whether a beginning of the text is written where so many writes are done
+fn is_begun(alloc: Global, writes: usize) -> Result<bool, SerializeFault> {
+    let (done, refused, bytes) = written(alloc, writes, ANCHOR, SerializeFault::Write)?;
+    let is_told = done < ANCHOR.len() && done.saturating_add(refused) == ANCHOR.len();
+    let text = ANCHOR_TEXT.as_bytes();
+    Ok(is_told && bytes.len() < text.len() && text.starts_with(bytes.as_slice()))
 }
 
 // each write of some, one after another, is the first that fails
 #[test]
-fn a_writer_that_fails_has_a_beginning(rt: HostRuntime) -> Result<(), Fail> {
+fn a_writer_that_fails_has_a_beginning(rt: HostRuntime) {
     for writes in 0..12 {
-        let (done, refused, bytes) = written(rt.alloc(), writes, ANCHOR, SerializeFault::Write)?;
-        let is_beginning = bytes.len() < ANCHOR_TEXT.len()
-            && ANCHOR_TEXT.as_bytes().starts_with(bytes.as_slice());
-        let is_told = done < ANCHOR.len() && done.saturating_add(refused) == ANCHOR.len();
-        holds(&rt, is_beginning && is_told, writes);
+        told(&rt, is_begun(rt.alloc(), writes), writes);
     }
-    Ok(())
 }
 
 /// This one holds also where a request for memory is refused, each in turn: `rt try --test --fail-alloc N`.

@@ -1,8 +1,8 @@
-use crate::checks::holds;
+use crate::checks::{holds, told};
 use crate::parsing::tree_of;
-use html_lexemes::{LocalName, Text};
+use html_lexemes::{LocalName, ParseFault, Text};
+use html_render_dom::RcDom;
 use std::alloc::{AllocError, Global};
-use std::test::Fail;
 use style_cascade::{
     Declared, Display, Importance, Specificity, Style, StyleDecl, StyleOrigin, StylePlace,
     StyleRule, WithSpec,
@@ -18,11 +18,9 @@ const NORMAL: Importance = Importance::Default;
 const IMPORTANT: Importance = Importance::Important;
 
 // two declarations of a colour, and the one that holds (CSS 2.2, 6.4.1)
-static CASCADES: [(
-    (StyleOrigin, Importance, Colour),
-    (StyleOrigin, Importance, Colour),
-    Colour,
-); 8] = [
+type Coloured = (StyleOrigin, Importance, Colour);
+
+static CASCADES: [(Coloured, Coloured, Colour); 8] = [
     // the author's over the program's, the other way round where both are important
     (
         (StyleOrigin::Agent, NORMAL, RED),
@@ -84,51 +82,77 @@ fn rule(
     })
 }
 
-#[test]
-fn styles_are_cascaded(rt: HostRuntime) -> Result<(), Fail> {
-    let alloc = rt.alloc();
-    let dom = tree_of(alloc, "<p>a", None)?;
-    let paragraph = dom.get_node_by_path(&[0, 1, 0]).unwrap_or(dom.document());
-    for (row, (first, second, wanted)) in CASCADES.iter().enumerate() {
-        let itself = StylePlace::Itself;
-        let rules = vec![in alloc;
-            rule(alloc, first.0, itself, first.1, Style::Colour(first.2))?,
-            rule(alloc, second.0, itself, second.1, Style::Colour(second.2))?,
-        ]?;
-        let style = dom.computed_style(paragraph, rules.as_slice()).itself;
-        let is_so = style.colour.val() == Some(wanted) && style.bg_colour.val().is_none();
-        holds(&rt, is_so, row);
-    }
-    Ok(())
+fn coloured(alloc: Global, told: Coloured) -> Result<StyleRule, AllocError> {
+    let (origin, importance, colour) = told;
+    rule(
+        alloc,
+        origin,
+        StylePlace::Itself,
+        importance,
+        Style::Colour(colour),
+    )
 }
 
-// each place and each property has its own
+fn is_cascaded(
+    alloc: Global,
+    dom: &RcDom,
+    rows: &(Coloured, Coloured, Colour),
+) -> Result<bool, AllocError> {
+    let rules = vec![in alloc; coloured(alloc, rows.0)?, coloured(alloc, rows.1)?]?;
+    let paragraph = dom.get_node_by_path(&[0, 1, 0]).unwrap_or(dom.document());
+    let style = dom.computed_style(paragraph, rules.as_slice()).itself;
+    Ok(style.colour.val() == Some(&rows.2) && style.bg_colour.val().is_none())
+}
+
+fn are_cascaded(alloc: Global) -> Result<bool, ParseFault> {
+    let dom = tree_of(alloc, "<p>a", None)?;
+    for rows in &CASCADES {
+        if !is_cascaded(alloc, &dom, rows)? {
+            return Ok(false);
+        }
+    }
+    Ok(true)
+}
+
 #[test]
-fn places_and_properties_are_apart(rt: HostRuntime) -> Result<(), Fail> {
-    let alloc = rt.alloc();
-    let dom = tree_of(alloc, "<p>a<b>c", None)?;
+fn styles_are_cascaded(rt: HostRuntime) {
+    told(&rt, are_cascaded(rt.alloc()), 0);
+}
+
+fn placed_rules(alloc: Global) -> Result<Vec<StyleRule>, AllocError> {
     let star = Style::Content(Text::from_str(alloc, "*")?);
-    let author = StyleOrigin::Author;
     let none = Style::Display(Display::None);
+    let author = StyleOrigin::Author;
     let rules = vec![in alloc;
         rule(alloc, author, StylePlace::Before, NORMAL, star)?,
         rule(alloc, author, StylePlace::Itself, NORMAL, none)?,
     ]?;
-    let paragraph = dom.get_node_by_path(&[0, 1, 0]).unwrap_or(dom.document());
-    let bold = dom
-        .get_node_by_path(&[0, 1, 0, 1])
-        .unwrap_or(dom.document());
+    Ok(rules)
+}
+
+// each place and each property has its own
+fn are_apart(alloc: Global) -> Result<bool, ParseFault> {
+    let dom = tree_of(alloc, "<p>a<b>c", None)?;
+    let rules = placed_rules(alloc)?;
+    let document = dom.document();
+    let paragraph = dom.get_node_by_path(&[0, 1, 0]).unwrap_or(document);
+    let bold = dom.get_node_by_path(&[0, 1, 0, 1]).unwrap_or(document);
     let style = dom.computed_style(paragraph, rules.as_slice());
     let other = dom.computed_style(bold, rules.as_slice());
-    let is_before = style.before.content.val() == Some(&"*")
-        && style.before.display.val().is_none();
-    let is_itself = style.itself.content.val().is_none()
-        && style.itself.display.val() == Some(&Display::None)
-        && style.itself.white_space.val().is_none();
-    let is_after = style.after.content.val().is_none();
-    let is_none = other.itself.display.val().is_none();
-    holds(&rt, is_before && is_itself && is_after && is_none, 0);
-    Ok(())
+    Ok(
+        style.before.content.val() == Some(&"*")
+            && style.before.display.val().is_none()
+            && style.itself.content.val().is_none()
+            && style.itself.display.val() == Some(&Display::None)
+            && style.itself.white_space.val().is_none()
+            && style.after.content.val().is_none()
+            && other.itself.display.val().is_none(),
+    )
+}
+
+#[test]
+fn places_and_properties_are_apart(rt: HostRuntime) {
+    told(&rt, are_apart(rt.alloc()), 0);
 }
 
 const NAMES: Specificity = Specificity {

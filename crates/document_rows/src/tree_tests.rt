@@ -1,10 +1,10 @@
-use crate::checks::holds;
+use crate::checks::{holds, told};
 use crate::parsing::{tree_in_a_form, tree_of};
 use dom_dump::DomString;
 use dom_serializer::SerializeDom;
-use html_lexemes::{Device, LocalName, Namespace, QualName, Text};
+use html_lexemes::{Device, LocalName, Namespace, ParseFault, QualName, Text};
 use html_render_dom::{NodeData, RcDom};
-use std::alloc::Global;
+use std::alloc::{AllocError, Global};
 use std::test::Fail;
 use tree_lines::{lines_below, lines_of};
 
@@ -29,7 +29,9 @@ element\thtml\thtml
 ";
 
 // pages, of which the second piece may be missing, and their trees
-static PAGES: [(&str, Option<&str>, Told, &str); 9] = [
+type Row = (&'static str, Option<&'static str>, Told, &'static str);
+
+static PAGES: [Row; 9] = [
     ("<!DOCTYPE html><p>a", Some("b"), Told::Whole, PARAGRAPH),
     ("<!DOCTYPE html><p>ab", None, Told::Whole, PARAGRAPH),
     (
@@ -95,23 +97,29 @@ fn is_told(alloc: Global, dom: &RcDom, told: &Told, text: &str) -> Result<bool, 
     })
 }
 
+fn is_row(alloc: Global, row: &Row) -> Result<bool, Fail> {
+    let dom = tree_of(alloc, row.0, row.1)?;
+    is_told(alloc, &dom, &row.2, row.3)
+}
+
 #[test]
 fn trees_are_told(rt: HostRuntime) -> Result<(), Fail> {
-    let alloc = rt.alloc();
-    for (row, (first, last, told, text)) in PAGES.iter().enumerate() {
-        let dom = tree_of(alloc, first, *last)?;
-        holds(&rt, is_told(alloc, &dom, told, text)?, row);
+    for (at, row) in PAGES.iter().enumerate() {
+        let is_so = is_row(rt.alloc(), row)?;
+        holds(&rt, is_so, at);
     }
     Ok(())
 }
 
 // a form in a form is left out, also where the outer one holds the context
+fn is_in_a_form(alloc: Global) -> Result<bool, ParseFault> {
+    let dom = tree_in_a_form(alloc, "<form>a")?;
+    Ok(lines_below(alloc, &dom)?.as_str() == "element\thtml\thtml\n text\ta\n")
+}
+
 #[test]
-fn a_context_stands_in_a_form(rt: HostRuntime) -> Result<(), Fail> {
-    let dom = tree_in_a_form(rt.alloc(), "<form>a")?;
-    let lines = lines_below(rt.alloc(), &dom)?;
-    holds(&rt, lines.as_str() == "element\thtml\thtml\n text\ta\n", 0);
-    Ok(())
+fn a_context_stands_in_a_form(rt: HostRuntime) {
+    told(&rt, is_in_a_form(rt.alloc()), 0);
 }
 
 // steps from the document of a page, and the name or the text of the node that they lead to
@@ -141,30 +149,59 @@ static ATTRIBUTES: [(&str, Option<&str>); 3] = [
     ("title", None),
 ];
 
-#[test]
-fn nodes_tell_what_they_are(rt: HostRuntime) -> Result<(), Fail> {
-    let alloc = rt.alloc();
-    let dom = tree_of(alloc, "x<p class=k id=a>y</p>", None)?;
-    for (row, (path, words)) in PATHS.iter().enumerate() {
-        holds(&rt, words_at(&dom, path) == *words, row);
+fn are_words(dom: &RcDom) -> bool {
+    for (path, words) in &PATHS {
+        if words_at(dom, path) != *words {
+            return false;
+        }
     }
+    true
+}
+
+// a body with a text and a paragraph
+fn are_placed(dom: &RcDom) -> bool {
     let (document, body) = (dom.document(), dom.get_node_by_path(&[0, 1]));
     let mut children = dom.children(body.unwrap_or(document));
     let text = children.next().unwrap_or(document);
     let paragraph = children.next().unwrap_or(document);
     let is_over = children.next().is_none() && children.next_back().is_none();
-    let is_placed = dom.get_node_by_path(&[]) == Some(document)
+    is_over
+        && dom.get_node_by_path(&[]) == Some(document)
         && dom.get_parent(document).is_none()
         && dom.get_parent(text) == body
         && dom.get_parent(paragraph) == body
-        && dom.element_name(text).is_none();
-    holds(&rt, is_over && is_placed, PATHS.len());
-    for (row, (word, value)) in ATTRIBUTES.iter().enumerate() {
-        let nowhere = Namespace::Other(Text::from_str(alloc, "")?);
-        let name = QualName::new(nowhere, LocalName::from_str(alloc, word)?);
-        let is_so = dom.attribute(paragraph, &name) == *value
-            && dom.attribute(text, &name).is_none();
-        holds(&rt, is_so, row);
+        && dom.element_name(text).is_none()
+}
+
+fn is_attribute(
+    alloc: Global,
+    dom: &RcDom,
+    word: &str,
+    value: Option<&str>,
+) -> Result<bool, AllocError> {
+    let nowhere = Namespace::Other(Text::from_str(alloc, "")?);
+    let name = QualName::new(nowhere, LocalName::from_str(alloc, word)?);
+    let document = dom.document();
+    let paragraph = dom.get_node_by_path(&[0, 1, 1]).unwrap_or(document);
+    let text = dom.get_node_by_path(&[0, 1, 0]).unwrap_or(document);
+    Ok(dom.attribute(paragraph, &name) == value && dom.attribute(text, &name).is_none())
+}
+
+fn are_attributes(alloc: Global, dom: &RcDom) -> Result<bool, AllocError> {
+    for (word, value) in &ATTRIBUTES {
+        if !is_attribute(alloc, dom, word, *value)? {
+            return Ok(false);
+        }
     }
-    Ok(())
+    Ok(true)
+}
+
+fn are_nodes(alloc: Global) -> Result<bool, ParseFault> {
+    let dom = tree_of(alloc, "x<p class=k id=a>y</p>", None)?;
+    Ok(are_words(&dom) && are_placed(&dom) && are_attributes(alloc, &dom)?)
+}
+
+#[test]
+fn nodes_tell_what_they_are(rt: HostRuntime) {
+    told(&rt, are_nodes(rt.alloc()), 0);
 }

@@ -5,3 +5,8 @@ use std::process::Abort;
 pub(crate) fn holds<R: Abort>(rt: &R, is_so: bool, at: &str) {
     assert!(rt; is_so, "at {at}");
 }
+
+/// The same of an answer that is there just where memory is found.
+pub(crate) fn told<R: Abort, E: Drop>(rt: &R, answer: Result<bool, E>, at: &str) {
+    holds(rt, answer.unwrap_or(false), at);
+}

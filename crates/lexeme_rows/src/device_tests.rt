@@ -1,11 +1,10 @@
 //! Readers and writers that fail, and the texts of faults.
-use crate::checks::holds;
+use crate::checks::{holds, told};
 use html_lexemes::{ByteReader, ByteWriter, Device, DeviceFault, ParseFault};
-use std::alloc::Global;
+use std::alloc::{AllocError, Global};
 use std::fmt::Display;
 use std::io;
 use std::io::{ErrorKind, Read, Write};
-use std::test::Fail;
 
 /// Gives some bytes in reads of at most two, and then fails, once.
 #[derive(Drop)]
@@ -126,22 +125,27 @@ fn a_writer_in_memory_holds_what_it_took(rt: HostRuntime) {
 }
 
 // whether this is how a fault is told
-fn is_told<F: Display>(alloc: Global, fault: &F, expected: &str) -> Result<bool, Fail> {
+fn is_told<F: Display>(alloc: Global, fault: &F, expected: &str) -> Result<bool, AllocError> {
     Ok(fault.to_string(alloc)?.as_str() == expected)
 }
 
 #[test]
-fn faults_are_told(rt: HostRuntime) -> Result<(), Fail> {
+fn faults_are_told(rt: HostRuntime) {
     let alloc = rt.alloc();
-    let is_so = is_told(alloc, &DeviceFault, "read or write failed")?;
-    holds(&rt, is_so, "a device");
-    let is_so = is_told(alloc, &ParseFault::Memory, "out of memory")?;
-    holds(&rt, is_so, "memory");
-    let is_so = is_told(
-        alloc,
-        &ParseFault::Failed,
-        "refused after an earlier refusal",
-    )?;
-    holds(&rt, is_so, "an earlier refusal");
-    Ok(())
+    told(
+        &rt,
+        is_told(alloc, &DeviceFault, "read or write failed"),
+        "a device",
+    );
+    told(
+        &rt,
+        is_told(alloc, &ParseFault::Memory, "out of memory"),
+        "memory",
+    );
+    let earlier = "refused after an earlier refusal";
+    told(
+        &rt,
+        is_told(alloc, &ParseFault::Failed, earlier),
+        "a refusal",
+    );
 }

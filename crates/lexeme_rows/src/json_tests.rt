@@ -1,8 +1,8 @@
 //! Tables of JSON texts.
-use crate::checks::holds;
-use html_lexemes::ReferenceTable;
-use std::alloc::Global;
-use std::test::Fail;
+use crate::checks::told;
+use crate::table_tests::have_values;
+use html_lexemes::{ReferenceTable, TableError};
+use std::alloc::{AllocError, Global};
 
 /// A text, and its fault.
 static FAULTS: [(&str, &str); 29] = [
@@ -69,7 +69,7 @@ static FAULTS: [(&str, &str); 29] = [
 ];
 
 // whether the table of a text is refused so
-fn is_refused(alloc: Global, text: &str, expected: &str) -> Result<bool, Fail> {
+fn is_refused(alloc: Global, text: &str, expected: &str) -> Result<bool, AllocError> {
     match ReferenceTable::from_json(alloc, text) {
         Ok(_) => Ok(false),
         Err(fault) => Ok(fault.to_string(alloc)?.as_str() == expected),
@@ -77,38 +77,35 @@ fn is_refused(alloc: Global, text: &str, expected: &str) -> Result<bool, Fail> {
 }
 
 #[test]
-fn the_first_fault_is_told(rt: HostRuntime) -> Result<(), Fail> {
+fn the_first_fault_is_told(rt: HostRuntime) {
     for (text, expected) in &FAULTS {
-        holds(&rt, is_refused(rt.alloc(), text, expected)?, text);
+        told(&rt, is_refused(rt.alloc(), text, expected), text);
     }
-    Ok(())
+}
+
+static NAMES: &str = "{\"&not\":{\"codepoints\":[172]},\"&notin;\":{\"codepoints\":[8713]},\
+    \"&bne;\":{\"codepoints\":[61,8421],\"characters\":\"=\\u20E5\"}}";
+
+static VALUES: [(&str, Option<&str>); 4] = [
+    ("not", Some("\u{ac}")),
+    ("notin;", Some("\u{2209}")),
+    ("notin", None),
+    ("bne;", Some("=\u{20e5}")),
+];
+
+fn have_their_values(alloc: Global) -> Result<bool, TableError> {
+    let table = ReferenceTable::from_json(alloc, NAMES)?;
+    Ok(have_values(&table, &VALUES))
+}
+
+fn has_no_names(alloc: Global) -> Result<bool, TableError> {
+    let table = ReferenceTable::from_json(alloc, "{}")?;
+    let is_none = table.value("amp;").is_none() && table.longest_name("a").is_none();
+    Ok(is_none && !table.has_name_beginning("") && !table.has_longer_name(""))
 }
 
 #[test]
-fn names_have_their_values(rt: HostRuntime) -> Result<(), Fail> {
-    let text = "{\"&not\":{\"codepoints\":[172]},\"&notin;\":{\"codepoints\":[8713]},\
-        \"&bne;\":{\"codepoints\":[61,8421],\"characters\":\"=\\u20E5\"}}";
-    let table = ReferenceTable::from_json(rt.alloc(), text)?;
-    for (name, value) in [
-        ("not", Some("\u{ac}")),
-        ("notin;", Some("\u{2209}")),
-        ("notin", None),
-        ("bne;", Some("=\u{20e5}")),
-    ] {
-        holds(&rt, table.value(name) == value, name);
-    }
-    Ok(())
-}
-
-#[test]
-fn an_empty_object_has_no_names(rt: HostRuntime) -> Result<(), Fail> {
-    let table = ReferenceTable::from_json(rt.alloc(), "{}")?;
-    holds(&rt, table.value("amp;").is_none(), "a name");
-    holds(
-        &rt,
-        !table.has_name_beginning("") && !table.has_longer_name(""),
-        "any name",
-    );
-    holds(&rt, table.longest_name("a").is_none(), "a text");
-    Ok(())
+fn objects_are_tables(rt: HostRuntime) {
+    told(&rt, have_their_values(rt.alloc()), "three names");
+    told(&rt, has_no_names(rt.alloc()), "no names");
 }

@@ -6,8 +6,6 @@ mod checks;
 #[cfg(test)]
 mod device_tests;
 #[cfg(test)]
-mod error_rows;
-#[cfg(test)]
 mod error_tests;
 #[cfg(test)]
 mod json_tests;

@@ -1,5 +1,5 @@
 //! Texts, names, tags, tokens and states, compared.
-use crate::checks::holds;
+use crate::checks::{holds, told};
 use html_lexemes::states::{RawKind, ScriptEscapeKind, State};
 use html_lexemes::{
     Attribute, Attributes, Doctype, ErrorMessage, LocalName, Namespace, ProcessResult, QualName,
@@ -7,7 +7,6 @@ use html_lexemes::{
 };
 use std::alloc::{AllocError, Global};
 use std::hash::{DefaultHasher, Hash, Hasher};
-use std::test::Fail;
 
 fn hash_of<T: Hash>(value: &T) -> u64 {
     let mut hasher = DefaultHasher::new();
@@ -44,30 +43,24 @@ fn are_compared(
 }
 
 #[test]
-fn texts_are_compared_by_code_points(rt: HostRuntime) -> Result<(), Fail> {
-    for i in 0..TEXTS.len() {
-        for j in 0..TEXTS.len() {
-            let is_so = are_compared(rt.alloc(), TEXTS[i], TEXTS[j], i == j, i < j)?;
-            holds(&rt, is_so, TEXTS[i]);
+fn texts_are_compared_by_code_points(rt: HostRuntime) {
+    for (i, first) in TEXTS.iter().enumerate() {
+        for (j, second) in TEXTS.iter().enumerate() {
+            told(
+                &rt,
+                are_compared(rt.alloc(), first, second, i == j, i < j),
+                first,
+            );
         }
     }
-    Ok(())
 }
 
 // whether a text is a name's, and is given back
 fn is_given_back(alloc: Global) -> Result<bool, AllocError> {
     let text = Text::from(String::from_str(alloc, "né")?);
-    let copy = text.try_clone()?;
-    let name = LocalName::from(text);
-    let is_name = name.as_str() == "né";
-    let given = name.try_clone()?.into_text();
-    Ok(is_name && given == copy && copy.into_string().as_str() == "né")
-}
-
-#[test]
-fn texts_are_made_and_given_back(rt: HostRuntime) -> Result<(), Fail> {
-    holds(&rt, is_given_back(rt.alloc())?, "a text");
-    Ok(())
+    let name = LocalName::from(text.try_clone()?).try_clone()?;
+    let is_name = name.as_str() == "né" && name.into_text() == text;
+    Ok(is_name && text.into_string().as_str() == "né")
 }
 
 fn attribute(alloc: Global, local: &str, value: &str) -> Result<Attribute, AllocError> {
@@ -84,12 +77,10 @@ fn is_before_and_copied(first: &Attribute, second: &Attribute) -> Result<bool, A
     Ok(is_copy && first < second && first != second)
 }
 
-#[test]
-fn attributes_are_compared_by_name_and_value(rt: HostRuntime) -> Result<(), Fail> {
-    let first = attribute(rt.alloc(), "a", "2")?;
-    let second = attribute(rt.alloc(), "b", "1")?;
-    holds(&rt, is_before_and_copied(&first, &second)?, "two names");
-    Ok(())
+fn are_attributes_apart(alloc: Global) -> Result<bool, AllocError> {
+    let first = attribute(alloc, "a", "2")?;
+    let second = attribute(alloc, "b", "1")?;
+    is_before_and_copied(&first, &second)
 }
 
 fn other_namespace(alloc: Global) -> Result<Namespace, AllocError> {
@@ -109,14 +100,11 @@ fn is_name_behind(name: &QualName, first: &QualName) -> Result<bool, AllocError>
     Ok(copy == *name && first < name)
 }
 
-#[test]
-fn names_are_compared_by_namespace_first(rt: HostRuntime) -> Result<(), Fail> {
-    holds(&rt, is_namespace_behind(rt.alloc())?, "namespaces");
-    let local = LocalName::from_str(rt.alloc(), "a")?;
-    let name = QualName::new(other_namespace(rt.alloc())?, local);
-    let first = attribute(rt.alloc(), "b", "")?;
-    holds(&rt, is_name_behind(&name, &first.name)?, "names");
-    Ok(())
+fn are_names_apart(alloc: Global) -> Result<bool, AllocError> {
+    let other = other_namespace(alloc)?;
+    let name = QualName::new(other, LocalName::from_str(alloc, "a")?);
+    let first = attribute(alloc, "b", "")?;
+    is_name_behind(&name, &first.name)
 }
 
 // these attributes, with the values
@@ -137,12 +125,6 @@ fn are_a_list(alloc: Global) -> Result<bool, AllocError> {
     Ok(is_copy && items.len() == 2 && Attributes::from(items) == first)
 }
 
-#[test]
-fn attributes_are_a_list(rt: HostRuntime) -> Result<(), Fail> {
-    holds(&rt, are_a_list(rt.alloc())?, "two attributes");
-    Ok(())
-}
-
 // a start tag with these attributes
 fn tag(alloc: Global, pairs: &[(&str, &str)]) -> Result<Tag, AllocError> {
     Ok(Tag {
@@ -154,51 +136,44 @@ fn tag(alloc: Global, pairs: &[(&str, &str)]) -> Result<Tag, AllocError> {
     })
 }
 
-// whether a tag of three attributes is equivalent to one of these
-fn is_equivalent(alloc: Global, pairs: &[(&str, &str)]) -> Result<bool, AllocError> {
+// whether a tag of three attributes is equivalent to one of these just where that is expected
+fn is_equivalent(
+    alloc: Global,
+    pairs: &[(&str, &str)],
+    expected: bool,
+) -> Result<bool, AllocError> {
     let first = tag(alloc, &[("x", "1"), ("y", "2"), ("x", "1")])?;
     let other = tag(alloc, pairs)?;
-    Ok(first.equiv_modulo_attr_order(&other))
+    Ok(first.equiv_modulo_attr_order(&other) == expected)
 }
+
+/// Three attributes, and whether a tag that has them is equivalent to that one.
+static ORDERS: [(&[(&str, &str)], bool); 4] = [
+    (&[("x", "1"), ("y", "2"), ("x", "1")], true),
+    (&[("y", "2"), ("x", "1"), ("x", "1")], true),
+    (&[("x", "1"), ("y", "2"), ("y", "2")], false),
+    (&[("x", "1"), ("y", "2"), ("x", "2")], false),
+];
 
 #[test]
-fn tags_are_equivalent_in_any_order_of_attributes(rt: HostRuntime) -> Result<(), Fail> {
-    for (pairs, expected) in [
-        ([("x", "1"), ("y", "2"), ("x", "1")], true),
-        ([("y", "2"), ("x", "1"), ("x", "1")], true),
-        ([("x", "1"), ("y", "2"), ("y", "2")], false),
-        ([("x", "1"), ("y", "2"), ("x", "2")], false),
-    ] {
-        let is_so = is_equivalent(rt.alloc(), &pairs)? == expected;
-        holds(&rt, is_so, pairs[2].1);
+fn tags_are_equivalent_in_any_order_of_attributes(rt: HostRuntime) {
+    for (pairs, expected) in &ORDERS {
+        told(&rt, is_equivalent(rt.alloc(), pairs, *expected), "an order");
     }
-    Ok(())
 }
 
-// Whether a tag is equivalent to itself once it is closed, to an end tag, and to one of another name.
-fn equivalences(alloc: Global) -> Result<(bool, bool, bool), AllocError> {
+// whether a tag is its copy, and equivalent to itself once it is closed, but not to an end tag, nor to one of another name
+fn are_tags_apart(alloc: Global) -> Result<bool, AllocError> {
     let first = tag(alloc, &[("x", "1")])?;
-    let mut other = tag(alloc, &[("x", "1")])?;
+    let mut other = first.try_clone()?;
+    let is_copy = other == first;
     other.self_closing = true;
     let closed = first.equiv_modulo_attr_order(&other);
     other.kind = TagKind::EndTag;
     let end = first.equiv_modulo_attr_order(&other);
     other.kind = TagKind::StartTag;
     other.name = LocalName::from_str(alloc, "b")?;
-    Ok((closed, end, first.equiv_modulo_attr_order(&other)))
-}
-
-fn is_tag_copied(alloc: Global) -> Result<bool, AllocError> {
-    let first = tag(alloc, &[("x", "1")])?;
-    Ok(first.try_clone()? == first)
-}
-
-#[test]
-fn tags_are_equivalent_of_one_kind_and_name(rt: HostRuntime) -> Result<(), Fail> {
-    holds(&rt, is_tag_copied(rt.alloc())?, "a copy");
-    let is_so = equivalences(rt.alloc())? == (true, false, false);
-    holds(&rt, is_so, "a closed one, an end tag, another name");
-    Ok(())
+    Ok(is_copy && closed && !end && !first.equiv_modulo_attr_order(&other))
 }
 
 // whether a doctype equals its copy, and what it lacks isn't what is empty
@@ -219,23 +194,23 @@ fn is_text_apart(alloc: Global) -> Result<bool, AllocError> {
     Ok(text != Token::NullCharacterToken)
 }
 
-#[test]
-fn doctypes_and_tokens_are_told_apart(rt: HostRuntime) -> Result<(), Fail> {
-    holds(&rt, is_doctype_copied(rt.alloc())?, "a doctype");
-    holds(&rt, is_text_apart(rt.alloc())?, "a text");
-    Ok(())
+fn are_messages_lent(alloc: Global) -> Result<bool, AllocError> {
+    let made = ErrorMessage::Made(Text::from_str(alloc, "a")?);
+    Ok(made.as_str() == "a" && ErrorMessage::Fixed("bad").as_str() == "bad")
 }
 
 #[test]
-fn messages_are_lent(rt: HostRuntime) -> Result<(), Fail> {
-    let made = ErrorMessage::Made(Text::from_str(rt.alloc(), "a")?);
-    holds(&rt, made.as_str() == "a", "a made message");
-    holds(
-        &rt,
-        ErrorMessage::Fixed("bad").as_str() == "bad",
-        "a fixed message",
-    );
-    Ok(())
+fn values_are_compared_copied_and_given_back(rt: HostRuntime) {
+    let alloc = rt.alloc();
+    told(&rt, is_given_back(alloc), "a text");
+    told(&rt, are_attributes_apart(alloc), "two attributes");
+    told(&rt, is_namespace_behind(alloc), "namespaces");
+    told(&rt, are_names_apart(alloc), "names");
+    told(&rt, are_a_list(alloc), "a list of attributes");
+    told(&rt, are_tags_apart(alloc), "tags");
+    told(&rt, is_doctype_copied(alloc), "a doctype");
+    told(&rt, is_text_apart(alloc), "a text and a NUL");
+    told(&rt, are_messages_lent(alloc), "messages");
 }
 
 #[test]

@@ -1,8 +1,7 @@
 //! Queues of characters.
-use crate::checks::holds;
+use crate::checks::told;
 use html_lexemes::{BufferQueue, SetResult};
 use std::alloc::{AllocError, Global};
-use std::test::Fail;
 
 fn add(alloc: Global, queue: &mut BufferQueue, text: &str) -> Result<(), AllocError> {
     queue.push_back(String::from_str(alloc, text)?)
@@ -43,95 +42,146 @@ fn eaten(queue: &mut BufferQueue, text: &str) -> Option<bool> {
     queue.eat(text, |found, wanted| found.eq_ignore_ascii_case(&wanted))
 }
 
-#[test]
-fn an_empty_queue_gives_nothing(rt: HostRuntime) -> Result<(), Fail> {
-    let mut queue = BufferQueue::new(rt.alloc());
-    holds(&rt, queue.is_empty() && queue.peek().is_none(), "peek");
-    holds(
-        &rt,
-        queue.next().is_none() && leaves(&mut queue, ""),
-        "next",
-    );
-    holds(&rt, gives_run(&mut queue, &['a'], "")?, "pop_except_from");
-    add(rt.alloc(), &mut queue, "é")?;
-    holds(&rt, !queue.is_empty() && queue.peek() == Some('é'), "é");
-    Ok(())
+fn is_empty_first(alloc: Global) -> Result<bool, AllocError> {
+    let mut queue = BufferQueue::new(alloc);
+    let gives_none = queue.is_empty() && queue.peek().is_none() && queue.next().is_none();
+    let gives_nothing = leaves(&mut queue, "") && gives_run(&mut queue, &['a'], "")?;
+    add(alloc, &mut queue, "é")?;
+    Ok(gives_none && gives_nothing && !queue.is_empty() && queue.peek() == Some('é'))
 }
 
-// whether a queue of a text answers so where it is to be eaten, and what it leaves then
-fn is_eaten(
-    alloc: Global,
-    text: &str,
-    wanted: &str,
-    answer: Option<bool>,
-    left: &str,
-) -> Result<bool, AllocError> {
+#[test]
+fn an_empty_queue_gives_nothing(rt: HostRuntime) {
+    told(&rt, is_empty_first(rt.alloc()), "a queue");
+}
+
+/// A queue's text, what is to be eaten, the answer, and what is left then.
+type Meal = (&'static str, &'static str, Option<bool>, &'static str);
+
+static MEALS: [Meal; 10] = [
+    ("DocT", "doctype", None, "DocT"),
+    ("DocType x", "doctype", Some(true), " x"),
+    ("Dx", "doctype", Some(false), "Dx"),
+    ("", "doctype", None, ""),
+    ("", "", Some(true), ""),
+    ("ab", "", Some(true), "ab"),
+    ("doctype", "DOCTYPE", Some(true), ""),
+    ("Éa", "éa", Some(false), "Éa"),
+    ("éA€", "éa", Some(true), "€"),
+    ("é", "éa", None, "é"),
+];
+
+fn is_eaten(alloc: Global, meal: &Meal) -> Result<bool, AllocError> {
+    let (text, wanted, answer, left) = *meal;
     let mut queue = BufferQueue::new(alloc);
     add(alloc, &mut queue, text)?;
     Ok(eaten(&mut queue, wanted) == answer && leaves(&mut queue, left))
 }
 
 #[test]
-fn a_text_is_eaten_whole_or_not_at_all(rt: HostRuntime) -> Result<(), Fail> {
-    for (text, wanted, answer, left) in [
-        ("DocT", "doctype", None, "DocT"),
-        ("DocType x", "doctype", Some(true), " x"),
-        ("Dx", "doctype", Some(false), "Dx"),
-        ("", "doctype", None, ""),
-        ("", "", Some(true), ""),
-        ("ab", "", Some(true), "ab"),
-        ("doctype", "DOCTYPE", Some(true), ""),
-        ("Éa", "éa", Some(false), "Éa"),
-        ("éA€", "éa", Some(true), "€"),
-        ("é", "éa", None, "é"),
-    ] {
-        holds(&rt, is_eaten(rt.alloc(), text, wanted, answer, left)?, text);
+fn a_text_is_eaten_whole_or_not_at_all(rt: HostRuntime) {
+    for meal in &MEALS {
+        told(&rt, is_eaten(rt.alloc(), meal), meal.0);
     }
-    Ok(())
+}
+
+/// A step with a queue. What was not there is put back before what is left as well, and so is more than was taken.
+enum Step {
+    /// A text comes in behind what is left.
+    Add(&'static str),
+    /// These characters are taken.
+    Gives(&'static str),
+    /// A run is taken up to `&`, `<` or NUL, or one of these.
+    GivesRun(&'static str),
+    PutBack(&'static str),
+    /// All that is left.
+    Leaves(&'static str),
+}
+
+static STEPS: [&[Step]; 8] = [
+    &[
+        Step::Add("a€b"),
+        Step::Gives("a€"),
+        Step::PutBack("€"),
+        Step::Gives("€"),
+        Step::PutBack("é"),
+        Step::PutBack("xyzé"),
+        Step::Leaves("xyzééb"),
+        Step::PutBack("b"),
+        Step::Leaves("b"),
+    ],
+    &[
+        Step::Add("é€<&ab\u{1F600}"),
+        Step::GivesRun("é€"),
+        Step::GivesRun("<"),
+        Step::GivesRun("&"),
+        Step::GivesRun("ab\u{1F600}"),
+        Step::GivesRun(""),
+    ],
+    // each text that comes in stands behind what is left, however much was taken before it
+    &[Step::Add("abcdef"), Step::Add("é"), Step::Leaves("abcdefé")],
+    &[
+        Step::Add("abcdef"),
+        Step::Gives("a"),
+        Step::Add("é"),
+        Step::Leaves("bcdefé"),
+    ],
+    &[
+        Step::Add("abcdef"),
+        Step::Gives("ab"),
+        Step::Add("é"),
+        Step::Leaves("cdefé"),
+    ],
+    &[
+        Step::Add("abcdef"),
+        Step::Gives("abc"),
+        Step::Add("é"),
+        Step::Leaves("defé"),
+    ],
+    &[
+        Step::Add("abcdef"),
+        Step::Gives("abcde"),
+        Step::Add("é"),
+        Step::Leaves("fé"),
+    ],
+    &[
+        Step::Add("abcdef"),
+        Step::Gives("abcdef"),
+        Step::Add("é"),
+        Step::Leaves("é"),
+    ],
+];
+
+// whether a step goes as it should
+fn goes(alloc: Global, queue: &mut BufferQueue, step: &Step) -> Result<bool, AllocError> {
+    match *step {
+        Step::Add(text) => {
+            add(alloc, queue, text)?;
+            Ok(true)
+        }
+        Step::Gives(text) => Ok(gives(queue, text)),
+        Step::GivesRun(run) => gives_run(queue, &['&', '<', '\0'], run),
+        Step::PutBack(text) => {
+            put_back(alloc, queue, text)?;
+            Ok(true)
+        }
+        Step::Leaves(text) => Ok(leaves(queue, text)),
+    }
+}
+
+fn all_go(alloc: Global, steps: &[Step]) -> Result<bool, AllocError> {
+    let mut queue = BufferQueue::new(alloc);
+    for step in steps {
+        if !goes(alloc, &mut queue, step)? {
+            return Ok(false);
+        }
+    }
+    Ok(true)
 }
 
 #[test]
-fn what_was_taken_can_be_put_back(rt: HostRuntime) -> Result<(), Fail> {
-    let mut queue = BufferQueue::new(rt.alloc());
-    add(rt.alloc(), &mut queue, "a€b")?;
-    holds(&rt, gives(&mut queue, "a€"), "a€");
-    put_back(rt.alloc(), &mut queue, "€")?;
-    holds(&rt, gives(&mut queue, "€"), "€");
-    // What was not there comes before what is left as well, and so does more than was taken.
-    put_back(rt.alloc(), &mut queue, "é")?;
-    put_back(rt.alloc(), &mut queue, "xyzé")?;
-    holds(&rt, leaves(&mut queue, "xyzééb"), "xyzééb");
-    put_back(rt.alloc(), &mut queue, "b")?;
-    holds(&rt, leaves(&mut queue, "b"), "b");
-    Ok(())
-}
-
-#[test]
-fn runs_end_before_a_character_of_the_set(rt: HostRuntime) -> Result<(), Fail> {
-    let mut queue = BufferQueue::new(rt.alloc());
-    add(rt.alloc(), &mut queue, "é€<&ab\u{1F600}")?;
-    for run in ["é€", "<", "&", "ab\u{1F600}", ""] {
-        holds(&rt, gives_run(&mut queue, &['&', '<', '\0'], run)?, run);
+fn what_comes_in_is_taken_and_put_back(rt: HostRuntime) {
+    for steps in &STEPS {
+        told(&rt, all_go(rt.alloc(), steps), "some steps");
     }
-    Ok(())
-}
-
-// Each text that comes in stands behind what is left, however much was taken before it.
-#[test]
-fn texts_come_in_while_others_are_taken(rt: HostRuntime) -> Result<(), Fail> {
-    for (taken, left) in [
-        ("", "abcdefé"),
-        ("a", "bcdefé"),
-        ("ab", "cdefé"),
-        ("abc", "defé"),
-        ("abcde", "fé"),
-        ("abcdef", "é"),
-    ] {
-        let mut queue = BufferQueue::new(rt.alloc());
-        add(rt.alloc(), &mut queue, "abcdef")?;
-        holds(&rt, gives(&mut queue, taken), taken);
-        add(rt.alloc(), &mut queue, "é")?;
-        holds(&rt, leaves(&mut queue, left), left);
-    }
-    Ok(())
 }

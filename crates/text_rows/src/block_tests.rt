@@ -1,6 +1,6 @@
-use crate::checks::holds;
+use crate::checks::{holds, told};
 use std::alloc::{AllocError, Global};
-use std::test::Fail;
+use std::fmt::Display;
 use text_block_renderer::{
     BlockError, TaggedLine, TaggedString, TooNarrow, WhiteSpace, WrappedBlock,
 };
@@ -9,7 +9,9 @@ use wrapped_texts::wrapped_lines;
 
 /// Widths, texts, and their lines, worked out by hand: word by word, U+200B and U+00A0 by CSS Text, widths by the
 /// Unicode Character Database. A piece without columns joins the word behind it.
-static ROWS: [(usize, &str, &[&str]); 14] = [
+type Row = (usize, &'static str, &'static [&'static str]);
+
+static ROWS: [Row; 14] = [
     (
         8,
         "Hello, world.  Superlongwordreally",
@@ -30,17 +32,24 @@ static ROWS: [(usize, &str, &[&str]); 14] = [
     (0, " \n\u{200b} ", &[]),
 ];
 
-// Each text is cut in two at each place.
-#[test]
-fn lines_of_texts(rt: HostRuntime) -> Result<(), Fail> {
-    for (width, text, lines) in &ROWS {
-        for (at, _) in text.char_indices() {
-            let (front, back) = text.split_at(at);
-            let made = wrapped(rt.alloc(), *width, front, back)?;
-            holds(&rt, are_lines(rt.alloc(), &made, lines)?, text);
+// whether a text has its lines, wherever it is cut in two
+fn are_wrapped(alloc: Global, row: &Row) -> Result<bool, BlockError> {
+    let (width, text, lines) = *row;
+    for (at, _) in text.char_indices() {
+        let (front, back) = text.split_at(at);
+        let made = wrapped(alloc, width, front, back)?;
+        if !are_lines(alloc, &made, lines)? {
+            return Ok(false);
         }
     }
-    Ok(())
+    Ok(true)
+}
+
+#[test]
+fn lines_of_texts(rt: HostRuntime) {
+    for row in &ROWS {
+        told(&rt, are_wrapped(rt.alloc(), row), row.1);
+    }
 }
 
 fn wrapped(
@@ -96,105 +105,123 @@ fn laid(
     block.into_lines()
 }
 
-#[test]
-fn a_thousand_texts_in_every_cut(rt: HostRuntime) -> Result<(), Fail> {
+// whether a text has the same lines wherever it is cut in two
+fn is_laid_alike(
+    alloc: Global,
+    mode: WhiteSpace,
+    width: usize,
+    text: &str,
+) -> Result<bool, BlockError> {
+    let whole = laid(alloc, mode, width, text, "")?;
+    for (at, _) in text.char_indices() {
+        let (front, back) = text.split_at(at);
+        if laid(alloc, mode, width, front, back)? != whole {
+            return Ok(false);
+        }
+    }
+    Ok(true)
+}
+
+fn are_all_alike(alloc: Global) -> Result<bool, BlockError> {
     let mut number = 1;
     for turn in 0..1000 {
-        let text = made_text(rt.alloc(), &mut number)?;
+        let text = made_text(alloc, &mut number)?;
         let mode = if turn % 2 == 0 {
             WhiteSpace::Pre
         } else {
             WhiteSpace::PreWrap
         };
-        let width = 2 + turn % 7;
-        let whole = laid(rt.alloc(), mode, width, text.as_str(), "")?;
-        for (at, _) in text.char_indices() {
-            let (front, back) = text.split_at(at);
-            let made = laid(rt.alloc(), mode, width, front, back)?;
-            holds(&rt, made == whole, text.as_str());
+        if !is_laid_alike(alloc, mode, 2 + turn % 7, text.as_str())? {
+            return Ok(false);
         }
     }
-    Ok(())
+    Ok(true)
+}
+
+#[test]
+fn a_thousand_texts_in_every_cut(rt: HostRuntime) {
+    told(&rt, are_all_alike(rt.alloc()), "a text");
 }
 
 // Markers behind the last text are taken, and stand in no line then.
-#[test]
-fn trailing_fragments(rt: HostRuntime) -> Result<(), Fail> {
-    let mut block = WrappedBlock::new(rt.alloc(), 9, false, false, ());
+fn are_fragments_taken(alloc: Global) -> Result<bool, BlockError> {
+    let mut block = WrappedBlock::new(alloc, 9, false, false, ());
     block.add_text("ab ", WhiteSpace::Normal, &(), &())?;
     block.record_frag_start("n")?;
     let names = block.take_trailing_fragments()?;
-    holds(
-        &rt,
-        names.len() == 1 && names[0].as_str() == "n",
-        "a marker",
-    );
-    let lines = block.into_lines()?;
-    holds(&rt, are_lines(rt.alloc(), &lines, &["ab"])?, "the lines");
-    Ok(())
+    let is_taken = names.len() == 1 && names[0].as_str() == "n";
+    Ok(is_taken && are_lines(alloc, &block.into_lines()?, &["ab"])?)
 }
 
-#[test]
-fn fragments_of_a_narrow_block(rt: HostRuntime) -> Result<(), Fail> {
-    let mut block = WrappedBlock::new(rt.alloc(), 1, false, false, ());
+fn is_narrow(alloc: Global) -> Result<bool, BlockError> {
+    let mut block = WrappedBlock::new(alloc, 1, false, false, ());
     block.add_text("漢", WhiteSpace::Pre, &(), &())?;
     let first = block.take_trailing_fragments();
-    let is_so = matches!(first, Err(BlockError::TooNarrow));
-    holds(&rt, is_so, "too narrow");
     let second = block.take_trailing_fragments();
-    holds(&rt, matches!(second, Err(BlockError::Failed)), "failed");
-    Ok(())
+    Ok(matches!(first, Err(BlockError::TooNarrow)) && matches!(second, Err(BlockError::Failed)))
 }
 
 #[test]
-fn texts_of_errors(rt: HostRuntime) -> Result<(), Fail> {
-    for (error, wanted) in [
-        (BlockError::TooNarrow, "output width not wide enough"),
-        (BlockError::Memory, "out of memory"),
-        (BlockError::Failed, "refused after an earlier refusal"),
-    ] {
-        let text = error.to_string(rt.alloc())?;
-        holds(&rt, text.as_str() == wanted, wanted);
-    }
-    let text = TooNarrow.to_string(rt.alloc())?;
-    let is_so = text.as_str() == "output width not wide enough";
-    holds(&rt, is_so, "too narrow");
-    Ok(())
+fn trailing_fragments(rt: HostRuntime) {
+    told(&rt, are_fragments_taken(rt.alloc()), "a marker");
+    told(&rt, is_narrow(rt.alloc()), "a narrow block");
 }
+
+static ERRORS: [(BlockError, &str); 3] = [
+    (BlockError::TooNarrow, "output width not wide enough"),
+    (BlockError::Memory, "out of memory"),
+    (BlockError::Failed, "refused after an earlier refusal"),
+];
+
+fn is_text<T: Display>(alloc: Global, error: &T, wanted: &str) -> Result<bool, AllocError> {
+    Ok(error.to_string(alloc)?.as_str() == wanted)
+}
+
+#[test]
+fn texts_of_errors(rt: HostRuntime) {
+    for (error, wanted) in &ERRORS {
+        told(&rt, is_text(rt.alloc(), error, wanted), wanted);
+    }
+    told(
+        &rt,
+        is_text(rt.alloc(), &TooNarrow, ERRORS[0].1),
+        "too narrow",
+    );
+}
+
+/// Modes of white space, whether they wrap, and whether they preserve.
+static MODES: [(WhiteSpace, bool, bool); 3] = [
+    (WhiteSpace::Normal, true, false),
+    (WhiteSpace::Pre, false, true),
+    (WhiteSpace::PreWrap, true, true),
+];
 
 #[test]
 fn modes_of_white_space(rt: HostRuntime) {
-    for (mode, wraps, preserves) in [
-        (WhiteSpace::default(), true, false),
-        (WhiteSpace::Normal, true, false),
-        (WhiteSpace::Pre, false, true),
-        (WhiteSpace::PreWrap, true, true),
-    ] {
-        let is_so = mode.do_wrap() == wraps && mode.preserve_whitespace() == preserves;
-        holds(&rt, is_so, "a mode");
+    for (mode, wraps, preserves) in &MODES {
+        let is_so = mode.do_wrap() == *wraps && mode.preserve_whitespace() == *preserves;
+        let is_default = *mode == WhiteSpace::default();
+        holds(&rt, is_so && is_default == !*preserves, "a mode");
     }
-    let is_so = WhiteSpace::default() == WhiteSpace::Normal;
-    holds(
-        &rt,
-        is_so && WhiteSpace::Pre != WhiteSpace::PreWrap,
-        "equality",
-    );
+    holds(&rt, WhiteSpace::Pre != WhiteSpace::PreWrap, "equality");
 }
 
 // The widths are those of the Unicode Character Database; `unicode_width` has three columns for U+17D8.
+static COLUMNS: [(char, Option<usize>); 9] = [
+    ('a', Some(1)),
+    (' ', Some(1)),
+    ('漢', Some(2)),
+    ('\u{301}', Some(0)),
+    ('\u{200b}', Some(0)),
+    ('\n', None),
+    ('\0', None),
+    ('─', Some(1)),
+    ('\u{17d8}', Some(2)),
+];
+
 #[test]
 fn columns_of_characters(rt: HostRuntime) {
-    for (c, columns) in [
-        ('a', Some(1)),
-        (' ', Some(1)),
-        ('漢', Some(2)),
-        ('\u{301}', Some(0)),
-        ('\u{200b}', Some(0)),
-        ('\n', None),
-        ('\0', None),
-        ('─', Some(1)),
-        ('\u{17d8}', Some(2)),
-    ] {
-        holds(&rt, UnicodeColumns::columns(c) == columns, "columns");
+    for (c, columns) in &COLUMNS {
+        holds(&rt, UnicodeColumns::columns(*c) == *columns, "columns");
     }
 }

@@ -1,14 +1,22 @@
-//! Tests alone: lines, blocks and renderers, with texts that are worked out by hand. What the calls of a renderer give
-//! is told by the program block_calls.
+//! Tests alone: lines, blocks and renderers, borders and rows of cells, and what decorators answer, with texts that are
+//! worked out by hand or from elsewhere. What the calls of a renderer give is told by the program block_calls.
 #![tactic(auto)]
 
 #[cfg(test)]
+mod annotation_tests;
+#[cfg(test)]
 mod block_tests;
 #[cfg(test)]
+mod border_tests;
+#[cfg(test)]
 mod checks;
+#[cfg(test)]
+mod decorator_tests;
 #[cfg(test)]
 mod line_tests;
 #[cfg(test)]
 mod mark;
 #[cfg(test)]
 mod renderer_tests;
+#[cfg(test)]
+mod table_tests;

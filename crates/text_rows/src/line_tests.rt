@@ -1,7 +1,6 @@
-use crate::checks::holds;
+use crate::checks::told;
 use crate::mark::Mark;
 use std::alloc::{AllocError, Global};
-use std::test::Fail;
 use text_decorators::{EqualCopy, TaggedLine, TaggedLineElement, TaggedString};
 
 /// Whether a line has these texts, each ended by `/`, and so many columns.
@@ -29,76 +28,80 @@ fn two_tags(alloc: Global) -> Result<TaggedLine<Mark>, AllocError> {
     Ok(line)
 }
 
-#[test]
-fn equal_tags_join(rt: HostRuntime) -> Result<(), Fail> {
-    let mut line = two_tags(rt.alloc())?;
-    holds(&rt, is_line(rt.alloc(), &line, "a漢b/c/", 5)?, "two texts");
-    holds(&rt, !line.is_empty(), "a line");
+fn do_equal_tags_join(alloc: Global) -> Result<bool, AllocError> {
+    let mut line = two_tags(alloc)?;
+    let is_so = is_line(alloc, &line, "a漢b/c/", 5)? && !line.is_empty();
     line.clear();
-    holds(&rt, line.is_empty() && line.width() == 0, "a cleared line");
-    Ok(())
+    Ok(is_so && line.is_empty() && line.width() == 0)
 }
 
 fn line_of(alloc: Global, text: &str) -> Result<TaggedLine<Mark>, AllocError> {
     TaggedLine::from_string(alloc, String::from_str(alloc, text)?, &Mark::Plain)
 }
 
-#[test]
-fn lines_join(rt: HostRuntime) -> Result<(), Fail> {
-    let mut line = line_of(rt.alloc(), "ab")?;
-    let mut other = line_of(rt.alloc(), "cd")?;
-    holds(&rt, other.try_clone()? == other && line != other, "a copy");
+fn do_lines_join(alloc: Global) -> Result<bool, AllocError> {
+    let mut line = line_of(alloc, "ab")?;
+    let mut other = line_of(alloc, "cd")?;
+    let is_copied = other.try_clone()? == other && line != other;
     line.push_line(&other)?;
-    holds(&rt, is_line(rt.alloc(), &line, "abcd/", 4)?, "one tag");
+    let is_joined = is_line(alloc, &line, "abcd/", 4)?;
     other.push_char('漢', &Mark::Strong)?;
-    for (texts, width) in [("abcdcd/漢/", 8), ("abcdcd/漢/cd/漢/", 12)] {
-        line.push_line(&other)?;
-        holds(&rt, is_line(rt.alloc(), &line, texts, width)?, texts);
-    }
-    Ok(())
+    line.push_line(&other)?;
+    line.push_line(&other)?;
+    Ok(is_copied && is_joined && is_line(alloc, &line, "abcdcd/漢/cd/漢/", 12)?)
 }
 
-#[test]
-fn tags_change_alone(rt: HostRuntime) -> Result<(), Fail> {
-    let plain = two_tags(rt.alloc())?.map_tag(&|_| Mark::Plain)?;
-    let is_so = is_line(rt.alloc(), &plain, "a漢b/c/", 5)?;
-    holds(&rt, is_so && plain.iter().count() == 2, "two texts");
-    for string in plain.tagged_strings() {
-        holds(&rt, string.tag == Mark::Plain, "a tag");
+fn are_plain(line: &TaggedLine<Mark>) -> bool {
+    for string in line.tagged_strings() {
+        if string.tag != Mark::Plain {
+            return false;
+        }
     }
-    holds(&rt, plain.into_iter().count() == 2, "two elements");
-    Ok(())
+    line.iter().count() == 2
 }
 
-#[test]
-fn a_text_and_an_element(rt: HostRuntime) -> Result<(), Fail> {
+fn do_tags_change_alone(alloc: Global) -> Result<bool, AllocError> {
+    let plain = two_tags(alloc)?.map_tag(&|_| Mark::Plain)?;
+    let is_so = is_line(alloc, &plain, "a漢b/c/", 5)? && are_plain(&plain);
+    Ok(is_so && plain.into_iter().count() == 2)
+}
+
+fn is_string(alloc: Global) -> Result<bool, AllocError> {
     let string = TaggedString {
-        s: String::from_str(rt.alloc(), "漢")?,
+        s: String::from_str(alloc, "漢")?,
         tag: Mark::Plain,
     };
-    let copy = string.try_clone()?;
-    holds(&rt, copy == string && string.width() == 2, "a text");
-    let string = string.map_tag(&|_| Mark::Strong);
-    holds(&rt, string.tag == Mark::Strong, "another tag");
-    let element = TaggedLineElement::Str(copy);
-    let copy = element.try_clone()?;
-    holds(&rt, copy == element && element.width() == 2, "an element");
-    let element = element.map_tag(&|_| Mark::Strong);
-    holds(&rt, element.as_str() == "漢", "its text");
-    Ok(())
+    let is_copy = string.try_clone()? == string && string.width() == 2;
+    Ok(is_copy && string.map_tag(&|_| Mark::Strong).tag == Mark::Strong)
 }
 
-#[test]
-fn lists_of_tags(rt: HostRuntime) -> Result<(), Fail> {
-    let alloc = rt.alloc();
+fn is_element(alloc: Global) -> Result<bool, AllocError> {
+    let element = TaggedLineElement::Str(TaggedString {
+        s: String::from_str(alloc, "漢")?,
+        tag: Mark::Plain,
+    });
+    let is_copy = element.try_clone()? == element && element.width() == 2;
+    Ok(is_copy && element.map_tag(&|_| Mark::Strong).as_str() == "漢")
+}
+
+fn are_lists_tags(alloc: Global) -> Result<bool, AllocError> {
     let none: Vec<()> = Vec::new(alloc);
     let one = vec![in alloc; ()]?;
-    holds(&rt, one.copy(alloc)? == one, "a tag's copy");
+    let is_copied = one.copy(alloc)? == one;
     let mut line = TaggedLine::new(alloc);
     line.push_char('a', &none)?;
     line.push_char('b', &none)?;
     line.push_char('c', &one)?;
-    holds(&rt, is_line(alloc, &line, "ab/c/", 3)?, "two texts");
-    holds(&rt, line.try_clone()? == line, "a copy");
-    Ok(())
+    Ok(is_copied && is_line(alloc, &line, "ab/c/", 3)? && line.try_clone()? == line)
+}
+
+#[test]
+fn lines_and_tags(rt: HostRuntime) {
+    let alloc = rt.alloc();
+    told(&rt, do_equal_tags_join(alloc), "equal tags");
+    told(&rt, do_lines_join(alloc), "lines that join");
+    told(&rt, do_tags_change_alone(alloc), "other tags");
+    told(&rt, is_string(alloc), "a text");
+    told(&rt, is_element(alloc), "an element");
+    told(&rt, are_lists_tags(alloc), "lists of tags");
 }

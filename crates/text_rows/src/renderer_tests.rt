@@ -1,6 +1,5 @@
-use crate::checks::holds;
-use std::alloc::Global;
-use std::test::Fail;
+use crate::checks::{holds, told};
+use std::alloc::{AllocError, Global};
 use text_block_renderer::{
     BlockError, PlainDecorator, RenderOptions, Renderer, SubRenderer, TextRenderer,
 };
@@ -12,17 +11,12 @@ fn block(alloc: Global, width: usize, overflow: bool) -> SubRenderer<PlainDecora
     SubRenderer::new(alloc, width, options, PlainDecorator::new())
 }
 
-#[test]
-fn a_refused_renderer_answers_no_more(rt: HostRuntime) -> Result<(), Fail> {
-    let mut block = block(rt.alloc(), 1, false);
+fn is_refused_on(alloc: Global) -> Result<bool, BlockError> {
+    let mut block = block(alloc, 1, false);
     block.add_inline_text("漢")?;
-    let is_so = matches!(block.new_line(), Err(BlockError::TooNarrow));
-    holds(&rt, is_so, "the refusal");
-    let is_so = matches!(block.start_block(), Err(BlockError::Failed));
-    holds(&rt, is_so, "a later call");
-    let is_so = matches!(block.into_lines(), Err(BlockError::Failed));
-    holds(&rt, is_so, "the lines");
-    Ok(())
+    let is_narrow = matches!(block.new_line(), Err(BlockError::TooNarrow));
+    let is_failed = matches!(block.start_block(), Err(BlockError::Failed));
+    Ok(is_narrow && is_failed && matches!(block.into_lines(), Err(BlockError::Failed)))
 }
 
 #[test]
@@ -46,30 +40,35 @@ fn quote(page: &mut TextRenderer<PlainDecorator>, text: &str) -> Result<(), Bloc
     Ok(())
 }
 
-#[test]
-fn parts_of_a_page(rt: HostRuntime) -> Result<(), Fail> {
-    let mut page = TextRenderer::new(rt.alloc(), block(rt.alloc(), 10, false));
+fn are_parts(alloc: Global) -> Result<bool, BlockError> {
+    let mut page = TextRenderer::new(alloc, block(alloc, 10, false));
     page.start_link("target")?;
     page.current_mut().add_inline_text("a")?;
     page.end_link()?;
     quote(&mut page, "b c d")?;
-    let is_one = page.depth() == 1;
-    holds(&rt, is_one, "a block");
-    if is_one {
-        let (block, links) = page.into_inner();
-        let lines = block.into_lines()?.len();
-        holds(&rt, links.len() == 1 && lines == 3, "links and lines");
+    if page.depth() != 1 {
+        return Ok(false);
     }
-    Ok(())
+    let (block, links) = page.into_inner();
+    Ok(links.len() == 1 && block.into_lines()?.len() == 3)
+}
+
+fn targets(alloc: Global) -> Result<Vec<String>, AllocError> {
+    Ok(vec![in alloc; String::from_str(alloc, "a")?]?)
+}
+
+// lines behind a page are cut by characters
+fn are_footnotes_cut(alloc: Global) -> Result<bool, BlockError> {
+    let mut block = block(alloc, 1, false);
+    let lines = block.finalise(targets(alloc)?)?;
+    block.fmt_links(lines)?;
+    Ok(block.into_string()?.as_str() == "[\n1\n]\n:\n \na\n")
 }
 
 #[test]
-fn lines_behind_a_page_are_cut_by_characters(rt: HostRuntime) -> Result<(), Fail> {
-    let mut block = block(rt.alloc(), 1, false);
-    let targets = vec![in rt.alloc(); String::from_str(rt.alloc(), "a")?]?;
-    let lines = block.finalise(targets)?;
-    block.fmt_links(lines)?;
-    let text = block.into_string()?;
-    holds(&rt, text.as_str() == "[\n1\n]\n:\n \na\n", "footnotes");
-    Ok(())
+fn renderers_and_pages(rt: HostRuntime) {
+    let alloc = rt.alloc();
+    told(&rt, is_refused_on(alloc), "a refused renderer");
+    told(&rt, are_parts(alloc), "parts of a page");
+    told(&rt, are_footnotes_cut(alloc), "footnotes");
 }

@@ -30,39 +30,24 @@ pub(crate) fn fed<S: TokenSink + Drop>(
     read_pieces(alloc, sink, options, table, pieces)
 }
 
-/// What the first feed of a page answers, and what it leaves in the queue.
+/// What the first feed of a page answers, what it leaves in the queue, and whether the tokenizer is in a state of text
+/// then, and has nothing pending.
 pub(crate) fn first_answer<S: TokenSink + Drop>(
     alloc: Global,
     sink: S,
     options: TokenizerOpts,
     table: ReferenceTable,
     page: &str,
-) -> Result<(TokenizerResult<S::Handle>, String), ParseFault>
+) -> Result<(TokenizerResult<S::Handle>, String, bool, bool), ParseFault>
     requires { IsReadyFor S.ready S.welcomes (text_of_state options.initial_state) (S.state sink) }
 {
     let mut tokenizer = Tokenizer::new(alloc, sink, options, table);
     let mut queue = BufferQueue::new(alloc);
     queue.push_back(String::from_str(alloc, page)?)?;
     let result = tokenizer.feed(&mut queue)?;
+    let (is_text, is_idle) = (tokenizer.is_text_state(), tokenizer.nothing_pending());
     let rest = queue.pop_front().unwrap_or(String::new(alloc));
-    Ok((result, rest))
-}
-
-/// Whether a tokenizer is in a state of text, and whether nothing is pending, behind the beginning of a page.
-pub(crate) fn states_behind<S: TokenSink + Drop>(
-    alloc: Global,
-    sink: S,
-    options: TokenizerOpts,
-    table: ReferenceTable,
-    page: &str,
-) -> Result<(bool, bool), ParseFault>
-    requires { IsReadyFor S.ready S.welcomes (text_of_state options.initial_state) (S.state sink) }
-{
-    let mut tokenizer = Tokenizer::new(alloc, sink, options, table);
-    let mut queue = BufferQueue::new(alloc);
-    queue.push_back(String::from_str(alloc, page)?)?;
-    tokenizer.feed_on(&mut queue)?;
-    Ok((tokenizer.is_text_state(), tokenizer.nothing_pending()))
+    Ok((result, rest, is_text, is_idle))
 }
 
 /// The sink behind a page that is read as plain text from behind a front on, where that may be asked for.

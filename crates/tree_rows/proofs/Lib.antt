@@ -1,1 +1,2 @@
 pub mod Computed
+pub mod Said

@@ -63,17 +63,17 @@ abbrev pub point_page : (a b : QualName) → Forest
 point_page a b = plain b (made_element a [] false true page_alone)
 
 -- texts on both sides of an element, each put twice, and a text more once the element is gone
-abbrev pub said_one : QualName → Forest
+unfoldable pub said_one : QualName → Forest
 said_one name = put_words (below 0) (codes "x") (one_element name)
 
-abbrev pub said_two : QualName → Forest
+unfoldable pub said_two : QualName → Forest
 said_two name = put_words (below 0) (codes "y") (said_one name)
 
-abbrev pub said_three : QualName → Forest
+unfoldable pub said_three : QualName → Forest
 said_three name = put_words (before 1) (codes "x") (said_two name)
 
-abbrev pub said_four : QualName → Forest
+unfoldable pub said_four : QualName → Forest
 said_four name = put_words (before 1) (codes "y") (said_three name)
 
-abbrev pub said_page : QualName → Forest
+unfoldable pub said_page : QualName → Forest
 said_page name = put_words (below 0) (codes "x") (detached 1 (said_four name))

@@ -14,7 +14,6 @@ use html_render_dom::html_forest::{QuirksMode, TreeSink};
 use html_render_dom::{NodeData, RcDom};
 use std::alloc::{AllocError, Global};
 use std::process::Abort;
-use std::test::Fail;
 use tree_lines::lines_of;
 
 /// What is built.
@@ -30,7 +29,9 @@ enum Page {
 }
 
 // what is built of which elements, and the lines of the tree
-static PAGES: [(Page, [&str; 4], &str); 8] = [
+type Row = (Page, [&'static str; 4], &'static str);
+
+static PAGES: [Row; 8] = [
     (
         Page::Outline,
         ["html", "head", "body", ""],
@@ -160,74 +161,81 @@ fn built(alloc: Global, page: &Page, words: &[&str; 4]) -> Result<RcDom, ParseFa
     Ok(finished(dom))
 }
 
-fn holds<R: Abort>(rt: &R, is_so: bool, row: usize) {
+// whether the lines of the tree are those of its row
+fn is_built(alloc: Global, row: &Row) -> Result<bool, ParseFault> {
+    let dom = built(alloc, &row.0, &row.1)?;
+    Ok(lines_of(alloc, &dom)?.as_str() == row.2)
+}
+
+/// Ends the test where something does not hold, or was refused.
+fn told<R: Abort, E: Drop>(rt: &R, answer: Result<bool, E>, row: usize) {
+    let is_so = answer.unwrap_or(false);
     assert!(rt; is_so, "in row {row}");
 }
 
 #[test]
-fn trees_are_built(rt: HostRuntime) -> Result<(), Fail> {
-    let alloc = rt.alloc();
-    for (row, (page, words, lines)) in PAGES.iter().enumerate() {
-        let dom = built(alloc, page, words)?;
-        holds(&rt, lines_of(alloc, &dom)?.as_str() == *lines, row);
+fn trees_are_built(rt: HostRuntime) {
+    for (row, page) in PAGES.iter().enumerate() {
+        told(&rt, is_built(rt.alloc(), page), row);
     }
-    Ok(())
 }
 
-// errors and the mode change no tree; a handle whose number a tree has not has nothing there
-#[test]
-fn what_is_told_is_kept(rt: HostRuntime) -> Result<(), Fail> {
-    let alloc = rt.alloc();
+/// Modes, and the lines of a tree.
+static MODES: [(QuirksMode, &str); 2] = [
+    (
+        QuirksMode::LimitedQuirks,
+        "quirks\tLimitedQuirks\nelement\thtml\thtml\n",
+    ),
+    (QuirksMode::Quirks, "quirks\tQuirks\nelement\thtml\thtml\n"),
+];
+
+// a handle whose number a tree has not has nothing there
+fn is_foreign(dom: &RcDom, page: &RcDom) -> bool {
+    let document = dom.document();
+    let foreign = dom.children(document).next().unwrap_or(document);
+    let is_document = matches!(page.data(page.document()), Some(NodeData::Document));
+    let is_none = page.data(foreign).is_none() && page.children(foreign).next().is_none();
+    is_document && is_none && dom.data(foreign).is_some()
+}
+
+// the tree to which all is told that changes none, and whether a shadow root was attached
+fn told_all(alloc: Global, mode: QuirksMode) -> Result<(RcDom, bool), ParseFault> {
+    let mut dom = RcDom::new(alloc)?;
+    let name = html(alloc, "html")?;
+    let message = ErrorMessage::Fixed("e");
+    let is_attached = tell_all(alloc, &mut dom, name, message, mode)?;
+    Ok((dom, is_attached))
+}
+
+// errors and the mode change no tree
+fn is_kept(alloc: Global, mode: QuirksMode, lines: &str) -> Result<bool, ParseFault> {
+    let (dom, is_attached) = told_all(alloc, mode)?;
+    let is_told = matches!(dom.errors(), [error] if error.as_str() == "e");
+    let is_so = !is_attached && is_told && dom.quirks_mode() == mode;
     let page = RcDom::new(alloc)?;
-    holds(
-        &rt,
-        matches!(page.data(page.document()), Some(NodeData::Document)),
-        0,
-    );
-    for (mode, lines) in [
-        (
-            QuirksMode::LimitedQuirks,
-            "quirks\tLimitedQuirks\nelement\thtml\thtml\n",
-        ),
-        (QuirksMode::Quirks, "quirks\tQuirks\nelement\thtml\thtml\n"),
-    ] {
-        let mut dom = RcDom::new(alloc)?;
-        let message = ErrorMessage::Fixed("e");
-        let is_attached = tell_all(alloc, &mut dom, html(alloc, "html")?, message, mode)?;
-        let is_told = matches!(dom.errors(), [error] if error.as_str() == "e");
-        let is_so = !is_attached && is_told && dom.quirks_mode() == mode;
-        holds(&rt, is_so && lines_of(alloc, &dom)?.as_str() == lines, 1);
-        let foreign = dom
-            .children(dom.document())
-            .next()
-            .unwrap_or(dom.document());
-        let is_none = page.data(foreign).is_none() && page.children(foreign).next().is_none();
-        holds(&rt, is_none && dom.data(foreign).is_some(), 2);
+    Ok(is_so && is_foreign(&dom, &page) && lines_of(alloc, &dom)?.as_str() == lines)
+}
+
+#[test]
+fn what_is_told_is_kept(rt: HostRuntime) {
+    for (row, (mode, lines)) in MODES.iter().enumerate() {
+        told(&rt, is_kept(rt.alloc(), *mode, lines), row);
     }
-    Ok(())
 }
 
 // two elements of other namespaces are told as they were made, and stand nowhere
-#[test]
-fn elements_are_asked_for(rt: HostRuntime) -> Result<(), Fail> {
-    let alloc = rt.alloc();
-    let mut dom = RcDom::new(alloc)?;
-    let first = QualName::new(
-        Namespace::MathMl,
-        LocalName::from_str(alloc, "annotation-xml")?,
-    );
+fn are_elements(alloc: Global) -> Result<bool, ParseFault> {
+    let local = LocalName::from_str(alloc, "annotation-xml")?;
+    let first = QualName::new(Namespace::MathMl, local);
     let copy = first.try_clone()?;
     let second = QualName::new(Namespace::Svg, LocalName::from_str(alloc, "g")?);
+    let mut dom = RcDom::new(alloc)?;
     let (is_point, is_other_point, is_same, is_other, name) = ask(alloc, &mut dom, first, second)?;
-    holds(
-        &rt,
-        is_point && !is_other_point && is_same && !is_other && name == copy,
-        0,
-    );
-    holds(
-        &rt,
-        lines_of(alloc, &dom)?.as_str() == "quirks\tNoQuirks\n",
-        1,
-    );
-    Ok(())
+    let is_so = is_point && !is_other_point && is_same && !is_other && name == copy;
+    Ok(is_so && lines_of(alloc, &dom)?.as_str() == "quirks\tNoQuirks\n")
+}
+
+#[test]
+fn elements_are_asked_for(rt: HostRuntime) {
+    told(&rt, are_elements(rt.alloc()), 0);
 }

@@ -1,6 +1,5 @@
-use crate::checks::holds;
+use crate::checks::{holds, told};
 use std::alloc::{AllocError, Global};
-use std::test::Fail;
 use tagged_lines::TaggedLine;
 use text_borders::{BorderHoriz, BorderSegHoriz, RenderLine};
 
@@ -50,7 +49,16 @@ pub(crate) fn line_of(alloc: Global, text: &str) -> Result<TaggedLine<()>, Alloc
 
 /// Whether a border is of slashes, its columns, steps, how it is drawn then, the lines that come down on it (to `┴`,
 /// `┼`, `└` and `┘`), and whether it has holes; rows of tables as html2text draws them, and corners.
-static ROWS: [(bool, usize, &[Step], &str, &str, bool); 14] = [
+type Row = (
+    bool,
+    usize,
+    &'static [Step],
+    &'static str,
+    &'static str,
+    bool,
+);
+
+static ROWS: [Row; 14] = [
     (false, 0, &[], "", "", false),
     (false, 3, &[], "───", "   ", false),
     (
@@ -142,25 +150,34 @@ static ROWS: [(bool, usize, &[Step], &str, &str, bool); 14] = [
     ),
 ];
 
-#[test]
-fn borders_are_drawn(rt: HostRuntime) -> Result<(), Fail> {
-    let alloc = rt.alloc();
-    for (slashes, width, steps, text, above, has_holes) in &ROWS {
-        let border = if *slashes {
-            BorderHoriz::new_slashes(alloc, *width, ())?
-        } else {
-            BorderHoriz::new(alloc, *width, ())?
-        };
-        let border = changed(alloc, border, steps)?;
-        let is_above = border.lines_above(&())? == line_of(alloc, above)?;
-        holds(&rt, is_above && border.has_holes() == *has_holes, text);
-        let wide = border.width();
-        let copy = border.try_clone()?.into_tagged_line()?;
-        let line = border.into_tagged_line()?;
-        holds(&rt, copy == line && line.width() == wide, text);
-        holds(&rt, line == line_of(alloc, text)?, text);
+fn border_of(alloc: Global, slashes: bool, width: usize) -> Result<BorderHoriz<()>, AllocError> {
+    if slashes {
+        BorderHoriz::new_slashes(alloc, width, ())
+    } else {
+        BorderHoriz::new(alloc, width, ())
     }
-    Ok(())
+}
+
+// whether a border is a line of that text, and its copy one of so many columns
+fn is_drawn(alloc: Global, border: BorderHoriz<()>, text: &str) -> Result<bool, AllocError> {
+    let wide = border.width();
+    let copy = border.try_clone()?.into_tagged_line()?;
+    let is_wide = copy.width() == wide && copy == line_of(alloc, text)?;
+    Ok(is_wide && border.into_tagged_line()? == copy)
+}
+
+fn is_row(alloc: Global, row: &Row) -> Result<bool, AllocError> {
+    let (slashes, width, steps, text, above, has_holes) = *row;
+    let border = changed(alloc, border_of(alloc, slashes, width)?, steps)?;
+    let is_above = border.lines_above(&())? == line_of(alloc, above)?;
+    Ok(is_above && border.has_holes() == has_holes && is_drawn(alloc, border, text)?)
+}
+
+#[test]
+fn borders_are_drawn(rt: HostRuntime) {
+    for row in &ROWS {
+        told(&rt, is_row(rt.alloc(), row), row.3);
+    }
 }
 
 /// Each segment without its left arm, and without its right one.
@@ -209,23 +226,27 @@ pub(crate) fn line_made(alloc: Global, line: &Line) -> Result<RenderLine<()>, Al
     }
 }
 
-/// Lines of three columns, columns, and their text where they are widened to those.
-static WIDENED: [(Line, usize, &str); 4] = [
+/// A line of three columns, columns, and its text where it is widened to those.
+type Widened = (Line, usize, &'static str);
+
+static WIDENED: [Widened; 4] = [
     (Line::Border(3, &[Step::Below(1)]), 3, "─┬─"),
     (Line::Border(3, &[Step::Below(1)]), 4, "─┬──"),
     (Line::Text("漢a"), 3, "漢a"),
     (Line::Text("漢a"), 5, "漢a  "),
 ];
 
+fn is_widened(alloc: Global, row: &Widened) -> Result<bool, AllocError> {
+    let line = line_made(alloc, &row.0)?;
+    let is_three = line.width() == 3;
+    let wide = line.try_clone()?.into_widened(alloc, row.1, &())?;
+    let is_so = is_three && wide == line_of(alloc, row.2)?;
+    Ok(is_so && line.into_widened(alloc, row.1, &())? == wide)
+}
+
 #[test]
-fn lines_of_blocks_are_widened(rt: HostRuntime) -> Result<(), Fail> {
-    let alloc = rt.alloc();
-    for (line, width, text) in &WIDENED {
-        let line = line_made(alloc, line)?;
-        holds(&rt, line.width() == 3, text);
-        let wide = line.try_clone()?.into_widened(alloc, *width, &())?;
-        holds(&rt, wide == line_of(alloc, text)?, text);
-        holds(&rt, line.into_widened(alloc, *width, &())? == wide, text);
+fn lines_of_blocks_are_widened(rt: HostRuntime) {
+    for row in &WIDENED {
+        told(&rt, is_widened(rt.alloc(), row), row.2);
     }
-    Ok(())
 }

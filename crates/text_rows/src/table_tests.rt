@@ -1,7 +1,6 @@
 use crate::border_tests::{Line, Step, line_made, line_of};
-use crate::checks::holds;
+use crate::checks::{holds, told};
 use std::alloc::{AllocError, Global};
-use std::test::Fail;
 use tagged_lines::TaggedLine;
 use text_borders::BorderHoriz;
 use text_cells::{LaidLine, LineSet, Row, lay_across};
@@ -71,12 +70,10 @@ static TABLES: [Table; 5] = [
 ];
 
 #[test]
-fn tables_are_drawn(rt: HostRuntime) -> Result<(), Fail> {
+fn tables_are_drawn(rt: HostRuntime) {
     for table in &TABLES {
-        let is_so = is_shown(rt.alloc(), table)?;
-        holds(&rt, is_so, "a table");
+        told(&rt, is_shown(rt.alloc(), table), "a table");
     }
-    Ok(())
 }
 
 /// This one holds also where a request for memory is refused, each in turn: `rt try --test --fail-alloc N`.
