@@ -1,0 +1,7 @@
+//! What each test asks.
+use std::process::Abort;
+
+/// Ends the test where something does not hold, and says in which row.
+pub(crate) fn holds<R: Abort>(rt: &R, is_so: bool, row: usize) {
+    assert!(rt; is_so, "in row {row}");
+}

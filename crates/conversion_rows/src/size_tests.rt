@@ -1,0 +1,75 @@
+use crate::checks::holds;
+use crate::page_tests::tree_of;
+use render_conversion::dom_to_render_tree;
+use render_sizes::{Prefixes, measured};
+use std::alloc::{AllocError, Global};
+use std::test::Fail;
+
+// prefixes of so many columns: one more than the level before a heading, two before a quote and an item, three before
+// an item with a number
+struct Steady;
+
+impl Prefixes for Steady {
+    ghost use Rattle.std.specs.Prelude.{◌+◌};
+
+    ghost columns = { λ _. record {
+      heading = λ level. level + 1;
+      quote = 2;
+      bullet = 2;
+      numbers = λ first items. 3;
+    } };
+
+    fn heading(&self, level: u8) -> Result<usize, AllocError> {
+        Ok(usize::from(level) + 1)
+    }
+
+    fn quote(&self) -> Result<usize, AllocError> {
+        Ok(2)
+    }
+
+    fn bullet(&self) -> Result<usize, AllocError> {
+        Ok(2)
+    }
+
+    fn numbers(&self, _first: i64, _items: usize) -> Result<usize, AllocError> {
+        Ok(3)
+    }
+}
+
+// of each node in order its columns on one line and at least, where text may be three columns narrow
+const SIZES: [(&str, &str); 4] = [
+    (
+        "<p>ab c<a href=u>de</a><br>",
+        "12 3\n12 3\n12 3\n12 3\n4 3\n7 2\n2 2\n1 1\n",
+    ),
+    ("<ul><li>abcd</ul>", "6 5\n6 5\n6 5\n6 5\n4 3\n4 3\n"),
+    (
+        "<h2> a  b </h2><img src=s alt=abc>",
+        "12 6\n12 6\n12 6\n7 6\n4 3\n5 3\n",
+    ),
+    ("<table><td>a</table>", "a table\n"),
+];
+
+fn sizes_of(alloc: Global, page: &str) -> Result<String, Fail> {
+    let dom = tree_of(alloc, page)?;
+    let tree = dom_to_render_tree(alloc, &dom, &[])?;
+    let mut lines = String::new(alloc);
+    match measured(alloc, &Steady, 3, &tree)? {
+        Some(sizes) => {
+            for size in sizes.iter() {
+                write!(lines, "{} {}\n", size.size, size.least)?;
+            }
+        }
+        None => lines.push_str("a table\n")?,
+    }
+    Ok(lines)
+}
+
+#[test]
+fn values_have_sizes(rt: HostRuntime) -> Result<(), Fail> {
+    let alloc = rt.alloc();
+    for (row, (page, lines)) in SIZES.iter().enumerate() {
+        holds(&rt, sizes_of(alloc, page)?.as_str() == *lines, row);
+    }
+    Ok(())
+}

@@ -1,0 +1,29 @@
+-- The whole page.
+use Rattle.std.proofs.Common.{◌≡◌, List, [], ◌∷◌, ◌++◌, ap, ◌∙◌}
+use Rattle.forest_trees.specs.Trees.{trees}
+use Rattle.html_forest.specs.Forest.{Forest}
+use Rattle.html_render_dom.specs.Numbers.{number_of}
+use Rattle.html_render_dom.specs.declared.node.Handle.{Handle}
+use Rattle.render_values.specs.Arena.{flat, values_of}
+use Rattle.render_values.specs.Reading.{read_back}
+use Rattle.render_values.specs.Values.{Values}
+use Rattle.render_values.specs.declared.node.RenderNode.{RenderNode}
+use Rattle.style_cascade.specs.declared.rules.StyleRule.{StyleRule}
+use Rattle.render_conversion.specs.Conversion.{document_values, values}
+use Rattle.render_conversion.specs.Styles.{styles_of}
+use Rattle.render_conversion.specs.Turns.{later}
+use Rattle.render_conversion.specs.declared.place.Place.TheVariants.{Flow}
+use Rattle.render_conversion.specs.declared.turns.Turn.{Turn}
+use Rattle.render_conversion.specs.declared.turns.Turn.TheVariants.{Visit}
+
+pub document_is : (rules : List StyleRule) (f : Forest) (d : Handle) (turns none : List Turn)
+    (nodes empty : List RenderNode) → number_of d ≡ 0 → turns ≡ Visit d Flow ∷ none → none ≡ [] → empty ≡ []
+    → nodes ≡ later (styles_of rules) f turns empty → nodes ≡ flat (document_values rules f)
+document_is rules f d turns none nodes empty first is end start done =
+    done ∙ (ap (λ l. later (styles_of rules) f l empty) (is ∙ ap (λ l. Visit d Flow ∷ l) end)
+    ∙ (ap (λ l. l ++ flat (values (styles_of rules) Flow (trees f (number_of d ∷ [])))) start
+    ∙ ap (λ n. flat (values (styles_of rules) Flow (trees f (n ∷ [])))) first))
+
+pub document_read : (rules : List StyleRule) (f : Forest) (nodes : List RenderNode) (tree : Values)
+    → nodes ≡ flat (document_values rules f) → tree ≡ values_of nodes → tree ≡ document_values rules f
+document_read rules f nodes tree is same = same ∙ (ap values_of is ∙ read_back (document_values rules f))

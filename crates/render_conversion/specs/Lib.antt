@@ -1,0 +1,17 @@
+pub mod Conversion
+pub mod Decorating
+pub mod ElementNames
+pub mod ElementRows
+pub mod Errors
+pub mod Fragments
+pub mod Heads
+pub mod ListRows
+pub mod Meanings
+pub mod Numbers
+pub mod Places
+pub mod RowTrees
+pub mod Seen
+pub mod StyleRows
+pub mod Styles
+pub mod Titles
+pub mod Turns

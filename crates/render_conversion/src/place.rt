@@ -1,0 +1,65 @@
+//! Where nodes stand.
+ghost use Rattle.std.specs.Prelude.{◌≡◌, IsTrue};
+ghost use Rattle.html_forest.specs.Forest.{kind_at};
+ghost use Rattle.html_render_dom.specs.Numbers.{number_of};
+ghost use Rattle.name_sets.specs.Sets.{are_ascii, words_of};
+ghost use Rattle.render_conversion.specs.Places.{is_element, is_guarded, is_seen};
+
+use html_render_dom::{Handle, RcDom};
+use name_sets::is_html_one_of;
+
+/// Where a node stands, by what its parent makes of its children.
+#[derive(Clone, Copy, Debug, PartialEq, Eq)]
+pub enum Place {
+    /// Among what isn't looked at.
+    Nowhere,
+    /// Among values in a row.
+    Flow,
+    /// In a list: each child is an item.
+    Items,
+    /// In a table: groups of rows.
+    Groups,
+    /// In a group of a table: rows.
+    Rows,
+    /// In a row of a table: cells.
+    Cells,
+}
+
+// whether a node is an element of HTML of one of these names
+fn is_element(dom: &RcDom, node: Handle, words: &[&str]) -> bool
+    requires { IsTrue (are_ascii (words_of words.now)) }
+    ensures { result ≡ is_element (words_of words.now) (kind_at (number_of node) dom.now.forest) }
+{
+    match dom.element_name(node) {
+        Some(name) => is_html_one_of(name, words),
+        None => false,
+    }
+}
+
+/// Whether a node at a place is looked at.
+pub(crate) fn is_seen(dom: &RcDom, node: Handle, place: Place) -> bool
+    ensures { result ≡ is_seen place (kind_at (number_of node) dom.now.forest) }
+{
+    match place {
+        Place::Nowhere => false,
+        Place::Flow => true,
+        Place::Items => true,
+        Place::Groups => is_element(dom, node, &["thead", "tbody"]),
+        Place::Rows => is_element(dom, node, &["tr"]),
+        Place::Cells => is_element(dom, node, &["td", "th"]),
+    }
+}
+
+/// Whether a node at a place is left out where its value is shallow-empty.
+pub(crate) fn is_guarded(dom: &RcDom, node: Handle, place: Place) -> bool
+    ensures { result ≡ is_guarded place (kind_at (number_of node) dom.now.forest) }
+{
+    match place {
+        Place::Nowhere => false,
+        Place::Flow => false,
+        Place::Items => !is_element(dom, node, &["li"]),
+        Place::Groups => false,
+        Place::Rows => false,
+        Place::Cells => false,
+    }
+}

@@ -1,0 +1,127 @@
+//! Rows of the table of conversion, computed on its definitions.
+ghost use Rattle.render_conversion.specs.ElementRows.{left_out_row, script_row, comment_row, empty_document_row};
+ghost use Rattle.render_conversion.specs.ElementRows.{document_row};
+ghost use Rattle.render_conversion.specs.ElementRows.{emphasis_row, strong_row, strikeout_row, code_row};
+ghost use Rattle.render_conversion.specs.ElementRows.{superscript_row, digits_row, nested_superscript_row};
+ghost use Rattle.render_conversion.specs.ElementRows.{two_texts_row, break_row, word_break_row, other_row};
+ghost use Rattle.render_conversion.specs.ElementRows.{lone_cell_row, foreign_row};
+ghost use Rattle.render_conversion.specs.ElementRows.{image_row, image_without_title_row, image_without_source_row};
+ghost use Rattle.render_conversion.specs.ElementRows.{drawing_row, drawing_without_title_row};
+ghost use Rattle.render_conversion.specs.ElementRows.{paragraph_row, division_row, headings_row, quote_row};
+ghost use Rattle.render_conversion.specs.ListRows.{link_row, link_without_target_row, empty_link_row};
+ghost use Rattle.render_conversion.specs.ListRows.{empty_link_with_fragment_row, link_round_fragment_row};
+ghost use Rattle.render_conversion.specs.ListRows.{link_round_image_row, link_round_image_without_title_row};
+ghost use Rattle.render_conversion.specs.ListRows.{link_with_two_names_row, name_of_another_row};
+ghost use Rattle.render_conversion.specs.ListRows.{fragment_of_nothing_row};
+ghost use Rattle.render_conversion.specs.ListRows.{bullets_row, other_items_row, list_of_nothing_row};
+ghost use Rattle.render_conversion.specs.ListRows.{list_of_nothing_with_fragment_row, start_row, no_start_row};
+ghost use Rattle.render_conversion.specs.ListRows.{signed_start_row, least_start_row, greater_start_row};
+ghost use Rattle.render_conversion.specs.ListRows.{no_number_row, descriptions_row};
+ghost use Rattle.render_conversion.specs.ListRows.{table_row, span_too_great_row, table_without_cells_row};
+ghost use Rattle.render_conversion.specs.ListRows.{link_round_table_row};
+ghost use Rattle.render_conversion.specs.StyleRows.{preformatted_row, preformatted_as_said_row, coloured_row};
+ghost use Rattle.render_conversion.specs.StyleRows.{coloured_digits_row, coloured_mark_row};
+ghost use Rattle.render_conversion.specs.StyleRows.{marks_row, marks_in_link_row, hidden_row, hidden_item_row};
+ghost use Rattle.render_conversion.specs.StyleRows.{hidden_mark_row, mark_in_item_row, mark_in_list_row};
+ghost use Rattle.render_conversion.specs.StyleRows.{mark_of_break_row};
+
+// documents, and what has no value
+fn rows_of_nodes()
+    ensures left_out { left_out_row }
+    ensures script { script_row }
+    ensures comment { comment_row }
+    ensures empty_document { empty_document_row }
+    ensures document { document_row }
+{}
+
+// elements in a line
+fn rows_of_texts()
+    ensures emphasis { emphasis_row }
+    ensures strong { strong_row }
+    ensures strikeout { strikeout_row }
+    ensures code { code_row }
+    ensures superscript { superscript_row }
+    ensures digits { digits_row }
+    ensures nested_superscript { nested_superscript_row }
+    ensures two_texts { two_texts_row }
+    ensures line_break { break_row }
+    ensures word_break { word_break_row }
+    ensures other { other_row }
+    ensures lone_cell { lone_cell_row }
+    ensures foreign { foreign_row }
+{}
+
+// images
+fn rows_of_images()
+    ensures image { image_row }
+    ensures image_without_title { image_without_title_row }
+    ensures image_without_source { image_without_source_row }
+    ensures drawing { drawing_row }
+    ensures drawing_without_title { drawing_without_title_row }
+{}
+
+// blocks
+fn rows_of_blocks()
+    ensures paragraph { paragraph_row }
+    ensures division { division_row }
+    ensures headings { headings_row }
+    ensures quote { quote_row }
+{}
+
+// links, and where fragments start
+fn rows_of_links()
+    ensures link { link_row }
+    ensures link_without_target { link_without_target_row }
+    ensures empty_link { empty_link_row }
+    ensures empty_link_with_fragment { empty_link_with_fragment_row }
+    ensures link_round_fragment { link_round_fragment_row }
+    ensures link_round_image { link_round_image_row }
+    ensures link_round_image_without_title { link_round_image_without_title_row }
+    ensures link_with_two_names { link_with_two_names_row }
+    ensures name_of_another { name_of_another_row }
+    ensures fragment_of_nothing { fragment_of_nothing_row }
+{}
+
+// lists
+fn rows_of_lists()
+    ensures bullets { bullets_row }
+    ensures other_items { other_items_row }
+    ensures list_of_nothing { list_of_nothing_row }
+    ensures list_of_nothing_with_fragment { list_of_nothing_with_fragment_row }
+    ensures start { start_row }
+    ensures no_start { no_start_row }
+    ensures signed_start { signed_start_row }
+    ensures least_start { least_start_row }
+    ensures greater_start { greater_start_row }
+    ensures no_number { no_number_row }
+    ensures descriptions { descriptions_row }
+{}
+
+// tables
+fn rows_of_tables()
+    ensures table { table_row }
+    ensures span_too_great { span_too_great_row }
+    ensures table_without_cells { table_without_cells_row }
+    ensures link_round_table { link_round_table_row }
+{}
+
+// how values look
+fn rows_of_looks()
+    ensures preformatted { preformatted_row }
+    ensures preformatted_as_said { preformatted_as_said_row }
+    ensures coloured { coloured_row }
+    ensures coloured_digits { coloured_digits_row }
+    ensures coloured_mark { coloured_mark_row }
+{}
+
+// what is hidden, and texts by rules
+fn rows_of_contents()
+    ensures marks { marks_row }
+    ensures marks_in_link { marks_in_link_row }
+    ensures hidden { hidden_row }
+    ensures hidden_item { hidden_item_row }
+    ensures hidden_mark { hidden_mark_row }
+    ensures mark_in_item { mark_in_item_row }
+    ensures mark_in_list { mark_in_list_row }
+    ensures mark_of_break { mark_of_break_row }
+{}

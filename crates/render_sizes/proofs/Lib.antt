@@ -1,0 +1,3 @@
+pub mod ExtentLemmas
+pub mod SizeLemmas
+pub mod TableLemmas

@@ -1,0 +1,60 @@
+//! How many columns a text takes on one line.
+ghost use Rattle.std.specs.Prelude.{◌≡◌, chars, false};
+ghost use Rattle.std.specs.Char.{is_whitespace};
+ghost use Rattle.tagged_lines.specs.Columns.{width_of};
+ghost use Rattle.render_sizes.specs.Extents.{capped};
+ghost use Rattle.render_sizes.specs.TextSizes.{added, gap_columns, size_behind, text_size};
+
+use render_values::is_white_space;
+use tagged_lines::{Columns, UnicodeColumns};
+
+fn width_of(c: char) -> usize
+    ensures { result ≡ width_of c }
+{
+    UnicodeColumns::columns(c).unwrap_or(0)
+}
+
+fn gap_columns(gap: bool) -> usize
+    ensures { result ≡ gap_columns gap }
+{
+    if gap {
+        return 1;
+    }
+    0
+}
+
+fn size_of_words(text: &str) -> usize
+    ensures { result ≡ capped (size_behind false (chars text.now)) }
+{
+    let mut columns: usize = 0;
+    let mut gap = false;
+    for c in text.chars() {
+        let is_space = c.is_whitespace();
+        columns = columns.saturating_add(added(gap, is_space, c));
+        gap = is_space;
+    }
+    columns
+}
+
+// what a character adds behind white space or none
+fn added(gap: bool, is_space: bool, c: char) -> usize
+    ensures { result ≡ capped (added gap is_space c) }
+{
+    if is_space {
+        return 0;
+    }
+    gap_columns(gap).saturating_add(width_of(c))
+}
+
+/// The columns of a text whose white space is collapsed: one for it at the start, none at the end behind others.
+pub(crate) fn text_size(text: &str) -> usize
+    ensures { result ≡ capped (text_size (chars text.now)) }
+{
+    if text.is_empty() {
+        return 0;
+    }
+    if is_white_space(text) {
+        return 1;
+    }
+    size_of_words(text)
+}

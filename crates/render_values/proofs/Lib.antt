@@ -1,0 +1,5 @@
+pub mod CellLemmas
+pub mod ArenaLemmas
+pub mod EmptinessLemmas
+pub mod ClosingLemmas
+pub mod RaisingLemmas

@@ -1,0 +1,9 @@
+pub mod Arena
+pub mod Cells
+pub mod Closing
+pub mod Emptiness
+pub mod Endings
+pub mod Looks
+pub mod Raising
+pub mod Reading
+pub mod Values
