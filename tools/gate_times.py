@@ -63,7 +63,7 @@ def checks():
 def main():
     top = subprocess.run(["git", "rev-parse", "--show-toplevel"], check=True, capture_output=True, text=True).stdout.strip()
     words = [it for it in sys.argv[1:] if it != "--anew"]
-    gate_words = ["rt", "ci", "--anew"] if "--anew" in sys.argv else ["bash", ".ci/run"]
+    gate_words = ["bash", ".ci/run", *(["--anew"] if "--anew" in sys.argv else [])]
     room = words[0] if words else tempfile.mkdtemp(prefix="gate-times-")
     tree = f"{room}/tree"
     subprocess.run(["git", "clone", "-q", top, tree], check=True)
