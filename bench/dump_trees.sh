@@ -5,17 +5,8 @@
 set -eu
 here=$(cd "$(dirname "$0")" && pwd)
 . "$here/copy.sh"
-folder=${BENCH:-${TMPDIR:-/tmp}/dump_trees_bench}
-crate=$folder/crates/dump_trees
-mkdir -p "$crate/src"
-copy_crates "$here" "$folder" $(all_crates "$here")
-{
-  cat "$here/../crates.txt"
-  echo "dump_trees: dom_dump html_forest html_tree_builder html_render_dom thiserror"
-} >"$folder/crates.txt"
-cp "$here/dump_trees/main.rt.txt" "$crate/src/main.rt"
-echo '<p>' >"$crate/stdin"
-(cd "$crate" && rt run -- dump >"$folder/log" 2>&1) || { tail -n 20 "$folder/log"; exit 1; }
+build_program "$here" dump_trees \
+  "dom_dump html_forest html_tree_builder html_render_dom thiserror" '<p>' dump
 
 tell() {
   read -r bytes written dropped < <("$crate/out/dump_trees" "$2" <"$folder/page")

@@ -5,17 +5,8 @@
 set -eu
 here=$(cd "$(dirname "$0")" && pwd)
 . "$here/copy.sh"
-folder=${BENCH:-${TMPDIR:-/tmp}/render_trees_bench}
-crate=$folder/crates/render_trees
-mkdir -p "$crate/src"
-copy_crates "$here" "$folder" $(all_crates "$here")
-{
-  cat "$here/../crates.txt"
-  echo "render_trees: html_forest html_tree_builder html_render_dom render_values render_sizes render_conversion thiserror"
-} >"$folder/crates.txt"
-cp "$here/render_trees/main.rt.txt" "$crate/src/main.rt"
-echo '<p>x' >"$crate/stdin"
-(cd "$crate" && rt run >"$folder/log" 2>&1) || { tail -n 20 "$folder/log"; exit 1; }
+build_program "$here" render_trees \
+  "html_forest html_tree_builder html_render_dom render_values render_sizes render_conversion thiserror" '<p>x'
 
 tell() {
   read -r nodes converted sized copied dropped < <("$crate/out/render_trees" <"$folder/page")

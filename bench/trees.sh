@@ -5,17 +5,8 @@
 set -eu
 here=$(cd "$(dirname "$0")" && pwd)
 . "$here/copy.sh"
-folder=${BENCH:-${TMPDIR:-/tmp}/count_trees_bench}
-crate=$folder/crates/count_trees
-mkdir -p "$crate/src" "$crate/proofs/pieces_of"
-copy_crates "$here" "$folder" $(all_crates "$here")
-{
-  cat "$here/../crates.txt"
-  echo "count_trees: html_forest html_tree_builder html_render_dom thiserror"
-} >"$folder/crates.txt"
-cp "$here/count_trees/main.rt.txt" "$crate/src/main.rt"
-echo '<p>' >"$crate/stdin"
-(cd "$crate" && rt run -- 64 1 >"$folder/log" 2>&1) || { tail -n 20 "$folder/log"; exit 1; }
+build_program "$here" count_trees \
+  "html_forest html_tree_builder html_render_dom thiserror" '<p>' 64 1
 
 tell() {
   bytes=$(stat -c %s "$folder/page")

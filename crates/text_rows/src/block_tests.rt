@@ -92,6 +92,7 @@ fn made_text(alloc: Global, number: &mut u32) -> Result<String, AllocError> {
     Ok(text)
 }
 
+// the lines of two texts, the second added to a copy of the block that has the first
 fn laid(
     alloc: Global,
     mode: WhiteSpace,
@@ -101,6 +102,7 @@ fn laid(
 ) -> Result<Vec<TaggedLine<()>>, BlockError> {
     let mut block = WrappedBlock::new(alloc, width, false, false, ());
     block.add_text(front, mode, &(), &())?;
+    let mut block = block.try_clone()?;
     block.add_text(back, mode, &(), &())?;
     block.into_lines()
 }
