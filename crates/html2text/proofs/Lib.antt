@@ -3,9 +3,6 @@ pub mod CommandHelp
 pub mod CommandLines
 pub mod CommandNumbers
 pub mod CommandTurns
-pub mod DecoderReads
-pub mod DecoderTable
-pub mod DecoderText
 pub mod LayoutLemmas
 pub mod LinesTextLemmas
 pub mod OneAnswer

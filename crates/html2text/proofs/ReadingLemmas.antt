@@ -5,7 +5,7 @@ use Rattle.html2text.specs.PageLines.{page_text, IsTooNarrowPage, IsWiderText}
 use Rattle.html2text.specs.ParagraphPage.{IsParagraphPage}
 use Rattle.std.specs.Prelude.{◌⊎◌, Any}
 use Rattle.html2text.specs.PageText.{continued}
-use Rattle.html2text.specs.ReplacedText.{replaced_text}
+use Rattle.utf8_decoding.specs.ReplacedText.{replaced_text}
 
 -- Of the bytes that were known at first a rest is known now, and both are so.
 abbrev pub Comes : Option (List ℕ) → Option (List ℕ) → (List ℕ → List ℕ → Type 0) → Type 0

@@ -1,14 +1,12 @@
 pub mod CommandRules
 pub mod CommandWords
 pub mod Config
-pub mod Decoding
 pub mod Endings
 pub mod Errors
 pub mod LinesText
 pub mod PageLines
 pub mod PageText
 pub mod ParagraphPage
-pub mod ReplacedText
 pub mod Responses
 pub mod Statuses
 pub mod WordFaults

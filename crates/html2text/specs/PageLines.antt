@@ -8,7 +8,7 @@ use Rattle.text_pieces.specs.Sources.{is_filled}
 use Rattle.normal_text.specs.Layout.{AreLinesOf, HasNoLayout, marks}
 use Rattle.html2text.specs.PageText.{normalized}
 use Rattle.html2text.specs.ParagraphPage.{IsParagraphPage}
-use Rattle.html2text.specs.ReplacedText.{replaced_text}
+use Rattle.utf8_decoding.specs.ReplacedText.{replaced_text}
 
 -- The text of a page of these bytes.
 abbrev pub page_text : List ℕ → List ℕ

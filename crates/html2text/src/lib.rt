@@ -3,7 +3,6 @@
 #![tactic(auto)]
 
 mod config;
-mod decoder;
 mod error;
 mod laws;
 mod layout;
@@ -17,7 +16,6 @@ mod words;
 mod writing;
 
 pub use config::{Config, from_read};
-pub use decoder::Utf8LossyDecoder;
 pub use error::Error;
 pub use html_lexemes::{
     ByteReader, ByteWriter, Device, DeviceFault, ParseFault, ReferenceTable, TableError,
@@ -30,5 +28,6 @@ pub use response::{carry_out, respond};
 pub use text_block_renderer::{
     PlainDecorator, TaggedLine, TaggedLineElement, TaggedString, TooNarrow,
 };
+pub use utf8_decoding::Utf8LossyDecoder;
 pub use words::{Outcome, Request, WordFault, exit_status, read_words, request_of};
 pub use writing::run;

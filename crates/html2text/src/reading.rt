@@ -2,11 +2,11 @@ ghost use Rattle.std.specs.Prelude.{◌≡◌, ◌+◌, ◌<◌, ◌≤◌, ◌�
 ghost use Rattle.std.specs.Io.KnownBytes.{IsAtEnd};
 ghost use Rattle.html2text.specs.PageLines.{page_text};
 
-use crate::decoder::Utf8LossyDecoder;
 use crate::error::Error;
 use crate::page_text::PageText;
 use html_lexemes::ByteReader;
 use std::alloc::Global;
+use utf8_decoding::Utf8LossyDecoder;
 
 /// How many bytes are asked for at once.
 const PIECE: usize = 8192;

@@ -4,7 +4,7 @@ ghost use Rattle.std.specs.Prelude.{◌≡◌, [], ◌∷◌, true, false, codes
 ghost use Rattle.tagged_lines.specs.Tagged.{character, marker};
 ghost use Rattle.html2text.specs.PageLines.{Plain, page_text, has_content, block_start, lines_text};
 
-#[tactic(auto, unfolding(crate::specs::ReplacedText::replaced_text, crate::specs::ReplacedText::text_of_parts))]
+#[tactic(auto, unfolding(utf8_decoding::specs::ReplacedText::replaced_text, utf8_decoding::specs::ReplacedText::text_of_parts))]
 fn page_text_of_rows()
     ensures mark { page_text (0xEF ∷ 0xBB ∷ 0xBF ∷ 97 ∷ []) ≡ 97 ∷ [] }
     ensures line_ends { page_text (97 ∷ 13 ∷ 10 ∷ 98 ∷ 13 ∷ []) ≡ 97 ∷ 10 ∷ 98 ∷ 10 ∷ [] }

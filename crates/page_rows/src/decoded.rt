@@ -1,5 +1,5 @@
 ghost use Rattle.std.specs.Prelude.{◌≡◌, chars, string_bytes, flat_map, IfOk, IfErr};
-ghost use Rattle.html2text.specs.ReplacedText.{replaced_text};
+ghost use Rattle.utf8_decoding.specs.ReplacedText.{replaced_text};
 
 use html2text::{ParseFault, Utf8LossyDecoder};
 use std::alloc::Global;

@@ -2,8 +2,8 @@ use Rattle.std.proofs.Common.{◌≡◌, ℕ, ◌+◌, ◌++◌, List, [], ◌�
 use Rattle.std.specs.Str.{chars}
 use Rattle.std.proofs.lemmas.List.{take_more, flat_map_more}
 use Rattle.std.proofs.lemmas.Str.{IsUtf8-string_bytes}
-use Rattle.html2text.specs.ReplacedText.{replaced_text}
-use Rattle.html2text.proofs.DecoderReads.{HasRead-piece, chars-last}
+use Rattle.utf8_decoding.specs.ReplacedText.{replaced_text}
+use Rattle.utf8_decoding.proofs.DecoderReads.{HasRead-piece, chars-last}
 use Rattle.page_rows.proofs.decoded.decoded_text.Goals as goal
 
 pub loop-piece-preserved : goal.loop-piece-preserved

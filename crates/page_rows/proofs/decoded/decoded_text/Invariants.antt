@@ -1,5 +1,5 @@
 use Rattle.std.proofs.Common.{◌≡◌, false, take, [], string_bytes, flat_map}
-use Rattle.html2text.proofs.DecoderReads.{HasRead}
+use Rattle.utf8_decoding.proofs.DecoderReads.{HasRead}
 use Rattle.page_rows.proofs.decoded.decoded_text.Given as goal
 
 abbrev pub invariant-loop-piece : goal.invariant-loop-piece

@@ -1,0 +1,3 @@
+pub mod ComingLemmas
+pub mod ReadingLemmas
+pub mod TreeLemmas

@@ -1,0 +1,70 @@
+//! Bytes of a page, fed to a decoder and a parser.
+ghost use Rattle.std.specs.Prelude.{◌≡◌, ◌++◌, ℕ, List, false, IfErr, IfOk, OnOk};
+ghost use Rattle.html_lexemes.specs.declared.fault.ParseFault.TheVariants.{Memory};
+ghost use Rattle.html_tree_builder.specs.Grown.{IsGrown};
+ghost use Rattle.html_tree_builder.specs.Parsers.{Completes, IsFit, has_failed};
+ghost use Rattle.tree_rules.specs.State.{State};
+ghost use Rattle.utf8_decoding.specs.ReplacedText.{replaced_text};
+
+use html_forest::TreeSink;
+use html_lexemes::ParseFault;
+use html_tree_builder::Parser;
+use std::alloc::Global;
+use utf8_decoding::Utf8LossyDecoder;
+
+/// Reads a piece of a page: its text, as far as it is complete, goes to the parser.
+pub(crate) fn feed<S: TreeSink>(
+    alloc: Global,
+    decoder: &mut Utf8LossyDecoder,
+    parser: &mut Parser<S>,
+    piece: &[u8],
+) -> Result<(), ParseFault>
+    requires fit { IsFit S.number S.forest S.quirks parser.old }
+    requires decodes { decoder.old.has_failed ≡ false }
+    requires parses { has_failed parser.old ≡ false }
+    ensures fit { IsFit S.number S.forest S.quirks parser.new }
+    ensures memory { IfErr result (λ e. e ≡ Memory) }
+    ensures decodes { OnOk result (decoder.new.has_failed ≡ false) }
+    ensures parses { OnOk result (has_failed parser.new ≡ false) }
+    ensures reads { OnOk result ((rest : List ℕ) (final : State) →
+        Completes S.number S.handle S.forest S.quirks parser.new (replaced_text (decoder.new.held ++ rest)) final →
+        Completes S.number S.handle S.forest S.quirks parser.old
+        (replaced_text (decoder.old.held ++ (piece.now ++ rest))) final) }
+{
+    let text = decoder.push(alloc, piece)?;
+    parser.process(text)
+}
+
+/// Reads the end of a page: what the decoder holds back is the last of its text.
+pub(crate) fn end<S: TreeSink + Drop>(
+    alloc: Global,
+    decoder: Utf8LossyDecoder,
+    parser: Parser<S>,
+) -> Result<S::Output, ParseFault>
+where
+    S::Output: Drop,
+    requires fit { IsFit S.number S.forest S.quirks parser }
+    requires decodes { decoder.has_failed ≡ false }
+    requires parses { has_failed parser ≡ false }
+    ensures memory { IfErr result (λ e. e ≡ Memory) }
+    ensures grown { IfOk result (λ output. IsGrown
+        (Completes S.number S.handle S.forest S.quirks parser (replaced_text decoder.held))
+        (S.tree output) (S.tree_quirks output)) }
+{
+    match decoder.finish(alloc) {
+        Ok(text) => parser.one(text),
+        Err(fault) => {
+            let_go(parser);
+            Err(fault)
+        }
+    }
+}
+
+/// Drops a parser, which only its end gives back.
+pub(crate) fn let_go<S: TreeSink + Drop>(parser: Parser<S>)
+where
+    S::Output: Drop,
+    requires { IsFit S.number S.forest S.quirks parser }
+{
+    let _ended = parser.finish();
+}

@@ -1,0 +1,3 @@
+pub mod DecoderReads
+pub mod DecoderTable
+pub mod DecoderText
