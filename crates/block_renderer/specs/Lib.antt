@@ -1,2 +1,3 @@
 pub mod Footnotes
+pub mod NewParts
 pub mod Seen

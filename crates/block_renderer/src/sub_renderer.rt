@@ -31,6 +31,8 @@ impl<D: TextDecorator + Drop> SubRenderer<D> {
     ghost use Rattle.renderer_calls.specs.Renderers.{with_empty_line, with_block_started, with_table_started};
     ghost use Rattle.renderer_calls.specs.Renderers.{with_line_broken, with_border_of, with_fragment};
     ghost use Rattle.renderer_calls.specs.Renderers.{with_preformat, with_mode};
+    ghost use Rattle.renderer_calls.specs.Outcomes.{IsAnswered};
+    ghost use Rattle.block_renderer.specs.NewParts.{part_of};
     ghost use Rattle.block_renderer.specs.Seen.{sub_of, has_failed, IsJoinedSub};
 
     /// An empty renderer of a block of so many columns.
@@ -209,6 +211,41 @@ impl<D: TextDecorator + Drop> SubRenderer<D> {
         let annotations = self.annotations.copy(alloc)?;
         let mut part = SubRenderer::new(alloc, width, self.options, decorator);
         part.annotations = annotations;
+        Ok(part)
+    }
+
+    /// An empty renderer of so many columns for a part of the block in which white space and preformatting go on as they
+    /// stand here; strikeouts don't. The error is `Failed` behind a refusal, else `Memory`.
+    pub fn new_part_renderer(&mut self, width: usize) -> Result<SubRenderer<D>, BlockError>
+        ensures part { IsAnswered result (has_failed self.old) (has_failed self.new)
+            (sub_of D.Annotation.seen D.held self.new ≡ sub_of D.Annotation.seen D.held self.old)
+            (λ part. sub_of D.Annotation.seen D.held part
+            ≡ part_of D.sub width (sub_of D.Annotation.seen D.held self.old)) }
+        ensures works { IfOk result (λ part. has_failed part ≡ false) }
+        ensures joined { IsJoinedSub D.Annotation.seen self.old → IsJoinedSub D.Annotation.seen self.new }
+        ensures part_joined { IfOk result (IsJoinedSub D.Annotation.seen) }
+    {
+        if self.failed {
+            return Err(BlockError::Failed);
+        }
+        match self.inner_part(width) {
+            Ok(part) => Ok(part),
+            Err(error) => {
+                self.failed = true;
+                Err(BlockError::from(error))
+            }
+        }
+    }
+
+    fn inner_part(&self, width: usize) -> Result<SubRenderer<D>, AllocError>
+        ensures part { IfOk result (λ part. sub_of D.Annotation.seen D.held part
+            ≡ part_of D.sub width (sub_of D.Annotation.seen D.held self.now)) }
+        ensures works { IfOk result (λ part. has_failed part ≡ false) }
+        ensures joined { IfOk result (IsJoinedSub D.Annotation.seen) }
+    {
+        let mut part = self.part(width)?;
+        part.modes.push(self.mode())?;
+        part.preformats = self.preformats.min(1);
         Ok(part)
     }
 

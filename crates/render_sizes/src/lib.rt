@@ -10,4 +10,4 @@ mod texts;
 pub use extent::Extent;
 pub use prefixes::Prefixes;
 pub use render_values;
-pub use sizes::measured;
+pub use sizes::{measured, number};

@@ -48,7 +48,7 @@ fn one_more(count: usize, most: usize) -> usize
 }
 
 /// How many of some values stand side by side.
-pub(crate) fn number(nodes: &[RenderNode]) -> usize
+pub fn number(nodes: &[RenderNode]) -> usize
     requires { IsFlat nodes.now }
     ensures { result ≡ number (values_of nodes.now) }
 {

@@ -35,6 +35,7 @@ impl<D: TextDecorator + Drop> TextRenderer<D> {
     pub fn new(alloc: Global, sub: SubRenderer<D>) -> TextRenderer<D>
         ensures parts { parts_of D.Annotation.seen D.held result ≡ whole_page (sub_of D.Annotation.seen D.held sub) }
         ensures works { page_has_failed result ≡ false }
+        ensures current { current_has_failed result ≡ has_failed sub }
     {
         TextRenderer {
             below: Vec::new(alloc),
@@ -140,6 +141,7 @@ impl<D: TextDecorator + Drop> TextRenderer<D> {
         requires { depth_of (parts_of D.Annotation.seen D.held self) ≡ 1 }
         ensures sub { sub_of D.Annotation.seen D.held result.0 ≡ (parts_of D.Annotation.seen D.held self).current }
         ensures links { names result.1.items ≡ (parts_of D.Annotation.seen D.held self).targets }
+        ensures failed { has_failed result.0 ≡ current_has_failed self }
     {
         let TextRenderer { current, links, .. } = self;
         (current, links)
@@ -158,6 +160,8 @@ impl<D: TextDecorator + Drop> TextRenderer<D> {
             (λ m p. begin_part_link m (chars target.now) p) self.old self.new) }
         ensures narrow { result ≡ Err errors.TooNarrow → PartsFail D.Annotation.seen D.held D.text D.gives D.marks
             D.after D.pops D.sub (λ m p. begin_part_link m (chars target.now) p) self.old }
+        ensures stands { (parts_of D.Annotation.seen D.held self.new).below
+            ≡ (parts_of D.Annotation.seen D.held self.old).below }
     {
         if self.failed {
             return Err(BlockError::Failed);
@@ -176,6 +180,8 @@ impl<D: TextDecorator + Drop> TextRenderer<D> {
             (λ m p. begin_part_link m (chars target.now) p) self.old self.new) }
         ensures narrow { result ≡ Err errors.TooNarrow → PartsFail D.Annotation.seen D.held D.text D.gives D.marks
             D.after D.pops D.sub (λ m p. begin_part_link m (chars target.now) p) self.old }
+        ensures stands { (parts_of D.Annotation.seen D.held self.new).below
+            ≡ (parts_of D.Annotation.seen D.held self.old).below }
     {
         self.current.start_link(target)?;
         let name = String::from_str(*self.links.allocator(), target)?;
@@ -196,6 +202,8 @@ impl<D: TextDecorator + Drop> TextRenderer<D> {
             finish_part_link self.old self.new) }
         ensures narrow { result ≡ Err errors.TooNarrow → PartsFail D.Annotation.seen D.held D.text D.gives D.marks
             D.after D.pops D.sub finish_part_link self.old }
+        ensures stands { (parts_of D.Annotation.seen D.held self.new).below
+            ≡ (parts_of D.Annotation.seen D.held self.old).below }
     {
         if self.failed {
             return Err(BlockError::Failed);
@@ -214,6 +222,8 @@ impl<D: TextDecorator + Drop> TextRenderer<D> {
             finish_part_link self.old self.new) }
         ensures narrow { result ≡ Err errors.TooNarrow → PartsFail D.Annotation.seen D.held D.text D.gives D.marks
             D.after D.pops D.sub finish_part_link self.old }
+        ensures stands { (parts_of D.Annotation.seen D.held self.new).below
+            ≡ (parts_of D.Annotation.seen D.held self.old).below }
     {
         self.current.end_link()?;
         self.add_number()
@@ -228,6 +238,8 @@ impl<D: TextDecorator + Drop> TextRenderer<D> {
             add_part_number self.old self.new) }
         ensures narrow { result ≡ Err errors.TooNarrow → PartsFail D.Annotation.seen D.held D.text D.gives D.marks
             D.after D.pops D.sub add_part_number self.old }
+        ensures stands { (parts_of D.Annotation.seen D.held self.new).below
+            ≡ (parts_of D.Annotation.seen D.held self.old).below }
     {
         if !self.current.options.include_link_footnotes {
             return Ok(());
