@@ -1,0 +1,113 @@
+-- What a value that begins leaves to be done.
+use Rattle.std.proofs.Common.{◌≡◌, ℕ, ◌+◌, ◌-◌, ◌*◌, ◌≤◌, List, [], ◌∷◌, ◌++◌, arith, refl}
+use Rattle.std.proofs.Common.{sym, ap, subst, ◌∙◌, append_assoc, length, map}
+use Rattle.std.specs.Prelude.{All}
+use Rattle.std.proofs.lemmas.List.{map-append}
+use Rattle.std.proofs.lemmas.List.Elements.{All-cons, All-head, All-nil, All-push, All-tail}
+use Rattle.std.specs.Option.{option_and_then}
+use Rattle.renderer_calls.specs.Renderers.{Marking}
+use Rattle.render_sizes.specs.Extents.{Measure, extent_of, number}
+use Rattle.render_sizes.specs.declared.extent.Extent.{Extent}
+use Rattle.render_values.specs.Values.{Values, value}
+use Rattle.render_values.specs.declared.info.Head.{Head}
+use Rattle.render_values.specs.declared.node.RenderNode.{RenderNode}
+use Rattle.render_walk.specs.Lay.{laid, lay}
+use Rattle.render_walk.specs.Laying.{Laying, Step}
+use Rattle.render_walk.specs.Seen.{IsReady, IsSound, WorksOutside, load, weight}
+use Rattle.render_walk.specs.Waiting.{Waiting, rest, unwound}
+use Rattle.render_walk.specs.declared.waiting.Waiting.{Waiting as CodeWaiting}
+use Rattle.render_walk.specs.declared.waiting.Waiting.TheVariants.{Rest, ValueEnds, LookEnds, PartEnds, ItemEnds}
+use Rattle.render_walk.specs.declared.waiting.Waiting.TheVariants.{ListEnds}
+use Rattle.render_walk.proofs.ValueLemmas.{all_on}
+use Rattle.render_walk.proofs.WalkLemmas.{enters}
+
+pub entered : {X H A : Type 0} (f : X → Waiting H A) (m : Marking H A) (w : Measure) (old one items new : List X)
+    (r : X) (head : Head) (inner later vs : Values) (many least : ℕ) (before behind : Laying H A)
+    → one ≡ old ++ r ∷ [] → new ≡ one ++ items → f r ≡ rest later → vs ≡ value head inner later → many ≡ number inner
+    → least ≡ (extent_of w head inner).least
+    → ((inside : Step H A) → laid m head many least inside before
+    ≡ option_and_then (unwound m w (map f items)) (inside behind))
+    → option_and_then (unwound m w (map f new)) (lay m w inner behind)
+    ≡ option_and_then (unwound m w (map f old)) (lay m w vs before)
+entered {X} f m w old one items new r head inner later vs many least before behind first second seen is n wide opens =
+    ap (λ v. option_and_then (unwound m w v) (lay m w inner behind))
+    (ap (map f) (second ∙ (ap (λ (v : List X). v ++ items) first ∙ append_assoc old (r ∷ []) items))
+    ∙ (map-append f old (r ∷ items) ∙ ap (λ x. map f old ++ x ∷ map f items) seen))
+    ∙ enters m w (map f old) (map f items) head inner later vs many least before behind is n wide opens
+
+-- ---- how much is left to be done
+
+load_on : {D T : Type 0} (xs ys : List (CodeWaiting D T)) → load (xs ++ ys) ≡ load xs + load ys
+load_on [] ys = omega arith
+load_on (x ∷ xs) ys = omega (arith, load_on xs ys)
+
+light : {D T : Type 0} (x : CodeWaiting D T) → WorksOutside x → weight x ≡ 1
+light (Rest from to) h = absurd h
+light (ValueEnds at) h = refl
+light (LookEnds style) h = refl
+light (PartEnds outer first following) h = refl
+light (ItemEnds outer first following around) h = refl
+light ListEnds h = refl
+
+all_light : {D T : Type 0} (xs : List (CodeWaiting D T)) → All WorksOutside xs → load xs ≡ length xs
+all_light [] h = refl
+all_light (x ∷ xs) h = omega (
+  arith,
+  light x (All-head WorksOutside x xs h),
+  all_light xs (All-tail WorksOutside x xs h),
+)
+
+pub entered_load : {D T : Type 0} (old one items new : List (CodeWaiting D T)) (from to : ℕ)
+    → one ≡ old ++ Rest from to ∷ [] → new ≡ one ++ items → All WorksOutside items → length items ≤ 4
+    → load new ≤ load old + 8 * (to - from) + 5
+entered_load {D} {T} old one items new from to first second works few =
+    let e : load new ≡ load old + (8 * (to - from) + 1 + load items) =
+    ap load (second ∙ (ap (λ (v : List (CodeWaiting D T)). v ++ items) first ∙ append_assoc old (Rest from to ∷ [])
+    items))
+    ∙ load_on old (Rest from to ∷ items) in
+    omega (arith, e, all_light items works, few)
+
+pub left_load : {D T : Type 0} (old kept : List (CodeWaiting D T)) (x : CodeWaiting D T) → old ≡ kept ++ x ∷ []
+    → load old ≡ load kept + weight x
+left_load old kept x is = ap load is ∙ (load_on kept (x ∷ []) ∙ omega arith)
+
+-- ---- what waits may be done
+
+works_ready : {D T : Type 0} (nodes : List RenderNode) (sizes : List Extent) (w : Measure) (x : CodeWaiting D T)
+    → WorksOutside x → IsReady nodes sizes w x
+works_ready nodes sizes w (Rest from to) h = absurd h
+works_ready nodes sizes w (ValueEnds at) h = tt
+works_ready nodes sizes w (LookEnds style) h = tt
+works_ready nodes sizes w (PartEnds outer first following) h = h
+works_ready nodes sizes w (ItemEnds outer first following around) h = h
+works_ready nodes sizes w ListEnds h = tt
+
+all_ready : {D T : Type 0} (nodes : List RenderNode) (sizes : List Extent) (w : Measure)
+    (xs : List (CodeWaiting D T)) → All WorksOutside xs → All (IsReady nodes sizes w) xs
+all_ready nodes sizes w [] h = All-nil (IsReady nodes sizes w)
+all_ready nodes sizes w (x ∷ xs) h = All-cons (IsReady nodes sizes w) x xs
+    (works_ready nodes sizes w x (All-head WorksOutside x xs h))
+    (all_ready nodes sizes w xs (All-tail WorksOutside x xs h))
+
+pub entered_ready : {D T : Type 0} (nodes : List RenderNode) (sizes : List Extent) (w : Measure)
+    (old one items new : List (CodeWaiting D T)) (from to : ℕ) → one ≡ old ++ Rest from to ∷ []
+    → new ≡ one ++ items → All WorksOutside items → IsSound nodes sizes w from to
+    → All (IsReady nodes sizes w) old → All (IsReady nodes sizes w) new
+entered_ready nodes sizes w old one items new from to first second works sound ready =
+    subst (All (IsReady nodes sizes w)) (sym second)
+    (all_on (IsReady nodes sizes w) one items
+    (subst (All (IsReady nodes sizes w)) (sym first) (All-push (IsReady nodes sizes w) old (Rest from to) ready sound))
+    (all_ready nodes sizes w items works))
+
+pub front_ready : {X : Type 0} (P : X → Type 0) (all kept : List X) (x : X) → all ≡ kept ++ x ∷ [] → All P all
+    → All P kept × P x
+front_ready P all kept x is h = (front kept (subst (All P) is h), last kept (subst (All P) is h))
+  where
+    front : (xs : List _) → All P (xs ++ x ∷ []) → All P xs
+    front [] h = All-nil P
+    front (y ∷ xs) h =
+        All-cons P y xs (All-head P y (xs ++ x ∷ []) h) (front xs (All-tail P y (xs ++ x ∷ []) h))
+
+    last : (xs : List _) → All P (xs ++ x ∷ []) → P x
+    last [] h = All-head P x [] h
+    last (y ∷ xs) h = last xs (All-tail P y (xs ++ x ∷ []) h)

@@ -1,0 +1,103 @@
+-- Values in turn, and what waits behind them.
+use Rattle.std.proofs.Common.{◌≡◌, ℕ, ◌+◌, ◌-◌, List, [], ◌∷◌, ◌++◌, None, Some, append-nil, arith, length}
+use Rattle.std.proofs.Common.{refl, sym, take, ap, ◌∙◌}
+use Rattle.std.specs.Option.{option_and_then, option_map}
+use Rattle.renderer_calls.specs.Renderers.{Marking}
+use Rattle.render_sizes.specs.Extents.{Measure, extent_of, number}
+use Rattle.render_values.specs.Values.{Values, none, value}
+use Rattle.render_values.specs.declared.info.Head.{Head}
+use Rattle.text_block_renderer.specs.Parts.{Parts}
+use Rattle.render_walk.specs.Lay.{laid, laid_parts, lay}
+use Rattle.render_walk.specs.Laying.{Laying, Step}
+use Rattle.render_walk.specs.Waiting.{Waiting, rest, undone, unwound}
+use Rattle.render_walk.specs.declared.around.Around.TheVariants.{Flow}
+use Rattle.render_walk.proofs.StepLemmas.{all_wait, one_more, then_some, unwound_on}
+
+-- a value begins: what stands in it is next, and what stands behind it waits
+pub enters : {H A : Type 0} (m : Marking H A) (w : Measure) (before pushed : List (Waiting H A)) (head : Head)
+    (inner later vs : Values) (items least : ℕ) (old new : Laying H A) → vs ≡ value head inner later
+    → items ≡ number inner → least ≡ (extent_of w head inner).least
+    → ((inside : Step H A) → laid m head items least inside old
+    ≡ option_and_then (unwound m w pushed) (inside new))
+    → option_and_then (unwound m w (before ++ rest later ∷ pushed)) (lay m w inner new)
+    ≡ option_and_then (unwound m w before) (lay m w vs old)
+enters m w before pushed head inner later vs items least old new is many wide opens =
+    sym (all_wait m w before (rest later ∷ pushed) (lay m w inner new))
+    ∙ ap (option_and_then (unwound m w before))
+    (sym (one_more m w (rest later) pushed (lay m w inner new))
+    ∙ (ap (option_and_then (lay m w later)) (sym (opens (lay m w inner))
+    ∙ (ap (λ (n : ℕ). laid m head n least (lay m w inner) old) many
+    ∙ ap (λ (n : ℕ). laid m head (number inner) n (lay m w inner) old) wide))
+    ∙ ap (λ v. lay m w v old) (sym is)))
+
+pub never_enters : {H A : Type 0} (m : Marking H A) (w : Measure) (before : List (Waiting H A)) (head : Head)
+    (inner later vs : Values) (items least : ℕ) (old : Laying H A) → vs ≡ value head inner later
+    → items ≡ number inner → least ≡ (extent_of w head inner).least
+    → ((inside : Step H A) → laid m head items least inside old ≡ None)
+    → option_and_then (unwound m w before) (lay m w vs old) ≡ None
+never_enters m w before head inner later vs items least old is many wide never =
+    ap (λ v. option_and_then (unwound m w before) (lay m w v old)) is
+    ∙ ap (λ o. option_and_then (unwound m w before) (option_and_then (lay m w later) o))
+    (ap (λ (n : ℕ). laid m head (number inner) n (lay m w inner) old) (sym wide)
+    ∙ (ap (λ (n : ℕ). laid m head n least (lay m w inner) old) (sym many) ∙ never (lay m w inner)))
+
+-- what waited last is next
+pub leaves : {H A : Type 0} (m : Marking H A) (w : Measure) (items kept : List (Waiting H A)) (x : Waiting H A)
+    (vs next : Values) (old new : Laying H A) → items ≡ kept ++ x ∷ [] → vs ≡ none
+    → lay m w next new ≡ undone m w x old
+    → option_and_then (unwound m w kept) (lay m w next new) ≡ option_and_then (unwound m w items) (lay m w vs old)
+unfolding unwound
+leaves m w items kept x vs next old new is over goes =
+    ap (option_and_then (unwound m w kept)) goes
+    ∙ (sym (unwound_on m w kept (x ∷ []) old)
+    ∙ (ap (λ xs. unwound m w xs old) (sym is) ∙ ap (λ v. option_and_then (unwound m w items) (lay m w v old)) (sym
+    over)))
+
+pub never_leaves : {H A : Type 0} (m : Marking H A) (w : Measure) (items kept : List (Waiting H A)) (x : Waiting H A)
+    (vs : Values) (old : Laying H A) → items ≡ kept ++ x ∷ [] → vs ≡ none → undone m w x old ≡ None
+    → option_and_then (unwound m w items) (lay m w vs old) ≡ None
+unfolding unwound
+never_leaves m w items kept x vs old is over never =
+    ap (λ v. option_and_then (unwound m w items) (lay m w v old)) over
+    ∙ (ap (λ xs. unwound m w xs old) is
+    ∙ (unwound_on m w kept (x ∷ []) old ∙ ap (option_and_then (unwound m w kept)) never))
+
+-- the beginning and the end
+pub begins_here : {H A : Type 0} (m : Marking H A) (w : Measure) (vs all : Values) (l : Laying H A) → vs ≡ all
+    → option_and_then (unwound m w []) (lay m w vs l) ≡ lay m w all l
+unfolding unwound
+begins_here m w vs all l is = then_some (lay m w vs l) ∙ ap (λ v. lay m w v l) is
+
+pub ends_here : {H A : Type 0} (m : Marking H A) (w : Measure) (items : List (Waiting H A)) (vs : Values)
+    (l : Laying H A) → items ≡ [] → vs ≡ none → option_and_then (unwound m w items) (lay m w vs l) ≡ Some l
+unfolding unwound
+ends_here m w items vs l is over =
+    ap (λ xs. option_and_then (unwound m w xs) (lay m w vs l)) is
+    ∙ ap (λ v. option_and_then (unwound m w []) (lay m w v l)) over
+
+-- ---- a tree
+
+abbrev outside : {H A : Type 0} → Parts H A → Laying H A
+outside p = record { parts = p; around = Flow }
+
+pub laid_by : {H A : Type 0} (m : Marking H A) (w : Measure) (vs tree : Values) (p : Parts H A) (new : Laying H A)
+    → vs ≡ tree → lay m w vs (record { parts = p; around = Flow }) ≡ Some new
+    → laid_parts m w tree p ≡ Some new.parts
+laid_by {H} {A} m w vs tree p new is h =
+    ap (λ v. option_map (λ (l : Laying H A). l.parts) (lay m w v (outside p))) (sym is)
+    ∙ ap (option_map (λ (l : Laying H A). l.parts)) h
+
+pub never_laid : {H A : Type 0} (m : Marking H A) (w : Measure) (vs tree : Values) (p : Parts H A)
+    → vs ≡ tree → lay m w vs (record { parts = p; around = Flow }) ≡ None → laid_parts m w tree p ≡ None
+never_laid {H} {A} m w vs tree p is h =
+    ap (λ v. option_map (λ (l : Laying H A). l.parts) (lay m w v (outside p))) (sym is)
+    ∙ ap (option_map (λ (l : Laying H A). l.parts)) h
+
+pub none_below : {X : Type 0} (xs : List X) → length xs + 1 ≡ 1 → xs ≡ []
+none_below [] h = refl
+none_below (x ∷ xs) h = absurd (omega (arith, h))
+
+pub nothing_popped : {X : Type 0} (old new : List X) (count : ℕ) → count ≡ 0 → new ≡ take (count - 1) old
+    → old ≡ new ++ [] → old ≡ []
+nothing_popped old new count it_is taken is =
+    is ∙ (append-nil new ∙ (taken ∙ ap (λ n. take (n - 1) old) it_is))

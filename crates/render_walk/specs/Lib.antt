@@ -1,0 +1,4 @@
+pub mod Lay
+pub mod Laying
+pub mod Seen
+pub mod Waiting

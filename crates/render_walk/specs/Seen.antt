@@ -1,0 +1,146 @@
+-- What contracts see of a page that is laid out.
+use Rattle.std.specs.Prelude.{◌≡◌, ℕ, ◌+◌, ◌*◌, ◌-◌, ◌≤◌, ◌++◌, All, Bool, false, List, [], ◌∷◌, Option, None, Some}
+use Rattle.std.specs.Prelude.{chars, length, map, string_bytes}
+use Rattle.std.specs.Option.{option_and_then}
+use Rattle.text_marks.specs.Marks.{Mark}
+use Rattle.block_renderer.specs.Seen.{IsTagging, has_failed, marking, sub_of}
+use Rattle.renderer_calls.specs.Renderers.{Marking}
+use Rattle.text_block_renderer.specs.SeenParts.{current_has_failed, page_has_failed, parts_of}
+use Rattle.render_sizes.specs.Extents.{Measure, extents}
+use Rattle.render_sizes.specs.declared.extent.Extent.{Extent}
+use Rattle.render_values.specs.Arena.{IsFlat, values_of}
+use Rattle.render_values.specs.declared.node.RenderNode.{RenderNode}
+use Rattle.render_walk.specs.Lay.{lay}
+use Rattle.render_walk.specs.Laying.{Laying, Step}
+use Rattle.render_walk.specs.Waiting.{Waiting, info_at, item_ends, list_ends, look_ends, part_ends, rest, segment}
+use Rattle.render_walk.specs.Waiting.{unwound, value_ends}
+use Rattle.render_walk.specs.declared.laying.Laying.{Laying as CodeLaying}
+use Rattle.render_walk.specs.declared.waiting.Waiting.{Waiting as CodeWaiting}
+use Rattle.render_walk.specs.declared.waiting.Waiting.TheVariants.{Rest, ValueEnds, LookEnds, PartEnds, ItemEnds}
+use Rattle.render_walk.specs.declared.waiting.Waiting.TheVariants.{ListEnds}
+
+abbrev pub laying_of : {D T H A : Type 0} → (T → A) → (D → H) → CodeLaying D T → Laying H A
+laying_of seen held l = record { parts = parts_of seen held l.text; around = l.around }
+
+-- No call was refused, and no part stands on the page by itself.
+abbrev pub IsWorking : {D T H A : Type 0} → (T → A) → (D → H) → CodeLaying D T → Type 0
+IsWorking seen held l = (page_has_failed l.text ≡ false)
+    × ((current_has_failed l.text ≡ false) × ((parts_of seen held l.text).below ≡ []))
+
+-- However the decorator's annotations are seen, a step leads from one to the other.
+abbrev pub Comes : {D T H A : Type 0} → (T → A) → (D → H) → (H → Mark → List ℕ) → (H → Mark → T → Type 0)
+    → (H → Mark → Bool) → (H → Mark → H) → (H → Mark → Bool) → (H → H)
+    → (Marking H A → Step H A) → CodeLaying D T → CodeLaying D T → Type 0
+Comes seen held text gives marks after pops sub does old new = (tag : _) → IsTagging seen gives tag
+    → does (marking text tag marks after pops sub) (laying_of seen held old) ≡ Some (laying_of seen held new)
+
+-- However they are seen, it comes to nothing.
+abbrev pub Fails : {D T H A : Type 0} → (T → A) → (D → H) → (H → Mark → List ℕ) → (H → Mark → T → Type 0)
+    → (H → Mark → Bool) → (H → Mark → H) → (H → Mark → Bool) → (H → H)
+    → (Marking H A → Step H A) → CodeLaying D T → Type 0
+Fails seen held text gives marks after pops sub does old = (tag : _) → IsTagging seen gives tag
+    → does (marking text tag marks after pops sub) (laying_of seen held old) ≡ None
+
+-- ---- what waits
+
+abbrev pub waiting_of : {D T H A : Type 0} → (T → A) → (D → H) → List RenderNode → CodeWaiting D T → Waiting H A
+waiting_of seen held nodes (Rest from to) = rest (values_of (segment nodes from to))
+waiting_of seen held nodes (ValueEnds at) = value_ends (info_at nodes at)
+waiting_of seen held nodes (LookEnds style) = look_ends style
+waiting_of seen held nodes (PartEnds outer first following) =
+    part_ends (sub_of seen held outer) (chars (string_bytes first)) (chars (string_bytes following))
+waiting_of seen held nodes (ItemEnds outer first following around) =
+    item_ends (sub_of seen held outer) (chars (string_bytes first)) (chars (string_bytes following)) around
+waiting_of seen held nodes ListEnds = list_ends
+
+abbrev pub all_waiting : {D T H A : Type 0} → (T → A) → (D → H) → List RenderNode → List (CodeWaiting D T)
+    → List (Waiting H A)
+all_waiting seen held nodes items = map (waiting_of seen held nodes) items
+
+abbrev pub maybe : {X : Type 0} → Option X → List X
+maybe None = []
+maybe (Some x) = x ∷ []
+
+-- nodes in a row, each with the columns that it asks for
+pub record IsSound (nodes : List RenderNode) (sizes : List Extent) (w : Measure) (from to : ℕ) : Type 0 where
+  pub within : to ≤ length nodes
+  pub flat : IsFlat (segment nodes from to)
+  pub sized : segment sizes from to ≡ extents w (values_of (segment nodes from to))
+
+-- What waits may be done: no call of a renderer outside was refused, and nodes stand in a row.
+abbrev pub IsReady : {D T : Type 0} → List RenderNode → List Extent → Measure → CodeWaiting D T → Type 0
+IsReady nodes sizes w (Rest from to) = IsSound nodes sizes w from to
+IsReady nodes sizes w (PartEnds outer first following) = has_failed outer ≡ false
+IsReady nodes sizes w (ItemEnds outer first following around) = has_failed outer ≡ false
+IsReady nodes sizes w _ = Unit {0}
+
+abbrev pub WorksOutside : {D T : Type 0} → CodeWaiting D T → Type 0
+WorksOutside (Rest from to) = ⊥
+WorksOutside (PartEnds outer first following) = has_failed outer ≡ false
+WorksOutside (ItemEnds outer first following around) = has_failed outer ≡ false
+WorksOutside _ = Unit {0}
+
+-- how much there is to do
+abbrev pub weight : {D T : Type 0} → CodeWaiting D T → ℕ
+weight (Rest from to) = 8 * (to - from) + 1
+weight _ = 1
+
+abbrev pub load : {D T : Type 0} → List (CodeWaiting D T) → ℕ
+load [] = 0
+load (x ∷ xs) = weight x + load xs
+
+-- Whatever stands in it, what it is in comes to that alone, and then to what waits.
+abbrev pub Opens : {D T H A : Type 0} → (T → A) → (D → H) → (H → Mark → List ℕ) → (H → Mark → T → Type 0)
+    → (H → Mark → Bool) → (H → Mark → H) → (H → Mark → Bool) → (H → H)
+    → (Marking H A → Step H A → Step H A) → List (CodeWaiting D T) → CodeLaying D T → CodeLaying D T → Type 0
+Opens seen held text gives marks after pops sub f items old new = (tag : _) → IsTagging seen gives tag
+    → (nodes : List RenderNode) (w : Measure) (inside : Step _ _)
+    → f (marking text tag marks after pops sub) inside (laying_of seen held old)
+    ≡ option_and_then (unwound (marking text tag marks after pops sub) w (all_waiting seen held nodes items))
+    (inside (laying_of seen held new))
+
+-- Whatever stands in it, it comes to nothing.
+abbrev pub NeverOpens : {D T H A : Type 0} → (T → A) → (D → H) → (H → Mark → List ℕ) → (H → Mark → T → Type 0)
+    → (H → Mark → Bool) → (H → Mark → H) → (H → Mark → Bool) → (H → H)
+    → (Marking H A → Step H A → Step H A) → CodeLaying D T → Type 0
+NeverOpens seen held text gives marks after pops sub f old = (tag : _) → IsTagging seen gives tag
+    → (inside : Step _ _) → f (marking text tag marks after pops sub) inside (laying_of seen held old) ≡ None
+
+-- the same where at most so many wait behind others, nodes being those of the tree
+pub record IsOpened {D T H A : Type 0} (seen : T → A) (held : D → H) (text : H → Mark → List ℕ)
+    (gives : H → Mark → T → Type 0) (marks : H → Mark → Bool) (after : H → Mark → H) (pops : H → Mark → Bool)
+    (sub : H → H) (most : ℕ) (nodes : List RenderNode) (f : Marking H A → Step H A → Step H A)
+    (before behind : List (CodeWaiting D T)) (old new : CodeLaying D T) : Type 0 where
+  pub items : List (CodeWaiting D T)
+  pub pushed : behind ≡ before ++ items
+  pub works : All WorksOutside items
+  pub few : length items ≤ most
+  pub opens : (tag : _) → IsTagging seen gives tag → (w : Measure) (inside : Step H A)
+      → f (marking text tag marks after pops sub) inside (laying_of seen held old)
+      ≡ option_and_then (unwound (marking text tag marks after pops sub) w (all_waiting seen held nodes items))
+      (inside (laying_of seen held new))
+
+-- ---- the walk
+
+-- what comes of the values of the nodes at a place, and of all that waits
+abbrev pub left : {D T H A : Type 0} → (T → A) → (D → H) → Marking H A → List RenderNode → Measure → (at end : ℕ)
+    → List (CodeWaiting D T) → CodeLaying D T → Option (Laying H A)
+left seen held m nodes w at end items l = option_and_then (unwound m w (all_waiting seen held nodes items))
+    (lay m w (values_of (segment nodes at end)) (laying_of seen held l))
+
+-- it stays what it is
+abbrev pub GoesOn : {D T H A : Type 0} → (T → A) → (D → H) → (H → Mark → List ℕ) → (H → Mark → T → Type 0)
+    → (H → Mark → Bool) → (H → Mark → H) → (H → Mark → Bool) → (H → H) → List RenderNode → Measure
+    → (at end : ℕ) → List (CodeWaiting D T) → CodeLaying D T → (new_at new_end : ℕ) → List (CodeWaiting D T)
+    → CodeLaying D T → Type 0
+GoesOn seen held text gives marks after pops sub nodes w at end before old new_at new_end behind new =
+    (tag : _) → IsTagging seen gives tag
+    → left seen held (marking text tag marks after pops sub) nodes w new_at new_end behind new
+    ≡ left seen held (marking text tag marks after pops sub) nodes w at end before old
+
+abbrev pub NeverGoes : {D T H A : Type 0} → (T → A) → (D → H) → (H → Mark → List ℕ) → (H → Mark → T → Type 0)
+    → (H → Mark → Bool) → (H → Mark → H) → (H → Mark → Bool) → (H → H) → List RenderNode → Measure
+    → (at end : ℕ) → List (CodeWaiting D T) → CodeLaying D T → Type 0
+NeverGoes seen held text gives marks after pops sub nodes w at end before old =
+    (tag : _) → IsTagging seen gives tag
+    → left seen held (marking text tag marks after pops sub) nodes w at end before old ≡ None

@@ -1,0 +1,256 @@
+//! A render tree, laid out value by value.
+ghost use Rattle.std.specs.Prelude.{◌≡◌, ◌⊎◌, ◌+◌, ◌*◌, ◌-◌, ◌<◌, ◌≤◌, All, Err, IfErr, IfOk, List, None, OnOk};
+ghost use Rattle.std.specs.Prelude.{chars, false, length};
+ghost use Rattle.block_renderer.specs.Seen.{has_failed};
+ghost use Rattle.render_walk.specs.Seen.{weight};
+ghost use Rattle.render_walk.specs.Waiting.{segment};
+ghost use Rattle.text_pieces.specs.declared.fault.BlockError.TheVariants as errors;
+ghost use Rattle.render_sizes.specs.Extents.{Measure, extents};
+ghost use Rattle.render_sizes.specs.declared.extent.Extent.{Extent as SeenExtent};
+ghost use Rattle.render_values.specs.Arena.{IsFlat, values_of};
+ghost use Rattle.render_walk.specs.Lay.{laid_parts, lay};
+ghost use Rattle.text_block_renderer.specs.Parts.{depth_of};
+ghost use Rattle.text_block_renderer.specs.SeenParts.{PartsCome, PartsFail, current_has_failed, page_has_failed};
+ghost use Rattle.text_block_renderer.specs.SeenParts.{parts_of};
+
+use crate::around::Around;
+use crate::laying::Laying;
+use crate::waiting::Waiting;
+use block_renderer::SubRenderer;
+use render_sizes::{Extent, number};
+use render_values::{RenderNode, RenderTree};
+use std::alloc::Global;
+use text_block_renderer::TextRenderer;
+use text_marks::TextDecorator;
+use text_pieces::BlockError;
+
+// The next node, and the end of the values that are laid out one behind another.
+#[derive(Clone, Copy)]
+struct Place {
+    at: usize,
+    end: usize,
+}
+
+// the nodes up to a place and behind it
+fn nodes_between(nodes: &[RenderNode], from: usize, to: usize) -> &[RenderNode]
+    requires order { from ≤ to }
+    requires within { to ≤ length nodes.now }
+    ensures { result.now ≡ segment nodes.now from to }
+{
+    &nodes[from..to]
+}
+
+impl<D: TextDecorator + Drop> Laying<D> {
+    ghost use Rattle.block_renderer.specs.Seen.{IsTagging, marking, sub_of};
+    ghost use Rattle.render_walk.specs.Lay.{ends};
+    ghost use Rattle.render_walk.specs.Laying.{goes_on, in_turn, part_ended};
+    ghost use Rattle.render_walk.specs.Seen.{Comes, Fails, GoesOn, IsReady, IsSound, IsWorking, NeverGoes, laying_of};
+    ghost use Rattle.render_walk.specs.Seen.{load, waiting_of};
+    ghost use Rattle.render_walk.specs.Waiting.{info_at, undone};
+
+    // the value of the node at a place ends
+    #[tactic(auto, unfolding(crate::specs::Lay::ends))]
+    fn end_at(&mut self, nodes: &[RenderNode], at: usize) -> Result<(), BlockError>
+        requires { IsWorking D.Annotation.seen D.held self.old }
+        ensures done { OnOk result (Comes D.Annotation.seen D.held D.text D.gives D.marks D.after D.pops D.sub
+            (λ m. ends m (info_at nodes.now at)) self.old self.new) }
+        ensures works { OnOk result (IsWorking D.Annotation.seen D.held self.new) }
+        ensures narrow { result ≡ Err errors.TooNarrow → Fails D.Annotation.seen D.held D.text D.gives D.marks D.after
+            D.pops D.sub (λ m. ends m (info_at nodes.now at)) self.old }
+        ensures kinds { IfErr result (λ e. (e ≡ errors.TooNarrow) ⊎ (e ≡ errors.Memory)) }
+    {
+        match nodes.get(at) {
+            Some(node) => self.end(&node.head.info),
+            None => Ok(()),
+        }
+    }
+
+    // an item's part ends, and then the list around says this
+    fn end_item(
+        &mut self,
+        outer: SubRenderer<D>,
+        first: &str,
+        following: &str,
+        around: Around,
+    ) -> Result<(), BlockError>
+        requires works { IsWorking D.Annotation.seen D.held self.old × (has_failed outer ≡ false) }
+        ensures done { OnOk result (Comes D.Annotation.seen D.held D.text D.gives D.marks D.after D.pops D.sub
+            (λ m. in_turn (part_ended m (sub_of D.Annotation.seen D.held outer) (chars first.now) (chars following.now))
+            (goes_on around)) self.old self.new) }
+        ensures works { OnOk result (IsWorking D.Annotation.seen D.held self.new) }
+        ensures narrow { result ≡ Err errors.TooNarrow → Fails D.Annotation.seen D.held D.text D.gives D.marks D.after
+            D.pops D.sub (λ m. in_turn (part_ended m (sub_of D.Annotation.seen D.held outer) (chars first.now)
+            (chars following.now)) (goes_on around)) self.old }
+        ensures kinds { IfErr result (λ e. (e ≡ errors.TooNarrow) ⊎ (e ≡ errors.Memory)) }
+    {
+        self.end_part(outer, first, following)?;
+        self.around = around;
+        Ok(())
+    }
+
+    // what waited last is done, or its nodes are the next
+    fn leave(
+        &mut self,
+        nodes: &[RenderNode],
+        place: Place,
+        next: Waiting<D>,
+    ) -> Result<Place, BlockError>
+        requires works { IsWorking D.Annotation.seen D.held self.old }
+        requires ready { (sizes : List SeenExtent) × ((w : Measure) × IsReady nodes.now sizes w next) }
+        requires past { place.end ≤ place.at }
+        ensures goes { IfOk result (λ p. (tag : _) → IsTagging D.Annotation.seen D.gives tag → (w : Measure)
+            → lay (marking D.text tag D.marks D.after D.pops D.sub) w (values_of (segment nodes.now p.at p.end))
+            (laying_of D.Annotation.seen D.held self.new)
+            ≡ undone (marking D.text tag D.marks D.after D.pops D.sub) w
+            (waiting_of D.Annotation.seen D.held nodes.now next) (laying_of D.Annotation.seen D.held self.old)) }
+        ensures works { OnOk result (IsWorking D.Annotation.seen D.held self.new) }
+        ensures sound { (sizes : List SeenExtent) (w : Measure) → IsReady nodes.now sizes w next
+            → IsSound nodes.now sizes w place.at place.end → IfOk result (λ p. IsSound nodes.now sizes w p.at p.end) }
+        ensures falls { IfOk result (λ p. 8 * (p.end - p.at) + 1 ≤ weight next) }
+        ensures narrow { result ≡ Err errors.TooNarrow → (tag : _) → IsTagging D.Annotation.seen D.gives tag
+            → (w : Measure) → undone (marking D.text tag D.marks D.after D.pops D.sub) w
+            (waiting_of D.Annotation.seen D.held nodes.now next) (laying_of D.Annotation.seen D.held self.old) ≡ None }
+        ensures kinds { IfErr result (λ e. (e ≡ errors.TooNarrow) ⊎ (e ≡ errors.Memory)) }
+    {
+        match next {
+            Waiting::Rest { from, to } => Ok(Place { at: from, end: to }),
+            Waiting::ValueEnds(at) => {
+                self.end_at(nodes, at)?;
+                Ok(place)
+            }
+            Waiting::LookEnds(style) => {
+                self.end_look(style);
+                Ok(place)
+            }
+            Waiting::PartEnds {
+                outer,
+                first,
+                following,
+            } => {
+                self.end_part(outer, first.as_str(), following.as_str())?;
+                Ok(place)
+            }
+            Waiting::ItemEnds {
+                outer,
+                first,
+                following,
+                around,
+            } => {
+                self.end_item(outer, first.as_str(), following.as_str(), around)?;
+                Ok(place)
+            }
+            Waiting::ListEnds => {
+                self.around = Around::Flow;
+                Ok(place)
+            }
+        }
+    }
+
+    // the next value begins
+    fn enter(
+        &mut self,
+        alloc: Global,
+        nodes: &[RenderNode],
+        sizes: &[Extent],
+        place: Place,
+        waiting: &mut Vec<Waiting<D>>,
+    ) -> Result<Place, BlockError>
+        ghost w: { Measure }
+        requires works { IsWorking D.Annotation.seen D.held self.old }
+        requires here { place.at < place.end }
+        requires sound { IsSound nodes.now sizes.now w place.at place.end }
+        ensures goes { IfOk result (λ p. GoesOn D.Annotation.seen D.held D.text D.gives D.marks D.after D.pops D.sub
+            nodes.now w place.at place.end waiting.old.items self.old p.at p.end waiting.new.items self.new) }
+        ensures works { OnOk result (IsWorking D.Annotation.seen D.held self.new) }
+        ensures ready { All (IsReady nodes.now sizes.now w) waiting.old.items
+            → OnOk result (All (IsReady nodes.now sizes.now w) waiting.new.items) }
+        ensures sound { IfOk result (λ p. IsSound nodes.now sizes.now w p.at p.end) }
+        ensures falls { IfOk result (λ p. load waiting.new.items + 8 * (p.end - p.at)
+            < load waiting.old.items + 8 * (place.end - place.at)) }
+        ensures narrow { result ≡ Err errors.TooNarrow → NeverGoes D.Annotation.seen D.held D.text D.gives D.marks
+            D.after D.pops D.sub nodes.now w place.at place.end waiting.old.items self.old }
+        ensures kinds { IfErr result (λ e. (e ≡ errors.TooNarrow) ⊎ (e ≡ errors.Memory)) }
+    {
+        let node = &nodes[place.at];
+        let extent = &sizes[place.at];
+        let first = place.at + 1;
+        let behind = first + node.below;
+        waiting.push(Waiting::Rest {
+            from: behind,
+            to: place.end,
+        })?;
+        let items = number(nodes_between(nodes, first, behind));
+        self.open_value(alloc, &node.head, place.at, items, extent.least, waiting)?;
+        Ok(Place {
+            at: first,
+            end: behind,
+        })
+    }
+
+    // lays out the values of nodes, of each of which it is told how many columns it asks for
+    fn walk(
+        &mut self,
+        alloc: Global,
+        nodes: &[RenderNode],
+        sizes: &[Extent],
+    ) -> Result<(), BlockError>
+        ghost w: { Measure }
+        requires works { IsWorking D.Annotation.seen D.held self.old }
+        requires flat { IsFlat nodes.now }
+        requires sized { sizes.now ≡ extents w (values_of nodes.now) }
+        ensures done { OnOk result (Comes D.Annotation.seen D.held D.text D.gives D.marks D.after D.pops D.sub
+            (λ m. lay m w (values_of nodes.now)) self.old self.new) }
+        ensures works { OnOk result (IsWorking D.Annotation.seen D.held self.new) }
+        ensures narrow { result ≡ Err errors.TooNarrow → Fails D.Annotation.seen D.held D.text D.gives D.marks D.after
+            D.pops D.sub (λ m. lay m w (values_of nodes.now)) self.old }
+        ensures kinds { IfErr result (λ e. (e ≡ errors.TooNarrow) ⊎ (e ≡ errors.Memory)) }
+    {
+        let mut waiting: Vec<Waiting<D>> = Vec::new(alloc);
+        let mut place = Place {
+            at: 0,
+            end: nodes.len(),
+        };
+        'nodes: loop {
+            if place.at < place.end {
+                place = self.enter(alloc, nodes, sizes, place, &mut waiting)?;
+            } else {
+                match waiting.pop() {
+                    Some(next) => {
+                        place = self.leave(nodes, place, next)?;
+                    }
+                    None => return Ok(()),
+                }
+            }
+        }
+    }
+}
+
+/// Lays out a render tree in the renderers of a page; `sizes` tells of each node how many columns its value asks for,
+/// as `w` measures them. No part may stand on the page. The error is `TooNarrow` where a part of the page lacks the
+/// columns that it asks for, or a character is wider than its line and may not stand alone, else `Memory`.
+pub fn lay_tree<D: TextDecorator + Drop>(
+    alloc: Global,
+    tree: &RenderTree,
+    sizes: &[Extent],
+    text: TextRenderer<D>,
+) -> Result<TextRenderer<D>, BlockError>
+    ghost w: { Measure }
+    requires works { (page_has_failed text ≡ false) × (current_has_failed text ≡ false) }
+    requires whole { depth_of (parts_of D.Annotation.seen D.held text) ≡ 1 }
+    requires sized { sizes.now ≡ extents w tree.now }
+    ensures laid { IfOk result (λ behind. PartsCome D.Annotation.seen D.held D.text D.gives D.marks D.after D.pops D.sub
+        (λ m p. laid_parts m w tree.now p) text behind) }
+    ensures works { IfOk result (λ behind. (page_has_failed behind ≡ false) × (current_has_failed behind ≡ false)) }
+    ensures whole { IfOk result (λ behind. depth_of (parts_of D.Annotation.seen D.held behind) ≡ 1) }
+    ensures narrow { result ≡ Err errors.TooNarrow → PartsFail D.Annotation.seen D.held D.text D.gives D.marks D.after
+        D.pops D.sub (λ m p. laid_parts m w tree.now p) text }
+    ensures kinds { IfErr result (λ e. (e ≡ errors.TooNarrow) ⊎ (e ≡ errors.Memory)) }
+{
+    let mut laying = Laying {
+        text,
+        around: Around::Flow,
+    };
+    laying.walk(alloc, tree.nodes(), sizes)?;
+    let Laying { text, around: _ } = laying;
+    Ok(text)
+}
