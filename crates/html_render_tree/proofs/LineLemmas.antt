@@ -1,0 +1,79 @@
+-- Lines of a page, and those behind it.
+use Rattle.std.proofs.Common.{◌≡◌, ℕ, List, [], ◌∷◌, ◌++◌, Option, None, Some, append-nil, append_assoc, ap, arith}
+use Rattle.std.proofs.Common.{length}
+use Rattle.std.proofs.Common.{Bool, Err, IfOk, Ok, Result, map, refl, subst, sym, ◌∙◌, true, false}
+use Rattle.std.specs.Prelude.{if◌then◌else◌}
+use Rattle.std.proofs.lemmas.List.{map-append}
+use Rattle.std.specs.Option.{option_and_then, option_map}
+use Rattle.block_renderer.specs.Footnotes.{add_footnotes}
+use Rattle.renderer_calls.specs.Renderers.{Marking, Sub, with_block_started}
+use Rattle.tagged_lines.specs.Tagged.{Item}
+use Rattle.tagged_lines.specs.declared.tagged_line.TaggedLine.{TaggedLine}
+use Rattle.text_block_renderer.specs.Parts.{Parts}
+use Rattle.html_render_tree.specs.PageLines.{IsNoted, NeverNoted, Setting, noted, with_notes}
+
+pub notes_are : {H A : Type 0} (notes : List (List (Item A))) (s : Sub H A) → (notes ≡ [] → ⊥)
+    → with_notes notes s ≡ option_and_then (add_footnotes notes) (with_block_started s)
+notes_are [] s some = absurd (some refl)
+notes_are (note ∷ notes) s some = refl
+
+pub some_left : {X Y : Type 0} (f : X → Y) (xs : List X) → (length xs ≡ 0 → ⊥) → map f xs ≡ [] → ⊥
+some_left f [] some h = some refl
+some_left f (x ∷ xs) some h = cc h
+
+-- ---- lines as text
+
+pub next_text : {T X Y Z : Type 0} (f : T → Z) (s : Y → Z) (r : X → Y) (old new : List T) (t : T) (its rest : List X)
+    (x : X) (all : List Z) → new ≡ old ++ t ∷ [] → its ≡ x ∷ rest → f t ≡ s (r x)
+    → map f old ++ map s (map r its) ≡ all → map f new ++ map s (map r rest) ≡ all
+next_text {X = X} f s r old new t its rest x all pushed here is so_far =
+    let later = map s (map r rest) in
+    ap (λ l. l ++ later) (ap (map f) pushed ∙ map-append f old (t ∷ []))
+    ∙ (append_assoc (map f old) (f t ∷ []) later
+    ∙ (ap (λ y. map f old ++ y ∷ later) is
+    ∙ (ap (λ (l : List X). map f old ++ map s (map r l)) (sym here) ∙ so_far)))
+
+pub all_texts : {X Y Z : Type 0} (front : List Z) (s : Y → Z) (r : X → Y) (its : List X) (all : List Z)
+    → length its ≡ 0 → front ++ map s (map r its) ≡ all → front ≡ all
+all_texts front s r [] all none_left h = sym (append-nil front) ∙ h
+all_texts front s r (x ∷ its) all none_left h = absurd (omega (arith, none_left))
+
+-- ---- what is measured, where no table stands
+
+pub measured_some : {X Y : Type 0} (f : X → Y) (o : Option X) (x : X) (tables : Bool) (sizes : Y) → o ≡ Some x
+    → option_map f o ≡ (if tables then None else Some sizes) → (tables ≡ false) × (f x ≡ sizes)
+measured_some f o x true sizes is h = absurd (nothing_there (sym (ap (option_map f) is) ∙ h))
+  where
+    nothing_there : Some (f x) ≡ None → ⊥
+    nothing_there e = cc e
+measured_some f o x false sizes is h = (refl, some_same (sym (ap (option_map f) is) ∙ h))
+  where
+    some_same : Some (f x) ≡ Some sizes → f x ≡ sizes
+    some_same e = cc e
+
+abbrev pub by_decorator : {H : Type 0} → H → Setting H → Setting H
+by_decorator held c = record c { held = held }
+
+-- targets and a renderer, by what they are
+
+pub noted_behind_as : {T H A : Type 0} (m : Marking H A) (seen : T → A)
+    (closes : H → List (List ℕ) → List (TaggedLine T) → Type 0) (targets others : List (List ℕ)) (s r t : Sub H A)
+    → targets ≡ others → s ≡ r → IsNoted m seen closes targets s t → IsNoted m seen closes others r t
+noted_behind_as m seen closes targets others s r t e f h =
+    subst (λ l. IsNoted m seen closes l r t) e (subst (λ x. IsNoted m seen closes targets x t) f h)
+
+pub never_noted_as : {T H A : Type 0} (m : Marking H A) (seen : T → A)
+    (closes : H → List (List ℕ) → List (TaggedLine T) → Type 0) (targets others : List (List ℕ)) (s r : Sub H A)
+    → targets ≡ others → s ≡ r → NeverNoted m seen closes targets s → NeverNoted m seen closes others r
+never_noted_as m seen closes targets others s r e f h =
+    subst (λ t. NeverNoted m seen closes t r) e (subst (λ x. NeverNoted m seen closes targets x) f h)
+
+pub noted_as : {H A : Type 0} (p : Parts H A) (s : Sub H A) (links targets : List (List ℕ)) → s ≡ p.current
+    → links ≡ p.targets → targets ≡ (if s.options.include_link_footnotes then links else []) → targets ≡ noted p
+noted_as {H} {A} p s links targets e f h =
+    h ∙ (ap (λ (x : Sub H A). if x.options.include_link_footnotes then links else []) e
+    ∙ ap (λ (l : List (List ℕ)). if p.current.options.include_link_footnotes then l else []) f)
+
+pub if_ok_by : {X E : Type 0} (P Q : X → Type 0) (r : Result X E) → ((x : X) → P x → Q x) → IfOk r P → IfOk r Q
+if_ok_by P Q (Ok x) f h = f x h
+if_ok_by P Q (Err e) f h = tt

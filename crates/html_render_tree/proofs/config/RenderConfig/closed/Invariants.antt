@@ -1,0 +1,7 @@
+use Rattle.render_sizes.specs.Extents.{measure_of}
+use Rattle.html_render_tree.specs.PageLines.{prefix_columns}
+use Rattle.html_render_tree.proofs.config.RenderConfig.closed.Given as goal
+
+abbrev pub ghost-laid : goal.ghost-laid
+ghost-laid g a =
+    measure_of a.min_wrap_width (prefix_columns (g.D.TextDecorator.text (g.D.TextDecorator.held a.decorator)))

@@ -1,0 +1,63 @@
+use Rattle.std.proofs.Common.{◌≡◌, [], Err, Global, Vec, ap, sym, ◌∙◌}
+use Rattle.block_renderer.specs.Seen.{marking}
+use Rattle.render_conversion.specs.declared.error.RenderError.TheVariants.{TooNarrow}
+use Rattle.render_sizes.specs.Extents.{extents, has_tables, measure_of}
+use Rattle.render_sizes.specs.declared.extent.Extent.{Extent}
+use Rattle.render_walk.specs.Lay.{laid_parts}
+use Rattle.renderer_calls.specs.Renderers.{new_sub}
+use Rattle.text_block_renderer.specs.Parts.{depth_of, whole_page}
+use Rattle.html_render_tree.specs.PageLines.{prefix_columns}
+use Rattle.html_render_tree.proofs.LineLemmas.{measured_some}
+use Rattle.html_render_tree.proofs.rendering.laid.Goals as goal
+
+pub lay_tree-requires : goal.lay_tree-requires
+lay_tree-requires g c = λ lives k. (
+  k.0,
+  (
+    k.1,
+    (
+      (c.new.ensures.works, c.new.ensures.current ∙ c.new-sub.ensures.works),
+      (
+        ap depth_of c.new.ensures.parts,
+        c.as_slice.ensures.value
+            ∙ ((measured_some (λ (v : Vec Extent Global). v.items) c.in_ok-sizes.field-0 c.in-Some.sizes
+            (has_tables c.args.tree.now) _ c.in-Some.is c.in_ok-sizes.ensures).1
+            ∙ (ap (λ d. extents (measure_of c.args.min_wrap_width (prefix_columns (g.D.TextDecorator.text
+            (g.D.TextDecorator.held d)))) c.args.tree.now) c.new-prefixes.ensures
+            ∙ ap (λ v. extents v c.args.tree.now) (sym c.requires.1.1))),
+      ),
+    ),
+  ),
+)
+
+pub returns-in-Ok-clause-laid : goal.returns-in-Ok-clause-laid
+returns-in-Ok-clause-laid g c = λ tag p.
+    ap (λ v. laid_parts (marking g.D.TextDecorator.text tag g.D.TextDecorator.marks g.D.TextDecorator.after
+    g.D.TextDecorator.pops g.D.TextDecorator.sub) v c.args.tree.now
+    (whole_page (new_sub c.args.width c.args.options (g.D.TextDecorator.held c.args.decorator) []))) (sym
+    c.requires.1.1)
+    ∙ (ap (laid_parts (marking g.D.TextDecorator.text tag g.D.TextDecorator.marks g.D.TextDecorator.after
+    g.D.TextDecorator.pops g.D.TextDecorator.sub) g.w c.args.tree.now) (sym (c.new.ensures.parts ∙ ap whole_page
+    (c.new-sub.ensures.sub
+    ∙ ap (λ d. new_sub c.args.width c.args.options (g.D.TextDecorator.held d) [])
+    (c.into_decorator.ensures ∙ c.new-prefixes.ensures))))
+    ∙ c.in-Ok.ensures.laid tag p)
+
+pub returns-in-Ok-clause-tables : goal.returns-in-Ok-clause-tables
+returns-in-Ok-clause-tables g c = (measured_some (λ (v : Vec Extent Global). v.items) c.in_ok-sizes.field-0
+    c.in-Some.sizes
+    (has_tables c.args.tree.now) _ c.in-Some.is c.in_ok-sizes.ensures).0
+
+pub returns-clause-narrow : goal.returns-clause-narrow
+returns-clause-narrow g c = λ e. λ tag p.
+    let narrow : c.refusal.result ≡ TooNarrow = cc e in
+    ap (λ v. laid_parts (marking g.D.TextDecorator.text tag g.D.TextDecorator.marks g.D.TextDecorator.after
+    g.D.TextDecorator.pops g.D.TextDecorator.sub) v c.args.tree.now
+    (whole_page (new_sub c.args.width c.args.options (g.D.TextDecorator.held c.args.decorator) []))) (sym
+    c.requires.1.1)
+    ∙ (ap (laid_parts (marking g.D.TextDecorator.text tag g.D.TextDecorator.marks g.D.TextDecorator.after
+    g.D.TextDecorator.pops g.D.TextDecorator.sub) g.w c.args.tree.now) (sym (c.new.ensures.parts ∙ ap whole_page
+    (c.new-sub.ensures.sub
+    ∙ ap (λ d. new_sub c.args.width c.args.options (g.D.TextDecorator.held d) [])
+    (c.into_decorator.ensures ∙ c.new-prefixes.ensures))))
+    ∙ c.in-Err.ensures.narrow (ap Err (c.refusal.ensures.narrow narrow)) tag p)

@@ -1,0 +1,4 @@
+use Rattle.html_render_tree.proofs.rendering.laid.Given as goal
+
+abbrev pub ghost-lay_tree : goal.ghost-lay_tree
+ghost-lay_tree g a = g.w

@@ -1,0 +1,2 @@
+pub mod PageLines
+pub mod Settings

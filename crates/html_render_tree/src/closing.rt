@@ -1,0 +1,110 @@
+//! What stands behind a page's last value, and its lines.
+ghost use Rattle.std.specs.Prelude.{◌≡◌, [], Err, IfOk, None, OnOk, if◌then◌else◌, map};
+ghost use Rattle.block_renderer.specs.Seen.{Comes, Fails, IsTagging, marking, sub_of, tags_seen};
+ghost use Rattle.html_render_tree.specs.PageLines.{IsNoted, IsShown, NeverNoted, noted, with_notes};
+ghost use Rattle.renderer_calls.specs.Renderers.{lines_of_sub};
+ghost use Rattle.tagged_lines.specs.Tagged.{line_items};
+ghost use Rattle.text_pieces.specs.Sources.{names};
+ghost use Rattle.text_block_renderer.specs.Parts.{depth_of};
+ghost use Rattle.text_block_renderer.specs.SeenParts.{parts_of};
+ghost use Rattle.text_borders.specs.Lines.{line_shown, render_line_of};
+ghost use Rattle.text_pieces.specs.declared.fault.BlockError.TheVariants as errors;
+
+use block_renderer::{RenderLine, Renderer, SubRenderer};
+use std::alloc::{AllocError, Global};
+use tagged_lines::TaggedLine;
+use text_block_renderer::TextRenderer;
+use text_marks::TextDecorator;
+use text_pieces::BlockError;
+
+// lines behind the page, as a block of their own
+fn add_notes<D: TextDecorator + Drop>(
+    sub: &mut SubRenderer<D>,
+    notes: Vec<TaggedLine<D::Annotation>>,
+) -> Result<(), BlockError>
+    ensures done { OnOk result (Comes D.Annotation.seen D.held D.text D.gives D.marks D.after D.pops D.sub
+        (λ m s. with_notes (map (line_items D.Annotation.seen) notes.items) s) sub.old sub.new) }
+    ensures narrow { result ≡ Err errors.TooNarrow → Fails D.Annotation.seen D.held D.text D.gives D.marks D.after
+        D.pops D.sub (λ m s. with_notes (map (line_items D.Annotation.seen) notes.items) s) sub.old }
+{
+    if notes.is_empty() {
+        return Ok(());
+    }
+    sub.start_block()?;
+    sub.fmt_links(notes)
+}
+
+// lines as text
+fn texts_of<D: TextDecorator + Drop>(
+    alloc: Global,
+    lines: Vec<RenderLine<Vec<D::Annotation>>>,
+) -> Result<Vec<TaggedLine<Vec<D::Annotation>>>, AllocError>
+    ensures { IfOk result (λ texts. map (line_items (tags_seen D.Annotation.seen)) texts.items
+        ≡ map line_shown (map (render_line_of (tags_seen D.Annotation.seen)) lines.items)) }
+{
+    let mut texts = Vec::with_capacity(alloc, lines.len())?;
+    'lines: for line in lines {
+        texts.push(line.into_tagged_line()?)?;
+    }
+    Ok(texts)
+}
+
+// a renderer with what its decorator makes of the targets behind the last value
+fn with_targets<D: TextDecorator + Drop>(
+    sub: SubRenderer<D>,
+    targets: Vec<String>,
+) -> Result<SubRenderer<D>, BlockError>
+    ensures noted { IfOk result (λ s. (tag : _) → IsTagging D.Annotation.seen D.gives tag
+        → IsNoted (marking D.text tag D.marks D.after D.pops D.sub) D.Annotation.seen D.closes (names targets.items)
+        (sub_of D.Annotation.seen D.held sub) (sub_of D.Annotation.seen D.held s)) }
+    ensures narrow { result ≡ Err errors.TooNarrow → (tag : _) → IsTagging D.Annotation.seen D.gives tag
+        → NeverNoted (marking D.text tag D.marks D.after D.pops D.sub) D.Annotation.seen D.closes (names targets.items)
+        (sub_of D.Annotation.seen D.held sub) }
+{
+    let mut sub = sub;
+    let notes = sub.finalise(targets)?;
+    add_notes(&mut sub, notes)?;
+    Ok(sub)
+}
+
+// the targets that stand behind the page, where they do
+fn told_targets(alloc: Global, include: bool, links: Vec<String>) -> Vec<String>
+    ensures { names result.items ≡ (if include then names links.items else []) }
+{
+    if include {
+        return links;
+    }
+    Vec::new(alloc)
+}
+
+/// The page's own renderer behind its last value, closed.
+pub(crate) fn closed_page<D: TextDecorator + Drop>(
+    alloc: Global,
+    text: TextRenderer<D>,
+) -> Result<SubRenderer<D>, BlockError>
+    requires { depth_of (parts_of D.Annotation.seen D.held text) ≡ 1 }
+    ensures noted { IfOk result (λ s. (tag : _) → IsTagging D.Annotation.seen D.gives tag
+        → IsNoted (marking D.text tag D.marks D.after D.pops D.sub) D.Annotation.seen D.closes
+        (noted (parts_of D.Annotation.seen D.held text)) (parts_of D.Annotation.seen D.held text).current
+        (sub_of D.Annotation.seen D.held s)) }
+    ensures narrow { result ≡ Err errors.TooNarrow → (tag : _) → IsTagging D.Annotation.seen D.gives tag
+        → NeverNoted (marking D.text tag D.marks D.after D.pops D.sub) D.Annotation.seen D.closes
+        (noted (parts_of D.Annotation.seen D.held text)) (parts_of D.Annotation.seen D.held text).current }
+{
+    let (sub, links) = text.into_inner();
+    let targets = told_targets(alloc, sub.options.include_link_footnotes, links);
+    with_targets(sub, targets)
+}
+
+/// The lines of a closed page.
+pub(crate) fn lines_of<D: TextDecorator + Drop>(
+    alloc: Global,
+    sub: SubRenderer<D>,
+) -> Result<Vec<TaggedLine<Vec<D::Annotation>>>, BlockError>
+    ensures lines { IfOk result (λ lines. IsShown (sub_of D.Annotation.seen D.held sub)
+        (map (line_items (tags_seen D.Annotation.seen)) lines.items)) }
+    ensures narrow { result ≡ Err errors.TooNarrow → lines_of_sub (sub_of D.Annotation.seen D.held sub) ≡ None }
+{
+    let lines = sub.into_lines()?;
+    Ok(texts_of::<D>(alloc, lines)?)
+}

@@ -1,0 +1,199 @@
+//! How pages are rendered.
+ghost use Rattle.std.specs.Prelude.{◌≡◌, ◌≢◌, ◌⊎◌, ◌<◌, ◌≤◌, [], Err, IfOk, chars, map, string_bytes, true, false};
+
+use crate::closing::{closed_page, lines_of};
+use crate::rendering::{laid, refusal};
+use block_renderer::SubRenderer;
+use html_render_dom::RcDom;
+use render_conversion::{RenderError, decorating_rules};
+use render_values::RenderTree;
+use renderer_calls::RenderOptions;
+use std::alloc::Global;
+use style_cascade::StyleRule;
+use tagged_lines::TaggedLine;
+use text_marks::TextDecorator;
+
+/// How narrow text may be wrapped where nothing else was said, in columns.
+const MIN_WRAP_WIDTH: usize = 3;
+
+/// How a page is rendered. Text wraps at the width; a part that lacks columns is refused, and the targets of links
+/// don't stand behind the page.
+#[derive(Drop)]
+pub struct RenderConfig<D: TextDecorator> {
+    decorator: D,
+    options: RenderOptions,
+    min_wrap_width: usize,
+    /// Rules of the program, before all others.
+    rules: Vec<StyleRule>,
+}
+
+impl<D: TextDecorator + Drop> RenderConfig<D> {
+    ghost use Rattle.block_renderer.specs.Seen.{IsTagging, marking, sub_of, tags_seen};
+    ghost use Rattle.render_conversion.specs.Conversion.{document_values};
+    ghost use Rattle.render_conversion.specs.Decorating.{decorating_rules, seen_rule};
+    ghost use Rattle.render_conversion.specs.declared.error.RenderError.TheVariants as errors;
+    ghost use Rattle.render_sizes.specs.Extents.{has_tables};
+    ghost use Rattle.render_values.specs.Values.{none};
+    ghost use Rattle.renderer_calls.specs.Defaults.{default_options};
+    ghost use Rattle.tagged_lines.specs.Tagged.{line_items};
+    ghost use Rattle.html_render_tree.specs.PageLines.{IsClosed, IsPrinted, IsRendered, IsTooNarrow, NeverCloses};
+    ghost use Rattle.html_render_tree.specs.Settings.{rules_of, setting_of};
+
+    /// As text is rendered by a decorator: no rules of style, and the options as they are by default.
+    pub fn with_decorator(alloc: Global, decorator: D) -> RenderConfig<D>
+        ensures setting { setting_of D.held D.sub result
+            ≡ record { options = default_options; min_wrap = 3; held = D.sub (D.held decorator) } }
+        ensures rules { rules_of result ≡ [] }
+    {
+        RenderConfig {
+            decorator,
+            options: RenderOptions::default(),
+            min_wrap_width: MIN_WRAP_WIDTH,
+            rules: Vec::new(alloc),
+        }
+    }
+
+    /// Parts may pass the width where it is too narrow for what they hold.
+    pub fn allow_width_overflow(self) -> RenderConfig<D>
+        ensures setting { setting_of D.held D.sub result ≡ record (setting_of D.held D.sub self) {
+          options = record (setting_of D.held D.sub self).options { allow_width_overflow = true };
+        } }
+        ensures rules { rules_of result ≡ rules_of self }
+    {
+        let mut config = self;
+        config.options.allow_width_overflow = true;
+        config
+    }
+
+    /// Whether the targets of links stand behind the page.
+    pub fn link_footnotes(self, include: bool) -> RenderConfig<D>
+        ensures setting { setting_of D.held D.sub result ≡ record (setting_of D.held D.sub self) {
+          options = record (setting_of D.held D.sub self).options { include_link_footnotes = include };
+        } }
+        ensures rules { rules_of result ≡ rules_of self }
+    {
+        let mut config = self;
+        config.options.include_link_footnotes = include;
+        config
+    }
+
+    /// So narrow, in columns, may text be wrapped; at least one.
+    pub fn min_wrap_width(self, columns: usize) -> RenderConfig<D>
+        requires { 1 ≤ columns }
+        ensures setting { setting_of D.held D.sub result
+            ≡ record (setting_of D.held D.sub self) { min_wrap = columns } }
+        ensures rules { rules_of result ≡ rules_of self }
+    {
+        let mut config = self;
+        config.min_wrap_width = columns;
+        config
+    }
+
+    /// `*` stands before and behind emphasis and terms, `**` before and behind strong text, and a backquote before and
+    /// behind code. The error is want of memory.
+    pub fn do_decorate(self, alloc: Global) -> Result<RenderConfig<D>, RenderError>
+        ensures setting { IfOk result (λ c. setting_of D.held D.sub c ≡ setting_of D.held D.sub self) }
+        ensures rules { IfOk result (λ c. map seen_rule (rules_of c) ≡ decorating_rules) }
+        ensures memory { result ≢ Err errors.TooNarrow }
+    {
+        let mut config = self;
+        config.rules = decorating_rules(alloc)?;
+        Ok(config)
+    }
+
+    /// The render tree of a page. The error is `Fail` exactly where the page converts to nothing, else want of memory.
+    pub fn dom_to_render_tree(&self, alloc: Global, dom: &RcDom) -> Result<RenderTree, RenderError>
+        ensures tree { IfOk result (λ tree. tree ≡ document_values (rules_of self.now) dom.now.forest) }
+        ensures some { IfOk result (λ tree. tree ≢ none) }
+        ensures fail { result ≡ Err errors.Fail → document_values (rules_of self.now) dom.now.forest ≡ none }
+        ensures kinds { result ≢ Err errors.TooNarrow }
+    {
+        render_conversion::dom_to_render_tree(alloc, dom, self.rules.as_slice())
+    }
+
+    // the renderer of the page, laid out and closed
+    fn closed(
+        &self,
+        alloc: Global,
+        tree: &RenderTree,
+        width: usize,
+    ) -> Result<SubRenderer<D>, RenderError>
+        ensures closed { IfOk result (λ s. (tag : _) → IsTagging D.Annotation.seen D.gives tag
+            → IsClosed (marking D.text tag D.marks D.after D.pops D.sub) D.Annotation.seen D.closes
+            (setting_of D.held D.sub self.now) width tree.now (sub_of D.Annotation.seen D.held s)) }
+        ensures wide { IfOk result (λ s. 0 < width) }
+        ensures tables { IfOk result (λ s. has_tables tree.now ≡ false) }
+        ensures narrow { result ≡ Err errors.TooNarrow → (width ≡ 0) ⊎ ((tag : _)
+            → IsTagging D.Annotation.seen D.gives tag → NeverCloses (marking D.text tag D.marks D.after D.pops D.sub)
+            D.Annotation.seen D.closes (setting_of D.held D.sub self.now) width tree.now) }
+        ensures fail { result ≡ Err errors.Fail → has_tables tree.now ≡ true }
+    {
+        if width == 0 {
+            return Err(RenderError::TooNarrow);
+        }
+        let decorator = self.decorator.make_subblock_decorator(alloc)?;
+        let text = laid(
+            alloc,
+            decorator,
+            self.options,
+            self.min_wrap_width,
+            tree,
+            width,
+        )?;
+        match closed_page(alloc, text) {
+            Ok(sub) => Ok(sub),
+            Err(error) => Err(refusal(error)),
+        }
+    }
+
+    /// The lines of a render tree, wrapped to `width` columns. The tree is gone, also where it is refused: as
+    /// `TooNarrow` where the width is 0, or too narrow for a part of the page or a character; as `Fail` where a table
+    /// stands in it, since tables are not laid out yet; else for want of memory.
+    pub fn render_to_lines(
+        &self,
+        alloc: Global,
+        tree: RenderTree,
+        width: usize,
+    ) -> Result<Vec<TaggedLine<Vec<D::Annotation>>>, RenderError>
+        ensures lines { IfOk result (λ lines. (tag : _) → IsTagging D.Annotation.seen D.gives tag
+            → IsRendered (marking D.text tag D.marks D.after D.pops D.sub) D.Annotation.seen D.closes
+            (setting_of D.held D.sub self.now) width tree
+            (map (line_items (tags_seen D.Annotation.seen)) lines.items)) }
+        ensures wide { IfOk result (λ lines. 0 < width) }
+        ensures tables { IfOk result (λ lines. has_tables tree ≡ false) }
+        ensures narrow { result ≡ Err errors.TooNarrow → (width ≡ 0) ⊎ ((tag : _)
+            → IsTagging D.Annotation.seen D.gives tag → IsTooNarrow (marking D.text tag D.marks D.after D.pops D.sub)
+            D.Annotation.seen D.closes (setting_of D.held D.sub self.now) width tree) }
+        ensures fail { result ≡ Err errors.Fail → has_tables tree ≡ true }
+    {
+        let sub = self.closed(alloc, &tree, width)?;
+        match lines_of(alloc, sub) {
+            Ok(lines) => Ok(lines),
+            Err(error) => Err(refusal(error)),
+        }
+    }
+
+    /// The text of a render tree: the characters of its lines, a line end behind each. Refused as `render_to_lines`.
+    pub fn render_to_string(
+        &self,
+        alloc: Global,
+        tree: RenderTree,
+        width: usize,
+    ) -> Result<String, RenderError>
+        ensures text { IfOk result (λ text. (tag : _) → IsTagging D.Annotation.seen D.gives tag
+            → IsPrinted (marking D.text tag D.marks D.after D.pops D.sub) D.Annotation.seen D.closes
+            (setting_of D.held D.sub self.now) width tree (chars (string_bytes text))) }
+        ensures wide { IfOk result (λ text. 0 < width) }
+        ensures tables { IfOk result (λ text. has_tables tree ≡ false) }
+        ensures narrow { result ≡ Err errors.TooNarrow → (width ≡ 0) ⊎ ((tag : _)
+            → IsTagging D.Annotation.seen D.gives tag → IsTooNarrow (marking D.text tag D.marks D.after D.pops D.sub)
+            D.Annotation.seen D.closes (setting_of D.held D.sub self.now) width tree) }
+        ensures fail { result ≡ Err errors.Fail → has_tables tree ≡ true }
+    {
+        let sub = self.closed(alloc, &tree, width)?;
+        match sub.into_string() {
+            Ok(text) => Ok(text),
+            Err(error) => Err(refusal(error)),
+        }
+    }
+}

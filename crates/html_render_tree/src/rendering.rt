@@ -1,0 +1,63 @@
+//! A render tree as lines.
+ghost use Rattle.std.specs.Prelude.{◌≡◌, ◌≢◌, Err, IfOk, None, Some, false, true};
+ghost use Rattle.block_renderer.specs.Seen.{IsTagging, marking};
+ghost use Rattle.html_render_tree.specs.PageLines.{laid_page, prefix_columns};
+ghost use Rattle.render_conversion.specs.declared.error.RenderError.TheVariants as errors;
+ghost use Rattle.render_sizes.specs.Extents.{Measure, has_tables, measure_of};
+ghost use Rattle.text_block_renderer.specs.Parts.{depth_of};
+ghost use Rattle.text_block_renderer.specs.SeenParts.{parts_of};
+
+use crate::prefixes::DecoratorPrefixes;
+use block_renderer::{RenderOptions, SubRenderer};
+use render_conversion::RenderError;
+use render_sizes::measured;
+use render_values::RenderTree;
+use render_walk::lay_tree;
+use std::alloc::Global;
+use text_block_renderer::TextRenderer;
+use text_marks::TextDecorator;
+use text_pieces::BlockError;
+
+// behind a refusal for want of memory nothing is called
+pub(crate) fn refusal(error: BlockError) -> RenderError
+    ensures narrow { result ≡ errors.TooNarrow → error ≡ BlockError.TooNarrow }
+    ensures fail { result ≢ errors.Fail }
+{
+    match error {
+        BlockError::TooNarrow => RenderError::TooNarrow,
+        BlockError::Memory | BlockError::Failed => RenderError::Memory,
+    }
+}
+
+// a render tree laid out at a width, which is not 0
+pub(crate) fn laid<D: TextDecorator + Drop>(
+    alloc: Global,
+    decorator: D,
+    options: RenderOptions,
+    min_wrap_width: usize,
+    tree: &RenderTree,
+    width: usize,
+) -> Result<TextRenderer<D>, RenderError>
+    ghost w: { Measure }
+    requires { w ≡ measure_of min_wrap_width (prefix_columns (D.text (D.held decorator))) }
+    ensures laid { IfOk result (λ text. (tag : _) → IsTagging D.Annotation.seen D.gives tag
+        → laid_page (marking D.text tag D.marks D.after D.pops D.sub)
+        (record { options = options; min_wrap = min_wrap_width; held = D.held decorator }) width tree.now
+        ≡ Some (parts_of D.Annotation.seen D.held text)) }
+    ensures whole { IfOk result (λ text. depth_of (parts_of D.Annotation.seen D.held text) ≡ 1) }
+    ensures narrow { result ≡ Err errors.TooNarrow → (tag : _) → IsTagging D.Annotation.seen D.gives tag
+        → laid_page (marking D.text tag D.marks D.after D.pops D.sub)
+        (record { options = options; min_wrap = min_wrap_width; held = D.held decorator }) width tree.now ≡ None }
+    ensures tables { IfOk result (λ _. has_tables tree.now ≡ false) }
+    ensures fail { result ≡ Err errors.Fail → has_tables tree.now ≡ true }
+{
+    let prefixes = DecoratorPrefixes::new(alloc, decorator);
+    let Some(sizes) = measured(alloc, &prefixes, min_wrap_width, tree)? else {
+        return Err(RenderError::Fail);
+    };
+    let sub = SubRenderer::new(alloc, width, options, prefixes.into_decorator());
+    match lay_tree(alloc, tree, sizes.as_slice(), TextRenderer::new(alloc, sub)) {
+        Ok(text) => Ok(text),
+        Err(error) => Err(refusal(error)),
+    }
+}
