@@ -1,1 +1,3 @@
 pub mod LineLemmas
+mod PageLemmas
+pub mod NumberLemmas

@@ -1,2 +1,4 @@
+pub mod PageLaws
 pub mod PageLines
+pub mod PlainText
 pub mod Settings

@@ -1,7 +1,9 @@
 //! How pages are rendered.
-ghost use Rattle.std.specs.Prelude.{◌≡◌, ◌≢◌, ◌⊎◌, ◌<◌, ◌≤◌, [], Err, IfOk, chars, map, string_bytes, true, false};
+ghost use Rattle.std.specs.Prelude.{◌≡◌, ◌≢◌, ◌⊎◌, ◌<◌, ◌≤◌, [], Err};
+ghost use Rattle.std.specs.Prelude.{IfErr, IfOk, chars, map, string_bytes, true, false};
 
 use crate::closing::{closed_page, lines_of};
+use crate::laws::{pages_are_numbered, pages_keep_the_width, pages_with_room_are_never_too_narrow};
 use crate::rendering::{laid, refusal};
 use block_renderer::SubRenderer;
 use html_render_dom::RcDom;
@@ -36,6 +38,9 @@ impl<D: TextDecorator + Drop> RenderConfig<D> {
     ghost use Rattle.render_values.specs.Values.{none};
     ghost use Rattle.renderer_calls.specs.Defaults.{default_options};
     ghost use Rattle.tagged_lines.specs.Tagged.{line_items};
+    ghost use Rattle.text_marks.specs.Marks.{IsSteady};
+    ghost use Rattle.walk_laws.specs.WalkLaws.{AreNumbered};
+    ghost use Rattle.html_render_tree.specs.PageLaws.{AreWithin};
     ghost use Rattle.html_render_tree.specs.PageLines.{IsClosed, IsPrinted, IsRendered, IsTooNarrow, NeverCloses};
     ghost use Rattle.html_render_tree.specs.Settings.{rules_of, setting_of};
 
@@ -94,7 +99,7 @@ impl<D: TextDecorator + Drop> RenderConfig<D> {
     pub fn do_decorate(self, alloc: Global) -> Result<RenderConfig<D>, RenderError>
         ensures setting { IfOk result (λ c. setting_of D.held D.sub c ≡ setting_of D.held D.sub self) }
         ensures rules { IfOk result (λ c. map seen_rule (rules_of c) ≡ decorating_rules) }
-        ensures memory { result ≢ Err errors.TooNarrow }
+        ensures memory { IfErr result (λ e. e ≡ errors.Memory) }
     {
         let mut config = self;
         config.rules = decorating_rules(alloc)?;
@@ -105,9 +110,11 @@ impl<D: TextDecorator + Drop> RenderConfig<D> {
     pub fn dom_to_render_tree(&self, alloc: Global, dom: &RcDom) -> Result<RenderTree, RenderError>
         ensures tree { IfOk result (λ tree. tree ≡ document_values (rules_of self.now) dom.now.forest) }
         ensures some { IfOk result (λ tree. tree ≢ none) }
+        ensures numbered { IfOk result (λ tree. AreNumbered tree) }
         ensures fail { result ≡ Err errors.Fail → document_values (rules_of self.now) dom.now.forest ≡ none }
         ensures kinds { result ≢ Err errors.TooNarrow }
     {
+        pages_are_numbered();
         render_conversion::dom_to_render_tree(alloc, dom, self.rules.as_slice())
     }
 
@@ -126,7 +133,9 @@ impl<D: TextDecorator + Drop> RenderConfig<D> {
         ensures narrow { result ≡ Err errors.TooNarrow → (width ≡ 0) ⊎ ((tag : _)
             → IsTagging D.Annotation.seen D.gives tag → NeverCloses (marking D.text tag D.marks D.after D.pops D.sub)
             D.Annotation.seen D.closes (setting_of D.held D.sub self.now) width tree.now) }
+        ensures flat { result ≡ Err errors.TooNarrow → (width ≡ 0) ⊎ (has_tables tree.now ≡ false) }
         ensures fail { result ≡ Err errors.Fail → has_tables tree.now ≡ true }
+        ensures width { result ≡ Err errors.Fail → 0 < width }
     {
         if width == 0 {
             return Err(RenderError::TooNarrow);
@@ -164,8 +173,19 @@ impl<D: TextDecorator + Drop> RenderConfig<D> {
         ensures narrow { result ≡ Err errors.TooNarrow → (width ≡ 0) ⊎ ((tag : _)
             → IsTagging D.Annotation.seen D.gives tag → IsTooNarrow (marking D.text tag D.marks D.after D.pops D.sub)
             D.Annotation.seen D.closes (setting_of D.held D.sub self.now) width tree) }
+        ensures flat { result ≡ Err errors.TooNarrow → (width ≡ 0) ⊎ (has_tables tree ≡ false) }
         ensures fail { result ≡ Err errors.Fail → has_tables tree ≡ true }
+        ensures width { result ≡ Err errors.Fail → 0 < width }
+        ensures within { IfOk result (λ lines. (tag : _) → IsTagging D.Annotation.seen D.gives tag → IsSteady D.text
+            → AreNumbered tree → (setting_of D.held D.sub self.now).options.allow_width_overflow ≡ false
+            → (setting_of D.held D.sub self.now).options.wrap_links ≡ true → 2 ≤ width
+            → AreWithin width (map (line_items (tags_seen D.Annotation.seen)) lines.items)) }
+        ensures roomy { (tag : _) → IsTagging D.Annotation.seen D.gives tag
+            → (setting_of D.held D.sub self.now).options.allow_width_overflow ≡ true → 0 < width
+            → result ≢ Err errors.TooNarrow }
     {
+        pages_keep_the_width::<D>();
+        pages_with_room_are_never_too_narrow::<D>();
         let sub = self.closed(alloc, &tree, width)?;
         match lines_of(alloc, sub) {
             Ok(lines) => Ok(lines),
@@ -188,8 +208,14 @@ impl<D: TextDecorator + Drop> RenderConfig<D> {
         ensures narrow { result ≡ Err errors.TooNarrow → (width ≡ 0) ⊎ ((tag : _)
             → IsTagging D.Annotation.seen D.gives tag → IsTooNarrow (marking D.text tag D.marks D.after D.pops D.sub)
             D.Annotation.seen D.closes (setting_of D.held D.sub self.now) width tree) }
+        ensures flat { result ≡ Err errors.TooNarrow → (width ≡ 0) ⊎ (has_tables tree ≡ false) }
         ensures fail { result ≡ Err errors.Fail → has_tables tree ≡ true }
+        ensures width { result ≡ Err errors.Fail → 0 < width }
+        ensures roomy { (tag : _) → IsTagging D.Annotation.seen D.gives tag
+            → (setting_of D.held D.sub self.now).options.allow_width_overflow ≡ true → 0 < width
+            → result ≢ Err errors.TooNarrow }
     {
+        pages_with_room_are_never_too_narrow::<D>();
         let sub = self.closed(alloc, &tree, width)?;
         match sub.into_string() {
             Ok(text) => Ok(text),

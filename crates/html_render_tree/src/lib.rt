@@ -3,9 +3,11 @@
 
 mod closing;
 mod config;
+mod laws;
 mod prefixes;
 mod rendering;
 
 pub use config::RenderConfig;
+pub use laws::{pages_are_numbered, pages_keep_the_width, pages_with_room_are_never_too_narrow};
 pub use render_conversion::{RenderError, decorating_rules};
 pub use render_values::RenderTree;

@@ -49,6 +49,7 @@ pub(crate) fn laid<D: TextDecorator + Drop>(
         → laid_page (marking D.text tag D.marks D.after D.pops D.sub)
         (record { options = options; min_wrap = min_wrap_width; held = D.held decorator }) width tree.now ≡ None }
     ensures tables { IfOk result (λ _. has_tables tree.now ≡ false) }
+    ensures flat { result ≡ Err errors.TooNarrow → has_tables tree.now ≡ false }
     ensures fail { result ≡ Err errors.Fail → has_tables tree.now ≡ true }
 {
     let prefixes = DecoratorPrefixes::new(alloc, decorator);

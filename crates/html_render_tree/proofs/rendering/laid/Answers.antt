@@ -61,3 +61,7 @@ returns-clause-narrow g c = λ e. λ tag p.
     ∙ ap (λ d. new_sub c.args.width c.args.options (g.D.TextDecorator.held d) [])
     (c.into_decorator.ensures ∙ c.new-prefixes.ensures))))
     ∙ c.in-Err.ensures.narrow (ap Err (c.refusal.ensures.narrow narrow)) tag p)
+
+pub returns-clause-flat : goal.returns-clause-flat
+returns-clause-flat g c = λ e. (measured_some (λ (v : Vec Extent Global). v.items) c.in_ok-sizes.field-0 c.in-Some.sizes
+    (has_tables c.args.tree.now) _ c.in-Some.is c.in_ok-sizes.ensures).0

@@ -1,6 +1,9 @@
-use Rattle.std.proofs.Common.{◌≡◌, Err, ap, inr}
+use Rattle.std.proofs.Common.{◌≡◌, Err, ap, inl, inr}
+use Rattle.std.proofs.lemmas.Result.{err_from_is_err_and}
 use Rattle.block_renderer.specs.Seen.{sub_of}
 use Rattle.render_conversion.specs.declared.error.RenderError.TheVariants.{TooNarrow}
+use Rattle.html_render_tree.specs.Settings.{setting_of}
+use Rattle.html_render_tree.proofs.PageLemmas.{never_so_narrow}
 use Rattle.html_render_tree.proofs.config.RenderConfig.render_to_string.Goals as goal
 
 pub returns-in-Ok-clause-text : goal.returns-in-Ok-clause-text
@@ -18,3 +21,21 @@ returns-clause-narrow g c = λ e.
       closed = c.in_ok-sub.ensures.closed tag p;
       never = c.in-Err.ensures.narrow (ap Err (c.refusal.ensures.narrow narrow));
     }))
+
+pub returns-clause-roomy : goal.returns-clause-roomy
+returns-clause-roomy g c = λ tag p on wide e.
+    let narrow : c.refusal.result ≡ TooNarrow = cc e in
+    c.pages_with_room_are_never_too_narrow.ensures tag
+    (setting_of g.D.TextDecorator.held g.D.TextDecorator.sub c.args.self.now) c.args.width c.args.tree on (inr (record {
+      whole = sub_of g.D.Annotation.EqualCopy.seen g.D.TextDecorator.held c.in_ok-sub.sub;
+      closed = c.in_ok-sub.ensures.closed tag p;
+      never = c.in-Err.ensures.narrow (ap Err (c.refusal.ensures.narrow narrow));
+    }))
+
+pub returns-in_err-sub-clause-roomy : goal.returns-in_err-sub-clause-roomy
+returns-in_err-sub-clause-roomy g c = λ tag p on wide e.
+    let q = err_from_is_err_and c.from_residual.result c.from_residual.ensures.1 in
+    let same : c.in_err-sub.field-0.0 ≡ TooNarrow = cc (q.1, q.2, e) in
+    never_so_narrow _ c.args.width (λ never. c.pages_with_room_are_never_too_narrow.ensures tag
+    (setting_of g.D.TextDecorator.held g.D.TextDecorator.sub c.args.self.now) c.args.width c.args.tree on
+    (inl (never tag p))) wide (c.in_err-sub.ensures.narrow (ap Err same))

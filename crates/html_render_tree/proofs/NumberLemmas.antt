@@ -1,0 +1,257 @@
+-- The lists of a page begin with numbers of 64 bits.
+use Rattle.std.proofs.Common.{◌≡◌, ℕ, zero, suc, ◌≤◌, ◌^◌, ◌-◌, Bool, true, false}
+use Rattle.std.proofs.Common.{List, [], ◌∷◌, Option, None, Some, ℤ, pos, refl, arith}
+use Rattle.std.specs.Prelude.{FitsSigned, if◌then◌else◌, ◌&&◌, ◌==◌, not, unwrap_or, codes}
+use Rattle.std.specs.Bool.{nat_le}
+use Rattle.std.specs.Char.{is_whitespace}
+use Rattle.std.specs.Int.{w64}
+use Rattle.std.specs.List.{list_all}
+use Rattle.std.specs.Str.{all_ascii_digits}
+use Rattle.std.specs.Str.Parse.{digits_value}
+use Rattle.std.proofs.lemmas.Bool.Decides.{nat_tests}
+use Rattle.std.proofs.lemmas.Int.{ints}
+use Rattle.forest_trees.specs.Trees.{Trees, node, trees}
+use Rattle.forest_trees.specs.Trees as of_trees
+use Rattle.html_forest.specs.Forest.{Forest, Kind, comment, doctype, document, element, instruction, text}
+use Rattle.html_lexemes.specs.declared.names.Attribute.{Attribute}
+use Rattle.html_lexemes.specs.declared.names.QualName.{QualName}
+use Rattle.render_conversion.specs.Conversion.{around, content, content_by, document_values, text_value}
+use Rattle.render_conversion.specs.Conversion.{valued, values}
+use Rattle.render_conversion.specs.ElementNames.{element_name}
+use Rattle.render_conversion.specs.Heads.{head_of}
+use Rattle.render_conversion.specs.Meanings.{element_means, imaged, linked, meaning, or_empty, pictured, row_of}
+use Rattle.render_conversion.specs.Numbers.{negative, positive, read_digits, signed_of, start_of}
+use Rattle.render_conversion.specs.Places.{is_guarded, is_seen}
+use Rattle.render_conversion.specs.Styles.{Part, Parts, Styles, parts_of, styles_of}
+use Rattle.render_conversion.specs.Titles.{is_svg, title_of}
+use Rattle.render_conversion.specs.declared.element_names.ElementName.{ElementName}
+use Rattle.render_conversion.specs.declared.element_names.ElementName.TheVariants as elements
+use Rattle.render_conversion.specs.declared.meaning.Meaning.{Meaning}
+use Rattle.render_conversion.specs.declared.place.Place.{Place}
+use Rattle.render_conversion.specs.declared.place.Place.TheVariants as places
+use Rattle.render_values.specs.Endings.{ended, ending}
+use Rattle.render_values.specs.Raising.{raised, raised_info}
+use Rattle.render_values.specs.Values.{Values, joined, none, value}
+use Rattle.render_values.specs.declared.closing.Outcome.{Outcome}
+use Rattle.render_values.specs.declared.closing.Outcome.TheVariants as outcomes
+use Rattle.render_values.specs.declared.info.Head.{Head}
+use Rattle.render_values.specs.declared.info.RenderInfo.{RenderInfo}
+use Rattle.render_values.specs.declared.info.RenderInfo.TheVariants as infos
+use Rattle.render_values.specs.declared.style.RenderStyle.{RenderStyle}
+use Rattle.style_cascade.specs.declared.rules.StyleRule.{StyleRule}
+use Rattle.tree_words.specs.Attributes.{value_of}
+use Rattle.walk_laws.specs.WalkLaws.{AreNumbered, IsNumbered}
+
+if_numbered : (b : Bool) (x y : Values) → AreNumbered x → AreNumbered y → AreNumbered (if b then x else y)
+if_numbered true x y a b = a
+if_numbered false x y a b = b
+
+-- ---- numbers
+
+abbrev Fits : Option ℤ → Type 0
+Fits None = Unit {0}
+Fits (Some z) = FitsSigned w64 z
+
+if_fits : (b : Bool) (x y : Option ℤ) → Fits x → Fits y → Fits (if b then x else y)
+if_fits true x y a b = a
+if_fits false x y a b = b
+
+abbrev AtMost : ℕ → Option ℕ → Type 0
+AtMost most None = Unit {0}
+AtMost most (Some n) = n ≤ most
+
+if_at_most : (most n : ℕ) (digits fits : Bool) → (fits ≡ true → n ≤ most)
+    → AtMost most (if digits && fits then Some n else None)
+if_at_most most n true true h = h refl
+if_at_most most n true false h = tt
+if_at_most most n false fits h = tt
+
+digits_at_most : (most : ℕ) (cs : List ℕ) → AtMost most (read_digits most cs)
+digits_at_most most [] = tt
+digits_at_most most (c ∷ cs) = if_at_most most (digits_value 10 (c ∷ cs)) (all_ascii_digits (c ∷ cs))
+    (nat_le (digits_value 10 (c ∷ cs)) most) (λ e. grind (arith, nat_tests))
+
+positive_fits : (n : Option ℕ) → AtMost (2 ^ 63 - 1) n → Fits (positive n)
+positive_fits None h = tt
+positive_fits (Some n) h = omega (arith, ints)
+
+negative_fits : (n : Option ℕ) → AtMost (2 ^ 63) n → Fits (negative n)
+negative_fits None h = tt
+negative_fits (Some zero) h = omega (arith, ints)
+negative_fits (Some (suc n)) h = omega (arith, ints)
+
+signed_fits : (cs : List ℕ) → Fits (signed_of cs)
+signed_fits [] = tt
+signed_fits (c ∷ cs) =
+    let plain = positive (read_digits (2 ^ 63 - 1) (c ∷ cs)) in
+    let signed = if c == 0x2B then positive (read_digits (2 ^ 63 - 1) cs) else plain in
+    if_fits (c == 0x2D) (negative (read_digits (2 ^ 63) cs)) signed
+    (negative_fits (read_digits (2 ^ 63) cs) (digits_at_most (2 ^ 63) cs))
+    (if_fits (c == 0x2B) (positive (read_digits (2 ^ 63 - 1) cs)) plain
+    (positive_fits (read_digits (2 ^ 63 - 1) cs) (digits_at_most (2 ^ 63 - 1) cs))
+    (positive_fits (read_digits (2 ^ 63 - 1) (c ∷ cs)) (digits_at_most (2 ^ 63 - 1) (c ∷ cs))))
+
+or_one : (z : Option ℤ) → Fits z → FitsSigned w64 (unwrap_or z (pos 1))
+or_one None h = omega (arith, ints)
+or_one (Some z) h = h
+
+start_fits : (start : Option (List ℕ)) → FitsSigned w64 (start_of start)
+start_fits None = omega (arith, ints)
+start_fits (Some cs) = or_one (signed_of cs) (signed_fits cs)
+
+-- ---- what a node means
+
+linked_numbered : (target : Option (List ℕ)) → IsNumbered (linked target).info
+linked_numbered None = tt
+linked_numbered (Some target) = tt
+
+imaged_numbered : (source : List ℕ) (alternative : Option (List ℕ)) → IsNumbered (imaged source alternative).info
+imaged_numbered [] alternative = tt
+imaged_numbered (c ∷ cs) alternative = tt
+
+pictured_numbered : (title : Option (List ℕ)) → IsNumbered (pictured title).info
+pictured_numbered None = tt
+pictured_numbered (Some title) = tt
+
+row_numbered : (name : ElementName) (attributes : List Attribute) → IsNumbered (row_of name attributes).info
+row_numbered elements.LeftOut attributes = tt
+row_numbered elements.Anchor attributes = linked_numbered (value_of (codes "href") attributes)
+row_numbered elements.Emphasis attributes = tt
+row_numbered elements.Strong attributes = tt
+row_numbered elements.Strikeout attributes = tt
+row_numbered elements.Code attributes = tt
+row_numbered elements.Superscript attributes = tt
+row_numbered elements.Image attributes =
+    imaged_numbered (or_empty (value_of (codes "src") attributes)) (value_of (codes "alt") attributes)
+row_numbered elements.Break attributes = tt
+row_numbered elements.WordBreak attributes = tt
+row_numbered elements.Paragraph attributes = tt
+row_numbered elements.Division attributes = tt
+row_numbered (elements.Heading level) attributes = tt
+row_numbered elements.Quote attributes = tt
+row_numbered elements.Preformatted attributes = tt
+row_numbered elements.Bullets attributes = tt
+row_numbered elements.Numbers attributes = start_fits (value_of (codes "start") attributes)
+row_numbered elements.Descriptions attributes = tt
+row_numbered elements.Term attributes = tt
+row_numbered elements.Details attributes = tt
+row_numbered elements.Table attributes = tt
+row_numbered elements.Other attributes = tt
+
+by_svg : (b : Bool) (x y : Meaning) → IsNumbered x.info → IsNumbered y.info → IsNumbered (if b then x else y).info
+by_svg true x y a b = a
+by_svg false x y a b = b
+
+named_numbered : (name : QualName) (attributes : List Attribute) (inside : Trees)
+    → IsNumbered (if is_svg (codes "svg") name then pictured (title_of inside)
+    else row_of (element_name name) attributes).info
+named_numbered name attributes inside = by_svg (is_svg (codes "svg") name) (pictured (title_of inside))
+    (row_of (element_name name) attributes) (pictured_numbered (title_of inside))
+    (row_numbered (element_name name) attributes)
+
+element_numbered : (place : Place) (name : QualName) (attributes : List Attribute) (inside : Trees)
+    → IsNumbered (element_means place name attributes inside).info
+element_numbered places.Groups name attributes inside = tt
+element_numbered places.Rows name attributes inside = tt
+element_numbered places.Cells name attributes inside = tt
+element_numbered places.Nowhere name attributes inside = named_numbered name attributes inside
+element_numbered places.Flow name attributes inside = named_numbered name attributes inside
+element_numbered places.Items name attributes inside = named_numbered name attributes inside
+
+means_numbered : (place : Place) (kind : Kind) (inside : Trees) → IsNumbered (meaning place kind inside).info
+means_numbered place document inside = tt
+means_numbered place (text cs) inside = tt
+means_numbered place (comment cs) inside = tt
+means_numbered place (doctype name public system) inside = tt
+means_numbered place (instruction target cs) inside = tt
+means_numbered place (element e) inside = element_numbered place e.name e.attributes inside
+
+-- ---- values
+
+joined_numbered : (a b : Values) → AreNumbered a → AreNumbered b → AreNumbered (joined a b)
+joined_numbered none b first second = second
+joined_numbered (value head inside rest) b first second =
+    (first.0, (first.1.0, joined_numbered rest b first.1.1 second))
+
+content_by_numbered : (place : Place) (look : RenderStyle) (told : Option (List ℕ))
+    → AreNumbered (content_by place look told)
+content_by_numbered places.Flow look (Some cs) = (tt, (tt, tt))
+content_by_numbered places.Items look (Some cs) =
+    if_numbered (list_all is_whitespace cs) none (text_value look cs) tt (tt, (tt, tt))
+content_by_numbered places.Flow look None = tt
+content_by_numbered places.Items look None = tt
+content_by_numbered places.Nowhere look told = tt
+content_by_numbered places.Groups look told = tt
+content_by_numbered places.Rows look told = tt
+content_by_numbered places.Cells look told = tt
+
+content_numbered : (place : Place) (part : Part) → AreNumbered (content place part)
+content_numbered place part = if_numbered part.hidden none (content_by place part.look part.content) tt
+    (content_by_numbered place part.look part.content)
+
+around_numbered : (place : Place) (style : Parts) (inside : Values) → AreNumbered inside
+    → AreNumbered (around place style inside)
+around_numbered place style inside h = joined_numbered (content place style.before)
+    (joined inside (content place style.after)) (content_numbered place style.before)
+    (joined_numbered inside (content place style.after) h (content_numbered place style.after))
+
+raised_info_numbered : (info : RenderInfo) → IsNumbered (raised_info info)
+raised_info_numbered infos.Nothing = tt
+raised_info_numbered infos.Container = tt
+raised_info_numbered (infos.Text cs) = tt
+raised_info_numbered (infos.Image source title) = tt
+raised_info_numbered infos.Break = tt
+raised_info_numbered (infos.Link target) = tt
+raised_info_numbered infos.Emphasis = tt
+raised_info_numbered infos.Strong = tt
+raised_info_numbered infos.Strikeout = tt
+raised_info_numbered infos.Code = tt
+raised_info_numbered infos.Superscript = tt
+raised_info_numbered infos.Block = tt
+raised_info_numbered infos.Division = tt
+raised_info_numbered (infos.Heading level) = tt
+raised_info_numbered infos.Quote = tt
+raised_info_numbered infos.Preformatted = tt
+raised_info_numbered infos.Bullets = tt
+raised_info_numbered (infos.Numbers first) = tt
+raised_info_numbered infos.Descriptions = tt
+raised_info_numbered infos.Term = tt
+raised_info_numbered infos.Details = tt
+raised_info_numbered infos.Table = tt
+raised_info_numbered infos.TableGroup = tt
+raised_info_numbered infos.TableRow = tt
+raised_info_numbered (infos.TableCell columns rows) = tt
+
+raised_numbered : (head : Head) (inside : Values) → IsNumbered (raised head inside).info
+raised_numbered head none = tt
+raised_numbered head (value own inside rest) = raised_info_numbered own.info
+
+ended_numbered : (outcome : Outcome) (head : Head) (inside rest : Values) → IsNumbered head.info → AreNumbered inside
+    → AreNumbered rest → AreNumbered (ended outcome head inside rest)
+ended_numbered outcomes.Stays head inside rest h i r = (h, (i, r))
+ended_numbered outcomes.Raised head inside rest h i r = (raised_numbered head inside, (tt, r))
+ended_numbered outcomes.Fragment head inside rest h i r = (tt, (tt, r))
+ended_numbered outcomes.Goes head inside rest h i r = r
+
+valued_numbered : (m : Meaning) (guarded : Bool) (kind : Kind) (style : Parts) (inside rest : Values)
+    → IsNumbered m.info → AreNumbered inside → AreNumbered rest → AreNumbered (valued m guarded kind style inside rest)
+valued_numbered m guarded kind style inside rest h i r = ended_numbered
+    (ending m.condition guarded (head_of m.info style.itself.look kind) (around m.inner style inside))
+    (head_of m.info style.itself.look kind) (around m.inner style inside) rest h
+    (around_numbered m.inner style inside i)
+    r
+
+values_numbered : (styles : Styles) (place : Place) (nodes : Trees) → AreNumbered (values styles place nodes)
+values_numbered styles place of_trees.none = tt
+values_numbered styles place (node kind kids rest) =
+    let m = meaning place kind kids in
+    let inside = values styles m.inner kids in
+    let behind = values styles place rest in
+    if_numbered (is_seen place kind && not (parts_of styles kind).itself.hidden)
+    (valued m (is_guarded place kind) kind (parts_of styles kind) inside behind) behind
+    (valued_numbered m (is_guarded place kind) kind (parts_of styles kind) inside behind
+    (means_numbered place kind kids) (values_numbered styles m.inner kids) (values_numbered styles place rest))
+    (values_numbered styles place rest)
+
+pub pages_numbered : (rules : List StyleRule) (f : Forest) → AreNumbered (document_values rules f)
+pages_numbered rules f = values_numbered (styles_of rules) places.Flow (trees f (0 ∷ []))

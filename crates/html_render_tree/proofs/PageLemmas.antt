@@ -1,0 +1,117 @@
+-- Lines of a page, and those behind it, stay within its width, or have room.
+use Rattle.std.proofs.Common.{◌≡◌, ℕ, ◌≤◌, List, [], ◌∷◌, Option, None, Some, IfSome, true, map, refl, sym, ap}
+use Rattle.std.proofs.Common.{subst, ◌∙◌, ◌<◌, ◌⊎◌, inl, inr, arith}
+use Rattle.std.specs.Prelude.{All, IsSome, IsSomeAnd, ⊤}
+use Rattle.std.proofs.lemmas.List.Elements.{All-map}
+use Rattle.std.proofs.lemmas.Option.{MatchOption-at_some}
+use Rattle.layout_laws.proofs.OptionLemmas.{chained, given_chained, known}
+use Rattle.block_renderer.specs.Footnotes.{add_footnotes}
+use Rattle.renderer_calls.specs.Calls.{Call, starts_block, step}
+use Rattle.renderer_calls.specs.Renderers.{Marking, Sub, lines_of_sub, with_block_started, with_held}
+use Rattle.renderer_laws.specs.RendererLaws.{CallFits, HasRoom, IsKeptWithin, StaysWithin}
+use Rattle.tagged_lines.specs.Tagged.{Item, line_columns, line_items}
+use Rattle.tagged_lines.specs.declared.tagged_line.TaggedLine.{TaggedLine}
+use Rattle.text_block_renderer.specs.PartLaws.{HaveRoom, PartsStayWithin}
+use Rattle.text_block_renderer.specs.Parts.{Parts, whole_page}
+use Rattle.text_borders.specs.Lines.{BlockLine, line_shown}
+use Rattle.text_marks.specs.Marks.{page_end}
+use Rattle.render_values.specs.Values.{Values}
+use Rattle.renderer_calls.specs.Renderers.{new_sub}
+use Rattle.html_render_tree.specs.PageLaws.{AreWithin}
+use Rattle.html_render_tree.specs.PageLines.{IsRendered, IsTooNarrow}
+use Rattle.html_render_tree.specs.PageLines.{Setting, laid_page, noted, with_notes}
+
+-- ---- within the width
+
+-- what the crates below say of this page
+pub record PageWidths {H A : Type 0} (m : Marking H A) (c : Setting H) (width : ℕ) (values : Values) : Type 0 where
+  pub stays : (p : Parts H A) → laid_page m c width values ≡ Some p
+      → PartsStayWithin (whole_page (new_sub width c.options c.held [])) p
+  pub does : (call : Call (Sub H A)) (s new : Sub H A) → IsKeptWithin s → CallFits call s → step m call s ≡ Some new
+      → StaysWithin s new
+  pub footnotes : (lines : List (List (Item A))) (s new : Sub H A) → IsKeptWithin s → s.options.wrap_links ≡ true
+      → 2 ≤ s.width → add_footnotes lines s ≡ Some new → StaysWithin s new
+  pub lines : (s : Sub H A) (lines : List (BlockLine (List A))) → IsKeptWithin s → lines_of_sub s ≡ Some lines
+      → All (λ l. line_columns (line_shown l) ≤ s.width) lines
+
+notes_stay : {H A : Type 0} {m : Marking H A} {c : Setting H} {width : ℕ} {values : Values}
+    (laws : PageWidths m c width values) (notes : List (List (Item A))) (s : Sub H A) → IsKeptWithin s
+    → s.options.wrap_links ≡ true → 2 ≤ s.width → IfSome (with_notes notes s) (StaysWithin s)
+notes_stay laws [] s kept wraps wide = (kept, (refl, refl))
+notes_stay laws (note ∷ notes) s kept wraps wide =
+    chained (StaysWithin s) (StaysWithin s) (add_footnotes (note ∷ notes)) (with_block_started s)
+    (λ t begun. known (StaysWithin s) (add_footnotes (note ∷ notes) t) (λ u is.
+    let inside = laws.footnotes (note ∷ notes) t u begun.0 (ap (λ o. o.wrap_links) begun.1.1 ∙ wraps)
+    (subst (λ n. 2 ≤ n) (sym begun.1.0) wide) is in
+    (inside.0, (inside.1.0 ∙ begun.1.0, inside.1.1 ∙ begun.1.1))))
+    (known (StaysWithin s) (with_block_started s) (λ t is. laws.does starts_block s t kept tt is))
+
+shown_within : {A : Type 0} (width most : ℕ) (blocks : List (BlockLine (List A))) (lines : List (List (Item (List A))))
+    → lines ≡ map line_shown blocks → width ≡ most → All (λ l. line_columns (line_shown l) ≤ width) blocks
+    → AreWithin most lines
+shown_within {A} width most blocks lines is same all =
+    subst (AreWithin most) (sym is) (subst (λ n. AreWithin n (map line_shown blocks)) same
+    (All-map (λ (line : List (Item (List A))). line_columns line ≤ width) line_shown blocks all))
+
+pub lines_within : {T H A : Type 0} (m : Marking H A) (seen : T → A)
+    (closes : H → List (List ℕ) → List (TaggedLine T) → Type 0) (c : Setting H) (width : ℕ) (values : Values)
+    (lines : List (List (Item (List A)))) → PageWidths m c width values → c.options.wrap_links ≡ true → 2 ≤ width
+    → IsRendered m seen closes c width values lines → AreWithin width lines
+lines_within {H = H} {A = A} m seen closes c width values lines laws wraps wide page =
+    let p : Parts H A = page.closed.parts in
+    let stays = laws.stays p page.closed.laid in
+    let s : Sub H A = with_held (m.after p.current.held (page_end (noted p))) p.current in
+    let noted_within : StaysWithin s page.whole = MatchOption-at_some ⊤ (StaysWithin s) page.whole
+    page.closed.behind.behind (notes_stay laws (map (line_items seen) page.closed.behind.notes) s stays.current.0
+    (ap (λ o. o.wrap_links) stays.current.1.1 ∙ wraps) (subst (λ n. 2 ≤ n) (sym stays.current.1.0) wide)) in
+    shown_within page.whole.width width page.shown.blocks lines page.shown.shown
+    (noted_within.1.0 ∙ stays.current.1.0)
+    (laws.lines page.whole page.shown.blocks noted_within.0 page.shown.given)
+
+-- ---- with room
+
+pub record PageRooms {H A : Type 0} (m : Marking H A) (c : Setting H) (width : ℕ) (values : Values) : Type 0 where
+  pub laid : IsSomeAnd (laid_page m c width values) HaveRoom
+  pub starts : (s : Sub H A) → HasRoom s → IsSomeAnd (with_block_started s) HasRoom
+  pub footnotes : (lines : List (List (Item A))) (s : Sub H A) → HasRoom s → IsSomeAnd (add_footnotes lines s) HasRoom
+  pub lines : (s : Sub H A) → HasRoom s → IsSome (lines_of_sub s)
+
+never_none : {X : Type 0} (P : X → Type 0) (o : Option X) → IsSomeAnd o P → o ≡ None → ⊥
+never_none P o some is = subst (λ x. IsSomeAnd x P) is some
+
+has : {X : Type 0} (P : X → Type 0) (o : Option X) (x : X) → IsSomeAnd o P → o ≡ Some x → P x
+has P o x some is = subst (λ y. IsSomeAnd y P) is some
+
+notes_have_room : {H A : Type 0} {m : Marking H A} {c : Setting H} {width : ℕ} {values : Values}
+    (laws : PageRooms m c width values) (notes : List (List (Item A))) (s : Sub H A) → HasRoom s
+    → IsSomeAnd (with_notes notes s) HasRoom
+notes_have_room laws [] s room = room
+notes_have_room laws (note ∷ notes) s room = given_chained HasRoom HasRoom (add_footnotes (note ∷ notes))
+    (with_block_started s) (laws.footnotes (note ∷ notes)) (laws.starts s room)
+
+behind_has_room : {T H A : Type 0} (m : Marking H A) (seen : T → A) (c : Setting H) (width : ℕ) (values : Values)
+    (laws : PageRooms m c width values) (p : Parts H A) (notes : List (TaggedLine T))
+    → laid_page m c width values ≡ Some p
+    → IsSomeAnd (with_notes (map (line_items seen) notes) (with_held (m.after p.current.held (page_end (noted p)))
+    p.current)) HasRoom
+behind_has_room m seen c width values laws p notes is =
+    notes_have_room laws (map (line_items seen) notes) _
+    (has HaveRoom (laid_page m c width values) p laws.laid is).current
+
+pub never_narrow : {T H A : Type 0} (m : Marking H A) (seen : T → A)
+    (closes : H → List (List ℕ) → List (TaggedLine T) → Type 0) (c : Setting H) (width : ℕ) (values : Values)
+    → PageRooms m c width values → IsTooNarrow m seen closes c width values → ⊥
+never_narrow m seen closes c width values laws (inl (inl none)) =
+    never_none HaveRoom (laid_page m c width values) laws.laid none
+never_narrow m seen closes c width values laws (inl (inr page)) =
+    never_none HasRoom _ (behind_has_room m seen c width values laws page.parts page.never.notes page.laid)
+    page.never.never
+never_narrow m seen closes c width values laws (inr page) =
+    let room : HasRoom page.whole = has HasRoom _ page.whole (behind_has_room m seen c width values laws
+    page.closed.parts page.closed.behind.notes page.closed.laid) page.closed.behind.behind in
+    absurd (cc (laws.lines page.whole room, page.never))
+
+-- what a refusal says, where the width is some
+pub never_so_narrow : (P : Type 0) (width : ℕ) → (P → ⊥) → 0 < width → (width ≡ 0) ⊎ P → ⊥
+never_so_narrow P width never wide (inl none) = absurd (omega (arith, wide, none))
+never_so_narrow P width never wide (inr narrow) = never narrow

@@ -1,0 +1,3 @@
+mod NumberLemmas
+mod RoomLemmas
+mod WidthLemmas

@@ -1,0 +1,6 @@
+//! What holds of all values that are laid out, said without what is done to each: laws, beside `render_walk`.
+#![tactic(auto)]
+
+mod laws;
+
+pub use laws::{values_keep_the_width, values_with_room_are_laid};
