@@ -1,0 +1,169 @@
+-- Answers of what was read.
+use Rattle.std.proofs.Common.{◌≡◌, ◌≢◌, ◌⊎◌, inl, inr, ℕ, ◌<◌, Bool, true, false, List, []}
+use Rattle.std.proofs.Common.{◌∷◌, ◌++◌, map, refl, Option, None, Some, IfSome, sym, ap, subst, ◌∙◌}
+use Rattle.std.specs.Option.{option_map}
+use Rattle.std.specs.Prelude.{unwrap_or}
+use Rattle.block_renderer.specs.Seen.{IsTagging, marking}
+use Rattle.html_forest.specs.Forest.{Forest}
+use Rattle.html_forest.specs.declared.sink.QuirksMode.{QuirksMode}
+use Rattle.html_render_tree.specs.PageLines.{IsPrinted, IsRendered, IsTooNarrow, Setting}
+use Rattle.page_config.specs.Errors.{error_of_render}
+use Rattle.page_config.specs.PageAnswers.{Answers, ArePageValues, HasText, IsTold, fail, lines}
+use Rattle.page_config.specs.PageAnswers.{lines_text, too_narrow}
+use Rattle.page_config.specs.Settings.{PageSetting}
+use Rattle.page_config.specs.declared.error.Error.TheVariants as errors
+use Rattle.page_reading.specs.PageTrees.{IsTreeOfBytes}
+use Rattle.render_conversion.specs.Conversion.{document_values}
+use Rattle.render_conversion.specs.declared.error.RenderError.{RenderError}
+use Rattle.render_conversion.specs.declared.error.RenderError.TheVariants as rendering
+use Rattle.render_sizes.specs.Extents.{has_tables}
+use Rattle.render_values.specs.Values.{Values, none}
+use Rattle.renderer_calls.specs.Renderers.{Marking}
+use Rattle.renderer_calls.specs.Texts.{text_of_lines}
+use Rattle.tagged_lines.specs.Tagged.{Item, characters}
+use Rattle.tagged_lines.specs.declared.tagged_line.TaggedLine.{TaggedLine}
+use Rattle.text_borders.specs.Lines.{BlockLine, line_shown}
+use Rattle.text_marks.specs.Marks.{Mark}
+
+pub read_values : {H : Type 0} (c : PageSetting H) (all : Option (List ℕ)) (forest : Forest) (mode : QuirksMode)
+    (values : Values) → document_values c.rules forest ≡ values
+    → IfSome all (λ bytes. IsTreeOfBytes c.table c.parsing bytes forest mode)
+    → IfSome all (λ bytes. ArePageValues c bytes values)
+read_values c None forest mode values same tree = tt
+read_values c (Some bytes) forest mode values same tree = record {
+  forest = forest;
+  quirks = mode;
+  tree = tree;
+  same = same;
+}
+
+-- what was too narrow for a render tree
+pub narrow_error : (e : RenderError) → error_of_render e ≡ errors.TooNarrow → e ≡ rendering.TooNarrow
+narrow_error rendering.TooNarrow same = refl
+narrow_error rendering.Fail same = cc
+narrow_error rendering.Memory same = cc
+
+-- the text of blocks is that of the lines that they show
+text_of : {S : Type 0} (blocks : List (BlockLine S)) → text_of_lines blocks ≡ lines_text (map line_shown blocks)
+text_of [] = refl
+text_of (block ∷ blocks) = ap (λ text. characters (line_shown block) ++ 10 ∷ [] ++ text) (text_of blocks)
+
+given_blocks : {S : Type 0} (given : Option (List (BlockLine S))) (told : List ℕ)
+    → option_map text_of_lines given ≡ Some told
+    → (blocks : List (BlockLine S)) × (given ≡ Some blocks) × (text_of_lines blocks ≡ told)
+given_blocks None told e = cc
+given_blocks (Some blocks) told e = (blocks, refl, ap (λ o. unwrap_or o told) e)
+
+printed_lines : {T H A : Type 0} (m : Marking H A) (seen : T → A)
+    (closes : H → List (List ℕ) → List (TaggedLine T) → Type 0) (c : PageSetting H) (width : ℕ) (bytes : List ℕ)
+    (values : Values) (told : List ℕ) → ArePageValues c bytes values → values ≢ none → 0 < width
+    → has_tables values ≡ false → IsPrinted m seen closes c.rendering width values told
+    → HasText m seen closes c width bytes told
+printed_lines m seen closes c width bytes values told page some wide tables printed =
+    let given = given_blocks _ told printed.given in
+    record {
+      shown = map line_shown given.0;
+      answer = record {
+        values = values;
+        page = page;
+        answered = (
+          some,
+          (
+            wide,
+            (
+              tables,
+              record {
+                whole = printed.whole;
+                closed = printed.closed;
+                shown = record { blocks = given.0; given = given.1; shown = refl };
+              },
+            ),
+          ),
+        );
+      };
+      told = sym given.2 ∙ text_of given.0;
+    }
+
+module _ {T H A : Type 0} (seen : T → A) (text : H → Mark → List ℕ) (gives : H → Mark → T → Type 0)
+    (marks : H → Mark → Bool) (after : H → Mark → H) (pops : H → Mark → Bool) (sub : H → H)
+    (closes : H → List (List ℕ) → List (TaggedLine T) → Type 0) (c : PageSetting H) (width : ℕ) where
+  -- however annotations are seen
+  abbrev Each : ((H → Mark → A) → Type 0) → Type 0
+  Each P = (tag : _) → IsTagging seen gives tag → P tag
+
+  pub lines_read : (all : Option (List ℕ)) (values : Values) (s : Setting H) (shown : List (List (Item (List A))))
+      → IfSome all (λ bytes. ArePageValues c bytes values) → s ≡ c.rendering → values ≢ none → 0 < width
+      → has_tables values ≡ false
+      → Each (λ tag. IsRendered (marking text tag marks after pops sub) seen closes s width values shown)
+      → IfSome all (λ bytes. Answers seen text gives marks after pops sub closes c width bytes (lines shown))
+  lines_read None values s shown page same some wide tables rendered = tt
+  lines_read (Some bytes) values s shown page same some wide tables rendered = λ tag p. record {
+    values = values;
+    page = page;
+    answered = (
+      some,
+      (
+        wide,
+        (
+          tables,
+          subst (λ s. IsRendered (marking text tag marks after pops sub) seen closes s width values shown) same
+              (rendered tag p),
+        ),
+      ),
+    );
+  }
+
+  pub narrow_read : (all : Option (List ℕ)) (values : Values) (s : Setting H)
+      → IfSome all (λ bytes. ArePageValues c bytes values) → s ≡ c.rendering → values ≢ none
+      → (width ≡ 0) ⊎ Each (λ tag. IsTooNarrow (marking text tag marks after pops sub) seen closes s width values)
+      → (width ≡ 0) ⊎ (has_tables values ≡ false)
+      → IfSome all (λ bytes. Answers seen text gives marks after pops sub closes c width bytes too_narrow)
+  narrow_read None values s page same some narrow tables = tt
+  narrow_read (Some bytes) values s page same some (inl zero_width) tables = λ tag p. record {
+    values = values;
+    page = page;
+    answered = (some, inl zero_width);
+  }
+  narrow_read (Some bytes) values s page same some (inr narrow) (inl zero_width) = λ tag p. record {
+    values = values;
+    page = page;
+    answered = (some, inl zero_width);
+  }
+  narrow_read (Some bytes) values s page same some (inr narrow) (inr tables) = λ tag p. record {
+    values = values;
+    page = page;
+    answered = (
+      some,
+      inr (
+        tables,
+        subst (λ s. IsTooNarrow (marking text tag marks after pops sub) seen closes s width values) same
+            (narrow tag p),
+      ),
+    );
+  }
+
+  pub nothing_read : (all : Option (List ℕ)) → IfSome all (λ bytes. ArePageValues c bytes none)
+      → IfSome all (λ bytes. Answers seen text gives marks after pops sub closes c width bytes fail)
+  nothing_read None page = tt
+  nothing_read (Some bytes) page = λ tag p. record { values = none; page = page; answered = inl refl }
+
+  pub table_read : (all : Option (List ℕ)) (values : Values) → IfSome all (λ bytes. ArePageValues c bytes values)
+      → 0 < width → has_tables values ≡ true
+      → IfSome all (λ bytes. Answers seen text gives marks after pops sub closes c width bytes fail)
+  table_read None values page wide tables = tt
+  table_read (Some bytes) values page wide tables = λ tag p. record {
+    values = values;
+    page = page;
+    answered = inr (wide, tables);
+  }
+
+  pub text_read : (all : Option (List ℕ)) (values : Values) (s : Setting H) (told : List ℕ)
+      → IfSome all (λ bytes. ArePageValues c bytes values) → s ≡ c.rendering → values ≢ none → 0 < width
+      → has_tables values ≡ false
+      → Each (λ tag. IsPrinted (marking text tag marks after pops sub) seen closes s width values told)
+      → IfSome all (λ bytes. IsTold seen text gives marks after pops sub closes c width bytes told)
+  text_read None values s told page same some wide tables printed = tt
+  text_read (Some bytes) values s told page same some wide tables printed = λ tag p. printed_lines
+      (marking text tag marks after pops sub) seen closes c width bytes values told page some wide tables
+      (subst (λ s. IsPrinted (marking text tag marks after pops sub) seen closes s width values told) same
+      (printed tag p))

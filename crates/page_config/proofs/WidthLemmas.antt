@@ -1,0 +1,37 @@
+-- The lines of a page keep its width.
+use Rattle.std.proofs.Common.{◌≡◌, inl, inr, ℕ, ◌<◌, ◌≤◌, true, false, List, arith, subst}
+use Rattle.html_forest.specs.Forest.{Forest}
+use Rattle.html_render_tree.specs.PageLaws.{AreWithin, PagesHaveRoom, PagesKeepWidth}
+use Rattle.page_config.specs.PageAnswers.{HasAnswer, IsAnswerOf, lines, too_narrow}
+use Rattle.page_config.specs.Settings.{PageSetting}
+use Rattle.render_conversion.specs.Conversion.{document_values}
+use Rattle.render_values.specs.Values.{Values}
+use Rattle.renderer_calls.specs.Renderers.{Marking}
+use Rattle.style_cascade.specs.declared.rules.StyleRule.{StyleRule}
+use Rattle.tagged_lines.specs.Tagged.{Item}
+use Rattle.tagged_lines.specs.declared.tagged_line.TaggedLine.{TaggedLine}
+use Rattle.text_marks.specs.Marks.{IsSteady}
+use Rattle.walk_laws.specs.WalkLaws.{AreNumbered}
+
+module _ {T H A : Type 0} (m : Marking H A) (seen : T → A) (closes : H → List (List ℕ) → List (TaggedLine T) → Type 0)
+  where
+    pub within_width : ((rules : List StyleRule) (f : Forest) → AreNumbered (document_values rules f))
+        → PagesKeepWidth m seen closes → (c : PageSetting H) (width : ℕ) (bytes : List ℕ)
+        (shown : List (List (Item (List A)))) → IsSteady m.mark_text → c.rendering.options.allow_width_overflow ≡ false
+        → c.rendering.options.wrap_links ≡ true → 2 ≤ width → HasAnswer m seen closes c width bytes (lines shown)
+        → AreWithin width shown
+    within_width numbered keeps c width bytes shown steady off wrapped wide has =
+        keeps c.rendering width has.values shown
+        steady (subst AreNumbered has.page.same (numbered c.rules has.page.forest)) off wrapped wide
+        has.answered.1.1.1
+
+    wide_enough : PagesHaveRoom m seen closes → (c : PageSetting H) (width : ℕ) (values : Values)
+        → c.rendering.options.allow_width_overflow ≡ true → 0 < width
+        → IsAnswerOf m seen closes c.rendering width values too_narrow → ⊥
+    wide_enough room c width values on wide (some, inl none) = absurd (omega (arith, wide, none))
+    wide_enough room c width values on wide (some, inr narrow) = room c.rendering width values on narrow.1
+
+    pub never_narrow : PagesHaveRoom m seen closes → (c : PageSetting H) (width : ℕ) (bytes : List ℕ)
+        → c.rendering.options.allow_width_overflow ≡ true → 0 < width
+        → HasAnswer m seen closes c width bytes too_narrow → ⊥
+    never_narrow room c width bytes on wide has = wide_enough room c width has.values on wide has.answered

@@ -1,0 +1,8 @@
+use Rattle.block_renderer.specs.Seen.{marking}
+use Rattle.page_config.proofs.OneAnswer.{one_answer}
+use Rattle.page_config.proofs.laws.a_page_has_one_answer.Goals as goal
+
+pub returns : goal.returns
+returns g c = λ tag. one_answer (marking g.D.TextDecorator.text tag g.D.TextDecorator.marks
+    g.D.TextDecorator.after g.D.TextDecorator.pops g.D.TextDecorator.sub) g.D.Annotation.EqualCopy.seen
+    g.D.TextDecorator.closes g.met.D.TextDecorator.one_end c.a_page_has_one_tree_of_bytes.ensures.forest

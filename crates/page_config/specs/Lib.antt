@@ -1,0 +1,4 @@
+pub mod Errors
+pub mod PageAnswers
+pub mod PlainPages
+pub mod Settings

@@ -1,0 +1,43 @@
+-- What contracts see of a `Config`.
+use Rattle.std.specs.Prelude.{ℕ, List, []}
+use Rattle.html_lexemes.specs.References.{References}
+use Rattle.html_render_tree.specs.PageLines.{Setting}
+use Rattle.html_render_tree.specs.Settings.{rules_of, setting_of}
+use Rattle.html_tree_builder.specs.Defaults.{default_parse}
+use Rattle.html_tree_builder.specs.declared.options.ParseOpts.{ParseOpts}
+use Rattle.page_config.specs.declared.config.Config.{Config}
+use Rattle.renderer_calls.specs.Defaults.{default_options}
+use Rattle.style_cascade.specs.declared.rules.StyleRule.{StyleRule}
+
+-- the table of references and the options by which a page is parsed, the rules of style, and what it is rendered by
+pub record PageSetting (H : Type 0) : Type 0 where
+  pub table : References
+  pub parsing : ParseOpts
+  pub rules : List StyleRule
+  pub rendering : Setting H
+
+-- what pages are read and rendered by, as a decorator that is made for each holds it
+abbrev pub page_setting : {D T H : Type 0} → (D → H) → (H → H) → Config D T → PageSetting H
+page_setting held sub c = record {
+  table = c.table;
+  parsing = c.parsing;
+  rules = rules_of c.rendering;
+  rendering = setting_of held sub c.rendering;
+}
+
+-- the same of a decorator that holds nothing
+abbrev pub bare_setting : {D T : Type 0} → Config D T → PageSetting (Unit {0})
+bare_setting c = page_setting (λ _. tt) (λ h. h) c
+
+-- at most so many bytes are read of a page
+abbrev pub max_bytes_of : {D T : Type 0} → Config D T → ℕ
+max_bytes_of c = c.max_bytes
+
+-- where nothing else is said: parsed and rendered as pages are by default, without rules of style
+abbrev pub by_default : {H : Type 0} → References → (held : H) → PageSetting H
+by_default table held = record {
+  table = table;
+  parsing = default_parse;
+  rules = [];
+  rendering = record { options = default_options; min_wrap = 3; held = held };
+}

@@ -1,0 +1,69 @@
+//! Laws of what is answered of pages.
+ghost use Rattle.std.specs.Prelude.{◌≡◌, ℕ, ◌<◌, ◌≤◌, List, true, false};
+ghost use Rattle.block_renderer.specs.Seen.{marking};
+ghost use Rattle.html_render_tree.specs.PageLaws.{AreWithin};
+ghost use Rattle.page_config.specs.PageAnswers.{HasAnswer, HasSomeAnswer, HasText, IsAlwaysClosed};
+ghost use Rattle.page_config.specs.PageAnswers.{PageAnswer, lines, too_narrow};
+ghost use Rattle.page_config.specs.Settings.{PageSetting};
+ghost use Rattle.tagged_lines.specs.Tagged.{Item};
+ghost use Rattle.text_marks.specs.Marks.{IsSteady, Mark};
+
+use html_render_tree::{
+    pages_are_numbered, pages_keep_the_width, pages_with_room_are_never_too_narrow,
+};
+use page_reading::{a_page_has_a_tree_of_bytes, a_page_has_one_tree_of_bytes};
+use text_marks::TextDecorator;
+
+/// A page has one answer: of equal bytes, read and rendered by equal configurations at equal widths, however they were
+/// cut, the lines are equal, and lines, a width that is too narrow, and nothing to render exclude one another.
+pub fn a_page_has_one_answer<D: TextDecorator>()
+    ensures { (tag : D.Held → Mark → D.Annotation.Seen) (c : PageSetting D.Held) (width : ℕ) (bytes : List ℕ)
+        (one other : PageAnswer D.Annotation.Seen)
+        → HasAnswer (marking D.text tag D.marks D.after D.pops D.sub) D.Annotation.seen D.closes c width bytes one
+        → HasAnswer (marking D.text tag D.marks D.after D.pops D.sub) D.Annotation.seen D.closes c width bytes other
+        → one ≡ other }
+{
+    a_page_has_one_tree_of_bytes();
+}
+
+/// And it has one, where its decorator makes something of the targets that stand behind it.
+pub fn a_page_has_an_answer<D: TextDecorator>()
+    ensures { (tag : D.Held → Mark → D.Annotation.Seen) (c : PageSetting D.Held) (width : ℕ) (bytes : List ℕ)
+        → IsAlwaysClosed (marking D.text tag D.marks D.after D.pops D.sub) D.closes c width
+        → HasSomeAnswer (marking D.text tag D.marks D.after D.pops D.sub) D.Annotation.seen D.closes c width bytes }
+{
+    a_page_has_a_tree_of_bytes();
+}
+
+/// And one text.
+pub fn a_page_has_one_text<D: TextDecorator>()
+    ensures { (tag : D.Held → Mark → D.Annotation.Seen) (c : PageSetting D.Held) (width : ℕ) (bytes one other : List ℕ)
+        → HasText (marking D.text tag D.marks D.after D.pops D.sub) D.Annotation.seen D.closes c width bytes one
+        → HasText (marking D.text tag D.marks D.after D.pops D.sub) D.Annotation.seen D.closes c width bytes other
+        → one ≡ other }
+{
+    a_page_has_one_tree_of_bytes();
+}
+
+/// No line of a page passes its width, of two columns or more, where prefixes are steady, no part may pass it and links
+/// are wrapped: targets behind the page among them.
+pub fn a_page_keeps_its_width<D: TextDecorator>()
+    ensures { (tag : D.Held → Mark → D.Annotation.Seen) (c : PageSetting D.Held) (width : ℕ) (bytes : List ℕ)
+        (shown : List (List (Item (List D.Annotation.Seen)))) → IsSteady D.text
+        → c.rendering.options.allow_width_overflow ≡ false → c.rendering.options.wrap_links ≡ true → 2 ≤ width
+        → HasAnswer (marking D.text tag D.marks D.after D.pops D.sub) D.Annotation.seen D.closes c width bytes
+        (lines shown) → AreWithin width shown }
+{
+    pages_are_numbered();
+    pages_keep_the_width::<D>();
+}
+
+/// Where parts may pass the width, no width but 0 is too narrow for a page.
+pub fn a_page_with_room_is_never_too_narrow<D: TextDecorator>()
+    ensures { (tag : D.Held → Mark → D.Annotation.Seen) (c : PageSetting D.Held) (width : ℕ) (bytes : List ℕ)
+        → c.rendering.options.allow_width_overflow ≡ true → 0 < width
+        → HasAnswer (marking D.text tag D.marks D.after D.pops D.sub) D.Annotation.seen D.closes c width bytes
+        too_narrow → ⊥ }
+{
+    pages_with_room_are_never_too_narrow::<D>();
+}

@@ -1,0 +1,18 @@
+//! Pages in bytes to their lines: what a configuration says, readers of pages, and their answers.
+#![tactic(auto)]
+
+mod config;
+mod error;
+mod laws;
+mod page;
+mod plain;
+mod reading;
+
+pub use config::Config;
+pub use error::Error;
+pub use laws::{
+    a_page_has_an_answer, a_page_has_one_answer, a_page_has_one_text, a_page_keeps_its_width,
+    a_page_with_room_is_never_too_narrow,
+};
+pub use page::Page;
+pub use plain::{PlainLine, from_read, from_read_with_decorator};

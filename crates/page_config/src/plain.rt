@@ -1,0 +1,104 @@
+//! Configurations of the decorators that stand, and pages as plain text.
+ghost use Rattle.std.specs.Prelude.{◌≡◌, ◌+◌, ◌<◌, ◌≤◌, true, false, Err, IfErr, IfOk, IfSome};
+ghost use Rattle.std.specs.Prelude.{chars, length, string_bytes};
+ghost use Rattle.std.specs.Io.KnownBytes.{IsAtEnd};
+ghost use Rattle.page_config.specs.Errors.{IsAnswer};
+ghost use Rattle.page_config.specs.PageAnswers.{Answers, IsTold, fail, too_narrow};
+ghost use Rattle.page_config.specs.PlainPages.{HasPlainAnswer, HasPlainText, IsPlain};
+ghost use Rattle.page_config.specs.Settings.{bare_setting, by_default, max_bytes_of};
+
+use crate::config::Config;
+use crate::error::Error;
+use html_lexemes::{ByteReader, ReferenceTable};
+use std::alloc::Global;
+use tagged_lines::TaggedLine;
+use text_decorators::{PlainDecorator, RichDecorator};
+use text_marks::TextDecorator;
+
+/// A line of plain text.
+pub type PlainLine = TaggedLine<Vec<()>>;
+
+impl Config<PlainDecorator> {
+    /// Plain text: emphasis, strong text, terms and code are marked by characters, and the targets of links stand
+    /// behind the page. The error is want of memory.
+    pub fn plain(alloc: Global, table: ReferenceTable) -> Result<Config<PlainDecorator>, Error>
+        ensures plain { IfOk result (λ c. IsPlain table (bare_setting c)) }
+        ensures bytes { IfOk result (λ c. max_bytes_of c ≡ usize.MAX) }
+        ensures memory { IfErr result (λ e. e ≡ Error.Memory) }
+    {
+        Config::with_decorator(alloc, PlainDecorator::new(), table)
+            .link_footnotes(true)
+            .do_decorate(alloc)
+    }
+
+    /// Plain text without these marks and without the targets of links.
+    pub fn plain_no_decorate(alloc: Global, table: ReferenceTable) -> Config<PlainDecorator>
+        ensures setting { bare_setting result ≡ by_default table tt }
+        ensures bytes { max_bytes_of result ≡ usize.MAX }
+    {
+        Config::with_decorator(alloc, PlainDecorator::new(), table)
+    }
+}
+
+impl Config<RichDecorator> {
+    /// Rich text: no marks, but annotations of links, images, emphasis and the like beside the text.
+    pub fn rich(alloc: Global, table: ReferenceTable) -> Config<RichDecorator>
+        ensures setting { bare_setting result ≡ by_default table tt }
+        ensures bytes { max_bytes_of result ≡ usize.MAX }
+    {
+        Config::with_decorator(alloc, RichDecorator::new(), table)
+    }
+}
+
+/// The text of the page that `input` gives, wrapped to `width` columns, as plain text. Refused as
+/// `Config::lines_from_read`.
+pub fn from_read<R: ByteReader>(
+    alloc: Global,
+    input: &mut R,
+    width: usize,
+    table: ReferenceTable,
+) -> Result<String, Error>
+    ensures text { IfOk result (λ text. IfSome (R.remaining input.old)
+        (λ bytes. HasPlainText table width bytes (chars (string_bytes text)))) }
+    ensures narrow { result ≡ Err Error.TooNarrow → IfSome (R.remaining input.old)
+        (λ bytes. HasPlainAnswer table width bytes too_narrow) }
+    ensures fail { result ≡ Err Error.Fail → IfSome (R.remaining input.old)
+        (λ bytes. HasPlainAnswer table width bytes fail) }
+    ensures short { IsAnswer result → IfSome (R.remaining input.old) (λ bytes. length bytes ≤ usize.MAX) }
+    ensures at_most { R.count input.new ≤ R.count input.old + usize.MAX + 1 }
+    ensures io { result ≡ Err Error.IoError → R.has_failed input.new ≡ true }
+    ensures too_long { result ≡ Err Error.TooLong → R.count input.old + usize.MAX < R.count input.new }
+    ensures stays { R.has_failed input.old ≡ true → R.has_failed input.new ≡ true }
+    ensures works { IsAnswer result → R.has_failed input.new ≡ false }
+    ensures end { IsAnswer result → IsAtEnd (R.remaining input.new) }
+{
+    Config::plain(alloc, table)?.string_from_read(alloc, input, width)
+}
+
+/// The same by another decorator, and as pages are rendered where nothing else is said.
+pub fn from_read_with_decorator<R: ByteReader, D: TextDecorator + Drop>(
+    alloc: Global,
+    input: &mut R,
+    width: usize,
+    decorator: D,
+    table: ReferenceTable,
+) -> Result<String, Error>
+    ensures text { IfOk result (λ text. IfSome (R.remaining input.old) (λ bytes.
+        IsTold D.Annotation.seen D.text D.gives D.marks D.after D.pops D.sub D.closes
+        (by_default table (D.sub (D.held decorator))) width bytes (chars (string_bytes text)))) }
+    ensures narrow { result ≡ Err Error.TooNarrow → IfSome (R.remaining input.old) (λ bytes.
+        Answers D.Annotation.seen D.text D.gives D.marks D.after D.pops D.sub D.closes
+        (by_default table (D.sub (D.held decorator))) width bytes too_narrow) }
+    ensures fail { result ≡ Err Error.Fail → IfSome (R.remaining input.old) (λ bytes.
+        Answers D.Annotation.seen D.text D.gives D.marks D.after D.pops D.sub D.closes
+        (by_default table (D.sub (D.held decorator))) width bytes fail) }
+    ensures short { IsAnswer result → IfSome (R.remaining input.old) (λ bytes. length bytes ≤ usize.MAX) }
+    ensures at_most { R.count input.new ≤ R.count input.old + usize.MAX + 1 }
+    ensures io { result ≡ Err Error.IoError → R.has_failed input.new ≡ true }
+    ensures too_long { result ≡ Err Error.TooLong → R.count input.old + usize.MAX < R.count input.new }
+    ensures stays { R.has_failed input.old ≡ true → R.has_failed input.new ≡ true }
+    ensures works { IsAnswer result → R.has_failed input.new ≡ false }
+    ensures end { IsAnswer result → IsAtEnd (R.remaining input.new) }
+{
+    Config::with_decorator(alloc, decorator, table).string_from_read(alloc, input, width)
+}
