@@ -1,0 +1,7 @@
+mod OwnLines
+mod QuietRules
+mod RenderedLines
+mod StatesLaid
+mod TreesOfPages
+mod ValuesLaid
+mod ValuesOfPages

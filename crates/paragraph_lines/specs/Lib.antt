@@ -1,0 +1,3 @@
+pub mod ParagraphLines
+pub mod ParagraphPages
+pub mod ParagraphValues

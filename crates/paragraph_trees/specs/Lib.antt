@@ -1,0 +1,2 @@
+pub mod ParagraphPage
+pub mod ParagraphTrees
