@@ -3,16 +3,8 @@ pub mod CommandHelp
 pub mod CommandLines
 pub mod CommandNumbers
 pub mod CommandTurns
-pub mod LayoutLemmas
 pub mod LinesTextLemmas
-pub mod OneAnswer
-pub mod PageTextLemmas
-pub mod ParagraphCuts
-pub mod ParagraphLemmas
-pub mod ParagraphLinesLemmas
-pub mod ParagraphPageLemmas
-pub mod ReadingLemmas
+pub mod PlainLemmas
 pub mod ResponseLemmas
-pub mod TextBridges
 pub mod WritingLemmas
 pub mod WrittenLemmas

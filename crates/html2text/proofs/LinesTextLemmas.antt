@@ -1,14 +1,32 @@
 -- The bytes of a line, element by element.
 use Rattle.std.proofs.Common.{◌≡◌, ℕ, List, [], ◌∷◌, ◌++◌, map, refl, ap, ◌∙◌, append_assoc, sym, rules, IsUtf8}
+use Rattle.std.specs.Prelude.{string_bytes}
 use Rattle.std.specs.Str.{chars}
 use Rattle.std.proofs.lemmas.Str.{chars-nil, chars-append, IsUtf8-string_bytes, IsUtf8-append, IsUtf8-nil}
-use Rattle.tagged_lines.specs.Tagged.{characters, element_text, elements_text, line_items, line_text}
+use Rattle.tagged_lines.specs.Tagged.{Item, characters, element_text, elements_items, elements_text, line_items, line_text, tagged}
 use Rattle.tagged_lines.specs.declared.tagged_line.TaggedLine.{TaggedLine}
 use Rattle.tagged_lines.specs.declared.tagged_string.TaggedLineElement.{TaggedLineElement}
 use Rattle.tagged_lines.specs.declared.tagged_string.TaggedLineElement.TheVariants.{Str, FragmentStart}
 use Rattle.html2text.specs.LinesText.{elements_bytes, line_bytes, lines_bytes, newline}
-use Rattle.html2text.specs.PageLines.{lines_text}
-use Rattle.html2text.proofs.LayoutLemmas.{characters-line}
+use Rattle.page_config.specs.PageAnswers.{lines_text}
+
+characters-tagged : {S : Type 0} (cs : List ℕ) (tag : S) (rest : List (Item S))
+    → characters (tagged cs tag ++ rest) ≡ cs ++ characters rest
+characters-tagged [] tag rest = refl
+characters-tagged (c ∷ cs) tag rest = ap (λ l. c ∷ l) (characters-tagged cs tag rest)
+
+characters-elements : {T S : Type 0} (seen : T → S) (es : List (TaggedLineElement T))
+    → characters (elements_items seen es) ≡ elements_text es
+characters-elements seen [] = refl
+characters-elements seen (Str string ∷ es) =
+    characters-tagged (chars (string_bytes string.s)) (seen string.tag) (elements_items seen es)
+    ∙ ap (λ l. chars (string_bytes string.s) ++ l) (characters-elements seen es)
+characters-elements seen (FragmentStart name ∷ es) = characters-elements seen es
+    ∙ ap (λ l. l ++ elements_text es) (sym chars-nil)
+
+-- the characters of a line's items are its text
+characters-line : {T S : Type 0} (seen : T → S) (line : TaggedLine T) → characters (line_items seen line) ≡ line_text line
+characters-line seen line = characters-elements seen line.elements.items
 
 pub elements_bytes-step : {T : Type 0} (es : List (TaggedLineElement T)) (e : TaggedLineElement T) (rest : List (TaggedLineElement T)) (bytes : List ℕ)
     → es ≡ e ∷ rest → bytes ≡ element_text e → elements_bytes es ++ newline ≡ bytes ++ (elements_bytes rest ++ newline)

@@ -1,6 +1,6 @@
 -- What is written in parts, and what a command line comes to.
 use Rattle.std.proofs.Common.{◌≡◌, ℕ, Bool, true, false, List, ◌++◌, Option, None, Some, ◌⊎◌, inl, inr, refl, sym, ap, subst, ◌∙◌, append_assoc, map, string_bytes, String, Vec, arith}
-use Rattle.std.specs.Prelude.{Result, Ok, Err, IfOk, IfErr, IfSome, ◌||◌}
+use Rattle.std.specs.Prelude.{Result, Ok, Err, IfOk, IfErr}
 use Rattle.std.specs.IoError.{error_kind}
 use Rattle.std.specs.declared.io.Error.{Error as IoFault}
 use Rattle.std.specs.Io.KnownBytes.{Appends, Keeps}
@@ -10,8 +10,8 @@ use Rattle.html2text.specs.CommandWords.{Asks, words_behind_name}
 use Rattle.html2text.specs.Responses.{IsAskedRefusal, IsOutcomeOf, IsRefusal, WritesAnswer, WritesAnswerPart, WritesAsked, WritesAskedPart}
 use Rattle.html2text.specs.Statuses.{status_of}
 use Rattle.html2text.specs.WordFaults.{Explains, IsHelp, IsRefusedWith, fault_of_kind}
-use Rattle.html2text.specs.declared.error.Error.{Error}
-use Rattle.html2text.specs.declared.error.Error.TheVariants as errors
+use Rattle.page_config.specs.declared.error.Error.{Error}
+use Rattle.page_config.specs.declared.error.Error.TheVariants as errors
 use Rattle.html2text.specs.declared.words.Outcome.{Outcome}
 use Rattle.html2text.specs.declared.words.Outcome.TheVariants as outcomes
 use Rattle.html2text.specs.declared.words.Request.{Request}

@@ -1,21 +1,53 @@
 -- What was written of a page's lines.
-use Rattle.std.proofs.Common.{ℕ, List, Vec, map, Option, None, Some, IfSome}
+use Rattle.std.proofs.Common.{ℕ, Bool, List, Vec, Global, map, Option, None, Some, IfSome, chars}
 use Rattle.std.specs.Io.KnownBytes.{Appends}
+use Rattle.block_renderer.specs.Seen.{tags_seen}
 use Rattle.html_lexemes.specs.KnownPart.{AppendsPart}
-use Rattle.tagged_lines.specs.declared.tagged_line.TaggedLine.{TaggedLine}
-use Rattle.html2text.specs.LinesText.{lines_bytes, plain_items, plain_seen}
-use Rattle.html2text.specs.PageLines.{ArePageLines}
-use Rattle.html2text.specs.Written.{WritesPage, WritesPart}
 use Rattle.html2text.proofs.LinesTextLemmas.{chars-lines_bytes, lines_utf8}
+use Rattle.html2text.specs.LinesText.{lines_bytes}
+use Rattle.html2text.specs.Written.{Gains, GainsPart}
+use Rattle.page_config.specs.PageAnswers.{Answers, IsTold, lines}
+use Rattle.page_config.specs.Settings.{PageSetting}
+use Rattle.tagged_lines.specs.Tagged.{line_items}
+use Rattle.tagged_lines.specs.declared.tagged_line.TaggedLine.{TaggedLine}
+use Rattle.text_marks.specs.Marks.{Mark}
 
-pub written_page : {A : Type 0} (width : ℕ) (all old new : Option (List ℕ)) (lines : List (TaggedLine (Vec (Unit {0}) A)))
-    → IfSome all (λ bytes. ArePageLines width bytes (map plain_items lines)) → Appends old new (lines_bytes lines) → IfSome all (λ bytes. WritesPage width bytes old new)
-written_page width None old new lines page added = tt
-written_page width (Some bytes) old new lines page added =
-    record { text = lines_bytes lines; utf8 = lines_utf8 lines; page = record { lines = map plain_items lines; page = page; shown = chars-lines_bytes plain_seen lines }; added = added }
+module _ {T H A : Type 0} (seen : T → A) (text : H → Mark → List ℕ) (gives : H → Mark → T → Type 0)
+    (marks : H → Mark → Bool) (after : H → Mark → H) (pops : H → Mark → Bool) (sub : H → H)
+    (closes : H → List (List ℕ) → List (TaggedLine T) → Type 0) (c : PageSetting H) (width : ℕ) where
+  abbrev pub HasLines : List (TaggedLine (Vec T Global)) → List ℕ → Type 0
+  HasLines shown bytes = Answers seen text gives marks after pops sub closes c width bytes
+      (lines (map (line_items (tags_seen seen)) shown))
 
-pub written_part : {A : Type 0} (width : ℕ) (all old new : Option (List ℕ)) (lines : List (TaggedLine (Vec (Unit {0}) A)))
-    → IfSome all (λ bytes. ArePageLines width bytes (map plain_items lines)) → AppendsPart old new (lines_bytes lines) → IfSome all (λ bytes. WritesPart width bytes old new)
-written_part width None old new lines page part = tt
-written_part width (Some bytes) old new lines page part =
-    record { text = lines_bytes lines; utf8 = lines_utf8 lines; page = record { lines = map plain_items lines; page = page; shown = chars-lines_bytes plain_seen lines }; part = part }
+  abbrev pub IsTextOf : List ℕ → List ℕ → Type 0
+  IsTextOf bytes told = IsTold seen text gives marks after pops sub closes c width bytes told
+
+  told_of : (bytes : List ℕ) (shown : List (TaggedLine (Vec T Global))) → HasLines shown bytes
+      → IsTextOf bytes (chars (lines_bytes shown))
+  told_of bytes shown has = λ tag p. record {
+    shown = map (line_items (tags_seen seen)) shown;
+    answer = has tag p;
+    told = chars-lines_bytes (tags_seen seen) shown;
+  }
+
+  pub written_page : (all old new : Option (List ℕ)) (shown : List (TaggedLine (Vec T Global)))
+      → IfSome all (HasLines shown) → Appends old new (lines_bytes shown)
+      → IfSome all (λ bytes. Gains (IsTextOf bytes) old new)
+  written_page None old new shown has added = tt
+  written_page (Some bytes) old new shown has added = record {
+    text = lines_bytes shown;
+    utf8 = lines_utf8 shown;
+    page = told_of bytes shown has;
+    added = added;
+  }
+
+  pub written_part : (all old new : Option (List ℕ)) (shown : List (TaggedLine (Vec T Global)))
+      → IfSome all (HasLines shown) → AppendsPart old new (lines_bytes shown)
+      → IfSome all (λ bytes. GainsPart (IsTextOf bytes) old new)
+  written_part None old new shown has part = tt
+  written_part (Some bytes) old new shown has part = record {
+    text = lines_bytes shown;
+    utf8 = lines_utf8 shown;
+    page = told_of bytes shown has;
+    part = part;
+  }

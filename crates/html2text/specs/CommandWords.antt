@@ -1,5 +1,6 @@
 -- The command line: `html2text [--width N] [--]`, and what its words ask for. A word is its bytes.
-use Rattle.std.specs.Prelude.{◌≡◌, ℕ, ◌^◌, ◌<◌, false, pos, List, [], ◌∷◌, ◌++◌, ◌⊎◌, Option, Some, None, ⊤, codes, slice_get}
+use Rattle.std.specs.Prelude.{◌≡◌, ℕ, ◌^◌, ◌<◌, false, pos, List, []}
+use Rattle.std.specs.Prelude.{◌∷◌, ◌++◌, ◌⊎◌, Option, Some, None, ⊤, codes, slice_get}
 use Rattle.std.specs.Str.{chars}
 use Rattle.std.specs.Str.Parse.{IsNumeral, signed_digits_value, starts_with_minus, without_leading_sign}
 

@@ -1,12 +1,7 @@
 pub mod CommandRules
 pub mod CommandWords
-pub mod Config
 pub mod Endings
-pub mod Errors
 pub mod LinesText
-pub mod PageLines
-pub mod PageText
-pub mod ParagraphPage
 pub mod Responses
 pub mod Statuses
 pub mod WordFaults

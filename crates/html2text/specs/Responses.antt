@@ -1,20 +1,20 @@
 -- What the program answers to a command line: what its writers gain, and its exit status.
-use Rattle.std.specs.Prelude.{◌≡◌, ℕ, ◌+◌, ◌<◌, ◌⊎◌, Bool, true, List, ◌++◌, Option, Result, Ok, Err, IfSome, codes, string_bytes, ⊤}
+use Rattle.std.specs.Prelude.{◌≡◌, ℕ, ◌+◌, ◌<◌, ◌⊎◌, Bool, true, List}
+use Rattle.std.specs.Prelude.{◌++◌, Option, Result, Ok, Err, IfSome, codes, string_bytes, ⊤}
 use Rattle.std.specs.Str.{trim_end}
 use Rattle.std.specs.Io.KnownBytes.{Appends}
 use Rattle.html_lexemes.specs.KnownPart.{AppendsPart}
 use Rattle.html2text.specs.CommandWords.{Asks, AsksHelp}
-use Rattle.html2text.specs.Errors.{error_text}
 use Rattle.html2text.specs.LinesText.{newline}
-use Rattle.html2text.specs.PageLines.{IsTooNarrowPage, IsOtherPage}
-use Rattle.html2text.specs.Written.{WritesPage, WritesPart}
-use Rattle.html2text.specs.declared.error.Error.{Error}
-use Rattle.html2text.specs.declared.error.Error.TheVariants as errors
+use Rattle.html2text.specs.Written.{IsOtherPage, IsTooNarrowPage, WritesPage, WritesPart}
 use Rattle.html2text.specs.declared.words.Outcome.{Outcome}
 use Rattle.html2text.specs.declared.words.Outcome.TheVariants as outcomes
 use Rattle.html2text.specs.declared.words.Request.{Request}
 use Rattle.html2text.specs.declared.words.WordFault.{WordFault}
 use Rattle.html2text.specs.declared.words.WordFault.TheVariants as faults
+use Rattle.page_config.specs.Errors.{error_text}
+use Rattle.page_config.specs.declared.error.Error.{Error}
+use Rattle.page_config.specs.declared.error.Error.TheVariants as errors
 
 -- the bytes of a device, where they are known
 abbrev pub Bytes : Type 0
@@ -43,7 +43,7 @@ Complains failed old new text = Tells failed old new (complaint text)
 -- bytes than a number counts were given, from before to after.
 abbrev pub IsRefusal : ℕ → Bytes → Bool → ℕ → ℕ → ℕ → Error → Type 0
 IsRefusal width bytes failed most before after errors.TooNarrow = IfSome bytes (IsTooNarrowPage width)
-IsRefusal width bytes failed most before after errors.Fail = IfSome bytes IsOtherPage
+IsRefusal width bytes failed most before after errors.Fail = IfSome bytes (IsOtherPage width)
 IsRefusal width bytes failed most before after errors.IoError = failed ≡ true
 IsRefusal width bytes failed most before after errors.TooLong = before + most < after
 IsRefusal width bytes failed most before after errors.Memory = ⊤

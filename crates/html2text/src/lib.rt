@@ -1,33 +1,28 @@
-//! HTML to wrapped text: decoding, page text, the paragraphs of a page, their layout, and what the program `html2text`
-//! does with them.
+//! The program `html2text`: the words of its command line, what it writes of a page, and how it ends; with the library
+//! that it stands on, `page_config`.
 #![tactic(auto)]
 
-mod config;
-mod error;
-mod laws;
-mod layout;
-mod page_text;
-mod paragraphs;
 mod program;
-mod reading;
 mod response;
-mod rows;
 mod words;
 mod writing;
 
-pub use config::{Config, from_read};
-pub use error::Error;
 pub use html_lexemes::{
     ByteReader, ByteWriter, Device, DeviceFault, ParseFault, ReferenceTable, TableError,
 };
-pub use laws::one_answer;
-pub use layout::PlainLine;
-pub use paragraphs::one_list;
+pub use html_render_dom::RcDom;
+pub use html_render_tree::RenderTree;
+pub use page_config::{
+    Config, Error, Page, PlainLine, a_page_has_an_answer, a_page_has_one_answer,
+    a_page_has_one_text, a_page_keeps_its_width, a_page_with_room_is_never_too_narrow, from_read,
+    from_read_with_decorator,
+};
 pub use program::{Served, serve};
 pub use response::{carry_out, respond};
-pub use text_block_renderer::{
-    PlainDecorator, TaggedLine, TaggedLineElement, TaggedString, TooNarrow,
-};
+pub use tagged_lines::{TaggedLine, TaggedLineElement, TaggedString};
+pub use text_decorators::{PlainDecorator, RichAnnotation, RichDecorator, TrivialDecorator};
+pub use text_marks::TextDecorator;
+pub use text_pieces::TooNarrow;
 pub use utf8_decoding::Utf8LossyDecoder;
 pub use words::{Outcome, Request, WordFault, exit_status, read_words, request_of};
 pub use writing::run;

@@ -1,19 +1,20 @@
 //! What the program answers to a command line: which text goes where, and its exit status.
 
-ghost use Rattle.std.specs.Prelude.{◌≡◌, ◌≢◌, ℕ, ◌+◌, ◌<◌, ◌⊎◌, ◌||◌, List, Option, true, false, Err, IfErr, IfOk, IfSome, IsOk, OnErr, OnOk, map, string_bytes};
+ghost use Rattle.std.specs.Prelude.{◌≡◌, ◌≢◌, ℕ, ◌+◌, ◌<◌, ◌⊎◌, ◌||◌, List, Option, true};
+ghost use Rattle.std.specs.Prelude.{false, Err, IfErr, IfOk, IfSome, IsOk, OnErr, OnOk, map, string_bytes};
 ghost use Rattle.std.specs.Io.KnownBytes.{Appends};
 ghost use Rattle.html_lexemes.specs.KnownPart.{AppendsPart};
 ghost use Rattle.html2text.specs.CommandWords.{words_behind_name};
-ghost use Rattle.html2text.specs.Errors.{error_text};
-ghost use Rattle.html2text.specs.Responses.{IsAskedRefusal, IsOutcomeOf, IsRefusal, Complains, WritesAnswer, WritesAnswerPart, WritesAsked, WritesAskedPart, complaint, fault_text};
+ghost use Rattle.page_config.specs.Errors.{error_text};
+ghost use Rattle.html2text.specs.Responses.{IsAskedRefusal, IsOutcomeOf, IsRefusal, Complains, WritesAnswer};
+ghost use Rattle.html2text.specs.Responses.{WritesAnswerPart, WritesAsked, WritesAskedPart, complaint, fault_text};
 ghost use Rattle.html2text.specs.WordFaults.{IsRefusedWith};
 ghost use Rattle.html2text.specs.Written.{WritesPage, WritesPart};
 
-use crate::config::Config;
-use crate::error::Error;
 use crate::words::{Outcome, Request, WordFault, exit_status, request_of};
 use crate::writing::{run, write_all};
 use html_lexemes::{ByteReader, ByteWriter, DeviceFault, ReferenceTable};
+use page_config::{Config, Error};
 use std::alloc::Global;
 use std::io;
 
@@ -196,7 +197,7 @@ fn write_page<R: ByteReader, W: ByteWriter>(
         × IfSome (R.remaining input.old)
         (λ bytes. WritesPart width bytes (W.contents output.old) (W.contents output.new)))) }
 {
-    let config = Config::plain(ReferenceTable::basic(alloc)?);
+    let config = Config::plain(alloc, ReferenceTable::basic(alloc)?)?;
     run(alloc, input, output, config, width)?;
     output.flush()?;
     Ok(())

@@ -1,6 +1,7 @@
 //! What the words of a command line ask for.
 
-ghost use Rattle.std.specs.Prelude.{◌≡◌, ℕ, List, Some, None, Err, false, IfErr, IfOk, IsErrAnd, codes, map, string_bytes};
+ghost use Rattle.std.specs.Prelude.{◌≡◌, ℕ, List, Some, None, Err};
+ghost use Rattle.std.specs.Prelude.{false, IfErr, IfOk, IsErrAnd, codes, map, string_bytes};
 ghost use Rattle.std.specs.IoError.{error_kind};
 ghost use Rattle.clap.specs.Words.{app_of, found_of, kind_of, rule_of, without_minus};
 ghost use Rattle.clap.specs.Matches.{one_text};
@@ -10,9 +11,9 @@ ghost use Rattle.html2text.specs.WordFaults.{Explains, IsFaultOf, IsHelpOrMemory
 ghost use Rattle.html2text.specs.Statuses.{status_of};
 ghost use Rattle.html2text.specs.declared.words.WordFault.TheVariants as faults;
 
-use crate::error::Error;
 use clap::error::ErrorKind;
 use clap::{Arg, ArgAction, ArgMatches, Command, value_parser};
+use page_config::Error;
 use std::alloc::{AllocError, Global};
 use std::io;
 

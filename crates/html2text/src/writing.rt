@@ -1,26 +1,26 @@
+//! A page's text, written.
 ghost use Rattle.std.specs.Prelude.{◌≡◌, ◌+◌, ◌<◌, ◌≤◌, ◌⊎◌, true, false, length, Err, IfSome, OnErr, OnOk};
 ghost use Rattle.std.specs.Io.KnownBytes.{Appends, IsAtEnd};
 ghost use Rattle.html_lexemes.specs.KnownPart.{AppendsPart};
-ghost use Rattle.html2text.specs.Config.{max_bytes_of};
-ghost use Rattle.html2text.specs.Errors.{IsAnswer};
-ghost use Rattle.html2text.specs.PageLines.{IsTooNarrowPage, IsOtherPage};
-ghost use Rattle.html2text.specs.Written.{WritesPage, WritesPart};
+ghost use Rattle.html2text.specs.Written.{Gains, GainsPart};
 ghost use Rattle.html2text.specs.LinesText.{line_bytes, lines_bytes};
+ghost use Rattle.page_config.specs.Errors.{IsAnswer};
+ghost use Rattle.page_config.specs.PageAnswers.{Answers, IsTold, fail, too_narrow};
+ghost use Rattle.page_config.specs.Settings.{max_bytes_of, page_setting};
 
-use crate::config::Config;
-use crate::error::Error;
-use crate::layout::PlainLine;
 use html_lexemes::{ByteReader, ByteWriter, DeviceFault};
+use page_config::{Config, Error};
 use std::alloc::Global;
-use text_block_renderer::PlainDecorator;
+use tagged_lines::TaggedLine;
+use text_marks::TextDecorator;
 
 /// Reads a page, and writes the text of its lines, each with a newline. Nothing is written before the
 /// layout has succeeded. It doesn't flush the writer.
-pub fn run<R: ByteReader, W: ByteWriter>(
+pub fn run<R: ByteReader, W: ByteWriter, D: TextDecorator + Drop>(
     alloc: Global,
     reader: &mut R,
     writer: &mut W,
-    config: Config<PlainDecorator>,
+    config: Config<D>,
     width: usize,
 ) -> Result<(), Error>
     ensures at_most { R.count reader.new ≤ R.count reader.old + max_bytes_of config + 1 }
@@ -32,23 +32,32 @@ pub fn run<R: ByteReader, W: ByteWriter>(
     ensures end { IsAnswer result → IsAtEnd (R.remaining reader.new) }
 
     // What was read is written as its lines' text.
-    ensures written { OnOk result (IfSome (R.remaining reader.old)
-        (λ bytes. WritesPage width bytes (W.contents writer.old) (W.contents writer.new))) }
-    ensures narrow { result ≡ Err Error.TooNarrow → IfSome (R.remaining reader.old) (IsTooNarrowPage width) }
-    ensures fail { result ≡ Err Error.Fail → IfSome (R.remaining reader.old) IsOtherPage }
+    ensures written { OnOk result (IfSome (R.remaining reader.old) (λ bytes. Gains
+        (IsTold D.Annotation.seen D.text D.gives D.marks D.after D.pops D.sub D.closes
+        (page_setting D.held D.sub config) width bytes) (W.contents writer.old) (W.contents writer.new))) }
+    ensures narrow { result ≡ Err Error.TooNarrow → IfSome (R.remaining reader.old) (λ bytes.
+        Answers D.Annotation.seen D.text D.gives D.marks D.after D.pops D.sub D.closes
+        (page_setting D.held D.sub config) width bytes too_narrow) }
+    ensures fail { result ≡ Err Error.Fail → IfSome (R.remaining reader.old) (λ bytes.
+        Answers D.Annotation.seen D.text D.gives D.marks D.after D.pops D.sub D.closes
+        (page_setting D.held D.sub config) width bytes fail) }
     ensures short { IsAnswer result → IfSome (R.remaining reader.old) (λ bytes. length bytes ≤ max_bytes_of config) }
 
     // Only a fault of the writer leaves anything written: a beginning of that text.
     ensures unwritten { OnErr result ((writer.new ≡ writer.old)
         ⊎ ((result ≡ Err Error.IoError) × (W.has_failed writer.new ≡ true) × IfSome (R.remaining reader.old)
-        (λ bytes. WritesPart width bytes (W.contents writer.old) (W.contents writer.new)))) }
+        (λ bytes. GainsPart (IsTold D.Annotation.seen D.text D.gives D.marks D.after D.pops D.sub D.closes
+        (page_setting D.held D.sub config) width bytes) (W.contents writer.old) (W.contents writer.new)))) }
 {
     let lines = config.lines_from_read(alloc, reader, width)?;
     write_lines(writer, &lines)?;
     Ok(())
 }
 
-fn write_lines<W: ByteWriter>(writer: &mut W, lines: &[PlainLine]) -> Result<(), DeviceFault>
+fn write_lines<W: ByteWriter, T: Drop>(
+    writer: &mut W,
+    lines: &[TaggedLine<T>],
+) -> Result<(), DeviceFault>
     ensures ok { OnOk result (Appends (W.contents writer.old) (W.contents writer.new) (lines_bytes lines.now)) }
     ensures part { OnErr result (AppendsPart (W.contents writer.old) (W.contents writer.new) (lines_bytes lines.now)) }
     ensures failed { OnErr result (W.has_failed writer.new ≡ true) }
@@ -60,7 +69,10 @@ fn write_lines<W: ByteWriter>(writer: &mut W, lines: &[PlainLine]) -> Result<(),
     Ok(())
 }
 
-fn write_line<W: ByteWriter>(writer: &mut W, line: &PlainLine) -> Result<(), DeviceFault>
+fn write_line<W: ByteWriter, T: Drop>(
+    writer: &mut W,
+    line: &TaggedLine<T>,
+) -> Result<(), DeviceFault>
     ensures ok { OnOk result (Appends (W.contents writer.old) (W.contents writer.new) (line_bytes line.now)) }
     ensures part { OnErr result (AppendsPart (W.contents writer.old) (W.contents writer.new) (line_bytes line.now)) }
     ensures failed { OnErr result (W.has_failed writer.new ≡ true) }

@@ -9,6 +9,8 @@ pub use decoded::decoded_text;
 #[cfg(test)]
 mod checks;
 #[cfg(test)]
+mod config_rows;
+#[cfg(test)]
 mod decoder_rows;
 #[cfg(test)]
 mod devices;

@@ -1,15 +1,13 @@
 //! Pages from outside, through the public calls. Readers and writers are in memory.
 use crate::checks::{holds, is_answer};
 use crate::devices::{Pieces, Taker};
-use html2text::{
-    Config, Device, Error, PlainDecorator, ReferenceTable, from_read, one_answer, run,
-};
+use html2text::{Config, Device, Error, PlainDecorator, ReferenceTable, from_read, run};
 use std::alloc::Global;
 use std::io;
 use std::test::Fail;
 
-fn plain(alloc: Global) -> Result<Config<PlainDecorator>, Error> {
-    Ok(Config::plain(ReferenceTable::basic(alloc)?))
+pub(crate) fn plain(alloc: Global) -> Result<Config<PlainDecorator>, Error> {
+    Config::plain(alloc, ReferenceTable::basic(alloc)?)
 }
 
 /// The text of a page whose bytes come `most` at a time.
@@ -23,7 +21,7 @@ pub(crate) const FIRST_PAGE: &[u8] = b"<p>Hello, world.  Superlongwordreally</p>
 
 pub(crate) const FIRST_TEXT: &str = "Hello,\nworld.\nSuperlon\ngwordrea\nlly\n";
 
-static PAGES: [(usize, &[u8], Result<&str, Error>); 42] = [
+static PAGES: [(usize, &[u8], Result<&str, Error>); 46] = [
     (8, FIRST_PAGE, Ok(FIRST_TEXT)),
     (20, b"<p>caf\xC3\xA9</p>", Ok("caf\u{e9}\n")),
     (20, b"<p>a\xFFb</p>", Ok("a\u{fffd}b\n")),
@@ -49,17 +47,21 @@ static PAGES: [(usize, &[u8], Result<&str, Error>); 42] = [
     (1, b"<p>\xE6\xBC\xA2</p>", Err(Error::TooNarrow)),
     (1, b"<p>ab</p>", Ok("a\nb\n")),
     (20, b"", Ok("")),
-    (20, b"Hello", Err(Error::Fail)),
-    (20, b"<p>a", Err(Error::Fail)),
-    (20, b"<p>a</p> ", Err(Error::Fail)),
-    (20, b"<p>a&x;</p>", Err(Error::Fail)),
-    (20, b"<p>a\0</p>", Err(Error::Fail)),
+    (20, b"Hello", Ok("Hello\n")),
+    (20, b"<p>a", Ok("a\n")),
+    (20, b"<p>a</p> ", Ok("a\n")),
+    (20, b"<p>a&x;</p>", Ok("a&x;\n")),
+    (20, b"<p>a\0</p>", Ok("a\n")),
     (0, b"<p>x</p>", Err(Error::TooNarrow)),
     (0, b"", Err(Error::TooNarrow)),
-    (0, b"Hello", Err(Error::Fail)),
+    (0, b"Hello", Err(Error::TooNarrow)),
     (20, b"<p></p><p>x</p><p></p><p>y</p>", Ok("x\n\n\ny\n")),
     (20, b"<p>\xCC\x81</p><p>a</p>", Ok("\u{301}\n\na\n")),
-    (20, b"\xEF\xBB\xBF\xEF\xBB\xBF<p>a</p>", Err(Error::Fail)),
+    (
+        20,
+        b"\xEF\xBB\xBF\xEF\xBB\xBF<p>a</p>",
+        Ok("\u{feff}\n\na\n"),
+    ),
     (20, b"<p>a\xEF\xBB\xBFb</p>", Ok("a\u{feff}b\n")),
     (20, b"<p>\xF0\x80</p>", Ok("\u{fffd}\u{fffd}\n")),
     (20, b"<p>\xF4\x90</p>", Ok("\u{fffd}\u{fffd}\n")),
@@ -70,14 +72,26 @@ static PAGES: [(usize, &[u8], Result<&str, Error>); 42] = [
         Ok("\"\u{a0}\u{e9}\"\n"),
     ),
     (5, b"<p>a\x07b cd</p>", Ok("ab cd\n")),
-    (20, b" ", Err(Error::Fail)),
-    (20, b"<p>a</p></p>", Err(Error::Fail)),
-    (20, b"<p>a<b</p>", Err(Error::Fail)),
-    (20, b"<P>a</P>", Err(Error::Fail)),
-    (20, b"<p class=x>a</p>", Err(Error::Fail)),
-    (20, b"<p>&amp</p>", Err(Error::Fail)),
-    (20, b"<p>a & b</p>", Err(Error::Fail)),
-    (20, b"<p>\0</p>", Err(Error::Fail)),
+    (20, b" ", Ok("")),
+    (20, b"<p>a</p></p>", Ok("a\n\n")),
+    (20, b"<p>a<b</p>", Ok("a\n")),
+    (20, b"<P>a</P>", Ok("a\n")),
+    (20, b"<p class=x>a</p>", Ok("a\n")),
+    (20, b"<p>&amp</p>", Ok("&amp\n")),
+    (20, b"<p>a & b</p>", Ok("a & b\n")),
+    (20, b"<p>\0</p>", Ok("")),
+    (20, b"<table><tr><td>a</table>", Err(Error::Fail)),
+    (0, b"<table><tr><td>a</table>", Err(Error::TooNarrow)),
+    (
+        20,
+        b"<h2>T</h2><p>a <em>b</em> <a href=x>c</a></p>",
+        Ok("## T\n\na *b* [c][1]\n\n[1]: x\n"),
+    ),
+    (
+        20,
+        b"<!doctype html><title>t</title><ul><li>a<li>b</ul>",
+        Ok("* a\n* b\n"),
+    ),
 ];
 
 #[test]
@@ -225,9 +239,4 @@ fn errors_are_told(rt: HostRuntime) -> Result<(), Fail> {
         holds(&rt, error.text() == wanted, wanted);
     }
     Ok(())
-}
-
-#[test]
-fn a_page_has_one_answer() {
-    one_answer();
 }

@@ -52,7 +52,7 @@ static ROWS: [Row; 10] = [
     ),
     (
         Ok("html2text"),
-        b"Hello",
+        b"<table><tr><td>a</table>",
         1,
         Some(""),
         Some("html2text: nothing to render\n"),
@@ -135,7 +135,7 @@ fn a_refused_flush_is_told(rt: HostRuntime) -> Result<(), Fail> {
 #[test]
 fn a_fault_of_standard_error_changes_nothing_else(rt: HostRuntime) -> Result<(), Fail> {
     let alloc = rt.alloc();
-    let mut input = Device::new(b"Hello".as_slice());
+    let mut input = Device::new(b"<table><tr><td>a".as_slice());
     let mut output = Device::new(Taker::new(alloc));
     let mut taker = Taker::new(alloc);
     taker.most = 4;

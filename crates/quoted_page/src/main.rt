@@ -22,7 +22,7 @@ fn main(rt: HostRuntime) -> ExitCode {
 
 fn quote<R: Input + Print + AllocGlobal>(rt: &R) -> Result<(), Error> {
     let alloc = rt.alloc();
-    let config = Config::plain(ReferenceTable::basic(alloc)?);
+    let config = Config::plain(alloc, ReferenceTable::basic(alloc)?)?;
     let mut input = Device::new(rt.reader());
     let lines = config.lines_from_read(alloc, &mut input, WIDTH)?;
     let mut output = io::writer(rt);

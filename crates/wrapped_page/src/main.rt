@@ -1,4 +1,4 @@
-//! A page in lines: the program `html2text` on a page that it takes, beside `html2text_program` on one that it refuses.
+//! The program `html2text` on a page with headings, lists, links, a quotation and preformatted text.
 #![tactic(auto)]
 
 use html2text::{Served, serve};

@@ -1,7 +1,7 @@
 use Rattle.std.proofs.Common.{◌≡◌, subst}
-use Rattle.html2text.specs.Errors.{error_text}
+use Rattle.page_config.specs.Errors.{error_text}
 use Rattle.html2text.specs.Responses.{Tells, complaint}
-use Rattle.html2text.specs.declared.error.Error.TheVariants.{IoError}
+use Rattle.page_config.specs.declared.error.Error.TheVariants.{IoError}
 use Rattle.html2text.proofs.response.show_help.Goals as goal
 
 pub returns-in-Err-clause-told : goal.returns-in-Err-clause-told

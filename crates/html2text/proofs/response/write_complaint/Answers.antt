@@ -1,4 +1,4 @@
-use Rattle.std.proofs.Common.{codes, ◌++◌, sym}
+use Rattle.std.proofs.Common.{codes, ◌++◌}
 use Rattle.std.proofs.lemmas.Result.{on_ok_weaker}
 use Rattle.std.proofs.KnownBytes.{Appends-trans}
 use Rattle.html2text.specs.LinesText.{newline}

@@ -1,4 +1,4 @@
-use Rattle.std.proofs.Common.{◌≡◌, ℕ, ◌<◌, List, [], ◌∷◌, String, map, string_bytes, length, drop, take, ◌-◌, subst, refl, sym, ap, ◌∙◌, arith}
+use Rattle.std.proofs.Common.{◌≡◌, ◌<◌, List, [], ◌∷◌, String, map, string_bytes, length, drop, take, ◌-◌, subst, refl, sym, ap, ◌∙◌, arith}
 use Rattle.std.proofs.lemmas.List.{take_rest}
 use Rattle.html2text.specs.CommandWords.{Asks, words_behind_name}
 use Rattle.html2text.proofs.words.request_of.Goals as goal

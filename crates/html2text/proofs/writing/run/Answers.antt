@@ -3,6 +3,7 @@ use Rattle.std.proofs.lemmas.Result.{err_from_is_err_and}
 use Rattle.html2text.proofs.WritingLemmas.{on_err}
 use Rattle.html2text.proofs.WrittenLemmas.{written_page, written_part}
 use Rattle.html2text.proofs.writing.run.Goals as goal
+use Rattle.page_config.specs.Settings.{page_setting}
 
 pub returns-in_err-write_lines-clause-unwritten : goal.returns-in_err-write_lines-clause-unwritten
 returns-in_err-write_lines-clause-unwritten g c =
@@ -12,9 +13,17 @@ returns-in_err-write_lines-clause-unwritten g c =
     (inr (
       p.1 ∙ ap Err p.2,
       c.in_err-write_lines.ensures.failed,
-      written_part c.args.width (g.R.ByteReader.remaining c.args.reader.now) _ _ c.in_ok-lines.lines.items c.in_ok-lines.ensures.lines (rw c.deref.ensures.value at c.in_err-write_lines.ensures.part),
+      written_part g.D.Annotation.EqualCopy.seen g.D.TextDecorator.text g.D.TextDecorator.gives
+          g.D.TextDecorator.marks g.D.TextDecorator.after g.D.TextDecorator.pops g.D.TextDecorator.sub
+          g.D.TextDecorator.closes (page_setting g.D.TextDecorator.held g.D.TextDecorator.sub c.args.config)
+          c.args.width (g.R.ByteReader.remaining c.args.reader.now) _ _ c.in_ok-lines.lines.items
+          c.in_ok-lines.ensures.lines (rw c.deref.ensures.value at c.in_err-write_lines.ensures.part),
     ))
 
 pub returns-clause-written : goal.returns-clause-written
-returns-clause-written g c =
-    written_page c.args.width (g.R.ByteReader.remaining c.args.reader.now) _ _ c.in_ok-lines.lines.items c.in_ok-lines.ensures.lines (rw c.deref.ensures.value at c.in_ok-write_lines.ensures.ok)
+returns-clause-written g c = written_page g.D.Annotation.EqualCopy.seen g.D.TextDecorator.text
+    g.D.TextDecorator.gives g.D.TextDecorator.marks g.D.TextDecorator.after g.D.TextDecorator.pops
+    g.D.TextDecorator.sub g.D.TextDecorator.closes
+    (page_setting g.D.TextDecorator.held g.D.TextDecorator.sub c.args.config) c.args.width
+    (g.R.ByteReader.remaining c.args.reader.now) _ _ c.in_ok-lines.lines.items c.in_ok-lines.ensures.lines
+    (rw c.deref.ensures.value at c.in_ok-write_lines.ensures.ok)

@@ -1,0 +1,113 @@
+//! Configurations, and pages piece by piece, through the public calls.
+use crate::checks::{holds, is_answer};
+use crate::page_rows::plain;
+use html2text::{
+    Config, Device, Error, Page, ReferenceTable, RichDecorator, TextDecorator, TrivialDecorator,
+    a_page_has_one_answer, a_page_has_one_text, from_read_with_decorator,
+};
+use std::alloc::Global;
+use std::test::Fail;
+
+const MARKED: &[u8] = b"<p>a <em>b</em> <a href=x>c</a></p>";
+
+// the text of a page that is parsed from a reader, rendered from its tree, and read at once
+fn text_by<D: TextDecorator + Drop>(
+    alloc: Global,
+    config: Config<D>,
+    page: &[u8],
+    width: usize,
+) -> Result<String, Error> {
+    let mut input = Device::new(page);
+    let dom = config.parse_html(alloc, &mut input)?;
+    let tree = config.dom_to_render_tree(alloc, &dom)?;
+    let text = config.render_to_string(alloc, tree, width)?;
+    let mut again = Device::new(page);
+    if config.string_from_read(alloc, &mut again, width)? != text {
+        return Err(Error::Fail);
+    }
+    Ok(text)
+}
+
+#[test]
+fn decorators_mark_a_page(rt: HostRuntime) -> Result<(), Fail> {
+    let alloc = rt.alloc();
+    let plain_text = "a *b* [c][1]\n\n[1]: x\n";
+    let found = text_by(alloc, plain(alloc)?, MARKED, 20);
+    holds(&rt, is_answer(found, Ok(plain_text)), "plain");
+    let config = plain(alloc)?.link_footnotes(false);
+    let found = text_by(alloc, config, MARKED, 20);
+    holds(&rt, is_answer(found, Ok("a *b* [c]\n")), "no targets");
+    let config = Config::plain_no_decorate(alloc, ReferenceTable::basic(alloc)?);
+    let found = text_by(alloc, config, MARKED, 20);
+    holds(&rt, is_answer(found, Ok("a b [c]\n")), "no marks");
+    let config = Config::rich(alloc, ReferenceTable::basic(alloc)?);
+    let found = text_by(alloc, config, MARKED, 20);
+    holds(&rt, is_answer(found, Ok("a b c\n")), "rich");
+    let trivial = TrivialDecorator::new();
+    let config = Config::with_decorator(alloc, trivial, ReferenceTable::basic(alloc)?);
+    let found = text_by(alloc, config.do_decorate(alloc)?, MARKED, 20);
+    holds(&rt, is_answer(found, Ok("a *b* c\n")), "trivial, marked");
+    let mut input = Device::new(MARKED);
+    let table = ReferenceTable::basic(alloc)?;
+    let found = from_read_with_decorator(alloc, &mut input, 20, RichDecorator::new(), table);
+    holds(&rt, is_answer(found, Ok("a b c\n")), "read as rich");
+    Ok(())
+}
+
+#[test]
+fn narrow_pages_are_refused_or_pass_the_width(rt: HostRuntime) -> Result<(), Fail> {
+    let alloc = rt.alloc();
+    let nested = b"<ul><li><ul><li>x".as_slice();
+    let found = text_by(alloc, plain(alloc)?, nested, 2);
+    holds(&rt, is_answer(found, Err(Error::TooNarrow)), "narrow");
+    let found = text_by(alloc, plain(alloc)?.allow_width_overflow(), nested, 2);
+    holds(&rt, is_answer(found, Ok("* * x\n")), "overflow");
+    let quoted = b"<blockquote>aaaa</blockquote>".as_slice();
+    let found = text_by(alloc, plain(alloc)?, quoted, 4);
+    holds(
+        &rt,
+        is_answer(found, Err(Error::TooNarrow)),
+        "three columns",
+    );
+    let found = text_by(alloc, plain(alloc)?.min_wrap_width(2), quoted, 4);
+    holds(&rt, is_answer(found, Ok("> aa\n> aa\n")), "two columns");
+    Ok(())
+}
+
+#[test]
+fn a_page_comes_piece_by_piece(rt: HostRuntime) -> Result<(), Fail> {
+    let alloc = rt.alloc();
+    let config = plain(alloc)?.max_bytes(MARKED.len());
+    let mut page = Page::new(alloc, &config)?;
+    for byte in MARKED {
+        page.push(&[*byte])?;
+    }
+    let dom = page.finish()?;
+    let tree = config.dom_to_render_tree(alloc, &dom)?;
+    let lines = config.render_to_lines(alloc, tree, 20)?;
+    holds(&rt, lines.len() == 3, "three lines");
+    let width = match lines.first() {
+        Some(line) => line.width(),
+        None => 0,
+    };
+    holds(&rt, width == 12, "the first line");
+    let mut page = Page::new(alloc, &config)?;
+    page.push(MARKED)?;
+    let long = page.push(b"x");
+    holds(&rt, long == Err(Error::TooLong), "one byte too many");
+    let later = page.push(b"");
+    holds(&rt, later == Err(Error::Fail), "a piece behind a refusal");
+    let end = page.finish();
+    holds(
+        &rt,
+        end.err() == Some(Error::Fail),
+        "the end behind a refusal",
+    );
+    Ok(())
+}
+
+#[test]
+fn laws_hold_of_a_decorator() {
+    a_page_has_one_answer::<RichDecorator>();
+    a_page_has_one_text::<RichDecorator>();
+}
