@@ -1,0 +1,9 @@
+mod BestLemmas
+mod CutLemmas
+mod FairLemmas
+mod LevelLemmas
+mod ListLemmas
+mod OneLemmas
+mod RankLemmas
+mod TotalLemmas
+mod TurnLemmas

@@ -1,0 +1,4 @@
+pub mod Edges
+pub mod OneByOne
+pub mod RowWords
+pub mod Widths

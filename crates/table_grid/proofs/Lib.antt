@@ -1,0 +1,5 @@
+mod GridLemmas
+mod OneLemmas
+mod PartLemmas
+mod RankLemmas
+mod SizeLemmas

@@ -1,0 +1,39 @@
+//! From one row to the next.
+ghost use Rattle.std.specs.Prelude.{◌≡◌, ℕ, ◌<◌, All, IfOk, length, get_or};
+ghost use Rattle.std.specs.List.Sorted.{IsNonDecreasingBy};
+ghost use Rattle.table_places.specs.declared.cell.Cell.{Cell};
+ghost use Rattle.table_places.specs.Covers.{IsBetweenRows};
+ghost use Rattle.table_places.specs.Ends.{AreAbove, AreEnds, IsUpTo, HasNextCovers};
+
+use crate::cell::{Cell, PlacedCell};
+use crate::covers::{Cover, merge_covers};
+use crate::ends::{RowEnd, ended_above};
+use crate::without::covers_without;
+use std::alloc::{AllocError, Global};
+
+/// What the cells so far take of the next row, by what they take of the last one (`covers` those from above, `own` its
+/// own) without those whose row spans end, and how many ends are passed then.
+pub(crate) fn next_covers(
+    alloc: Global,
+    cells: &[Cell],
+    ends: &[RowEnd],
+    over: usize,
+    covers: &[Cover],
+    own: &[Cover],
+    placed: &[PlacedCell],
+    row: usize,
+) -> Result<(Vec<Cover>, usize), AllocError>
+    requires rows { IsNonDecreasingBy (λ c. c.row) cells.now }
+    requires some { All (λ c. 0 < c.colspan) cells.now }
+    requires tall { All (λ c. 0 < c.rowspan) cells.now }
+    requires ends { AreEnds cells.now ends.now }
+    requires left { length placed.now < length cells.now }
+    requires row { (d : Cell) → row ≡ (get_or cells.now (length placed.now) d).row }
+    requires state { IsUpTo cells.now ends.now over covers.now own.now placed.now }
+    ensures { IfOk result (λ r. HasNextCovers cells.now ends.now r.1 row r.0.items placed.now) }
+{
+    let taken = merge_covers(alloc, covers, own)?;
+    let (ended, passed) = ended_above(alloc, ends, over, placed, row as u128)?;
+    let above = covers_without(alloc, taken.as_slice(), ended.as_slice())?;
+    Ok((above, passed))
+}
