@@ -36,20 +36,25 @@ def run(program, case):
         return usage.ru_utime + usage.ru_stime, usage.ru_maxrss, output.read().decode()
 
 
+def pages():
+    """The pages, each with its name."""
+    for name, (repeated, behind, before) in PAGES.items():
+        counts = (2500, 5000, 10000) if name.startswith("paragraphs") else (25000, 50000, 100000)
+        for count in counts:
+            yield f"{count:,} {name}", before + repeated * count + behind
+
+
 def main():
     if len(sys.argv) != 2:
         sys.exit(__doc__)
     resource.setrlimit(resource.RLIMIT_STACK, (1 << 20, 1 << 20))
     print("| page | bytes | seconds | memory | came to |\n|---|---|---|---|---|")
-    for name, (repeated, behind, before) in PAGES.items():
-        counts = (2500, 5000, 10000) if name.startswith("paragraphs") else (25000, 50000, 100000)
-        for count in counts:
-            page = before + repeated * count + behind
-            runs = [run(sys.argv[1], f"plain\t72\t\t{page}\n") for _ in range(3)]
-            seconds, memory = min(r[0] for r in runs), min(r[1] for r in runs)
-            lines = runs[0][2].splitlines()
-            came = f"{len(lines) - 1:,} lines" if lines[0] != "TooNarrow" else "`TooNarrow`"
-            print(f"| {count:,} {name} | {len(page):,} | {seconds:.2f} | {memory / 1000:.0f} MB | {came} |")
+    for name, page in pages():
+        runs = [run(sys.argv[1], f"plain\t72\t\t{page}\n") for _ in range(3)]
+        seconds, memory = min(r[0] for r in runs), min(r[1] for r in runs)
+        lines = runs[0][2].splitlines()
+        came = f"{len(lines) - 1:,} lines" if lines[0] != "TooNarrow" else "`TooNarrow`"
+        print(f"| {name} | {len(page):,} | {seconds:.2f} | {memory / 1000:.0f} MB | {came} |")
 
 
 if __name__ == "__main__":

@@ -13,7 +13,7 @@ import subprocess
 import sys
 import tempfile
 
-from page_lines import PAGES
+from page_lines import pages
 
 
 def run(program, page):
@@ -43,10 +43,8 @@ def main():
         sys.exit(__doc__)
     resource.setrlimit(resource.RLIMIT_STACK, (1 << 20, 1 << 20))
     print("| page | bytes | seconds | a second | memory | came to |\n|---|---|---|---|---|---|")
-    for name, (repeated, behind, before) in PAGES.items():
-        counts = (2500, 5000, 10000) if name.startswith("paragraphs") else (25000, 50000, 100000)
-        for count in counts:
-            tell(sys.argv[1], f"{count:,} {name}", (before + repeated * count + behind).encode())
+    for name, page in pages():
+        tell(sys.argv[1], name, page.encode())
     maker = os.path.join(os.path.dirname(os.path.abspath(__file__)), "make_tokens.py")
     for size in ("1", "2", "4", "8"):
         page = subprocess.run([sys.executable, maker, "markup", size], capture_output=True, check=True).stdout
