@@ -1,2 +1,3 @@
+mod AcrossLemmas
 mod FitLemmas
 mod ShareLemmas

@@ -1,7 +1,10 @@
 //! Laws of shares: each is the contract of a function that does nothing.
-ghost use Rattle.std.specs.Prelude.{ℕ, ◌+◌, ◌-◌, ◌<◌, ◌≤◌, List, All, length, sum};
+ghost use Rattle.std.specs.Prelude.{ℕ, ◌+◌, ◌-◌, ◌<◌, ◌≤◌, List, All, IfSome, length, sum};
 ghost use Rattle.table_grid.specs.declared.columns.Column.{Column};
+ghost use Rattle.column_shares.specs.Across.{FitAcross, widths_across};
 ghost use Rattle.column_shares.specs.Shares.{AreSized, least_width, share_of, shares_of, table_asks, total_of};
+
+use column_widths::{columns_have_widths, widths_fit_the_width};
 
 /// A column's share is at least its least and at most its size.
 pub fn shares_stand_between_least_and_size()
@@ -22,3 +25,11 @@ pub fn tables_ask_for_their_least()
     ensures { (columns : List Column) → All (λ c. c.least ≤ c.size) columns
         → (table_asks columns).least ≤ (table_asks columns).size }
 {}
+
+/// Where rows lie across, each column has a width, and these fit with separators between them.
+pub fn widths_across_fit()
+    ensures { (columns : List Column) (width : ℕ) → IfSome (widths_across columns width) (FitAcross columns width) }
+{
+    columns_have_widths();
+    widths_fit_the_width();
+}

@@ -7,6 +7,6 @@ mod shares;
 
 pub use laws::{
     shares_pass_the_width_by_at_most_the_width, shares_stand_between_least_and_size,
-    tables_ask_for_their_least,
+    tables_ask_for_their_least, widths_across_fit,
 };
 pub use shares::{asked_by_table, widths_across};

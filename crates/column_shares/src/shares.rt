@@ -1,10 +1,11 @@
 //! Shares and widths of columns.
-ghost use Rattle.std.specs.Prelude.{◌≡◌, ◌<◌, IfOk, MatchOption};
+ghost use Rattle.std.specs.Prelude.{◌≡◌, ◌<◌, IfOk, MatchOption, option_map};
 ghost use Rattle.column_widths.specs.Widths.{IsColumnWidths, columns_of as paired};
+ghost use Rattle.column_shares.specs.Across.{widths_across as the_widths};
 ghost use Rattle.column_shares.specs.Shares.{AreSized, least_width, leasts_of, share_of, shares_of, table_asks};
 ghost use Rattle.column_shares.specs.Shares.{total_of};
 
-use column_widths::column_widths;
+use column_widths::{column_widths, columns_have_one_list_of_widths, columns_have_widths};
 use std::alloc::{AllocError, Global};
 use table_grid::Column;
 
@@ -66,7 +67,8 @@ pub fn widths_across(
     width: usize,
 ) -> Result<Option<Vec<usize>>, AllocError>
     requires sized { AreSized columns.now }
-    ensures { IfOk result (λ r. MatchOption r (width < least_width columns.now)
+    ensures exact { IfOk result (λ r. option_map (λ w. w.items) r ≡ the_widths columns.now width) }
+    ensures across { IfOk result (λ r. MatchOption r (width < least_width columns.now)
         (λ w. IsColumnWidths (paired (leasts_of columns.now) (shares_of columns.now width)) width w.items)) }
 {
     if total_least(columns) > width as u128 {
@@ -80,5 +82,7 @@ pub fn widths_across(
         shares.push(share(*column, width, total))?;
     }
     let widths = column_widths(alloc, leasts.as_slice(), shares.as_slice(), width)?;
+    columns_have_widths();
+    columns_have_one_list_of_widths();
     Ok(Some(widths))
 }

@@ -1,9 +1,11 @@
 mod BestLemmas
 mod CutLemmas
 mod FairLemmas
+mod FirstLemmas
 mod LevelLemmas
-mod ListLemmas
+pub mod ListLemmas
 mod OneLemmas
 mod RankLemmas
 mod TotalLemmas
 mod TurnLemmas
+mod WidthLemmas

@@ -3,6 +3,7 @@ ghost use Rattle.std.specs.Prelude.{◌≡◌, ℕ, ◌+◌, ◌<◌, ◌≤◌,
 ghost use Rattle.column_widths.specs.declared.column.ColumnShare.{ColumnShare};
 ghost use Rattle.column_widths.specs.OneByOne.{AreTurns, HasTurns, passed_by};
 ghost use Rattle.column_widths.specs.Widths.{IsColumnWidths, column_at, least_of, separators, share_of};
+ghost use Rattle.column_widths.specs.TheWidths.{widths_of};
 
 /// Columns have one list of widths.
 pub fn columns_have_one_list_of_widths()
@@ -37,4 +38,10 @@ pub fn one_at_a_time_comes_to_the_widths()
         → All (λ c. c.least ≤ c.share) columns → sum_by least_of columns + separators columns ≤ width
         → IsColumnWidths columns width widths → AreTurns columns (passed_by columns width) turns
         → turns (passed_by columns width) ≡ widths }
+{}
+
+/// Columns whose leasts fit have widths: those that a function gives.
+pub fn columns_have_widths()
+    ensures { (columns : List ColumnShare) (width : ℕ) → sum_by least_of columns + separators columns ≤ width
+        → IsColumnWidths columns width (widths_of columns width) }
 {}

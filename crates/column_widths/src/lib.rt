@@ -11,7 +11,7 @@ mod sharing;
 
 pub use column::ColumnShare;
 pub use laws::{
-    columns_have_one_list_of_widths, one_at_a_time_comes_to_the_widths, widths_fit_the_width,
-    widths_stand_between_least_and_share,
+    columns_have_one_list_of_widths, columns_have_widths, one_at_a_time_comes_to_the_widths,
+    widths_fit_the_width, widths_stand_between_least_and_share,
 };
 pub use sharing::column_widths;

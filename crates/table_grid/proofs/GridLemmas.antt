@@ -68,7 +68,7 @@ map_rises f n xs e h i j d le lt =
     let m = length-map xs f in
     rw (get_or-map f xs i e d (omega arith), get_or-map f xs j e d (omega arith)) (h i j e le (omega arith))
 
-map_rose : {X Y : Type 0} (f : X → Y) (n : Y → ℕ) (xs : List X) → IsNonDecreasingBy n (map f xs) →
+pub map_rose : {X Y : Type 0} (f : X → Y) (n : Y → ℕ) (xs : List X) → IsNonDecreasingBy n (map f xs) →
     IsNonDecreasingBy (λ x. n (f x)) xs
 map_rose f n xs h i j d le lt =
     let m = length-map xs f in

@@ -3,3 +3,4 @@ mod OneLemmas
 mod PartLemmas
 mod RankLemmas
 mod SizeLemmas
+mod TheGridLemmas

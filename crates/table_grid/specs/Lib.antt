@@ -1,2 +1,3 @@
 pub mod Grid
 pub mod RowWords
+pub mod TheGrid

@@ -1,12 +1,14 @@
 //! The grid of a table is formed.
-ghost use Rattle.std.specs.Prelude.{◌<◌, ◌≤◌, All, IfOk};
+ghost use Rattle.std.specs.Prelude.{◌≡◌, ◌<◌, ◌≤◌, All, IfOk};
 ghost use Rattle.std.specs.List.Sorted.{IsNonDecreasingBy};
 ghost use Rattle.table_grid.specs.Grid.{IsGrid};
+ghost use Rattle.table_grid.specs.TheGrid.{grid as the_grid};
 
 use crate::columns::{columns_left, columns_of};
 use crate::edges::{edges_of, span_cells};
 use crate::grid::Grid;
 use crate::kept::{gaps_left, grid_cells, rows_left, spans_left};
+use crate::laws::{cells_have_a_grid, one_grid};
 use std::alloc::{AllocError, Global};
 use table_places::{Cell, Places, place_cells};
 
@@ -19,6 +21,8 @@ pub fn grid_of(alloc: Global, cells: &[Cell]) -> Result<Grid, AllocError>
     requires tall { All (λ c. 0 < c.rowspan) cells.now }
     requires content { All (λ c. c.least ≤ c.size) cells.now }
     ensures grid { IfOk result (λ g. IsGrid cells.now g.columns.items g.cells.items g.gaps.items) }
+    ensures exact { IfOk result (λ g. (g.columns.items ≡ (the_grid cells.now).columns)
+        × ((g.cells.items ≡ (the_grid cells.now).cells) × (g.gaps.items ≡ (the_grid cells.now).gaps))) }
     ensures sized { IfOk result (λ g. All (λ c. 0 < c.size) g.columns.items
         × All (λ c. c.least ≤ c.size) g.columns.items) }
 {
@@ -34,6 +38,8 @@ pub fn grid_of(alloc: Global, cells: &[Cell]) -> Result<Grid, AllocError>
     let cells = grid_cells(alloc, spans.as_slice(), rows.as_slice())?;
     let gaps = gaps_left(alloc, gaps.as_slice(), edges.as_slice(), columns.as_slice())?;
     let columns = columns_left(alloc, columns.as_slice())?;
+    cells_have_a_grid();
+    one_grid();
     Ok(Grid {
         columns,
         cells,

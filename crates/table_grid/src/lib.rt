@@ -14,5 +14,5 @@ pub use columns::Column;
 pub use edges::SpannedCell;
 pub use forming::grid_of;
 pub use grid::{Grid, GridCell, GridGap};
-pub use laws::one_grid;
+pub use laws::{cells_have_a_grid, columns_of_a_grid_are_sized, one_grid};
 pub use table_places::Cell;

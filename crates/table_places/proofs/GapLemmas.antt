@@ -127,7 +127,7 @@ no_gaps = record {
   all = λ row left right b. let lt = b.lt in absurd (omega arith);
 }
 
-pairs_append : {X : Type 0} (R : X → X → Type 0) (xs ys : List X) → AllPairs R xs → AllPairs R ys →
+pub pairs_append : {X : Type 0} (R : X → X → Type 0) (xs ys : List X) → AllPairs R xs → AllPairs R ys →
     ((i j : ℕ) (d : X) → i < length xs → j < length ys → R (get_or xs i d) (get_or ys j d)) →
     AllPairs R (xs ++ ys)
 pairs_append R xs ys hx hy cross i j d lt j_lt = by (nat_lt i (length xs)) (nat_lt j (length xs)) refl refl

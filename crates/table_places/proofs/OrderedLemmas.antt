@@ -3,10 +3,10 @@ use Rattle.std.proofs.Common.{◌≡◌, ℕ, zero, suc, ◌<◌, List, [], ◌�
 use Rattle.std.proofs.Common.{inl, inr, ◌⊎◌, subst, sym, ap, refl, ◌∙◌, arith, Contains}
 use Rattle.std.specs.List.{AllPairs}
 
-contains_here : {X : Type 0} (x : X) (xs : List X) → Contains (x ∷ xs) x
+pub contains_here : {X : Type 0} (x : X) (xs : List X) → Contains (x ∷ xs) x
 contains_here x xs = (zero, omega arith, refl)
 
-contains_there : {X : Type 0} (x z : X) (xs : List X) → Contains xs z → Contains (x ∷ xs) z
+pub contains_there : {X : Type 0} (x z : X) (xs : List X) → Contains xs z → Contains (x ∷ xs) z
 contains_there x z xs h = (suc h.0, (let lt = h.1 in omega arith), h.2)
 
 cases_at : {X : Type 0} (x z : X) (xs : List X) (k : ℕ) → k < length (x ∷ xs) → get_or (x ∷ xs) k z ≡ z →
@@ -14,7 +14,7 @@ cases_at : {X : Type 0} (x z : X) (xs : List X) (k : ℕ) → k < length (x ∷ 
 cases_at x z xs zero lt e = inl e
 cases_at x z xs (suc k) lt e = inr (k, omega arith, e)
 
-contains_cases : {X : Type 0} (x z : X) (xs : List X) → Contains (x ∷ xs) z → (x ≡ z) ⊎ Contains xs z
+pub contains_cases : {X : Type 0} (x z : X) (xs : List X) → Contains (x ∷ xs) z → (x ≡ z) ⊎ Contains xs z
 contains_cases x z xs h = cases_at x z xs h.0 h.1 h.2
 
 module _ {X : Type 0} (R : X → X → Type 0) (one_way : (x y : X) → R x y → R y x → ⊥) where

@@ -7,6 +7,7 @@ ghost use Rattle.table_places.specs.declared.gaps.Gap.{Gap};
 ghost use Rattle.table_places.specs.Gaps.{AreGaps, IsVacant};
 ghost use Rattle.table_places.specs.PlaceLaws.{HasCellUpTo, HasGapUpTo, StandsIn, Takes, placed_at};
 ghost use Rattle.table_places.specs.Places.{ArePlaced};
+ghost use Rattle.table_places.specs.Placing.{gaps_of, places_of};
 
 /// Cells have one list of places, and one list of gaps.
 pub fn cells_have_one_place()
@@ -39,4 +40,11 @@ pub fn rows_have_no_hole()
         → (k row column : ℕ) → k < length placed → StandsIn row (placed_at placed k)
         → column + 1 ≡ (placed_at placed k).left
         → HasCellUpTo placed row (column + 1) ⊎ HasGapUpTo placed row (column + 1) }
+{}
+
+/// Cells have places, and gaps: those that two functions give.
+pub fn cells_have_places()
+    ensures places { (cells : List Cell) → ArePlaced cells (places_of cells) }
+    ensures gaps { (placed : List PlacedCell) → IsNonDecreasingBy (λ p. p.cell.row) placed
+        → AreGaps placed (gaps_of placed) }
 {}

@@ -17,6 +17,7 @@ mod without;
 pub use cell::{Cell, PlacedCell};
 pub use gaps::Gap;
 pub use laws::{
-    cells_begin_behind_cells, cells_have_one_place, cells_share_no_slot, rows_have_no_hole,
+    cells_begin_behind_cells, cells_have_one_place, cells_have_places, cells_share_no_slot,
+    rows_have_no_hole,
 };
 pub use places::{Places, place_cells};

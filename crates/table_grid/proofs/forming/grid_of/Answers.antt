@@ -6,6 +6,7 @@ use Rattle.table_grid.specs.declared.edges.SpannedCell.{SpannedCell}
 use Rattle.table_grid.specs.declared.columns.Column.{Column}
 use Rattle.table_grid.specs.Grid.{AreEdges, span_in, span_left, column_at, columns_between, has_size, rows_with_cells}
 use Rattle.table_grid.specs.Grid.{grid_cell, gap_left, IsGrid}
+use Rattle.table_grid.specs.TheGrid.{grid}
 use Rattle.table_grid.proofs.GridLemmas.{spanned_some, spanned_within, rows_rise, gaps_right, gaps_left_within}
 use Rattle.table_grid.proofs.GridLemmas.{put_together}
 use Rattle.table_grid.proofs.SizeLemmas.{grid_sized}
@@ -117,8 +118,12 @@ returns c =
     ap (λ (xs : List Column). map (gap_left c.in_ok-edges.edges.items xs) c.as_slice-10.result.now)
     c.as_slice-12.ensures.value ∙
     ap (map (gap_left c.in_ok-edges.edges.items c.in_ok-columns.columns.items)) c.as_slice-10.ensures.value) in
+    let same = c.one_grid.ensures c.args.cells.now c.in_ok-columns-2.columns.items (grid c.args.cells.now).columns
+    c.in_ok-cells.cells.items (grid c.args.cells.now).cells c.in_ok-gaps.gaps.items (grid c.args.cells.now).gaps whole
+    (c.cells_have_a_grid.ensures c.args.cells.now c.requires.rows) in
     record {
       grid = whole;
+      exact = (same.0, (same.1, same.2));
       sized = grid_sized c.args.cells.now c.in_ok-columns-2.columns.items c.in_ok-cells.cells.items
           c.in_ok-gaps.gaps.items c.requires.some c.requires.content whole;
     }
