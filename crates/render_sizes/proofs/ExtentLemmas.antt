@@ -7,7 +7,7 @@ use Rattle.std.proofs.Math.ListN.{set}
 use Rattle.std.proofs.Math.Seq.{drop-append_seam}
 use Rattle.render_values.specs.Arena.{IsFlat, behind, first, flat, values_of}
 use Rattle.render_sizes.specs.Extents.{Measure, beside, capped, extent, extent_by, extent_of, extents, first_extent}
-use Rattle.render_sizes.specs.Extents.{nothing_wide, number}
+use Rattle.render_sizes.specs.Extents.{measured, nothing_wide, number}
 use Rattle.render_values.specs.Values.{Values, count, joined, none, value}
 use Rattle.render_sizes.specs.declared.extent.Extent.{Extent}
 use Rattle.render_values.specs.declared.node.RenderNode.{RenderNode}
@@ -158,6 +158,11 @@ pub left_behind : (m : Measure) (rest : List RenderNode) (x : RenderNode) (xs : 
     → rest ≡ x ∷ xs → IsFlat rest → left ≡ extents m (values_of rest) → drop 1 left ≡ extents m (values_of xs)
 left_behind m rest x xs left e h same = ap (drop 1) (left_is m rest x xs left e h same)
 
+pub left_next : (m : Measure) (rest : List RenderNode) (x : RenderNode) (xs : List RenderNode)
+    (left next : List Extent) → rest ≡ x ∷ xs → IsFlat rest → left ≡ extents m (values_of rest) → next ≡ drop 1 left
+    → next ≡ extents m (values_of xs)
+left_next m rest x xs left next e h same is = is ∙ left_behind m rest x xs left e h same
+
 -- one value more
 pub sum_on : (m : Measure) (rest : List RenderNode) (x : RenderNode) (xs : List RenderNode) (left : List Extent)
     (d one sum new all : Extent) → rest ≡ x ∷ xs → IsFlat rest → left ≡ extents m (values_of rest)
@@ -180,14 +185,12 @@ first_is m nodes x xs e h =
     ∙ sym (ap (λ l. first_extent m (values_of l)) e)
 
 pub first_by : {E : Type 0} (r : Result Extent E) (m : Measure) (nodes : List RenderNode) (x : RenderNode)
-    (xs inner : List RenderNode) (inside : Extent) → nodes ≡ x ∷ xs → IsFlat nodes → inner ≡ take x.below xs
-    → inside ≡ extent m (values_of inner)
-    → IfOk r (λ e. e ≡ extent_by m x.head.info inside (number (values_of inner)))
+    (xs inner : List RenderNode) → nodes ≡ x ∷ xs → IsFlat nodes → inner ≡ take x.below xs
+    → IfOk r (λ e. e ≡ extent_by m x.head.info (measured m (values_of inner)) (number (values_of inner)))
     → IfOk r (λ e. e ≡ first_extent m (values_of nodes))
-first_by (Err e) m nodes x xs inner inside is h cut sum done = tt
-first_by (Ok v) m nodes x xs inner inside is h cut sum done =
-    done ∙ (ap (λ i. extent_by m x.head.info i (number (values_of inner))) sum
-    ∙ (ap (λ l. extent_of m x.head (values_of l)) cut ∙ first_is m nodes x xs is h))
+first_by (Err e) m nodes x xs inner is h cut done = tt
+first_by (Ok v) m nodes x xs inner is h cut done =
+    done ∙ (ap (λ l. extent_of m x.head (values_of l)) cut ∙ first_is m nodes x xs is h)
 
 drop_set : (i : ℕ) (es : List Extent) (e : Extent) → i < length es → drop i (set es i e) ≡ e ∷ drop (suc i) es
 drop_set i [] e h = absurd (omega arith)
@@ -277,3 +280,14 @@ number_below nodes rest x xs count most e h all so_far =
     let c = ap length h in
     let d = ap (λ l. number (values_of l)) e in
     omega arith
+
+-- ---- of a tree
+
+pub same_length : (m : Measure) (nodes : List RenderNode) (es : List Extent) → IsFlat nodes
+    → es ≡ extents m (values_of nodes) → length es ≡ length nodes
+same_length m nodes es h same =
+    ap length same ∙ (length_extents m (values_of nodes) ∙ (sym (length_flat (values_of nodes)) ∙ ap length h))
+
+pub of_tree : (m : Measure) (tree : Values) (nodes : List RenderNode) → nodes ≡ flat tree
+    → extents m (values_of nodes) ≡ extents m tree
+of_tree m tree nodes e = ap (λ l. extents m (values_of l)) e ∙ ap (extents m) (read_back tree)

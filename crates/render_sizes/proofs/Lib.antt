@@ -1,3 +1,4 @@
 pub mod ExtentLemmas
+pub mod RowLemmas
 pub mod SizeLemmas
-pub mod TableLemmas
+pub mod SoundLemmas

@@ -1,2 +1,4 @@
 pub mod Extents
+pub mod RowCells
+pub mod Sound
 pub mod TextSizes

@@ -1,14 +1,15 @@
 //! How many columns a value takes.
 ghost use Rattle.std.specs.Prelude.{◌≡◌, IfOk, max, min};
-ghost use Rattle.render_sizes.specs.Extents.{beside, extent_by, measure_of, nothing_wide, number};
-ghost use Rattle.render_sizes.specs.Extents.{of_columns, prefixed};
+ghost use Rattle.render_sizes.specs.Extents.{beside, extent, extent_by, extents, measure_of, measured};
+ghost use Rattle.render_sizes.specs.Extents.{nothing_wide, number, of_columns, prefixed};
 ghost use Rattle.render_values.specs.Arena.{IsFlat, values_of};
 
 use crate::prefixes::Prefixes;
 use crate::sizes::number;
+use crate::tables::extent_of_table;
 use crate::texts::text_size;
 use render_values::{RenderInfo, RenderNode};
-use std::alloc::AllocError;
+use std::alloc::{AllocError, Global};
 
 /// How many columns a value takes.
 #[derive(Clone, Copy, Debug, PartialEq, Eq)]
@@ -72,16 +73,21 @@ fn of_columns(min_wrap: usize, columns: usize) -> Extent
     }
 }
 
-/// Of a value by what is measured in it, and the nodes of that. The error is want of memory alone.
+/// Of a value by what is measured in it: together, and of each node. The error is want of memory alone.
 pub(crate) fn extent_by<P: Prefixes>(
+    alloc: Global,
     prefixes: &P,
     min_wrap: usize,
     info: &RenderInfo,
     inside: Extent,
     nodes: &[RenderNode],
+    sizes: &[Extent],
 ) -> Result<Extent, AllocError>
-    requires { IsFlat nodes.now }
-    ensures { IfOk result (λ e. e ≡ extent_by (measure_of min_wrap (P.columns prefixes.now)) info.now inside
+    requires flat { IsFlat nodes.now }
+    requires same { sizes.now ≡ extents (measure_of min_wrap (P.columns prefixes.now)) (values_of nodes.now) }
+    requires sum { inside ≡ extent (measure_of min_wrap (P.columns prefixes.now)) (values_of nodes.now) }
+    ensures { IfOk result (λ e. e ≡ extent_by (measure_of min_wrap (P.columns prefixes.now)) info.now
+        (measured (measure_of min_wrap (P.columns prefixes.now)) (values_of nodes.now))
         (number (values_of nodes.now))) }
 {
     match info {
@@ -104,6 +110,7 @@ pub(crate) fn extent_by<P: Prefixes>(
             inside,
         )),
         RenderInfo::Details => Ok(prefixed(2, inside)),
+        RenderInfo::Table => extent_of_table(alloc, prefixes, min_wrap, nodes, sizes),
         _ => Ok(inside),
     }
 }

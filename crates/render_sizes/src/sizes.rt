@@ -1,16 +1,15 @@
 //! The columns of each value of a tree.
-ghost use Rattle.std.specs.Prelude.{◌≡◌, ◌<◌, ◌≤◌, ◌+◌, IfOk, Option, None, Some, drop, length, option_map, take};
-ghost use Rattle.std.specs.Prelude.{if◌then◌else◌};
+ghost use Rattle.std.specs.Prelude.{◌≡◌, ◌<◌, ◌≤◌, ◌+◌, IfOk, drop, length, take};
 ghost use Rattle.render_values.specs.Arena.{IsFlat, values_of};
-ghost use Rattle.render_sizes.specs.Extents.{extent, extents, first_extent, has_tables, measure_of, number};
+ghost use Rattle.render_sizes.specs.Extents.{extent, extents, first_extent, measure_of, number};
 
 use crate::extent::{Extent, beside, extent_by, nothing_wide};
 use crate::prefixes::Prefixes;
-use crate::tables::has_tables;
 use render_values::{RenderNode, RenderTree};
 use std::alloc::{AllocError, Global};
 
-fn nodes_behind(nodes: &[RenderNode], count: usize) -> &[RenderNode]
+/// The nodes behind so many.
+pub(crate) fn nodes_behind(nodes: &[RenderNode], count: usize) -> &[RenderNode]
     requires { count ≤ length nodes.now }
     ensures { result.now ≡ drop count nodes.now }
 {
@@ -31,7 +30,8 @@ fn first_extents(extents: &[Extent], count: usize) -> &[Extent]
     &extents[..count]
 }
 
-fn extents_behind(extents: &[Extent], count: usize) -> &[Extent]
+/// The extents behind so many.
+pub(crate) fn extents_behind(extents: &[Extent], count: usize) -> &[Extent]
     requires { count ≤ length extents.now }
     ensures { result.now ≡ drop count extents.now }
 {
@@ -86,6 +86,7 @@ fn together<P: Prefixes>(
 
 // of a value whose nodes behind it are measured
 fn measured_first<P: Prefixes>(
+    alloc: Global,
     prefixes: &P,
     min_wrap: usize,
     nodes: &[RenderNode],
@@ -101,13 +102,10 @@ fn measured_first<P: Prefixes>(
     match nodes.split_first() {
         Some((first, others)) => {
             let inner = first_nodes(others, first.below);
-            let inside = together(
-                prefixes,
-                min_wrap,
-                inner,
-                first_extents(measured, first.below),
-            );
-            extent_by(prefixes, min_wrap, &first.head.info, inside, inner)
+            let sizes = first_extents(measured, first.below);
+            let inside = together(prefixes, min_wrap, inner, sizes);
+            let info = &first.head.info;
+            extent_by(alloc, prefixes, min_wrap, info, inside, inner, sizes)
         }
         None => Ok(nothing_wide()),
     }
@@ -129,6 +127,7 @@ fn all_extents<P: Prefixes>(
     'nodes: while at > 0 {
         at -= 1;
         let one = measured_first(
+            alloc,
             prefixes,
             min_wrap,
             nodes_behind(nodes, at),
@@ -139,20 +138,14 @@ fn all_extents<P: Prefixes>(
     Ok(all)
 }
 
-/// The columns of each node's value, in the order of the tree's nodes; none where a table stands in the tree. The error
-/// is want of memory alone.
+/// The columns of each node's value, in the order of the tree's nodes. The error is want of memory alone.
 pub fn measured<P: Prefixes>(
     alloc: Global,
     prefixes: &P,
     min_wrap: usize,
     tree: &RenderTree,
-) -> Result<Option<Vec<Extent>>, AllocError>
-    ensures { IfOk result (λ all. option_map (λ v. v.items) all ≡ (if has_tables tree.now then None
-        else Some (extents (measure_of min_wrap (P.columns prefixes.now)) tree.now))) }
+) -> Result<Vec<Extent>, AllocError>
+    ensures { IfOk result (λ all. all.items ≡ extents (measure_of min_wrap (P.columns prefixes.now)) tree.now) }
 {
-    let nodes = tree.nodes();
-    if has_tables(nodes) {
-        return Ok(None);
-    }
-    Ok(Some(all_extents(alloc, prefixes, min_wrap, nodes)?))
+    all_extents(alloc, prefixes, min_wrap, tree.nodes())
 }

@@ -9,8 +9,8 @@ pub first_nodes-inner-requires : goal.first_nodes-inner-requires
 first_nodes-inner-requires g c =
     below_fits c.in-Some.first.now c.in-Some.others.now (subst IsFlat c.in-Some.ensures.cases.0 c.requires.flat)
 
-pub first_extents-requires : goal.first_extents-requires
-first_extents-requires g c =
+pub first_extents-sizes-requires : goal.first_extents-sizes-requires
+first_extents-sizes-requires g c =
     let m = measure_of c.args.min_wrap (g.P.Prefixes.columns c.args.prefixes.now) in
     behind_fits m c.in-Some.first.now c.in-Some.others.now c.args.measured.now
     (subst IsFlat c.in-Some.ensures.cases.0 c.requires.flat)
@@ -25,22 +25,34 @@ together-inside-requires-clause-flat g c =
 pub together-inside-requires-clause-same : goal.together-inside-requires-clause-same
 together-inside-requires-clause-same g c =
     let m = measure_of c.args.min_wrap (g.P.Prefixes.columns c.args.prefixes.now) in
-    c.first_extents.ensures
+    c.first_extents-sizes.ensures
     ∙ (inner_extents m c.in-Some.first.now c.in-Some.others.now c.args.measured.now
     (subst IsFlat c.in-Some.ensures.cases.0 c.requires.flat)
     (measured_behind m c.args.nodes.now c.in-Some.first.now c.in-Some.others.now c.args.measured.now
     c.in-Some.ensures.cases.0 c.requires.same)
     ∙ ap (λ l. extents m (values_of l)) (sym c.first_nodes-inner.ensures))
 
+pub extent_by-requires-clause-flat : goal.extent_by-requires-clause-flat
+extent_by-requires-clause-flat g c =
+    subst IsFlat (sym c.first_nodes-inner.ensures)
+    (inner_flat c.in-Some.first.now c.in-Some.others.now (subst IsFlat c.in-Some.ensures.cases.0 c.requires.flat))
+
+pub extent_by-requires-clause-same : goal.extent_by-requires-clause-same
+extent_by-requires-clause-same g c =
+    let m = measure_of c.args.min_wrap (g.P.Prefixes.columns c.args.prefixes.now) in
+    c.first_extents-sizes.ensures
+    ∙ (inner_extents m c.in-Some.first.now c.in-Some.others.now c.args.measured.now
+    (subst IsFlat c.in-Some.ensures.cases.0 c.requires.flat)
+    (measured_behind m c.args.nodes.now c.in-Some.first.now c.in-Some.others.now c.args.measured.now
+    c.in-Some.ensures.cases.0 c.requires.same)
+    ∙ ap (λ l. extents m (values_of l)) (sym c.first_nodes-inner.ensures))
+
+pub extent_by-requires-clause-sum : goal.extent_by-requires-clause-sum
+extent_by-requires-clause-sum g c = c.together-inside.ensures
+
 pub returns-in-Some : goal.returns-in-Some
 returns-in-Some g c =
     let m = measure_of c.args.min_wrap (g.P.Prefixes.columns c.args.prefixes.now) in
-    first_by c.extent_by.result m
-    c.args.nodes.now c.in-Some.first.now c.in-Some.others.now c.first_nodes-inner.result.now
-    c.together-inside.result c.in-Some.ensures.cases.0 c.requires.flat c.first_nodes-inner.ensures
-    c.together-inside.ensures c.extent_by.ensures
-
-pub extent_by-requires : goal.extent_by-requires
-extent_by-requires g c =
-    subst IsFlat (sym c.first_nodes-inner.ensures)
-    (inner_flat c.in-Some.first.now c.in-Some.others.now (subst IsFlat c.in-Some.ensures.cases.0 c.requires.flat))
+    first_by c.extent_by.result m c.args.nodes.now c.in-Some.first.now c.in-Some.others.now
+    c.first_nodes-inner.result.now c.in-Some.ensures.cases.0 c.requires.flat c.first_nodes-inner.ensures
+    c.extent_by.ensures

@@ -3,7 +3,7 @@ use Rattle.render_values.specs.Arena.{IsFlat, values_of}
 use Rattle.render_sizes.specs.Extents.{beside, extent, extents, measure_of, nothing_wide}
 use Rattle.render_sizes.specs.declared.extent.Extent.{Extent}
 use Rattle.render_values.proofs.ArenaLemmas.{below_fits, next_flat}
-use Rattle.render_sizes.proofs.ExtentLemmas.{behind_fits, first_beside, left_behind, left_some, next_extents}
+use Rattle.render_sizes.proofs.ExtentLemmas.{behind_fits, first_beside, left_next, left_some, next_extents}
 use Rattle.render_sizes.proofs.ExtentLemmas.{sum_done, sum_fits, sum_on}
 use Rattle.render_sizes.proofs.sizes.together.Goals as goal
 
@@ -35,8 +35,9 @@ extents_behind-left-requires g c =
     let m = measure_of c.args.min_wrap (g.P.Prefixes.columns c.args.prefixes.now) in
     behind_fits m c.in-Some.first.now c.in-Some.others.now c.extents_behind.result.now
     (subst IsFlat c.in-Some.ensures.cases.0 c.values.invariant.flat)
-    (c.extents_behind.ensures ∙ left_behind m c.values.rest.now c.in-Some.first.now c.in-Some.others.now
-    c.values.left.now c.in-Some.ensures.cases.0 c.values.invariant.flat c.values.invariant.same)
+    (left_next m c.values.rest.now c.in-Some.first.now c.in-Some.others.now c.values.left.now
+    c.extents_behind.result.now c.in-Some.ensures.cases.0 c.values.invariant.flat c.values.invariant.same
+    c.extents_behind.ensures)
 
 pub nodes_behind-rest-requires : goal.nodes_behind-rest-requires
 nodes_behind-rest-requires g c =
@@ -53,9 +54,9 @@ values-preserved g c =
       same = c.extents_behind-left.ensures
           ∙ (next_extents m c.in-Some.first.now c.in-Some.others.now c.extents_behind.result.now
           (subst IsFlat c.in-Some.ensures.cases.0 c.values.invariant.flat)
-          (c.extents_behind.ensures ∙ left_behind m c.values.rest.now c.in-Some.first.now
-          c.in-Some.others.now c.values.left.now c.in-Some.ensures.cases.0 c.values.invariant.flat
-          c.values.invariant.same)
+          (left_next m c.values.rest.now c.in-Some.first.now c.in-Some.others.now c.values.left.now
+          c.extents_behind.result.now c.in-Some.ensures.cases.0 c.values.invariant.flat c.values.invariant.same
+          c.extents_behind.ensures)
           ∙ ap (λ l. extents m (values_of l)) (sym c.nodes_behind-rest.ensures));
       sum = ap (λ l. beside c.beside-sum.result (extent m (values_of l))) c.nodes_behind-rest.ensures
           ∙ sum_on m c.values.rest.now c.in-Some.first.now c.in-Some.others.now c.values.left.now
