@@ -54,6 +54,13 @@ impl<D: TextDecorator + Drop> SubRenderer<D> {
         }
     }
 
+    /// How text is rendered in the block.
+    pub fn options(&self) -> RenderOptions
+        ensures { result ≡ (sub_of D.Annotation.seen D.held self.now).options }
+    {
+        self.options
+    }
+
     pub(crate) fn alloc(&self) -> Global {
         *self.modes.allocator()
     }

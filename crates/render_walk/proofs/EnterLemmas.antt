@@ -1,5 +1,6 @@
 -- What a value that begins leaves to be done.
-use Rattle.std.proofs.Common.{◌≡◌, ℕ, ◌+◌, ◌-◌, ◌*◌, ◌≤◌, List, [], ◌∷◌, ◌++◌, arith, refl}
+use Rattle.std.proofs.Common.{◌≡◌, Bool, true, false, if◌then◌else◌, ℕ, ◌+◌, ◌-◌, ◌*◌, ◌≤◌, List, [], ◌∷◌, ◌++◌}
+use Rattle.std.proofs.Common.{arith, refl}
 use Rattle.std.proofs.Common.{sym, ap, subst, ◌∙◌, append_assoc, length, map}
 use Rattle.std.specs.Prelude.{All}
 use Rattle.std.proofs.lemmas.List.{map-append}
@@ -11,29 +12,73 @@ use Rattle.render_sizes.specs.declared.extent.Extent.{Extent}
 use Rattle.render_values.specs.Values.{Values, value}
 use Rattle.render_values.specs.declared.info.Head.{Head}
 use Rattle.render_values.specs.declared.node.RenderNode.{RenderNode}
-use Rattle.render_walk.specs.Lay.{laid, lay}
-use Rattle.render_walk.specs.Laying.{Laying, Step}
-use Rattle.render_walk.specs.Seen.{IsReady, IsSound, WorksOutside, load, weight}
-use Rattle.render_walk.specs.Waiting.{Waiting, rest, unwound}
+use Rattle.render_values.specs.Arena.{values_of}
+use Rattle.render_walk.specs.Lay.{Content, content_of, laid, lay, table_of}
+use Rattle.table_rows.specs.Slots.{Table}
+use Rattle.render_laying.specs.Laying.{Laying, Step}
+use Rattle.render_walk.specs.Seen.{IsReady, IsSound, WorksOutside, load, weight, where_entered}
+use Rattle.render_walk.specs.Waiting.{Waiting, rest, segment, unwound}
 use Rattle.render_walk.specs.declared.waiting.Waiting.{Waiting as CodeWaiting}
 use Rattle.render_walk.specs.declared.waiting.Waiting.TheVariants.{Rest, ValueEnds, LookEnds, PartEnds, ItemEnds}
-use Rattle.render_walk.specs.declared.waiting.Waiting.TheVariants.{ListEnds}
+use Rattle.render_walk.specs.declared.waiting.Waiting.TheVariants.{CellEnds, ListEnds, RowEnds, TableEnds}
+use Rattle.render_walk.proofs.SegmentLemmas.{none_sound, nothing_here}
 use Rattle.render_walk.proofs.ValueLemmas.{all_on}
 use Rattle.render_walk.proofs.WalkLemmas.{enters}
 
 pub entered : {X H A : Type 0} (f : X → Waiting H A) (m : Marking H A) (w : Measure) (old one items new : List X)
-    (r : X) (head : Head) (inner later vs : Values) (many least : ℕ) (before behind : Laying H A)
-    → one ≡ old ++ r ∷ [] → new ≡ one ++ items → f r ≡ rest later → vs ≡ value head inner later → many ≡ number inner
-    → least ≡ (extent_of w head inner).least
-    → ((inside : Step H A) → laid m head many least inside before
-    ≡ option_and_then (unwound m w (map f items)) (inside behind))
-    → option_and_then (unwound m w (map f new)) (lay m w inner behind)
+    (r : X) (head : Head) (inner later vs next : Values) (c : Content) (is_entered : Bool) (before behind : Laying H A)
+    → one ≡ old ++ r ∷ [] → new ≡ one ++ items → f r ≡ rest later → vs ≡ value head inner later
+    → c ≡ content_of w head inner
+    → ((inside : Step H A) → laid m head c inside before
+    ≡ option_and_then (unwound m w (map f items)) (where_entered is_entered inside behind))
+    → where_entered is_entered (lay m w inner) behind ≡ lay m w next behind
+    → option_and_then (unwound m w (map f new)) (lay m w next behind)
     ≡ option_and_then (unwound m w (map f old)) (lay m w vs before)
-entered {X} f m w old one items new r head inner later vs many least before behind first second seen is n wide opens =
-    ap (λ v. option_and_then (unwound m w v) (lay m w inner behind))
+entered {X} f m w old one items new r head inner later vs next c is_entered before behind first second seen is known
+    opens goes =
+    ap (λ v. option_and_then (unwound m w v) (lay m w next behind))
     (ap (map f) (second ∙ (ap (λ (v : List X). v ++ items) first ∙ append_assoc old (r ∷ []) items))
     ∙ (map-append f old (r ∷ items) ∙ ap (λ x. map f old ++ x ∷ map f items) seen))
-    ∙ enters m w (map f old) (map f items) head inner later vs many least before behind is n wide opens
+    ∙ enters m w (map f old) (map f items) head inner later vs c before (lay m w next behind) is known
+    (opens (lay m w inner) ∙ ap (option_and_then (unwound m w (map f items))) goes)
+
+-- what stands in a value is next where it was entered, and nothing of it where it was not
+pub goes_in : {H A : Type 0} (m : Marking H A) (w : Measure) (nodes : List RenderNode) (is_entered : Bool)
+    (from behind at : ℕ) (l : Laying H A) → at ≡ (if is_entered then from else behind)
+    → where_entered is_entered (lay m w (values_of (segment nodes from behind))) l
+    ≡ lay m w (values_of (segment nodes at behind)) l
+goes_in m w nodes true from behind at l is = ap (λ n. lay m w (values_of (segment nodes n behind)) l) (sym is)
+goes_in m w nodes false from behind at l is =
+    ap (λ v. lay m w v l) (sym (nothing_here nodes at behind (omega (arith, is))))
+
+pub sound_in : (nodes : List RenderNode) (sizes : List Extent) (w : Measure) (is_entered : Bool) (from behind at : ℕ)
+    → at ≡ (if is_entered then from else behind) → IsSound nodes sizes w from behind
+    → IsSound nodes sizes w at behind
+sound_in nodes sizes w true from behind at is sound = subst (λ n. IsSound nodes sizes w n behind) (sym is) sound
+sound_in nodes sizes w false from behind at is sound =
+    none_sound nodes sizes w at behind (omega (arith, is)) sound.within
+
+pub short_in : (is_entered : Bool) (from behind at : ℕ) → at ≡ (if is_entered then from else behind)
+    → behind - at ≤ behind - from
+short_in true from behind at is = omega (arith, is)
+short_in false from behind at is = omega (arith, is)
+
+-- what is known of what stands in a value, its parts being known
+abbrev content : ℕ → ℕ → Table → Content
+content items least table = record { items = items; least = least; table = table }
+
+pub known_as : (w : Measure) (head : Head) (inside : Values) (items least : ℕ) (table : Table) → items ≡ number inside
+    → least ≡ (extent_of w head inside).least → table ≡ table_of w head.info inside
+    → content items least table ≡ content_of w head inside
+known_as w head inside items least table many wide is =
+    ap (λ n. content n least table) many
+    ∙ (ap (λ n. content (number inside) n table) wide
+    ∙ ap (content (number inside) (extent_of w head inside).least) is)
+
+-- what was found of nodes is known of those that they are
+pub known_in : (w : Measure) (head : Head) (c : Content) (found inside : List RenderNode)
+    → c ≡ content_of w head (values_of found) → found ≡ inside → c ≡ content_of w head (values_of inside)
+known_in w head c found inside known same = known ∙ ap (λ l. content_of w head (values_of l)) same
 
 -- ---- how much is left to be done
 
@@ -48,6 +93,9 @@ light (LookEnds style) h = refl
 light (PartEnds outer first following) h = refl
 light (ItemEnds outer first following around) h = refl
 light ListEnds h = refl
+light (TableEnds place fenced) h = refl
+light RowEnds h = refl
+light (CellEnds outer rows slots made taken) h = refl
 
 all_light : {D T : Type 0} (xs : List (CodeWaiting D T)) → All WorksOutside xs → load xs ≡ length xs
 all_light [] h = refl
@@ -81,6 +129,9 @@ works_ready nodes sizes w (LookEnds style) h = tt
 works_ready nodes sizes w (PartEnds outer first following) h = h
 works_ready nodes sizes w (ItemEnds outer first following around) h = h
 works_ready nodes sizes w ListEnds h = tt
+works_ready nodes sizes w (TableEnds place fenced) h = tt
+works_ready nodes sizes w RowEnds h = tt
+works_ready nodes sizes w (CellEnds outer rows slots made taken) h = h
 
 all_ready : {D T : Type 0} (nodes : List RenderNode) (sizes : List Extent) (w : Measure)
     (xs : List (CodeWaiting D T)) → All WorksOutside xs → All (IsReady nodes sizes w) xs

@@ -1,8 +1,10 @@
-pub mod CallLemmas
 pub mod EnterLemmas
 pub mod OpenLemmas
 pub mod SegmentLemmas
 pub mod StepLemmas
-pub mod TextLemmas
+pub mod TableOpenLemmas
+pub mod TableSlotLemmas
+pub mod TableStepLemmas
+pub mod TableWidthLemmas
 pub mod ValueLemmas
 pub mod WalkLemmas

@@ -1,5 +1,5 @@
 -- What a value is in, opened.
-use Rattle.std.proofs.Common.{◌≡◌, ℕ, ℤ, List, [], ◌∷◌, Option, None, Some, refl, sym, ap, ◌∙◌}
+use Rattle.std.proofs.Common.{◌≡◌, Bool, true, false, ℕ, ℤ, List, [], ◌∷◌, Option, None, Some, refl, sym, ap, ◌∙◌}
 use Rattle.std.specs.Option.{option_and_then}
 use Rattle.renderer_calls.specs.Renderers.{Marking, Sub}
 use Rattle.tagged_lines.specs.Columns.{text_columns}
@@ -10,15 +10,18 @@ use Rattle.render_values.specs.declared.info.Head.{Head}
 use Rattle.render_values.specs.declared.info.RenderInfo.{RenderInfo}
 use Rattle.render_values.specs.declared.info.RenderInfo.TheVariants as infos
 use Rattle.render_values.specs.declared.style.RenderStyle.{RenderStyle}
-use Rattle.render_walk.specs.Lay.{begins, behind_mark, ends, following, holds, item_columns, item_laid, item_mark}
-use Rattle.render_walk.specs.Lay.{last_mark, leading, listed, next_mark, padded, shown, spaces, style_begins}
-use Rattle.render_walk.specs.Lay.{style_ends, styled}
-use Rattle.render_walk.specs.Laying.{Laying, Step, behind_prefix, goes_on, in_around, in_turn, mark_of, part_begun}
-use Rattle.render_walk.specs.Laying.{part_ended}
+use Rattle.render_laying.specs.Begins.{begins, ends, following, leading, style_begins, style_ends}
+use Rattle.render_laying.specs.Items.{item_columns, item_mark, last_mark, next_mark, padded, spaces}
+use Rattle.render_walk.specs.Lay.{Content, behind_mark, holds, item_laid, listed, shown, styled}
+use Rattle.render_laying.specs.Laying.{Laying, Step, behind_prefix, goes_on, in_around, in_turn, mark_of, part_begun}
+use Rattle.render_laying.specs.Laying.{part_ended}
+use Rattle.render_walk.specs.Seen.{where_entered}
+use Rattle.render_walk.specs.Tables.{table_laid}
 use Rattle.render_walk.specs.Waiting.{Waiting, item_ends, list_ends, look_ends, part_ends, unwound, value_ends}
-use Rattle.render_walk.specs.declared.around.Around.TheVariants.{Flow, Items}
-use Rattle.render_walk.specs.declared.around.ItemMark.{ItemMark}
-use Rattle.render_walk.proofs.StepLemmas.{nothing_waits, one_more, one_waits, then_same, then_then, turn_off, turn_on}
+use Rattle.render_laying.specs.declared.around.Around.TheVariants.{Flow, Items}
+use Rattle.render_laying.specs.declared.around.ItemMark.{ItemMark}
+use Rattle.render_laying.proofs.StepLemmas.{then_same, then_then, turn_off, turn_on}
+use Rattle.render_walk.proofs.StepLemmas.{nothing_waits, one_more, one_waits}
 
 -- ---- parts
 
@@ -107,36 +110,42 @@ no_item_opens {H} {A} m mark columns least inside old mid same h =
 -- ---- values
 
 -- what stands in a value that is no part stands where it is
-pub held_alone : {H A : Type 0} (m : Marking H A) (w : Measure) (info : RenderInfo) (items least : ℕ)
+pub held_alone : {H A : Type 0} (m : Marking H A) (w : Measure) (info : RenderInfo) (c : Content)
     (inside : Step H A) (l : Laying H A) → ((level : ℕ) → info ≡ infos.Heading level → ⊥) → (info ≡ infos.Quote → ⊥)
     → (info ≡ infos.Bullets → ⊥) → ((first : ℤ) → info ≡ infos.Numbers first → ⊥) → (info ≡ infos.Details → ⊥)
-    → holds m info items least inside l ≡ option_and_then (unwound m w []) (inside l)
+    → (info ≡ infos.Table → ⊥) → holds m info c inside l ≡ option_and_then (unwound m w []) (inside l)
 unfolding holds
-held_alone m w (infos.Heading level) items least inside l a b c d e = absurd (a level refl)
-held_alone m w infos.Quote items least inside l a b c d e = absurd (b refl)
-held_alone m w infos.Bullets items least inside l a b c d e = absurd (c refl)
-held_alone m w (infos.Numbers first) items least inside l a b c d e = absurd (d first refl)
-held_alone m w infos.Details items least inside l a b c d e = absurd (e refl)
-held_alone m w infos.Nothing items least inside l a b c d e = nothing_waits m w (inside l)
-held_alone m w (infos.Text cs) items least inside l a b c d e = nothing_waits m w (inside l)
-held_alone m w (infos.Image source title) items least inside l a b c d e = nothing_waits m w (inside l)
-held_alone m w infos.Break items least inside l a b c d e = nothing_waits m w (inside l)
-held_alone m w infos.Container items least inside l a b c d e = nothing_waits m w (inside l)
-held_alone m w (infos.Link target) items least inside l a b c d e = nothing_waits m w (inside l)
-held_alone m w infos.Emphasis items least inside l a b c d e = nothing_waits m w (inside l)
-held_alone m w infos.Strong items least inside l a b c d e = nothing_waits m w (inside l)
-held_alone m w infos.Strikeout items least inside l a b c d e = nothing_waits m w (inside l)
-held_alone m w infos.Code items least inside l a b c d e = nothing_waits m w (inside l)
-held_alone m w infos.Superscript items least inside l a b c d e = nothing_waits m w (inside l)
-held_alone m w infos.Block items least inside l a b c d e = nothing_waits m w (inside l)
-held_alone m w infos.Division items least inside l a b c d e = nothing_waits m w (inside l)
-held_alone m w infos.Preformatted items least inside l a b c d e = nothing_waits m w (inside l)
-held_alone m w infos.Descriptions items least inside l a b c d e = nothing_waits m w (inside l)
-held_alone m w infos.Term items least inside l a b c d e = nothing_waits m w (inside l)
-held_alone m w infos.Table items least inside l a b c d e = nothing_waits m w (inside l)
-held_alone m w infos.TableGroup items least inside l a b c d e = nothing_waits m w (inside l)
-held_alone m w infos.TableRow items least inside l a b c d e = nothing_waits m w (inside l)
-held_alone m w (infos.TableCell columns rows) items least inside l a b c d e = nothing_waits m w (inside l)
+held_alone m w (infos.Heading level) content inside l a b c d e f = absurd (a level refl)
+held_alone m w infos.Quote content inside l a b c d e f = absurd (b refl)
+held_alone m w infos.Bullets content inside l a b c d e f = absurd (c refl)
+held_alone m w (infos.Numbers first) content inside l a b c d e f = absurd (d first refl)
+held_alone m w infos.Details content inside l a b c d e f = absurd (e refl)
+held_alone m w infos.Nothing content inside l a b c d e f = nothing_waits m w (inside l)
+held_alone m w (infos.Text cs) content inside l a b c d e f = nothing_waits m w (inside l)
+held_alone m w (infos.Image source title) content inside l a b c d e f = nothing_waits m w (inside l)
+held_alone m w infos.Break content inside l a b c d e f = nothing_waits m w (inside l)
+held_alone m w infos.Container content inside l a b c d e f = nothing_waits m w (inside l)
+held_alone m w (infos.Link target) content inside l a b c d e f = nothing_waits m w (inside l)
+held_alone m w infos.Emphasis content inside l a b c d e f = nothing_waits m w (inside l)
+held_alone m w infos.Strong content inside l a b c d e f = nothing_waits m w (inside l)
+held_alone m w infos.Strikeout content inside l a b c d e f = nothing_waits m w (inside l)
+held_alone m w infos.Code content inside l a b c d e f = nothing_waits m w (inside l)
+held_alone m w infos.Superscript content inside l a b c d e f = nothing_waits m w (inside l)
+held_alone m w infos.Block content inside l a b c d e f = nothing_waits m w (inside l)
+held_alone m w infos.Division content inside l a b c d e f = nothing_waits m w (inside l)
+held_alone m w infos.Preformatted content inside l a b c d e f = nothing_waits m w (inside l)
+held_alone m w infos.Descriptions content inside l a b c d e f = nothing_waits m w (inside l)
+held_alone m w infos.Term content inside l a b c d e f = nothing_waits m w (inside l)
+held_alone m w infos.Table content inside l a b c d e f = absurd (f refl)
+held_alone m w infos.TableGroup content inside l a b c d e f = nothing_waits m w (inside l)
+held_alone m w infos.TableRow content inside l a b c d e f = nothing_waits m w (inside l)
+held_alone m w (infos.TableCell columns rows) content inside l a b c d e f = nothing_waits m w (inside l)
+
+pub table_holds : {H A : Type 0} (m : Marking H A) (info : RenderInfo) (c : Content) (inside : Step H A)
+    (l : Laying H A) (o : Option (Laying H A)) → info ≡ infos.Table → table_laid m c.table inside l ≡ o
+    → holds m info c inside l ≡ o
+unfolding holds
+table_holds m info c inside l o is h = ap (λ i. holds m i c inside l) is ∙ h
 
 pub plain_opens : {H A : Type 0} (m : Marking H A) (w : Measure) (style : RenderStyle) (inside : Step H A)
     (l : Laying H A) → style ≡ plain → styled m style inside l ≡ option_and_then (unwound m w []) (inside l)
@@ -159,16 +168,31 @@ pub no_look_opens : {H A : Type 0} (m : Marking H A) (style : RenderStyle) (insi
     → style_begins m style old ≡ None → styled m style inside old ≡ None
 no_look_opens m style inside old h = turn_off (style_begins m style) (in_turn inside (style_ends m style)) old h
 
-pub shown_opens : {H A : Type 0} (m : Marking H A) (w : Measure) (head : Head) (items least : ℕ) (inside : Step H A)
-    (old led begun held new : Laying H A) (parts : List (Waiting H A)) → leading m head old ≡ Some led
-    → begins m head.info led ≡ Some begun
-    → ((x : Step H A) → holds m head.info items least x begun ≡ option_and_then (unwound m w parts) (x held))
+pub shown_opens : {H A : Type 0} (m : Marking H A) (w : Measure) (head : Head) (c : Content) (inside : Step H A)
+    (old led begun held new : Laying H A) (parts : List (Waiting H A)) (is_entered : Bool) → is_entered ≡ true
+    → leading m head old ≡ Some led → begins m head.info led ≡ Some begun
+    → ((x : Step H A) → holds m head.info c x begun
+    ≡ option_and_then (unwound m w parts) (where_entered is_entered x held))
     → following m head held ≡ Some new
-    → shown m head items least inside old
-    ≡ option_and_then (unwound m w (value_ends head.info ∷ parts)) (inside new)
-shown_opens m w head items least inside old led begun held new parts h k p f =
+    → shown m head c inside old ≡ option_and_then (unwound m w (value_ends head.info ∷ parts)) (inside new)
+shown_opens m w head c inside old led begun held new parts true is h k p f =
     turn_on (leading m head) _ old led _ h
     (turn_on (begins m head.info) _ led begun _ k
     (ap (option_and_then (ends m head.info)) (p (in_turn (following m head) inside)
     ∙ ap (option_and_then (unwound m w parts)) (ap (option_and_then inside) f))
     ∙ one_more m w (value_ends head.info) parts (inside new)))
+shown_opens m w head c inside old led begun held new parts false is h k p f = absurd (cc is)
+
+-- where what stands in a value is left out
+pub shown_alone : {H A : Type 0} (m : Marking H A) (w : Measure) (head : Head) (c : Content) (inside : Step H A)
+    (old led begun held : Laying H A) (parts : List (Waiting H A)) (is_entered : Bool) → is_entered ≡ false
+    → leading m head old ≡ Some led → begins m head.info led ≡ Some begun
+    → ((x : Step H A) → holds m head.info c x begun
+    ≡ option_and_then (unwound m w parts) (where_entered is_entered x held))
+    → shown m head c inside old ≡ option_and_then (unwound m w (value_ends head.info ∷ parts)) (Some held)
+shown_alone m w head c inside old led begun held parts true is h k p = absurd (cc is)
+shown_alone m w head c inside old led begun held parts false is h k p =
+    turn_on (leading m head) _ old led _ h
+    (turn_on (begins m head.info) _ led begun _ k
+    (ap (option_and_then (ends m head.info)) (p (in_turn (following m head) inside))
+    ∙ one_more m w (value_ends head.info) parts (Some held)))

@@ -1,6 +1,7 @@
 -- Nodes from a place up to another.
 use Rattle.std.proofs.Common.{◌≡◌, ℕ, zero, suc, ◌+◌, ◌-◌, ◌<◌, ◌≤◌, List, [], ◌∷◌, arith, refl, sym}
 use Rattle.std.proofs.Common.{ap, subst, ◌∙◌, drop, take, get_or, length}
+use Rattle.std.proofs.lemmas.List.{length-drop, length-take}
 use Rattle.render_sizes.specs.Extents.{Measure, extent_of, extents}
 use Rattle.render_sizes.specs.declared.extent.Extent.{Extent}
 use Rattle.render_sizes.proofs.ExtentLemmas.{extents_first, inner_extents, inner_flat, inner_values, length_extents}
@@ -216,6 +217,7 @@ pub record FirstNode (nodes : List RenderNode) (sizes : List Extent) (w : Measur
   pub fits : at + 1 + x.below ≤ end
   pub there : at < length sizes
   pub info : info_at nodes at ≡ x.head.info
+  pub inner_there : at + 1 + x.below ≤ length sizes
   pub inner : IsSound nodes sizes w (at + 1) (at + 1 + x.below)
   pub rest : IsSound nodes sizes w (at + 1 + x.below) end
   pub are : values_of (segment nodes at end)
@@ -234,12 +236,31 @@ sizes_there nodes sizes w at end d before sound =
     some_there sizes at end (length (extents w (values_of xs)))
     (ap length (sound.sized ∙ (ap (λ l. extents w (values_of l)) are ∙ extents_first w (x ∷ xs) flat (omega arith))))
 
+long_segment : {X : Type 0} (xs : List X) (from to : ℕ) → to ≤ length xs → length (segment xs from to) ≡ to - from
+long_segment xs from to h = omega (arith, length-take (to - from) (drop from xs), length-drop from xs, h)
+
+-- where a segment has all its elements, they are there
+ends_there : {X : Type 0} (xs : List X) (from to : ℕ) → from ≤ length xs → length (segment xs from to) ≡ to - from
+    → to ≤ length xs
+ends_there xs from to h long = omega (arith, length-take (to - from) (drop from xs), length-drop from xs, h, long)
+
+-- sizes of sound nodes are there
+pub inner_there : (nodes : List RenderNode) (sizes : List Extent) (w : Measure) (from to : ℕ) → from ≤ length sizes
+    → IsSound nodes sizes w from to → to ≤ length sizes
+inner_there nodes sizes w from to h sound = ends_there sizes from to h
+    (ap length sound.sized ∙ (length_extents w (values_of (segment nodes from to))
+    ∙ (sym (length_flat (values_of (segment nodes from to))) ∙ (ap length sound.flat
+    ∙ long_segment nodes from to sound.within))))
+
 pub first_node : (nodes : List RenderNode) (sizes : List Extent) (w : Measure) (at end : ℕ) (n : RenderNode)
     → n ≡ get_or nodes at n → at < end → IsSound nodes sizes w at end → FirstNode nodes sizes w at end n
 first_node nodes sizes w at end n is before sound = subst (FirstNode nodes sizes w at end) (sym is) (record {
   fits = fits nodes sizes w at end n before sound;
   there = sizes_there nodes sizes w at end n before sound;
   info = at_of nodes at n (omega (arith, sound.within));
+  inner_there = inner_there nodes sizes w (at + 1) (at + 1 + (get_or nodes at n).below)
+      (omega (arith, sizes_there nodes sizes w at end n before sound)) (inner_sound nodes sizes w at end n before
+      sound);
   inner = inner_sound nodes sizes w at end n before sound;
   rest = rest_sound nodes sizes w at end n before sound;
   are = values_here nodes sizes w at end n before sound;
@@ -248,6 +269,14 @@ first_node nodes sizes w at end n is before sound = subst (FirstNode nodes sizes
 
 pub nothing_here : (nodes : List RenderNode) (at end : ℕ) → end ≤ at → values_of (segment nodes at end) ≡ none
 nothing_here nodes at end past = ap values_of (segment_none nodes at end past)
+
+pub none_sound : (nodes : List RenderNode) (sizes : List Extent) (w : Measure) (at end : ℕ) → end ≤ at
+    → end ≤ length nodes → IsSound nodes sizes w at end
+none_sound nodes sizes w at end past within = record {
+  within = within;
+  flat = subst IsFlat (sym (segment_none nodes at end past)) refl;
+  sized = segment_none sizes at end past ∙ ap (λ l. extents w (values_of l)) (sym (segment_none nodes at end past));
+}
 
 pub all_here : (nodes : List RenderNode) → values_of (segment nodes 0 (length nodes)) ≡ values_of nodes
 all_here nodes = ap values_of (segment_all nodes)

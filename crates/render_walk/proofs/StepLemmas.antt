@@ -1,33 +1,11 @@
--- Steps in turn, and what waits behind them.
+-- What waits behind steps.
 use Rattle.std.proofs.Common.{◌≡◌, List, [], ◌∷◌, ◌++◌, Option, None, Some, refl, sym, ap, ◌∙◌}
 use Rattle.std.specs.Option.{option_and_then}
 use Rattle.renderer_calls.specs.Renderers.{Marking}
 use Rattle.render_sizes.specs.Extents.{Measure}
-use Rattle.render_walk.specs.Laying.{Laying, Step, in_turn}
+use Rattle.render_laying.specs.Laying.{Laying, Step}
+use Rattle.render_laying.proofs.StepLemmas.{then_same, then_some, then_then}
 use Rattle.render_walk.specs.Waiting.{Waiting, undone, unwound}
-
-pub turn_on : {H A : Type 0} (f g : Step H A) (l new : Laying H A) (o : Option (Laying H A)) → f l ≡ Some new
-    → g new ≡ o → in_turn f g l ≡ o
-turn_on f g l new o h k = ap (option_and_then g) h ∙ k
-
-pub turn_off : {H A : Type 0} (f g : Step H A) (l : Laying H A) → f l ≡ None → in_turn f g l ≡ None
-turn_off f g l h = ap (option_and_then g) h
-
-pub then_then : {A B C : Type 0} (f : A → Option B) (g : B → Option C) (o : Option A)
-    → option_and_then (λ x. option_and_then g (f x)) o ≡ option_and_then g (option_and_then f o)
-then_then f g None = refl
-then_then f g (Some x) = refl
-
-pub then_same : {A B : Type 0} (f g : A → Option B) (o : Option A) → ((x : A) → f x ≡ g x)
-    → option_and_then f o ≡ option_and_then g o
-then_same f g None h = refl
-then_same f g (Some x) h = h x
-
-pub then_some : {A : Type 0} (o : Option A) → option_and_then (λ x. Some x) o ≡ o
-then_some None = refl
-then_some (Some x) = refl
-
--- ---- what waits
 
 pub nothing_waits : {H A : Type 0} (m : Marking H A) (w : Measure) (o : Option (Laying H A))
     → o ≡ option_and_then (unwound m w []) o
@@ -63,10 +41,9 @@ all_wait m w xs ys o = sym (then_then (unwound m w ys) (unwound m w xs) o)
     (λ x. sym (unwound_on m w xs ys x))
 
 -- what one value is in, and within it another
-pub opens_both : {H A : Type 0} (m : Marking H A) (w : Measure) (f g : Step H A → Step H A)
-    (xs ys : List (Waiting H A)) (old mid new : Laying H A)
-    → ((inside : Step H A) → f inside old ≡ option_and_then (unwound m w xs) (inside mid))
-    → ((inside : Step H A) → g inside mid ≡ option_and_then (unwound m w ys) (inside new))
-    → (inside : Step H A) → f (g inside) old ≡ option_and_then (unwound m w (xs ++ ys)) (inside new)
-opens_both m w f g xs ys old mid new h k inside =
-    h (g inside) ∙ (ap (option_and_then (unwound m w xs)) (k inside) ∙ all_wait m w xs ys (inside new))
+pub opens_both : {H A : Type 0} (m : Marking H A) (w : Measure) (f : Step H A → Step H A) (inside : Step H A)
+    (xs ys : List (Waiting H A)) (old mid : Laying H A) (o : Option (Laying H A))
+    → ((x : Step H A) → f x old ≡ option_and_then (unwound m w xs) (x mid))
+    → inside mid ≡ option_and_then (unwound m w ys) o → f inside old ≡ option_and_then (unwound m w (xs ++ ys)) o
+opens_both m w f inside xs ys old mid o h k =
+    h inside ∙ (ap (option_and_then (unwound m w xs)) k ∙ all_wait m w xs ys o)

@@ -1,6 +1,7 @@
 -- What waits behind a value that was opened.
-use Rattle.std.proofs.Common.{◌≡◌, ℕ, ◌≤◌, List, [], ◌∷◌, ◌++◌, Option, None, Some, IfSome, arith, sym, ap}
-use Rattle.std.proofs.Common.{◌∙◌, append_assoc, length, map}
+use Rattle.std.proofs.Common.{◌≡◌, Bool, true, false, ◌≤◌, List, [], ◌∷◌, ◌++◌, Option, None, Some, IfSome, arith}
+use Rattle.std.proofs.Common.{sym, ap}
+use Rattle.std.proofs.Common.{◌∙◌, append_assoc, length, map, subst}
 use Rattle.std.specs.Prelude.{All}
 use Rattle.std.proofs.lemmas.List.{map-append}
 use Rattle.std.proofs.lemmas.List.Elements.{All-cons, All-head, All-nil, All-tail}
@@ -9,12 +10,14 @@ use Rattle.renderer_calls.specs.Renderers.{Marking}
 use Rattle.render_sizes.specs.Extents.{Measure}
 use Rattle.render_values.specs.declared.info.Head.{Head}
 use Rattle.render_values.specs.declared.style.RenderStyle.{RenderStyle}
-use Rattle.render_walk.specs.Lay.{begins, ends, following, holds, leading, placed, shown, styled}
-use Rattle.render_walk.specs.Laying.{Laying, Step, in_turn}
-use Rattle.render_walk.specs.Seen.{maybe}
+use Rattle.render_laying.specs.Begins.{begins, ends, following, leading}
+use Rattle.render_walk.specs.Lay.{Content, holds, placed, shown, styled}
+use Rattle.render_laying.specs.Laying.{Laying, Step, in_turn}
+use Rattle.render_walk.specs.Seen.{maybe, where_entered}
 use Rattle.render_walk.specs.Waiting.{Waiting, unwound}
-use Rattle.render_walk.specs.declared.around.Around.{Around}
-use Rattle.render_walk.proofs.StepLemmas.{opens_both, turn_off, turn_on}
+use Rattle.render_laying.specs.declared.around.Around.{Around}
+use Rattle.render_laying.proofs.StepLemmas.{turn_off, turn_on}
+use Rattle.render_walk.proofs.StepLemmas.{opens_both}
 
 -- ---- lists
 
@@ -25,6 +28,12 @@ maybe_all P (Some x) h = All-cons P x [] h (All-nil P)
 pub maybe_few : {X : Type 0} (o : Option X) → length (maybe o) ≤ 1
 maybe_few None = omega arith
 maybe_few (Some x) = omega arith
+
+pub if_some_at : {X : Type 0} (P : X → Type 0) (o : Option X) (x : X) → o ≡ Some x → IfSome o P → P x
+if_some_at P None x is h = absurd (cc is)
+if_some_at P (Some y) x is h =
+    let same : y ≡ x = cc is in
+    subst P same h
 
 pub all_on : {X : Type 0} (P : X → Type 0) (xs ys : List X) → All P xs → All P ys → All P (xs ++ ys)
 all_on P [] ys h k = k
@@ -42,55 +51,54 @@ two_on old one new xs ys h k = k ∙ (ap (λ v. v ++ ys) h ∙ append_assoc old 
 
 -- ---- values
 
-pub no_lead : {H A : Type 0} (m : Marking H A) (head : Head) (items least : ℕ) (inside : Step H A)
-    (old : Laying H A) → leading m head old ≡ None → shown m head items least inside old ≡ None
-no_lead m head items least inside old h =
+pub no_lead : {H A : Type 0} (m : Marking H A) (head : Head) (c : Content) (inside : Step H A)
+    (old : Laying H A) → leading m head old ≡ None → shown m head c inside old ≡ None
+no_lead m head c inside old h =
     turn_off (leading m head) (in_turn (begins m head.info)
-    (in_turn (holds m head.info items least (in_turn (following m head) inside)) (ends m head.info))) old h
+    (in_turn (holds m head.info c (in_turn (following m head) inside)) (ends m head.info))) old h
 
-pub no_begin : {H A : Type 0} (m : Marking H A) (head : Head) (items least : ℕ) (inside : Step H A)
+pub no_begin : {H A : Type 0} (m : Marking H A) (head : Head) (c : Content) (inside : Step H A)
     (old led : Laying H A) → leading m head old ≡ Some led → begins m head.info led ≡ None
-    → shown m head items least inside old ≡ None
-no_begin m head items least inside old led h k =
+    → shown m head c inside old ≡ None
+no_begin m head c inside old led h k =
     turn_on (leading m head) (in_turn (begins m head.info)
-    (in_turn (holds m head.info items least (in_turn (following m head) inside)) (ends m head.info))) old led None h
+    (in_turn (holds m head.info c (in_turn (following m head) inside)) (ends m head.info))) old led None h
     (turn_off (begins m head.info)
-    (in_turn (holds m head.info items least (in_turn (following m head) inside)) (ends m head.info)) led k)
+    (in_turn (holds m head.info c (in_turn (following m head) inside)) (ends m head.info)) led k)
 
-pub no_hold : {H A : Type 0} (m : Marking H A) (head : Head) (items least : ℕ) (inside : Step H A)
+pub no_hold : {H A : Type 0} (m : Marking H A) (head : Head) (c : Content) (inside : Step H A)
     (old led begun : Laying H A) → leading m head old ≡ Some led → begins m head.info led ≡ Some begun
-    → holds m head.info items least (in_turn (following m head) inside) begun ≡ None
-    → shown m head items least inside old ≡ None
-no_hold m head items least inside old led begun h k never =
+    → holds m head.info c (in_turn (following m head) inside) begun ≡ None
+    → shown m head c inside old ≡ None
+no_hold m head c inside old led begun h k never =
     turn_on (leading m head) (in_turn (begins m head.info)
-    (in_turn (holds m head.info items least (in_turn (following m head) inside)) (ends m head.info))) old led None h
+    (in_turn (holds m head.info c (in_turn (following m head) inside)) (ends m head.info))) old led None h
     (turn_on (begins m head.info)
-    (in_turn (holds m head.info items least (in_turn (following m head) inside)) (ends m head.info)) led begun None k
+    (in_turn (holds m head.info c (in_turn (following m head) inside)) (ends m head.info)) led begun None k
     (ap (option_and_then (ends m head.info)) never))
 
-pub no_follow : {H A : Type 0} (m : Marking H A) (w : Measure) (head : Head) (items least : ℕ) (inside : Step H A)
-    (old led begun held : Laying H A) (parts : List (Waiting H A)) → leading m head old ≡ Some led
-    → begins m head.info led ≡ Some begun
-    → ((x : Step H A) → holds m head.info items least x begun ≡ option_and_then (unwound m w parts) (x held))
-    → following m head held ≡ None → shown m head items least inside old ≡ None
-no_follow m w head items least inside old led begun held parts h k p never =
-    no_hold m head items least inside old led begun h k
+pub no_follow : {H A : Type 0} (m : Marking H A) (w : Measure) (head : Head) (c : Content) (inside : Step H A)
+    (old led begun held : Laying H A) (parts : List (Waiting H A)) (is_entered : Bool) → is_entered ≡ true
+    → leading m head old ≡ Some led → begins m head.info led ≡ Some begun
+    → ((x : Step H A) → holds m head.info c x begun
+    ≡ option_and_then (unwound m w parts) (where_entered is_entered x held))
+    → following m head held ≡ None → shown m head c inside old ≡ None
+no_follow m w head c inside old led begun held parts true is h k p never =
+    no_hold m head c inside old led begun h k
     (p (in_turn (following m head) inside)
     ∙ ap (λ o. option_and_then (unwound m w parts) (option_and_then inside o)) never)
+no_follow m w head c inside old led begun held parts false is h k p never = absurd (cc is)
 
 pub value_opens : {X H A : Type 0} (f : X → Waiting H A) (m : Marking H A) (w : Measure) (around : Around)
-    (style : RenderStyle) (head : Head) (items least : ℕ) (xs ys zs : List X) (old one two new : Laying H A)
-    → ((inside : Step H A) → placed m around inside old ≡ option_and_then (unwound m w (map f xs)) (inside one))
-    → ((inside : Step H A) → styled m style inside one ≡ option_and_then (unwound m w (map f ys)) (inside two))
-    → ((inside : Step H A) → shown m head items least inside two
-    ≡ option_and_then (unwound m w (map f zs)) (inside new))
-    → (inside : Step H A) → placed m around (styled m style (shown m head items least inside)) old
-    ≡ option_and_then (unwound m w (map f (xs ++ (ys ++ zs)))) (inside new)
-value_opens f m w around style head items least xs ys zs old one two new h k l inside =
-    opens_both m w (placed m around) (λ x. styled m style (shown m head items least x)) (map f xs)
-    (map f ys ++ map f zs) old one new h
-    (opens_both m w (styled m style) (shown m head items least) (map f ys) (map f zs) one two new k l) inside
-    ∙ ap (λ v. option_and_then (unwound m w v) (inside new))
+    (style : RenderStyle) (within : Step H A) (xs ys zs : List X) (old one two : Laying H A) (o : Option (Laying H A))
+    → ((x : Step H A) → placed m around x old ≡ option_and_then (unwound m w (map f xs)) (x one))
+    → ((x : Step H A) → styled m style x one ≡ option_and_then (unwound m w (map f ys)) (x two))
+    → within two ≡ option_and_then (unwound m w (map f zs)) o
+    → placed m around (styled m style within) old ≡ option_and_then (unwound m w (map f (xs ++ (ys ++ zs)))) o
+value_opens f m w around style within xs ys zs old one two o h k l =
+    opens_both m w (placed m around) (styled m style within) (map f xs) (map f ys ++ map f zs) old one o h
+    (opens_both m w (styled m style) within (map f ys) (map f zs) one two o k l)
+    ∙ ap (λ v. option_and_then (unwound m w v) o)
     (ap (λ v. map f xs ++ v) (sym (map-append f ys zs)) ∙ sym (map-append f xs (ys ++ zs)))
 
 pub no_look : {H A : Type 0} (m : Marking H A) (w : Measure) (around : Around) (style : RenderStyle)

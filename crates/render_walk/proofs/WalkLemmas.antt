@@ -1,45 +1,39 @@
 -- Values in turn, and what waits behind them.
-use Rattle.std.proofs.Common.{◌≡◌, ℕ, ◌+◌, ◌-◌, List, [], ◌∷◌, ◌++◌, None, Some, append-nil, arith, length}
+use Rattle.std.proofs.Common.{◌≡◌, ℕ, ◌+◌, ◌-◌, List, [], ◌∷◌, ◌++◌, Option, None, Some, append-nil, arith, length}
 use Rattle.std.proofs.Common.{refl, sym, take, ap, ◌∙◌}
 use Rattle.std.specs.Option.{option_and_then, option_map}
 use Rattle.renderer_calls.specs.Renderers.{Marking}
-use Rattle.render_sizes.specs.Extents.{Measure, extent_of, number}
+use Rattle.render_sizes.specs.Extents.{Measure}
 use Rattle.render_values.specs.Values.{Values, none, value}
 use Rattle.render_values.specs.declared.info.Head.{Head}
 use Rattle.text_block_renderer.specs.Parts.{Parts}
-use Rattle.render_walk.specs.Lay.{laid, laid_parts, lay}
-use Rattle.render_walk.specs.Laying.{Laying, Step}
+use Rattle.render_walk.specs.Lay.{Content, content_of, laid, laid_parts, lay, on_page}
+use Rattle.render_laying.specs.Laying.{Laying, Step}
 use Rattle.render_walk.specs.Waiting.{Waiting, rest, undone, unwound}
-use Rattle.render_walk.specs.declared.around.Around.TheVariants.{Flow}
-use Rattle.render_walk.proofs.StepLemmas.{all_wait, one_more, then_some, unwound_on}
+use Rattle.render_laying.proofs.StepLemmas.{then_some}
+use Rattle.render_walk.proofs.StepLemmas.{all_wait, one_more, unwound_on}
 
--- a value begins: what stands in it is next, and what stands behind it waits
+-- a value begins: what comes of what stands in it is next, and what stands behind it waits
 pub enters : {H A : Type 0} (m : Marking H A) (w : Measure) (before pushed : List (Waiting H A)) (head : Head)
-    (inner later vs : Values) (items least : ℕ) (old new : Laying H A) → vs ≡ value head inner later
-    → items ≡ number inner → least ≡ (extent_of w head inner).least
-    → ((inside : Step H A) → laid m head items least inside old
-    ≡ option_and_then (unwound m w pushed) (inside new))
-    → option_and_then (unwound m w (before ++ rest later ∷ pushed)) (lay m w inner new)
+    (inner later vs : Values) (c : Content) (old : Laying H A) (o : Option (Laying H A)) → vs ≡ value head inner later
+    → c ≡ content_of w head inner → laid m head c (lay m w inner) old ≡ option_and_then (unwound m w pushed) o
+    → option_and_then (unwound m w (before ++ rest later ∷ pushed)) o
     ≡ option_and_then (unwound m w before) (lay m w vs old)
-enters m w before pushed head inner later vs items least old new is many wide opens =
-    sym (all_wait m w before (rest later ∷ pushed) (lay m w inner new))
+enters m w before pushed head inner later vs c old o is known opens =
+    sym (all_wait m w before (rest later ∷ pushed) o)
     ∙ ap (option_and_then (unwound m w before))
-    (sym (one_more m w (rest later) pushed (lay m w inner new))
-    ∙ (ap (option_and_then (lay m w later)) (sym (opens (lay m w inner))
-    ∙ (ap (λ (n : ℕ). laid m head n least (lay m w inner) old) many
-    ∙ ap (λ (n : ℕ). laid m head (number inner) n (lay m w inner) old) wide))
+    (sym (one_more m w (rest later) pushed o)
+    ∙ (ap (option_and_then (lay m w later)) (sym opens ∙ ap (λ x. laid m head x (lay m w inner) old) known)
     ∙ ap (λ v. lay m w v old) (sym is)))
 
 pub never_enters : {H A : Type 0} (m : Marking H A) (w : Measure) (before : List (Waiting H A)) (head : Head)
-    (inner later vs : Values) (items least : ℕ) (old : Laying H A) → vs ≡ value head inner later
-    → items ≡ number inner → least ≡ (extent_of w head inner).least
-    → ((inside : Step H A) → laid m head items least inside old ≡ None)
+    (inner later vs : Values) (c : Content) (old : Laying H A) → vs ≡ value head inner later
+    → c ≡ content_of w head inner → ((inside : Step H A) → laid m head c inside old ≡ None)
     → option_and_then (unwound m w before) (lay m w vs old) ≡ None
-never_enters m w before head inner later vs items least old is many wide never =
+never_enters m w before head inner later vs c old is known never =
     ap (λ v. option_and_then (unwound m w before) (lay m w v old)) is
     ∙ ap (λ o. option_and_then (unwound m w before) (option_and_then (lay m w later) o))
-    (ap (λ (n : ℕ). laid m head (number inner) n (lay m w inner) old) (sym wide)
-    ∙ (ap (λ (n : ℕ). laid m head n least (lay m w inner) old) (sym many) ∙ never (lay m w inner)))
+    (ap (λ x. laid m head x (lay m w inner) old) (sym known) ∙ never (lay m w inner))
 
 -- what waited last is next
 pub leaves : {H A : Type 0} (m : Marking H A) (w : Measure) (items kept : List (Waiting H A)) (x : Waiting H A)
@@ -77,20 +71,16 @@ ends_here m w items vs l is over =
 
 -- ---- a tree
 
-abbrev outside : {H A : Type 0} → Parts H A → Laying H A
-outside p = record { parts = p; around = Flow }
-
 pub laid_by : {H A : Type 0} (m : Marking H A) (w : Measure) (vs tree : Values) (p : Parts H A) (new : Laying H A)
-    → vs ≡ tree → lay m w vs (record { parts = p; around = Flow }) ≡ Some new
-    → laid_parts m w tree p ≡ Some new.parts
+    → vs ≡ tree → lay m w vs (on_page p) ≡ Some new → laid_parts m w tree p ≡ Some new.parts
 laid_by {H} {A} m w vs tree p new is h =
-    ap (λ v. option_map (λ (l : Laying H A). l.parts) (lay m w v (outside p))) (sym is)
+    ap (λ v. option_map (λ (l : Laying H A). l.parts) (lay m w v (on_page p))) (sym is)
     ∙ ap (option_map (λ (l : Laying H A). l.parts)) h
 
 pub never_laid : {H A : Type 0} (m : Marking H A) (w : Measure) (vs tree : Values) (p : Parts H A)
-    → vs ≡ tree → lay m w vs (record { parts = p; around = Flow }) ≡ None → laid_parts m w tree p ≡ None
+    → vs ≡ tree → lay m w vs (on_page p) ≡ None → laid_parts m w tree p ≡ None
 never_laid {H} {A} m w vs tree p is h =
-    ap (λ v. option_map (λ (l : Laying H A). l.parts) (lay m w v (outside p))) (sym is)
+    ap (λ v. option_map (λ (l : Laying H A). l.parts) (lay m w v (on_page p))) (sym is)
     ∙ ap (option_map (λ (l : Laying H A). l.parts)) h
 
 pub none_below : {X : Type 0} (xs : List X) → length xs + 1 ≡ 1 → xs ≡ []

@@ -1,4 +1,4 @@
 pub mod Lay
-pub mod Laying
 pub mod Seen
+pub mod Tables
 pub mod Waiting

@@ -1,45 +1,27 @@
 -- What contracts see of a page that is laid out.
-use Rattle.std.specs.Prelude.{◌≡◌, ℕ, ◌+◌, ◌*◌, ◌-◌, ◌≤◌, ◌++◌, All, Bool, false, List, [], ◌∷◌, Option, None, Some}
+use Rattle.std.specs.Prelude.{◌≡◌, ℕ, ◌+◌, ◌*◌, ◌-◌, ◌≤◌, ◌++◌, All, Bool, false, if◌then◌else◌, List, [], ◌∷◌}
+use Rattle.std.specs.Prelude.{Option, None, Some}
 use Rattle.std.specs.Prelude.{chars, length, map, string_bytes}
 use Rattle.std.specs.Option.{option_and_then}
 use Rattle.text_marks.specs.Marks.{Mark}
 use Rattle.block_renderer.specs.Seen.{IsTagging, has_failed, marking, sub_of}
 use Rattle.renderer_calls.specs.Renderers.{Marking}
-use Rattle.text_block_renderer.specs.SeenParts.{current_has_failed, page_has_failed, parts_of}
 use Rattle.render_sizes.specs.Extents.{Measure, extents}
 use Rattle.render_sizes.specs.declared.extent.Extent.{Extent}
 use Rattle.render_values.specs.Arena.{IsFlat, values_of}
 use Rattle.render_values.specs.declared.node.RenderNode.{RenderNode}
-use Rattle.render_walk.specs.Lay.{lay}
-use Rattle.render_walk.specs.Laying.{Laying, Step}
+use Rattle.render_values.specs.declared.info.Head.{Head}
+use Rattle.render_walk.specs.Lay.{Content, laid, laid_outside, lay}
+use Rattle.render_walk.specs.declared.content.Content.{Content as CodeContent}
+use Rattle.render_laying.specs.Laying.{Laying, Step}
 use Rattle.render_walk.specs.Waiting.{Waiting, info_at, item_ends, list_ends, look_ends, part_ends, rest, segment}
-use Rattle.render_walk.specs.Waiting.{unwound, value_ends}
-use Rattle.render_walk.specs.declared.laying.Laying.{Laying as CodeLaying}
+use Rattle.render_walk.specs.Waiting.{cell_ends, row_ends, table_ends, unwound, value_ends}
+use Rattle.render_laying.specs.Seen.{laying_of, made_of, place_of, slots_left, widths_seen}
+use Rattle.table_rows.specs.Tables.{rows_left, table_seen}
+use Rattle.render_laying.specs.declared.laying.Laying.{Laying as CodeLaying}
 use Rattle.render_walk.specs.declared.waiting.Waiting.{Waiting as CodeWaiting}
 use Rattle.render_walk.specs.declared.waiting.Waiting.TheVariants.{Rest, ValueEnds, LookEnds, PartEnds, ItemEnds}
-use Rattle.render_walk.specs.declared.waiting.Waiting.TheVariants.{ListEnds}
-
-abbrev pub laying_of : {D T H A : Type 0} → (T → A) → (D → H) → CodeLaying D T → Laying H A
-laying_of seen held l = record { parts = parts_of seen held l.text; around = l.around }
-
--- No call was refused, and no part stands on the page by itself.
-abbrev pub IsWorking : {D T H A : Type 0} → (T → A) → (D → H) → CodeLaying D T → Type 0
-IsWorking seen held l = (page_has_failed l.text ≡ false)
-    × ((current_has_failed l.text ≡ false) × ((parts_of seen held l.text).below ≡ []))
-
--- However the decorator's annotations are seen, a step leads from one to the other.
-abbrev pub Comes : {D T H A : Type 0} → (T → A) → (D → H) → (H → Mark → List ℕ) → (H → Mark → T → Type 0)
-    → (H → Mark → Bool) → (H → Mark → H) → (H → Mark → Bool) → (H → H)
-    → (Marking H A → Step H A) → CodeLaying D T → CodeLaying D T → Type 0
-Comes seen held text gives marks after pops sub does old new = (tag : _) → IsTagging seen gives tag
-    → does (marking text tag marks after pops sub) (laying_of seen held old) ≡ Some (laying_of seen held new)
-
--- However they are seen, it comes to nothing.
-abbrev pub Fails : {D T H A : Type 0} → (T → A) → (D → H) → (H → Mark → List ℕ) → (H → Mark → T → Type 0)
-    → (H → Mark → Bool) → (H → Mark → H) → (H → Mark → Bool) → (H → H)
-    → (Marking H A → Step H A) → CodeLaying D T → Type 0
-Fails seen held text gives marks after pops sub does old = (tag : _) → IsTagging seen gives tag
-    → does (marking text tag marks after pops sub) (laying_of seen held old) ≡ None
+use Rattle.render_walk.specs.declared.waiting.Waiting.TheVariants.{CellEnds, ListEnds, RowEnds, TableEnds}
 
 -- ---- what waits
 
@@ -52,6 +34,11 @@ waiting_of seen held nodes (PartEnds outer first following) =
 waiting_of seen held nodes (ItemEnds outer first following around) =
     item_ends (sub_of seen held outer) (chars (string_bytes first)) (chars (string_bytes following)) around
 waiting_of seen held nodes ListEnds = list_ends
+waiting_of seen held nodes (TableEnds place fenced) = table_ends fenced (place_of seen held place)
+waiting_of seen held nodes RowEnds = row_ends
+waiting_of seen held nodes (CellEnds outer rows slots made taken) =
+    cell_ends (sub_of seen held outer) (widths_seen rows.widths) (rows_left rows.rows) (slots_left slots)
+    (made_of seen held made.items) taken
 
 abbrev pub all_waiting : {D T H A : Type 0} → (T → A) → (D → H) → List RenderNode → List (CodeWaiting D T)
     → List (Waiting H A)
@@ -72,12 +59,14 @@ abbrev pub IsReady : {D T : Type 0} → List RenderNode → List Extent → Meas
 IsReady nodes sizes w (Rest from to) = IsSound nodes sizes w from to
 IsReady nodes sizes w (PartEnds outer first following) = has_failed outer ≡ false
 IsReady nodes sizes w (ItemEnds outer first following around) = has_failed outer ≡ false
+IsReady nodes sizes w (CellEnds outer rows slots made taken) = has_failed outer ≡ false
 IsReady nodes sizes w _ = Unit {0}
 
 abbrev pub WorksOutside : {D T : Type 0} → CodeWaiting D T → Type 0
 WorksOutside (Rest from to) = ⊥
 WorksOutside (PartEnds outer first following) = has_failed outer ≡ false
 WorksOutside (ItemEnds outer first following around) = has_failed outer ≡ false
+WorksOutside (CellEnds outer rows slots made taken) = has_failed outer ≡ false
 WorksOutside _ = Unit {0}
 
 -- how much there is to do
@@ -99,6 +88,21 @@ Opens seen held text gives marks after pops sub f items old new = (tag : _) → 
     ≡ option_and_then (unwound (marking text tag marks after pops sub) w (all_waiting seen held nodes items))
     (inside (laying_of seen held new))
 
+-- what stands in a value, or nothing of it where that is left out
+abbrev pub where_entered : {H A : Type 0} → (entered : Bool) → Step H A → Step H A
+where_entered entered inside = if entered then inside else Some
+
+-- the same where what stands in it may be left out
+abbrev pub OpensWhere : {D T H A : Type 0} → (T → A) → (D → H) → (H → Mark → List ℕ) → (H → Mark → T → Type 0)
+    → (H → Mark → Bool) → (H → Mark → H) → (H → Mark → Bool) → (H → H)
+    → (Marking H A → Step H A → Step H A) → (entered : Bool) → List (CodeWaiting D T) → CodeLaying D T
+    → CodeLaying D T → Type 0
+OpensWhere seen held text gives marks after pops sub f entered items old new = (tag : _) → IsTagging seen gives tag
+    → (nodes : List RenderNode) (w : Measure) (inside : Step _ _)
+    → f (marking text tag marks after pops sub) inside (laying_of seen held old)
+    ≡ option_and_then (unwound (marking text tag marks after pops sub) w (all_waiting seen held nodes items))
+    (where_entered entered inside (laying_of seen held new))
+
 -- Whatever stands in it, it comes to nothing.
 abbrev pub NeverOpens : {D T H A : Type 0} → (T → A) → (D → H) → (H → Mark → List ℕ) → (H → Mark → T → Type 0)
     → (H → Mark → Bool) → (H → Mark → H) → (H → Mark → Bool) → (H → H)
@@ -106,11 +110,13 @@ abbrev pub NeverOpens : {D T H A : Type 0} → (T → A) → (D → H) → (H �
 NeverOpens seen held text gives marks after pops sub f old = (tag : _) → IsTagging seen gives tag
     → (inside : Step _ _) → f (marking text tag marks after pops sub) inside (laying_of seen held old) ≡ None
 
--- the same where at most so many wait behind others, nodes being those of the tree
+-- the same where at most so many wait behind others, nodes being those of the tree, and what stands in it may be left
+-- out
 pub record IsOpened {D T H A : Type 0} (seen : T → A) (held : D → H) (text : H → Mark → List ℕ)
     (gives : H → Mark → T → Type 0) (marks : H → Mark → Bool) (after : H → Mark → H) (pops : H → Mark → Bool)
-    (sub : H → H) (most : ℕ) (nodes : List RenderNode) (f : Marking H A → Step H A → Step H A)
-    (before behind : List (CodeWaiting D T)) (old new : CodeLaying D T) : Type 0 where
+    (sub : H → H) (most : ℕ) (nodes : List RenderNode) (entered : Bool)
+    (f : Marking H A → Step H A → Step H A) (before behind : List (CodeWaiting D T)) (old new : CodeLaying D T)
+    : Type 0 where
   pub items : List (CodeWaiting D T)
   pub pushed : behind ≡ before ++ items
   pub works : All WorksOutside items
@@ -118,7 +124,19 @@ pub record IsOpened {D T H A : Type 0} (seen : T → A) (held : D → H) (text :
   pub opens : (tag : _) → IsTagging seen gives tag → (w : Measure) (inside : Step H A)
       → f (marking text tag marks after pops sub) inside (laying_of seen held old)
       ≡ option_and_then (unwound (marking text tag marks after pops sub) w (all_waiting seen held nodes items))
-      (inside (laying_of seen held new))
+      (where_entered entered inside (laying_of seen held new))
+
+-- what is to be known of what stands in a value
+abbrev pub content_seen : CodeContent → Content
+content_seen c = record { items = c.items; least = c.least; table = table_seen c.table }
+
+-- Outside of tables a value is laid out as it is, and nothing was done yet.
+abbrev pub StandsOutside : {D T H A : Type 0} → (T → A) → (D → H) → Head → (old new : CodeLaying D T)
+    → (before behind : List (CodeWaiting D T)) → Type 0
+StandsOutside {D} {T} {H} {A} seen held head old new before behind = (behind ≡ before)
+    × ((laying_of seen held new ≡ laying_of seen held old)
+    × ((m : Marking H A) (content : Content) (inside : Step H A) → laid m head content inside (laying_of seen held old)
+    ≡ laid_outside m head content inside (laying_of seen held old)))
 
 -- ---- the walk
 

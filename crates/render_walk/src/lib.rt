@@ -1,13 +1,13 @@
 //! How the values of a render tree are laid out.
 #![tactic(auto)]
 
-mod around;
-mod begins;
-mod calls;
-mod laying;
+mod cells;
+mod content;
 mod lists;
-mod looks;
+mod looking;
 mod parts;
+mod slots;
+mod tables;
 mod values;
 mod waiting;
 mod walk;

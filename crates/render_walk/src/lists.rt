@@ -1,183 +1,95 @@
 //! Lists and their items.
-ghost use Rattle.std.specs.Prelude.{◌≡◌, ◌∷◌, [], ◌⊎◌, Err, IfErr, IfOk, IfSome, OnOk, chars, false, string_bytes};
+ghost use Rattle.std.specs.Prelude.{◌≡◌, ◌∷◌, [], ◌⊎◌, Err, IfErr, IfOk, IfSome, OnOk};
 ghost use Rattle.text_pieces.specs.declared.fault.BlockError.TheVariants as errors;
-ghost use Rattle.render_walk.specs.Lay.{last_mark, next_mark, padded};
+ghost use Rattle.render_walk.specs.Lay.{item_laid, listed, placed};
+ghost use Rattle.render_laying.specs.Seen.{IsWorking};
+ghost use Rattle.render_walk.specs.Seen.{NeverOpens, Opens, WorksOutside, maybe};
 
-use crate::around::{Around, ItemMark};
-use crate::laying::Laying;
-use crate::parts::{push_spaces, spaces};
 use crate::waiting::Waiting;
-use block_renderer::Renderer;
-use std::alloc::{AllocError, Global};
-use tagged_lines::columns_of;
+use render_laying::{Around, ItemMark, Laying, spaces};
+use std::alloc::Global;
 use text_marks::TextDecorator;
 use text_pieces::BlockError;
 
-impl ItemMark {
-    // the next item's
-    fn next(self) -> ItemMark
-        ensures { result ≡ next_mark self }
-    {
-        match self {
-            ItemMark::Bullet => ItemMark::Bullet,
-            ItemMark::Number(number) => ItemMark::Number(number.saturating_add(1)),
-        }
-    }
-
-    // the last item's of so many
-    fn last(self, items: usize) -> ItemMark
-        ensures { result ≡ last_mark self items }
-    {
-        match self {
-            ItemMark::Bullet => ItemMark::Bullet,
-            ItemMark::Number(number) => {
-                let further = items.saturating_sub(1) as u64;
-                ItemMark::Number(number.saturating_add_unsigned(further))
-            }
-        }
-    }
-}
-
-// fills a text with spaces up to so many columns
-fn fill(text: &mut String, columns: usize) -> Result<(), AllocError>
-    ensures { OnOk result (chars (string_bytes text.new) ≡ padded columns (chars (string_bytes text.old))) }
+/// What follows are the items of a list.
+pub(crate) fn hold_items<D: TextDecorator + Drop>(
+    laying: &mut Laying<D>,
+    first: ItemMark,
+    items: usize,
+    least: usize,
+) -> Result<Waiting<D>, BlockError>
+    requires { IsWorking D.Annotation.seen D.held laying.old }
+    ensures opened { IfOk result (λ x. Opens D.Annotation.seen D.held D.text D.gives D.marks D.after D.pops D.sub
+        (λ m. listed m first items least) (x ∷ []) laying.old laying.new) }
+    ensures works { OnOk result (IsWorking D.Annotation.seen D.held laying.new) }
+    ensures ready { IfOk result WorksOutside }
+    ensures narrow { result ≡ Err errors.TooNarrow → NeverOpens D.Annotation.seen D.held D.text D.gives D.marks
+        D.after
+        D.pops D.sub (λ m. listed m first items least) laying.old }
+    ensures kinds { IfErr result (λ e. (e ≡ errors.TooNarrow) ⊎ (e ≡ errors.Memory)) }
 {
-    let missing = columns.saturating_sub(columns_of(text.as_str()));
-    push_spaces(text, missing)
+    let columns = laying.columns_of_items(first, first.last(items))?;
+    laying.around = Around::Items {
+        mark: first,
+        columns,
+        least,
+    };
+    Ok(Waiting::ListEnds)
 }
 
-impl<D: TextDecorator + Drop> Laying<D> {
-    ghost use Rattle.block_renderer.specs.Seen.{marking};
-    ghost use Rattle.render_walk.specs.Lay.{item_columns, item_laid, item_mark, listed, placed};
-    ghost use Rattle.render_walk.specs.Laying.{mark_of};
-    ghost use Rattle.render_walk.specs.Seen.{IsWorking, NeverOpens, Opens, WorksOutside, laying_of, maybe};
-
-    // the prefix of an item
-    fn prefix_of(&mut self, mark: ItemMark) -> Result<String, BlockError>
-        requires { IsWorking D.Annotation.seen D.held self.old }
-        ensures text { IfOk result (λ s. (tag : _) → chars (string_bytes s)
-            ≡ mark_of (marking D.text tag D.marks D.after D.pops D.sub) (item_mark mark)
-            (laying_of D.Annotation.seen D.held self.old)) }
-        ensures stays { OnOk result (laying_of D.Annotation.seen D.held self.new ≡ laying_of D.Annotation.seen
-            D.held self.old) }
-        ensures works { OnOk result (IsWorking D.Annotation.seen D.held self.new) }
-        ensures kinds { IfErr result (λ e. e ≡ errors.Memory) }
-    {
-        match mark {
-            ItemMark::Bullet => self.text.current_mut().unordered_item_prefix(),
-            ItemMark::Number(number) => self.text.current_mut().ordered_item_prefix(number),
-        }
-    }
-
-    // the columns of the items' prefixes: of the wider of the first and the last
-    fn columns_of_items(&mut self, first: ItemMark, last: ItemMark) -> Result<usize, BlockError>
-        requires { IsWorking D.Annotation.seen D.held self.old }
-        ensures columns { IfOk result (λ n. (tag : _) →
-            n ≡ item_columns (marking D.text tag D.marks D.after D.pops D.sub) first last
-            (laying_of D.Annotation.seen D.held self.old)) }
-        ensures stays { OnOk result (laying_of D.Annotation.seen D.held self.new ≡ laying_of D.Annotation.seen
-            D.held self.old) }
-        ensures works { OnOk result (IsWorking D.Annotation.seen D.held self.new) }
-        ensures kinds { IfErr result (λ e. e ≡ errors.Memory) }
-    {
-        let front = self.prefix_of(first)?;
-        let back = self.prefix_of(last)?;
-        Ok(columns_of(front.as_str()).max(columns_of(back.as_str())))
-    }
-
-    /// What follows are the items of a list.
-    pub(crate) fn hold_items(
-        &mut self,
-        first: ItemMark,
-        items: usize,
-        least: usize,
-    ) -> Result<Waiting<D>, BlockError>
-        requires { IsWorking D.Annotation.seen D.held self.old }
-        ensures opened { IfOk result (λ x. Opens D.Annotation.seen D.held D.text D.gives D.marks D.after D.pops D.sub
-            (λ m. listed m first items least) (x ∷ []) self.old self.new) }
-        ensures works { OnOk result (IsWorking D.Annotation.seen D.held self.new) }
-        ensures ready { IfOk result WorksOutside }
-        ensures narrow { result ≡ Err errors.TooNarrow → NeverOpens D.Annotation.seen D.held D.text D.gives D.marks
-            D.after
-            D.pops D.sub (λ m. listed m first items least) self.old }
-        ensures kinds { IfErr result (λ e. (e ≡ errors.TooNarrow) ⊎ (e ≡ errors.Memory)) }
-    {
-        let columns = self.columns_of_items(first, first.last(items))?;
-        self.around = Around::Items {
-            mark: first,
+fn open_item<D: TextDecorator + Drop>(
+    laying: &mut Laying<D>,
+    alloc: Global,
+    mark: ItemMark,
+    columns: usize,
+    least: usize,
+) -> Result<Waiting<D>, BlockError>
+    requires { IsWorking D.Annotation.seen D.held laying.old }
+    ensures opened { IfOk result (λ x. Opens D.Annotation.seen D.held D.text D.gives D.marks D.after D.pops D.sub
+        (λ m. item_laid m mark columns least) (x ∷ []) laying.old laying.new) }
+    ensures works { OnOk result (IsWorking D.Annotation.seen D.held laying.new) }
+    ensures ready { IfOk result WorksOutside }
+    ensures narrow { result ≡ Err errors.TooNarrow → NeverOpens D.Annotation.seen D.held D.text D.gives D.marks
+        D.after
+        D.pops D.sub (λ m. item_laid m mark columns least) laying.old }
+    ensures kinds { IfErr result (λ e. (e ≡ errors.TooNarrow) ⊎ (e ≡ errors.Memory)) }
+{
+    let first = laying.item_prefix(mark, columns)?;
+    let following = spaces(alloc, columns)?;
+    let outer = laying.begin_part(columns, least)?;
+    Ok(Waiting::ItemEnds {
+        outer,
+        first,
+        following,
+        around: Around::Items {
+            mark: mark.next(),
             columns,
             least,
-        };
-        Ok(Waiting::ListEnds)
-    }
+        },
+    })
+}
 
-    fn open_item(
-        &mut self,
-        alloc: Global,
-        mark: ItemMark,
-        columns: usize,
-        least: usize,
-    ) -> Result<Waiting<D>, BlockError>
-        requires { IsWorking D.Annotation.seen D.held self.old }
-        ensures opened { IfOk result (λ x. Opens D.Annotation.seen D.held D.text D.gives D.marks D.after D.pops D.sub
-            (λ m. item_laid m mark columns least) (x ∷ []) self.old self.new) }
-        ensures works { OnOk result (IsWorking D.Annotation.seen D.held self.new) }
-        ensures ready { IfOk result WorksOutside }
-        ensures narrow { result ≡ Err errors.TooNarrow → NeverOpens D.Annotation.seen D.held D.text D.gives D.marks
-            D.after
-            D.pops D.sub (λ m. item_laid m mark columns least) self.old }
-        ensures kinds { IfErr result (λ e. (e ≡ errors.TooNarrow) ⊎ (e ≡ errors.Memory)) }
-    {
-        let first = self.item_prefix(mark, columns)?;
-        let following = spaces(alloc, columns)?;
-        let outer = self.begin_part(columns, least)?;
-        Ok(Waiting::ItemEnds {
-            outer,
-            first,
-            following,
-            around: Around::Items {
-                mark: mark.next(),
-                columns,
-                least,
-            },
-        })
-    }
-
-    /// A value begins where it stands: in a list it is an item.
-    pub(crate) fn open_place(&mut self, alloc: Global) -> Result<Option<Waiting<D>>, BlockError>
-        requires { IsWorking D.Annotation.seen D.held self.old }
-        ensures opened { IfOk result (λ x. Opens D.Annotation.seen D.held D.text D.gives D.marks D.after D.pops D.sub
-            (λ m inside l. placed m l.around inside l) (maybe x) self.old self.new) }
-        ensures works { OnOk result (IsWorking D.Annotation.seen D.held self.new) }
-        ensures ready { IfOk result (λ x. IfSome x WorksOutside) }
-        ensures narrow { result ≡ Err errors.TooNarrow → NeverOpens D.Annotation.seen D.held D.text D.gives D.marks
-            D.after
-            D.pops D.sub (λ m inside l. placed m l.around inside l) self.old }
-        ensures kinds { IfErr result (λ e. (e ≡ errors.TooNarrow) ⊎ (e ≡ errors.Memory)) }
-    {
-        match self.around {
-            Around::Flow => Ok(None),
-            Around::Items {
-                mark,
-                columns,
-                least,
-            } => Ok(Some(self.open_item(alloc, mark, columns, least)?)),
-        }
-    }
-
-    // the prefix of an item, filled up to so many columns
-    fn item_prefix(&mut self, mark: ItemMark, columns: usize) -> Result<String, BlockError>
-        requires { IsWorking D.Annotation.seen D.held self.old }
-        ensures text { IfOk result (λ s. (tag : _) → chars (string_bytes s) ≡ padded columns
-            (mark_of (marking D.text tag D.marks D.after D.pops D.sub) (item_mark mark)
-            (laying_of D.Annotation.seen D.held self.old))) }
-        ensures stays { OnOk result (laying_of D.Annotation.seen D.held self.new ≡ laying_of D.Annotation.seen
-            D.held self.old) }
-        ensures works { OnOk result (IsWorking D.Annotation.seen D.held self.new) }
-        ensures kinds { IfErr result (λ e. e ≡ errors.Memory) }
-    {
-        let mut first = self.prefix_of(mark)?;
-        fill(&mut first, columns)?;
-        Ok(first)
+/// A value begins where it stands: in a list it is an item.
+pub(crate) fn open_place<D: TextDecorator + Drop>(
+    laying: &mut Laying<D>,
+    alloc: Global,
+) -> Result<Option<Waiting<D>>, BlockError>
+    requires { IsWorking D.Annotation.seen D.held laying.old }
+    ensures opened { IfOk result (λ x. Opens D.Annotation.seen D.held D.text D.gives D.marks D.after D.pops D.sub
+        (λ m inside l. placed m l.around inside l) (maybe x) laying.old laying.new) }
+    ensures works { OnOk result (IsWorking D.Annotation.seen D.held laying.new) }
+    ensures ready { IfOk result (λ x. IfSome x WorksOutside) }
+    ensures narrow { result ≡ Err errors.TooNarrow → NeverOpens D.Annotation.seen D.held D.text D.gives D.marks
+        D.after
+        D.pops D.sub (λ m inside l. placed m l.around inside l) laying.old }
+    ensures kinds { IfErr result (λ e. (e ≡ errors.TooNarrow) ⊎ (e ≡ errors.Memory)) }
+{
+    match laying.around {
+        Around::Flow => Ok(None),
+        Around::Items {
+            mark,
+            columns,
+            least,
+        } => Ok(Some(open_item(laying, alloc, mark, columns, least)?)),
     }
 }

@@ -1,227 +1,109 @@
 //! Parts of a page, each in a renderer of its own.
-ghost use Rattle.std.specs.Prelude.{◌≡◌, ◌++◌, ◌∷◌, [], ◌⊎◌, Err, IfErr, IfOk, OnOk, Some, None, chars, false};
+ghost use Rattle.std.specs.Prelude.{◌≡◌, ◌∷◌, [], ◌⊎◌, Err, IfErr, IfOk, OnOk, chars};
 ghost use Rattle.std.specs.Prelude.{string_bytes};
 ghost use Rattle.text_pieces.specs.declared.fault.BlockError.TheVariants as errors;
-ghost use Rattle.render_walk.specs.Lay.{spaces};
+ghost use Rattle.render_laying.specs.Items.{spaces};
+ghost use Rattle.text_marks.specs.Marks.{header, quote};
+ghost use Rattle.render_walk.specs.Lay.{behind_mark};
+ghost use Rattle.render_laying.specs.Laying.{behind_prefix};
+ghost use Rattle.render_laying.specs.Seen.{IsWorking};
+ghost use Rattle.render_walk.specs.Seen.{NeverOpens, Opens, WorksOutside};
 
-use crate::around::Around;
-use crate::laying::Laying;
 use crate::waiting::Waiting;
-use block_renderer::{Renderer, SubRenderer};
-use std::alloc::{AllocError, Global};
+use render_laying::{Laying, spaces};
+use std::alloc::Global;
 use tagged_lines::columns_of;
 use text_marks::TextDecorator;
 use text_pieces::BlockError;
 
-// adds so many spaces
-pub(crate) fn push_spaces(text: &mut String, columns: usize) -> Result<(), AllocError>
-    ensures { OnOk result (chars (string_bytes text.new) ≡ chars (string_bytes text.old) ++ spaces columns) }
+/// What follows is laid out in a part, whose lines are to stand behind prefixes.
+pub(crate) fn open_part<D: TextDecorator + Drop>(
+    laying: &mut Laying<D>,
+    columns: usize,
+    least: usize,
+    first: String,
+    following: String,
+) -> Result<Waiting<D>, BlockError>
+    requires { IsWorking D.Annotation.seen D.held laying.old }
+    ensures opened { IfOk result (λ x. Opens D.Annotation.seen D.held D.text D.gives D.marks D.after D.pops D.sub
+        (λ m. behind_prefix m columns (chars (string_bytes first)) (chars (string_bytes following)) least) (x ∷
+        []) laying.old laying.new) }
+    ensures works { OnOk result (IsWorking D.Annotation.seen D.held laying.new) }
+    ensures ready { IfOk result WorksOutside }
+    ensures narrow { result ≡ Err errors.TooNarrow → NeverOpens D.Annotation.seen D.held D.text D.gives D.marks
+        D.after
+        D.pops D.sub (λ m. behind_prefix m columns (chars (string_bytes first)) (chars (string_bytes following))
+        least) laying.old }
+    ensures kinds { IfErr result (λ e. (e ≡ errors.TooNarrow) ⊎ (e ≡ errors.Memory)) }
 {
-    'spaces: for _space in 0..columns {
-        text.push_str(" ")?;
-    }
-    Ok(())
+    let outer = laying.begin_part(columns, least)?;
+    Ok(Waiting::PartEnds {
+        outer,
+        first,
+        following,
+    })
 }
 
-// so many spaces
-pub(crate) fn spaces(alloc: Global, columns: usize) -> Result<String, AllocError>
-    ensures { IfOk result (λ s. chars (string_bytes s) ≡ spaces columns) }
+/// A heading stands behind its prefix.
+pub(crate) fn hold_heading<D: TextDecorator + Drop>(
+    laying: &mut Laying<D>,
+    level: u8,
+    least: usize,
+) -> Result<Waiting<D>, BlockError>
+    requires { IsWorking D.Annotation.seen D.held laying.old }
+    ensures opened { IfOk result (λ x. Opens D.Annotation.seen D.held D.text D.gives D.marks D.after D.pops D.sub
+        (λ m. behind_mark m (header level) least) (x ∷ []) laying.old laying.new) }
+    ensures works { OnOk result (IsWorking D.Annotation.seen D.held laying.new) }
+    ensures ready { IfOk result WorksOutside }
+    ensures narrow { result ≡ Err errors.TooNarrow → NeverOpens D.Annotation.seen D.held D.text D.gives D.marks
+        D.after
+        D.pops D.sub (λ m. behind_mark m (header level) least) laying.old }
+    ensures kinds { IfErr result (λ e. (e ≡ errors.TooNarrow) ⊎ (e ≡ errors.Memory)) }
 {
-    let mut text = String::new(alloc);
-    push_spaces(&mut text, columns)?;
-    Ok(text)
+    let first = laying.heading_prefix(level)?;
+    let following = laying.heading_prefix(level)?;
+    let columns = columns_of(first.as_str());
+    open_part(laying, columns, least, first, following)
 }
 
-impl<D: TextDecorator + Drop> Laying<D> {
-    ghost use Rattle.text_marks.specs.Marks.{header, quote};
-    ghost use Rattle.block_renderer.specs.Seen.{has_failed, marking, sub_of};
-    ghost use Rattle.renderer_calls.specs.Renderers.{room_behind};
-    ghost use Rattle.render_walk.specs.Lay.{behind_mark};
-    ghost use Rattle.render_walk.specs.Laying.{behind_prefix, in_part, mark_of, part_begun, part_ended};
-    ghost use Rattle.render_walk.specs.Seen.{Comes, Fails, IsWorking, NeverOpens, Opens, WorksOutside, laying_of};
+/// A quotation stands behind its prefix.
+pub(crate) fn hold_quote<D: TextDecorator + Drop>(
+    laying: &mut Laying<D>,
+    least: usize,
+) -> Result<Waiting<D>, BlockError>
+    requires { IsWorking D.Annotation.seen D.held laying.old }
+    ensures opened { IfOk result (λ x. Opens D.Annotation.seen D.held D.text D.gives D.marks D.after D.pops D.sub
+        (λ m. behind_mark m quote least) (x ∷ []) laying.old laying.new) }
+    ensures works { OnOk result (IsWorking D.Annotation.seen D.held laying.new) }
+    ensures ready { IfOk result WorksOutside }
+    ensures narrow { result ≡ Err errors.TooNarrow → NeverOpens D.Annotation.seen D.held D.text D.gives D.marks
+        D.after
+        D.pops D.sub (λ m. behind_mark m quote least) laying.old }
+    ensures kinds { IfErr result (λ e. (e ≡ errors.TooNarrow) ⊎ (e ≡ errors.Memory)) }
+{
+    let first = laying.quote_prefix()?;
+    let following = laying.quote_prefix()?;
+    let columns = columns_of(first.as_str());
+    open_part(laying, columns, least, first, following)
+}
 
-    // the columns of a part behind a prefix
-    fn room(&self, columns: usize, least: usize) -> Result<usize, BlockError>
-        ensures room { IfOk result (λ n. room_behind columns least (laying_of D.Annotation.seen D.held
-            self.now).parts.current
-            ≡ Some n) }
-        ensures narrow { IfErr result (λ e. (e ≡ errors.TooNarrow)
-            × (room_behind columns least (laying_of D.Annotation.seen D.held self.now).parts.current ≡ None)) }
-    {
-        match self.text.current().width_minus(columns, least) {
-            Ok(width) => Ok(width),
-            Err(_) => Err(BlockError::TooNarrow),
-        }
-    }
-
-    // text goes to a part of so many columns from here on; the renderer outside is given
-    fn enter_part(&mut self, width: usize) -> Result<SubRenderer<D>, BlockError>
-        requires { IsWorking D.Annotation.seen D.held self.old }
-        ensures done { OnOk result (Comes D.Annotation.seen D.held D.text D.gives D.marks D.after D.pops D.sub
-            (λ m l. Some (in_part m width l)) self.old self.new) }
-        ensures outer { IfOk result (λ outer. sub_of D.Annotation.seen D.held outer
-            ≡ (laying_of D.Annotation.seen D.held self.old).parts.current) }
-        ensures works { OnOk result (IsWorking D.Annotation.seen D.held self.new) }
-        ensures outer_works { IfOk result (λ outer. has_failed outer ≡ false) }
-        ensures kinds { IfErr result (λ e. e ≡ errors.Memory) }
-    {
-        let part = self.text.current_mut().new_part_renderer(width)?;
-        self.around = Around::Flow;
-        Ok(self.text.replace_current(part))
-    }
-
-    // the same with the columns behind a prefix
-    pub(crate) fn begin_part(
-        &mut self,
-        columns: usize,
-        least: usize,
-    ) -> Result<SubRenderer<D>, BlockError>
-        requires { IsWorking D.Annotation.seen D.held self.old }
-        ensures done { OnOk result (Comes D.Annotation.seen D.held D.text D.gives D.marks D.after D.pops D.sub
-            (λ m. part_begun m columns least) self.old self.new) }
-        ensures outer { IfOk result (λ outer. sub_of D.Annotation.seen D.held outer
-            ≡ (laying_of D.Annotation.seen D.held self.old).parts.current) }
-        ensures works { OnOk result (IsWorking D.Annotation.seen D.held self.new) }
-        ensures outer_works { IfOk result (λ outer. has_failed outer ≡ false) }
-        ensures narrow { result ≡ Err errors.TooNarrow → Fails D.Annotation.seen D.held D.text D.gives D.marks D.after
-            D.pops D.sub (λ m. part_begun m columns least) self.old }
-        ensures kinds { IfErr result (λ e. (e ≡ errors.TooNarrow) ⊎ (e ≡ errors.Memory)) }
-    {
-        let width = self.room(columns, least)?;
-        self.enter_part(width)
-    }
-
-    /// What follows is laid out in a part, whose lines are to stand behind prefixes.
-    pub(crate) fn open_part(
-        &mut self,
-        columns: usize,
-        least: usize,
-        first: String,
-        following: String,
-    ) -> Result<Waiting<D>, BlockError>
-        requires { IsWorking D.Annotation.seen D.held self.old }
-        ensures opened { IfOk result (λ x. Opens D.Annotation.seen D.held D.text D.gives D.marks D.after D.pops D.sub
-            (λ m. behind_prefix m columns (chars (string_bytes first)) (chars (string_bytes following)) least) (x ∷
-            []) self.old self.new) }
-        ensures works { OnOk result (IsWorking D.Annotation.seen D.held self.new) }
-        ensures ready { IfOk result WorksOutside }
-        ensures narrow { result ≡ Err errors.TooNarrow → NeverOpens D.Annotation.seen D.held D.text D.gives D.marks
-            D.after
-            D.pops D.sub (λ m. behind_prefix m columns (chars (string_bytes first)) (chars (string_bytes following))
-            least) self.old }
-        ensures kinds { IfErr result (λ e. (e ≡ errors.TooNarrow) ⊎ (e ≡ errors.Memory)) }
-    {
-        let outer = self.begin_part(columns, least)?;
-        Ok(Waiting::PartEnds {
-            outer,
-            first,
-            following,
-        })
-    }
-
-    /// A part ends.
-    pub(crate) fn end_part(
-        &mut self,
-        outer: SubRenderer<D>,
-        first: &str,
-        following: &str,
-    ) -> Result<(), BlockError>
-        requires works { IsWorking D.Annotation.seen D.held self.old × (has_failed outer ≡ false) }
-        ensures done { OnOk result (Comes D.Annotation.seen D.held D.text D.gives D.marks D.after D.pops D.sub
-            (λ m. part_ended m (sub_of D.Annotation.seen D.held outer) (chars first.now) (chars following.now)) self.old
-            self.new) }
-        ensures works { OnOk result (IsWorking D.Annotation.seen D.held self.new) }
-        ensures narrow { result ≡ Err errors.TooNarrow → Fails D.Annotation.seen D.held D.text D.gives D.marks D.after
-            D.pops D.sub (λ m. part_ended m (sub_of D.Annotation.seen D.held outer) (chars first.now)
-            (chars following.now)) self.old }
-        ensures kinds { IfErr result (λ e. (e ≡ errors.TooNarrow) ⊎ (e ≡ errors.Memory)) }
-    {
-        let part = self.text.replace_current(outer);
-        self.text
-            .current_mut()
-            .append_subrender(part, first, following)
-    }
-
-    /// A heading stands behind its prefix.
-    pub(crate) fn hold_heading(&mut self, level: u8, least: usize) -> Result<Waiting<D>, BlockError>
-        requires { IsWorking D.Annotation.seen D.held self.old }
-        ensures opened { IfOk result (λ x. Opens D.Annotation.seen D.held D.text D.gives D.marks D.after D.pops D.sub
-            (λ m. behind_mark m (header level) least) (x ∷ []) self.old self.new) }
-        ensures works { OnOk result (IsWorking D.Annotation.seen D.held self.new) }
-        ensures ready { IfOk result WorksOutside }
-        ensures narrow { result ≡ Err errors.TooNarrow → NeverOpens D.Annotation.seen D.held D.text D.gives D.marks
-            D.after
-            D.pops D.sub (λ m. behind_mark m (header level) least) self.old }
-        ensures kinds { IfErr result (λ e. (e ≡ errors.TooNarrow) ⊎ (e ≡ errors.Memory)) }
-    {
-        let first = self.heading_prefix(level)?;
-        let following = self.heading_prefix(level)?;
-        let columns = columns_of(first.as_str());
-        self.open_part(columns, least, first, following)
-    }
-
-    /// A quotation stands behind its prefix.
-    pub(crate) fn hold_quote(&mut self, least: usize) -> Result<Waiting<D>, BlockError>
-        requires { IsWorking D.Annotation.seen D.held self.old }
-        ensures opened { IfOk result (λ x. Opens D.Annotation.seen D.held D.text D.gives D.marks D.after D.pops D.sub
-            (λ m. behind_mark m quote least) (x ∷ []) self.old self.new) }
-        ensures works { OnOk result (IsWorking D.Annotation.seen D.held self.new) }
-        ensures ready { IfOk result WorksOutside }
-        ensures narrow { result ≡ Err errors.TooNarrow → NeverOpens D.Annotation.seen D.held D.text D.gives D.marks
-            D.after
-            D.pops D.sub (λ m. behind_mark m quote least) self.old }
-        ensures kinds { IfErr result (λ e. (e ≡ errors.TooNarrow) ⊎ (e ≡ errors.Memory)) }
-    {
-        let first = self.quote_prefix()?;
-        let following = self.quote_prefix()?;
-        let columns = columns_of(first.as_str());
-        self.open_part(columns, least, first, following)
-    }
-
-    /// A description stands behind two spaces.
-    pub(crate) fn hold_details(
-        &mut self,
-        alloc: Global,
-        least: usize,
-    ) -> Result<Waiting<D>, BlockError>
-        requires { IsWorking D.Annotation.seen D.held self.old }
-        ensures opened { IfOk result (λ x. Opens D.Annotation.seen D.held D.text D.gives D.marks D.after D.pops D.sub
-            (λ m. behind_prefix m 2 (spaces 2) (spaces 2) least) (x ∷ []) self.old self.new) }
-        ensures works { OnOk result (IsWorking D.Annotation.seen D.held self.new) }
-        ensures ready { IfOk result WorksOutside }
-        ensures narrow { result ≡ Err errors.TooNarrow → NeverOpens D.Annotation.seen D.held D.text D.gives D.marks
-            D.after
-            D.pops D.sub (λ m. behind_prefix m 2 (spaces 2) (spaces 2) least) self.old }
-        ensures kinds { IfErr result (λ e. (e ≡ errors.TooNarrow) ⊎ (e ≡ errors.Memory)) }
-    {
-        let first = spaces(alloc, 2)?;
-        let following = spaces(alloc, 2)?;
-        self.open_part(2, least, first, following)
-    }
-
-    fn heading_prefix(&mut self, level: u8) -> Result<String, BlockError>
-        requires { IsWorking D.Annotation.seen D.held self.old }
-        ensures text { IfOk result (λ s. (tag : _) → chars (string_bytes s)
-            ≡ mark_of (marking D.text tag D.marks D.after D.pops D.sub) (header level)
-            (laying_of D.Annotation.seen D.held self.old)) }
-        ensures stays { OnOk result (laying_of D.Annotation.seen D.held self.new ≡ laying_of D.Annotation.seen
-            D.held self.old) }
-        ensures works { OnOk result (IsWorking D.Annotation.seen D.held self.new) }
-        ensures kinds { IfErr result (λ e. e ≡ errors.Memory) }
-    {
-        self.text.current_mut().header_prefix(usize::from(level))
-    }
-
-    fn quote_prefix(&mut self) -> Result<String, BlockError>
-        requires { IsWorking D.Annotation.seen D.held self.old }
-        ensures text { IfOk result (λ s. (tag : _) → chars (string_bytes s)
-            ≡ mark_of (marking D.text tag D.marks D.after D.pops D.sub) quote
-            (laying_of D.Annotation.seen D.held self.old)) }
-        ensures stays { OnOk result (laying_of D.Annotation.seen D.held self.new ≡ laying_of D.Annotation.seen
-            D.held self.old) }
-        ensures works { OnOk result (IsWorking D.Annotation.seen D.held self.new) }
-        ensures kinds { IfErr result (λ e. e ≡ errors.Memory) }
-    {
-        self.text.current_mut().quote_prefix()
-    }
+/// A description stands behind two spaces.
+pub(crate) fn hold_details<D: TextDecorator + Drop>(
+    laying: &mut Laying<D>,
+    alloc: Global,
+    least: usize,
+) -> Result<Waiting<D>, BlockError>
+    requires { IsWorking D.Annotation.seen D.held laying.old }
+    ensures opened { IfOk result (λ x. Opens D.Annotation.seen D.held D.text D.gives D.marks D.after D.pops D.sub
+        (λ m. behind_prefix m 2 (spaces 2) (spaces 2) least) (x ∷ []) laying.old laying.new) }
+    ensures works { OnOk result (IsWorking D.Annotation.seen D.held laying.new) }
+    ensures ready { IfOk result WorksOutside }
+    ensures narrow { result ≡ Err errors.TooNarrow → NeverOpens D.Annotation.seen D.held D.text D.gives D.marks
+        D.after
+        D.pops D.sub (λ m. behind_prefix m 2 (spaces 2) (spaces 2) least) laying.old }
+    ensures kinds { IfErr result (λ e. (e ≡ errors.TooNarrow) ⊎ (e ≡ errors.Memory)) }
+{
+    let first = spaces(alloc, 2)?;
+    let following = spaces(alloc, 2)?;
+    open_part(laying, 2, least, first, following)
 }

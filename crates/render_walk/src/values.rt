@@ -3,129 +3,150 @@ ghost use Rattle.std.specs.Prelude.{◌≡◌, ◌++◌, ◌⊎◌, Err, IfErr, 
 ghost use Rattle.text_pieces.specs.declared.fault.BlockError.TheVariants as errors;
 ghost use Rattle.render_values.specs.declared.node.RenderNode.{RenderNode};
 ghost use Rattle.render_walk.specs.Seen.{maybe};
+ghost use Rattle.render_walk.specs.Lay.{holds, laid, laid_outside, shown};
+ghost use Rattle.render_walk.specs.Waiting.{info_at};
+ghost use Rattle.render_laying.specs.Seen.{IsWorking};
+ghost use Rattle.render_walk.specs.Seen.{IsOpened, NeverOpens, OpensWhere, WorksOutside, content_seen};
+ghost use Rattle.column_shares.specs.Shares.{AreSized};
 
-use crate::around::ItemMark;
-use crate::laying::Laying;
+use crate::content::Content;
+use crate::lists::{hold_items, open_place};
+use crate::looking::open_look;
+use crate::parts::{hold_details, hold_heading, hold_quote};
+use crate::tables::{hold_table, open_table_part};
 use crate::waiting::Waiting;
-use render_values::{Head, RenderInfo, RenderStyle};
+use render_laying::{ItemMark, Laying};
+use render_values::{Head, RenderInfo};
 use std::alloc::{AllocError, Global};
 use text_marks::TextDecorator;
 use text_pieces::BlockError;
 
-impl<D: TextDecorator + Drop> Laying<D> {
-    ghost use Rattle.render_values.specs.Looks.{plain};
-    ghost use Rattle.render_walk.specs.Lay.{holds, laid, shown, styled};
-    ghost use Rattle.render_walk.specs.Waiting.{info_at};
-    ghost use Rattle.render_walk.specs.Seen.{IsOpened, IsWorking, NeverOpens, Opens, WorksOutside, laying_of};
-
-    // a value that a rule of style looks after, until it ends
-    fn open_look(&mut self, style: RenderStyle) -> Result<Option<Waiting<D>>, BlockError>
-        requires { IsWorking D.Annotation.seen D.held self.old }
-        ensures opened { IfOk result (λ x. Opens D.Annotation.seen D.held D.text D.gives D.marks D.after D.pops D.sub
-            (λ m. styled m style) (maybe x) self.old self.new) }
-        ensures works { OnOk result (IsWorking D.Annotation.seen D.held self.new) }
-        ensures ready { IfOk result (λ x. IfSome x WorksOutside) }
-        ensures narrow { result ≡ Err errors.TooNarrow → NeverOpens D.Annotation.seen D.held D.text D.gives D.marks
-            D.after
-            D.pops D.sub (λ m. styled m style) self.old }
-        ensures kinds { IfErr result (λ e. (e ≡ errors.TooNarrow) ⊎ (e ≡ errors.Memory)) }
-    {
-        if style == RenderStyle::plain() {
-            return Ok(None);
+// Where what stands in a value is laid out; whether it is.
+#[tactic(auto, unfolding(crate::specs::Lay::holds))]
+fn hold<D: TextDecorator + Drop>(
+    laying: &mut Laying<D>,
+    alloc: Global,
+    info: &RenderInfo,
+    content: Content,
+) -> Result<(Option<Waiting<D>>, bool), BlockError>
+    requires works { IsWorking D.Annotation.seen D.held laying.old }
+    requires sized { AreSized content.table.columns.items }
+    ensures opened { IfOk result (λ r. OpensWhere D.Annotation.seen D.held D.text D.gives D.marks D.after D.pops D.sub
+        (λ m. holds m info.now (content_seen content)) r.1 (maybe r.0) laying.old laying.new) }
+    ensures works { OnOk result (IsWorking D.Annotation.seen D.held laying.new) }
+    ensures ready { IfOk result (λ r. IfSome r.0 WorksOutside) }
+    ensures narrow { result ≡ Err errors.TooNarrow → NeverOpens D.Annotation.seen D.held D.text D.gives D.marks
+        D.after D.pops D.sub (λ m. holds m info.now (content_seen content)) laying.old }
+    ensures kinds { IfErr result (λ e. (e ≡ errors.TooNarrow) ⊎ (e ≡ errors.Memory)) }
+{
+    let least = content.least;
+    match info {
+        RenderInfo::Heading(level) => Ok((Some(hold_heading(laying, *level, least)?), true)),
+        RenderInfo::Quote => Ok((Some(hold_quote(laying, least)?), true)),
+        RenderInfo::Details => Ok((Some(hold_details(laying, alloc, least)?), true)),
+        RenderInfo::Bullets => {
+            let list = hold_items(laying, ItemMark::Bullet, content.items, least)?;
+            Ok((Some(list), true))
         }
-        self.begin_look(style)?;
-        Ok(Some(Waiting::LookEnds(style)))
-    }
-
-    // where what stands in a value is laid out
-    #[tactic(auto, unfolding(crate::specs::Lay::holds))]
-    fn hold(
-        &mut self,
-        alloc: Global,
-        info: &RenderInfo,
-        items: usize,
-        least: usize,
-    ) -> Result<Option<Waiting<D>>, BlockError>
-        requires { IsWorking D.Annotation.seen D.held self.old }
-        ensures opened { IfOk result (λ x. Opens D.Annotation.seen D.held D.text D.gives D.marks D.after D.pops D.sub
-            (λ m. holds m info.now items least) (maybe x) self.old self.new) }
-        ensures works { OnOk result (IsWorking D.Annotation.seen D.held self.new) }
-        ensures ready { IfOk result (λ x. IfSome x WorksOutside) }
-        ensures narrow { result ≡ Err errors.TooNarrow → NeverOpens D.Annotation.seen D.held D.text D.gives D.marks
-            D.after
-            D.pops D.sub (λ m. holds m info.now items least) self.old }
-        ensures kinds { IfErr result (λ e. (e ≡ errors.TooNarrow) ⊎ (e ≡ errors.Memory)) }
-    {
-        match info {
-            RenderInfo::Heading(level) => Ok(Some(self.hold_heading(*level, least)?)),
-            RenderInfo::Quote => Ok(Some(self.hold_quote(least)?)),
-            RenderInfo::Details => Ok(Some(self.hold_details(alloc, least)?)),
-            RenderInfo::Bullets => Ok(Some(self.hold_items(ItemMark::Bullet, items, least)?)),
-            RenderInfo::Numbers(first) => {
-                Ok(Some(self.hold_items(ItemMark::Number(*first), items, least)?))
-            }
-            _ => Ok(None),
+        RenderInfo::Numbers(first) => {
+            let list = hold_items(laying, ItemMark::Number(*first), content.items, least)?;
+            Ok((Some(list), true))
         }
+        RenderInfo::Table => {
+            let table = hold_table(laying, alloc, content.table)?;
+            let is_shown = table.is_some();
+            Ok((table, is_shown))
+        }
+        _ => Ok((None, true)),
     }
+}
 
-    // a value of the node at a place, until it ends
-    fn open_shown(
-        &mut self,
-        alloc: Global,
-        head: &Head,
-        at: usize,
-        items: usize,
-        least: usize,
-        waiting: &mut Vec<Waiting<D>>,
-    ) -> Result<(), BlockError>
-        requires { IsWorking D.Annotation.seen D.held self.old }
-        ensures opened { (nodes : List RenderNode) → info_at nodes at ≡ head.now.info → OnOk result (IsOpened
-            D.Annotation.seen D.held D.text D.gives D.marks D.after D.pops D.sub 2 nodes
-            (λ m. shown m head.now items least) waiting.old.items waiting.new.items self.old self.new) }
-        ensures works { OnOk result (IsWorking D.Annotation.seen D.held self.new) }
-        ensures narrow { result ≡ Err errors.TooNarrow → NeverOpens D.Annotation.seen D.held D.text D.gives D.marks
-            D.after
-            D.pops D.sub (λ m. shown m head.now items least) self.old }
-        ensures kinds { IfErr result (λ e. (e ≡ errors.TooNarrow) ⊎ (e ≡ errors.Memory)) }
-    {
-        self.lead(head)?;
-        self.begin(&head.info)?;
-        waiting.push(Waiting::ValueEnds(at))?;
-        let part = self.hold(alloc, &head.info, items, least)?;
-        push_some(waiting, part)?;
-        self.follow(head)
+// a value of the node at a place, until it ends; whether what stands in it is laid out
+fn open_shown<D: TextDecorator + Drop>(
+    laying: &mut Laying<D>,
+    alloc: Global,
+    head: &Head,
+    at: usize,
+    content: Content,
+    waiting: &mut Vec<Waiting<D>>,
+) -> Result<bool, BlockError>
+    requires works { IsWorking D.Annotation.seen D.held laying.old }
+    requires sized { AreSized content.table.columns.items }
+    ensures opened { (nodes : List RenderNode) → info_at nodes at ≡ head.now.info → IfOk result (λ entered. IsOpened
+        D.Annotation.seen D.held D.text D.gives D.marks D.after D.pops D.sub 2 nodes entered
+        (λ m. shown m head.now (content_seen content)) waiting.old.items waiting.new.items laying.old laying.new) }
+    ensures works { OnOk result (IsWorking D.Annotation.seen D.held laying.new) }
+    ensures narrow { result ≡ Err errors.TooNarrow → NeverOpens D.Annotation.seen D.held D.text D.gives D.marks
+        D.after D.pops D.sub (λ m. shown m head.now (content_seen content)) laying.old }
+    ensures kinds { IfErr result (λ e. (e ≡ errors.TooNarrow) ⊎ (e ≡ errors.Memory)) }
+{
+    laying.lead(head)?;
+    laying.begin(&head.info)?;
+    waiting.push(Waiting::ValueEnds(at))?;
+    let (part, entered) = hold(laying, alloc, &head.info, content)?;
+    push_some(waiting, part)?;
+    if !entered {
+        return Ok(false);
     }
+    laying.follow(head)?;
+    Ok(true)
+}
 
-    /// A value of the node at a place begins, with so many values in it, which asks for so many columns.
-    pub(crate) fn open_value(
-        &mut self,
-        alloc: Global,
-        head: &Head,
-        at: usize,
-        items: usize,
-        least: usize,
-        waiting: &mut Vec<Waiting<D>>,
-    ) -> Result<(), BlockError>
-        requires { IsWorking D.Annotation.seen D.held self.old }
-        ensures opened { (nodes : List RenderNode) → info_at nodes at ≡ head.now.info → OnOk result (IsOpened
-            D.Annotation.seen D.held D.text D.gives D.marks D.after D.pops D.sub 4 nodes
-            (λ m. laid m head.now items least) waiting.old.items waiting.new.items self.old self.new) }
-        ensures works { OnOk result (IsWorking D.Annotation.seen D.held self.new) }
-        ensures narrow { result ≡ Err errors.TooNarrow → NeverOpens D.Annotation.seen D.held D.text D.gives D.marks
-            D.after
-            D.pops D.sub (λ m. laid m head.now items least) self.old }
-        ensures kinds { IfErr result (λ e. (e ≡ errors.TooNarrow) ⊎ (e ≡ errors.Memory)) }
-    {
-        let item = self.open_place(alloc)?;
-        push_some(waiting, item)?;
-        let look = self.open_look(head.style)?;
-        push_some(waiting, look)?;
-        self.open_shown(alloc, head, at, items, least, waiting)
+// a value outside of tables
+fn open_outside<D: TextDecorator + Drop>(
+    laying: &mut Laying<D>,
+    alloc: Global,
+    head: &Head,
+    at: usize,
+    content: Content,
+    waiting: &mut Vec<Waiting<D>>,
+) -> Result<bool, BlockError>
+    requires works { IsWorking D.Annotation.seen D.held laying.old }
+    requires sized { AreSized content.table.columns.items }
+    ensures opened { (nodes : List RenderNode) → info_at nodes at ≡ head.now.info → IfOk result (λ entered. IsOpened
+        D.Annotation.seen D.held D.text D.gives D.marks D.after D.pops D.sub 4 nodes entered
+        (λ m. laid_outside m head.now (content_seen content)) waiting.old.items waiting.new.items laying.old
+        laying.new) }
+    ensures works { OnOk result (IsWorking D.Annotation.seen D.held laying.new) }
+    ensures narrow { result ≡ Err errors.TooNarrow → NeverOpens D.Annotation.seen D.held D.text D.gives D.marks
+        D.after D.pops D.sub (λ m. laid_outside m head.now (content_seen content)) laying.old }
+    ensures kinds { IfErr result (λ e. (e ≡ errors.TooNarrow) ⊎ (e ≡ errors.Memory)) }
+{
+    let item = open_place(laying, alloc)?;
+    push_some(waiting, item)?;
+    let look = open_look(laying, head.style)?;
+    push_some(waiting, look)?;
+    open_shown(laying, alloc, head, at, content, waiting)
+}
+
+/// A value of the node at a place begins, in which that stands; whether it is laid out.
+pub(crate) fn open_value<D: TextDecorator + Drop>(
+    laying: &mut Laying<D>,
+    alloc: Global,
+    head: &Head,
+    at: usize,
+    content: Content,
+    waiting: &mut Vec<Waiting<D>>,
+) -> Result<bool, BlockError>
+    requires works { IsWorking D.Annotation.seen D.held laying.old }
+    requires sized { AreSized content.table.columns.items }
+    ensures opened { (nodes : List RenderNode) → info_at nodes at ≡ head.now.info → IfOk result (λ entered. IsOpened
+        D.Annotation.seen D.held D.text D.gives D.marks D.after D.pops D.sub 4 nodes entered
+        (λ m. laid m head.now (content_seen content)) waiting.old.items waiting.new.items laying.old laying.new) }
+    ensures works { OnOk result (IsWorking D.Annotation.seen D.held laying.new) }
+    ensures narrow { result ≡ Err errors.TooNarrow → NeverOpens D.Annotation.seen D.held D.text D.gives D.marks
+        D.after D.pops D.sub (λ m. laid m head.now (content_seen content)) laying.old }
+    ensures kinds { IfErr result (λ e. (e ≡ errors.TooNarrow) ⊎ (e ≡ errors.Memory)) }
+{
+    let part = open_table_part(laying, alloc, head, waiting)?;
+    match part {
+        Some(entered) => Ok(entered),
+        None => open_outside(laying, alloc, head, at, content, waiting),
     }
 }
 
 // what waits, if it does, waits from here on
-fn push_some<D: TextDecorator + Drop>(
+pub(crate) fn push_some<D: TextDecorator + Drop>(
     waiting: &mut Vec<Waiting<D>>,
     next: Option<Waiting<D>>,
 ) -> Result<(), AllocError>

@@ -1,5 +1,5 @@
-use crate::around::Around;
 use block_renderer::SubRenderer;
+use render_laying::{Around, SlotsLeft, TablePlace, TableRows};
 use render_values::RenderStyle;
 use text_marks::TextDecorator;
 
@@ -30,4 +30,19 @@ pub enum Waiting<D: TextDecorator> {
     },
     /// A list ends.
     ListEnds,
+    /// A table ends, which stands there.
+    TableEnds {
+        place: TablePlace<D>,
+        fenced: bool,
+    },
+    /// A row of a table ends.
+    RowEnds,
+    /// A cell of a table ends: its renderer stands behind others in its row.
+    CellEnds {
+        outer: SubRenderer<D>,
+        rows: TableRows,
+        slots: SlotsLeft,
+        made: Vec<(SubRenderer<D>, usize)>,
+        taken: usize,
+    },
 }

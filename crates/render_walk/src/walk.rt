@@ -1,25 +1,38 @@
 //! A render tree, laid out value by value.
 ghost use Rattle.std.specs.Prelude.{◌≡◌, ◌⊎◌, ◌+◌, ◌*◌, ◌-◌, ◌<◌, ◌≤◌, All, Err, IfErr, IfOk, List, None, OnOk};
-ghost use Rattle.std.specs.Prelude.{chars, false, length};
+ghost use Rattle.std.specs.Prelude.{chars, false, length, if◌then◌else◌};
 ghost use Rattle.block_renderer.specs.Seen.{has_failed};
 ghost use Rattle.render_walk.specs.Seen.{weight};
 ghost use Rattle.render_walk.specs.Waiting.{segment};
 ghost use Rattle.text_pieces.specs.declared.fault.BlockError.TheVariants as errors;
-ghost use Rattle.render_sizes.specs.Extents.{Measure, extents};
+ghost use Rattle.render_sizes.specs.Extents.{Measure, extent_of, extents};
 ghost use Rattle.render_sizes.specs.declared.extent.Extent.{Extent as SeenExtent};
 ghost use Rattle.render_values.specs.Arena.{IsFlat, values_of};
 ghost use Rattle.render_walk.specs.Lay.{laid_parts, lay};
 ghost use Rattle.text_block_renderer.specs.Parts.{depth_of};
 ghost use Rattle.text_block_renderer.specs.SeenParts.{PartsCome, PartsFail, current_has_failed, page_has_failed};
 ghost use Rattle.text_block_renderer.specs.SeenParts.{parts_of};
+ghost use Rattle.block_renderer.specs.Seen.{IsTagging, marking, sub_of};
+ghost use Rattle.render_laying.specs.Begins.{ends};
+ghost use Rattle.render_laying.specs.Laying.{goes_on, in_turn, part_ended};
+ghost use Rattle.render_laying.specs.Seen.{Comes, Fails, IsWorking, laying_of};
+ghost use Rattle.render_walk.specs.Seen.{GoesOn, IsReady, IsSound, NeverGoes};
+ghost use Rattle.render_walk.specs.Seen.{content_seen, load, waiting_of};
+ghost use Rattle.render_walk.specs.Waiting.{info_at, undone};
+ghost use Rattle.column_shares.specs.Shares.{AreSized};
+ghost use Rattle.render_walk.specs.Lay.{content_of, table_of};
+ghost use Rattle.table_rows.specs.Tables.{table_seen};
 
-use crate::around::Around;
-use crate::laying::Laying;
+use crate::content::Content;
+use crate::tables::{end_cell, end_row, end_table};
+use crate::values::open_value;
 use crate::waiting::Waiting;
 use block_renderer::SubRenderer;
-use render_sizes::{Extent, number};
-use render_values::{RenderNode, RenderTree};
-use std::alloc::Global;
+use render_laying::{Around, Laying, TablePlace};
+use render_sizes::{Extent, number, table_among};
+use render_values::{Head, RenderInfo, RenderNode, RenderTree};
+use std::alloc::{AllocError, Global};
+use table_rows::Table;
 use text_block_renderer::TextRenderer;
 use text_marks::TextDecorator;
 use text_pieces::BlockError;
@@ -40,186 +53,267 @@ fn nodes_between(nodes: &[RenderNode], from: usize, to: usize) -> &[RenderNode]
     &nodes[from..to]
 }
 
-impl<D: TextDecorator + Drop> Laying<D> {
-    ghost use Rattle.block_renderer.specs.Seen.{IsTagging, marking, sub_of};
-    ghost use Rattle.render_walk.specs.Lay.{ends};
-    ghost use Rattle.render_walk.specs.Laying.{goes_on, in_turn, part_ended};
-    ghost use Rattle.render_walk.specs.Seen.{Comes, Fails, GoesOn, IsReady, IsSound, IsWorking, NeverGoes, laying_of};
-    ghost use Rattle.render_walk.specs.Seen.{load, waiting_of};
-    ghost use Rattle.render_walk.specs.Waiting.{info_at, undone};
+// what the values of those nodes ask for
+fn extents_between(sizes: &[Extent], from: usize, to: usize) -> &[Extent]
+    requires order { from ≤ to }
+    requires within { to ≤ length sizes.now }
+    ensures { result.now ≡ segment sizes.now from to }
+{
+    &sizes[from..to]
+}
 
-    // the value of the node at a place ends
-    #[tactic(auto, unfolding(crate::specs::Lay::ends))]
-    fn end_at(&mut self, nodes: &[RenderNode], at: usize) -> Result<(), BlockError>
-        requires { IsWorking D.Annotation.seen D.held self.old }
-        ensures done { OnOk result (Comes D.Annotation.seen D.held D.text D.gives D.marks D.after D.pops D.sub
-            (λ m. ends m (info_at nodes.now at)) self.old self.new) }
-        ensures works { OnOk result (IsWorking D.Annotation.seen D.held self.new) }
-        ensures narrow { result ≡ Err errors.TooNarrow → Fails D.Annotation.seen D.held D.text D.gives D.marks D.after
-            D.pops D.sub (λ m. ends m (info_at nodes.now at)) self.old }
-        ensures kinds { IfErr result (λ e. (e ≡ errors.TooNarrow) ⊎ (e ≡ errors.Memory)) }
-    {
-        match nodes.get(at) {
-            Some(node) => self.end(&node.head.info),
-            None => Ok(()),
+// the table that values are where they stand in one
+fn table_of(
+    alloc: Global,
+    info: &RenderInfo,
+    inside: &[RenderNode],
+    sizes: &[Extent],
+) -> Result<Table, AllocError>
+    ghost w: { Measure }
+    requires flat { IsFlat inside.now }
+    requires sized { sizes.now ≡ extents w (values_of inside.now) }
+    ensures table { IfOk result (λ t. table_seen t ≡ table_of w info.now (values_of inside.now)) }
+    ensures sized { IfOk result (λ t. AreSized t.columns.items) }
+{
+    match info {
+        RenderInfo::Table => table_among(alloc, inside, sizes),
+        _ => Ok(Table::empty(alloc)),
+    }
+}
+
+// what is to be known of what stands in a value that asks for so many columns
+fn content_of(
+    alloc: Global,
+    head: &Head,
+    least: usize,
+    inside: &[RenderNode],
+    sizes: &[Extent],
+) -> Result<Content, AllocError>
+    ghost w: { Measure }
+    requires flat { IsFlat inside.now }
+    requires sized { sizes.now ≡ extents w (values_of inside.now) }
+    requires least { least ≡ (extent_of w head.now (values_of inside.now)).least }
+    ensures seen { IfOk result (λ c. content_seen c ≡ content_of w head.now (values_of inside.now)) }
+    ensures sized { IfOk result (λ c. AreSized c.table.columns.items) }
+{
+    let items = number(inside);
+    let table = table_of(alloc, &head.info, inside, sizes)?;
+    Ok(Content {
+        items,
+        least,
+        table,
+    })
+}
+
+// the value of the node at a place ends
+#[tactic(auto, unfolding(render_laying::specs::Begins::ends))]
+fn end_at<D: TextDecorator + Drop>(
+    laying: &mut Laying<D>,
+    nodes: &[RenderNode],
+    at: usize,
+) -> Result<(), BlockError>
+    requires { IsWorking D.Annotation.seen D.held laying.old }
+    ensures done { OnOk result (Comes D.Annotation.seen D.held D.text D.gives D.marks D.after D.pops D.sub
+        (λ m. ends m (info_at nodes.now at)) laying.old laying.new) }
+    ensures works { OnOk result (IsWorking D.Annotation.seen D.held laying.new) }
+    ensures narrow { result ≡ Err errors.TooNarrow → Fails D.Annotation.seen D.held D.text D.gives D.marks D.after
+        D.pops D.sub (λ m. ends m (info_at nodes.now at)) laying.old }
+    ensures kinds { IfErr result (λ e. (e ≡ errors.TooNarrow) ⊎ (e ≡ errors.Memory)) }
+{
+    match nodes.get(at) {
+        Some(node) => laying.end(&node.head.info),
+        None => Ok(()),
+    }
+}
+
+// an item's part ends, and then the list around says this
+fn end_item<D: TextDecorator + Drop>(
+    laying: &mut Laying<D>,
+    outer: SubRenderer<D>,
+    first: &str,
+    following: &str,
+    around: Around,
+) -> Result<(), BlockError>
+    requires works { IsWorking D.Annotation.seen D.held laying.old × (has_failed outer ≡ false) }
+    ensures done { OnOk result (Comes D.Annotation.seen D.held D.text D.gives D.marks D.after D.pops D.sub
+        (λ m. in_turn (part_ended m (sub_of D.Annotation.seen D.held outer) (chars first.now) (chars following.now))
+        (goes_on around)) laying.old laying.new) }
+    ensures works { OnOk result (IsWorking D.Annotation.seen D.held laying.new) }
+    ensures narrow { result ≡ Err errors.TooNarrow → Fails D.Annotation.seen D.held D.text D.gives D.marks D.after
+        D.pops D.sub (λ m. in_turn (part_ended m (sub_of D.Annotation.seen D.held outer) (chars first.now)
+        (chars following.now)) (goes_on around)) laying.old }
+    ensures kinds { IfErr result (λ e. (e ≡ errors.TooNarrow) ⊎ (e ≡ errors.Memory)) }
+{
+    laying.end_part(outer, first, following)?;
+    laying.around = around;
+    Ok(())
+}
+
+// what waited last is done, or its nodes are the next
+fn leave<D: TextDecorator + Drop>(
+    laying: &mut Laying<D>,
+    alloc: Global,
+    nodes: &[RenderNode],
+    place: Place,
+    next: Waiting<D>,
+) -> Result<Place, BlockError>
+    requires works { IsWorking D.Annotation.seen D.held laying.old }
+    requires ready { (sizes : List SeenExtent) × ((w : Measure) × IsReady nodes.now sizes w next) }
+    requires past { place.end ≤ place.at }
+    ensures goes { IfOk result (λ p. (tag : _) → IsTagging D.Annotation.seen D.gives tag → (w : Measure)
+        → lay (marking D.text tag D.marks D.after D.pops D.sub) w (values_of (segment nodes.now p.at p.end))
+        (laying_of D.Annotation.seen D.held laying.new)
+        ≡ undone (marking D.text tag D.marks D.after D.pops D.sub) w
+        (waiting_of D.Annotation.seen D.held nodes.now next) (laying_of D.Annotation.seen D.held laying.old)) }
+    ensures works { OnOk result (IsWorking D.Annotation.seen D.held laying.new) }
+    ensures sound { (sizes : List SeenExtent) (w : Measure) → IsReady nodes.now sizes w next
+        → IsSound nodes.now sizes w place.at place.end → IfOk result (λ p. IsSound nodes.now sizes w p.at p.end) }
+    ensures falls { IfOk result (λ p. 8 * (p.end - p.at) + 1 ≤ weight next) }
+    ensures narrow { result ≡ Err errors.TooNarrow → (tag : _) → IsTagging D.Annotation.seen D.gives tag
+        → (w : Measure) → undone (marking D.text tag D.marks D.after D.pops D.sub) w
+        (waiting_of D.Annotation.seen D.held nodes.now next) (laying_of D.Annotation.seen D.held laying.old) ≡ None }
+    ensures kinds { IfErr result (λ e. (e ≡ errors.TooNarrow) ⊎ (e ≡ errors.Memory)) }
+{
+    match next {
+        Waiting::Rest { from, to } => Ok(Place { at: from, end: to }),
+        Waiting::ValueEnds(at) => {
+            end_at(laying, nodes, at)?;
+            Ok(place)
+        }
+        Waiting::LookEnds(style) => {
+            laying.end_look(style);
+            Ok(place)
+        }
+        Waiting::PartEnds {
+            outer,
+            first,
+            following,
+        } => {
+            laying.end_part(outer, first.as_str(), following.as_str())?;
+            Ok(place)
+        }
+        Waiting::ItemEnds {
+            outer,
+            first,
+            following,
+            around,
+        } => {
+            end_item(laying, outer, first.as_str(), following.as_str(), around)?;
+            Ok(place)
+        }
+        Waiting::ListEnds => {
+            laying.around = Around::Flow;
+            Ok(place)
+        }
+        Waiting::TableEnds {
+            place: table,
+            fenced,
+        } => {
+            end_table(laying, table, fenced)?;
+            Ok(place)
+        }
+        Waiting::RowEnds => {
+            end_row(laying, alloc)?;
+            Ok(place)
+        }
+        Waiting::CellEnds {
+            outer,
+            rows,
+            slots,
+            made,
+            taken,
+        } => {
+            end_cell(laying, alloc, outer, rows, slots, made, taken)?;
+            Ok(place)
         }
     }
+}
 
-    // an item's part ends, and then the list around says this
-    fn end_item(
-        &mut self,
-        outer: SubRenderer<D>,
-        first: &str,
-        following: &str,
-        around: Around,
-    ) -> Result<(), BlockError>
-        requires works { IsWorking D.Annotation.seen D.held self.old × (has_failed outer ≡ false) }
-        ensures done { OnOk result (Comes D.Annotation.seen D.held D.text D.gives D.marks D.after D.pops D.sub
-            (λ m. in_turn (part_ended m (sub_of D.Annotation.seen D.held outer) (chars first.now) (chars following.now))
-            (goes_on around)) self.old self.new) }
-        ensures works { OnOk result (IsWorking D.Annotation.seen D.held self.new) }
-        ensures narrow { result ≡ Err errors.TooNarrow → Fails D.Annotation.seen D.held D.text D.gives D.marks D.after
-            D.pops D.sub (λ m. in_turn (part_ended m (sub_of D.Annotation.seen D.held outer) (chars first.now)
-            (chars following.now)) (goes_on around)) self.old }
-        ensures kinds { IfErr result (λ e. (e ≡ errors.TooNarrow) ⊎ (e ≡ errors.Memory)) }
-    {
-        self.end_part(outer, first, following)?;
-        self.around = around;
-        Ok(())
+// the next node where a value was entered, whose nodes those are: the first of them, or none
+fn entrance(entered: bool, first: usize, behind: usize) -> usize
+    ensures { result ≡ if entered then first else behind }
+{
+    if entered {
+        return first;
     }
+    behind
+}
 
-    // what waited last is done, or its nodes are the next
-    fn leave(
-        &mut self,
-        nodes: &[RenderNode],
-        place: Place,
-        next: Waiting<D>,
-    ) -> Result<Place, BlockError>
-        requires works { IsWorking D.Annotation.seen D.held self.old }
-        requires ready { (sizes : List SeenExtent) × ((w : Measure) × IsReady nodes.now sizes w next) }
-        requires past { place.end ≤ place.at }
-        ensures goes { IfOk result (λ p. (tag : _) → IsTagging D.Annotation.seen D.gives tag → (w : Measure)
-            → lay (marking D.text tag D.marks D.after D.pops D.sub) w (values_of (segment nodes.now p.at p.end))
-            (laying_of D.Annotation.seen D.held self.new)
-            ≡ undone (marking D.text tag D.marks D.after D.pops D.sub) w
-            (waiting_of D.Annotation.seen D.held nodes.now next) (laying_of D.Annotation.seen D.held self.old)) }
-        ensures works { OnOk result (IsWorking D.Annotation.seen D.held self.new) }
-        ensures sound { (sizes : List SeenExtent) (w : Measure) → IsReady nodes.now sizes w next
-            → IsSound nodes.now sizes w place.at place.end → IfOk result (λ p. IsSound nodes.now sizes w p.at p.end) }
-        ensures falls { IfOk result (λ p. 8 * (p.end - p.at) + 1 ≤ weight next) }
-        ensures narrow { result ≡ Err errors.TooNarrow → (tag : _) → IsTagging D.Annotation.seen D.gives tag
-            → (w : Measure) → undone (marking D.text tag D.marks D.after D.pops D.sub) w
-            (waiting_of D.Annotation.seen D.held nodes.now next) (laying_of D.Annotation.seen D.held self.old) ≡ None }
-        ensures kinds { IfErr result (λ e. (e ≡ errors.TooNarrow) ⊎ (e ≡ errors.Memory)) }
-    {
-        match next {
-            Waiting::Rest { from, to } => Ok(Place { at: from, end: to }),
-            Waiting::ValueEnds(at) => {
-                self.end_at(nodes, at)?;
-                Ok(place)
-            }
-            Waiting::LookEnds(style) => {
-                self.end_look(style);
-                Ok(place)
-            }
-            Waiting::PartEnds {
-                outer,
-                first,
-                following,
-            } => {
-                self.end_part(outer, first.as_str(), following.as_str())?;
-                Ok(place)
-            }
-            Waiting::ItemEnds {
-                outer,
-                first,
-                following,
-                around,
-            } => {
-                self.end_item(outer, first.as_str(), following.as_str(), around)?;
-                Ok(place)
-            }
-            Waiting::ListEnds => {
-                self.around = Around::Flow;
-                Ok(place)
-            }
-        }
-    }
+// the next value begins
+fn enter<D: TextDecorator + Drop>(
+    laying: &mut Laying<D>,
+    alloc: Global,
+    nodes: &[RenderNode],
+    sizes: &[Extent],
+    place: Place,
+    waiting: &mut Vec<Waiting<D>>,
+) -> Result<Place, BlockError>
+    ghost w: { Measure }
+    requires works { IsWorking D.Annotation.seen D.held laying.old }
+    requires here { place.at < place.end }
+    requires sound { IsSound nodes.now sizes.now w place.at place.end }
+    ensures goes { IfOk result (λ p. GoesOn D.Annotation.seen D.held D.text D.gives D.marks D.after D.pops D.sub
+        nodes.now w place.at place.end waiting.old.items laying.old p.at p.end waiting.new.items laying.new) }
+    ensures works { OnOk result (IsWorking D.Annotation.seen D.held laying.new) }
+    ensures ready { All (IsReady nodes.now sizes.now w) waiting.old.items
+        → OnOk result (All (IsReady nodes.now sizes.now w) waiting.new.items) }
+    ensures sound { IfOk result (λ p. IsSound nodes.now sizes.now w p.at p.end) }
+    ensures falls { IfOk result (λ p. load waiting.new.items + 8 * (p.end - p.at)
+        < load waiting.old.items + 8 * (place.end - place.at)) }
+    ensures narrow { result ≡ Err errors.TooNarrow → NeverGoes D.Annotation.seen D.held D.text D.gives D.marks
+        D.after D.pops D.sub nodes.now w place.at place.end waiting.old.items laying.old }
+    ensures kinds { IfErr result (λ e. (e ≡ errors.TooNarrow) ⊎ (e ≡ errors.Memory)) }
+{
+    let node = &nodes[place.at];
+    let extent = &sizes[place.at];
+    let first = place.at + 1;
+    let behind = first + node.below;
+    waiting.push(Waiting::Rest {
+        from: behind,
+        to: place.end,
+    })?;
+    let inside = nodes_between(nodes, first, behind);
+    let inner = extents_between(sizes, first, behind);
+    let content = content_of(alloc, &node.head, extent.least, inside, inner)?;
+    let entered = open_value(laying, alloc, &node.head, place.at, content, waiting)?;
+    Ok(Place {
+        at: entrance(entered, first, behind),
+        end: behind,
+    })
+}
 
-    // the next value begins
-    fn enter(
-        &mut self,
-        alloc: Global,
-        nodes: &[RenderNode],
-        sizes: &[Extent],
-        place: Place,
-        waiting: &mut Vec<Waiting<D>>,
-    ) -> Result<Place, BlockError>
-        ghost w: { Measure }
-        requires works { IsWorking D.Annotation.seen D.held self.old }
-        requires here { place.at < place.end }
-        requires sound { IsSound nodes.now sizes.now w place.at place.end }
-        ensures goes { IfOk result (λ p. GoesOn D.Annotation.seen D.held D.text D.gives D.marks D.after D.pops D.sub
-            nodes.now w place.at place.end waiting.old.items self.old p.at p.end waiting.new.items self.new) }
-        ensures works { OnOk result (IsWorking D.Annotation.seen D.held self.new) }
-        ensures ready { All (IsReady nodes.now sizes.now w) waiting.old.items
-            → OnOk result (All (IsReady nodes.now sizes.now w) waiting.new.items) }
-        ensures sound { IfOk result (λ p. IsSound nodes.now sizes.now w p.at p.end) }
-        ensures falls { IfOk result (λ p. load waiting.new.items + 8 * (p.end - p.at)
-            < load waiting.old.items + 8 * (place.end - place.at)) }
-        ensures narrow { result ≡ Err errors.TooNarrow → NeverGoes D.Annotation.seen D.held D.text D.gives D.marks
-            D.after D.pops D.sub nodes.now w place.at place.end waiting.old.items self.old }
-        ensures kinds { IfErr result (λ e. (e ≡ errors.TooNarrow) ⊎ (e ≡ errors.Memory)) }
-    {
-        let node = &nodes[place.at];
-        let extent = &sizes[place.at];
-        let first = place.at + 1;
-        let behind = first + node.below;
-        waiting.push(Waiting::Rest {
-            from: behind,
-            to: place.end,
-        })?;
-        let items = number(nodes_between(nodes, first, behind));
-        self.open_value(alloc, &node.head, place.at, items, extent.least, waiting)?;
-        Ok(Place {
-            at: first,
-            end: behind,
-        })
-    }
-
-    // lays out the values of nodes, of each of which it is told how many columns it asks for
-    fn walk(
-        &mut self,
-        alloc: Global,
-        nodes: &[RenderNode],
-        sizes: &[Extent],
-    ) -> Result<(), BlockError>
-        ghost w: { Measure }
-        requires works { IsWorking D.Annotation.seen D.held self.old }
-        requires flat { IsFlat nodes.now }
-        requires sized { sizes.now ≡ extents w (values_of nodes.now) }
-        ensures done { OnOk result (Comes D.Annotation.seen D.held D.text D.gives D.marks D.after D.pops D.sub
-            (λ m. lay m w (values_of nodes.now)) self.old self.new) }
-        ensures works { OnOk result (IsWorking D.Annotation.seen D.held self.new) }
-        ensures narrow { result ≡ Err errors.TooNarrow → Fails D.Annotation.seen D.held D.text D.gives D.marks D.after
-            D.pops D.sub (λ m. lay m w (values_of nodes.now)) self.old }
-        ensures kinds { IfErr result (λ e. (e ≡ errors.TooNarrow) ⊎ (e ≡ errors.Memory)) }
-    {
-        let mut waiting: Vec<Waiting<D>> = Vec::new(alloc);
-        let mut place = Place {
-            at: 0,
-            end: nodes.len(),
-        };
-        'nodes: loop {
-            if place.at < place.end {
-                place = self.enter(alloc, nodes, sizes, place, &mut waiting)?;
-            } else {
-                match waiting.pop() {
-                    Some(next) => {
-                        place = self.leave(nodes, place, next)?;
-                    }
-                    None => return Ok(()),
+// lays out the values of nodes, of each of which it is told how many columns it asks for
+fn walk<D: TextDecorator + Drop>(
+    laying: &mut Laying<D>,
+    alloc: Global,
+    nodes: &[RenderNode],
+    sizes: &[Extent],
+) -> Result<(), BlockError>
+    ghost w: { Measure }
+    requires works { IsWorking D.Annotation.seen D.held laying.old }
+    requires flat { IsFlat nodes.now }
+    requires sized { sizes.now ≡ extents w (values_of nodes.now) }
+    ensures done { OnOk result (Comes D.Annotation.seen D.held D.text D.gives D.marks D.after D.pops D.sub
+        (λ m. lay m w (values_of nodes.now)) laying.old laying.new) }
+    ensures works { OnOk result (IsWorking D.Annotation.seen D.held laying.new) }
+    ensures narrow { result ≡ Err errors.TooNarrow → Fails D.Annotation.seen D.held D.text D.gives D.marks D.after
+        D.pops D.sub (λ m. lay m w (values_of nodes.now)) laying.old }
+    ensures kinds { IfErr result (λ e. (e ≡ errors.TooNarrow) ⊎ (e ≡ errors.Memory)) }
+{
+    let mut waiting: Vec<Waiting<D>> = Vec::new(alloc);
+    let mut place = Place {
+        at: 0,
+        end: nodes.len(),
+    };
+    'nodes: loop {
+        if place.at < place.end {
+            place = enter(laying, alloc, nodes, sizes, place, &mut waiting)?;
+        } else {
+            match waiting.pop() {
+                Some(next) => {
+                    place = leave(laying, alloc, nodes, place, next)?;
                 }
+                None => return Ok(()),
             }
         }
     }
@@ -249,8 +343,13 @@ pub fn lay_tree<D: TextDecorator + Drop>(
     let mut laying = Laying {
         text,
         around: Around::Flow,
+        table: TablePlace::Outside { in_cell: false },
     };
-    laying.walk(alloc, tree.nodes(), sizes)?;
-    let Laying { text, around: _ } = laying;
+    walk(&mut laying, alloc, tree.nodes(), sizes)?;
+    let Laying {
+        text,
+        around: _,
+        table: _,
+    } = laying;
     Ok(text)
 }

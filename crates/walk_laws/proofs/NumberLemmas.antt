@@ -1,6 +1,6 @@
 -- Numbers of items lie between those of the first and of the last, and prefixes are filled up to their columns.
-use Rattle.std.proofs.Common.{◌≡◌, ℕ, suc, ◌-◌, ◌*◌, ◌^◌, ◌≤◌, ◌⊎◌, ℤ, pos, negsuc, ◌+ℤ◌, ◌≤ℤ◌, List}
-use Rattle.std.proofs.Common.{Bool, true, false, inl, inr, refl, ap, arith}
+use Rattle.std.proofs.Common.{◌≡◌, ℕ, suc, ◌-◌, ◌*◌, ◌^◌, ◌≤◌, ◌⊎◌, ℤ, pos, negsuc, ◌+ℤ◌, ◌≤ℤ◌, List, Bool, true, false}
+use Rattle.std.proofs.Common.{inl, inr, refl, ap, arith}
 use Rattle.std.specs.Prelude.{FitsSigned, min, nat_le, unwrap_or}
 use Rattle.std.specs.Int.{w64, saturate_signed}
 use Rattle.std.proofs.lemmas.Bool.Decides.{nat_tests}
@@ -8,7 +8,7 @@ use Rattle.std.proofs.lemmas.Int.{ints}
 use Rattle.std.proofs.lemmas.List.Folds.{sum_by-replicate}
 use Rattle.std.proofs.lemmas.List.Sums.{sum_by-append}
 use Rattle.tagged_lines.specs.Columns.{columns_of-one, text_columns, width_of}
-use Rattle.render_walk.specs.Lay.{number_after, padded, spaces}
+use Rattle.render_laying.specs.Items.{number_after, padded, spaces}
 
 -- ---- columns of spaces
 

@@ -1,6 +1,6 @@
 -- Where characters may overflow, each value is laid out.
 use Rattle.std.proofs.Common.{ℕ, Bool, true, false, List, Option, None, Some}
-use Rattle.std.specs.Prelude.{IsSome, IsSomeAnd, if◌then◌else◌}
+use Rattle.std.specs.Prelude.{All, IsSome, IsSomeAnd, if◌then◌else◌}
 use Rattle.std.specs.Option.{option_map}
 use Rattle.layout_laws.proofs.OptionLemmas.{given_mapped, given_chained}
 use Rattle.block_renderer.specs.NewParts.{part_of}
@@ -11,18 +11,19 @@ use Rattle.renderer_laws.specs.RendererLaws.{CallHasRoom, HasRoom}
 use Rattle.text_block_renderer.specs.PartLaws.{HaveRoom}
 use Rattle.text_block_renderer.specs.Parts.{Parts, begin_part_link, finish_part_link}
 use Rattle.text_marks.specs.Marks as marks
-use Rattle.render_sizes.specs.Extents.{Measure, extent_of, number}
-use Rattle.render_values.specs.Values.{Values, none, value}
 use Rattle.render_values.specs.declared.info.Head.{Head}
 use Rattle.render_values.specs.declared.info.RenderInfo.{RenderInfo}
 use Rattle.render_values.specs.declared.info.RenderInfo.TheVariants as infos
 use Rattle.render_values.specs.declared.style.RenderStyle.{RenderStyle}
-use Rattle.render_walk.specs.Lay.{begins, ends, fragment_leads, following, holds, laid, lay, leading}
-use Rattle.render_walk.specs.Lay.{named, next_mark, placed, shown, style_begins, style_ends, styled}
-use Rattle.render_walk.specs.Laying.{Laying, Step, begins_link, behind_prefix, ends_link, for_some, goes_on}
-use Rattle.render_walk.specs.Laying.{in_current, in_part, in_parts, in_turn, part_begun, part_ended, says}
-use Rattle.render_walk.specs.declared.around.Around.{Around}
-use Rattle.render_walk.specs.declared.around.Around.TheVariants.{Flow, Items}
+use Rattle.render_laying.specs.Begins.{begins, ends, fragment_leads, following, leading, named, style_begins}
+use Rattle.render_laying.specs.Begins.{style_ends}
+use Rattle.render_laying.specs.Items.{next_mark}
+use Rattle.render_laying.specs.Laying.{Laying, Step, TablePlace, begins_link, behind_prefix, cells, ends_link, for_some}
+use Rattle.render_laying.specs.Laying.{goes_on, goes_to, in_current, in_part, in_parts, in_turn, outside, part_begun}
+use Rattle.render_laying.specs.Laying.{part_ended, rows, says}
+use Rattle.render_laying.specs.declared.around.Around.{Around}
+use Rattle.render_laying.specs.declared.around.Around.TheVariants.{Flow, Items}
+use Rattle.render_walk.specs.Lay.{placed, styled}
 
 -- what the crates below say of renderers
 pub record RoomLaws {H A : Type 0} (m : Marking H A) : Type 0 where
@@ -32,44 +33,54 @@ pub record RoomLaws {H A : Type 0} (m : Marking H A) : Type 0 where
   pub link_begins : (target : List ℕ) (p : Parts H A) → HaveRoom p → IsSomeAnd (begin_part_link m target p) HaveRoom
   pub link_ends : (p : Parts H A) → HaveRoom p → IsSomeAnd (finish_part_link m p) HaveRoom
 
+-- so do all that stand in a row
+abbrev pub RoomAt : {H A : Type 0} → TablePlace H A → Type 0
+RoomAt (outside in_cell) = Unit {0}
+RoomAt (rows widths slots fragments) = Unit {0}
+RoomAt (cells widths more fragments slots made) = All (λ c. HasRoom c.0) made
+
 -- all renderers of the page have room
-abbrev Roomy : {H A : Type 0} → Laying H A → Type 0
-Roomy l = HaveRoom l.parts
+abbrev pub Roomy : {H A : Type 0} → Laying H A → Type 0
+Roomy l = HaveRoom l.parts × RoomAt l.table
 
 -- Where there was room, the step is done, and there is still room.
-abbrev Goes : {H A : Type 0} → Step H A → Type 0
+abbrev pub Goes : {H A : Type 0} → Step H A → Type 0
 Goes {H} {A} f = (x : Laying H A) → Roomy x → IsSomeAnd (f x) Roomy
 
 -- ---- steps
 
-goes_by : {H A : Type 0} → Goes {H = H} {A = A} Some
+pub goes_by : {H A : Type 0} → Goes {H = H} {A = A} Some
 goes_by x room = room
 
-goes_through : {H A : Type 0} (f g : Step H A) → Goes f → Goes g → Goes (in_turn f g)
+pub goes_through : {H A : Type 0} (f g : Step H A) → Goes f → Goes g → Goes (in_turn f g)
 goes_through f g one other x room = given_chained Roomy Roomy g (f x) other (one x room)
 
-goes_around : {H A : Type 0} (a : Around) → Goes {H = H} {A = A} (goes_on a)
+pub goes_around : {H A : Type 0} (a : Around) → Goes {H = H} {A = A} (goes_on a)
 goes_around a x room = room
 
-for_goes : {X H A : Type 0} (o : Option X) (f : X → Step H A) → ((x : X) → Goes (f x)) → Goes (for_some o f)
+pub goes_there : {H A : Type 0} (place : TablePlace H A) → RoomAt place → Goes {H = H} {A = A} (goes_to place)
+goes_there place at x room = (room.0, at)
+
+pub for_goes : {X H A : Type 0} (o : Option X) (f : X → Step H A) → ((x : X) → Goes (f x)) → Goes (for_some o f)
 for_goes None f each = goes_by
 for_goes (Some x) f each = each x
 
-says_goes : {H A : Type 0} {m : Marking H A} (laws : RoomLaws m) (c : Call (Sub H A)) → CallHasRoom c
+pub says_goes : {H A : Type 0} {m : Marking H A} (laws : RoomLaws m) (c : Call (Sub H A)) → CallHasRoom c
     → Goes (says m c)
 unfolding says
 says_goes {m = m} laws c taken x room = given_mapped HasRoom Roomy (in_current x) (step m c x.parts.current)
-    (λ s h. record { current = h; below = room.below }) (laws.does c x.parts.current room.current taken)
+    (λ s h. (record { current = h; below = room.0.below }, room.1))
+    (laws.does c x.parts.current room.0.current taken)
 
 link_goes : {H A : Type 0} {m : Marking H A} (laws : RoomLaws m) (target : List ℕ) → Goes (begins_link m target)
 unfolding begins_link
 link_goes {m = m} laws target x room = given_mapped HaveRoom Roomy (in_parts x) (begin_part_link m target x.parts)
-    (λ p h. h) (laws.link_begins target x.parts room)
+    (λ p h. (h, room.1)) (laws.link_begins target x.parts room.0)
 
 link_end_goes : {H A : Type 0} {m : Marking H A} (laws : RoomLaws m) → Goes (ends_link m)
 unfolding ends_link
 link_end_goes {m = m} laws x room = given_mapped HaveRoom Roomy (in_parts x) (finish_part_link m x.parts)
-    (λ p h. h) (laws.link_ends x.parts room)
+    (λ p h. (h, room.1)) (laws.link_ends x.parts room.0)
 
 -- ---- parts
 
@@ -78,42 +89,43 @@ opened : {X Y : Type 0} (Q : Y → Type 0) (f : X → Y) (o : Option X) → ((x 
 opened Q f None each some = absurd (cc some)
 opened Q f (Some x) each some = each x
 
-part_goes : {H A : Type 0} {m : Marking H A} (laws : RoomLaws m) (width : ℕ) (x : Laying H A) → Roomy x
+pub part_goes : {H A : Type 0} {m : Marking H A} (laws : RoomLaws m) (width : ℕ) (x : Laying H A) → Roomy x
     → Roomy (in_part m width x)
 unfolding in_part
-part_goes laws width x room = record { current = laws.part width x.parts.current room.current; below = room.below }
+part_goes laws width x room =
+    (record { current = laws.part width x.parts.current room.0.current; below = room.0.below }, room.1)
 
 part_begins : {H A : Type 0} {m : Marking H A} (laws : RoomLaws m) (columns least : ℕ)
     → Goes (part_begun m columns least)
 unfolding part_begun
 part_begins {m = m} laws columns least x room = opened Roomy (λ width. in_part m width x)
     (room_behind columns least x.parts.current) (λ width. part_goes laws width x room)
-    (laws.behind columns least x.parts.current room.current)
+    (laws.behind columns least x.parts.current room.0.current)
 
 part_ends : {H A : Type 0} {m : Marking H A} (laws : RoomLaws m) (outer : Sub H A) (first further : List ℕ)
     → HasRoom outer → Goes (part_ended m outer first further)
 unfolding part_ended
 part_ends {m = m} laws outer first further has x room =
-    says_goes laws (calls.adds_block x.parts.current first further) room.current (in_current x outer)
-    (record { current = has; below = room.below })
+    says_goes laws (calls.adds_block x.parts.current first further) room.0.current (in_current x outer)
+    (record { current = has; below = room.0.below }, room.1)
 
-prefix_goes : {H A : Type 0} {m : Marking H A} (laws : RoomLaws m) (columns : ℕ) (first further : List ℕ)
+pub prefix_goes : {H A : Type 0} {m : Marking H A} (laws : RoomLaws m) (columns : ℕ) (first further : List ℕ)
     (least : ℕ) (inside : Step H A) (x : Laying H A) → Goes inside → Roomy x
     → IsSomeAnd (behind_prefix m columns first further least inside x) Roomy
 prefix_goes {m = m} laws columns first further least inside x goes room =
     goes_through (part_begun m columns least) (in_turn inside (part_ended m x.parts.current first further))
     (part_begins laws columns least)
     (goes_through inside (part_ended m x.parts.current first further) goes
-    (part_ends laws x.parts.current first further room.current)) x room
+    (part_ends laws x.parts.current first further room.0.current)) x room
 
 -- ---- a value
 
-list_goes : {H A : Type 0} (a : Around) (inside : Step H A) (x : Laying H A) → Goes inside → Roomy x
+pub list_goes : {H A : Type 0} (a : Around) (inside : Step H A) (x : Laying H A) → Goes inside → Roomy x
     → IsSomeAnd (in_turn (goes_on a) (in_turn inside (goes_on Flow)) x) Roomy
 list_goes a inside x goes room = goes_through (goes_on a) (in_turn inside (goes_on Flow)) (goes_around a)
     (goes_through inside (goes_on Flow) goes (goes_around Flow)) x room
 
-begins_goes : {H A : Type 0} {m : Marking H A} (laws : RoomLaws m) (info : RenderInfo) → Goes (begins m info)
+pub begins_goes : {H A : Type 0} {m : Marking H A} (laws : RoomLaws m) (info : RenderInfo) → Goes (begins m info)
 unfolding begins
 begins_goes laws (infos.Text cs) = says_goes laws (calls.adds_text cs) tt
 begins_goes laws (infos.Image source title) = says_goes laws (calls.adds_image source title) tt
@@ -143,9 +155,9 @@ begins_goes laws infos.Details = goes_by
 begins_goes laws infos.Table = goes_by
 begins_goes laws infos.TableGroup = goes_by
 begins_goes laws infos.TableRow = goes_by
-begins_goes laws (infos.TableCell columns rows) = goes_by
+begins_goes laws (infos.TableCell columns taken) = goes_by
 
-ends_goes : {H A : Type 0} {m : Marking H A} (laws : RoomLaws m) (info : RenderInfo) → Goes (ends m info)
+pub ends_goes : {H A : Type 0} {m : Marking H A} (laws : RoomLaws m) (info : RenderInfo) → Goes (ends m info)
 unfolding ends
 ends_goes laws (infos.Link target) = link_end_goes laws
 ends_goes laws infos.Emphasis = says_goes laws (calls.ends_mark marks.emphasis_end) tt
@@ -175,53 +187,23 @@ ends_goes laws infos.Details = goes_by
 ends_goes laws infos.Table = goes_by
 ends_goes laws infos.TableGroup = goes_by
 ends_goes laws infos.TableRow = goes_by
-ends_goes laws (infos.TableCell columns rows) = goes_by
+ends_goes laws (infos.TableCell columns taken) = goes_by
 
-holds_goes : {H A : Type 0} {m : Marking H A} (laws : RoomLaws m) (info : RenderInfo) (items least : ℕ)
-    (inside : Step H A) → Goes inside → Goes (holds m info items least inside)
-unfolding holds
-holds_goes laws (infos.Heading level) items least inside goes =
-    λ x room. prefix_goes laws _ _ _ least inside x goes room
-holds_goes laws infos.Quote items least inside goes = λ x room. prefix_goes laws _ _ _ least inside x goes room
-holds_goes laws infos.Details items least inside goes = λ x room. prefix_goes laws _ _ _ least inside x goes room
-holds_goes laws infos.Bullets items least inside goes = λ x room. list_goes _ inside x goes room
-holds_goes laws (infos.Numbers first) items least inside goes = λ x room. list_goes _ inside x goes room
-holds_goes laws infos.Nothing items least inside goes = goes
-holds_goes laws (infos.Text cs) items least inside goes = goes
-holds_goes laws (infos.Image source title) items least inside goes = goes
-holds_goes laws infos.Break items least inside goes = goes
-holds_goes laws infos.Container items least inside goes = goes
-holds_goes laws (infos.Link target) items least inside goes = goes
-holds_goes laws infos.Emphasis items least inside goes = goes
-holds_goes laws infos.Strong items least inside goes = goes
-holds_goes laws infos.Strikeout items least inside goes = goes
-holds_goes laws infos.Code items least inside goes = goes
-holds_goes laws infos.Superscript items least inside goes = goes
-holds_goes laws infos.Block items least inside goes = goes
-holds_goes laws infos.Division items least inside goes = goes
-holds_goes laws infos.Preformatted items least inside goes = goes
-holds_goes laws infos.Descriptions items least inside goes = goes
-holds_goes laws infos.Term items least inside goes = goes
-holds_goes laws infos.Table items least inside goes = goes
-holds_goes laws infos.TableGroup items least inside goes = goes
-holds_goes laws infos.TableRow items least inside goes = goes
-holds_goes laws (infos.TableCell columns rows) items least inside goes = goes
-
-named_goes : {H A : Type 0} {m : Marking H A} (laws : RoomLaws m) (fragment : Option (List ℕ))
+pub named_goes : {H A : Type 0} {m : Marking H A} (laws : RoomLaws m) (fragment : Option (List ℕ))
     → Goes (named m fragment)
 named_goes {m = m} laws fragment = for_goes fragment (λ name. says m (calls.starts_fragment name))
     (λ name. says_goes laws (calls.starts_fragment name) tt)
 
-either_goes : {H A : Type 0} (t : Bool) (f g : Step H A) → Goes f → Goes g → Goes (if t then f else g)
+pub either_goes : {H A : Type 0} (t : Bool) (f g : Step H A) → Goes f → Goes g → Goes (if t then f else g)
 either_goes true f g one other = one
 either_goes false f g one other = other
 
-leading_goes : {H A : Type 0} {m : Marking H A} (laws : RoomLaws m) (head : Head) → Goes (leading m head)
+pub leading_goes : {H A : Type 0} {m : Marking H A} (laws : RoomLaws m) (head : Head) → Goes (leading m head)
 unfolding leading
 leading_goes {m = m} laws head = either_goes (fragment_leads head.info) (named m head.fragment) Some
     (named_goes laws head.fragment) goes_by
 
-following_goes : {H A : Type 0} {m : Marking H A} (laws : RoomLaws m) (head : Head) → Goes (following m head)
+pub following_goes : {H A : Type 0} {m : Marking H A} (laws : RoomLaws m) (head : Head) → Goes (following m head)
 unfolding following
 following_goes {m = m} laws head = either_goes (fragment_leads head.info) Some (named m head.fragment) goes_by
     (named_goes laws head.fragment)
@@ -247,39 +229,13 @@ look_ends {m = m} laws s = goes_through _ _
     (for_goes s.colour (λ c. says m (calls.ends_colour marks.colour_end))
     (λ c. says_goes laws (calls.ends_colour marks.colour_end) tt)))
 
-shown_goes : {H A : Type 0} {m : Marking H A} (laws : RoomLaws m) (head : Head) (items least : ℕ) (inside : Step H A)
-    → Goes inside → Goes (shown m head items least inside)
-shown_goes {m = m} laws head items least inside goes = goes_through _ _ (leading_goes laws head)
-    (goes_through _ _ (begins_goes laws head.info)
-    (goes_through _ _ (holds_goes laws head.info items least (in_turn (following m head) inside)
-    (goes_through _ _ (following_goes laws head) goes)) (ends_goes laws head.info)))
-
-styled_goes : {H A : Type 0} {m : Marking H A} (laws : RoomLaws m) (s : RenderStyle) (inside : Step H A)
+pub styled_goes : {H A : Type 0} {m : Marking H A} (laws : RoomLaws m) (s : RenderStyle) (inside : Step H A)
     → Goes inside → Goes (styled m s inside)
 styled_goes {m = m} laws s inside goes =
     goes_through _ _ (look_begins laws s) (goes_through _ _ goes (look_ends laws s))
 
-placed_goes : {H A : Type 0} {m : Marking H A} (laws : RoomLaws m) (a : Around) (inside : Step H A) (x : Laying H A)
+pub placed_goes : {H A : Type 0} {m : Marking H A} (laws : RoomLaws m) (a : Around) (inside : Step H A) (x : Laying H A)
     → Goes inside → Roomy x → IsSomeAnd (placed m a inside x) Roomy
 placed_goes laws Flow inside x goes room = goes x room
 placed_goes {m = m} laws (Items mark columns least) inside x goes room = given_chained Roomy Roomy _ _
     (goes_around (Items (next_mark mark) columns least)) (prefix_goes laws _ _ _ least inside x goes room)
-
--- ---- values
-
--- no width is too narrow where characters may overflow
-pub lay_goes : {H A : Type 0} {m : Marking H A} (laws : RoomLaws m) (w : Measure) (values : Values)
-    → Goes (lay m w values)
-lay_goes laws w none x room = room
-lay_goes {m = m} laws w (value head inside rest) x room = given_chained Roomy Roomy (lay m w rest)
-    (laid m head (number inside) (extent_of w head inside).least (lay m w inside) x)
-    (lay_goes laws w rest)
-    (placed_goes laws x.around _ x (styled_goes laws head.style _ (shown_goes laws head (number inside)
-    (extent_of w head inside).least (lay m w inside) (lay_goes laws w inside))) room)
-
-pub parts_laid : {H A : Type 0} {m : Marking H A} (laws : RoomLaws m) (w : Measure) (values : Values) (p : Parts H A)
-    → HaveRoom p → IsSomeAnd (option_map (λ l. l.parts) (lay m w values (record { parts = p; around = Flow })))
-    HaveRoom
-parts_laid {H} {A} {m} laws w values p room = given_mapped Roomy HaveRoom (λ (l : Laying H A). l.parts)
-    (lay m w values (record { parts = p; around = Flow })) (λ l h. h)
-    (lay_goes laws w values (record { parts = p; around = Flow }) room)

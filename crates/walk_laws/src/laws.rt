@@ -2,20 +2,28 @@
 ghost use Rattle.renderer_calls.specs.Renderers.{Marking};
 ghost use Rattle.walk_laws.specs.WalkLaws.{KeepWidth, AreLaidWithRoom};
 
+use column_shares::widths_across_fit;
+use layout_laws::cells_hang_until_a_row;
+use render_sizes::tables_are_sound;
 use renderer_laws::{
     a_prefix_and_its_room_are_the_width, renderers_keep_the_width, renderers_with_room_never_refuse,
 };
 use text_block_renderer::{parts_keep_the_width, parts_with_room_never_refuse};
+use text_borders::cells_keep_their_places;
 use text_marks::TextDecorator;
 
 /// No line passes the width of its renderer, where no character may overflow and prefixes are steady, whatever values
-/// are laid out: parts behind prefixes and items of lists among them.
+/// are laid out: parts behind prefixes, items of lists and rows of tables among them.
 pub fn values_keep_the_width<D: TextDecorator>()
     ensures { (m : Marking D.Held D.Annotation.Seen) → KeepWidth m }
 {
     renderers_keep_the_width::<D>();
     a_prefix_and_its_room_are_the_width::<D>();
     parts_keep_the_width::<D>();
+    cells_hang_until_a_row::<Vec<D::Annotation>>();
+    cells_keep_their_places::<Vec<D::Annotation>>();
+    widths_across_fit();
+    tables_are_sound();
 }
 
 /// Where a character that is wider than the lines may stand alone on one, all values are laid out, at any width.

@@ -1,4 +1,5 @@
-use Rattle.walk_laws.proofs.RoomLemmas.{RoomLaws, parts_laid}
+use Rattle.walk_laws.proofs.RoomLemmas.{RoomLaws}
+use Rattle.walk_laws.proofs.TableRoomLemmas.{parts_laid}
 use Rattle.walk_laws.proofs.laws.values_with_room_are_laid.Goals as goal
 
 pub returns : goal.returns

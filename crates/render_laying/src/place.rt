@@ -1,0 +1,46 @@
+//! Where in a table values stand.
+use block_renderer::SubRenderer;
+use html_lexemes::Text;
+use table_rows::{RowsLeft, Slot};
+use text_marks::TextDecorator;
+
+/// The rows of a table that are still to come.
+#[derive(Drop)]
+pub struct TableRows {
+    /// The widths of the table's columns, where its rows lie across.
+    pub widths: Option<Vec<usize>>,
+    /// Their slots.
+    pub rows: RowsLeft,
+    /// The fragments that start in the next of them, or in the next cell.
+    pub fragments: Vec<Text>,
+}
+
+/// The slots of a row that are still to come: those from `next` on.
+#[derive(Drop)]
+pub struct SlotsLeft {
+    /// All of them.
+    pub slots: Vec<Slot>,
+    /// The place of the first that is to come.
+    pub next: usize,
+}
+
+/// Where in a table the next value stands.
+#[derive(Drop)]
+pub enum TablePlace<D: TextDecorator> {
+    /// In none of its own.
+    Outside {
+        /// Whether it stands in a cell of one.
+        in_cell: bool,
+    },
+    /// Among rows.
+    Rows(TableRows),
+    /// Among cells.
+    Cells {
+        /// The rows behind this one.
+        rows: TableRows,
+        /// The slots of this row.
+        slots: SlotsLeft,
+        /// The renderers that stand in it, each with the rows that it takes.
+        made: Vec<(SubRenderer<D>, usize)>,
+    },
+}
