@@ -1,10 +1,9 @@
 -- Lines of a page, and those behind it.
-use Rattle.std.proofs.Common.{◌≡◌, ℕ, List, [], ◌∷◌, ◌++◌, Option, None, Some, append-nil, append_assoc, ap, arith}
-use Rattle.std.proofs.Common.{length}
-use Rattle.std.proofs.Common.{Bool, Err, IfOk, Ok, Result, map, refl, subst, sym, ◌∙◌, true, false}
+use Rattle.std.proofs.Common.{◌≡◌, ℕ, List, [], ◌∷◌, ◌++◌, append-nil, append_assoc, ap, arith, length}
+use Rattle.std.proofs.Common.{Err, IfOk, Ok, Result, map, refl, subst, sym, ◌∙◌}
 use Rattle.std.specs.Prelude.{if◌then◌else◌}
 use Rattle.std.proofs.lemmas.List.{map-append}
-use Rattle.std.specs.Option.{option_and_then, option_map}
+use Rattle.std.specs.Option.{option_and_then}
 use Rattle.block_renderer.specs.Footnotes.{add_footnotes}
 use Rattle.renderer_calls.specs.Renderers.{Marking, Sub, with_block_started}
 use Rattle.tagged_lines.specs.Tagged.{Item}
@@ -37,19 +36,6 @@ pub all_texts : {X Y Z : Type 0} (front : List Z) (s : Y → Z) (r : X → Y) (i
     → length its ≡ 0 → front ++ map s (map r its) ≡ all → front ≡ all
 all_texts front s r [] all none_left h = sym (append-nil front) ∙ h
 all_texts front s r (x ∷ its) all none_left h = absurd (omega (arith, none_left))
-
--- ---- what is measured, where no table stands
-
-pub measured_some : {X Y : Type 0} (f : X → Y) (o : Option X) (x : X) (tables : Bool) (sizes : Y) → o ≡ Some x
-    → option_map f o ≡ (if tables then None else Some sizes) → (tables ≡ false) × (f x ≡ sizes)
-measured_some f o x true sizes is h = absurd (nothing_there (sym (ap (option_map f) is) ∙ h))
-  where
-    nothing_there : Some (f x) ≡ None → ⊥
-    nothing_there e = cc e
-measured_some f o x false sizes is h = (refl, some_same (sym (ap (option_map f) is) ∙ h))
-  where
-    some_same : Some (f x) ≡ Some sizes → f x ≡ sizes
-    some_same e = cc e
 
 abbrev pub by_decorator : {H : Type 0} → H → Setting H → Setting H
 by_decorator held c = record c { held = held }

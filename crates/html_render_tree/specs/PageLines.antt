@@ -13,7 +13,8 @@ use Rattle.text_borders.specs.Lines.{BlockLine, line_shown}
 use Rattle.text_marks.specs.Marks.{Mark, header, ordered_item, page_end, quote, unordered_item}
 use Rattle.render_sizes.specs.Extents.{PrefixColumns, measure_of}
 use Rattle.render_values.specs.Values.{Values}
-use Rattle.render_walk.specs.Lay.{laid_parts, number_after}
+use Rattle.render_laying.specs.Items.{number_after}
+use Rattle.render_walk.specs.Lay.{laid_parts}
 
 -- the columns of a decorator's prefixes; of a list with numbers those of the wider of the first and the last
 abbrev pub prefix_columns : (text : Mark → List ℕ) → PrefixColumns

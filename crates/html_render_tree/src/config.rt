@@ -34,7 +34,6 @@ impl<D: TextDecorator + Drop> RenderConfig<D> {
     ghost use Rattle.render_conversion.specs.Conversion.{document_values};
     ghost use Rattle.render_conversion.specs.Decorating.{decorating_rules, seen_rule};
     ghost use Rattle.render_conversion.specs.declared.error.RenderError.TheVariants as errors;
-    ghost use Rattle.render_sizes.specs.Extents.{has_tables};
     ghost use Rattle.render_values.specs.Values.{none};
     ghost use Rattle.renderer_calls.specs.Defaults.{default_options};
     ghost use Rattle.tagged_lines.specs.Tagged.{line_items};
@@ -129,13 +128,10 @@ impl<D: TextDecorator + Drop> RenderConfig<D> {
             → IsClosed (marking D.text tag D.marks D.after D.pops D.sub) D.Annotation.seen D.closes
             (setting_of D.held D.sub self.now) width tree.now (sub_of D.Annotation.seen D.held s)) }
         ensures wide { IfOk result (λ s. 0 < width) }
-        ensures tables { IfOk result (λ s. has_tables tree.now ≡ false) }
         ensures narrow { result ≡ Err errors.TooNarrow → (width ≡ 0) ⊎ ((tag : _)
             → IsTagging D.Annotation.seen D.gives tag → NeverCloses (marking D.text tag D.marks D.after D.pops D.sub)
             D.Annotation.seen D.closes (setting_of D.held D.sub self.now) width tree.now) }
-        ensures flat { result ≡ Err errors.TooNarrow → (width ≡ 0) ⊎ (has_tables tree.now ≡ false) }
-        ensures fail { result ≡ Err errors.Fail → has_tables tree.now ≡ true }
-        ensures width { result ≡ Err errors.Fail → 0 < width }
+        ensures kinds { result ≢ Err errors.Fail }
     {
         if width == 0 {
             return Err(RenderError::TooNarrow);
@@ -156,8 +152,7 @@ impl<D: TextDecorator + Drop> RenderConfig<D> {
     }
 
     /// The lines of a render tree, wrapped to `width` columns. The tree is gone, also where it is refused: as
-    /// `TooNarrow` where the width is 0, or too narrow for a part of the page or a character; as `Fail` where a table
-    /// stands in it, since tables are not laid out yet; else for want of memory.
+    /// `TooNarrow` where the width is 0, or too narrow for a part of the page or a character; else for want of memory.
     pub fn render_to_lines(
         &self,
         alloc: Global,
@@ -169,13 +164,10 @@ impl<D: TextDecorator + Drop> RenderConfig<D> {
             (setting_of D.held D.sub self.now) width tree
             (map (line_items (tags_seen D.Annotation.seen)) lines.items)) }
         ensures wide { IfOk result (λ lines. 0 < width) }
-        ensures tables { IfOk result (λ lines. has_tables tree ≡ false) }
         ensures narrow { result ≡ Err errors.TooNarrow → (width ≡ 0) ⊎ ((tag : _)
             → IsTagging D.Annotation.seen D.gives tag → IsTooNarrow (marking D.text tag D.marks D.after D.pops D.sub)
             D.Annotation.seen D.closes (setting_of D.held D.sub self.now) width tree) }
-        ensures flat { result ≡ Err errors.TooNarrow → (width ≡ 0) ⊎ (has_tables tree ≡ false) }
-        ensures fail { result ≡ Err errors.Fail → has_tables tree ≡ true }
-        ensures width { result ≡ Err errors.Fail → 0 < width }
+        ensures kinds { result ≢ Err errors.Fail }
         ensures within { IfOk result (λ lines. (tag : _) → IsTagging D.Annotation.seen D.gives tag → IsSteady D.text
             → AreNumbered tree → (setting_of D.held D.sub self.now).options.allow_width_overflow ≡ false
             → (setting_of D.held D.sub self.now).options.wrap_links ≡ true → 2 ≤ width
@@ -204,13 +196,10 @@ impl<D: TextDecorator + Drop> RenderConfig<D> {
             → IsPrinted (marking D.text tag D.marks D.after D.pops D.sub) D.Annotation.seen D.closes
             (setting_of D.held D.sub self.now) width tree (chars (string_bytes text))) }
         ensures wide { IfOk result (λ text. 0 < width) }
-        ensures tables { IfOk result (λ text. has_tables tree ≡ false) }
         ensures narrow { result ≡ Err errors.TooNarrow → (width ≡ 0) ⊎ ((tag : _)
             → IsTagging D.Annotation.seen D.gives tag → IsTooNarrow (marking D.text tag D.marks D.after D.pops D.sub)
             D.Annotation.seen D.closes (setting_of D.held D.sub self.now) width tree) }
-        ensures flat { result ≡ Err errors.TooNarrow → (width ≡ 0) ⊎ (has_tables tree ≡ false) }
-        ensures fail { result ≡ Err errors.Fail → has_tables tree ≡ true }
-        ensures width { result ≡ Err errors.Fail → 0 < width }
+        ensures kinds { result ≢ Err errors.Fail }
         ensures roomy { (tag : _) → IsTagging D.Annotation.seen D.gives tag
             → (setting_of D.held D.sub self.now).options.allow_width_overflow ≡ true → 0 < width
             → result ≢ Err errors.TooNarrow }

@@ -1,9 +1,9 @@
 //! A render tree as lines.
-ghost use Rattle.std.specs.Prelude.{◌≡◌, ◌≢◌, Err, IfOk, None, Some, false, true};
+ghost use Rattle.std.specs.Prelude.{◌≡◌, ◌≢◌, Err, IfOk, None, Some};
 ghost use Rattle.block_renderer.specs.Seen.{IsTagging, marking};
 ghost use Rattle.html_render_tree.specs.PageLines.{laid_page, prefix_columns};
 ghost use Rattle.render_conversion.specs.declared.error.RenderError.TheVariants as errors;
-ghost use Rattle.render_sizes.specs.Extents.{Measure, has_tables, measure_of};
+ghost use Rattle.render_sizes.specs.Extents.{Measure, measure_of};
 ghost use Rattle.text_block_renderer.specs.Parts.{depth_of};
 ghost use Rattle.text_block_renderer.specs.SeenParts.{parts_of};
 
@@ -48,14 +48,10 @@ pub(crate) fn laid<D: TextDecorator + Drop>(
     ensures narrow { result ≡ Err errors.TooNarrow → (tag : _) → IsTagging D.Annotation.seen D.gives tag
         → laid_page (marking D.text tag D.marks D.after D.pops D.sub)
         (record { options = options; min_wrap = min_wrap_width; held = D.held decorator }) width tree.now ≡ None }
-    ensures tables { IfOk result (λ _. has_tables tree.now ≡ false) }
-    ensures flat { result ≡ Err errors.TooNarrow → has_tables tree.now ≡ false }
-    ensures fail { result ≡ Err errors.Fail → has_tables tree.now ≡ true }
+    ensures kinds { result ≢ Err errors.Fail }
 {
     let prefixes = DecoratorPrefixes::new(alloc, decorator);
-    let Some(sizes) = measured(alloc, &prefixes, min_wrap_width, tree)? else {
-        return Err(RenderError::Fail);
-    };
+    let sizes = measured(alloc, &prefixes, min_wrap_width, tree)?;
     let sub = SubRenderer::new(alloc, width, options, prefixes.into_decorator());
     match lay_tree(alloc, tree, sizes.as_slice(), TextRenderer::new(alloc, sub)) {
         Ok(text) => Ok(text),

@@ -1,5 +1,5 @@
 -- Of equal values there is one answer at a width.
-use Rattle.std.proofs.Common.{◌≡◌, inl, inr, refl, sym, ap, subst, ◌∙◌, arith, ℕ, ◌<◌, Bool, true, false, List, map}
+use Rattle.std.proofs.Common.{◌≡◌, inl, inr, refl, sym, ap, subst, ◌∙◌, arith, ℕ, ◌<◌, List, map}
 use Rattle.std.proofs.Common.{Option, None, Some}
 use Rattle.std.specs.Prelude.{unwrap_or}
 use Rattle.html_render_tree.specs.PageLines.{IsClosed, IsNoted, IsRendered, IsTooNarrow}
@@ -7,7 +7,6 @@ use Rattle.html_render_tree.specs.PageLines.{NeverNoted, Setting, noted, with_no
 use Rattle.page_config.specs.PageAnswers.{IsAnswerOf, PageAnswer, fail, lines, too_narrow}
 use Rattle.render_values.specs.Values.{Values}
 use Rattle.renderer_calls.specs.Renderers.{Marking, Sub, lines_of_sub, with_held}
-use Rattle.std.proofs.lemmas.Bool.{false≢true}
 use Rattle.tagged_lines.specs.Tagged.{Item, line_items}
 use Rattle.tagged_lines.specs.declared.tagged_line.TaggedLine.{TaggedLine}
 use Rattle.text_borders.specs.Lines.{line_shown}
@@ -71,30 +70,23 @@ module _ {T H A : Type 0} (m : Marking H A) (seen : T → A) (closes : H → Lis
   no_columns : (width : ℕ) → 0 < width → width ≡ 0 → ⊥
   no_columns width wide none = omega (arith, wide, none)
 
-  tables_or_not : (b : Bool) → b ≡ false → b ≡ true → ⊥
-  tables_or_not b lacks has = false≢true (sym lacks ∙ has)
-
   lines_or_narrow : (c : Setting H) (width : ℕ) (values : Values) (shown : List (List (Item (List A))))
       → IsAnswerOf m seen closes c width values (lines shown) → IsAnswerOf m seen closes c width values too_narrow → ⊥
   lines_or_narrow c width values shown one (some, inl none) = no_columns width one.1.0 none
-  lines_or_narrow c width values shown one (some, inr narrow) =
-      rendered_or_narrow c width values shown one.1.1.1 narrow.1
+  lines_or_narrow c width values shown one (some, inr narrow) = rendered_or_narrow c width values shown one.1.1 narrow
 
   lines_or_fail : (c : Setting H) (width : ℕ) (values : Values) (shown : List (List (Item (List A))))
       → IsAnswerOf m seen closes c width values (lines shown) → IsAnswerOf m seen closes c width values fail → ⊥
-  lines_or_fail c width values shown one (inl none) = one.0 none
-  lines_or_fail c width values shown one (inr tables) = tables_or_not _ one.1.1.0 tables.1
+  lines_or_fail c width values shown one none = one.0 none
 
   narrow_or_fail : (c : Setting H) (width : ℕ) (values : Values) → IsAnswerOf m seen closes c width values too_narrow
       → IsAnswerOf m seen closes c width values fail → ⊥
-  narrow_or_fail c width values (some, narrow) (inl none) = some none
-  narrow_or_fail c width values (some, inl none) (inr tables) = no_columns width tables.0 none
-  narrow_or_fail c width values (some, inr narrow) (inr tables) = tables_or_not _ narrow.0 tables.1
+  narrow_or_fail c width values (some, narrow) none = some none
 
   pub answer_is_one : (c : Setting H) (width : ℕ) (values : Values) (one other : PageAnswer A)
       → IsAnswerOf m seen closes c width values one → IsAnswerOf m seen closes c width values other → one ≡ other
   answer_is_one c width values (lines shown) (lines others) a b =
-      ap lines (rendered_is_one c width values shown others a.1.1.1 b.1.1.1)
+      ap lines (rendered_is_one c width values shown others a.1.1 b.1.1)
   answer_is_one c width values (lines shown) too_narrow a b = absurd (lines_or_narrow c width values shown a b)
   answer_is_one c width values (lines shown) fail a b = absurd (lines_or_fail c width values shown a b)
   answer_is_one c width values too_narrow (lines shown) a b = absurd (lines_or_narrow c width values shown b a)

@@ -1,5 +1,5 @@
 -- Answers of what was read.
-use Rattle.std.proofs.Common.{◌≡◌, ◌≢◌, ◌⊎◌, inl, inr, ℕ, ◌<◌, Bool, true, false, List, []}
+use Rattle.std.proofs.Common.{◌≡◌, ◌≢◌, ◌⊎◌, inl, inr, ℕ, ◌<◌, Bool, List, []}
 use Rattle.std.proofs.Common.{◌∷◌, ◌++◌, map, refl, Option, None, Some, IfSome, sym, ap, subst, ◌∙◌}
 use Rattle.std.specs.Option.{option_map}
 use Rattle.std.specs.Prelude.{unwrap_or}
@@ -16,7 +16,6 @@ use Rattle.page_reading.specs.PageTrees.{IsTreeOfBytes}
 use Rattle.render_conversion.specs.Conversion.{document_values}
 use Rattle.render_conversion.specs.declared.error.RenderError.{RenderError}
 use Rattle.render_conversion.specs.declared.error.RenderError.TheVariants as rendering
-use Rattle.render_sizes.specs.Extents.{has_tables}
 use Rattle.render_values.specs.Values.{Values, none}
 use Rattle.renderer_calls.specs.Renderers.{Marking}
 use Rattle.renderer_calls.specs.Texts.{text_of_lines}
@@ -57,9 +56,8 @@ given_blocks (Some blocks) told e = (blocks, refl, ap (λ o. unwrap_or o told) e
 printed_lines : {T H A : Type 0} (m : Marking H A) (seen : T → A)
     (closes : H → List (List ℕ) → List (TaggedLine T) → Type 0) (c : PageSetting H) (width : ℕ) (bytes : List ℕ)
     (values : Values) (told : List ℕ) → ArePageValues c bytes values → values ≢ none → 0 < width
-    → has_tables values ≡ false → IsPrinted m seen closes c.rendering width values told
-    → HasText m seen closes c width bytes told
-printed_lines m seen closes c width bytes values told page some wide tables printed =
+    → IsPrinted m seen closes c.rendering width values told → HasText m seen closes c width bytes told
+printed_lines m seen closes c width bytes values told page some wide printed =
     let given = given_blocks _ told printed.given in
     record {
       shown = map line_shown given.0;
@@ -70,14 +68,11 @@ printed_lines m seen closes c width bytes values told page some wide tables prin
           some,
           (
             wide,
-            (
-              tables,
-              record {
-                whole = printed.whole;
-                closed = printed.closed;
-                shown = record { blocks = given.0; given = given.1; shown = refl };
-              },
-            ),
+            record {
+              whole = printed.whole;
+              closed = printed.closed;
+              shown = record { blocks = given.0; given = given.1; shown = refl };
+            },
           ),
         );
       };
@@ -93,22 +88,18 @@ module _ {T H A : Type 0} (seen : T → A) (text : H → Mark → List ℕ) (giv
 
   pub lines_read : (all : Option (List ℕ)) (values : Values) (s : Setting H) (shown : List (List (Item (List A))))
       → IfSome all (λ bytes. ArePageValues c bytes values) → s ≡ c.rendering → values ≢ none → 0 < width
-      → has_tables values ≡ false
       → Each (λ tag. IsRendered (marking text tag marks after pops sub) seen closes s width values shown)
       → IfSome all (λ bytes. Answers seen text gives marks after pops sub closes c width bytes (lines shown))
-  lines_read None values s shown page same some wide tables rendered = tt
-  lines_read (Some bytes) values s shown page same some wide tables rendered = λ tag p. record {
+  lines_read None values s shown page same some wide rendered = tt
+  lines_read (Some bytes) values s shown page same some wide rendered = λ tag p. record {
     values = values;
     page = page;
     answered = (
       some,
       (
         wide,
-        (
-          tables,
-          subst (λ s. IsRendered (marking text tag marks after pops sub) seen closes s width values shown) same
-              (rendered tag p),
-        ),
+        subst (λ s. IsRendered (marking text tag marks after pops sub) seen closes s width values shown) same
+            (rendered tag p),
       ),
     );
   }
@@ -116,54 +107,36 @@ module _ {T H A : Type 0} (seen : T → A) (text : H → Mark → List ℕ) (giv
   pub narrow_read : (all : Option (List ℕ)) (values : Values) (s : Setting H)
       → IfSome all (λ bytes. ArePageValues c bytes values) → s ≡ c.rendering → values ≢ none
       → (width ≡ 0) ⊎ Each (λ tag. IsTooNarrow (marking text tag marks after pops sub) seen closes s width values)
-      → (width ≡ 0) ⊎ (has_tables values ≡ false)
       → IfSome all (λ bytes. Answers seen text gives marks after pops sub closes c width bytes too_narrow)
-  narrow_read None values s page same some narrow tables = tt
-  narrow_read (Some bytes) values s page same some (inl zero_width) tables = λ tag p. record {
+  narrow_read None values s page same some narrow = tt
+  narrow_read (Some bytes) values s page same some (inl zero_width) = λ tag p. record {
     values = values;
     page = page;
     answered = (some, inl zero_width);
   }
-  narrow_read (Some bytes) values s page same some (inr narrow) (inl zero_width) = λ tag p. record {
-    values = values;
-    page = page;
-    answered = (some, inl zero_width);
-  }
-  narrow_read (Some bytes) values s page same some (inr narrow) (inr tables) = λ tag p. record {
+  narrow_read (Some bytes) values s page same some (inr narrow) = λ tag p. record {
     values = values;
     page = page;
     answered = (
       some,
       inr (
-        tables,
-        subst (λ s. IsTooNarrow (marking text tag marks after pops sub) seen closes s width values) same
-            (narrow tag p),
-      ),
+          subst (λ s. IsTooNarrow (marking text tag marks after pops sub) seen closes s width values) same
+          (narrow tag p)
+          ),
     );
   }
 
   pub nothing_read : (all : Option (List ℕ)) → IfSome all (λ bytes. ArePageValues c bytes none)
       → IfSome all (λ bytes. Answers seen text gives marks after pops sub closes c width bytes fail)
   nothing_read None page = tt
-  nothing_read (Some bytes) page = λ tag p. record { values = none; page = page; answered = inl refl }
-
-  pub table_read : (all : Option (List ℕ)) (values : Values) → IfSome all (λ bytes. ArePageValues c bytes values)
-      → 0 < width → has_tables values ≡ true
-      → IfSome all (λ bytes. Answers seen text gives marks after pops sub closes c width bytes fail)
-  table_read None values page wide tables = tt
-  table_read (Some bytes) values page wide tables = λ tag p. record {
-    values = values;
-    page = page;
-    answered = inr (wide, tables);
-  }
+  nothing_read (Some bytes) page = λ tag p. record { values = none; page = page; answered = refl }
 
   pub text_read : (all : Option (List ℕ)) (values : Values) (s : Setting H) (told : List ℕ)
       → IfSome all (λ bytes. ArePageValues c bytes values) → s ≡ c.rendering → values ≢ none → 0 < width
-      → has_tables values ≡ false
       → Each (λ tag. IsPrinted (marking text tag marks after pops sub) seen closes s width values told)
       → IfSome all (λ bytes. IsTold seen text gives marks after pops sub closes c width bytes told)
-  text_read None values s told page same some wide tables printed = tt
-  text_read (Some bytes) values s told page same some wide tables printed = λ tag p. printed_lines
-      (marking text tag marks after pops sub) seen closes c width bytes values told page some wide tables
+  text_read None values s told page same some wide printed = tt
+  text_read (Some bytes) values s told page same some wide printed = λ tag p. printed_lines
+      (marking text tag marks after pops sub) seen closes c width bytes values told page some wide
       (subst (λ s. IsPrinted (marking text tag marks after pops sub) seen closes s width values told) same
       (printed tag p))

@@ -1,5 +1,5 @@
 -- Values have an answer at a width: each step of their rendering comes to something or to nothing.
-use Rattle.std.proofs.Common.{◌≡◌, ◌≢◌, ◌⊎◌, inl, inr, refl, ℕ, zero, suc, ◌<◌, Bool, true, false, List, arith, map}
+use Rattle.std.proofs.Common.{◌≡◌, ◌≢◌, ◌⊎◌, inl, inr, refl, ℕ, zero, suc, ◌<◌, List, arith, map}
 use Rattle.std.proofs.Common.{Option, None, Some}
 use Rattle.html_forest.specs.Forest.{Forest}
 use Rattle.html_forest.specs.declared.sink.QuirksMode.{QuirksMode}
@@ -11,7 +11,6 @@ use Rattle.page_config.specs.PageAnswers.{too_narrow}
 use Rattle.page_config.specs.Settings.{PageSetting}
 use Rattle.page_reading.specs.PageTrees.{IsTreeOfBytes}
 use Rattle.render_conversion.specs.Conversion.{document_values}
-use Rattle.render_sizes.specs.Extents.{has_tables}
 use Rattle.render_values.specs.Values.{Values, none, value}
 use Rattle.renderer_calls.specs.Renderers.{Marking, Sub, lines_of_sub, with_held}
 use Rattle.tagged_lines.specs.Tagged.{line_items}
@@ -30,10 +29,6 @@ some_or_none : {X : Type 0} (o : Option X) → ((x : X) × (o ≡ Some x)) ⊎ (
 some_or_none None = inr refl
 some_or_none (Some x) = inl (x, refl)
 
-true_or_false : (b : Bool) → (b ≡ true) ⊎ (b ≡ false)
-true_or_false true = inl refl
-true_or_false false = inr refl
-
 nothing_or_some : (values : Values) → (values ≡ none) ⊎ (values ≢ none)
 nothing_or_some none = inl refl
 nothing_or_some (value head inside rest) = inr (λ e. cc)
@@ -48,8 +43,8 @@ module _ {T H A : Type 0} (m : Marking H A) (seen : T → A) (closes : H → Lis
     HasAnswerOf c width values = (answer : PageAnswer A) × IsAnswerOf m seen closes c width values answer
 
     shown_or_not : (c : Setting H) (width : ℕ) (values : Values) (s : Sub H A) → values ≢ none → 0 < width
-        → has_tables values ≡ false → IsClosed m seen closes c width values s → HasAnswerOf c width values
-    shown_or_not c width values s some wide flat closed = by_lines (some_or_none (lines_of_sub s)) where
+        → IsClosed m seen closes c width values s → HasAnswerOf c width values
+    shown_or_not c width values s some wide closed = by_lines (some_or_none (lines_of_sub s)) where
       by_lines : ((x : _) × (lines_of_sub s ≡ Some x)) ⊎ (lines_of_sub s ≡ None) → HasAnswerOf c width values
       by_lines (inl given) = (
         lines (map line_shown given.0),
@@ -57,30 +52,27 @@ module _ {T H A : Type 0} (m : Marking H A) (seen : T → A) (closes : H → Lis
           some,
           (
             wide,
-            (
-              flat,
-              record {
-                whole = s;
-                closed = closed;
-                shown = record { blocks = given.0; given = given.1; shown = refl };
-              },
-            ),
+            record {
+              whole = s;
+              closed = closed;
+              shown = record { blocks = given.0; given = given.1; shown = refl };
+            },
           ),
         ),
       )
       by_lines (inr never) =
-          (too_narrow, (some, inr (flat, inr (record { whole = s; closed = closed; never = never }))))
+          (too_narrow, (some, inr (inr (record { whole = s; closed = closed; never = never }))))
 
     closed_or_not : (c : Setting H) (width : ℕ) (values : Values) (p : Parts H A) (notes : List (TaggedLine T))
-        → values ≢ none → 0 < width → has_tables values ≡ false → laid_page m c width values ≡ Some p
+        → values ≢ none → 0 < width → laid_page m c width values ≡ Some p
         → closes p.current.held (noted p) notes → HasAnswerOf c width values
-    closed_or_not c width values p notes some wide flat laid told = by_notes (some_or_none (with_notes
+    closed_or_not c width values p notes some wide laid told = by_notes (some_or_none (with_notes
         (map (line_items seen) notes) (with_held (m.after p.current.held (page_end (noted p))) p.current))) where
           by_notes : ((s : Sub H A) × (with_notes (map (line_items seen) notes)
               (with_held (m.after p.current.held (page_end (noted p))) p.current) ≡ Some s))
               ⊎ (with_notes (map (line_items seen) notes)
               (with_held (m.after p.current.held (page_end (noted p))) p.current) ≡ None) → HasAnswerOf c width values
-          by_notes (inl behind) = shown_or_not c width values behind.0 some wide flat (record {
+          by_notes (inl behind) = shown_or_not c width values behind.0 some wide (record {
             parts = p;
             laid = laid;
             behind = record { notes = notes; told = told; behind = behind.1 };
@@ -89,39 +81,33 @@ module _ {T H A : Type 0} (m : Marking H A) (seen : T → A) (closes : H → Lis
             too_narrow,
             (
               some,
-              inr (
-                flat,
-                inl (inr (record {
-                  parts = p;
-                  laid = laid;
-                  never = record { notes = notes; told = told; never = never };
-                })),
-              ),
+              inr (inl (inr (record {
+                parts = p;
+                laid = laid;
+                never = record { notes = notes; told = told; never = never };
+              }))),
             ),
           )
 
     laid_or_not : (c : Setting H) (width : ℕ) (values : Values)
         → ((p : Parts H A) → laid_page m c width values ≡ Some p
         → (notes : List (TaggedLine T)) × closes p.current.held (noted p) notes)
-        → values ≢ none → 0 < width → has_tables values ≡ false → HasAnswerOf c width values
-    laid_or_not c width values always some wide flat = by_parts (some_or_none (laid_page m c width values)) where
+        → values ≢ none → 0 < width → HasAnswerOf c width values
+    laid_or_not c width values always some wide = by_parts (some_or_none (laid_page m c width values)) where
       by_parts : ((p : Parts H A) × (laid_page m c width values ≡ Some p)) ⊎ (laid_page m c width values ≡ None)
           → HasAnswerOf c width values
       by_parts (inl laid) = let told = always laid.0 laid.1 in
-          closed_or_not c width values laid.0 told.0 some wide flat laid.1 told.1
-      by_parts (inr never) = (too_narrow, (some, inr (flat, inl (inl never))))
+          closed_or_not c width values laid.0 told.0 some wide laid.1 told.1
+      by_parts (inr never) = (too_narrow, (some, inr (inl (inl never))))
 
     some_answer : (c : Setting H) (width : ℕ) (values : Values)
         → ((p : Parts H A) → laid_page m c width values ≡ Some p
         → (notes : List (TaggedLine T)) × closes p.current.held (noted p) notes) → HasAnswerOf c width values
-    some_answer c width values always = by_values (nothing_or_some values) (zero_or_wide width)
-        (true_or_false (has_tables values)) where
-          by_values : (values ≡ none) ⊎ (values ≢ none) → (width ≡ 0) ⊎ (0 < width)
-              → (has_tables values ≡ true) ⊎ (has_tables values ≡ false) → HasAnswerOf c width values
-          by_values (inl nothing) columns tables = (fail, inl nothing)
-          by_values (inr some) (inl zero_width) tables = (too_narrow, (some, inl zero_width))
-          by_values (inr some) (inr wide) (inl tables) = (fail, inr (wide, tables))
-          by_values (inr some) (inr wide) (inr flat) = laid_or_not c width values always some wide flat
+    some_answer c width values always = by_values (nothing_or_some values) (zero_or_wide width) where
+      by_values : (values ≡ none) ⊎ (values ≢ none) → (width ≡ 0) ⊎ (0 < width) → HasAnswerOf c width values
+      by_values (inl nothing) columns = (fail, nothing)
+      by_values (inr some) (inl zero_width) = (too_narrow, (some, inl zero_width))
+      by_values (inr some) (inr wide) = laid_or_not c width values always some wide
 
     pub page_answered : HasTree → (c : PageSetting H) (width : ℕ) (bytes : List ℕ) → IsAlwaysClosed m closes c width
         → HasSomeAnswer m seen closes c width bytes

@@ -23,13 +23,13 @@ module _ {T H A : Type 0} (m : Marking H A) (seen : T → A) (closes : H → Lis
     within_width numbered keeps c width bytes shown steady off wrapped wide has =
         keeps c.rendering width has.values shown
         steady (subst AreNumbered has.page.same (numbered c.rules has.page.forest)) off wrapped wide
-        has.answered.1.1.1
+        has.answered.1.1
 
     wide_enough : PagesHaveRoom m seen closes → (c : PageSetting H) (width : ℕ) (values : Values)
         → c.rendering.options.allow_width_overflow ≡ true → 0 < width
         → IsAnswerOf m seen closes c.rendering width values too_narrow → ⊥
     wide_enough room c width values on wide (some, inl none) = absurd (omega (arith, wide, none))
-    wide_enough room c width values on wide (some, inr narrow) = room c.rendering width values on narrow.1
+    wide_enough room c width values on wide (some, inr narrow) = room c.rendering width values on narrow
 
     pub never_narrow : PagesHaveRoom m seen closes → (c : PageSetting H) (width : ℕ) (bytes : List ℕ)
         → c.rendering.options.allow_width_overflow ≡ true → 0 < width

@@ -1,12 +1,11 @@
 -- What is answered of a page: a function of its bytes, a width, and what a configuration says.
-use Rattle.std.specs.Prelude.{◌≡◌, ◌≢◌, ◌⊎◌, ℕ, ◌<◌, Bool, true, false, List, [], ◌∷◌, ◌++◌, flat_map, Some}
+use Rattle.std.specs.Prelude.{◌≡◌, ◌≢◌, ◌⊎◌, ℕ, ◌<◌, Bool, List, [], ◌∷◌, ◌++◌, flat_map, Some}
 use Rattle.block_renderer.specs.Seen.{IsTagging, marking}
 use Rattle.html_forest.specs.Forest.{Forest}
 use Rattle.html_forest.specs.declared.sink.QuirksMode.{QuirksMode}
 use Rattle.html_render_tree.specs.PageLines.{IsRendered, IsTooNarrow, Setting, laid_page, noted}
 use Rattle.page_reading.specs.PageTrees.{IsTreeOfBytes}
 use Rattle.render_conversion.specs.Conversion.{document_values}
-use Rattle.render_sizes.specs.Extents.{has_tables}
 use Rattle.render_values.specs.Values.{Values, none}
 use Rattle.renderer_calls.specs.Renderers.{Marking}
 use Rattle.tagged_lines.specs.Tagged.{Item, characters}
@@ -29,14 +28,14 @@ pub data PageAnswer (A : Type 0) : Type 0 where
   too_narrow : PageAnswer A
   fail : PageAnswer A
 
--- What values come to at a width: lines, in which tables don't stand yet, or that it is 0 or too narrow for them.
+-- What values come to at a width: lines, or that it is 0 or too narrow for them.
 abbrev pub IsAnswerOf : {T H A : Type 0} → Marking H A → (T → A)
     → (H → List (List ℕ) → List (TaggedLine T) → Type 0) → Setting H → ℕ → Values → PageAnswer A → Type 0
-IsAnswerOf m seen closes c width values (lines shown) = (values ≢ none) × ((0 < width)
-    × ((has_tables values ≡ false) × IsRendered m seen closes c width values shown))
-IsAnswerOf m seen closes c width values too_narrow = (values ≢ none)
-    × ((width ≡ 0) ⊎ ((has_tables values ≡ false) × IsTooNarrow m seen closes c width values))
-IsAnswerOf m seen closes c width values fail = (values ≡ none) ⊎ ((0 < width) × (has_tables values ≡ true))
+IsAnswerOf m seen closes c width values (lines shown) =
+    (values ≢ none) × ((0 < width) × IsRendered m seen closes c width values shown)
+IsAnswerOf m seen closes c width values too_narrow =
+    (values ≢ none) × ((width ≡ 0) ⊎ IsTooNarrow m seen closes c width values)
+IsAnswerOf m seen closes c width values fail = values ≡ none
 
 -- The answer to a page of these bytes.
 pub record HasAnswer {T H A : Type 0} (m : Marking H A) (seen : T → A)

@@ -28,7 +28,6 @@ impl<D: TextDecorator + Drop> Config<D> {
     ghost use Rattle.page_config.specs.declared.error.Error.TheVariants as errors;
     ghost use Rattle.render_conversion.specs.Conversion.{document_values};
     ghost use Rattle.render_conversion.specs.Decorating.{decorating_rules, seen_rule};
-    ghost use Rattle.render_sizes.specs.Extents.{has_tables};
     ghost use Rattle.render_values.specs.Values.{none};
     ghost use Rattle.tagged_lines.specs.Tagged.{line_items};
     ghost use Rattle.text_marks.specs.Marks.{IsSteady};
@@ -164,8 +163,7 @@ impl<D: TextDecorator + Drop> Config<D> {
     }
 
     /// The lines of a render tree, wrapped to `width` columns. The tree is gone, also where it is refused: as
-    /// `TooNarrow` where the width is 0, or too narrow for a part of the page or a character; as `Fail` where a table
-    /// stands in it, since tables are not laid out yet; else for want of memory.
+    /// `TooNarrow` where the width is 0, or too narrow for a part of the page or a character; else for want of memory.
     pub fn render_to_lines(
         &self,
         alloc: Global,
@@ -177,13 +175,9 @@ impl<D: TextDecorator + Drop> Config<D> {
             (page_setting D.held D.sub self.now).rendering width tree
             (map (line_items (tags_seen D.Annotation.seen)) lines.items)) }
         ensures wide { IfOk result (λ lines. 0 < width) }
-        ensures tables { IfOk result (λ lines. has_tables tree ≡ false) }
         ensures narrow { result ≡ Err errors.TooNarrow → (width ≡ 0) ⊎ ((tag : _)
             → IsTagging D.Annotation.seen D.gives tag → IsTooNarrow (marking D.text tag D.marks D.after D.pops D.sub)
             D.Annotation.seen D.closes (page_setting D.held D.sub self.now).rendering width tree) }
-        ensures flat { result ≡ Err errors.TooNarrow → (width ≡ 0) ⊎ (has_tables tree ≡ false) }
-        ensures fail { result ≡ Err errors.Fail → has_tables tree ≡ true }
-        ensures width { result ≡ Err errors.Fail → 0 < width }
         ensures within { IfOk result (λ lines. (tag : _) → IsTagging D.Annotation.seen D.gives tag → IsSteady D.text
             → AreNumbered tree → (page_setting D.held D.sub self.now).rendering.options.allow_width_overflow ≡ false
             → (page_setting D.held D.sub self.now).rendering.options.wrap_links ≡ true → 2 ≤ width
@@ -191,8 +185,7 @@ impl<D: TextDecorator + Drop> Config<D> {
         ensures roomy { (tag : _) → IsTagging D.Annotation.seen D.gives tag
             → (page_setting D.held D.sub self.now).rendering.options.allow_width_overflow ≡ true → 0 < width
             → result ≢ Err errors.TooNarrow }
-        ensures kinds { IfErr result
-            (λ e. (e ≡ errors.TooNarrow) ⊎ (e ≡ errors.Fail) ⊎ (e ≡ errors.Memory)) }
+        ensures kinds { IfErr result (λ e. (e ≡ errors.TooNarrow) ⊎ (e ≡ errors.Memory)) }
     {
         Ok(self.rendering.render_to_lines(alloc, tree, width)?)
     }
@@ -208,18 +201,13 @@ impl<D: TextDecorator + Drop> Config<D> {
             → IsPrinted (marking D.text tag D.marks D.after D.pops D.sub) D.Annotation.seen D.closes
             (page_setting D.held D.sub self.now).rendering width tree (chars (string_bytes text))) }
         ensures wide { IfOk result (λ text. 0 < width) }
-        ensures tables { IfOk result (λ text. has_tables tree ≡ false) }
         ensures narrow { result ≡ Err errors.TooNarrow → (width ≡ 0) ⊎ ((tag : _)
             → IsTagging D.Annotation.seen D.gives tag → IsTooNarrow (marking D.text tag D.marks D.after D.pops D.sub)
             D.Annotation.seen D.closes (page_setting D.held D.sub self.now).rendering width tree) }
-        ensures flat { result ≡ Err errors.TooNarrow → (width ≡ 0) ⊎ (has_tables tree ≡ false) }
-        ensures fail { result ≡ Err errors.Fail → has_tables tree ≡ true }
-        ensures width { result ≡ Err errors.Fail → 0 < width }
         ensures roomy { (tag : _) → IsTagging D.Annotation.seen D.gives tag
             → (page_setting D.held D.sub self.now).rendering.options.allow_width_overflow ≡ true → 0 < width
             → result ≢ Err errors.TooNarrow }
-        ensures kinds { IfErr result
-            (λ e. (e ≡ errors.TooNarrow) ⊎ (e ≡ errors.Fail) ⊎ (e ≡ errors.Memory)) }
+        ensures kinds { IfErr result (λ e. (e ≡ errors.TooNarrow) ⊎ (e ≡ errors.Memory)) }
     {
         Ok(self.rendering.render_to_string(alloc, tree, width)?)
     }

@@ -25,7 +25,7 @@ pub enum Error {
     /// The width is 0, or too narrow for a part of the page or for a character.
     #[error("{text}", text = TOO_NARROW)]
     TooNarrow,
-    /// There is nothing to render, or a table stands in the page; or an earlier call was refused.
+    /// There is nothing to render; or an earlier call was refused.
     #[error("{text}", text = FAIL)]
     Fail,
     /// The reader or the writer failed.

@@ -84,8 +84,8 @@ impl<D: TextDecorator + Drop> Config<D> {
 
     /// The lines of the page that `input` gives, wrapped to `width` columns: those of all the bytes that it has. It is
     /// refused as `TooLong` where more bytes came than it may have; as `TooNarrow` where the width is 0, or too narrow
-    /// for a part of the page or a character; as `Fail` where the page converts to nothing or a table stands in it; as
-    /// `IoError` where the reader failed; else for want of memory.
+    /// for a part of the page or a character; as `Fail` where the page converts to nothing; as `IoError` where the
+    /// reader failed; else for want of memory.
     pub fn lines_from_read<R: ByteReader>(
         self,
         alloc: Global,

@@ -1,12 +1,11 @@
 -- A page of paragraphs is rendered as their lines, and a width is too narrow for it where it is for one.
-use Rattle.std.proofs.Common.{◌≡◌, ◌≢◌, ℕ, Bool, true, false, ◌||◌, List, [], ◌∷◌, Option, None, Some, map}
+use Rattle.std.proofs.Common.{◌≡◌, ◌≢◌, ℕ, Bool, true, false, List, [], Option, None, Some, map}
 use Rattle.std.proofs.Common.{if◌then◌else◌, inl, inr, ⊎_elim, refl, sym, ap, subst, ◌∙◌}
 use Rattle.std.proofs.lemmas.Option.{none-some, same_Some}
 use Rattle.std.specs.Option.{option_map}
 use Rattle.block_layout.specs.Laid.{Laid}
 use Rattle.html_render_tree.specs.PageLines.{HasNoLines, IsClosed, IsNoted, IsRendered, IsTooNarrow, IsUnclosed}
 use Rattle.html_render_tree.specs.PageLines.{NeverNoted, Setting, laid_page, noted, with_notes}
-use Rattle.render_sizes.specs.Extents.{has_tables}
 use Rattle.render_values.specs.Values.{Values, none}
 use Rattle.renderer_calls.specs.Renderers.{lines_of_sub}
 use Rattle.tagged_lines.specs.Tagged.{Item, line_items, tagged}
@@ -16,7 +15,7 @@ use Rattle.text_decorators.specs.Texts.{footnote_texts}
 use Rattle.paragraph_lines.specs.ParagraphLines.{Plain, PlainItems}
 use Rattle.html_render_tree.specs.PlainText.{plain_closes, plain_marking}
 use Rattle.paragraph_lines.specs.ParagraphPages.{AreLaid, IsPlain}
-use Rattle.paragraph_lines.specs.ParagraphValues.{block_values, paragraph_values, text_values}
+use Rattle.paragraph_lines.specs.ParagraphValues.{paragraph_values}
 use Rattle.paragraph_lines.proofs.OwnLines.{KnowsNormalText, are_lines, lines_are, some_wider}
 use Rattle.paragraph_lines.proofs.OwnLines.{wider_none}
 use Rattle.paragraph_lines.proofs.StatesLaid.{all_laid, all_shown, all_shown_are, shown_of}
@@ -148,24 +147,6 @@ module _ (links : Bool) (held : Unit {0}) (width : ℕ) where
 
 -- ---- of paragraphs
 
-text_without_tables : (cs : List ℕ) → has_tables (text_values cs) ≡ false
-text_without_tables [] = refl
-text_without_tables (c ∷ cs) = refl
-
-blocks_without_tables : (texts : List (List ℕ)) → has_tables (block_values texts) ≡ false
-blocks_without_tables [] = refl
-blocks_without_tables (cs ∷ texts) =
-    ap (λ b. b || has_tables (block_values texts)) (text_without_tables cs) ∙ blocks_without_tables texts
-
-or_false : (b : Bool) → (b || false) ≡ b
-or_false true = refl
-or_false false = refl
-
-page_without_tables : (texts : List (List ℕ)) → has_tables (paragraph_values texts) ≡ false
-page_without_tables texts =
-    let b = has_tables (block_values texts) in
-    or_false ((b || false) || false) ∙ or_false (b || false) ∙ or_false b ∙ blocks_without_tables texts
-
 some_values : (texts : List (List ℕ)) → paragraph_values texts ≢ none
 some_values texts e = cc
 
@@ -179,7 +160,6 @@ are_laid k c width texts is_plain =
     let same = all_shown_are k width texts in
     record {
       some = some_values texts;
-      tables = page_without_tables texts;
       lines = λ lines. (
         λ r. are_lines k width texts [] lines
             (sym same ∙ lines_shown_are links c.held width c values found lines laid r),

@@ -4,14 +4,14 @@ use Rattle.std.proofs.Common.{refl, ap, ◌∙◌}
 use Rattle.std.specs.Option.{option_and_then, option_map}
 use Rattle.block_layout.specs.Laid.{Laid, add_text, end_block, is_ignored, start_awaited, start_block}
 use Rattle.html_render_tree.specs.PageLines.{Setting, laid_page, prefix_columns}
-use Rattle.render_sizes.specs.Extents.{Measure, extent_of, measure_of, number}
+use Rattle.render_sizes.specs.Extents.{Measure, measure_of}
 use Rattle.render_values.specs.Looks.{plain}
 use Rattle.render_values.specs.Values.{Values, none}
 use Rattle.render_values.specs.declared.info.RenderInfo.TheVariants as infos
-use Rattle.render_walk.specs.Lay.{begins, ends, following, holds, laid, laid_parts, lay, leading, style_begins}
-use Rattle.render_walk.specs.Lay.{style_ends}
-use Rattle.render_walk.specs.Laying.{Laying, Step, in_current, in_turn, says}
-use Rattle.render_walk.specs.declared.around.Around.TheVariants.{Flow}
+use Rattle.render_laying.specs.Begins.{begins, ends, following, leading, style_begins, style_ends}
+use Rattle.render_laying.specs.Laying.{Laying, Step, in_current, in_turn, outside, says}
+use Rattle.render_laying.specs.declared.around.Around.TheVariants.{Flow}
+use Rattle.render_walk.specs.Lay.{Content, content_of, holds, laid, laid_parts, lay}
 use Rattle.renderer_calls.specs.Calls.{adds_text, ends_block, starts_block}
 use Rattle.renderer_calls.specs.Defaults.{default_options}
 use Rattle.renderer_calls.specs.Renderers.{Sub, new_sub, on_laid, with_laid}
@@ -62,7 +62,7 @@ module _ (links : Bool) (held : Unit {0}) (width : ℕ) where
   parts_at b = record { below = []; current = sub_at b; targets = [] }
 
   abbrev laying : Laid Plain → Layings
-  laying b = record { parts = parts_at b; around = Flow }
+  laying b = record { parts = parts_at b; around = Flow; table = outside false }
 
   -- ---- the calls
 
@@ -125,11 +125,11 @@ module _ (links : Bool) (held : Unit {0}) (width : ℕ) where
         (text_walked cs b)
         ∙ ended_by (text_said width cs b)
 
-    block_walked : (cs : List ℕ) (b : Laid Plain) (items least : ℕ) →
-        laid plain_marking (plain_head infos.Block) items least (walk (text_values cs)) (laying b)
+    block_walked : (cs : List ℕ) (b : Laid Plain) (c : Content) →
+        laid plain_marking (plain_head infos.Block) c (walk (text_values cs)) (laying b)
         ≡ option_map laying (paragraph_laid width cs b)
     unfolding begins ends holds leading following style_begins style_ends
-    block_walked cs b items least =
+    block_walked cs b c =
         ap (in_block cs) (started b) ∙ block_by cs (start_block (measure width) [] b)
 
     rest_by : (texts : List (List ℕ)) (x : Option (Laid Plain)) →
@@ -144,7 +144,7 @@ module _ (links : Bool) (held : Unit {0}) (width : ℕ) where
     blocks_walked [] b = refl
     blocks_walked (cs ∷ texts) b =
         ap (option_and_then (walk (block_values texts)))
-        (block_walked cs b (number (text_values cs)) (extent_of by (plain_head infos.Block) (text_values cs)).least)
+        (block_walked cs b (content_of by (plain_head infos.Block) (text_values cs)))
         ∙ rest_by texts (paragraph_laid width cs b) (λ b. blocks_walked texts b)
 
     -- ---- a container

@@ -1,10 +1,9 @@
 -- How pages of paragraphs are laid out: each text in its fullest layout, an empty line between what shows something.
-use Rattle.std.specs.Prelude.{◌≡◌, ◌≢◌, ◌⊎◌, ◌↔◌, ℕ, ◌<◌, Any, false, List, [], map}
+use Rattle.std.specs.Prelude.{◌≡◌, ◌≢◌, ◌⊎◌, ◌↔◌, ℕ, ◌<◌, Any, List, [], map}
 use Rattle.html_render_tree.specs.PageLines.{IsRendered, IsTooNarrow, Setting}
 use Rattle.html_render_tree.specs.PlainText.{plain_closes, plain_marking}
 use Rattle.render_conversion.specs.Conversion.{document_values}
 use Rattle.render_conversion.specs.Decorating.{decorating_rules, seen_rule}
-use Rattle.render_sizes.specs.Extents.{has_tables}
 use Rattle.render_values.specs.Values.{Values, none}
 use Rattle.renderer_calls.specs.Defaults.{default_options}
 use Rattle.style_cascade.specs.declared.rules.StyleRule.{StyleRule}
@@ -19,11 +18,10 @@ AreQuiet rules = (rules ≡ []) ⊎ (map seen_rule rules ≡ decorating_rules)
 abbrev pub IsPlain : Setting (Unit {0}) → Type 0
 IsPlain c = c.options ≡ record default_options { include_link_footnotes = c.options.include_link_footnotes }
 
--- What a page of paragraphs has: values, without tables, that are rendered as its paragraphs' lines and no others, and
--- for which a width is too narrow just where it is for one of the texts.
+-- What a page of paragraphs has: values that are rendered as its paragraphs' lines and no others, and for which a width
+-- is too narrow just where it is for one of the texts.
 pub record AreLaid (c : Setting (Unit {0})) (width : ℕ) (texts : List (List ℕ)) (values : Values) : Type 0 where
   pub some : values ≢ none
-  pub tables : has_tables values ≡ false
   pub lines : (lines : List PlainItems) → IsRendered plain_marking (λ _. tt) plain_closes c width values lines
       ↔ AreLinesBehind width [] texts lines
   pub narrow : IsTooNarrow plain_marking (λ _. tt) plain_closes c width values ↔ Any (IsWiderText width) texts

@@ -1,7 +1,7 @@
 -- A page of paragraphs has its answer, by its tree and the layout of that.
-use Rattle.std.proofs.Common.{◌≡◌, ◌⊎◌, inl, inr, ℕ, ◌<◌, ◌≤◌, true, false, List, [], sym, ap, subst, ◌∙◌, arith}
+use Rattle.std.proofs.Common.{◌≡◌, ◌⊎◌, inl, inr, ℕ, ◌<◌, ◌≤◌, true, List, [], sym, ap, subst, ◌∙◌, arith}
 use Rattle.std.specs.Prelude.{Any}
-use Rattle.std.proofs.lemmas.Bool.{cases_lt, false≢true}
+use Rattle.std.proofs.lemmas.Bool.{cases_lt}
 use Rattle.html_forest.specs.Forest.{Forest}
 use Rattle.html_forest.specs.declared.sink.QuirksMode.{QuirksMode}
 use Rattle.html_grammar.specs.PageText.{page_text}
@@ -19,8 +19,7 @@ use Rattle.paragraph_pages.specs.ParagraphAnswers.{AreAnswered, IsPlainly}
 use Rattle.paragraph_trees.specs.ParagraphPage.{IsParagraphPage}
 use Rattle.paragraph_trees.specs.ParagraphTrees.{ParagraphPagesHaveTheirTrees, paragraph_tree}
 use Rattle.render_conversion.specs.Conversion.{document_values}
-use Rattle.render_sizes.specs.Extents.{has_tables}
-use Rattle.render_values.specs.Values.{Values, none}
+use Rattle.render_values.specs.Values.{Values}
 use Rattle.utf8_decoding.specs.ReplacedText.{replaced_text}
 
 -- bytes have a tree
@@ -62,7 +61,7 @@ module _ (has_tree : HasTree) (trees : ParagraphPagesHaveTheirTrees handle_of) (
         wide,
         ((laid_at width wide).lines shown).0
             (subst (λ v. IsRendered plain_marking (λ _. tt) plain_closes c.rendering width v shown)
-            (its_values_alone has.values has.page) has.answered.1.1.1),
+            (its_values_alone has.values has.page) has.answered.1.1),
       )
 
   lines_had : (width : ℕ) (shown : List PlainItems) → (0 < width) × AreLinesBehind width [] texts shown
@@ -70,7 +69,7 @@ module _ (has_tree : HasTree) (trees : ParagraphPagesHaveTheirTrees handle_of) (
   lines_had width shown (wide, behind) = let laid = laid_at width wide in record {
     values = its_values;
     page = are_its_values;
-    answered = (laid.some, (wide, (laid.tables, (laid.lines shown).1 behind)));
+    answered = (laid.some, (wide, (laid.lines shown).1 behind));
   }
 
   narrow_by : (width : ℕ) (values : Values) → values ≡ its_values → (0 < width) ⊎ (width ≡ 0)
@@ -89,11 +88,11 @@ module _ (has_tree : HasTree) (trees : ParagraphPagesHaveTheirTrees handle_of) (
   narrow_told : (width : ℕ) → HasAnswer plain_marking (λ _. tt) plain_closes c width bytes too_narrow
       → (width ≡ 0) ⊎ Any (IsWiderText width) texts
   narrow_told width has = narrow_in has.values (its_values_alone has.values has.page) has.answered.1 where
-    narrow_in : (values : Values) → values ≡ its_values → (width ≡ 0) ⊎ ((has_tables values ≡ false)
-        × IsTooNarrow plain_marking (λ _. tt) plain_closes c.rendering width values)
+    narrow_in : (values : Values) → values ≡ its_values
+        → (width ≡ 0) ⊎ IsTooNarrow plain_marking (λ _. tt) plain_closes c.rendering width values
         → (width ≡ 0) ⊎ Any (IsWiderText width) texts
     narrow_in values same (inl empty) = inl empty
-    narrow_in values same (inr narrow) = narrow_by width values same (wide_or_not width) narrow.1
+    narrow_in values same (inr narrow) = narrow_by width values same (wide_or_not width) narrow
 
   narrow_had : (width : ℕ) → (width ≡ 0) ⊎ Any (IsWiderText width) texts
       → HasAnswer plain_marking (λ _. tt) plain_closes c width bytes too_narrow
@@ -109,20 +108,12 @@ module _ (has_tree : HasTree) (trees : ParagraphPagesHaveTheirTrees handle_of) (
     narrow_from (inl wide) (inr any) = let laid = laid_at width wide in record {
       values = its_values;
       page = are_its_values;
-      answered = (laid.some, inr (laid.tables, laid.narrow.1 any));
+      answered = (laid.some, inr (laid.narrow.1 any));
     }
 
   not_nothing : (width : ℕ) → HasAnswer plain_marking (λ _. tt) plain_closes c width bytes fail → ⊥
-  not_nothing width has = nothing_in has.answered where
-    laid : AreLaid c.rendering 1 texts its_values
-    laid = laid_at 1 (omega arith)
-
-    same : has.values ≡ its_values
-    same = its_values_alone has.values has.page
-
-    nothing_in : (has.values ≡ none) ⊎ ((0 < width) × (has_tables has.values ≡ true)) → ⊥
-    nothing_in (inl nothing) = laid.some (sym same ∙ nothing)
-    nothing_in (inr tables) = false≢true (sym laid.tables ∙ ap has_tables (sym same) ∙ tables.1)
+  not_nothing width has =
+      (laid_at 1 (omega arith)).some (sym (its_values_alone has.values has.page) ∙ has.answered)
 
   pub answered : (width : ℕ) → AreAnswered c width bytes texts
   answered width = record {

@@ -1,13 +1,11 @@
-use Rattle.std.proofs.Common.{◌≡◌, [], Err, Global, Vec, ap, sym, ◌∙◌}
+use Rattle.std.proofs.Common.{◌≡◌, [], Err, ap, sym, ◌∙◌}
 use Rattle.block_renderer.specs.Seen.{marking}
 use Rattle.render_conversion.specs.declared.error.RenderError.TheVariants.{TooNarrow}
-use Rattle.render_sizes.specs.Extents.{extents, has_tables, measure_of}
-use Rattle.render_sizes.specs.declared.extent.Extent.{Extent}
+use Rattle.render_sizes.specs.Extents.{extents, measure_of}
 use Rattle.render_walk.specs.Lay.{laid_parts}
 use Rattle.renderer_calls.specs.Renderers.{new_sub}
 use Rattle.text_block_renderer.specs.Parts.{depth_of, whole_page}
 use Rattle.html_render_tree.specs.PageLines.{prefix_columns}
-use Rattle.html_render_tree.proofs.LineLemmas.{measured_some}
 use Rattle.html_render_tree.proofs.rendering.laid.Goals as goal
 
 pub lay_tree-requires : goal.lay_tree-requires
@@ -20,8 +18,7 @@ lay_tree-requires g c = λ lives k. (
       (
         ap depth_of c.new.ensures.parts,
         c.as_slice.ensures.value
-            ∙ ((measured_some (λ (v : Vec Extent Global). v.items) c.in_ok-sizes.field-0 c.in-Some.sizes
-            (has_tables c.args.tree.now) _ c.in-Some.is c.in_ok-sizes.ensures).1
+            ∙ (c.in_ok-sizes.ensures
             ∙ (ap (λ d. extents (measure_of c.args.min_wrap_width (prefix_columns (g.D.TextDecorator.text
             (g.D.TextDecorator.held d)))) c.args.tree.now) c.new-prefixes.ensures
             ∙ ap (λ v. extents v c.args.tree.now) (sym c.requires.1.1))),
@@ -43,11 +40,6 @@ returns-in-Ok-clause-laid g c = λ tag p.
     (c.into_decorator.ensures ∙ c.new-prefixes.ensures))))
     ∙ c.in-Ok.ensures.laid tag p)
 
-pub returns-in-Ok-clause-tables : goal.returns-in-Ok-clause-tables
-returns-in-Ok-clause-tables g c = (measured_some (λ (v : Vec Extent Global). v.items) c.in_ok-sizes.field-0
-    c.in-Some.sizes
-    (has_tables c.args.tree.now) _ c.in-Some.is c.in_ok-sizes.ensures).0
-
 pub returns-clause-narrow : goal.returns-clause-narrow
 returns-clause-narrow g c = λ e. λ tag p.
     let narrow : c.refusal.result ≡ TooNarrow = cc e in
@@ -61,7 +53,3 @@ returns-clause-narrow g c = λ e. λ tag p.
     ∙ ap (λ d. new_sub c.args.width c.args.options (g.D.TextDecorator.held d) [])
     (c.into_decorator.ensures ∙ c.new-prefixes.ensures))))
     ∙ c.in-Err.ensures.narrow (ap Err (c.refusal.ensures.narrow narrow)) tag p)
-
-pub returns-clause-flat : goal.returns-clause-flat
-returns-clause-flat g c = λ e. (measured_some (λ (v : Vec Extent Global). v.items) c.in_ok-sizes.field-0 c.in-Some.sizes
-    (has_tables c.args.tree.now) _ c.in-Some.is c.in_ok-sizes.ensures).0

@@ -17,7 +17,7 @@ returns-clause-lines g c = lines_read g.D.Annotation.EqualCopy.seen g.D.TextDeco
     (setting_of g.D.TextDecorator.held g.D.TextDecorator.sub c.in_ok-rendering.rendering)
     (map (line_items (tags_seen g.D.Annotation.EqualCopy.seen)) c.in_ok-render_to_lines.field-0.items)
     c.in_ok-rendering.ensures.tree c.in_ok-rendering.ensures.rendering c.in_ok-rendering.ensures.some
-    c.in_ok-render_to_lines.ensures.wide c.in_ok-render_to_lines.ensures.tables c.in_ok-render_to_lines.ensures.lines
+    c.in_ok-render_to_lines.ensures.wide c.in_ok-render_to_lines.ensures.lines
 
 pub returns-clause-within : goal.returns-clause-within
 returns-clause-within g c = λ tag p steady off wraps wide. c.in_ok-render_to_lines.ensures.within tag p steady
@@ -38,4 +38,4 @@ returns-in_err-render_to_lines-clause-narrow g c = λ e.
     (g.R.ByteReader.remaining c.args.input.now) c.in_ok-rendering.tree
     (setting_of g.D.TextDecorator.held g.D.TextDecorator.sub c.in_ok-rendering.rendering) c.in_ok-rendering.ensures.tree
     c.in_ok-rendering.ensures.rendering c.in_ok-rendering.ensures.some
-    (c.in_err-render_to_lines.ensures.narrow (ap Err same)) (c.in_err-render_to_lines.ensures.flat (ap Err same))
+    (c.in_err-render_to_lines.ensures.narrow (ap Err same))

@@ -15,7 +15,7 @@ returns-clause-text g c = text_read g.D.Annotation.EqualCopy.seen g.D.TextDecora
     (setting_of g.D.TextDecorator.held g.D.TextDecorator.sub c.in_ok-rendering.rendering)
     (chars (string_bytes c.in_ok-render_to_string.field-0)) c.in_ok-rendering.ensures.tree
     c.in_ok-rendering.ensures.rendering c.in_ok-rendering.ensures.some c.in_ok-render_to_string.ensures.wide
-    c.in_ok-render_to_string.ensures.tables c.in_ok-render_to_string.ensures.text
+    c.in_ok-render_to_string.ensures.text
 
 pub returns-in_err-render_to_string-clause-narrow : goal.returns-in_err-render_to_string-clause-narrow
 returns-in_err-render_to_string-clause-narrow g c = λ e.
@@ -30,4 +30,4 @@ returns-in_err-render_to_string-clause-narrow g c = λ e.
     (g.R.ByteReader.remaining c.args.input.now) c.in_ok-rendering.tree
     (setting_of g.D.TextDecorator.held g.D.TextDecorator.sub c.in_ok-rendering.rendering) c.in_ok-rendering.ensures.tree
     c.in_ok-rendering.ensures.rendering c.in_ok-rendering.ensures.some
-    (c.in_err-render_to_string.ensures.narrow (ap Err same)) (c.in_err-render_to_string.ensures.flat (ap Err same))
+    (c.in_err-render_to_string.ensures.narrow (ap Err same))
