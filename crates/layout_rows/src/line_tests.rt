@@ -3,7 +3,7 @@ use html_render_tree::RenderError;
 use std::test::Fail;
 
 // pages, their width, whether lines may pass it, and their lines
-const PAGES: [(&str, usize, bool, Result<&str, RenderError>); 24] = [
+const PAGES: [(&str, usize, bool, Result<&str, RenderError>); 35] = [
     (
         "<p>Hello, world.  Superlongwordreally</p>",
         8,
@@ -90,7 +90,78 @@ const PAGES: [(&str, usize, bool, Result<&str, RenderError>); 24] = [
         Ok("> abc\n> def\n"),
     ),
     ("<p>\u{6F22}</p>", 1, false, Err(RenderError::TooNarrow)),
-    ("<table><td>a</table>", 20, false, Err(RenderError::Fail)),
+    (
+        "<table><tr><td>1</td><td>2</td><td>3</td></tr></table>",
+        12,
+        false,
+        Ok("─┬─┬─\n1│2│3\n─┴─┴─\n"),
+    ),
+    (
+        "<table>x<tr><td>y</td></tr></table>",
+        10,
+        false,
+        Ok("x\n\n─\ny\n─\n"),
+    ),
+    (
+        "<table><tr><td colspan=\"2\"><p>Hello, this should be wrapped.</p></table>",
+        10,
+        false,
+        Ok("──────────\nHello,    \nthis      \nshould be \nwrapped.  \n──────────\n"),
+    ),
+    (
+        "<table><tr><td rowspan=2>a</td><td>b</td></tr><tr><td>c</td></tr></table>",
+        20,
+        false,
+        Ok("─┬─\na│b\n ├─\n │c\n─┴─\n"),
+    ),
+    (
+        "<table><tr><td></td><td rowspan=2>a</td><td>b</td></tr><tr><td></td><td>c</td></tr></table>",
+        20,
+        false,
+        Ok("─┬─\na│b\n ├─\n │c\n─┴─\n"),
+    ),
+    (
+        "<table><tr><td rowspan=2>a</td><td>b</td></tr></table><p>c",
+        20,
+        false,
+        Ok("─┬─\na│b\n─┴─\n\nc\n"),
+    ),
+    (
+        "<table><tr><td rowspan=999999999>a</td><td>b</td></tr></table><p>c",
+        20,
+        false,
+        Ok("─┬─\na│b\n─┴─\n\nc\n"),
+    ),
+    (
+        "<table><tr><td></td><td>a</td></tr></table>",
+        20,
+        false,
+        Ok("─\na\n─\n"),
+    ),
+    (
+        "<table><tr><td rowspan=2>a<br>b</td></tr><tr></tr></table>",
+        3,
+        false,
+        Ok("───\na  \nb  \n───\n"),
+    ),
+    (
+        "<table><tr><td>abc</td><td>def</td></tr></table>",
+        5,
+        false,
+        Ok("─────\nabc\n/////\ndef\n─────\n"),
+    ),
+    (
+        "<table><tr><td colspan=1000000000>a</table>",
+        20,
+        false,
+        Ok("─\na\n─\n"),
+    ),
+    (
+        "<table><tr><td colspan=99999999999999999999>a</table>",
+        20,
+        false,
+        Ok("─\na\n─\n"),
+    ),
     ("", 20, false, Ok("")),
     ("<p>x", 0, false, Err(RenderError::TooNarrow)),
 ];

@@ -80,7 +80,7 @@ static PAGES: [(usize, &[u8], Result<&str, Error>); 46] = [
     (20, b"<p>&amp</p>", Ok("&amp\n")),
     (20, b"<p>a & b</p>", Ok("a & b\n")),
     (20, b"<p>\0</p>", Ok("")),
-    (20, b"<table><tr><td>a</table>", Err(Error::Fail)),
+    (20, b"<table><tr><td>a</table>", Ok("─\na\n─\n")),
     (0, b"<table><tr><td>a</table>", Err(Error::TooNarrow)),
     (
         20,

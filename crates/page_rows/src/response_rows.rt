@@ -53,9 +53,9 @@ static ROWS: [Row; 10] = [
     (
         Ok("html2text"),
         b"<table><tr><td>a</table>",
-        1,
+        0,
+        Some("─\na\n─\n"),
         Some(""),
-        Some("html2text: nothing to render\n"),
     ),
     (Ok("html2text --help"), FIRST_PAGE, 0, None, Some("")),
     (Ok("html2text --widt 3"), FIRST_PAGE, 2, Some(""), None),
@@ -135,17 +135,21 @@ fn a_refused_flush_is_told(rt: HostRuntime) -> Result<(), Fail> {
 #[test]
 fn a_fault_of_standard_error_changes_nothing_else(rt: HostRuntime) -> Result<(), Fail> {
     let alloc = rt.alloc();
-    let mut input = Device::new(b"<table><tr><td>a".as_slice());
+    let mut input = Device::new(b"<p>\xE6\xBC\xA2".as_slice());
     let mut output = Device::new(Taker::new(alloc));
     let mut taker = Taker::new(alloc);
     taker.most = 4;
     taker.writes = 3;
     let mut errors = Device::new(taker);
-    let request = request_of(alloc, Ok(words_of(alloc, "html2text --width 5")?));
-    let is_so = matches!(request, Ok(Request { width: 5 }));
+    let request = request_of(alloc, Ok(words_of(alloc, "html2text --width 1")?));
+    let is_so = matches!(request, Ok(Request { width: 1 }));
     holds(&rt, is_so, "the words");
     let outcome = carry_out(alloc, request, &mut input, &mut output, &mut errors);
-    holds(&rt, outcome == Outcome::Page(Error::Fail), "the outcome");
+    holds(
+        &rt,
+        outcome == Outcome::Page(Error::TooNarrow),
+        "the outcome",
+    );
     let told = errors.into_inner().taken;
     let is_so = told.as_slice() == b"html2text: ".as_slice();
     holds(&rt, is_so, "what was told");
