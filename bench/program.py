@@ -38,13 +38,18 @@ def tell(program, name, page):
     print(f"| {name} | {len(page):,} | {seconds:.2f} | {speed} | {memory / 1000:.0f} MB | {came} |")
 
 
+def tell_all(program, named_pages):
+    """Times pages, each with its name, on a stack of one megabyte, and tells their lines below a head."""
+    resource.setrlimit(resource.RLIMIT_STACK, (1 << 20, 1 << 20))
+    print("| page | bytes | seconds | a second | memory | came to |\n|---|---|---|---|---|---|")
+    for name, page in named_pages:
+        tell(program, name, page.encode())
+
+
 def main():
     if len(sys.argv) != 2:
         sys.exit(__doc__)
-    resource.setrlimit(resource.RLIMIT_STACK, (1 << 20, 1 << 20))
-    print("| page | bytes | seconds | a second | memory | came to |\n|---|---|---|---|---|---|")
-    for name, page in pages():
-        tell(sys.argv[1], name, page.encode())
+    tell_all(sys.argv[1], pages())
     maker = os.path.join(os.path.dirname(os.path.abspath(__file__)), "make_tokens.py")
     for size in ("1", "2", "4", "8"):
         page = subprocess.run([sys.executable, maker, "markup", size], capture_output=True, check=True).stdout

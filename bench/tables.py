@@ -6,10 +6,9 @@
 A line says what program.py says.
 """
 
-import resource
 import sys
 
-from program import tell
+from program import tell_all
 
 ROW = "<tr><td>some words<td>and others<td>here</tr>"
 
@@ -48,10 +47,7 @@ def pages():
 def main():
     if len(sys.argv) != 2:
         sys.exit(__doc__)
-    resource.setrlimit(resource.RLIMIT_STACK, (1 << 20, 1 << 20))
-    print("| page | bytes | seconds | a second | memory | came to |\n|---|---|---|---|---|---|")
-    for name, page in pages():
-        tell(sys.argv[1], name, page.encode())
+    tell_all(sys.argv[1], pages())
 
 
 if __name__ == "__main__":
