@@ -1,11 +1,20 @@
 #!/usr/bin/env bash
-# Proves and builds the program, and puts it into PREFIX/bin (by default ~/.local/bin) under the name html2text:
+# Proves and builds the program, and puts it into PREFIX/bin (by default ~/.local/bin) under the name html2text, with its
+# manual page, the standard's table of references, and completions for bash, zsh and fish under PREFIX/share:
 #
 #     tools/install.sh [PREFIX]
 set -eu
 prefix=${1:-$HOME/.local}
-cd "$(dirname "$0")/../crates/html2text_program"
+top=$(cd "$(dirname "$0")/.." && pwd)
+cd "$top/crates/html2text_program"
 # Runs it on an empty page once all that it stands on is proved.
 rt run </dev/null >/dev/null
 install -D -m 755 out/html2text_program "$prefix/bin/html2text"
+cd "$top/share"
+share=$prefix/share
+install -D -m 644 html-references.json "$share/html2text/html-references.json"
+install -D -m 644 man/man1/html2text.1 "$share/man/man1/html2text.1"
+install -D -m 644 completions/html2text.bash "$share/bash-completion/completions/html2text"
+install -D -m 644 completions/_html2text "$share/zsh/site-functions/_html2text"
+install -D -m 644 completions/html2text.fish "$share/fish/vendor_completions.d/html2text.fish"
 echo "$prefix/bin/html2text"

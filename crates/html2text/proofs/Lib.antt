@@ -1,10 +1,7 @@
-pub mod CommandFaults
-pub mod CommandHelp
-pub mod CommandLines
-pub mod CommandNumbers
-pub mod CommandTurns
+pub mod AnswerLemmas
+pub mod EndingLemmas
 pub mod LinesTextLemmas
-pub mod PlainLemmas
 pub mod ResponseLemmas
+pub mod SettingLemmas
 pub mod WritingLemmas
 pub mod WrittenLemmas

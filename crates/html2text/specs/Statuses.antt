@@ -1,7 +1,7 @@
 -- The exit statuses of the program.
 use Rattle.std.specs.Prelude.{ℕ}
-use Rattle.html2text.specs.declared.words.Outcome.{Outcome}
-use Rattle.html2text.specs.declared.words.Outcome.TheVariants.{Done, Page, NotOpened, Words, Table}
+use Rattle.html2text.specs.declared.outcome.Outcome.{Outcome}
+use Rattle.html2text.specs.declared.outcome.Outcome.TheVariants.{Done, Page, NotOpened, Words, Table}
 
 abbrev pub status_of : Outcome → ℕ
 status_of Done = 0

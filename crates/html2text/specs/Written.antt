@@ -1,11 +1,18 @@
 -- What a writer has of a page.
-use Rattle.std.specs.Prelude.{ℕ, List, Option, chars}
+use Rattle.std.specs.Prelude.{◌≡◌, ℕ, ◌≤◌, Bool, true, false, not, ◌&&◌, ◌||◌, List, [], Option}
+use Rattle.std.specs.Prelude.{chars, if◌then◌else◌, length, map, unwrap_or}
 use Rattle.std.specs.Io.KnownBytes.{Appends}
 use Rattle.std.specs.Str.{IsUtf8}
+use Rattle.command_words.specs.CommandWords.{Asked}
 use Rattle.html_lexemes.specs.KnownPart.{AppendsPart}
-use Rattle.html_lexemes.specs.References.{basic}
-use Rattle.page_config.specs.PageAnswers.{fail, too_narrow}
-use Rattle.page_config.specs.PlainPages.{HasPlainAnswer, HasPlainText}
+use Rattle.html_lexemes.specs.References.{References}
+use Rattle.html_render_tree.specs.PlainText.{plain_closes, plain_marking}
+use Rattle.html_tree_builder.specs.Defaults.{default_parse}
+use Rattle.page_config.specs.PageAnswers.{HasAnswer, HasText, fail, too_narrow}
+use Rattle.page_config.specs.RichPages.{HasRichAnswer, HasRichText}
+use Rattle.page_config.specs.Settings.{PageSetting}
+use Rattle.render_conversion.specs.Decorating.{SeenRule, decorating_rules, seen_rule}
+use Rattle.renderer_calls.specs.Defaults.{default_options}
 
 -- known bytes grow by a text of this kind, in UTF-8
 pub record Gains (IsText : List ℕ → Type 0) (old new : Option (List ℕ)) : Type 0 where
@@ -21,17 +28,58 @@ pub record GainsPart (IsText : List ℕ → Type 0) (old new : Option (List ℕ)
   pub page : IsText (chars text)
   pub part : AppendsPart old new text
 
--- The pages of the program: as plain text, by the basic table of references.
-abbrev pub WritesPage : (width : ℕ) (bytes : List ℕ) (old new : Option (List ℕ)) → Type 0
-WritesPage width bytes old new = Gains (HasPlainText basic width bytes) old new
+-- Rich text has no marks; else marks of emphasis, strong text, terms and code are asked for or not.
+abbrev pub is_decorated : Asked → Bool
+is_decorated asked = not asked.rich && asked.decorate
 
-abbrev pub WritesPart : (width : ℕ) (bytes : List ℕ) (old new : Option (List ℕ)) → Type 0
-WritesPart width bytes old new = GainsPart (HasPlainText basic width bytes) old new
+abbrev pub asked_rules : Asked → List SeenRule
+asked_rules asked = if is_decorated asked then decorating_rules else []
 
--- the width is too narrow for a page of these bytes
-abbrev pub IsTooNarrowPage : ℕ → List ℕ → Type 0
-IsTooNarrowPage width bytes = HasPlainAnswer basic width bytes too_narrow
+-- what a page is read and rendered by for what is asked, with these references: as pages are where nothing else is
+-- said, with or without these marks; with targets of links behind a page with marks, and where they are asked for
+pub record IsSetting (asked : Asked) (names : References) (c : PageSetting (Unit {0})) : Type 0 where
+  pub table : c.table ≡ names
+  pub parsing : c.parsing ≡ default_parse
+  pub rules : map seen_rule c.rules ≡ asked_rules asked
+  pub options : c.rendering.options
+      ≡ record default_options { include_link_footnotes = is_decorated asked || asked.footnotes }
+  pub min_wrap : c.rendering.min_wrap ≡ 3
+
+-- by the decorator of rich text, or else by that of plain text
+abbrev pub EitherLook : Bool → Type 0 → Type 0 → Type 0
+EitherLook true rich plain = rich
+EitherLook false rich plain = plain
+
+-- the text of a page of these bytes, as it is asked for
+pub record HasAskedText (asked : Asked) (names : References) (bytes text : List ℕ) : Type 0 where
+  pub setting : PageSetting (Unit {0})
+  pub is : IsSetting asked names setting
+  pub has : EitherLook asked.rich (HasRichText setting asked.width bytes text)
+      (HasText plain_marking (λ _. tt) plain_closes setting asked.width bytes text)
+
+-- the width that is asked for is too narrow for it
+pub record IsTooNarrowPage (asked : Asked) (names : References) (bytes : List ℕ) : Type 0 where
+  pub setting : PageSetting (Unit {0})
+  pub is : IsSetting asked names setting
+  pub has : EitherLook asked.rich (HasRichAnswer setting asked.width bytes too_narrow)
+      (HasAnswer plain_marking (λ _. tt) plain_closes setting asked.width bytes too_narrow)
 
 -- there is nothing to render of it
-abbrev pub IsOtherPage : ℕ → List ℕ → Type 0
-IsOtherPage width bytes = HasPlainAnswer basic width bytes fail
+pub record IsOtherPage (asked : Asked) (names : References) (bytes : List ℕ) : Type 0 where
+  pub setting : PageSetting (Unit {0})
+  pub is : IsSetting asked names setting
+  pub has : EitherLook asked.rich (HasRichAnswer setting asked.width bytes fail)
+      (HasAnswer plain_marking (λ _. tt) plain_closes setting asked.width bytes fail)
+
+-- the most bytes that a page may have
+abbrev pub most_bytes : Asked → ℕ
+most_bytes asked = unwrap_or asked.max_bytes 18446744073709551615
+
+-- the page is not too long, and known bytes grow by its text
+abbrev pub WritesPage : Asked → References → (bytes : List ℕ) (old new : Option (List ℕ)) → Type 0
+WritesPage asked names bytes old new =
+    (length bytes ≤ most_bytes asked) × Gains (HasAskedText asked names bytes) old new
+
+-- they grow by a beginning of it
+abbrev pub WritesPart : Asked → References → (bytes : List ℕ) (old new : Option (List ℕ)) → Type 0
+WritesPart asked names bytes old new = GainsPart (HasAskedText asked names bytes) old new

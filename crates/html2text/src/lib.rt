@@ -1,28 +1,36 @@
-//! The program `html2text`: the words of its command line, what it writes of a page, and how it ends; with the library
-//! that it stands on, `page_config`.
+//! The program `html2text`: what it writes of a page, what it answers to the words of its command line, and how it ends;
+//! with the libraries that it stands on, `page_config`, `command_words` and `named_files`.
 #![tactic(auto)]
 
+mod outcome;
 mod program;
 mod response;
-mod words;
+mod showing;
 mod writing;
 
+pub use command_words::{Request, WordFault, read_words, request_of};
 pub use html_lexemes::{
     ByteReader, ByteWriter, Device, DeviceFault, ParseFault, ReferenceTable, TableError,
 };
 pub use html_render_dom::RcDom;
 pub use html_render_tree::RenderTree;
+pub use html_tree_builder::ParseOpts;
+pub use named_files::{FileOpener, HostFiles, OpenedFile, TableFault};
+pub use outcome::{Outcome, exit_status};
 pub use page_config::{
-    Config, Error, Page, PlainLine, a_page_has_an_answer, a_page_has_one_answer,
+    Config, Error, Page, PlainLine, RichLine, a_page_has_an_answer, a_page_has_one_answer,
     a_page_has_one_text, a_page_keeps_its_width, a_page_with_room_is_never_too_narrow, from_read,
-    from_read_with_decorator,
+    from_read_rich, from_read_with_decorator, parse,
 };
 pub use program::{Served, serve};
+pub use renderer_calls::{ImageRenderMode, RenderOptions};
 pub use response::{carry_out, respond};
+pub use style_cascade::{
+    Display, Importance, Style, StyleDecl, StyleOrigin, StylePlace, StyleRule,
+};
 pub use tagged_lines::{TaggedLine, TaggedLineElement, TaggedString};
 pub use text_decorators::{PlainDecorator, RichAnnotation, RichDecorator, TrivialDecorator};
-pub use text_marks::TextDecorator;
-pub use text_pieces::TooNarrow;
+pub use text_marks::{Colour, TextDecorator};
+pub use text_pieces::{TooNarrow, WhiteSpace};
 pub use utf8_decoding::Utf8LossyDecoder;
-pub use words::{Outcome, Request, WordFault, exit_status, read_words, request_of};
 pub use writing::run;

@@ -5,6 +5,7 @@ ghost use Rattle.html2text.specs.Endings.{ending};
 
 use crate::response::respond;
 use html_lexemes::Device;
+use named_files::HostFiles;
 use std::io::{BufWriter, Eprint};
 use std::process::{ExitCode, Termination};
 use std::rt::Env;
@@ -23,24 +24,25 @@ impl Termination for Served {
     }
 }
 
-/// Answers the command line of a runtime: opens the standard streams, reads the page on standard input, and writes its
-/// lines to standard output or what is wrong to standard error, as `respond` does.
+/// Answers the command line of a runtime: opens the standard streams and what files it names, and writes the lines of
+/// the page to standard output or what is wrong to standard error, as `respond` does.
 pub fn serve(rt: &HostRuntime) -> Served
-    ensures { (ending result ≡ 0) ⊎ (ending result ≡ 1) ⊎ (ending result ≡ 2) }
+    ensures { (ending result ≡ 0) ⊎ (ending result ≡ 1) ⊎ (ending result ≡ 2) ⊎ (ending result ≡ 3) }
 {
     let alloc = rt.alloc();
     let words = words_of(rt);
+    let files = HostFiles::new(rt);
     let mut input = Device::new(rt.reader());
     let mut errors = Device::new(rt.stderr());
     let status = match BufWriter::new(alloc, io::writer(rt)) {
         Ok(buffered) => {
             let mut output = Device::new(buffered);
-            respond(alloc, words, &mut input, &mut output, &mut errors)
+            respond(alloc, words, &files, &mut input, &mut output, &mut errors)
         }
         // Without memory for a buffer each text is written by itself.
         Err(_) => {
             let mut output = Device::new(io::writer(rt));
-            respond(alloc, words, &mut input, &mut output, &mut errors)
+            respond(alloc, words, &files, &mut input, &mut output, &mut errors)
         }
     };
     Served { status }

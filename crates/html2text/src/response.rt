@@ -1,53 +1,61 @@
 //! What the program answers to a command line: which text goes where, and its exit status.
 
-ghost use Rattle.std.specs.Prelude.{◌≡◌, ◌≢◌, ℕ, ◌+◌, ◌<◌, ◌⊎◌, ◌||◌, List, Option, true};
-ghost use Rattle.std.specs.Prelude.{false, Err, IfErr, IfOk, IfSome, IsOk, OnErr, OnOk, map, string_bytes};
+ghost use Rattle.std.specs.Prelude.{◌≡◌, ℕ, ◌⊎◌, ◌||◌, List, Option, true};
+ghost use Rattle.std.specs.Prelude.{false, Err, IfErr, IfOk, IsOk, OnErr, OnOk, map, option_map, string_bytes, Some};
 ghost use Rattle.std.specs.Io.KnownBytes.{Appends};
+ghost use Rattle.command_words.specs.CommandWords.{words_behind_name};
+ghost use Rattle.command_words.specs.FaultTexts.{fault_text};
+ghost use Rattle.command_words.specs.Requests.{asked_of};
+ghost use Rattle.command_words.specs.WordFaults.{IsRefusedWith};
 ghost use Rattle.html_lexemes.specs.KnownPart.{AppendsPart};
-ghost use Rattle.html2text.specs.CommandWords.{words_behind_name};
+ghost use Rattle.html2text.specs.Endings.{IsAnswered};
+ghost use Rattle.html2text.specs.Responses.{Complains, IsAskedRefusal, IsAskedTableRefusal, IsOutcomeOf, IsRefusal};
+ghost use Rattle.html2text.specs.Responses.{IsTableOf, IsTableRefusal, WritesAnswer, WritesAnswerPart, WritesAsked};
+ghost use Rattle.html2text.specs.Responses.{WritesAskedPart, complaint};
+ghost use Rattle.named_files.specs.TableFiles.{fault_text as table_text};
 ghost use Rattle.page_config.specs.Errors.{error_text};
-ghost use Rattle.html2text.specs.Responses.{IsAskedRefusal, IsOutcomeOf, IsRefusal, Complains, WritesAnswer};
-ghost use Rattle.html2text.specs.Responses.{WritesAnswerPart, WritesAsked, WritesAskedPart, complaint, fault_text};
-ghost use Rattle.html2text.specs.WordFaults.{IsRefusedWith};
-ghost use Rattle.html2text.specs.Written.{WritesPage, WritesPart};
 
-use crate::words::{Outcome, Request, WordFault, exit_status, request_of};
-use crate::writing::{run, write_all};
+use crate::outcome::{Outcome, exit_status};
+use crate::showing::write_page;
+use crate::writing::write_all;
+use command_words::{Request, WordFault, request_of};
 use html_lexemes::{ByteReader, ByteWriter, DeviceFault, ReferenceTable};
-use page_config::{Config, Error};
+use named_files::{FileOpener, TableFault, table_in_file};
+use page_config::Error;
 use std::alloc::Global;
 use std::io;
 
-/// Answers a command line, the program's name first, and gives the exit status: 0 where the text of the page that
-/// `input` gives was written to `output` and passed on, or the help was; 1 where the page was refused, or a device
-/// failed; 2 where the words were refused. Each fault is one text on `errors`, behind `html2text: `; where `errors` fails
-/// there is nobody left to tell.
-pub fn respond<R: ByteReader, W: ByteWriter, E: ByteWriter>(
+/// Answers a command line, the program's name first, and gives the exit status: 0 where the text of the page was
+/// written to `output` and passed on, or the help was; 1 where the page was refused or its file not opened, or a device
+/// failed; 2 where the words were refused; 3 where no table of references was had from the file that they name. The
+/// page is that of the file that they name, or of `input`. Each fault is one text on `errors`, behind `html2text: `;
+/// where `errors` fails there is nobody left to tell.
+pub fn respond<F: FileOpener, R: ByteReader, W: ByteWriter, E: ByteWriter>(
     alloc: Global,
     words: io::Result<Vec<String>>,
+    files: &F,
     input: &mut R,
     output: &mut W,
     errors: &mut E,
 ) -> u8
-    ensures statuses { (result ≡ 0) ⊎ (result ≡ 1) ⊎ (result ≡ 2) }
+    ensures statuses { (result ≡ 0) ⊎ (result ≡ 1) ⊎ (result ≡ 2) ⊎ (result ≡ 3) }
 
     // All that was asked for was written and passed on, and nothing is wrong.
     ensures done { result ≡ 0 → IfOk words (λ all. WritesAsked (words_behind_name (map string_bytes all.items))
-        (R.remaining input.old) (W.contents output.old) (W.contents output.new)) }
+        (F.bytes_of files.now) (R.remaining input.old) (W.contents output.old) (W.contents output.new)) }
     ensures had { result ≡ 0 → IsOk words }
     ensures passed_on { result ≡ 0 → (W.has_failed output.new ≡ false) × (W.was_flushed output.new ≡ true) }
     ensures silent { result ≡ 0 → errors.new ≡ errors.old }
 
-    // The page was refused, or a device failed: for this error, which is told.
+    // The page was refused or its file not opened, or a device failed: for this error, which is told.
     ensures refused { result ≡ 1 → (error : Error)
         × Complains (E.has_failed errors.new) (E.contents errors.old) (E.contents errors.new) (error_text error)
-        × IfOk words (λ all. IsAskedRefusal (words_behind_name (map string_bytes all.items))
-        (R.remaining input.old)
-        (R.has_failed input.new || W.has_failed output.new) (W.has_failed output.new)
-        usize.MAX (R.count input.old) (R.count input.new) error) }
+        × IfOk words (λ all. IsAskedRefusal (words_behind_name (map string_bytes all.items)) (F.bytes_of files.now)
+        (R.remaining input.old) (R.has_failed input.new || W.has_failed output.new) (W.has_failed output.new)
+        (R.count input.old) (R.count input.new) error) }
     ensures read { result ≡ 1 → IsOk words }
     ensures unwritten { result ≡ 1 → (output.new ≡ output.old) ⊎ ((W.has_failed output.new ≡ true)
-        × IfOk words (λ all. WritesAskedPart (words_behind_name (map string_bytes all.items))
+        × IfOk words (λ all. WritesAskedPart (words_behind_name (map string_bytes all.items)) (F.bytes_of files.now)
         (R.remaining input.old) (W.contents output.old) (W.contents output.new))) }
 
     // The words were refused: for this fault, which is told; nothing was read and nothing written.
@@ -55,17 +63,26 @@ pub fn respond<R: ByteReader, W: ByteWriter, E: ByteWriter>(
         × Complains (E.has_failed errors.new) (E.contents errors.old) (E.contents errors.new) (fault_text fault)
         × IsRefusedWith words fault }
     ensures unread { result ≡ 2 → (input.new ≡ input.old) × (output.new ≡ output.old) }
+
+    // There was no table: for this fault, which is told; no page was read and nothing written.
+    ensures table { result ≡ 3 → (fault : TableFault)
+        × Complains (E.has_failed errors.new) (E.contents errors.old) (E.contents errors.new) (table_text fault)
+        × IfOk words (λ all. IsAskedTableRefusal (words_behind_name (map string_bytes all.items))
+        (F.bytes_of files.now) fault) }
+    ensures tabled { result ≡ 3 → IsOk words }
+    ensures tableless { result ≡ 3 → (input.new ≡ input.old) × (output.new ≡ output.old) }
 {
     let request = request_of(alloc, words);
-    let outcome = carry_out(alloc, request, input, output, errors);
+    let outcome = carry_out(alloc, request, files, input, output, errors);
     exit_status(&outcome)
 }
 
-/// Does what words ask for, or tells what is wrong with them: writes the text of the page that `input` gives, or the
-/// help, to `output`, and each fault to `errors`, behind `html2text: `.
-pub fn carry_out<R: ByteReader, W: ByteWriter, E: ByteWriter>(
+/// Does what words ask for, or tells what is wrong with them: writes the text of the page of the file that is named, or
+/// of `input`, or the help, to `output`, and each fault to `errors`, behind `html2text: `.
+pub fn carry_out<F: FileOpener, R: ByteReader, W: ByteWriter, E: ByteWriter>(
     alloc: Global,
     request: Result<Request, WordFault>,
+    files: &F,
     input: &mut R,
     output: &mut W,
     errors: &mut E,
@@ -73,8 +90,8 @@ pub fn carry_out<R: ByteReader, W: ByteWriter, E: ByteWriter>(
     ensures outcomes { IsOutcomeOf request result }
 
     // What was asked for was written and passed on, and nothing is wrong.
-    ensures done { result ≡ Outcome.Done
-        → WritesAnswer request (R.remaining input.old) (W.contents output.old) (W.contents output.new) }
+    ensures done { result ≡ Outcome.Done → WritesAnswer request (F.bytes_of files.now) (R.remaining input.old)
+        (W.contents output.old) (W.contents output.new) }
     ensures passed_on { result ≡ Outcome.Done → (W.has_failed output.new ≡ false) × (W.was_flushed output.new ≡ true) }
     ensures silent { result ≡ Outcome.Done → errors.new ≡ errors.old }
 
@@ -82,54 +99,111 @@ pub fn carry_out<R: ByteReader, W: ByteWriter, E: ByteWriter>(
     ensures told { (error : Error) → result ≡ Outcome.Page error
         → Complains (E.has_failed errors.new) (E.contents errors.old) (E.contents errors.new) (error_text error) }
     ensures reason { (error : Error) → result ≡ Outcome.Page error → IfOk request (λ asked.
-        IsRefusal asked.width (R.remaining input.old) (R.has_failed input.new || W.has_failed output.new)
-        usize.MAX (R.count input.old) (R.count input.new) error) }
+        IsRefusal (asked_of asked) (F.bytes_of files.now) (R.remaining input.old)
+        (R.has_failed input.new || W.has_failed output.new) (R.count input.old) (R.count input.new) error) }
     ensures unwritten { (error : Error) → result ≡ Outcome.Page error → (output.new ≡ output.old)
         ⊎ ((W.has_failed output.new ≡ true)
-        × WritesAnswerPart request (R.remaining input.old) (W.contents output.old) (W.contents output.new)) }
+        × WritesAnswerPart request (F.bytes_of files.now) (R.remaining input.old) (W.contents output.old)
+        (W.contents output.new)) }
     ensures unhelped { (error : Error) → result ≡ Outcome.Page error
         → IfErr request (λ _. W.has_failed output.new ≡ true) }
+
+    // The page's file was not opened.
+    ensures unopened { result ≡ Outcome.NotOpened
+        → Complains (E.has_failed errors.new) (E.contents errors.old) (E.contents errors.new) (error_text Error.IoError)
+        × (output.new ≡ output.old)
+        × IfOk request (λ asked. (name : List ℕ) × ((asked_of asked).file ≡ Some name)) }
 
     // The words were refused.
     ensures words { result ≡ Outcome.Words → IfErr request (λ fault.
         Complains (E.has_failed errors.new) (E.contents errors.old) (E.contents errors.new) (fault_text fault)) }
     ensures unread { result ≡ Outcome.Words → (input.new ≡ input.old) × (output.new ≡ output.old) }
+
+    // There was no table.
+    ensures table { result ≡ Outcome.Table → (fault : TableFault)
+        × Complains (E.has_failed errors.new) (E.contents errors.old) (E.contents errors.new) (table_text fault)
+        × IfOk request (λ asked. IsTableRefusal (F.bytes_of files.now) (asked_of asked).references fault) }
+    ensures tableless { result ≡ Outcome.Table → (input.new ≡ input.old) × (output.new ≡ output.old) }
 {
     match request {
-        Ok(request) => show_page(alloc, request.width, input, output, errors),
+        Ok(request) => answer(alloc, &request, files, input, output, errors),
         Err(fault) => tell_fault(&fault, output, errors),
     }
 }
 
-/// Writes the page's text, or tells why there is none.
-fn show_page<R: ByteReader, W: ByteWriter, E: ByteWriter>(
+/// Writes the text of the page that is asked for, or tells why there is none.
+fn answer<F: FileOpener, R: ByteReader, W: ByteWriter, E: ByteWriter>(
     alloc: Global,
-    width: usize,
+    request: &Request,
+    files: &F,
     input: &mut R,
     output: &mut W,
     errors: &mut E,
 ) -> Outcome
-    ensures outcomes { (result ≡ Outcome.Done) ⊎ ((error : Error) × (result ≡ Outcome.Page error)) }
-    ensures done { result ≡ Outcome.Done → IfSome (R.remaining input.old)
-        (λ bytes. WritesPage width bytes (W.contents output.old) (W.contents output.new)) }
-    ensures passed_on { result ≡ Outcome.Done → (W.has_failed output.new ≡ false) × (W.was_flushed output.new ≡ true) }
-    ensures silent { result ≡ Outcome.Done → errors.new ≡ errors.old }
-    ensures told { (error : Error) → result ≡ Outcome.Page error
-        → Complains (E.has_failed errors.new) (E.contents errors.old) (E.contents errors.new) (error_text error) }
-    ensures reason { (error : Error) → result ≡ Outcome.Page error
-        → IsRefusal width (R.remaining input.old) (R.has_failed input.new || W.has_failed output.new)
-        usize.MAX (R.count input.old) (R.count input.new) error }
-    ensures unwritten { (error : Error) → result ≡ Outcome.Page error → (output.new ≡ output.old)
-        ⊎ ((W.has_failed output.new ≡ true) × IfSome (R.remaining input.old)
-        (λ bytes. WritesPart width bytes (W.contents output.old) (W.contents output.new))) }
+    ensures { IsAnswered (asked_of request.now) (F.bytes_of files.now) (R.remaining input.old) (R.has_failed input.new)
+        (W.has_failed output.new) (W.was_flushed output.new) (R.count input.old) (R.count input.new)
+        (W.contents output.old) (W.contents output.new) (input.new ≡ input.old) (output.new ≡ output.old)
+        (errors.new ≡ errors.old)
+        (Complains (E.has_failed errors.new) (E.contents errors.old) (E.contents errors.new)) result }
 {
-    match write_page(alloc, width, input, output) {
-        Ok(()) => Outcome::Done,
-        Err(error) => {
-            complain(errors, error.text());
-            Outcome::Page(error)
-        }
+    match &request.references {
+        None => match ReferenceTable::basic(alloc) {
+            Ok(table) => show_page(alloc, request, table, files, input, output, errors),
+            Err(_) => refuse(errors, Error::Memory),
+        },
+        Some(name) => match table_in_file(alloc, files, name.as_str()) {
+            Ok(table) => show_page(alloc, request, table, files, input, output, errors),
+            Err(fault) => {
+                complain(errors, fault.text());
+                Outcome::Table
+            }
+        },
     }
+}
+
+/// The same, with a table of references.
+fn show_page<F: FileOpener, R: ByteReader, W: ByteWriter, E: ByteWriter>(
+    alloc: Global,
+    request: &Request,
+    table: ReferenceTable,
+    files: &F,
+    input: &mut R,
+    output: &mut W,
+    errors: &mut E,
+) -> Outcome
+    requires { IsTableOf (F.bytes_of files.now) (asked_of request.now).references table }
+    ensures { IsAnswered (asked_of request.now) (F.bytes_of files.now) (R.remaining input.old) (R.has_failed input.new)
+        (W.has_failed output.new) (W.was_flushed output.new) (R.count input.old) (R.count input.new)
+        (W.contents output.old) (W.contents output.new) (input.new ≡ input.old) (output.new ≡ output.old)
+        (errors.new ≡ errors.old)
+        (Complains (E.has_failed errors.new) (E.contents errors.old) (E.contents errors.new)) result }
+{
+    match &request.file {
+        None => match write_page(alloc, request, table, input, output) {
+            Ok(()) => Outcome::Done,
+            Err(error) => refuse(errors, error),
+        },
+        Some(name) => match files.open(name.as_str()) {
+            Ok(mut file) => match write_page(alloc, request, table, &mut file, output) {
+                Ok(()) => Outcome::Done,
+                Err(error) => refuse(errors, error),
+            },
+            Err(DeviceFault) => {
+                complain(errors, Error::IoError.text());
+                Outcome::NotOpened
+            }
+        },
+    }
+}
+
+/// Tells why a page was refused.
+fn refuse<E: ByteWriter>(errors: &mut E, error: Error) -> Outcome
+    ensures outcome { result ≡ Outcome.Page error }
+    ensures told { Complains (E.has_failed errors.new) (E.contents errors.old) (E.contents errors.new)
+        (error_text error) }
+{
+    complain(errors, error.text());
+    Outcome::Page(error)
 }
 
 /// Writes the help that was asked for, or tells what is wrong with the words.
@@ -139,15 +213,15 @@ fn tell_fault<W: ByteWriter, E: ByteWriter>(
     errors: &mut E,
 ) -> Outcome
     ensures outcomes { IsOutcomeOf (Err fault.now) result }
-    ensures done { (bytes : Option (List ℕ)) → result ≡ Outcome.Done
-        → WritesAnswer (Err fault.now) bytes (W.contents output.old) (W.contents output.new) }
+    ensures done { (files : List ℕ → Option (List ℕ)) (bytes : Option (List ℕ)) → result ≡ Outcome.Done
+        → WritesAnswer (Err fault.now) files bytes (W.contents output.old) (W.contents output.new) }
     ensures passed_on { result ≡ Outcome.Done → (W.has_failed output.new ≡ false) × (W.was_flushed output.new ≡ true) }
     ensures silent { result ≡ Outcome.Done → errors.new ≡ errors.old }
     ensures told { (error : Error) → result ≡ Outcome.Page error
         → Complains (E.has_failed errors.new) (E.contents errors.old) (E.contents errors.new) (error_text error) }
-    ensures unwritten { (error : Error) (bytes : Option (List ℕ)) → result ≡ Outcome.Page error
-        → (W.has_failed output.new ≡ true)
-        × WritesAnswerPart (Err fault.now) bytes (W.contents output.old) (W.contents output.new) }
+    ensures unwritten { (error : Error) (files : List ℕ → Option (List ℕ)) (bytes : Option (List ℕ))
+        → result ≡ Outcome.Page error → (W.has_failed output.new ≡ true)
+        × WritesAnswerPart (Err fault.now) files bytes (W.contents output.old) (W.contents output.new) }
     ensures words { result ≡ Outcome.Words
         → Complains (E.has_failed errors.new) (E.contents errors.old) (E.contents errors.new) (fault_text fault.now) }
     ensures unread { result ≡ Outcome.Words → output.new ≡ output.old }
@@ -179,28 +253,6 @@ fn show_help<W: ByteWriter, E: ByteWriter>(text: &str, output: &mut W, errors: &
             Outcome::Page(Error::IoError)
         }
     }
-}
-
-/// Writes the lines of the page, and passes them on.
-fn write_page<R: ByteReader, W: ByteWriter>(
-    alloc: Global,
-    width: usize,
-    input: &mut R,
-    output: &mut W,
-) -> Result<(), Error>
-    ensures written { OnOk result (IfSome (R.remaining input.old)
-        (λ bytes. WritesPage width bytes (W.contents output.old) (W.contents output.new))) }
-    ensures passed_on { OnOk result ((W.has_failed output.new ≡ false) × (W.was_flushed output.new ≡ true)) }
-    ensures reason { IfErr result (IsRefusal width (R.remaining input.old)
-        (R.has_failed input.new || W.has_failed output.new) usize.MAX (R.count input.old) (R.count input.new)) }
-    ensures unwritten { OnErr result ((output.new ≡ output.old) ⊎ ((W.has_failed output.new ≡ true)
-        × IfSome (R.remaining input.old)
-        (λ bytes. WritesPart width bytes (W.contents output.old) (W.contents output.new)))) }
-{
-    let config = Config::plain(alloc, ReferenceTable::basic(alloc)?)?;
-    run(alloc, input, output, config, width)?;
-    output.flush()?;
-    Ok(())
 }
 
 /// Writes the bytes, and passes them on.

@@ -26,6 +26,8 @@ pub fn run<R: ByteReader, W: ByteWriter, D: TextDecorator + Drop>(
     ensures at_most { R.count reader.new ≤ R.count reader.old + max_bytes_of config + 1 }
     ensures io { result ≡ Err Error.IoError → (R.has_failed reader.new ≡ true) ⊎ (W.has_failed writer.new ≡ true) }
     ensures too_long { result ≡ Err Error.TooLong → R.count reader.old + max_bytes_of config < R.count reader.new }
+    ensures long { result ≡ Err Error.TooLong → IfSome (R.remaining reader.old)
+        (λ bytes. max_bytes_of config < length bytes) }
     ensures reader_stays { R.has_failed reader.old ≡ true → R.has_failed reader.new ≡ true }
     ensures writer_stays { W.has_failed writer.old ≡ true → W.has_failed writer.new ≡ true }
     ensures works { IsAnswer result → R.has_failed reader.new ≡ false }

@@ -1,3 +1,4 @@
+mod ColouredLemmas
 pub mod LineLemmas
 mod PageLemmas
 pub mod NumberLemmas

@@ -1,4 +1,6 @@
+pub mod Coloured
 pub mod PageLaws
 pub mod PageLines
 pub mod PlainText
+pub mod RichText
 pub mod Settings

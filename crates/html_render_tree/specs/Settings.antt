@@ -1,5 +1,7 @@
 -- What contracts see of how a page is rendered.
-use Rattle.std.specs.Prelude.{List}
+use Rattle.std.specs.Prelude.{◌≡◌, List, ◌++◌, map}
+use Rattle.render_conversion.specs.Decorating.{decorating_rules, seen_rule}
+use Rattle.renderer_calls.specs.declared.options.RenderOptions.{RenderOptions}
 use Rattle.style_cascade.specs.declared.rules.StyleRule.{StyleRule}
 use Rattle.html_render_tree.specs.PageLines.{Setting}
 use Rattle.html_render_tree.specs.declared.config.RenderConfig.{RenderConfig}
@@ -10,3 +12,13 @@ setting_of held sub c = record { options = c.options; min_wrap = c.min_wrap_widt
 
 abbrev pub rules_of : {D T : Type 0} → RenderConfig D T → List StyleRule
 rules_of c = c.rules.items
+
+-- the same with other options
+abbrev pub with_options : {H : Type 0} → Setting H → RenderOptions → Setting H
+with_options c options = record c { options = options }
+
+-- The rules that mark emphasis, strong text, terms and code stand before these.
+pub record IsDecorated (before after : List StyleRule) : Type 0 where
+  pub marks : List StyleRule
+  pub seen : map seen_rule marks ≡ decorating_rules
+  pub whole : after ≡ marks ++ before

@@ -1,15 +1,16 @@
 //! How pages are rendered.
-ghost use Rattle.std.specs.Prelude.{◌≡◌, ◌≢◌, ◌⊎◌, ◌<◌, ◌≤◌, [], Err};
-ghost use Rattle.std.specs.Prelude.{IfErr, IfOk, chars, map, string_bytes, true, false};
+ghost use Rattle.std.specs.Prelude.{◌≡◌, ◌≢◌, ◌⊎◌, ◌<◌, ◌≤◌, ◌++◌, [], Err};
+ghost use Rattle.std.specs.Prelude.{IfErr, IfOk, Some, chars, map, string_bytes, true, false};
 
 use crate::closing::{closed_page, lines_of};
 use crate::laws::{pages_are_numbered, pages_keep_the_width, pages_with_room_are_never_too_narrow};
 use crate::rendering::{laid, refusal};
+use crate::rules::joined;
 use block_renderer::SubRenderer;
 use html_render_dom::RcDom;
 use render_conversion::{RenderError, decorating_rules};
 use render_values::RenderTree;
-use renderer_calls::RenderOptions;
+use renderer_calls::{ImageRenderMode, RenderOptions};
 use std::alloc::Global;
 use style_cascade::StyleRule;
 use tagged_lines::TaggedLine;
@@ -25,14 +26,13 @@ pub struct RenderConfig<D: TextDecorator> {
     decorator: D,
     options: RenderOptions,
     min_wrap_width: usize,
-    /// Rules of the program, before all others.
+    /// Rules of style, in order.
     rules: Vec<StyleRule>,
 }
 
 impl<D: TextDecorator + Drop> RenderConfig<D> {
     ghost use Rattle.block_renderer.specs.Seen.{IsTagging, marking, sub_of, tags_seen};
     ghost use Rattle.render_conversion.specs.Conversion.{document_values};
-    ghost use Rattle.render_conversion.specs.Decorating.{decorating_rules, seen_rule};
     ghost use Rattle.render_conversion.specs.declared.error.RenderError.TheVariants as errors;
     ghost use Rattle.render_values.specs.Values.{none};
     ghost use Rattle.renderer_calls.specs.Defaults.{default_options};
@@ -41,7 +41,7 @@ impl<D: TextDecorator + Drop> RenderConfig<D> {
     ghost use Rattle.walk_laws.specs.WalkLaws.{AreNumbered};
     ghost use Rattle.html_render_tree.specs.PageLaws.{AreWithin};
     ghost use Rattle.html_render_tree.specs.PageLines.{IsClosed, IsPrinted, IsRendered, IsTooNarrow, NeverCloses};
-    ghost use Rattle.html_render_tree.specs.Settings.{rules_of, setting_of};
+    ghost use Rattle.html_render_tree.specs.Settings.{IsDecorated, rules_of, setting_of, with_options};
 
     /// As text is rendered by a decorator: no rules of style, and the options as they are by default.
     pub fn with_decorator(alloc: Global, decorator: D) -> RenderConfig<D>
@@ -81,6 +81,121 @@ impl<D: TextDecorator + Drop> RenderConfig<D> {
         config
     }
 
+    /// Every line of a block is filled with spaces to the block's width.
+    pub fn pad_block_width(self) -> RenderConfig<D>
+        ensures setting { setting_of D.held D.sub result ≡ with_options (setting_of D.held D.sub self)
+            (record (setting_of D.held D.sub self).options { pad_block_width = true }) }
+        ensures rules { rules_of result ≡ rules_of self }
+    {
+        let mut config = self;
+        config.options.pad_block_width = true;
+        config
+    }
+
+    /// So wide, in columns, may text be wrapped, also where its block has more; at least one.
+    pub fn max_wrap_width(self, columns: usize) -> RenderConfig<D>
+        requires { 1 ≤ columns }
+        ensures setting { setting_of D.held D.sub result ≡ with_options (setting_of D.held D.sub self)
+            (record (setting_of D.held D.sub self).options { wrap_width = Some columns }) }
+        ensures rules { rules_of result ≡ rules_of self }
+    {
+        let RenderConfig {
+            decorator,
+            options,
+            min_wrap_width,
+            rules,
+        } = self;
+        RenderConfig {
+            decorator,
+            options: RenderOptions {
+                wrap_width: Some(columns),
+                ..options
+            },
+            min_wrap_width,
+            rules,
+        }
+    }
+
+    /// Whether the cells of tables stand below one another. Borders of tables are not drawn from then on, whatever was
+    /// asked for.
+    pub fn raw_mode(self, raw: bool) -> RenderConfig<D>
+        ensures setting { setting_of D.held D.sub result ≡ with_options (setting_of D.held D.sub self)
+            (record (setting_of D.held D.sub self).options { raw = raw; draw_borders = false }) }
+        ensures rules { rules_of result ≡ rules_of self }
+    {
+        let mut config = self;
+        config.options.raw = raw;
+        config.options.draw_borders = false;
+        config
+    }
+
+    /// Borders of tables are not drawn.
+    pub fn no_table_borders(self) -> RenderConfig<D>
+        ensures setting { setting_of D.held D.sub result ≡ with_options (setting_of D.held D.sub self)
+            (record (setting_of D.held D.sub self).options { draw_borders = false }) }
+        ensures rules { rules_of result ≡ rules_of self }
+    {
+        let mut config = self;
+        config.options.draw_borders = false;
+        config
+    }
+
+    /// Tables that stand in no other one stand between lines of three backticks.
+    pub fn fence_tables(self) -> RenderConfig<D>
+        ensures setting { setting_of D.held D.sub result ≡ with_options (setting_of D.held D.sub self)
+            (record (setting_of D.held D.sub self).options { fence_tables = true }) }
+        ensures rules { rules_of result ≡ rules_of self }
+    {
+        let mut config = self;
+        config.options.fence_tables = true;
+        config
+    }
+
+    /// The targets of links behind the page are not cut at the width.
+    pub fn no_link_wrapping(self) -> RenderConfig<D>
+        ensures setting { setting_of D.held D.sub result ≡ with_options (setting_of D.held D.sub self)
+            (record (setting_of D.held D.sub self).options { wrap_links = false }) }
+        ensures rules { rules_of result ≡ rules_of self }
+    {
+        let mut config = self;
+        config.options.wrap_links = false;
+        config
+    }
+
+    /// Whether U+0336 strikes out each character of struck text.
+    pub fn unicode_strikeout(self, use_unicode: bool) -> RenderConfig<D>
+        ensures setting { setting_of D.held D.sub result ≡ with_options (setting_of D.held D.sub self)
+            (record (setting_of D.held D.sub self).options { use_unicode_strikeout = use_unicode }) }
+        ensures rules { rules_of result ≡ rules_of self }
+    {
+        let mut config = self;
+        config.options.use_unicode_strikeout = use_unicode;
+        config
+    }
+
+    /// How an image with an empty title is rendered.
+    pub fn empty_img_mode(self, img_mode: ImageRenderMode) -> RenderConfig<D>
+        ensures setting { setting_of D.held D.sub result ≡ with_options (setting_of D.held D.sub self)
+            (record (setting_of D.held D.sub self).options { img_mode = img_mode }) }
+        ensures rules { rules_of result ≡ rules_of self }
+    {
+        let RenderConfig {
+            decorator,
+            options,
+            min_wrap_width,
+            rules,
+        } = self;
+        RenderConfig {
+            decorator,
+            options: RenderOptions {
+                img_mode,
+                ..options
+            },
+            min_wrap_width,
+            rules,
+        }
+    }
+
     /// So narrow, in columns, may text be wrapped; at least one.
     pub fn min_wrap_width(self, columns: usize) -> RenderConfig<D>
         requires { 1 ≤ columns }
@@ -94,15 +209,44 @@ impl<D: TextDecorator + Drop> RenderConfig<D> {
     }
 
     /// `*` stands before and behind emphasis and terms, `**` before and behind strong text, and a backquote before and
-    /// behind code. The error is want of memory.
+    /// behind code: ten rules of the program, before all that stand. The error is want of memory.
     pub fn do_decorate(self, alloc: Global) -> Result<RenderConfig<D>, RenderError>
         ensures setting { IfOk result (λ c. setting_of D.held D.sub c ≡ setting_of D.held D.sub self) }
-        ensures rules { IfOk result (λ c. map seen_rule (rules_of c) ≡ decorating_rules) }
+        ensures rules { IfOk result (λ c. IsDecorated (rules_of self) (rules_of c)) }
         ensures memory { IfErr result (λ e. e ≡ errors.Memory) }
     {
-        let mut config = self;
-        config.rules = decorating_rules(alloc)?;
-        Ok(config)
+        let RenderConfig {
+            decorator,
+            options,
+            min_wrap_width,
+            rules,
+        } = self;
+        Ok(RenderConfig {
+            decorator,
+            options,
+            min_wrap_width,
+            rules: joined(decorating_rules(alloc)?, rules)?,
+        })
+    }
+
+    /// Further rules of style, behind all that stand. The error is want of memory.
+    pub fn style_rules(self, rules: Vec<StyleRule>) -> Result<RenderConfig<D>, RenderError>
+        ensures setting { IfOk result (λ c. setting_of D.held D.sub c ≡ setting_of D.held D.sub self) }
+        ensures rules { IfOk result (λ c. rules_of c ≡ rules_of self ++ rules.items) }
+        ensures memory { IfErr result (λ e. e ≡ errors.Memory) }
+    {
+        let RenderConfig {
+            decorator,
+            options,
+            min_wrap_width,
+            rules: standing,
+        } = self;
+        Ok(RenderConfig {
+            decorator,
+            options,
+            min_wrap_width,
+            rules: joined(standing, rules)?,
+        })
     }
 
     /// The render tree of a page. The error is `Fail` exactly where the page converts to nothing, else want of memory.

@@ -2,10 +2,12 @@
 #![tactic(auto)]
 
 mod closing;
+mod coloured;
 mod config;
 mod laws;
 mod prefixes;
 mod rendering;
+mod rules;
 
 pub use config::RenderConfig;
 pub use laws::{pages_are_numbered, pages_keep_the_width, pages_with_room_are_never_too_narrow};

@@ -1,4 +1,5 @@
 pub mod Errors
 pub mod PageAnswers
 pub mod PlainPages
+pub mod RichPages
 pub mod Settings

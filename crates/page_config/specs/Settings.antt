@@ -7,6 +7,7 @@ use Rattle.html_tree_builder.specs.Defaults.{default_parse}
 use Rattle.html_tree_builder.specs.declared.options.ParseOpts.{ParseOpts}
 use Rattle.page_config.specs.declared.config.Config.{Config}
 use Rattle.renderer_calls.specs.Defaults.{default_options}
+use Rattle.renderer_calls.specs.declared.options.RenderOptions.{RenderOptions}
 use Rattle.style_cascade.specs.declared.rules.StyleRule.{StyleRule}
 
 -- the table of references and the options by which a page is parsed, the rules of style, and what it is rendered by
@@ -41,3 +42,11 @@ by_default table held = record {
   rules = [];
   rendering = record { options = default_options; min_wrap = 3; held = held };
 }
+
+-- the same, rendered with other options
+abbrev pub rendered_with : {H : Type 0} → PageSetting H → RenderOptions → PageSetting H
+rendered_with c options = record c { rendering = record c.rendering { options = options } }
+
+-- where nothing else is said, by a decorator that holds nothing
+abbrev pub bare_default : References → PageSetting (Unit {0})
+bare_default table = by_default table tt

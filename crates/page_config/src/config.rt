@@ -1,12 +1,15 @@
 //! How pages are read and rendered.
-ghost use Rattle.std.specs.Prelude.{◌≡◌, ◌≢◌, ◌⊎◌, ◌<◌, ◌≤◌, true, false, Err, IfErr, IfOk, chars, map, string_bytes};
+ghost use Rattle.std.specs.Prelude.{◌≡◌, ◌≢◌, ◌⊎◌, ◌<◌, ◌≤◌, ◌++◌, true, false, Err, IfErr, IfOk, Some};
+ghost use Rattle.std.specs.Prelude.{chars, map, string_bytes};
 
 use crate::error::Error;
 use html_lexemes::ReferenceTable;
 use html_render_dom::RcDom;
 use html_render_tree::{RenderConfig, RenderTree};
 use html_tree_builder::ParseOpts;
+use renderer_calls::ImageRenderMode;
 use std::alloc::Global;
+use style_cascade::StyleRule;
 use tagged_lines::TaggedLine;
 use text_marks::TextDecorator;
 
@@ -23,11 +26,11 @@ pub struct Config<D: TextDecorator> {
 impl<D: TextDecorator + Drop> Config<D> {
     ghost use Rattle.block_renderer.specs.Seen.{IsTagging, marking, tags_seen};
     ghost use Rattle.html_render_tree.specs.PageLaws.{AreWithin};
+    ghost use Rattle.html_render_tree.specs.Settings.{IsDecorated};
     ghost use Rattle.html_render_tree.specs.PageLines.{IsPrinted, IsRendered, IsTooNarrow};
-    ghost use Rattle.page_config.specs.Settings.{by_default, max_bytes_of, page_setting};
+    ghost use Rattle.page_config.specs.Settings.{by_default, max_bytes_of, page_setting, rendered_with};
     ghost use Rattle.page_config.specs.declared.error.Error.TheVariants as errors;
     ghost use Rattle.render_conversion.specs.Conversion.{document_values};
-    ghost use Rattle.render_conversion.specs.Decorating.{decorating_rules, seen_rule};
     ghost use Rattle.render_values.specs.Values.{none};
     ghost use Rattle.tagged_lines.specs.Tagged.{line_items};
     ghost use Rattle.text_marks.specs.Marks.{IsSteady};
@@ -66,17 +69,9 @@ impl<D: TextDecorator + Drop> Config<D> {
         } }
         ensures bytes { max_bytes_of result ≡ max_bytes_of self }
     {
-        let Config {
-            rendering,
-            table,
-            parsing,
-            max_bytes,
-        } = self;
         Config {
-            rendering: rendering.allow_width_overflow(),
-            table,
-            parsing,
-            max_bytes,
+            rendering: self.rendering.allow_width_overflow(),
+            ..self
         }
     }
 
@@ -89,17 +84,107 @@ impl<D: TextDecorator + Drop> Config<D> {
         } }
         ensures bytes { max_bytes_of result ≡ max_bytes_of self }
     {
-        let Config {
-            rendering,
-            table,
-            parsing,
-            max_bytes,
-        } = self;
         Config {
-            rendering: rendering.link_footnotes(include),
-            table,
-            parsing,
-            max_bytes,
+            rendering: self.rendering.link_footnotes(include),
+            ..self
+        }
+    }
+
+    /// Every line of a block is filled with spaces to the block's width.
+    pub fn pad_block_width(self) -> Config<D>
+        ensures setting { page_setting D.held D.sub result ≡ rendered_with (page_setting D.held D.sub self)
+            (record (page_setting D.held D.sub self).rendering.options { pad_block_width = true }) }
+        ensures bytes { max_bytes_of result ≡ max_bytes_of self }
+    {
+        Config {
+            rendering: self.rendering.pad_block_width(),
+            ..self
+        }
+    }
+
+    /// So wide, in columns, may text be wrapped, also where its block has more; at least one.
+    pub fn max_wrap_width(self, columns: usize) -> Config<D>
+        requires { 1 ≤ columns }
+        ensures setting { page_setting D.held D.sub result ≡ rendered_with (page_setting D.held D.sub self)
+            (record (page_setting D.held D.sub self).rendering.options { wrap_width = Some columns }) }
+        ensures bytes { max_bytes_of result ≡ max_bytes_of self }
+    {
+        Config {
+            rendering: self.rendering.max_wrap_width(columns),
+            ..self
+        }
+    }
+
+    /// Whether the cells of tables stand below one another. Borders of tables are not drawn from then on, whatever was
+    /// asked for.
+    pub fn raw_mode(self, raw: bool) -> Config<D>
+        ensures setting { page_setting D.held D.sub result ≡ rendered_with (page_setting D.held D.sub self)
+            (record (page_setting D.held D.sub self).rendering.options { raw = raw; draw_borders = false }) }
+        ensures bytes { max_bytes_of result ≡ max_bytes_of self }
+    {
+        Config {
+            rendering: self.rendering.raw_mode(raw),
+            ..self
+        }
+    }
+
+    /// Borders of tables are not drawn.
+    pub fn no_table_borders(self) -> Config<D>
+        ensures setting { page_setting D.held D.sub result ≡ rendered_with (page_setting D.held D.sub self)
+            (record (page_setting D.held D.sub self).rendering.options { draw_borders = false }) }
+        ensures bytes { max_bytes_of result ≡ max_bytes_of self }
+    {
+        Config {
+            rendering: self.rendering.no_table_borders(),
+            ..self
+        }
+    }
+
+    /// Tables that stand in no other one stand between lines of three backticks.
+    pub fn fence_tables(self) -> Config<D>
+        ensures setting { page_setting D.held D.sub result ≡ rendered_with (page_setting D.held D.sub self)
+            (record (page_setting D.held D.sub self).rendering.options { fence_tables = true }) }
+        ensures bytes { max_bytes_of result ≡ max_bytes_of self }
+    {
+        Config {
+            rendering: self.rendering.fence_tables(),
+            ..self
+        }
+    }
+
+    /// The targets of links behind the page are not cut at the width.
+    pub fn no_link_wrapping(self) -> Config<D>
+        ensures setting { page_setting D.held D.sub result ≡ rendered_with (page_setting D.held D.sub self)
+            (record (page_setting D.held D.sub self).rendering.options { wrap_links = false }) }
+        ensures bytes { max_bytes_of result ≡ max_bytes_of self }
+    {
+        Config {
+            rendering: self.rendering.no_link_wrapping(),
+            ..self
+        }
+    }
+
+    /// Whether U+0336 strikes out each character of struck text.
+    pub fn unicode_strikeout(self, use_unicode: bool) -> Config<D>
+        ensures setting { page_setting D.held D.sub result ≡ rendered_with (page_setting D.held D.sub self)
+            (record (page_setting D.held D.sub self).rendering.options { use_unicode_strikeout = use_unicode }) }
+        ensures bytes { max_bytes_of result ≡ max_bytes_of self }
+    {
+        Config {
+            rendering: self.rendering.unicode_strikeout(use_unicode),
+            ..self
+        }
+    }
+
+    /// How an image with an empty title is rendered.
+    pub fn empty_img_mode(self, img_mode: ImageRenderMode) -> Config<D>
+        ensures setting { page_setting D.held D.sub result ≡ rendered_with (page_setting D.held D.sub self)
+            (record (page_setting D.held D.sub self).rendering.options { img_mode = img_mode }) }
+        ensures bytes { max_bytes_of result ≡ max_bytes_of self }
+    {
+        Config {
+            rendering: self.rendering.empty_img_mode(img_mode),
+            ..self
         }
     }
 
@@ -111,27 +196,20 @@ impl<D: TextDecorator + Drop> Config<D> {
         } }
         ensures bytes { max_bytes_of result ≡ max_bytes_of self }
     {
-        let Config {
-            rendering,
-            table,
-            parsing,
-            max_bytes,
-        } = self;
         Config {
-            rendering: rendering.min_wrap_width(columns),
-            table,
-            parsing,
-            max_bytes,
+            rendering: self.rendering.min_wrap_width(columns),
+            ..self
         }
     }
 
     /// `*` stands before and behind emphasis and terms, `**` before and behind strong text, and a backquote before and
-    /// behind code. The error is want of memory.
+    /// behind code: ten rules of the program, before all that stand. The error is want of memory.
     pub fn do_decorate(self, alloc: Global) -> Result<Config<D>, Error>
         ensures setting { IfOk result (λ c. page_setting D.held D.sub c ≡ record (page_setting D.held D.sub self) {
           rules = (page_setting D.held D.sub c).rules;
         }) }
-        ensures rules { IfOk result (λ c. map seen_rule (page_setting D.held D.sub c).rules ≡ decorating_rules) }
+        ensures rules { IfOk result
+            (λ c. IsDecorated (page_setting D.held D.sub self).rules (page_setting D.held D.sub c).rules) }
         ensures bytes { IfOk result (λ c. max_bytes_of c ≡ max_bytes_of self) }
         ensures memory { IfErr result (λ e. e ≡ errors.Memory) }
     {
@@ -147,6 +225,46 @@ impl<D: TextDecorator + Drop> Config<D> {
             parsing,
             max_bytes,
         })
+    }
+
+    /// Further rules of style, behind all that stand. The error is want of memory.
+    pub fn style_rules(self, rules: Vec<StyleRule>) -> Result<Config<D>, Error>
+        ensures setting { IfOk result (λ c. page_setting D.held D.sub c ≡ record (page_setting D.held D.sub self) {
+          rules = (page_setting D.held D.sub self).rules ++ rules.items;
+        }) }
+        ensures bytes { IfOk result (λ c. max_bytes_of c ≡ max_bytes_of self) }
+        ensures memory { IfErr result (λ e. e ≡ errors.Memory) }
+    {
+        let Config {
+            rendering,
+            table,
+            parsing,
+            max_bytes,
+        } = self;
+        Ok(Config {
+            rendering: rendering.style_rules(rules)?,
+            table,
+            parsing,
+            max_bytes,
+        })
+    }
+
+    /// Named references are those of this table.
+    pub fn table(self, table: ReferenceTable) -> Config<D>
+        ensures setting { page_setting D.held D.sub result
+            ≡ record (page_setting D.held D.sub self) { table = table } }
+        ensures bytes { max_bytes_of result ≡ max_bytes_of self }
+    {
+        Config { table, ..self }
+    }
+
+    /// Pages are parsed so.
+    pub fn parse_opts(self, parsing: ParseOpts) -> Config<D>
+        ensures setting { page_setting D.held D.sub result
+            ≡ record (page_setting D.held D.sub self) { parsing = parsing } }
+        ensures bytes { max_bytes_of result ≡ max_bytes_of self }
+    {
+        Config { parsing, ..self }
     }
 
     /// The render tree of a page. The error is `Fail` exactly where the page converts to nothing, else want of memory.

@@ -1,12 +1,14 @@
 //! Pages in bytes to their lines: what a configuration says, readers of pages, and their answers.
 #![tactic(auto)]
 
+mod coloured;
 mod config;
 mod error;
 mod laws;
 mod page;
 mod plain;
 mod reading;
+mod rich;
 
 pub use config::Config;
 pub use error::Error;
@@ -16,3 +18,4 @@ pub use laws::{
 };
 pub use page::Page;
 pub use plain::{PlainLine, from_read, from_read_with_decorator};
+pub use rich::{RichLine, from_read_rich, parse};

@@ -1,4 +1,4 @@
-//! Configurations of the decorators that stand, and pages as plain text.
+//! Pages as plain text.
 ghost use Rattle.std.specs.Prelude.{◌≡◌, ◌+◌, ◌<◌, ◌≤◌, true, false, Err, IfErr, IfOk, IfSome};
 ghost use Rattle.std.specs.Prelude.{chars, length, string_bytes};
 ghost use Rattle.std.specs.Io.KnownBytes.{IsAtEnd};
@@ -12,7 +12,7 @@ use crate::error::Error;
 use html_lexemes::{ByteReader, ReferenceTable};
 use std::alloc::Global;
 use tagged_lines::TaggedLine;
-use text_decorators::{PlainDecorator, RichDecorator};
+use text_decorators::PlainDecorator;
 use text_marks::TextDecorator;
 
 /// A line of plain text.
@@ -40,16 +40,6 @@ impl Config<PlainDecorator> {
     }
 }
 
-impl Config<RichDecorator> {
-    /// Rich text: no marks, but annotations of links, images, emphasis and the like beside the text.
-    pub fn rich(alloc: Global, table: ReferenceTable) -> Config<RichDecorator>
-        ensures setting { bare_setting result ≡ by_default table tt }
-        ensures bytes { max_bytes_of result ≡ usize.MAX }
-    {
-        Config::with_decorator(alloc, RichDecorator::new(), table)
-    }
-}
-
 /// The text of the page that `input` gives, wrapped to `width` columns, as plain text. Refused as
 /// `Config::lines_from_read`.
 pub fn from_read<R: ByteReader>(
@@ -68,6 +58,7 @@ pub fn from_read<R: ByteReader>(
     ensures at_most { R.count input.new ≤ R.count input.old + usize.MAX + 1 }
     ensures io { result ≡ Err Error.IoError → R.has_failed input.new ≡ true }
     ensures too_long { result ≡ Err Error.TooLong → R.count input.old + usize.MAX < R.count input.new }
+    ensures long { result ≡ Err Error.TooLong → IfSome (R.remaining input.old) (λ bytes. usize.MAX < length bytes) }
     ensures stays { R.has_failed input.old ≡ true → R.has_failed input.new ≡ true }
     ensures works { IsAnswer result → R.has_failed input.new ≡ false }
     ensures end { IsAnswer result → IsAtEnd (R.remaining input.new) }
@@ -96,6 +87,7 @@ pub fn from_read_with_decorator<R: ByteReader, D: TextDecorator + Drop>(
     ensures at_most { R.count input.new ≤ R.count input.old + usize.MAX + 1 }
     ensures io { result ≡ Err Error.IoError → R.has_failed input.new ≡ true }
     ensures too_long { result ≡ Err Error.TooLong → R.count input.old + usize.MAX < R.count input.new }
+    ensures long { result ≡ Err Error.TooLong → IfSome (R.remaining input.old) (λ bytes. usize.MAX < length bytes) }
     ensures stays { R.has_failed input.old ≡ true → R.has_failed input.new ≡ true }
     ensures works { IsAnswer result → R.has_failed input.new ≡ false }
     ensures end { IsAnswer result → IsAtEnd (R.remaining input.new) }

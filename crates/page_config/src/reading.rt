@@ -39,6 +39,8 @@ impl<D: TextDecorator + Drop> Config<D> {
         ensures at_most { R.count input.new ≤ R.count input.old + max_bytes_of self.now + 1 }
         ensures io { result ≡ Err Error.IoError → R.has_failed input.new ≡ true }
         ensures too_long { result ≡ Err Error.TooLong → R.count input.old + max_bytes_of self.now < R.count input.new }
+        ensures long { result ≡ Err Error.TooLong → IfSome (R.remaining input.old)
+            (λ bytes. max_bytes_of self.now < length bytes) }
         ensures stays { R.has_failed input.old ≡ true → R.has_failed input.new ≡ true }
         ensures works { OnOk result (R.has_failed input.new ≡ false) }
         ensures end { OnOk result (IsAtEnd (R.remaining input.new)) }
@@ -49,7 +51,7 @@ impl<D: TextDecorator + Drop> Config<D> {
     }
 
     // Reads a page to its end, and gives its render tree, with what it is rendered by.
-    fn tree_from_read<R: ByteReader>(
+    pub(crate) fn tree_from_read<R: ByteReader>(
         self,
         alloc: Global,
         input: &mut R,
@@ -67,6 +69,8 @@ impl<D: TextDecorator + Drop> Config<D> {
         ensures at_most { R.count input.new ≤ R.count input.old + max_bytes_of self + 1 }
         ensures io { result ≡ Err Error.IoError → R.has_failed input.new ≡ true }
         ensures too_long { result ≡ Err Error.TooLong → R.count input.old + max_bytes_of self < R.count input.new }
+        ensures long { result ≡ Err Error.TooLong → IfSome (R.remaining input.old)
+            (λ bytes. max_bytes_of self < length bytes) }
         ensures stays { R.has_failed input.old ≡ true → R.has_failed input.new ≡ true }
         ensures works { IsAnswer result → R.has_failed input.new ≡ false }
         ensures end { IsAnswer result → IsAtEnd (R.remaining input.new) }
@@ -114,6 +118,8 @@ impl<D: TextDecorator + Drop> Config<D> {
         ensures at_most { R.count input.new ≤ R.count input.old + max_bytes_of self + 1 }
         ensures io { result ≡ Err Error.IoError → R.has_failed input.new ≡ true }
         ensures too_long { result ≡ Err Error.TooLong → R.count input.old + max_bytes_of self < R.count input.new }
+        ensures long { result ≡ Err Error.TooLong → IfSome (R.remaining input.old)
+            (λ bytes. max_bytes_of self < length bytes) }
         ensures stays { R.has_failed input.old ≡ true → R.has_failed input.new ≡ true }
         ensures works { IsAnswer result → R.has_failed input.new ≡ false }
         ensures end { IsAnswer result → IsAtEnd (R.remaining input.new) }
@@ -145,6 +151,8 @@ impl<D: TextDecorator + Drop> Config<D> {
         ensures at_most { R.count input.new ≤ R.count input.old + max_bytes_of self + 1 }
         ensures io { result ≡ Err Error.IoError → R.has_failed input.new ≡ true }
         ensures too_long { result ≡ Err Error.TooLong → R.count input.old + max_bytes_of self < R.count input.new }
+        ensures long { result ≡ Err Error.TooLong → IfSome (R.remaining input.old)
+            (λ bytes. max_bytes_of self < length bytes) }
         ensures stays { R.has_failed input.old ≡ true → R.has_failed input.new ≡ true }
         ensures works { IsAnswer result → R.has_failed input.new ≡ false }
         ensures end { IsAnswer result → IsAtEnd (R.remaining input.new) }

@@ -1,7 +1,7 @@
 //! Annotations as lines name them.
 use row_fields::push_escaped;
 use std::alloc::AllocError;
-use text_decorators::RichAnnotation;
+use text_decorators::{Colour, RichAnnotation};
 
 /// An annotation that has a name.
 pub(crate) trait Named {
@@ -27,8 +27,8 @@ impl Named for RichAnnotation {
             RichAnnotation::Code => line.push_str("Code"),
             RichAnnotation::Preformat(true) => line.push_str("Preformat(true)"),
             RichAnnotation::Preformat(false) => line.push_str("Preformat(false)"),
-            RichAnnotation::Colour(colour) => write!(line, "Colour({colour})"),
-            RichAnnotation::BgColour(colour) => write!(line, "BgColour({colour})"),
+            RichAnnotation::Colour(colour) => push_colour(line, "Colour", *colour),
+            RichAnnotation::BgColour(colour) => push_colour(line, "BgColour", *colour),
         }
     }
 }
@@ -38,4 +38,9 @@ fn push_with(line: &mut String, name: &str, text: &str) -> Result<(), AllocError
     line.push('(')?;
     push_escaped(line, text)?;
     line.push(')')
+}
+
+fn push_colour(line: &mut String, name: &str, colour: Colour) -> Result<(), AllocError> {
+    let Colour { r, g, b } = colour;
+    write!(line, "{name}(({r}, {g}, {b}))")
 }

@@ -1,6 +1,10 @@
+//! Cases, as lines name them.
 use crate::error::Error;
+use crate::options::{PageOption, options_of};
+use crate::rules::rule_of;
 use row_fields::unescaped;
 use std::alloc::Global;
+use style_cascade::StyleRule;
 
 /// By what a page is rendered.
 #[derive(Clone, Copy)]
@@ -11,6 +15,8 @@ pub(crate) enum Look {
     PlainNoDecorate,
     /// Rich text.
     Rich,
+    /// The text of the page alone.
+    Trivial,
 }
 
 /// A page, and how it is rendered.
@@ -20,37 +26,38 @@ pub(crate) struct Case {
     pub(crate) look: Look,
     /// The width of a line, in columns.
     pub(crate) width: usize,
-    /// Whether parts may pass the width.
-    pub(crate) overflow: bool,
+    /// With which options, in order.
+    pub(crate) options: Vec<PageOption>,
+    /// With which rules of style, in order.
+    pub(crate) rules: Vec<StyleRule>,
     /// Its text.
     pub(crate) page: String,
 }
 
 impl Case {
-    /// The case of a line: four fields with tabs between them. The third is empty, or `allow_width_overflow`.
+    /// The case of a line: look, width, options, page, and then a rule a field.
     pub(crate) fn from_line(alloc: Global, line: &str) -> Result<Case, Error> {
-        let (look, behind) = first_field(line)?;
-        let (width, behind) = first_field(behind)?;
-        let (option, page) = first_field(behind)?;
-        if page.contains('\t') {
-            return Err(Error::Case("more than four fields"));
+        let mut fields = line.split('\t');
+        let (Some(look), Some(width), Some(options), Some(page)) = (
+            fields.next(),
+            fields.next(),
+            fields.next(),
+            fields.next(),
+        ) else {
+            return Err(Error::Case("fewer than four fields"));
+        };
+        let mut rules = Vec::new(alloc);
+        for field in fields {
+            rules.push(rule_of(alloc, field)?)?;
         }
         Ok(Case {
             look: look_of(look)?,
-            width: width
-                .parse()
-                .map_err(|_| Error::Case("the width is no number"))?,
-            overflow: is_overflow(option)?,
+            width: width_of(width)?,
+            options: options_of(alloc, options)?,
+            rules,
             page: unescaped(alloc, page)?,
         })
     }
-}
-
-/// What stands before the first tab, and what behind it.
-fn first_field(fields: &str) -> Result<(&str, &str), Error> {
-    fields
-        .split_once('\t')
-        .ok_or(Error::Case("fewer than four fields"))
 }
 
 fn look_of(field: &str) -> Result<Look, Error> {
@@ -58,14 +65,13 @@ fn look_of(field: &str) -> Result<Look, Error> {
         "plain" => Ok(Look::Plain),
         "plain_no_decorate" => Ok(Look::PlainNoDecorate),
         "rich" => Ok(Look::Rich),
-        _ => Err(Error::Case("none of plain, plain_no_decorate and rich")),
+        "trivial" => Ok(Look::Trivial),
+        _ => Err(Error::Case("an unknown look")),
     }
 }
 
-fn is_overflow(field: &str) -> Result<bool, Error> {
-    match field {
-        "allow_width_overflow" => Ok(true),
-        "" => Ok(false),
-        _ => Err(Error::Case("an unknown option")),
-    }
+fn width_of(field: &str) -> Result<usize, Error> {
+    field
+        .parse()
+        .map_err(|_| Error::Case("the width is no number"))
 }

@@ -1,7 +1,7 @@
 use html_render_tree::RenderError;
 use page_reading::PageFault;
 use row_fields::FieldFault;
-use std::alloc::AllocError;
+use std::alloc::{AllocError, AllocFailed};
 use std::io;
 
 /// Why nothing, or not all, was told.
@@ -28,4 +28,10 @@ pub(crate) enum Error {
     /// Standard input or output, or want of memory for it.
     #[error("read or write failed")]
     Device(#[from] io::Error),
+}
+
+impl<T: Drop> From<AllocFailed<T>> for Error {
+    fn from(_failed: AllocFailed<T>) -> Error {
+        Error::Memory(AllocError)
+    }
 }

@@ -1,11 +1,13 @@
-//! Tells the lines of pages. Standard input has one a line: how it is rendered, its width, options and the page; and
-//! standard output gets its lines, each with its runs of equal tags, or why it has none, and an empty line behind them.
-//! Each page comes as a whole and a byte at a time; its lines must agree.
+//! Tells the lines of pages. Standard input has one a line: how it is rendered, its width, options, the page, and rules
+//! of style. Standard output gets its lines, each with its runs of equal tags, or why it has none, and an empty line
+//! behind them. Each page comes as a whole and a byte at a time; its lines must agree.
 #![tactic(auto)]
 
 mod annotations;
 mod case;
 mod error;
+mod options;
+mod rules;
 mod telling;
 
 use case::Case;
@@ -40,7 +42,7 @@ fn serve<R: Input + Print + AllocGlobal>(rt: &R) -> Result<(), Error> {
 fn tell_cases<W: Write>(alloc: Global, text: &str, output: &mut W) -> Result<(), Error> {
     for line in text.lines() {
         let case = Case::from_line(alloc, line)?;
-        let lines = lines_told(alloc, &case)?;
+        let lines = lines_told(alloc, case)?;
         output.write_all(lines.as_bytes())?;
     }
     Ok(())

@@ -10,75 +10,87 @@ use page_reading::PageReader;
 use row_fields::push_escaped;
 use std::alloc::{AllocError, Global};
 use tagged_lines::{TaggedLine, TaggedLineElement};
-use text_decorators::{PlainDecorator, RichDecorator, TextDecorator};
+use text_decorators::{PlainDecorator, RichDecorator, TextDecorator, TrivialDecorator};
 
 /// The lines of a case, which are the same however the page comes, and an empty one.
-pub(crate) fn lines_told(alloc: Global, case: &Case) -> Result<String, Error> {
-    let mut told = shown(alloc, case, &tree_of(alloc, case)?)?;
-    if shown(alloc, case, &tree_of_bytes(alloc, case)?)? != told {
+pub(crate) fn lines_told(alloc: Global, case: Case) -> Result<String, Error> {
+    match case.look {
+        Look::Plain => {
+            let config = RenderConfig::with_decorator(alloc, PlainDecorator::new())
+                .link_footnotes(true)
+                .do_decorate(alloc)?;
+            lines_by(alloc, case, config)
+        }
+        Look::PlainNoDecorate => {
+            let config = RenderConfig::with_decorator(alloc, PlainDecorator::new());
+            lines_by(alloc, case, config)
+        }
+        Look::Rich => {
+            let config = RenderConfig::with_decorator(alloc, RichDecorator::new());
+            lines_by(alloc, case, config)
+        }
+        Look::Trivial => {
+            let config = RenderConfig::with_decorator(alloc, TrivialDecorator::new());
+            lines_by(alloc, case, config)
+        }
+    }
+}
+
+/// The lines of a case by a configuration that lacks its options and rules.
+fn lines_by<D: TextDecorator + Drop>(
+    alloc: Global,
+    case: Case,
+    config: RenderConfig<D>,
+) -> Result<String, Error>
+where
+    D::Annotation: Named,
+{
+    let mut config = config;
+    for option in case.options.iter() {
+        config = option.applied(config);
+    }
+    let config = config.style_rules(case.rules)?;
+
+    let page = case.page.as_bytes();
+    let mut told = shown(alloc, &config, &tree_of(alloc, page)?, case.width)?;
+    if shown(alloc, &config, &tree_of_bytes(alloc, page)?, case.width)? != told {
         return Err(Error::Differs);
     }
     told.push('\n')?;
     Ok(told)
 }
 
-fn tree_of(alloc: Global, case: &Case) -> Result<RcDom, Error> {
-    let bytes = case.page.as_bytes();
+fn tree_of(alloc: Global, page: &[u8]) -> Result<RcDom, Error> {
     let table = ReferenceTable::basic(alloc)?;
-    let mut reader = PageReader::new(alloc, table, ParseOpts::default(), bytes.len())?;
-    reader.push(bytes)?;
+    let mut reader = PageReader::new(alloc, table, ParseOpts::default(), page.len())?;
+    reader.push(page)?;
     Ok(reader.finish()?)
 }
 
-fn tree_of_bytes(alloc: Global, case: &Case) -> Result<RcDom, Error> {
-    let bytes = case.page.as_bytes();
+fn tree_of_bytes(alloc: Global, page: &[u8]) -> Result<RcDom, Error> {
     let table = ReferenceTable::basic(alloc)?;
-    let mut reader = PageReader::new(alloc, table, ParseOpts::default(), bytes.len())?;
-    for byte in bytes {
+    let mut reader = PageReader::new(alloc, table, ParseOpts::default(), page.len())?;
+    for byte in page {
         reader.push(&[*byte])?;
     }
     Ok(reader.finish()?)
 }
 
-fn shown(alloc: Global, case: &Case, dom: &RcDom) -> Result<String, Error> {
-    match case.look {
-        Look::Plain => {
-            let config = RenderConfig::with_decorator(alloc, PlainDecorator::new())
-                .link_footnotes(true)
-                .do_decorate(alloc)?;
-            told(alloc, case, config, dom)
-        }
-        Look::PlainNoDecorate => {
-            let config = RenderConfig::with_decorator(alloc, PlainDecorator::new());
-            told(alloc, case, config, dom)
-        }
-        Look::Rich => {
-            let config = RenderConfig::with_decorator(alloc, RichDecorator::new());
-            told(alloc, case, config, dom)
-        }
-    }
-}
-
 /// The lines of a page, or why it has none.
-fn told<D: TextDecorator + Drop>(
+fn shown<D: TextDecorator + Drop>(
     alloc: Global,
-    case: &Case,
-    config: RenderConfig<D>,
+    config: &RenderConfig<D>,
     dom: &RcDom,
+    width: usize,
 ) -> Result<String, Error>
 where
     D::Annotation: Named,
 {
-    let config = if case.overflow {
-        config.allow_width_overflow()
-    } else {
-        config
-    };
     let tree = match config.dom_to_render_tree(alloc, dom) {
         Ok(tree) => tree,
         Err(error) => return refused(alloc, error),
     };
-    match config.render_to_lines(alloc, tree, case.width) {
+    match config.render_to_lines(alloc, tree, width) {
         Ok(lines) => Ok(lines_of(alloc, lines.as_slice())?),
         Err(error) => refused(alloc, error),
     }

@@ -29,6 +29,8 @@ pub fn read_page<R: ByteReader>(
     ensures at_most { R.count input.new ≤ R.count input.old + max_bytes + 1 }
     ensures io { result ≡ Err ReadFault.IoError → R.has_failed input.new ≡ true }
     ensures too_long { result ≡ Err ReadFault.TooLong → R.count input.old + max_bytes < R.count input.new }
+    ensures long { result ≡ Err ReadFault.TooLong → IfSome (R.remaining input.old)
+        (λ bytes. max_bytes < length bytes) }
     ensures kinds { IfErr result
         (λ e. (e ≡ ReadFault.IoError) ⊎ (e ≡ ReadFault.TooLong) ⊎ (e ≡ ReadFault.Memory)) }
     ensures tree { IfOk result (λ dom. IfSome (R.remaining input.old)
@@ -57,6 +59,8 @@ fn read_pieces<R: ByteReader>(input: &mut R, page: &mut PageReader) -> Result<()
     ensures at_most { R.count input.new ≤ R.count input.old + page.old.left + 1 }
     ensures io { result ≡ Err ReadFault.IoError → R.has_failed input.new ≡ true }
     ensures too_long { result ≡ Err ReadFault.TooLong → R.count input.old + page.old.left < R.count input.new }
+    ensures long { result ≡ Err ReadFault.TooLong → IfSome (R.remaining input.old)
+        (λ bytes. page.old.left < length bytes) }
     ensures kinds { IfErr result
         (λ e. (e ≡ ReadFault.IoError) ⊎ (e ≡ ReadFault.TooLong) ⊎ (e ≡ ReadFault.Memory)) }
     ensures reads { OnOk result (IfSome (R.remaining input.old) (λ bytes. (forest : Forest) (quirks : Quirks) →

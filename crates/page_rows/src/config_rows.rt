@@ -1,11 +1,14 @@
 //! Configurations, and pages piece by piece, through the public calls.
 use crate::checks::{holds, is_answer};
 use crate::page_rows::plain;
+use html_lexemes::LocalName;
 use html2text::{
-    Config, Device, Error, Page, ReferenceTable, RichDecorator, TextDecorator, TrivialDecorator,
-    a_page_has_one_answer, a_page_has_one_text, from_read_with_decorator,
+    Config, Device, Display, Error, ImageRenderMode, Importance, Page, ParseOpts, ReferenceTable,
+    RichAnnotation, RichDecorator, Style, StyleDecl, StyleOrigin, StylePlace, StyleRule,
+    TextDecorator, TrivialDecorator, a_page_has_one_answer, a_page_has_one_text, from_read_rich,
+    from_read_with_decorator, parse,
 };
-use std::alloc::Global;
+use std::alloc::{AllocError, Global};
 use std::test::Fail;
 
 const MARKED: &[u8] = b"<p>a <em>b</em> <a href=x>c</a></p>";
@@ -51,6 +54,99 @@ fn decorators_mark_a_page(rt: HostRuntime) -> Result<(), Fail> {
     let table = ReferenceTable::basic(alloc)?;
     let found = from_read_with_decorator(alloc, &mut input, 20, RichDecorator::new(), table);
     holds(&rt, is_answer(found, Ok("a b c\n")), "read as rich");
+    Ok(())
+}
+
+const OPTIONAL: &[u8] =
+    b"<p><img src='a/b.png'> <s>cd</s> <a href='http://www.example.com/'>x</a></p>\
+<table><tr><td>1</td><td>2</td></tr></table>";
+
+// Text wraps at seven columns of ten, and each line is filled up to ten but that of the target, which is whole.
+const OPTIONAL_TEXT: &str =
+    "[b.png]   \ncd        \n[x][1]    \n          \n```       \n1 2       \n\
+```       \n          \n[1]: http://www.example.com/\n";
+
+#[test]
+fn options_change_a_page(rt: HostRuntime) -> Result<(), Fail> {
+    let alloc = rt.alloc();
+    let config = plain(alloc)?
+        .max_wrap_width(7)
+        .pad_block_width()
+        .raw_mode(false)
+        .no_table_borders()
+        .fence_tables()
+        .no_link_wrapping()
+        .unicode_strikeout(false)
+        .empty_img_mode(ImageRenderMode::Filename);
+    let found = text_by(alloc, config, OPTIONAL, 10);
+    holds(&rt, is_answer(found, Ok(OPTIONAL_TEXT)), "options");
+    Ok(())
+}
+
+// an author's rule: elements of that name are not shown
+fn hidden(alloc: Global, name: &str) -> Result<StyleRule, AllocError> {
+    let declaration = StyleDecl {
+        style: Style::Display(Display::None),
+        importance: Importance::Default,
+    };
+    Ok(StyleRule {
+        origin: StyleOrigin::Author,
+        element: LocalName::from_str(alloc, name)?,
+        place: StylePlace::Itself,
+        declarations: vec![in alloc; declaration]?,
+    })
+}
+
+#[test]
+fn tables_rules_and_parsing_are_set(rt: HostRuntime) -> Result<(), Fail> {
+    let alloc = rt.alloc();
+    let rules = vec![in alloc; hidden(alloc, "p")?]?;
+    let found = text_by(
+        alloc,
+        plain(alloc)?.style_rules(rules)?,
+        b"<p>a</p>b<em>c",
+        20,
+    );
+    holds(&rt, is_answer(found, Ok("b*c*\n")), "style_rules");
+    let table = ReferenceTable::new(alloc, &[("x;", "y")])?;
+    let found = text_by(alloc, plain(alloc)?.table(table), b"&x;&lt;", 20);
+    holds(&rt, is_answer(found, Ok("y&lt;\n")), "table");
+    let mut parsing = ParseOpts::default();
+    parsing.tree_builder.scripting_enabled = false;
+    let page = b"<noscript><p>a</noscript>".as_slice();
+    let found = text_by(alloc, plain(alloc)?.parse_opts(parsing), page, 20);
+    holds(&rt, is_answer(found, Ok("a\n")), "parse_opts");
+    Ok(())
+}
+
+fn angled(alloc: Global, text: &str) -> Result<String, AllocError> {
+    format!(in alloc; "<{text}>")
+}
+
+#[test]
+fn rich_pages_are_read(rt: HostRuntime) -> Result<(), Fail> {
+    let alloc = rt.alloc();
+    let marked = b"<p><em>a</em> b</p>".as_slice();
+    let mut input = Device::new(marked);
+    let lines = from_read_rich(alloc, &mut input, 20, ReferenceTable::basic(alloc)?)?;
+    holds(&rt, lines.len() == 1, "one line");
+    let Some(line) = lines.first() else {
+        return Ok(());
+    };
+    let mut strings = line.tagged_strings();
+    let first = strings.next();
+    let is_so = matches!(first, Some(string) if string.s.as_str() == "a"
+        && matches!(string.tag.as_slice(), [RichAnnotation::Emphasis]));
+    holds(&rt, is_so, "its emphasis");
+    let second = strings.next();
+    let is_so =
+        matches!(second, Some(string) if string.s.as_str() == " b" && string.tag.is_empty());
+    holds(&rt, is_so, "what stands behind it");
+    let config = Config::rich(alloc, ReferenceTable::basic(alloc)?);
+    let mut input = Device::new(marked);
+    let tree = parse(alloc, &mut input, ReferenceTable::basic(alloc)?)?;
+    let found = config.render_coloured(alloc, tree, 20, |_tag, text| angled(alloc, text));
+    holds(&rt, is_answer(found, Ok("<a>< b>\n")), "render_coloured");
     Ok(())
 }
 

@@ -1,5 +1,8 @@
-//! A reader and a writer in memory that give and take little at a time, or fail.
+//! A reader and a writer in memory that give and take little at a time, or fail, and files in memory.
 
+ghost use Rattle.std.specs.Prelude.{None};
+
+use html2text::{DeviceFault, FileOpener, OpenedFile};
 use std::alloc::Global;
 use std::io;
 use std::io::{ErrorKind, Read, Write};
@@ -65,5 +68,24 @@ impl Write for Taker {
             return Err(io::Error::from(ErrorKind::BrokenPipe));
         }
         Ok(())
+    }
+}
+
+/// Files in memory: a page, a table of references, and a text that is none.
+pub(crate) struct Shelf;
+
+impl FileOpener for Shelf {
+    type File = OpenedFile<&'static [u8]>;
+
+    ghost bytes_of = { λ _ _. None };
+
+    fn open(&self, name: &str) -> Result<OpenedFile<&'static [u8]>, DeviceFault> {
+        match name {
+            "page" => Ok(OpenedFile::new(b"<p>a &notin; <b>b</b> <a href=x>c</a>")),
+            "table" => Ok(OpenedFile::new(b"{\"&notin;\":{\"codepoints\":[8713]}}")),
+            "none" => Ok(OpenedFile::new(b"[]")),
+            "bytes" => Ok(OpenedFile::new(b"\xFF")),
+            _ => Err(DeviceFault),
+        }
     }
 }

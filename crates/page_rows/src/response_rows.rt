@@ -1,7 +1,7 @@
 //! Command lines with a page, and what the program answers: its status, and what it writes to which stream.
 
 use crate::checks::holds;
-use crate::devices::Taker;
+use crate::devices::{Shelf, Taker};
 use crate::page_rows::{FIRST_PAGE, FIRST_TEXT};
 use crate::word_rows::words_of;
 use html2text::{Device, Error, Outcome, Request, WordFault, carry_out, request_of, respond};
@@ -20,7 +20,7 @@ type Row = (
     Option<&'static str>,
 );
 
-static ROWS: [Row; 10] = [
+static ROWS: [Row; 24] = [
     (
         Ok("html2text --width 8"),
         FIRST_PAGE,
@@ -73,6 +73,104 @@ static ROWS: [Row; 10] = [
         Some(""),
         Some("html2text: out of memory\n"),
     ),
+    (
+        Ok("html2text page"),
+        b"",
+        0,
+        Some("a &notin; **b** [c][1]\n\n[1]: x\n"),
+        Some(""),
+    ),
+    (
+        Ok("html2text --references table page"),
+        b"",
+        0,
+        Some("a \u{2209} **b** [c][1]\n\n[1]: x\n"),
+        Some(""),
+    ),
+    (
+        Ok("html2text --no-decorate page"),
+        b"",
+        0,
+        Some("a &notin; b [c]\n"),
+        Some(""),
+    ),
+    (
+        Ok("html2text --no-decorate --footnotes page"),
+        b"",
+        0,
+        Some("a &notin; b [c][1]\n\n[1]: x\n"),
+        Some(""),
+    ),
+    (
+        Ok("html2text --rich page"),
+        b"",
+        0,
+        Some("a &notin; b c\n"),
+        Some(""),
+    ),
+    (
+        Ok("html2text --rich --no-decorate --footnotes page"),
+        b"",
+        0,
+        Some("a &notin; b c[1]\n\n[1]: x\n"),
+        Some(""),
+    ),
+    (
+        Ok("html2text --footnotes -- page"),
+        b"",
+        0,
+        Some("a &notin; **b** [c][1]\n\n[1]: x\n"),
+        Some(""),
+    ),
+    (
+        Ok("html2text nowhere"),
+        FIRST_PAGE,
+        1,
+        Some(""),
+        Some("html2text: read or write failed\n"),
+    ),
+    (
+        Ok("html2text --references none page"),
+        b"",
+        3,
+        Some(""),
+        Some("html2text: bad reference table\n"),
+    ),
+    (
+        Ok("html2text --references bytes nowhere"),
+        b"",
+        3,
+        Some(""),
+        Some("html2text: bad reference table\n"),
+    ),
+    (
+        Ok("html2text --references nowhere page"),
+        b"",
+        3,
+        Some(""),
+        Some("html2text: bad reference table\n"),
+    ),
+    (
+        Ok("html2text --max-bytes 4"),
+        b"<p>ab",
+        1,
+        Some(""),
+        Some("html2text: page too long\n"),
+    ),
+    (
+        Ok("html2text --max-bytes 5"),
+        b"<p>ab",
+        0,
+        Some("ab\n"),
+        Some(""),
+    ),
+    (
+        Ok("html2text --references nowhere --widt 3"),
+        FIRST_PAGE,
+        2,
+        Some(""),
+        None,
+    ),
 ];
 
 fn words_or_fault(
@@ -93,7 +191,7 @@ fn lines_are_answered(rt: HostRuntime) -> Result<(), Fail> {
         let mut output = Device::new(Taker::new(alloc));
         let mut errors = Device::new(Taker::new(alloc));
         let words = words_or_fault(alloc, line)?;
-        let status = respond(alloc, words, &mut input, &mut output, &mut errors);
+        let status = respond(alloc, words, &Shelf, &mut input, &mut output, &mut errors);
         let at = line.unwrap_or("no words");
         holds(&rt, status == wanted, at);
         let written = output.into_inner().taken;
@@ -122,7 +220,7 @@ fn a_refused_flush_is_told(rt: HostRuntime) -> Result<(), Fail> {
         taker.is_stuck = true;
         let mut output = Device::new(taker);
         let mut errors = Device::new(Taker::new(alloc));
-        let status = respond(alloc, words, &mut input, &mut output, &mut errors);
+        let status = respond(alloc, words, &Shelf, &mut input, &mut output, &mut errors);
         holds(&rt, status == 1, line);
         holds(&rt, !output.into_inner().taken.is_empty(), line);
         let told = errors.into_inner().taken;
@@ -142,9 +240,9 @@ fn a_fault_of_standard_error_changes_nothing_else(rt: HostRuntime) -> Result<(),
     taker.writes = 3;
     let mut errors = Device::new(taker);
     let request = request_of(alloc, Ok(words_of(alloc, "html2text --width 1")?));
-    let is_so = matches!(request, Ok(Request { width: 1 }));
+    let is_so = matches!(request, Ok(Request { width: 1, .. }));
     holds(&rt, is_so, "the words");
-    let outcome = carry_out(alloc, request, &mut input, &mut output, &mut errors);
+    let outcome = carry_out(alloc, request, &Shelf, &mut input, &mut output, &mut errors);
     holds(
         &rt,
         outcome == Outcome::Page(Error::TooNarrow),

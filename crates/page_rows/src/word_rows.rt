@@ -1,49 +1,81 @@
 //! Command lines and what they ask for.
 use crate::checks::holds;
-use html2text::{Error, Outcome, WordFault, exit_status, read_words};
+use html2text::{Error, Outcome, Request, WordFault, exit_status, read_words};
 use std::alloc::{AllocError, Global};
 use std::test::Fail;
 
-// What a line of words, cut at spaces, comes to: its width, or why it has none.
-enum Answer {
-    Width(usize),
-    Help,
-    Words,
-}
-
-static LINES: [(&str, Answer); 32] = [
-    ("", Answer::Width(80)),
-    ("--", Answer::Width(80)),
-    ("--width 8", Answer::Width(8)),
-    ("--width=8", Answer::Width(8)),
-    ("--width 8 --", Answer::Width(8)),
-    ("--width=+8", Answer::Width(8)),
-    ("--width 0", Answer::Width(0)),
-    ("--width 4294967295", Answer::Width(4_294_967_295)),
-    ("--width=-0", Answer::Width(0)),
-    ("--width -0", Answer::Words),
-    ("--width 4294967296", Answer::Words),
-    ("--width x", Answer::Words),
-    ("--width -1", Answer::Words),
-    ("--width=-1", Answer::Words),
-    ("--width=", Answer::Words),
-    ("--width", Answer::Words),
-    ("--width --", Answer::Words),
-    ("--width 1 --width 2", Answer::Words),
-    ("--width=1 --width=2", Answer::Words),
-    ("--widt 3", Answer::Words),
-    ("x", Answer::Words),
-    ("-- x", Answer::Words),
-    ("--help", Answer::Help),
-    ("-h", Answer::Help),
-    ("-hx", Answer::Help),
-    ("--help x", Answer::Help),
-    ("--width 8 --help", Answer::Help),
-    ("--width=8 -h", Answer::Help),
-    ("--width x --help", Answer::Words),
-    ("--width --help", Answer::Words),
-    ("--help=x", Answer::Words),
-    ("-- --help", Answer::Words),
+/// A line of words, cut at spaces, and what it comes to: what is asked for, as `told` tells it; `help`; or `words`,
+/// where it is refused.
+static LINES: [(&str, &str); 60] = [
+    ("", "80"),
+    ("--", "80"),
+    ("--width 8", "8"),
+    ("--width=8", "8"),
+    ("--width 8 --", "8"),
+    ("--width=+8", "8"),
+    ("--width 0", "0"),
+    ("--width 4294967295", "4294967295"),
+    ("--width=-0", "0"),
+    ("--width -0", "words"),
+    ("--width 4294967296", "words"),
+    ("--width x", "words"),
+    ("--width -1", "words"),
+    ("--width=-1", "words"),
+    ("--width=", "words"),
+    ("--width", "words"),
+    ("--width --", "words"),
+    ("--width 1 --width 2", "words"),
+    ("--width=1 --width=2", "words"),
+    ("--widt 3", "words"),
+    ("x", "80 file x"),
+    ("-- x", "80 file x"),
+    ("-", "80 file -"),
+    ("x y", "words"),
+    ("x -- y", "words"),
+    ("-- x y", "words"),
+    ("-x", "words"),
+    ("-- -x", "80 file -x"),
+    ("-- --rich", "80 file --rich"),
+    ("--rich", "80 rich"),
+    ("--no-decorate", "80 no-decorate"),
+    ("--footnotes", "80 footnotes"),
+    ("--rich --rich", "words"),
+    ("--rich=true", "words"),
+    ("--rich true", "80 rich file true"),
+    ("--references r", "80 references r"),
+    ("--references=r", "80 references r"),
+    ("--references=", "80 references "),
+    ("--references=-r", "80 references -r"),
+    ("--references -r", "words"),
+    ("--references -", "80 references -"),
+    ("--references", "words"),
+    ("--references a --references b", "words"),
+    ("--max-bytes 4", "80 max-bytes 4"),
+    ("--max-bytes=0", "80 max-bytes 0"),
+    ("--max-bytes x", "words"),
+    ("--max-bytes 4294967296", "words"),
+    (
+        "--width 9 --rich --no-decorate --footnotes --references r --max-bytes 4 p",
+        "9 rich no-decorate footnotes references r max-bytes 4 file p",
+    ),
+    (
+        "p --max-bytes=4 --references=r --footnotes --no-decorate --rich --width=9",
+        "9 rich no-decorate footnotes references r max-bytes 4 file p",
+    ),
+    (
+        "--footnotes p --rich --max-bytes 4 --width 9 --no-decorate --references r --",
+        "9 rich no-decorate footnotes references r max-bytes 4 file p",
+    ),
+    ("--help", "help"),
+    ("-h", "help"),
+    ("-hx", "help"),
+    ("--help x", "help"),
+    ("p --rich --width 8 --help", "help"),
+    ("--width=8 -h", "help"),
+    ("--width x --help", "words"),
+    ("--width --help", "words"),
+    ("--help=x", "words"),
+    ("-- --help", "80 file --help"),
 ];
 
 /// The words of a line, cut at spaces.
@@ -57,14 +89,39 @@ pub(crate) fn words_of(alloc: Global, line: &str) -> Result<Vec<String>, AllocEr
     Ok(words)
 }
 
+/// What is asked for: the width, and then what was named, in one order.
+fn told(alloc: Global, request: &Request) -> Result<String, AllocError> {
+    let mut text = request.width.to_string(alloc)?;
+    if request.rich {
+        text.push_str(" rich")?;
+    }
+    if !request.decorate {
+        text.push_str(" no-decorate")?;
+    }
+    if request.footnotes {
+        text.push_str(" footnotes")?;
+    }
+    if let Some(name) = &request.references {
+        write!(&mut text, " references {name}")?;
+    }
+    if let Some(most) = request.max_bytes {
+        write!(&mut text, " max-bytes {most}")?;
+    }
+    if let Some(name) = &request.file {
+        write!(&mut text, " file {name}")?;
+    }
+    Ok(text)
+}
+
 /// Whether words come to an answer, or, where memory may lack, are refused for want of it.
-fn is_answered(alloc: Global, words: &[String], wanted: &Answer, may_lack: bool) -> bool {
+fn is_answered(alloc: Global, words: &[String], wanted: &str, may_lack: bool) -> bool {
     match read_words(alloc, words) {
-        Ok(request) => matches!(wanted, Answer::Width(width) if *width == request.width),
-        Err(WordFault::Help(text)) => {
-            matches!(wanted, Answer::Help) && text.contains("--width <N>")
-        }
-        Err(WordFault::Words(text)) => matches!(wanted, Answer::Words) && !text.is_empty(),
+        Ok(request) => match told(alloc, &request) {
+            Ok(text) => text.as_str() == wanted,
+            Err(AllocError) => may_lack,
+        },
+        Err(WordFault::Help(text)) => wanted == "help" && text.contains("--width <N>"),
+        Err(WordFault::Words(text)) => wanted == "words" && !text.is_empty(),
         Err(WordFault::NotUtf8) => false,
         Err(WordFault::Memory) => may_lack,
     }
@@ -72,7 +129,7 @@ fn is_answered(alloc: Global, words: &[String], wanted: &Answer, may_lack: bool)
 
 #[test]
 fn reads_lines(rt: HostRuntime) -> Result<(), Fail> {
-    for (line, wanted) in &LINES {
+    for (line, wanted) in LINES {
         let words = words_of(rt.alloc(), line)?;
         let is_so = is_answered(rt.alloc(), &words, wanted, false);
         holds(&rt, is_so, line);
@@ -83,7 +140,7 @@ fn reads_lines(rt: HostRuntime) -> Result<(), Fail> {
 // It holds where memory is refused, too, as under `rt try --test --fail-alloc`.
 #[test]
 fn reads_lines_or_refuses(rt: HostRuntime) {
-    for (line, wanted) in &LINES {
+    for (line, wanted) in LINES {
         if let Ok(words) = words_of(rt.alloc(), line) {
             let is_so = is_answered(rt.alloc(), &words, wanted, true);
             holds(&rt, is_so, line);

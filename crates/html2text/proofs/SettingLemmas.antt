@@ -1,0 +1,148 @@
+-- The configurations that the program makes for a request, and what they give.
+use Rattle.std.proofs.Common.{◌≡◌, ◌∙◌, ℕ, Bool, true, false, List, [], refl, sym, ap, subst}
+use Rattle.std.specs.Prelude.{not, ◌&&◌, ◌||◌, if◌then◌else◌}
+use Rattle.command_words.specs.CommandWords.{Asked}
+use Rattle.html2text.specs.Written.{EitherLook, HasAskedText, IsOtherPage, IsSetting, IsTooNarrowPage}
+use Rattle.html2text.specs.Written.{is_decorated}
+use Rattle.html_lexemes.specs.References.{References}
+use Rattle.html_render_tree.specs.PlainText.{plain_closes}
+use Rattle.html_render_tree.specs.RichText.{rich_closes}
+use Rattle.page_config.specs.PageAnswers.{Answers, IsTold, PageAnswer, fail, too_narrow}
+use Rattle.page_config.specs.PlainPages.{IsPlain}
+use Rattle.page_config.specs.Settings.{PageSetting, by_default}
+use Rattle.render_conversion.specs.Decorating.{decorating_rules}
+use Rattle.renderer_calls.specs.Defaults.{default_options}
+use Rattle.text_decorators.specs.Annotations.{RichTag, rich_tag}
+use Rattle.text_decorators.specs.Laws.{rich_mark_tag, rich_tag_fits}
+use Rattle.text_decorators.specs.Texts.{IsRich, is_colour, plain_text, rich_text}
+use Rattle.text_decorators.specs.declared.annotation.RichAnnotation.{RichAnnotation}
+
+no_marks : (rich decorate : Bool) → (rich ≡ true) → (not rich && decorate) ≡ false
+no_marks true decorate e = refl
+no_marks false decorate e = cc
+
+plain_marks : (rich decorate : Bool) → rich ≡ false → (not rich && decorate) ≡ decorate
+plain_marks true decorate e = cc
+plain_marks false decorate e = refl
+
+-- as pages are where nothing else is said, with the targets of links or without
+abbrev pub bare : References → Bool → PageSetting (Unit {0})
+bare names footnotes = record (by_default names tt) {
+  rendering = record (by_default names tt).rendering {
+    options = record default_options { include_link_footnotes = footnotes };
+  };
+}
+
+bare_is : (asked : Asked) (names : References) → is_decorated asked ≡ false → IsSetting asked names (bare names asked.footnotes)
+bare_is asked names none = record {
+  table = refl;
+  parsing = refl;
+  rules = ap (λ marked. if marked then decorating_rules else []) (sym none);
+  options = ap (λ marked. record default_options { include_link_footnotes = marked || asked.footnotes }) (sym none);
+  min_wrap = refl;
+}
+
+pub rich_setting : (asked : Asked) (names : References) (c : PageSetting (Unit {0})) → asked.rich ≡ true
+    → c ≡ bare names asked.footnotes → IsSetting asked names c
+rich_setting asked names c rich is =
+    subst (IsSetting asked names) (sym is) (bare_is asked names (no_marks asked.rich asked.decorate rich))
+
+pub plain_setting : (asked : Asked) (names : References) (c : PageSetting (Unit {0})) → asked.rich ≡ false
+    → asked.decorate ≡ false → c ≡ bare names asked.footnotes → IsSetting asked names c
+plain_setting asked names c rich decorate is = subst (IsSetting asked names) (sym is)
+    (bare_is asked names (plain_marks asked.rich asked.decorate rich ∙ decorate))
+
+pub decorated_setting : (asked : Asked) (names : References) (c : PageSetting (Unit {0})) → asked.rich ≡ false
+    → asked.decorate ≡ true → IsPlain names c → IsSetting asked names c
+decorated_setting asked names c rich decorate plain =
+    let marked : true ≡ is_decorated asked = sym (plain_marks asked.rich asked.decorate rich ∙ decorate) in
+    record {
+      table = plain.table;
+      parsing = plain.parsing;
+      rules = plain.rules ∙ ap (λ marked. if marked then decorating_rules else []) marked;
+      options = plain.options
+          ∙ ap (λ marked. record default_options { include_link_footnotes = marked || asked.footnotes }) marked;
+      min_wrap = plain.min_wrap;
+    }
+
+-- ---- what they give
+
+abbrev pub IsRichTold : PageSetting (Unit {0}) → ℕ → List ℕ → List ℕ → Type 0
+IsRichTold c width bytes told =
+    IsTold {T = RichAnnotation} {H = Unit {0}} {A = RichTag} rich_tag (λ _ m. rich_text m) (λ _ m a. IsRich m a)
+    (λ _ m. is_colour m) (λ h _. h) (λ _ _. true) (λ h. h) rich_closes c width bytes told
+
+abbrev pub RichAnswers : PageSetting (Unit {0}) → ℕ → List ℕ → PageAnswer RichTag → Type 0
+RichAnswers c width bytes answer =
+    Answers {T = RichAnnotation} {H = Unit {0}} {A = RichTag} rich_tag (λ _ m. rich_text m) (λ _ m a. IsRich m a)
+    (λ _ m. is_colour m) (λ h _. h) (λ _ _. true) (λ h. h) rich_closes c width bytes answer
+
+abbrev pub IsPlainTold : PageSetting (Unit {0}) → ℕ → List ℕ → List ℕ → Type 0
+IsPlainTold c width bytes told =
+    IsTold {T = Unit {0}} {H = Unit {0}} {A = Unit {0}} (λ _. tt) (λ _ m. plain_text m) (λ _ _ _. Unit {0})
+    (λ _ _. false) (λ h _. h) (λ _ _. false) (λ h. h) plain_closes c width bytes told
+
+abbrev pub PlainAnswers : PageSetting (Unit {0}) → ℕ → List ℕ → PageAnswer (Unit {0}) → Type 0
+PlainAnswers c width bytes answer =
+    Answers {T = Unit {0}} {H = Unit {0}} {A = Unit {0}} (λ _. tt) (λ _ m. plain_text m) (λ _ _ _. Unit {0})
+    (λ _ _. false) (λ h _. h) (λ _ _. false) (λ h. h) plain_closes c width bytes answer
+
+rich_look : (look : Bool) (R P : Type 0) → look ≡ true → R → EitherLook look R P
+rich_look true R P e r = r
+rich_look false R P e r = cc
+
+plain_look : (look : Bool) (R P : Type 0) → look ≡ false → P → EitherLook look R P
+plain_look true R P e p = cc
+plain_look false R P e p = p
+
+module _ (asked : Asked) (names : References) (c : PageSetting (Unit {0})) (is : IsSetting asked names c) where
+  pub rich_has : asked.rich ≡ true → (page told : List ℕ) → IsRichTold c asked.width page told
+      → HasAskedText asked names page told
+  rich_has rich page told has = record {
+    setting = c;
+    is = is;
+    has = rich_look asked.rich _ _ rich
+        (has (λ _ m. rich_mark_tag m) (λ h m a given. rich_tag_fits m a given));
+  }
+
+  pub rich_narrow : asked.rich ≡ true → (page : List ℕ) → RichAnswers c asked.width page too_narrow
+      → IsTooNarrowPage asked names page
+  rich_narrow rich page has = record {
+    setting = c;
+    is = is;
+    has = rich_look asked.rich _ _ rich
+        (has (λ _ m. rich_mark_tag m) (λ h m a given. rich_tag_fits m a given));
+  }
+
+  pub rich_nothing : asked.rich ≡ true → (page : List ℕ) → RichAnswers c asked.width page fail
+      → IsOtherPage asked names page
+  rich_nothing rich page has = record {
+    setting = c;
+    is = is;
+    has = rich_look asked.rich _ _ rich
+        (has (λ _ m. rich_mark_tag m) (λ h m a given. rich_tag_fits m a given));
+  }
+
+  pub plain_has : asked.rich ≡ false → (page told : List ℕ) → IsPlainTold c asked.width page told
+      → HasAskedText asked names page told
+  plain_has plain page told has = record {
+    setting = c;
+    is = is;
+    has = plain_look asked.rich _ _ plain (has (λ _ _. tt) (λ h m a given. refl));
+  }
+
+  pub plain_narrow : asked.rich ≡ false → (page : List ℕ) → PlainAnswers c asked.width page too_narrow
+      → IsTooNarrowPage asked names page
+  plain_narrow plain page has = record {
+    setting = c;
+    is = is;
+    has = plain_look asked.rich _ _ plain (has (λ _ _. tt) (λ h m a given. refl));
+  }
+
+  pub plain_nothing : asked.rich ≡ false → (page : List ℕ) → PlainAnswers c asked.width page fail
+      → IsOtherPage asked names page
+  plain_nothing plain page has = record {
+    setting = c;
+    is = is;
+    has = plain_look asked.rich _ _ plain (has (λ _ _. tt) (λ h m a given. refl));
+  }

@@ -1,0 +1,16 @@
+-- Pages as rich text: what its decorator marks and notes, and what it closes a page with.
+use Rattle.std.specs.Prelude.{ℕ, true, List}
+use Rattle.block_renderer.specs.Seen.{marking}
+use Rattle.renderer_calls.specs.Renderers.{Marking}
+use Rattle.tagged_lines.specs.declared.tagged_line.TaggedLine.{TaggedLine}
+use Rattle.text_decorators.specs.Annotations.{RichTag, nothing, rich_tag}
+use Rattle.text_decorators.specs.Laws.{rich_mark_tag}
+use Rattle.text_decorators.specs.Texts.{AreFootnotes, is_colour, rich_text}
+use Rattle.text_decorators.specs.declared.annotation.RichAnnotation.{RichAnnotation}
+
+abbrev pub rich_marking : Marking (Unit {0}) RichTag
+rich_marking =
+    marking (λ _ m. rich_text m) (λ _ m. rich_mark_tag m) (λ _ m. is_colour m) (λ h _. h) (λ _ _. true) (λ h. h)
+
+abbrev pub rich_closes : Unit {0} → List (List ℕ) → List (TaggedLine RichAnnotation) → Type 0
+rich_closes _ targets lines = AreFootnotes rich_tag nothing targets lines

@@ -1,0 +1,44 @@
+//! Pages as text with what a map makes of annotations, such as the colours of a terminal.
+ghost use Rattle.std.specs.Prelude.{◌≡◌, ◌⊎◌, ◌<◌, List, Err, IfErr, IfOk, map, string_bytes};
+ghost use Rattle.block_renderer.specs.Seen.{IsTagging, marking, tags_seen};
+ghost use Rattle.html_render_tree.specs.Coloured.{AreColouredLines, Colours};
+ghost use Rattle.html_render_tree.specs.PageLines.{IsRendered, IsTooNarrow};
+ghost use Rattle.page_config.specs.Settings.{page_setting};
+ghost use Rattle.page_config.specs.declared.error.Error.TheVariants as errors;
+ghost use Rattle.tagged_lines.specs.Tagged.{line_items};
+
+use crate::config::Config;
+use crate::error::Error;
+use html_render_tree::RenderTree;
+use std::alloc::{AllocError, Global};
+use text_marks::TextDecorator;
+
+impl<D: TextDecorator + Drop> Config<D> {
+    /// The text of a render tree: of each line what `colour_map` makes of its strings, each with its annotations, and
+    /// a line end. The map is to pass a want of memory on. Refused as `render_to_lines`.
+    pub fn render_coloured<F: Fn(&[D::Annotation], &str) -> Result<String, AllocError>>(
+        &self,
+        alloc: Global,
+        tree: RenderTree,
+        width: usize,
+        colour_map: F,
+    ) -> Result<String, Error>
+        requires { F.IsAlwaysCallable colour_map }
+        ensures text { IfOk result (λ text. (lines : List _)
+            × ((tag : _) → IsTagging D.Annotation.seen D.gives tag
+            → IsRendered (marking D.text tag D.marks D.after D.pops D.sub) D.Annotation.seen D.closes
+            (page_setting D.held D.sub self.now).rendering width tree
+            (map (line_items (tags_seen D.Annotation.seen)) lines))
+            × AreColouredLines (Colours F.Fn colour_map) lines (string_bytes text)) }
+        ensures wide { IfOk result (λ text. 0 < width) }
+        ensures narrow { result ≡ Err errors.TooNarrow → (width ≡ 0) ⊎ ((tag : _)
+            → IsTagging D.Annotation.seen D.gives tag → IsTooNarrow (marking D.text tag D.marks D.after D.pops D.sub)
+            D.Annotation.seen D.closes (page_setting D.held D.sub self.now).rendering width tree) }
+        ensures kinds { IfErr result (λ e. (e ≡ errors.TooNarrow) ⊎ (e ≡ errors.Memory)) }
+    {
+        Ok(
+            self.rendering
+                .render_coloured(alloc, tree, width, colour_map)?,
+        )
+    }
+}
