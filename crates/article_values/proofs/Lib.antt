@@ -1,0 +1,4 @@
+mod BlockTurns
+mod Fitting
+mod LettingGo
+mod Turns

@@ -1,0 +1,10 @@
+use Rattle.std.proofs.Common.{◌≡◌, map, MatchOption, option_map, vec_len}
+use Rattle.article_values.specs.Sizes.{inline_size, steps_left, work}
+use Rattle.article_values.proofs.values.Inline.drop.Given as goal
+
+abbrev pub invariant-all : goal.invariant-all
+invariant-all l = MatchOption l.in_hand (vec_len l.waiting ≡ 0) (λ inline. Unit {0})
+
+abbrev pub decreases-all : goal.decreases-all
+decreases-all l = steps_left
+    (option_map (λ inline. work (inline_size inline) (map inline_size l.waiting.items)) l.in_hand)

@@ -1,0 +1,5 @@
+pub mod Articles
+pub mod Faults
+pub mod Outcomes
+pub mod Sizes
+pub mod Views
