@@ -6,3 +6,5 @@ pub mod Joined
 pub mod Joins
 pub mod Widths
 pub mod Yielding
+mod Moves
+mod SpacesPushed

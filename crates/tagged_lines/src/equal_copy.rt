@@ -45,7 +45,10 @@ impl<T: EqualCopy + Drop> EqualCopy for Vec<T> {
     ghost apart = { λ x y. seen-apart T.eq T.seen T.apart x.items y.items };
 
     fn copy(&self, alloc: Global) -> Result<Vec<T>, AllocError> {
-        let mut tags = Vec::new(alloc);
+        if self.is_empty() {
+            return Ok(Vec::new(alloc));
+        }
+        let mut tags = Vec::with_capacity(alloc, self.len())?;
         for tag in self {
             tags.push(tag.copy(alloc)?)?;
         }

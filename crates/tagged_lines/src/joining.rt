@@ -1,10 +1,10 @@
 //! Adding text at the end of a line's elements.
 
 ghost use Rattle.std.specs.Prelude.{◌≡◌, ◌≢◌, ◌<◌, ◌≤◌, ◌↔◌, [], ◌∷◌, ◌++◌, chars, string_bytes, vec_len, vec_capacity, IfOk, OnOk, OnErr, IsTrue};
-ghost use Rattle.tagged_lines.specs.Elements.{element_items, elements_items, tagged, marker, AreJoined, EndsWithTag, MeetWithTag};
+ghost use Rattle.tagged_lines.specs.Elements.{element_items, elements_items, tagged, marker, AreJoined, EndsWithTag, MeetWithTag, IsApart};
 
 use crate::equal_copy::EqualCopy;
-use crate::tagged_string::{TaggedLineElement, TaggedString};
+use crate::tagged_string::{TaggedLineElement, TaggedString, roomy_copy};
 use std::alloc::{AllocError, Global};
 
 /// Adds a text at the end. Where the last element is a text with an equal tag, it joins that.
@@ -103,6 +103,44 @@ pub(crate) fn push_elements<T: EqualCopy + Drop>(
     elements.reserve(copies.len())?;
     join_first(elements, &mut copies)?;
     elements.append(&mut copies)
+}
+
+/// Moves other elements to the end, and joins texts as `push_text`.
+pub(crate) fn move_elements<T: EqualCopy + Drop>(
+    elements: &mut Vec<TaggedLineElement<T>>,
+    others: &mut Vec<TaggedLineElement<T>>,
+) -> Result<(), AllocError>
+    ensures ok { OnOk result (elements_items T.seen elements.new.items
+        ≡ elements_items T.seen elements.old.items ++ elements_items T.seen others.old.items) }
+    ensures empty { OnOk result (others.new.items ≡ []) }
+    ensures err { OnErr result (elements_items T.seen elements.new.items
+        ≡ elements_items T.seen elements.old.items) }
+    ensures kept { OnErr result (others.new.items ≡ others.old.items) }
+    ensures joined { AreJoined T.seen elements.old.items → AreJoined T.seen elements.new.items }
+{
+    // The common case copies nothing.
+    if is_apart(elements, others) {
+        elements.reserve(others.len())?;
+        return elements.append(others);
+    }
+    push_elements(elements, others)?;
+    others.clear();
+    Ok(())
+}
+
+// Whether the others are one text that joins none.
+fn is_apart<T: EqualCopy>(
+    elements: &[TaggedLineElement<T>],
+    others: &[TaggedLineElement<T>],
+) -> bool
+    ensures { IsTrue result → IsApart T.seen elements.now others.now }
+{
+    match others {
+        [TaggedLineElement::Str(text)] => {
+            !text.s.is_empty() && !ends_with_tag(elements, &text.tag)
+        }
+        _ => false,
+    }
 }
 
 // Copies of elements, the texts joined.
@@ -217,7 +255,7 @@ fn push_new<T: EqualCopy + Drop>(
         → ¬ EndsWithTag T.seen (T.seen tag.now) elements.old.items → AreJoined T.seen elements.new.items) }
 {
     let alloc = *elements.allocator();
-    let s = String::from_str(alloc, text)?;
+    let s = roomy_copy(alloc, text)?;
     let tag = tag.copy(alloc)?;
     make_room(elements)?;
     elements.push(TaggedLineElement::Str(TaggedString { s, tag }))?;

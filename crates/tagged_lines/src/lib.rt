@@ -6,6 +6,7 @@ mod equal_copy;
 mod joining;
 pub mod laws;
 mod line_iterators;
+mod spaces;
 mod tagged_line;
 mod tagged_string;
 
@@ -13,4 +14,4 @@ pub use columns::{Columns, UnicodeColumns};
 pub use equal_copy::EqualCopy;
 pub use line_iterators::{LineChars, TaggedStrings};
 pub use tagged_line::TaggedLine;
-pub use tagged_string::{TaggedLineElement, TaggedString, columns_of};
+pub use tagged_string::{TaggedLineElement, TaggedString, columns_of, roomy_copy};

@@ -6,8 +6,9 @@ ghost use Rattle.tagged_lines.specs.Elements.{elements_text};
 
 use crate::columns::{Columns, UnicodeColumns};
 use crate::equal_copy::EqualCopy;
-use crate::joining::{push_character, push_elements, push_marker, push_text};
+use crate::joining::{move_elements, push_character, push_elements, push_marker, push_text};
 use crate::line_iterators::{LineChars, TaggedStrings};
+use crate::spaces::{MOST_SPACES, spaces};
 use crate::tagged_string::{TaggedLineElement, columns_of};
 use std::alloc::{AllocError, Global};
 use std::{slice, vec};
@@ -21,7 +22,8 @@ pub struct TaggedLine<T> {
 }
 
 impl<T: EqualCopy + Drop> TaggedLine<T> {
-    ghost use Rattle.tagged_lines.specs.Tagged.{line_items, element_items, element_text, tagged, marker, line_columns, IsJoined};
+    ghost use Rattle.tagged_lines.specs.Tagged.{line_items, element_items, element_text, character, tagged, marker, line_columns, IsJoined};
+    ghost use Rattle.std.specs.Prelude.{replicate};
 
     /// A line without text.
     pub fn new(alloc: Global) -> TaggedLine<T>
@@ -116,6 +118,38 @@ impl<T: EqualCopy + Drop> TaggedLine<T> {
         let total = self.columns.checked_add(other.columns).ok_or(AllocError)?;
         push_elements(&mut self.elements, &other.elements)?;
         self.columns = total;
+        Ok(())
+    }
+
+    /// Adds so many spaces at the end. The error is want of memory alone, and may leave some of them.
+    pub fn push_spaces(&mut self, count: usize, tag: &T) -> Result<(), AllocError>
+        ensures ok { OnOk result (line_items T.seen self.new
+            ≡ line_items T.seen self.old ++ replicate count (character 0x20 (T.seen tag.now))) }
+        ensures joined { IsJoined T.seen self.old → IsJoined T.seen self.new }
+    {
+        let mut left = count;
+        while left > 0 {
+            let part = left.min(MOST_SPACES);
+            self.push_str(spaces(part), tag)?;
+            left -= part;
+        }
+        Ok(())
+    }
+
+    /// Moves what another line holds to the end, which leaves that one empty. The error is want of memory alone, and
+    /// leaves both lines as they were.
+    pub fn append(&mut self, other: &mut TaggedLine<T>) -> Result<(), AllocError>
+        ensures ok { OnOk result (line_items T.seen self.new
+            ≡ line_items T.seen self.old ++ line_items T.seen other.old) }
+        ensures empty { OnOk result (line_items T.seen other.new ≡ []) }
+        ensures err { OnErr result (line_items T.seen self.new ≡ line_items T.seen self.old) }
+        ensures kept { OnErr result (line_items T.seen other.new ≡ line_items T.seen other.old) }
+        ensures joined { IsJoined T.seen self.old → IsJoined T.seen self.new }
+    {
+        let total = self.columns.checked_add(other.columns).ok_or(AllocError)?;
+        move_elements(&mut self.elements, &mut other.elements)?;
+        self.columns = total;
+        other.columns = 0;
         Ok(())
     }
 

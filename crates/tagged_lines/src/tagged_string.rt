@@ -3,7 +3,7 @@ ghost use Rattle.tagged_lines.specs.Columns.{text_columns};
 
 use crate::columns::{Columns, UnicodeColumns};
 use crate::equal_copy::EqualCopy;
-use std::alloc::AllocError;
+use std::alloc::{AllocError, Global};
 
 /// A text with a tag.
 #[derive(Drop, PartialEq)]
@@ -149,6 +149,16 @@ impl<T: EqualCopy> TaggedLineElement<T> {
             TaggedLineElement::FragmentStart(_) => false,
         }
     }
+}
+
+/// A copy of a text to which more is likely to be added: it has room for 24 bytes at least, which take no more memory
+/// than fewer. The error is want of memory alone.
+pub fn roomy_copy(alloc: Global, text: &str) -> Result<String, AllocError>
+    ensures ok { IfOk result (λ copy. string_bytes copy ≡ text.now) }
+{
+    let mut copy = String::with_capacity(alloc, text.len().max(24))?;
+    copy.push_str(text)?;
+    Ok(copy)
 }
 
 /// The columns of a text: the sum of those of its characters that have a width.
