@@ -9,6 +9,7 @@ use tagged_lines::EqualCopy;
 
 /// Adds characters with those tags at the end; they join the last piece, where its tags are equal. The error is want of
 /// memory alone.
+#[inline(always)]
 pub fn push_text<T: EqualCopy + Drop>(
     pieces: &mut Vec<Piece<T>>,
     text: &str,
@@ -26,6 +27,7 @@ pub fn push_text<T: EqualCopy + Drop>(
 }
 
 // Whether the last piece is a text with equal tags.
+#[inline(always)]
 fn ends_with_tags<T: EqualCopy>(pieces: &[Piece<T>], main_tag: &T, wrap_tag: &T) -> bool
     ensures { IsTrue result → EndsWithTags T.seen (T.seen main_tag.now) (T.seen wrap_tag.now) pieces.now }
 {
@@ -35,6 +37,7 @@ fn ends_with_tags<T: EqualCopy>(pieces: &[Piece<T>], main_tag: &T, wrap_tag: &T)
     }
 }
 
+#[inline(always)]
 fn has_tags<T: EqualCopy>(piece: &Piece<T>, main_tag: &T, wrap_tag: &T) -> bool
     ensures { IsTrue result → HasTags T.seen (T.seen main_tag.now) (T.seen wrap_tag.now) piece.now }
 {
@@ -47,6 +50,7 @@ fn has_tags<T: EqualCopy>(piece: &Piece<T>, main_tag: &T, wrap_tag: &T) -> bool
 }
 
 // Adds to the text of the last piece.
+#[inline(always)]
 fn extend_last<T: EqualCopy + Drop>(
     pieces: &mut Vec<Piece<T>>,
     text: &str,
@@ -62,6 +66,7 @@ fn extend_last<T: EqualCopy + Drop>(
 
 impl<T> Piece<T> {
     // Adds to the text; a marker stays as it is.
+    #[inline(always)]
     fn push_str(&mut self, text: &str) -> Result<(), AllocError>
         ensures { OnOk result (Extends self.old self.new text.now) }
     {

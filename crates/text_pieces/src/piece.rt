@@ -3,7 +3,7 @@ ghost use Rattle.text_pieces.specs.Sources.{piece_sources, sourced, text_sources
 ghost use Rattle.std.specs.Option.{option_map};
 
 use std::alloc::{AllocError, Global};
-use tagged_lines::EqualCopy;
+use tagged_lines::{EqualCopy, roomy_copy};
 
 /// A part of a text that is laid out: characters with their tags, or a marker between them.
 #[derive(Drop)]
@@ -64,7 +64,7 @@ impl<T: EqualCopy + Drop> TextPiece<T> {
             ≡ sourced (chars text.now) (T.seen main_tag.now) (T.seen wrap_tag.now)) }
     {
         Ok(TextPiece {
-            text: String::from_str(alloc, text)?,
+            text: roomy_copy(alloc, text)?,
             main_tag: main_tag.copy(alloc)?,
             wrap_tag: other_tag(alloc, main_tag, wrap_tag)?,
         })
