@@ -56,14 +56,14 @@ impl<T: EqualCopy + Drop> Filling<T> {
     }
 
     /// Adds a word behind the line's text, with a space of the given tag between them, where both go on
-    /// it; else on a fresh line. A word wider than a line is cut there.
+    /// it; else on a fresh line. A word wider than a line is cut there. What is left of the word is of no use.
     pub(crate) fn add_word(
         &mut self,
         space: Option<&T>,
-        word: &TaggedLine<T>,
+        word: &mut TaggedLine<T>,
     ) -> Result<(), BlockError>
         ensures laid { OnOk result (LaysUnit T.seen self.old self.new
-            (option_map T.seen (option_copied space.entry)) (line_items T.seen word.now)) }
+            (option_map T.seen (option_copied space.entry)) (line_items T.seen word.old)) }
         ensures kinds { IfErr result (λ e. e ≡ BlockError.Memory) }
     {
         if word.width() > self.width {
@@ -118,9 +118,9 @@ impl<T: EqualCopy + Drop> Filling<T> {
         self.cut_text(run, tag)
     }
 
-    fn add_whole(&mut self, space: Option<&T>, word: &TaggedLine<T>) -> Result<(), BlockError>
+    fn add_whole(&mut self, space: Option<&T>, word: &mut TaggedLine<T>) -> Result<(), BlockError>
         ensures laid { OnOk result (LaysWhole T.seen self.old self.new
-            (option_map T.seen (option_copied space.entry)) (line_items T.seen word.now)) }
+            (option_map T.seen (option_copied space.entry)) (line_items T.seen word.old)) }
         ensures kinds { IfErr result (λ e. e ≡ BlockError.Memory) }
     {
         self.make_room(space_columns(space), word.width())?;
@@ -228,19 +228,19 @@ fn space_columns<T: EqualCopy>(space: Option<&T>) -> usize
     }
 }
 
-/// Adds a word at a line's end, behind a space of the given tag where the line has text.
+/// Moves a word to a line's end, behind a space of the given tag where the line has text.
 fn push_behind<T: EqualCopy + Drop>(
     line: &mut TaggedLine<T>,
     space: Option<&T>,
-    word: &TaggedLine<T>,
+    word: &mut TaggedLine<T>,
 ) -> Result<(), AllocError>
     ensures pushed { OnOk result (line_items T.seen line.new ≡ line_items T.seen line.old
         ++ space_behind (line_items T.seen line.old) (option_map T.seen (option_copied space.entry))
-        ++ line_items T.seen word.now) }
+        ++ line_items T.seen word.old) }
     ensures joined { IsJoined T.seen line.old → IsJoined T.seen line.new }
 {
     push_space(line, space)?;
-    line.push_line(word)
+    line.append(word)
 }
 
 /// Adds a text, which has that many columns, at a line's end, behind a space of the given tag where the line has text.

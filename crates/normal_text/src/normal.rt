@@ -244,7 +244,7 @@ impl<T: EqualCopy + Drop> NormalText<T> {
             return Ok(());
         }
         let space = self.space.take();
-        self.lines.add_word(space.as_ref(), &self.word)?;
+        self.lines.add_word(space.as_ref(), &mut self.word)?;
         self.word.clear();
         Ok(())
     }

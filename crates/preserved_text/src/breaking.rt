@@ -112,7 +112,7 @@ impl<T: EqualCopy + Drop> Rows<T> {
         ensures joined { HasJoinedRows T.seen self.old → HasJoinedRows T.seen self.new }
     {
         let at = self.line_taken()?;
-        push_spaces(&mut self.tail, to_stop(width, at), tag)?;
+        self.tail.push_spaces(to_stop(width, at), tag)?;
         self.end_full_line(width)
     }
 
@@ -252,22 +252,6 @@ fn to_stop(width: usize, at: usize) -> usize
     ensures { result ≡ to_stop width at }
 {
     (8 - at % 8).min(width.saturating_sub(at))
-}
-
-/// Adds spaces.
-pub(crate) fn push_spaces<T: EqualCopy + Drop>(
-    line: &mut TaggedLine<T>,
-    columns: usize,
-    tag: &T,
-) -> Result<(), AllocError>
-    ensures items { OnOk result (line_items T.seen line.new
-        ≡ line_items T.seen line.old ++ replicate columns (space (T.seen tag.now))) }
-    ensures joined { IsJoined T.seen line.old → IsJoined T.seen line.new }
-{
-    for _space in 0..columns {
-        line.push_char(' ', tag)?;
-    }
-    Ok(())
 }
 
 /// Adds what is behind the first `dropped` characters and markers.

@@ -3,7 +3,6 @@ ghost use Rattle.std.specs.Prelude.{◌≡◌, ◌≤◌, ◌+◌, nat_le, [], �
 ghost use Rattle.tagged_lines.specs.Tagged.{line_items, element_items, character, marker, tagged};
 ghost use Rattle.preserved_text.specs.Preserved.{nothing_laid, has_text, line_text, line_taken, fresh, with_room, written, without_spaces, put, put_all, put_space, space, lay_blank, chosen};
 
-use crate::breaking::push_spaces;
 use crate::fronts::fitting_front;
 use std::alloc::{AllocError, Global};
 use tagged_lines::{EqualCopy, TaggedLine, TaggedLineElement, TaggedString};
@@ -186,7 +185,7 @@ impl<T: EqualCopy + Drop> Rows<T> {
         ensures joined { HasJoinedRows T.seen self.old → HasJoinedRows T.seen self.new }
     {
         let tag = chosen(self.goes_on, main_tag, wrap_tag);
-        push_spaces(&mut self.spaces, columns, tag)
+        self.spaces.push_spaces(columns, tag)
     }
 }
 

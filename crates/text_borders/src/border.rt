@@ -5,7 +5,6 @@ ghost use Rattle.text_borders.specs.Segments.{segment_of};
 ghost use Rattle.text_borders.specs.Borders.{hole_of, shown_from, glyphs, line_above};
 ghost use Rattle.text_borders.specs.declared.segment.BorderSegHoriz.TheVariants as segments;
 
-use crate::filling::push_spaces;
 use crate::segment::BorderSegHoriz;
 use std::alloc::{AllocError, Global};
 use tagged_lines::{EqualCopy, TaggedLine};
@@ -235,7 +234,7 @@ impl<T: EqualCopy + Drop> BorderHoriz<T> {
             return Ok(());
         }
         let mut line = TaggedLine::new(*self.segments.allocator());
-        push_spaces(&mut line, width - place, &self.tag)?;
+        line.push_spaces(width - place, &self.tag)?;
         self.stretch_to(width)?;
         self.holes.push(Hole { place, line })?;
         Ok(())

@@ -2,7 +2,6 @@
 #![tactic(auto)]
 
 mod border;
-mod filling;
 mod laws;
 mod render_line;
 mod rows;

@@ -6,7 +6,6 @@ ghost use Rattle.text_borders.specs.Lines.{border};
 ghost use Rattle.text_borders.specs.Across.{spaces, widened, retagged, as_text};
 
 use crate::border::BorderHoriz;
-use crate::filling::push_spaces;
 use std::alloc::{AllocError, Global};
 use tagged_lines::{EqualCopy, TaggedLine};
 
@@ -99,7 +98,7 @@ fn filled<T: EqualCopy + Drop>(
 {
     let mut filled = line;
     let missing = width.saturating_sub(filled.width());
-    push_spaces(&mut filled, missing, tag)?;
+    filled.push_spaces(missing, tag)?;
     Ok(filled)
 }
 
