@@ -8,6 +8,10 @@ seated_alone : {S : Type 0} (at : ℕ) (cells : List (Cell S)) → seated at cel
 seated_alone at [] = refl
 seated_alone at (c ∷ cells) = refl
 
+pub none_hangs : {S : Type 0} (at : ℕ) (cells : List (Cell S)) (hanging : List (Hanging S)) → hanging ≡ []
+    → cells ≡ seated at cells hanging
+none_hangs at cells hanging none = sym (ap (λ hs. seated at cells hs) none ∙ seated_alone at cells)
+
 -- no hanging cell stands there
 pub cell_first : {S : Type 0} (at : ℕ) (c : Cell S) (cells : List (Cell S)) (hanging : List (Hanging S))
     → hangs_at at hanging ≡ false

@@ -4,8 +4,9 @@ use Rattle.std.specs.Option.{option_map}
 use Rattle.tagged_lines.specs.Tagged.{Item, character, line_items}
 use Rattle.text_borders.specs.Segments.{Segment, joins_above, joins_below}
 use Rattle.text_borders.specs.Borders.{Border, border_of, columns_where}
-use Rattle.text_borders.specs.Across.{CellLine, Cell, Hanging, empty_cell, OpenCell as SeenCell, goes_on, further}
+use Rattle.text_borders.specs.Across.{spaces, CellLine, Cell, Hanging, empty_cell, OpenCell as SeenCell, goes_on, further}
 use Rattle.text_cells.specs.Cells.{laid_line_of}
+use Rattle.tagged_lines.specs.declared.tagged_line.TaggedLine.{TaggedLine}
 use Rattle.text_cells.specs.declared.opening.OpenCell.{OpenCell}
 
 -- the columns at which a border that was taken out asks for a join
@@ -13,12 +14,17 @@ abbrev pub asked : {S : Type 0} → (Segment → Bool) → Option (Border S) →
 asked is None = []
 asked is (Some b) = columns_where is 0 b.segments
 
+-- what fills an open cell: spaces, where nothing else is to
+abbrev pub filling_of : {T S : Type 0} → (T → S) → ℕ → T → Option (TaggedLine T) → List (Item S)
+filling_of seen width tag None = spaces width (seen tag)
+filling_of seen width tag (Some line) = line_items seen line
+
 abbrev pub open_cell_of : {T S : Type 0} → (T → S) → OpenCell T → SeenCell S
 open_cell_of seen c = record {
   width = c.width;
   rows = c.rows;
   lines = map (laid_line_of seen) c.lines.items;
-  filler = line_items seen c.filler;
+  filler = filling_of seen c.width c.space_tag c.filler;
   asks_above = asked joins_below (option_map (border_of seen) c.top);
   asks_below = asked joins_above (option_map (border_of seen) c.bottom);
 }

@@ -7,7 +7,6 @@ use crate::cell::LineSet;
 use crate::opening::OpenCell;
 use std::alloc::{AllocError, Global};
 use tagged_lines::{EqualCopy, TaggedLine};
-use text_borders::RenderLine;
 
 /// A text of so many spaces. The error is want of memory alone.
 pub(crate) fn spaces<T: EqualCopy + Drop>(
@@ -17,7 +16,9 @@ pub(crate) fn spaces<T: EqualCopy + Drop>(
 ) -> Result<TaggedLine<T>, AllocError>
     ensures { IfOk result (λ line. line_items T.seen line ≡ spaces count (T.seen tag.now)) }
 {
-    RenderLine::Text(TaggedLine::new(alloc)).into_widened(alloc, count, tag)
+    let mut line = TaggedLine::new(alloc);
+    line.push_spaces(count, tag)?;
+    Ok(line)
 }
 
 impl<T: EqualCopy + Drop> OpenCell<T> {
@@ -45,7 +46,17 @@ impl<T: EqualCopy + Drop> OpenCell<T> {
     {
         match self.lines.pop_front() {
             Some(next) => next.line.into_widened(alloc, self.width, tag),
-            None => self.filler.try_clone(),
+            None => self.filling(alloc),
+        }
+    }
+
+    /// What fills the cell. The error is want of memory alone.
+    fn filling(&self, alloc: Global) -> Result<TaggedLine<T>, AllocError>
+        ensures { IfOk result (λ l. line_items T.seen l ≡ (open_cell_of T.seen self.now).filler) }
+    {
+        match &self.filler {
+            Some(filler) => filler.try_clone(),
+            None => spaces(alloc, self.width, &self.space_tag),
         }
     }
 

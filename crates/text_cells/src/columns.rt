@@ -35,7 +35,7 @@ fn ends_of<T: EqualCopy + Drop>(
 ) -> Result<Vec<usize>, AllocError>
     ensures { IfOk result (λ all. all.items ≡ ends 0 (map (open_cell_of T.seen) cells.now)) }
 {
-    let mut ends = Vec::new(alloc);
+    let mut ends = Vec::with_capacity(alloc, cells.len())?;
     let mut at = 0;
     let mut rest = cells;
     while let Some((cell, others)) = rest.split_first() {

@@ -5,7 +5,6 @@ ghost use Rattle.text_cells.specs.Cells.{cell_of};
 ghost use Rattle.text_cells.specs.OpenCells.{open_cell_of};
 
 use crate::cell::{LaidLine, LineSet};
-use crate::cell_lines::spaces;
 use std::alloc::{AllocError, Global};
 use std::collections::VecDeque;
 use tagged_lines::{EqualCopy, TaggedLine};
@@ -20,8 +19,9 @@ pub(crate) struct OpenCell<T> {
     pub(crate) rows: usize,
     /// The lines that the row has not taken yet.
     pub(crate) lines: VecDeque<LaidLine<T>>,
-    /// What stands in a line of the row for which the cell has none.
-    pub(crate) filler: TaggedLine<T>,
+    /// What stands in a line of the row for which the cell has none; where there is nothing, spaces with the next tag.
+    pub(crate) filler: Option<TaggedLine<T>>,
+    pub(crate) space_tag: T,
     /// The border that was the first line; the one above the row takes it in.
     pub(crate) top: Option<BorderHoriz<T>>,
     /// The border that was the last line, as wide as the cell; the one below the row takes it in.
@@ -40,7 +40,7 @@ pub(crate) fn opened_cells<T: EqualCopy + Drop>(
     ensures { IfOk result (λ row. map (open_cell_of T.seen) row.items
         ≡ map (opened collapse above (T.seen tag.now)) (map (cell_of T.seen) cells.items)) }
 {
-    let mut row = Vec::new(alloc);
+    let mut row = Vec::with_capacity(alloc, cells.len())?;
     for cell in cells {
         row.push(opened(alloc, collapse, above, tag, cell)?)?;
     }
@@ -57,7 +57,7 @@ fn opened<T: EqualCopy + Drop>(
     ensures { IfOk result (λ c. open_cell_of T.seen c
         ≡ opened collapse above (T.seen tag.now) (cell_of T.seen cell)) }
 {
-    let mut open = whole(alloc, tag, cell)?;
+    let mut open = whole(tag.copy(alloc)?, cell);
     if !collapse {
         return Ok(open);
     }
@@ -67,22 +67,18 @@ fn opened<T: EqualCopy + Drop>(
 }
 
 /// The cell with all of its lines.
-fn whole<T: EqualCopy + Drop>(
-    alloc: Global,
-    tag: &T,
-    cell: LineSet<T>,
-) -> Result<OpenCell<T>, AllocError>
-    ensures { IfOk result (λ c. open_cell_of T.seen c ≡ whole (T.seen tag.now) (cell_of T.seen cell)) }
+fn whole<T: EqualCopy + Drop>(tag: T, cell: LineSet<T>) -> OpenCell<T>
+    ensures { open_cell_of T.seen result ≡ whole (T.seen tag) (cell_of T.seen cell) }
 {
-    let filler = spaces(alloc, cell.width, tag)?;
-    Ok(OpenCell {
+    OpenCell {
         width: cell.width,
         rows: cell.rows,
         lines: VecDeque::from_vec(cell.lines),
-        filler,
+        filler: None,
+        space_tag: tag,
         top: None,
         bottom: None,
-    })
+    }
 }
 
 impl<T: EqualCopy + Drop> OpenCell<T> {
@@ -169,7 +165,7 @@ impl<T: EqualCopy + Drop> OpenCell<T> {
     {
         let mut stretched = bottom;
         stretched.stretch_to(self.width)?;
-        self.filler = stretched.lines_above(tag)?;
+        self.filler = Some(stretched.lines_above(tag)?);
         self.bottom = Some(stretched);
         Ok(())
     }

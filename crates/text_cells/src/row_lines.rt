@@ -42,7 +42,7 @@ pub(crate) fn row_lines<T: EqualCopy + Drop>(
         ≡ map (after height) (map (open_cell_of T.seen) cells.old)) }
     ensures joined { IfOk result (λ lines. All (IsJoined T.seen) lines.items) }
 {
-    let mut lines = Vec::new(alloc);
+    let mut lines = Vec::with_capacity(alloc, height)?;
     for _line in 0..height {
         lines.push(row_line(alloc, sign, tag, cells)?)?;
     }
@@ -66,8 +66,8 @@ fn row_line<T: EqualCopy + Drop>(
     let mut left = cells.len();
     for cell in cells.iter_mut() {
         left -= 1;
-        let next = cell.take_line(alloc, tag)?;
-        line.push_line(&next)?;
+        let mut next = cell.take_line(alloc, tag)?;
+        line.append(&mut next)?;
         push_sign(&mut line, sign, tag, left)?;
     }
     Ok(line)

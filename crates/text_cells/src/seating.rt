@@ -20,7 +20,11 @@ pub(crate) fn seated<T: EqualCopy + Drop>(
     ensures { IfOk result (λ row. map (cell_of T.seen) row.items
         ≡ seated 0 (map (cell_of T.seen) cells.items) (map (hanging_of T.seen) hanging.items)) }
 {
-    let mut row = Vec::new(alloc);
+    // The common case moves no cell.
+    if hanging.is_empty() {
+        return Ok(cells);
+    }
+    let mut row = Vec::with_capacity(alloc, cells.len())?;
     let mut waiting = VecDeque::from_vec(hanging);
     let mut at = 0;
     for cell in cells {

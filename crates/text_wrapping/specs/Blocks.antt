@@ -10,6 +10,7 @@ use Rattle.text_pieces.specs.Modes.{is_preserved, is_same_mode}
 use Rattle.text_pieces.specs.declared.white_space.WhiteSpace.{WhiteSpace}
 use Rattle.text_pieces.specs.declared.white_space.WhiteSpace.TheVariants.{Normal}
 use Rattle.text_wrapping.specs.Lines.{lines_in, waiting_in, is_wide_in}
+use Rattle.text_wrapping.specs.declared.text_block.TextBlock.{TextBlock}
 use Rattle.text_wrapping.specs.declared.block.WrappedBlock.{WrappedBlock}
 
 -- LF
@@ -101,11 +102,11 @@ abbrev pub behind_sources : {S : Type 0} → List (Source S) → Block S → Blo
 behind_sources sources b = record b { source = b.source ++ sources }
 
 -- what contracts see of a block
-abbrev pub padding_of : {T S : Type 0} → (T → S) → WrappedBlock T → Option S
+abbrev pub padding_of : {T S : Type 0} → (T → S) → TextBlock T → Option S
 padding_of seen block = if block.pad_blocks then Some (seen block.default_tag) else None
 
-abbrev pub block_of : {T S : Type 0} → (T → S) → WrappedBlock T → Block S
-block_of seen block = record {
+abbrev pub text_of : {T S : Type 0} → (T → S) → TextBlock T → Block S
+text_of seen block = record {
   width = block.width;
   overflow = block.allow_overflow;
   padding = padding_of seen block;
@@ -113,6 +114,9 @@ block_of seen block = record {
   mode = block.mode;
   source = sources_of seen block.pieces.items;
 }
+
+abbrev pub block_of : {T S : Type 0} → (T → S) → WrappedBlock T → Block S
+block_of seen block = text_of seen block.text
 
 abbrev pub lines_of : {S : Type 0} → Block S → List (List (Item S))
 lines_of b = b.lines
@@ -150,8 +154,11 @@ abbrev pub has_columns : {S : Type 0} → Block S → Bool
 has_columns b = list_any (λ line. nat_lt 0 (line_columns line)) b.lines || has_visible b.source
 
 -- no text of the lines is empty, and none stands next to one with an equal tag
+abbrev pub AreJoinedLines : {T S : Type 0} → (T → S) → TextBlock T → Type 0
+AreJoinedLines seen block = All (IsJoined seen) block.lines.items
+
 abbrev pub HasJoinedLines : {T S : Type 0} → (T → S) → WrappedBlock T → Type 0
-HasJoinedLines seen block = All (IsJoined seen) block.lines.items
+HasJoinedLines seen block = AreJoinedLines seen block.text
 
 -- a call was refused
 abbrev pub has_failed : {T : Type 0} → WrappedBlock T → Bool

@@ -6,6 +6,7 @@ mod copies;
 mod laws;
 mod padding;
 mod showing;
+mod text_block;
 
 pub use block::WrappedBlock;
 pub use laws::{
@@ -22,4 +23,5 @@ pub use preserved_text::{
     a_line_that_fits_is_itself, preserved_lines_keep_markers, preserved_lines_keep_the_width,
     preserved_lines_show_each_character,
 };
+pub use text_block::TextBlock;
 pub use text_pieces::{BlockError, TooNarrow, WhiteSpace};

@@ -33,8 +33,5 @@ pub fn pad<T: EqualCopy + Drop>(
     ensures joined { IsJoined T.seen line.old → IsJoined T.seen line.new }
 {
     let missing = width.saturating_sub(line.width());
-    for _space in 0..missing {
-        line.push_char(' ', tag)?;
-    }
-    Ok(())
+    line.push_spaces(missing, tag)
 }

@@ -11,9 +11,9 @@ pub loop-line-init : goal.loop-line-init
 loop-line-init g c =
     let seen = g.T.EqualCopy.seen in
     record {
-      lines = ap (map (line_items seen)) c.new-lines.ensures.items;
+      lines = ap (map (line_items seen)) c.in_ok-lines.ensures.items;
       rest = after_none (map (open_cell_of seen) c.args.cells.now);
-      joined = subst (All (IsJoined seen)) (sym c.new-lines.ensures.items) (All-nil (IsJoined seen));
+      joined = subst (All (IsJoined seen)) (sym c.in_ok-lines.ensures.items) (All-nil (IsJoined seen));
     }
 
 pub loop-line-preserved : goal.loop-line-preserved

@@ -1,10 +1,18 @@
-use Rattle.std.proofs.Common.{◌++◌, map, sym, ap, ◌∙◌}
+use Rattle.std.proofs.Common.{◌++◌, map, sym, ap, ◌∙◌, arith}
+use Rattle.std.proofs.lemmas.Bool.Decides.{nat_tests}
+use Rattle.std.proofs.lemmas.List.{nil_from_length}
 use Rattle.std.specs.Vec.Iter.{into_iter_items}
 use Rattle.std.proofs.lemmas.List.{map_push}
 use Rattle.text_borders.specs.Across.{seated}
 use Rattle.text_cells.specs.Cells.{cell_of, hanging_of}
-use Rattle.text_cells.proofs.SeatingLemmas.{more_seated}
+use Rattle.text_cells.proofs.SeatingLemmas.{more_seated, none_hangs}
 use Rattle.text_cells.proofs.seating.seated.Goals as goal
+
+pub returns-then-is_empty : goal.returns-then-is_empty
+returns-then-is_empty g c =
+    let seen = g.T.EqualCopy.seen in
+    none_hangs 0 (map (cell_of seen) c.args.cells.items) (map (hanging_of seen) c.args.hanging.items)
+    (ap (map (hanging_of seen)) (nil_from_length c.args.hanging.items (grind (arith, nat_tests, c.args.hanging.ok.0))))
 
 pub loop-cell-preserved : goal.loop-cell-preserved
 loop-cell-preserved g c =

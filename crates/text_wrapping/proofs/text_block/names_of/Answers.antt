@@ -1,5 +1,5 @@
 use Rattle.text_wrapping.proofs.BlockLemmas.{names_more, all_names}
-use Rattle.text_wrapping.proofs.block.names_of.Goals as goal
+use Rattle.text_wrapping.proofs.text_block.names_of.Goals as goal
 
 pub loop-first-preserved : goal.loop-first-preserved
 loop-first-preserved g c =

@@ -1,7 +1,7 @@
 use Rattle.std.proofs.Common.{◌≡◌, ◌++◌, length}
 use Rattle.text_pieces.specs.Sources.{names, sources_of}
 use Rattle.preserved_text.specs.Preserved.{names_of}
-use Rattle.text_wrapping.proofs.block.names_of.Given as goal
+use Rattle.text_wrapping.proofs.text_block.names_of.Given as goal
 
 abbrev pub invariant-loop-first : goal.invariant-loop-first
 invariant-loop-first g l =

@@ -3,7 +3,7 @@ use Rattle.std.specs.Prelude.{string_bytes}
 use Rattle.text_pieces.specs.Sources.{names, piece_sources, wrap_seen}
 use Rattle.preserved_text.specs.Preserved.{names_of}
 use Rattle.text_wrapping.proofs.BlockLemmas.{names_sourced}
-use Rattle.text_wrapping.proofs.block.push_name.Goals as goal
+use Rattle.text_wrapping.proofs.text_block.push_name.Goals as goal
 
 pub returns-in-Text : goal.returns-in-Text
 returns-in-Text g c =

@@ -1,7 +1,7 @@
 use Rattle.std.proofs.Common.{map}
 use Rattle.tagged_lines.specs.Tagged.{line_items}
 use Rattle.text_wrapping.proofs.BlockLemmas.{bare_lines}
-use Rattle.text_wrapping.proofs.block.WrappedBlock.filled_up.Goals as goal
+use Rattle.text_wrapping.proofs.text_block.TextBlock.filled_up.Goals as goal
 
 pub returns-else-self-clause-filled_up : goal.returns-else-self-clause-filled_up
 returns-else-self-clause-filled_up g c =
