@@ -2,7 +2,7 @@
 use Rattle.std.specs.Prelude.{List, All, IfSome, map}
 use Rattle.std.specs.Option.{option_map}
 use Rattle.text_pieces.specs.Sources.{names}
-use Rattle.text_wrapping.specs.Blocks.{block_of, HasJoinedLines}
+use Rattle.text_wrapping.specs.Blocks.{text_of, AreJoinedLines}
 use Rattle.text_borders.specs.Across.{CellLine}
 use Rattle.text_borders.specs.Lines.{IsJoinedText}
 use Rattle.text_cells.specs.Cells.{laid_line_of, hanging_of}
@@ -18,7 +18,7 @@ lines_of seen lines = map (laid_line_of seen) lines.lines.items
 abbrev pub running_of : {T S : Type 0} → (T → S) → Running T → SeenRunning S
 running_of seen running = record {
   mode = running.mode;
-  text = block_of seen running.text;
+  text = text_of seen running.text;
   fill = seen running.fill;
 }
 
@@ -40,7 +40,7 @@ abbrev pub HoldsJoinedLines : {T S : Type 0} → (T → S) → LaidLines T → T
 HoldsJoinedLines seen lines = AreLinesJoined seen lines.lines.items
 
 abbrev pub RunsJoined : {T S : Type 0} → (T → S) → Running T → Type 0
-RunsJoined seen running = HasJoinedLines seen running.text
+RunsJoined seen running = AreJoinedLines seen running.text
 
 -- The same of a block: its lines, and those of its text that are done. What stands in a border or in a cell that goes
 -- on is joined where it is made text.

@@ -22,6 +22,7 @@ impl<T: EqualCopy + Drop> BlockLayout<T> {
 
     /// Adds text behind what runs; a text of another mode of white space ends that first. Where it begins to run here, its
     /// lines are filled with spaces of the tag. Refused as `flush`.
+    #[inline(always)]
     pub fn add_text(
         &mut self,
         measure: Measure,
@@ -42,6 +43,7 @@ impl<T: EqualCopy + Drop> BlockLayout<T> {
         self.run_on(measure, tag, mode, text, main_tag, wrap_tag)
     }
 
+    #[inline(always)]
     fn enter_mode(
         &mut self,
         measure: Measure,
@@ -62,6 +64,7 @@ impl<T: EqualCopy + Drop> BlockLayout<T> {
         Ok(())
     }
 
+    #[inline(always)]
     fn runs_otherwise(&self, mode: WhiteSpace) -> bool
         ensures { result ≡ runs_otherwise mode (laid_of T.seen self.now).running }
     {
@@ -71,6 +74,7 @@ impl<T: EqualCopy + Drop> BlockLayout<T> {
         }
     }
 
+    #[inline(always)]
     fn run_on(
         &mut self,
         measure: Measure,
@@ -87,8 +91,31 @@ impl<T: EqualCopy + Drop> BlockLayout<T> {
             (T.seen main_tag.now) (T.seen wrap_tag.now) (laid_of T.seen self.old) ≡ None }
         ensures joined { HasJoinedTexts T.seen self.old → HasJoinedTexts T.seen self.new }
     {
-        let running = self.take_running(measure, tag)?;
-        let running = running.with_text(mode, text, main_tag, wrap_tag)?;
+        if let Some(running) = &mut self.running {
+            return running.add_text(mode, text, main_tag, wrap_tag);
+        }
+        self.run_first(measure, tag, mode, text, main_tag, wrap_tag)
+    }
+
+    /// Begins a text with the first of it.
+    fn run_first(
+        &mut self,
+        measure: Measure,
+        tag: &T,
+        mode: WhiteSpace,
+        text: &str,
+        main_tag: &T,
+        wrap_tag: &T,
+    ) -> Result<(), BlockError>
+        ensures kinds { IfErr result (λ e. (e ≡ errors.TooNarrow) ⊎ (e ≡ errors.Memory)) }
+        ensures added { OnOk result (run_on measure (T.seen tag.now) mode (chars text.now) (T.seen main_tag.now)
+            (T.seen wrap_tag.now) (without_running (laid_of T.seen self.old)) ≡ Some (laid_of T.seen self.new)) }
+        ensures narrow { result ≡ Err errors.TooNarrow → run_on measure (T.seen tag.now) mode (chars text.now)
+            (T.seen main_tag.now) (T.seen wrap_tag.now) (without_running (laid_of T.seen self.old)) ≡ None }
+        ensures joined { HasJoinedTexts T.seen self.old → HasJoinedTexts T.seen self.new }
+    {
+        let mut running = Running::new(*self.markers.allocator(), measure, tag)?;
+        running.add_text(mode, text, main_tag, wrap_tag)?;
         self.running = Some(running);
         Ok(())
     }
@@ -100,23 +127,11 @@ impl<T: EqualCopy + Drop> BlockLayout<T> {
             ≡ Some (laid_of T.seen self.new)) }
         ensures joined { HasJoinedTexts T.seen self.old → HasJoinedTexts T.seen self.new }
     {
-        let running = self.take_running(measure, tag)?;
-        self.running = Some(running);
-        Ok(())
-    }
-
-    /// The text that runs, or an empty one.
-    fn take_running(&mut self, measure: Measure, tag: &T) -> Result<Running<T>, AllocError>
-        ensures running { IfOk result (λ r. running_of T.seen r
-            ≡ running_or_new measure (T.seen tag.now) (laid_of T.seen self.old).running) }
-        ensures without { OnOk result (laid_of T.seen self.new ≡ without_running (laid_of T.seen self.old)) }
-        ensures joined { HasJoinedTexts T.seen self.old → IfOk result (RunsJoined T.seen) }
-        ensures kept { HasJoinedTexts T.seen self.old → HasJoinedTexts T.seen self.new }
-    {
-        match self.running.take() {
-            Some(running) => Ok(running),
-            None => Running::new(*self.markers.allocator(), measure, tag),
+        if self.running.is_some() {
+            return Ok(());
         }
+        self.running = Some(Running::new(*self.markers.allocator(), measure, tag)?);
+        Ok(())
     }
 
     /// Whether the text is none: behind a block normal text of white space alone is ignored, until a block starts or an
@@ -155,8 +170,21 @@ impl<T: EqualCopy + Drop> BlockLayout<T> {
             ≡ mark measure (T.seen tag.now) (chars name.now) (laid_of T.seen self.old)) }
         ensures joined { HasJoinedTexts T.seen self.old → HasJoinedTexts T.seen self.new }
     {
-        let running = self.take_running(measure, tag)?;
-        let running = running.with_marker(name)?;
+        if let Some(running) = &mut self.running {
+            return running.add_marker(name);
+        }
+        self.mark_first(measure, tag, name)
+    }
+
+    /// Begins a text with a marker.
+    fn mark_first(&mut self, measure: Measure, tag: &T, name: &str) -> Result<(), BlockError>
+        ensures kinds { IfErr result (λ e. e ≡ errors.Memory) }
+        ensures marked { OnOk result (laid_of T.seen self.new
+            ≡ mark measure (T.seen tag.now) (chars name.now) (without_running (laid_of T.seen self.old))) }
+        ensures joined { HasJoinedTexts T.seen self.old → HasJoinedTexts T.seen self.new }
+    {
+        let mut running = Running::new(*self.markers.allocator(), measure, tag)?;
+        running.add_marker(name)?;
         self.running = Some(running);
         Ok(())
     }
@@ -190,7 +218,8 @@ impl<T: EqualCopy + Drop> BlockLayout<T> {
         ensures joined { HasJoinedTexts T.seen self.old → RunsJoined T.seen running
             → HasJoinedTexts T.seen self.new }
     {
-        let (ends, running) = running.broken()?;
+        let mut running = running;
+        let ends = running.break_text()?;
         self.running = Some(running);
         if ends {
             return self.flush(measure, tag);

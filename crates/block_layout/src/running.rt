@@ -5,25 +5,23 @@ use crate::texts::holds_text;
 use std::alloc::{AllocError, Global};
 use tagged_lines::EqualCopy;
 use text_pieces::{BlockError, LaidText, WhiteSpace};
-use text_wrapping::WrappedBlock;
+use text_wrapping::TextBlock;
 
-/// A text in one mode of white space, which no call has been refused to.
+/// A text in one mode of white space.
 #[derive(Drop)]
 pub(crate) struct Running<T> {
     /// None while it is empty.
     mode: Option<WhiteSpace>,
-    text: WrappedBlock<T>,
+    text: TextBlock<T>,
     fill: T,
-    ghost works: { has_failed text ≡ false },
 }
 
-ghost use Rattle.std.specs.Prelude.{◌≡◌, false, not, chars};
+ghost use Rattle.std.specs.Prelude.{◌≡◌, not, chars};
 ghost use Rattle.text_pieces.specs.Modes.{is_same_mode};
 ghost use Rattle.block_layout.specs.Laid.{mode_behind};
-ghost use Rattle.text_wrapping.specs.Blocks.{has_failed};
 
 impl<T: EqualCopy + Drop> Running<T> {
-    ghost use Rattle.std.specs.Prelude.{◌⊎◌, None, Some, map, All, IfOk, IfErr};
+    ghost use Rattle.std.specs.Prelude.{◌⊎◌, None, Some, map, All, IfOk, IfErr, OnOk};
     ghost use Rattle.std.specs.Option.{option_map};
     ghost use Rattle.tagged_lines.specs.Tagged.{line_items, IsJoined};
     ghost use Rattle.text_pieces.specs.Sources.{names};
@@ -43,7 +41,7 @@ impl<T: EqualCopy + Drop> Running<T> {
             ..
         } = measure;
         let fill = tag.copy(alloc)?;
-        let text = WrappedBlock::new(alloc, wrap_width, false, overflow, tag.copy(alloc)?);
+        let text = TextBlock::new(alloc, wrap_width, false, overflow, tag.copy(alloc)?);
         Ok(Running {
             mode: None,
             text,
@@ -52,6 +50,7 @@ impl<T: EqualCopy + Drop> Running<T> {
     }
 
     /// Whether the text has another mode.
+    #[inline(always)]
     pub(crate) fn has_other_mode(&self, mode: WhiteSpace) -> bool
         ensures { result ≡ is_other_mode mode (running_of T.seen self.now).mode }
     {
@@ -67,66 +66,47 @@ impl<T: EqualCopy + Drop> Running<T> {
         self.text.has_columns()
     }
 
-    /// The text with more behind it.
-    pub(crate) fn with_text(
-        self,
+    /// Adds text behind what there is. What was refused is to be thrown away.
+    #[inline(always)]
+    pub(crate) fn add_text(
+        &mut self,
         mode: WhiteSpace,
         text: &str,
         main_tag: &T,
         wrap_tag: &T,
-    ) -> Result<Running<T>, BlockError>
+    ) -> Result<(), BlockError>
         ensures kinds { IfErr result (λ e. (e ≡ errors.TooNarrow) ⊎ (e ≡ errors.Memory)) }
-        ensures added { IfOk result (λ r. option_map (with_added mode (chars text.now) (running_of T.seen self))
-            (added mode (chars text.now) (T.seen main_tag.now) (T.seen wrap_tag.now) (running_of T.seen self).text)
-            ≡ Some (running_of T.seen r)) }
+        ensures added { OnOk result (option_map (with_added mode (chars text.now) (running_of T.seen self.old))
+            (added mode (chars text.now) (T.seen main_tag.now) (T.seen wrap_tag.now) (running_of T.seen self.old).text)
+            ≡ Some (running_of T.seen self.new)) }
         ensures narrow { result ≡ Err errors.TooNarrow → added mode (chars text.now) (T.seen main_tag.now)
-            (T.seen wrap_tag.now) (running_of T.seen self).text ≡ None }
-        ensures joined { RunsJoined T.seen self → IfOk result (RunsJoined T.seen) }
+            (T.seen wrap_tag.now) (running_of T.seen self.old).text ≡ None }
+        ensures joined { RunsJoined T.seen self.old → RunsJoined T.seen self.new }
     {
-        let Running {
-            mode: begun,
-            text: mut block,
-            fill,
-        } = self;
-        block.add_text(text, mode, main_tag, wrap_tag)?;
-        Ok(Running {
-            mode: mode_behind(mode, text, begun),
-            text: block,
-            fill,
-        })
+        self.text.add_text(text, mode, main_tag, wrap_tag)?;
+        self.mode = mode_behind(mode, text, self.mode);
+        Ok(())
     }
 
-    /// The text with a marker behind it.
-    pub(crate) fn with_marker(self, name: &str) -> Result<Running<T>, BlockError>
+    /// Adds a marker. What was refused is to be thrown away.
+    pub(crate) fn add_marker(&mut self, name: &str) -> Result<(), BlockError>
         ensures kinds { IfErr result (λ e. e ≡ errors.Memory) }
-        ensures marked { IfOk result (λ r. running_of T.seen r
-            ≡ with_marker (chars name.now) (running_of T.seen self)) }
-        ensures joined { RunsJoined T.seen self → IfOk result (RunsJoined T.seen) }
+        ensures marked { OnOk result (running_of T.seen self.new
+            ≡ with_marker (chars name.now) (running_of T.seen self.old)) }
+        ensures joined { RunsJoined T.seen self.old → RunsJoined T.seen self.new }
     {
-        let Running {
-            mode,
-            mut text,
-            fill,
-        } = self;
-        text.record_frag_start(name)?;
-        Ok(Running { mode, text, fill })
+        self.text.record_frag_start(name)
     }
 
-    /// Ends the text's line, and tells whether it has columns.
-    pub(crate) fn broken(self) -> Result<(bool, Running<T>), BlockError>
+    /// Ends the text's line, and tells whether it has columns. What was refused is to be thrown away.
+    pub(crate) fn break_text(&mut self) -> Result<bool, BlockError>
         ensures kinds { IfErr result (λ e. (e ≡ errors.TooNarrow) ⊎ (e ≡ errors.Memory)) }
-        ensures broken { IfOk result (λ r. option_map (with_text_of (running_of T.seen self))
-            (broken (running_of T.seen self).text) ≡ Some (r.0, running_of T.seen r.1)) }
-        ensures narrow { result ≡ Err errors.TooNarrow → broken (running_of T.seen self).text ≡ None }
-        ensures joined { RunsJoined T.seen self → IfOk result (λ r. RunsJoined T.seen r.1) }
+        ensures broken { IfOk result (λ ends. option_map (with_text_of (running_of T.seen self.old))
+            (broken (running_of T.seen self.old).text) ≡ Some (ends, running_of T.seen self.new)) }
+        ensures narrow { result ≡ Err errors.TooNarrow → broken (running_of T.seen self.old).text ≡ None }
+        ensures joined { RunsJoined T.seen self.old → RunsJoined T.seen self.new }
     {
-        let Running {
-            mode,
-            mut text,
-            fill,
-        } = self;
-        let ends = text.break_text()?;
-        Ok((ends, Running { mode, text, fill }))
+        self.text.break_text()
     }
 
     /// The lines of the text, the names of the markers that found none, and the tag of what fills the lines.
@@ -152,6 +132,7 @@ fn is_other_mode(mode: WhiteSpace, other: WhiteSpace) -> bool
 }
 
 /// The mode of a text that had another, or none, behind more of it.
+#[inline(always)]
 fn mode_behind(mode: WhiteSpace, text: &str, begun: Option<WhiteSpace>) -> Option<WhiteSpace>
     ensures { result ≡ mode_behind mode (chars text.now) begun }
 {

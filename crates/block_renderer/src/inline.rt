@@ -6,6 +6,7 @@ ghost use Rattle.block_layout.specs.Laid.{add_text};
 ghost use Rattle.renderer_calls.specs.Renderers.{struck};
 
 use crate::sub_renderer::SubRenderer;
+use block_layout::Measure;
 use renderer_calls::struck;
 use std::alloc::{AllocError, Global};
 use tagged_lines::EqualCopy;
@@ -17,6 +18,7 @@ impl<D: TextDecorator + Drop> SubRenderer<D> {
     ghost use Rattle.block_renderer.specs.Seen.{sub_of, Comes, Fails, IsJoinedSub};
 
     /// Adds text, unless it is ignored behind a block.
+    #[inline(always)]
     pub(crate) fn add_inline(&mut self, text: &str) -> Result<(), BlockError>
         ensures kinds { IfErr result (λ e. (e ≡ errors.TooNarrow) ⊎ (e ≡ errors.Memory)) }
         ensures done { OnOk result (Comes D.Annotation.seen D.held D.text D.gives D.marks D.after D.pops D.sub
@@ -34,6 +36,7 @@ impl<D: TextDecorator + Drop> SubRenderer<D> {
     }
 
     /// Adds text, struck where strikeouts are drawn.
+    #[inline(always)]
     fn add_struck(&mut self, text: &str) -> Result<(), BlockError>
         ensures kinds { IfErr result (λ e. (e ≡ errors.TooNarrow) ⊎ (e ≡ errors.Memory)) }
         ensures done { OnOk result (Comes D.Annotation.seen D.held D.text D.gives D.marks D.after D.pops D.sub
@@ -50,6 +53,7 @@ impl<D: TextDecorator + Drop> SubRenderer<D> {
     }
 
     /// Adds text under the annotations that stand, in a preformatted part with one more.
+    #[inline(always)]
     fn add_tagged(&mut self, text: &str) -> Result<(), BlockError>
         ensures kinds { IfErr result (λ e. (e ≡ errors.TooNarrow) ⊎ (e ≡ errors.Memory)) }
         ensures done { OnOk result (Comes D.Annotation.seen D.held D.text D.gives D.marks D.after D.pops D.sub
@@ -58,16 +62,19 @@ impl<D: TextDecorator + Drop> SubRenderer<D> {
             D.pops D.sub (λ m s. on_laid s (tagged_added m (chars text.now) s s.laid)) self.old }
         ensures joined { IsJoinedSub D.Annotation.seen self.old → IsJoinedSub D.Annotation.seen self.new }
     {
-        if self.preformats > 0 {
-            return self.add_preformatted(text);
-        }
         let measure = self.measure();
+        if text.is_empty() {
+            return Ok(self.laid.begin_text(measure, &self.annotations)?);
+        }
+        if self.preformats > 0 {
+            return self.add_preformatted(measure, text);
+        }
         let mode = self.mode();
         let tags = &self.annotations;
         self.laid.add_text(measure, tags, mode, text, tags, tags)
     }
 
-    fn add_preformatted(&mut self, text: &str) -> Result<(), BlockError>
+    fn add_preformatted(&mut self, measure: Measure, text: &str) -> Result<(), BlockError>
         ensures kinds { IfErr result (λ e. (e ≡ errors.TooNarrow) ⊎ (e ≡ errors.Memory)) }
         ensures done { OnOk result (Comes D.Annotation.seen D.held D.text D.gives D.marks D.after D.pops D.sub
             (λ m s. on_laid s (preformatted_added m (chars text.now) s s.laid)) self.old self.new) }
@@ -75,10 +82,6 @@ impl<D: TextDecorator + Drop> SubRenderer<D> {
             D.pops D.sub (λ m s. on_laid s (preformatted_added m (chars text.now) s s.laid)) self.old }
         ensures joined { IsJoinedSub D.Annotation.seen self.old → IsJoinedSub D.Annotation.seen self.new }
     {
-        let measure = self.measure();
-        if text.is_empty() {
-            return Ok(self.laid.begin_text(measure, &self.annotations)?);
-        }
         let alloc = self.alloc();
         let first = self.decorator.decorate_preformat_first(alloc)?;
         let first = with_annotation(&self.annotations, first)?;
