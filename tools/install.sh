@@ -7,7 +7,12 @@ set -eu
 prefix=${1:-$HOME/.local}
 top=$(cd "$(dirname "$0")/.." && pwd)
 cd "$top/crates/html2text_program"
-# Runs it on an empty page once all that it stands on is proved.
+# A crate a processor, and some three gigabytes of memory for each.
+room=$(awk '/^MemAvailable/ { print int($2 / 3000000) }' /proc/meminfo)
+jobs=$(nproc)
+if [ "$room" -lt "$jobs" ]; then jobs=$((room > 0 ? room : 1)); fi
+rt all check --jobs "$jobs"
+# Builds it, and runs it on an empty page.
 rt run </dev/null >/dev/null
 install -D -m 755 out/html2text_program "$prefix/bin/html2text"
 cd "$top/share"

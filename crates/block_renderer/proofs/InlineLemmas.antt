@@ -1,5 +1,5 @@
 -- Text that is added under what stands.
-use Rattle.std.specs.Prelude.{◌≡◌, ℕ, Bool, true, false, List, [], ◌∷◌, ◌++◌, Option, Some, map, if◌then◌else◌, refl}
+use Rattle.std.specs.Prelude.{◌≡◌, ℕ, nat_lt, Bool, true, false, List, [], ◌∷◌, ◌++◌, Option, Some, map, if◌then◌else◌, refl}
 use Rattle.std.specs.Option.{option_and_then}
 use Rattle.std.proofs.Common.{sym, ap, ◌∙◌}
 use Rattle.std.proofs.lemmas.List.{map-append}
@@ -8,7 +8,7 @@ use Rattle.text_pieces.specs.declared.white_space.WhiteSpace.{WhiteSpace}
 use Rattle.block_layout.specs.declared.measure.Measure.{Measure}
 use Rattle.block_layout.specs.Laid.{Laid, is_ignored, start_awaited, add_text}
 use Rattle.block_layout.specs.LaidRows.{before_last}
-use Rattle.renderer_calls.specs.Renderers.{Marking, Sub, measure_of, mode_of, with_laid, on_laid, preformatted_added, text_added, add_inline}
+use Rattle.renderer_calls.specs.Renderers.{Marking, Sub, measure_of, mode_of, with_laid, on_laid, preformatted_added, tagged_added, text_added, add_inline}
 
 other_branch : {B : Type 0} (b : Bool) (x y : B) → b ≡ false → (if b then x else y) ≡ y
 other_branch true x y e = cc
@@ -38,6 +38,17 @@ empty_is m cs s measure laid none is added =
     ap (λ ds. on_laid s (preformatted_added m ds s s.laid)) none
     ∙ ap (λ k. on_laid s (add_text k s.annotations (mode_of s) [] main further s.laid)) (sym is)
     ∙ ap (on_laid s) (added (mode_of s) main further)
+
+pub empty_plain : {H A : Type 0} (m : Marking H A) (cs : List ℕ) (s : Sub H A) (measure : Measure)
+    (laid : Laid (List A)) → cs ≡ [] → measure ≡ measure_of s → nat_lt 0 s.preformats ≡ false
+    → ((mode : WhiteSpace) (main further : List A) → add_text measure s.annotations mode [] main further s.laid
+    ≡ Some laid) → on_laid s (tagged_added m cs s s.laid) ≡ Some (with_laid s laid)
+empty_plain m cs s measure laid none is plain added =
+    ap (on_laid s) (other_branch (nat_lt 0 s.preformats) (preformatted_added m cs s s.laid)
+    (add_text (measure_of s) s.annotations (mode_of s) cs s.annotations s.annotations s.laid) plain
+    ∙ ap (λ ds. add_text (measure_of s) s.annotations (mode_of s) ds s.annotations s.annotations s.laid) none
+    ∙ ap (λ k. add_text k s.annotations (mode_of s) [] s.annotations s.annotations s.laid) (sym is)
+    ∙ added (mode_of s) s.annotations s.annotations)
 
 -- one more
 pub mapped_more : {T A : Type 0} (f : T → A) (old new : List T) (x : T) → new ≡ old ++ x ∷ []

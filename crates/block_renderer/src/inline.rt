@@ -6,7 +6,6 @@ ghost use Rattle.block_layout.specs.Laid.{add_text};
 ghost use Rattle.renderer_calls.specs.Renderers.{struck};
 
 use crate::sub_renderer::SubRenderer;
-use block_layout::Measure;
 use renderer_calls::struck;
 use std::alloc::{AllocError, Global};
 use tagged_lines::EqualCopy;
@@ -62,19 +61,20 @@ impl<D: TextDecorator + Drop> SubRenderer<D> {
             D.pops D.sub (λ m s. on_laid s (tagged_added m (chars text.now) s s.laid)) self.old }
         ensures joined { IsJoinedSub D.Annotation.seen self.old → IsJoinedSub D.Annotation.seen self.new }
     {
+        if self.preformats > 0 {
+            return self.add_preformatted(text);
+        }
         let measure = self.measure();
+        // At a mark that shows nothing, as those of rich text.
         if text.is_empty() {
             return Ok(self.laid.begin_text(measure, &self.annotations)?);
-        }
-        if self.preformats > 0 {
-            return self.add_preformatted(measure, text);
         }
         let mode = self.mode();
         let tags = &self.annotations;
         self.laid.add_text(measure, tags, mode, text, tags, tags)
     }
 
-    fn add_preformatted(&mut self, measure: Measure, text: &str) -> Result<(), BlockError>
+    fn add_preformatted(&mut self, text: &str) -> Result<(), BlockError>
         ensures kinds { IfErr result (λ e. (e ≡ errors.TooNarrow) ⊎ (e ≡ errors.Memory)) }
         ensures done { OnOk result (Comes D.Annotation.seen D.held D.text D.gives D.marks D.after D.pops D.sub
             (λ m s. on_laid s (preformatted_added m (chars text.now) s s.laid)) self.old self.new) }
@@ -82,6 +82,10 @@ impl<D: TextDecorator + Drop> SubRenderer<D> {
             D.pops D.sub (λ m s. on_laid s (preformatted_added m (chars text.now) s s.laid)) self.old }
         ensures joined { IsJoinedSub D.Annotation.seen self.old → IsJoinedSub D.Annotation.seen self.new }
     {
+        let measure = self.measure();
+        if text.is_empty() {
+            return Ok(self.laid.begin_text(measure, &self.annotations)?);
+        }
         let alloc = self.alloc();
         let first = self.decorator.decorate_preformat_first(alloc)?;
         let first = with_annotation(&self.annotations, first)?;

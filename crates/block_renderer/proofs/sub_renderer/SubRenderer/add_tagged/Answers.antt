@@ -1,0 +1,16 @@
+use Rattle.std.proofs.Common.{chars, sym, ◌∙◌, arith}
+use Rattle.std.proofs.lemmas.Bool.Decides.{nat_tests}
+use Rattle.normal_text.proofs.WordLemmas.{empty_text}
+use Rattle.block_layout.specs.Seen.{laid_of}
+use Rattle.block_renderer.specs.Seen.{sub_of, tags_seen, marking}
+use Rattle.block_renderer.proofs.InlineLemmas.{empty_plain}
+use Rattle.block_renderer.proofs.sub_renderer.SubRenderer.add_tagged.Goals as goal
+
+pub returns-then-is_empty-clause-done : goal.returns-then-is_empty-clause-done
+returns-then-is_empty-clause-done g c = λ tag p.
+    let seen = g.D.Annotation.EqualCopy.seen in
+    let d = g.D.TextDecorator in
+    empty_plain (marking d.text tag d.marks d.after d.pops d.sub) (chars c.args.text.now)
+    (sub_of seen d.held c.args.self.now) c.measure-measure.result (laid_of (tags_seen seen) c.begin_text.new.self)
+    (empty_text c.args.text.now (sym c.is_empty.ensures ∙ c.if-is_empty.true)) c.measure-measure.ensures
+    (grind (arith, nat_tests, c.if-self-gt0.false)) c.in_ok-begin_text.ensures.laid
