@@ -1,5 +1,7 @@
 -- A run of text is taken as its characters are, one by one.
-use Rattle.std.proofs.Common.{◌≡◌, ℕ, Bool, true, false, not, ◌==◌, ◌||◌, ◌&&◌, ◌+◌, ◌^◌, ◌-◌, ◌<◌, suc, min, if◌then◌else◌, List, [], ◌∷◌, ◌++◌, append_assoc, length, IsTrue, Option, Some, None, refl, sym, ap, ◌∙◌, subst, arith}
+use Rattle.std.proofs.Common.{◌≡◌, ◌∙◌, ap, arith, refl, subst, sym, ℕ, ◌+◌, ◌-◌, ◌^◌, ◌<◌, min, suc}
+use Rattle.std.proofs.Common.{Option, Some, None, Bool, true, false, not, IsTrue, ◌==◌, ◌||◌, ◌&&◌, if◌then◌else◌}
+use Rattle.std.proofs.Common.{List, [], ◌∷◌, ◌++◌, append_assoc, length}
 use Rattle.std.proofs.lemmas.Bool.{and_from, and_parts}
 use Rattle.std.specs.List.{list_all}
 use Rattle.html_lexemes.specs.LineEnds.{begins_with_line_feed, lines_ended}

@@ -15,7 +15,7 @@ ghost use Rattle.lexeme_places.specs.PlaceKinds.{IsPlaceOf, IsWithinMarkup, is_o
 ghost use Rattle.html_tokenizer.specs.Tells.{IsPauseOf};
 ghost use Rattle.lexeme_places.specs.declared.place.Place.{Place as SeenPlace};
 ghost use Rattle.lexeme_places.specs.declared.place.Place.TheVariants.{CdataSection as SectionPlace, MarkupDeclarationOpen as DeclarationPlace, Text as TextPlace};
-ghost use Rattle.parse_errors.specs.Found.{heeds};
+ghost use Rattle.parse_errors.specs.Found.{found_of, heeds};
 
 use crate::errors::{
     MarkupStart, find_errors, find_errors_before, looks_at_text, may_follow_error, state_of,
@@ -218,6 +218,7 @@ impl Reader {
     #[inline(always)]
     pub(crate) fn takes_runs(&self) -> bool
         ensures place { IsTrue result → self.now.pending.place ≡ TextPlace }
+        ensures none_found { IsTrue result → found_of self.now.errors ≡ [] }
         ensures unheeded { IsTrue result → (c : ℕ) → c ≢ 0 → heeds self.now.errors c ≡ false }
     {
         self.pending.is_text() && self.errors.is_empty() && !looks_at_text(&self.errors)

@@ -15,7 +15,8 @@ use Rattle.html_tokenizer.proofs.Undecided.{AreOpenEnded, undecided}
 use Rattle.html_tokenizer.proofs.Emptied.{emptied_pending, emptied_text}
 use Rattle.html_tokenizer.proofs.PauseMarks.{has_taken_more, has_taken_none, pauses_behind}
 use Rattle.html_tokenizer.proofs.ReadsLemmas.{leaves_same}
-use Rattle.html_tokenizer.proofs.RunLemmas.{last_takes, run_on, run_text, turn_shorter, turn_takes, turn_text, with_character, with_none}
+use Rattle.html_tokenizer.proofs.RunLemmas.{run_on, run_text, turn_shorter, turn_takes, turn_text}
+use Rattle.html_tokenizer.proofs.RunLemmas.{last_takes, with_character, with_none}
 use Rattle.html_tokenizer.proofs.tokenizer.Tokenizer.read.Goals as goal
 
 -- a call that leaves the sink as it was tells nothing
