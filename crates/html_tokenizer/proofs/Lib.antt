@@ -7,5 +7,6 @@ pub mod QueueTaken
 pub mod RawReads
 pub mod ReadsLemmas
 pub mod ReadyLemmas
+pub mod RunLemmas
 pub mod TellsLemmas
 pub mod Undecided

@@ -1,5 +1,5 @@
 -- What a tokenizer does depends on its sink's state alone.
-use Rattle.std.proofs.Common.{◌≡◌, ℕ, List, refl, subst, sym}
+use Rattle.std.proofs.Common.{◌≡◌, refl, subst, sym}
 use Rattle.html_grammar.specs.Items.{Item}
 use Rattle.html_grammar.specs.Meaning.{Meaning}
 use Rattle.html_tokenizer.specs.Completes.{Completes, IsFit, has_failed}

@@ -10,7 +10,8 @@ each_more old (d ∷ cs) now after c e t = (e.0, (e.1.0, each_more e.0 cs now af
 pub taken_more : (old now after : Queue) (c : ℕ) → TakesSome old now → Takes now (c ∷ []) after → TakesSome old after
 taken_more old now after c s t = record { taken = s.taken ++ c ∷ []; takes = each_more old s.taken now after c s.takes t }
 
-each_on : (old : Queue) (cs : List ℕ) (now : Queue) (ds : List ℕ) (after : Queue) → TakesEach old cs now → TakesEach now ds after → TakesEach old (cs ++ ds) after
+pub each_on : (old : Queue) (cs : List ℕ) (now : Queue) (ds : List ℕ) (after : Queue) → TakesEach old cs now →
+    TakesEach now ds after → TakesEach old (cs ++ ds) after
 each_on old [] now ds after e t = subst (λ q. TakesEach q ds after) e t
 each_on old (c ∷ cs) now ds after e t = (e.0, (e.1.0, each_on e.0 cs now ds after e.1.1 t))
 

@@ -94,7 +94,8 @@ text_character_of table foreign (Raw kind) mode c rest m h =
     let n = raw_text_is kind c h in
     raw_first_in table foreign mode.last_start_tag kind mode c c rest (shown_same c n.0) (and_false (c == 60) (may_begin mode.last_start_tag kind) n.1.0) (and_false (c == 38) (has_references kind) n.1.1.0) n.1.1.1 m refl
 
-text_character : (table : References) (foreign : Bool) (mode : Mode) (c : ℕ) (rest : List ℕ) → IsTrue (is_text mode.text c) → lexeme table foreign mode (c ∷ rest) ≡ told (characters (c ∷ []) ∷ []) mode rest
+pub text_character : (table : References) (foreign : Bool) (mode : Mode) (c : ℕ) (rest : List ℕ) →
+    IsTrue (is_text mode.text c) → lexeme table foreign mode (c ∷ rest) ≡ told (characters (c ∷ []) ∷ []) mode rest
 text_character table foreign mode c rest h = text_character_of table foreign mode.text mode c rest refl h
 
 and_both : (a b : Bool) → IsTrue (a && b) → IsTrue a × IsTrue b

@@ -8,4 +8,6 @@ pub mod OtherSinks
 pub mod PageRest
 pub mod Pieces
 pub mod Reads
+pub mod Runs
+pub mod Stops
 pub mod Tells

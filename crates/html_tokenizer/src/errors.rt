@@ -1,8 +1,9 @@
-ghost use Rattle.std.specs.Prelude.{MatchBool, chars};
+ghost use Rattle.std.specs.Prelude.{MatchBool, chars, ◌≡◌, ◌≢◌, ℕ, false};
 ghost use Rattle.html_grammar.specs.Items.{characters};
 ghost use Rattle.html_grammar.specs.PlainRead.{items_of};
 ghost use Rattle.html_grammar.specs.Reading.{IsAfterError};
 ghost use Rattle.html_tokenizer.specs.Tells.{IsFirstAfterError};
+ghost use Rattle.parse_errors.specs.Found.{heeds};
 
 use html_grammar::TextKind;
 use html_grammar::slices::first_and_rest;
@@ -106,6 +107,16 @@ pub(crate) fn state_of(text: TextKind) -> State {
         TextKind::Plain => State::Plaintext,
         TextKind::Raw(kind) => State::RawData(kind),
     }
+}
+
+/// Whether errors are looked for at characters of text other than NUL: a name behind `&` may go on in them, or each is
+/// to be told that no page should have.
+#[inline(always)]
+pub(crate) fn looks_at_text(errors: &ParseErrors) -> bool
+    ensures { result ≡ false → (c : ℕ) → c ≢ 0 → heeds errors.now c ≡ false }
+{
+    // a noncharacter, which is heeded wherever another character but NUL is
+    errors.heeds('\u{fffe}')
 }
 
 /// Whether an error right before the first of some tokens changes nothing.

@@ -10,6 +10,7 @@ mod pending;
 mod pieces;
 mod reader;
 mod results;
+mod runs;
 mod tokenizer;
 
 pub use html_grammar::{TokenSink, TokenizerOpts, read_plainly};

@@ -1,6 +1,7 @@
-ghost use Rattle.std.specs.Prelude.{◌≡◌, ℕ, ◌∷◌, List, Bool, MatchOption};
+ghost use Rattle.std.specs.Prelude.{◌≡◌, ℕ, ◌∷◌, List, Bool, IsTrue, MatchOption};
 ghost use Rattle.std.specs.Char.{IsScalar};
 ghost use Rattle.html_grammar.specs.PageText.{page_text};
+ghost use Rattle.html_tokenizer.specs.declared.line_ends.LineEnds.TheVariants.{Within as WithinText};
 
 /// How the characters of a page become those of its text: a first U+FEFF may be dropped, and each CR LF, CR and LF is
 /// one LF (WHATWG HTML, 13.2.3.5), also where a CR LF is cut in two.
@@ -37,6 +38,14 @@ impl LineEnds {
         } else {
             LineEnds::Within
         }
+    }
+
+    /// Whether each character but CR is in the text as it is.
+    #[inline(always)]
+    pub(crate) fn is_within(self) -> bool
+        ensures { IsTrue result → self ≡ WithinText }
+    {
+        matches!(self, LineEnds::Within)
     }
 
     /// What a further character of the page is in its text. `None` is nothing: a first U+FEFF, or the LF of a CR LF.

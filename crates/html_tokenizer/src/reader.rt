@@ -15,8 +15,11 @@ ghost use Rattle.lexeme_places.specs.PlaceKinds.{IsPlaceOf, IsWithinMarkup, is_o
 ghost use Rattle.html_tokenizer.specs.Tells.{IsPauseOf};
 ghost use Rattle.lexeme_places.specs.declared.place.Place.{Place as SeenPlace};
 ghost use Rattle.lexeme_places.specs.declared.place.Place.TheVariants.{CdataSection as SectionPlace, MarkupDeclarationOpen as DeclarationPlace, Text as TextPlace};
+ghost use Rattle.parse_errors.specs.Found.{found_of, heeds};
 
-use crate::errors::{MarkupStart, find_errors, find_errors_before, may_follow_error, state_of};
+use crate::errors::{
+    MarkupStart, find_errors, find_errors_before, looks_at_text, may_follow_error, state_of,
+};
 use crate::pending::{Advance, Pending, RawAdvance};
 use html_grammar::lexemes::Lexeme;
 use html_grammar::plain::{last_behind, tell_lexemes, tell_tokens, text_behind};
@@ -208,6 +211,29 @@ impl Reader {
         let answer = sink.process_token(Token::TagToken(tag), self.line)?;
         self.mode.text = text_behind(&answer);
         Ok(pause_of(answer))
+    }
+
+    /// Whether characters that are text by themselves may be taken as one run: no lexeme has begun, no error waits to
+    /// be told, and at none of them is one looked for.
+    #[inline(always)]
+    pub(crate) fn takes_runs(&self) -> bool
+        ensures place { IsTrue result → self.now.pending.place ≡ TextPlace }
+        ensures none_found { IsTrue result → found_of self.now.errors ≡ [] }
+        ensures unheeded { IsTrue result → (c : ℕ) → c ≢ 0 → heeds self.now.errors c ≡ false }
+    {
+        self.pending.is_text() && self.errors.is_empty() && !looks_at_text(&self.errors)
+    }
+
+    /// Takes a run of characters on one line, each of which is text by itself.
+    pub(crate) fn take_run(&mut self, text: &str) -> Result<(), ParseFault>
+        ensures memory { IfErr result (λ e. e ≡ Memory) }
+        ensures run { OnOk result (string_bytes self.new.run ≡ string_bytes self.old.run ++ text.now) }
+        ensures mode { self.new.mode ≡ self.old.mode }
+        ensures pending { self.new.pending ≡ self.old.pending }
+    {
+        self.line = self.next_line;
+        self.run.push_str(text)?;
+        Ok(())
     }
 
     /// Takes a further character of the text, and says what the sink pauses for. After a refusal nothing is known of the

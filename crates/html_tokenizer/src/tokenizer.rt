@@ -1,5 +1,6 @@
-ghost use Rattle.std.specs.Prelude.{◌≡◌, ◌++◌, ◌∷◌, ℕ, List, [], IfErr, IfOk, IfSome, OnOk, true, false, length, ◌<◌, Ok, Err, is_err};
+ghost use Rattle.std.specs.Prelude.{◌≡◌, ◌++◌, ◌∷◌, ℕ, List, [], IfErr, IfOk, IfSome, OnOk, true, false, length, ◌<◌, Ok, Err, is_err, chars, IsTrue};
 ghost use Rattle.std.specs.Char.{IsScalar};
+ghost use Rattle.html_lexemes.specs.Queue.{is_free_of};
 ghost use Rattle.html_lexemes.specs.declared.fault.ParseFault.TheVariants.{Failed, Memory};
 ghost use Rattle.html_grammar.specs.FirstMode.{first_mode};
 ghost use Rattle.html_grammar.specs.Kinds.{IsReadyFor};
@@ -11,13 +12,16 @@ ghost use Rattle.html_tokenizer.specs.Fits.{IsFitReader};
 ghost use Rattle.html_tokenizer.specs.GoingProp.{HoldsUnless-prop};
 ghost use Rattle.html_tokenizer.specs.Holdings.{Holds, HoldsUnless};
 ghost use Rattle.html_tokenizer.specs.Tells.{Asks};
+ghost use Rattle.html_tokenizer.specs.declared.line_ends.LineEnds.TheVariants.{Within as WithinText};
+ghost use Rattle.lexeme_places.specs.declared.place.Place.TheVariants.{Text as TextPlace};
 
 use crate::line_ends::LineEnds;
 use crate::reader::{Pause, Reader};
 use crate::results::{TokenizerResult, result_of};
+use crate::runs::stops_of;
 use html_grammar::plain::text_of_state;
 use html_grammar::{Mode, TokenSink, TokenizerOpts};
-use html_lexemes::{BufferQueue, ParseFault, ReferenceTable};
+use html_lexemes::{BufferQueue, ParseFault, ReferenceTable, SetResult};
 use lexeme_places::laws::going_is_no_lexeme;
 use std::alloc::Global;
 
@@ -39,6 +43,8 @@ pub struct Tokenizer<Sink> {
 impl<Sink: TokenSink> Tokenizer<Sink> {
     ghost use Rattle.html_tokenizer.specs.Completes.{Answers, Completes, HasTold, IsEmptied, IsFit, IsUndecided, PausesBehind, TakesSome, has_failed, is_text_state, last_start_tag_of, nothing_pending, plain_mode, table_of, text_left};
     ghost use Rattle.html_tokenizer.specs.Inside as inside;
+    ghost use Rattle.html_tokenizer.specs.Runs.{TakesRun};
+    ghost use Rattle.html_tokenizer.specs.Stops.{stops};
 
     /// Before the first character of a page. The sink is in the state in which the page is to be told to it, and ready
     /// for the kind of text in which the page begins.
@@ -162,7 +168,7 @@ impl<Sink: TokenSink> Tokenizer<Sink> {
             inside.Completes Sink.state Sink.means self.new (queue.new.text ++ rest) final →
             inside.Completes Sink.state Sink.means self.old (queue.old.text ++ rest) final) }
     {
-        'characters: while let Some(c) = queue.next() {
+        'characters: while let Some(c) = self.next_behind_run(queue)? {
             if let Some(pause) = self.take(c)? {
                 going_is_no_lexeme(&self.table);
                 return Ok(result_of(pause));
@@ -171,6 +177,55 @@ impl<Sink: TokenSink> Tokenizer<Sink> {
         self.reader.tell_run(&mut self.sink)?;
         going_is_no_lexeme(&self.table);
         Ok(TokenizerResult::Done)
+    }
+
+    // Reads the run of text that stands in front, where one does, and takes the character behind it, which is to be read
+    // by itself.
+    fn next_behind_run(&mut self, queue: &mut BufferQueue) -> Result<Option<char>, ParseFault>
+        requires fit { IsFitReader Sink.ready Sink.welcomes self.old.reader (Sink.state self.old.sink) }
+        requires over { self.old.is_over ≡ true }
+        requires holds { Holds self.old.table self.old.reader }
+        ensures memory { IfErr result (λ e. e ≡ Memory) }
+        ensures fit { OnOk result (IsFitReader Sink.ready Sink.welcomes self.new.reader (Sink.state self.new.sink)) }
+        ensures over { self.new.is_over ≡ true }
+        ensures table { self.new.table ≡ self.old.table }
+        ensures sink { self.new.sink ≡ self.old.sink }
+        ensures holds { OnOk result (Holds self.new.table self.new.reader) }
+        ensures scalar { IfOk result (λ c. IfSome c IsScalar) }
+        ensures takes { IfOk result (λ c. TakesRun (inside.Completes Sink.state Sink.means self.old)
+            (inside.Completes Sink.state Sink.means self.new) queue.old c queue.new) }
+    {
+        if !self.reader.takes_runs() || !self.line_ends.is_within() {
+            return Ok(queue.next());
+        }
+        match queue.pop_except_from(stops_of(self.reader.mode.text))? {
+            None => Ok(None),
+            Some(SetResult::FromSet(c)) => Ok(Some(c)),
+            Some(SetResult::NotFromSet(run)) => {
+                self.take_run(run.as_str())?;
+                Ok(queue.next())
+            }
+        }
+    }
+
+    // takes further characters of the page, each of which is text by itself
+    fn take_run(&mut self, text: &str) -> Result<(), ParseFault>
+        requires ends { self.old.line_ends ≡ WithinText }
+        requires place { self.old.reader.pending.place ≡ TextPlace }
+        requires free { IsTrue (is_free_of (stops self.old.reader.mode.text) (chars text.now)) }
+        requires over { self.old.is_over ≡ true }
+        ensures memory { IfErr result (λ e. e ≡ Memory) }
+        ensures over { self.new.is_over ≡ true }
+        ensures table { self.new.table ≡ self.old.table }
+        ensures sink { self.new.sink ≡ self.old.sink }
+        ensures mode { self.new.reader.mode ≡ self.old.reader.mode }
+        ensures pending { self.new.reader.pending ≡ self.old.reader.pending }
+        ensures reads { OnOk result ((rest : List ℕ) (final : Sink.Abstract) →
+            inside.Completes Sink.state Sink.means self.new rest final →
+            inside.Completes Sink.state Sink.means self.old (chars text.now ++ rest) final) }
+    {
+        self.reader.take_run(text)?;
+        Ok(())
     }
 
     // takes a further character of the page

@@ -1,0 +1,197 @@
+-- A run of text is taken as its characters are, one by one.
+use Rattle.std.proofs.Common.{◌≡◌, ◌∙◌, ap, arith, refl, subst, sym, ℕ, ◌+◌, ◌-◌, ◌^◌, ◌<◌, min, suc}
+use Rattle.std.proofs.Common.{Option, Some, None, Bool, true, false, not, IsTrue, ◌==◌, ◌||◌, ◌&&◌, if◌then◌else◌}
+use Rattle.std.proofs.Common.{List, [], ◌∷◌, ◌++◌, append_assoc, length}
+use Rattle.std.proofs.lemmas.Bool.{and_from, and_parts}
+use Rattle.std.specs.List.{list_all}
+use Rattle.html_lexemes.specs.LineEnds.{begins_with_line_feed, lines_ended}
+use Rattle.html_lexemes.specs.Queue.{Queue, Takes, counted, is_free_of, is_in}
+use Rattle.html_lexemes.specs.References.{References}
+use Rattle.html_lexemes.specs.declared.states.RawKind.TheVariants.{Rcdata, Rawtext, ScriptData, ScriptDataEscaped}
+use Rattle.html_grammar.specs.Items.{characters}
+use Rattle.html_grammar.specs.Lexemes.{told}
+use Rattle.html_grammar.specs.Meaning.{Meaning}
+use Rattle.html_grammar.specs.declared.modes.Mode.{Mode}
+use Rattle.html_grammar.specs.declared.modes.TextKind.{TextKind}
+use Rattle.html_grammar.specs.declared.modes.TextKind.TheVariants.{Ordinary, Plain, Raw}
+use Rattle.html_tokenizer.proofs.QueueTaken.{each_on, taken_more, taken_on}
+use Rattle.html_tokenizer.proofs.PauseMarks.{HasTaken}
+use Rattle.html_tokenizer.proofs.ReadsLemmas.{leaves_of, reading_of, run_read, text_character}
+use Rattle.html_tokenizer.specs.Completes.{TakesEach, TakesSome}
+use Rattle.html_tokenizer.specs.Reads.{Leaves}
+use Rattle.html_tokenizer.specs.Runs.{TakesRun}
+use Rattle.html_tokenizer.specs.Stops.{stops}
+use Rattle.lexeme_places.specs.Turns.{is_text}
+use Rattle.lexeme_places.specs.declared.place.Place.{Place}
+use Rattle.lexeme_places.specs.declared.place.Place.TheVariants.{Text}
+
+-- ---- errors
+
+-- what looks at a noncharacter no more than at others, looks at NUL alone
+pub nul_alone : (watching exact nul other : Bool) → (watching || exact && true) ≡ false → nul ≡ false →
+    (nul || watching || exact && other) ≡ false
+nul_alone true exact nul other h n = absurd (let k : true ≡ false = h in cc)
+nul_alone false true nul other h n = absurd (let k : true ≡ false = h in cc)
+nul_alone false false true other h n = absurd (let k : true ≡ false = n in cc)
+nul_alone false false false other h n = refl
+
+-- ---- what is free of the stops
+
+none_of_five : (less ampersand feed carriage nul : Bool) →
+    IsTrue (not (less || (ampersand || (feed || (carriage || (nul || false)))))) →
+    IsTrue (not (nul || less || ampersand)) × (carriage ≡ false)
+none_of_five true ampersand feed carriage nul h = absurd (let k : false ≡ true = h in cc)
+none_of_five false true feed carriage nul h = absurd (let k : false ≡ true = h in cc)
+none_of_five false false true carriage nul h = absurd (let k : false ≡ true = h in cc)
+none_of_five false false false true nul h = absurd (let k : false ≡ true = h in cc)
+none_of_five false false false false true h = absurd (let k : false ≡ true = h in cc)
+none_of_five false false false false false h = (refl, refl)
+
+none_of_six : (less ampersand feed carriage nul dash : Bool) →
+    IsTrue (not (less || (ampersand || (feed || (carriage || (nul || (dash || false))))))) →
+    IsTrue (not (nul || less || ampersand || dash)) × (carriage ≡ false)
+none_of_six true ampersand feed carriage nul dash h = absurd (let k : false ≡ true = h in cc)
+none_of_six false true feed carriage nul dash h = absurd (let k : false ≡ true = h in cc)
+none_of_six false false true carriage nul dash h = absurd (let k : false ≡ true = h in cc)
+none_of_six false false false true nul dash h = absurd (let k : false ≡ true = h in cc)
+none_of_six false false false false true dash h = absurd (let k : false ≡ true = h in cc)
+none_of_six false false false false false true h = absurd (let k : false ≡ true = h in cc)
+none_of_six false false false false false false h = (refl, refl)
+
+-- a character that is no stop is text by itself, and no CR
+free_one : (text : TextKind) (c : ℕ) → IsTrue (not (is_in (stops text) c)) →
+    IsTrue (is_text text c) × ((c == 13) ≡ false)
+free_one Ordinary c h = none_of_five (c == 60) (c == 38) (c == 10) (c == 13) (c == 0) h
+free_one Plain c h = none_of_five (c == 60) (c == 38) (c == 10) (c == 13) (c == 0) h
+free_one (Raw Rcdata) c h = none_of_five (c == 60) (c == 38) (c == 10) (c == 13) (c == 0) h
+free_one (Raw Rawtext) c h = none_of_five (c == 60) (c == 38) (c == 10) (c == 13) (c == 0) h
+free_one (Raw ScriptData) c h = none_of_five (c == 60) (c == 38) (c == 10) (c == 13) (c == 0) h
+free_one (Raw (ScriptDataEscaped kind)) c h =
+    none_of_six (c == 60) (c == 38) (c == 10) (c == 13) (c == 0) (c == 45) h
+
+pub free_text : (text : TextKind) (cs : List ℕ) → IsTrue (is_free_of (stops text) cs) →
+    IsTrue (list_all (is_text text) cs)
+free_text text [] h = refl
+free_text text (c ∷ cs) h =
+    let parts = and_parts (not (is_in (stops text) c)) (is_free_of (stops text) cs) h in
+    and_from (is_text text c) (list_all (is_text text) cs) (free_one text c parts.0).0 (free_text text cs parts.1)
+
+-- no line ends in it
+pub free_lines : (text : TextKind) (cs rest : List ℕ) → IsTrue (is_free_of (stops text) cs) →
+    lines_ended (cs ++ rest) ≡ cs ++ lines_ended rest
+free_lines text [] rest h = refl
+free_lines text (c ∷ cs) rest h =
+    let parts = and_parts (not (is_in (stops text) c)) (is_free_of (stops text) cs) h in
+    let left = lines_ended (cs ++ rest) in
+    let returned = if begins_with_line_feed (cs ++ rest) then left else 10 ∷ left in
+    ap (λ b. if b then returned else c ∷ left) (free_one text c parts.0).1
+    ∙ ap (λ l. c ∷ l) (free_lines text cs rest parts.1)
+
+-- ---- the text
+
+module _ {A H : Type 0} (table : References) (means : Meaning A H) where
+  -- what is told behind some characters in one piece, and what stands behind them, is read of both
+  pub run_taken : (mode : Mode) (place : Place) (held cs rest : List ℕ) (s final : A) →
+      ((state : A) (ds es : List ℕ) →
+      means.step (means.step state (characters ds)) (characters es) ≡ means.step state (characters (ds ++ es))) →
+      ((state : A) → means.step state (characters []) ≡ state) →
+      place ≡ Text → held ≡ [] → IsTrue (list_all (is_text mode.text) cs) →
+      Leaves table means mode place (held ++ rest) (means.step s (characters cs)) final →
+      Leaves table means mode place (held ++ (cs ++ rest)) s final
+  run_taken mode place held [] rest s final joins skips e h t l =
+      subst (λ x. Leaves table means mode place (held ++ rest) x final) (skips s) l
+  run_taken mode place held (c ∷ cs) rest s final joins skips e h t l =
+      let both = and_parts (is_text mode.text c) (list_all (is_text mode.text) cs) t in
+      let behind = means.step s (characters (c ∷ [])) in
+      leaves_of table means mode place held (c ∷ (cs ++ rest)) s final
+      (told (characters (c ∷ []) ∷ []) mode (cs ++ rest)) e h
+      (text_character table (means.foreign s) mode c (cs ++ rest) both.0)
+      (run_read table means mode cs rest behind final joins skips both.1
+      (reading_of table means mode place held rest (means.step behind (characters cs)) final e h
+      (subst (λ x. Leaves table means mode place (held ++ rest) x final) (sym (joins s (c ∷ []) cs)) l)))
+
+-- ---- the queue
+
+counts_one : (t n m : ℕ) → min (min (t + 1) m + n) m ≡ min (t + suc n) m
+counts_one t n m = omega arith
+
+counts_on : (t c : ℕ) (cs : List ℕ) → counted t (c ∷ cs) ≡ counted (counted t (c ∷ [])) cs
+counts_on t c cs = sym (counts_one t (length cs) (2 ^ 64 - 1))
+
+-- what is taken at once is taken character by character
+each_of : (old : Queue) (c : ℕ) (cs : List ℕ) (new : Queue) → Takes old (c ∷ cs) new → TakesEach old (c ∷ cs) new
+each_of old c [] new t = (new, (t, refl))
+each_of old c (d ∷ ds) new t =
+    let next : Queue = record { text = (d ∷ ds) ++ new.text; taken = counted old.taken (c ∷ []) } in
+    let first : Takes old (c ∷ []) next = record { text = t.text; taken = refl } in
+    let others : Takes next (d ∷ ds) new =
+    record { text = refl; taken = t.taken ∙ counts_on old.taken c (d ∷ ds) } in
+    (next, (first, each_of next d ds new others))
+
+pub each_run : (old : Queue) (cs : List ℕ) (new : Queue) → 0 < length cs → Takes old cs new → TakesEach old cs new
+each_run old [] new h t = absurd (omega (arith, h))
+each_run old (c ∷ cs) new h t = each_of old c cs new t
+
+-- what was taken stood in front
+each_text : (old : Queue) (cs : List ℕ) (new : Queue) → TakesEach old cs new → old.text ≡ cs ++ new.text
+each_text old [] new e = ap (λ (q : Queue). q.text) (sym e)
+each_text old (c ∷ cs) new e = e.1.0.text ∙ ap (λ l. c ∷ l) (each_text e.0 cs new e.1.1)
+
+shorter_behind : (xs : List ℕ) (c : ℕ) (ys : List ℕ) → length ys < length (xs ++ c ∷ ys)
+shorter_behind [] c ys = omega arith
+shorter_behind (x ∷ xs) c ys = omega (arith, shorter_behind xs c ys)
+
+-- ---- a run, and what stands behind it
+
+module _ {A : Type 0} {completes now : List ℕ → A → Type 0} {old new : Queue} where
+  run_takes : {behind : Option ℕ} (r : TakesRun completes now old behind new) → TakesSome old r.between
+  run_takes r = record { taken = r.taken; takes = r.takes }
+
+  -- a run goes on from what was taken before it
+  pub run_on : {first : List ℕ → A → Type 0} {begun : Queue} {behind : Option ℕ} → HasTaken first completes begun old →
+      (r : TakesRun completes now old behind new) → HasTaken first now begun r.between
+  run_on {first = first} {begun = begun} h r = record {
+    taken = h.taken ++ r.taken;
+    takes = each_on begun h.taken old r.taken r.between h.takes r.takes;
+    reads = λ rest final l. subst (λ x. first x final) (sym (append_assoc h.taken r.taken rest))
+        (h.reads (r.taken ++ rest) final (r.reads rest final l));
+  }
+
+  pub run_text : {behind : Option ℕ} (r : TakesRun completes now old behind new) (rest : List ℕ) (final : A) →
+      now (r.between.text ++ rest) final → completes (old.text ++ rest) final
+  run_text r rest final l =
+      subst (λ x. completes (x ++ rest) final) (sym (each_text old r.taken r.between r.takes))
+      (subst (λ x. completes x final) (sym (append_assoc r.taken r.between.text rest))
+      (r.reads (r.between.text ++ rest) final l))
+
+  -- a character stands behind it
+  pub with_character : {behind : Option ℕ} {c : ℕ} → behind ≡ Some c → TakesRun completes now old behind new →
+      TakesRun completes now old (Some c) new
+  with_character e r = subst (λ b. TakesRun completes now old b new) e r
+
+  pub turn_shorter : {c : ℕ} → TakesRun completes now old (Some c) new → length new.text < length old.text
+  turn_shorter {c = c} r =
+      subst (λ (l : List ℕ). length new.text < length l) (sym (each_text old r.taken r.between r.takes))
+      (subst (λ l. length new.text < length (r.taken ++ l)) (sym r.character.text)
+      (shorter_behind r.taken c new.text))
+
+  pub turn_takes : {c : ℕ} {begun : Queue} → TakesSome begun old → TakesRun completes now old (Some c) new →
+      TakesSome begun new
+  turn_takes {c = c} {begun = begun} s r =
+      taken_more begun r.between new c (taken_on begun old r.between s (run_takes r)) r.character
+
+  pub turn_text : {c : ℕ} {after : List ℕ → A → Type 0} → TakesRun completes now old (Some c) new →
+      ((rest : List ℕ) (final : A) → after rest final → now (c ∷ rest) final) →
+      (rest : List ℕ) (final : A) → after (new.text ++ rest) final → completes (old.text ++ rest) final
+  turn_text r f rest final l =
+      run_text r rest final (subst (λ x. now (x ++ rest) final) (sym r.character.text) (f (new.text ++ rest) final l))
+
+  -- nothing stands behind it
+  pub with_none : {behind : Option ℕ} → ((c : ℕ) → behind ≡ Some c → ⊥) → TakesRun completes now old behind new →
+      TakesRun completes now old None new
+  with_none {behind = None} none r = r
+  with_none {behind = Some c} none r = absurd (none c refl)
+
+  pub last_takes : {begun : Queue} → TakesSome begun old → TakesRun completes now old None new → TakesSome begun new
+  last_takes {begun = begun} s r =
+      subst (TakesSome begun) (sym r.character.1) (taken_on begun old r.between s (run_takes r))
