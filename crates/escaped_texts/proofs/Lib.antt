@@ -1,4 +1,4 @@
 mod BasicTable
 mod NamedReferences
-mod ReadTexts
-mod ReadValues
+pub mod ReadTexts
+pub mod ReadValues
