@@ -2,6 +2,7 @@ pub mod DocumentsRead
 pub mod Elements
 pub mod PageTexts
 pub mod ReadBack
+pub mod SameTrees
 pub mod TreesAtOnce
 pub mod TreesWritten
 pub mod WalkedDocuments

@@ -123,7 +123,7 @@ module _ (scripting : Bool) (f : Forest) where
 
 -- ---- the whole document
 
-body_stands : (front : Forest) (n : ℕ) (content : Content) → length front ≡ n →
+pub body_stands : (front : Forest) (n : ℕ) (content : Content) → length front ≡ n →
     StandsAs n content (front ++ listed n content)
 body_stands front n content e =
     subst (λ l. StandsAs n content (front ++ l)) (append-nil (listed n content)) (listed_stands n content front [] e)

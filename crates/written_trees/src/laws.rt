@@ -1,7 +1,9 @@
 //! What is written is read back.
 ghost use Rattle.std.specs.Prelude.{◌≡◌, ◌++◌, ◌∷◌, [], ℕ, Bool, List, Option, None, false, fold};
 ghost use Rattle.escaped_texts.specs.Escaped.{KnowsEscapes};
-ghost use Rattle.html_forest.specs.Forest.{page_alone};
+ghost use Rattle.html_forest.specs.Forest.{Forest, page_alone};
+ghost use Rattle.html_forest.specs.declared.sink.QuirksMode.{QuirksMode as Quirks};
+ghost use Rattle.html_forest.specs.declared.sink.QuirksMode.TheVariants.{NoQuirks};
 ghost use Rattle.html_grammar.specs.Items.{Item};
 ghost use Rattle.html_grammar.specs.PageText.{page_text};
 ghost use Rattle.html_grammar.specs.Reading.{Reading};
@@ -9,6 +11,8 @@ ghost use Rattle.html_grammar.specs.declared.modes.Mode.{Mode as SeenMode};
 ghost use Rattle.html_lexemes.specs.References.{References};
 ghost use Rattle.html_serializer.specs.Walks.{walk_text};
 ghost use Rattle.html_serializer.specs.declared.options.TraversalScope.TheVariants.{ChildrenOnly};
+ghost use Rattle.html_tree_builder.specs.Defaults.{default_parse};
+ghost use Rattle.html_tree_builder.specs.Grown.{IsTreeOfPage, beginning};
 ghost use Rattle.kept_text.specs.KeptText.{IsAtBeginning};
 ghost use Rattle.rebuilt_documents.specs.Contents.{Content, IsBlocks};
 ghost use Rattle.rebuilt_documents.specs.Rebuilt.{document_tokens, document_tree};
@@ -18,7 +22,10 @@ ghost use Rattle.written_trees.specs.Documents.{AreRepliedTo, HoldsNoNul, HoldsN
 ghost use Rattle.written_trees.specs.Trees.{whole_tree};
 ghost use Rattle.written_trees.specs.Written.{AreReadBack, items_text, mode_after_all, ordinary};
 
+use escaped_texts::the_basic_table_knows_escapes;
+use html_forest::a_page_alone_is_a_forest;
 use html_grammar::TokenSink;
+use page_laws::a_page_is_at_its_beginning;
 use rebuilt_documents::{a_planted_tree_is_at_once, documents_ask, documents_rebuild};
 use tree_meaning::tree_construction_is_lawful;
 
@@ -87,4 +94,31 @@ pub fn a_written_document_is_written_back<H>()
 {
     a_document_is_walked();
     a_written_document_has_its_tree::<H>();
+}
+
+/// The page that is written of a document has the document's tree and no other, where it is parsed as any page is.
+pub fn a_written_page_has_its_tree<H>()
+    ensures { (handle : ℕ → H) (table : References) → KnowsEscapes table → (title : Option (List ℕ))
+        (content : Content) (forest : Forest) (quirks : Quirks) → HoldsNoNul title content →
+        HoldsNoReturn title content → IsBlocks false content →
+        IsTreeOfPage handle (beginning table default_parse page_alone NoQuirks) (document_text title content) forest
+        quirks → forest ≡ document_tree title content }
+{
+    a_page_alone_is_a_forest();
+    a_page_is_at_its_beginning();
+    a_written_document_has_its_tree::<H>();
+    a_written_document_is_a_page_text();
+}
+
+/// Two documents of which the same text is written are equal.
+pub fn no_text_is_two_documents()
+    ensures { (title another : Option (List ℕ)) (content other : Content) → HoldsNoNul title content →
+        HoldsNoNul another other → IsBlocks false content → IsBlocks false other →
+        document_text title content ≡ document_text another other → (title ≡ another) × (content ≡ other) }
+{
+    a_documents_tree_at_once();
+    a_page_alone_is_a_forest();
+    a_page_is_at_its_beginning();
+    a_written_document_has_its_tree::<u64>();
+    the_basic_table_knows_escapes();
 }
