@@ -9,7 +9,7 @@ use Rattle.html_lexemes.specs.References.{Reference, basic, basic_references}
 use Rattle.escaped_texts.specs.Escaped.{KnowsEscapes}
 
 -- a semicolon stands before the last character
-abbrev goes_on : List ℕ → Bool
+abbrev pub goes_on : List ℕ → Bool
 goes_on [] = false
 goes_on (c ∷ []) = false
 goes_on (c ∷ d ∷ cs) = if c == 59 then true else goes_on (d ∷ cs)
@@ -18,7 +18,7 @@ either : (b later : Bool) → later ≡ true → (if b then true else later) ≡
 either true later h = refl
 either false later h = h
 
-goes_on_behind : (front : List ℕ) (c : ℕ) (more : List ℕ) → goes_on (front ++ 59 ∷ c ∷ more) ≡ true
+pub goes_on_behind : (front : List ℕ) (c : ℕ) (more : List ℕ) → goes_on (front ++ 59 ∷ c ∷ more) ≡ true
 goes_on_behind [] c more = refl
 goes_on_behind (x ∷ []) c more = either (x == 59) true refl
 goes_on_behind (x ∷ y ∷ front) c more =

@@ -1,4 +1,5 @@
 mod BasicTable
+mod NamedEscapes
 mod NamedReferences
-mod ReadTexts
-mod ReadValues
+pub mod ReadTexts
+pub mod ReadValues

@@ -1,5 +1,6 @@
 //! Escaped text is read back.
-ghost use Rattle.std.specs.Prelude.{◌≡◌, ◌↔◌, ◌∷◌, ◌++◌, ℕ, false, true, List, Some};
+ghost use Rattle.std.specs.FinMap as finite;
+ghost use Rattle.std.specs.Prelude.{◌≡◌, ◌↔◌, ◌∷◌, [], ◌++◌, ℕ, codes, false, true, List, Some};
 ghost use Rattle.escaped_texts.specs.Escaped.{HasNoNul, KnowsEscapes, ReadsReferences};
 ghost use Rattle.html_grammar.specs.Items.{characters};
 ghost use Rattle.html_grammar.specs.Reading.{Reading};
@@ -11,6 +12,7 @@ ghost use Rattle.html_serializer.specs.Escapes.{escaped};
 
 use html_grammar::TokenSink;
 use html_grammar::laws::{one_reading, some_reading};
+use html_lexemes::ReferenceTable;
 use html_serializer::an_escape_holds_no_markup;
 
 /// The reading of an escaped text, whatever follows it, tells the text: in ordinary text, and in that of a title or a
@@ -40,3 +42,13 @@ pub fn an_escaped_value_is_read_back()
 pub fn the_basic_table_knows_escapes()
     ensures { KnowsEscapes basic }
 {}
+
+/// So is every table of references in which these names stand for these characters.
+pub fn a_table_of_these_names_knows_escapes(table: &ReferenceTable)
+    ensures { finite.get table.now (codes "amp;") ≡ Some (38 ∷ []) →
+        finite.get table.now (codes "lt;") ≡ Some (60 ∷ []) → finite.get table.now (codes "gt;") ≡ Some (62 ∷ []) →
+        finite.get table.now (codes "quot;") ≡ Some (34 ∷ []) →
+        finite.get table.now (codes "nbsp;") ≡ Some (160 ∷ []) → KnowsEscapes table.now }
+{
+    table.names_are_names();
+}

@@ -4,5 +4,6 @@
 mod laws;
 
 pub use laws::{
-    an_escaped_text_is_read_back, an_escaped_value_is_read_back, the_basic_table_knows_escapes,
+    a_table_of_these_names_knows_escapes, an_escaped_text_is_read_back,
+    an_escaped_value_is_read_back, the_basic_table_knows_escapes,
 };

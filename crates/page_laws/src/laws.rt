@@ -1,9 +1,21 @@
 //! Laws of the trees of pages.
+ghost use Rattle.html_forest.specs.Forest.{Forest};
+ghost use Rattle.html_forest.specs.Orders.{IsForest};
+ghost use Rattle.html_forest.specs.declared.sink.QuirksMode.{QuirksMode as Quirks};
+ghost use Rattle.kept_text.specs.KeptText.{IsAtBeginning};
 ghost use Rattle.page_laws.specs.Trees.{HasSkeletonOfTree, KeepsTextOfTree};
+ghost use Rattle.tree_builder.specs.Begun.{begun};
+ghost use Rattle.tree_rules.specs.declared.options.TreeBuilderOpts.{TreeBuilderOpts as Options};
 
 use html_forest::TreeSink;
 use kept_text::the_text_of_a_page_is_kept;
 use page_skeleton::a_page_has_its_skeleton;
+
+/// A tree builder that has just begun on a forest is where laws of whole pages ask it to be, whatever its options are.
+pub fn a_page_is_at_its_beginning()
+    ensures { (options : Options) (forest : Forest) (quirks : Quirks) → IsForest forest →
+        IsAtBeginning (begun options forest quirks) }
+{}
 
 /// Where a page tells no start tag of a template or a frameset, each character that it tells as text, but white space
 /// and U+FFFD, stands in its tree as often as it was told.

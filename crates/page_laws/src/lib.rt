@@ -3,4 +3,6 @@
 
 mod laws;
 
-pub use laws::{a_tree_has_its_skeleton, a_tree_keeps_the_text_of_its_page};
+pub use laws::{
+    a_page_is_at_its_beginning, a_tree_has_its_skeleton, a_tree_keeps_the_text_of_its_page,
+};

@@ -1,5 +1,5 @@
 -- Where only blocks are open and nothing is listed: what tags of blocks do.
-use Rattle.std.proofs.Common.{◌≡◌, ℕ, ◌<◌, Bool, true, false, List, [], ◌∷◌, codes}
+use Rattle.std.proofs.Common.{◌≡◌, ℕ, ◌<◌, Bool, true, false, List, [], ◌∷◌, Some, codes}
 use Rattle.std.proofs.Common.{if◌then◌else◌, refl, ap, ◌∙◌}
 use Rattle.html_forest.specs.Forest.{Forest, name_of, nodes}
 use Rattle.html_lexemes.specs.declared.names.Attribute.{Attribute}
@@ -21,12 +21,11 @@ use Rattle.tree_rules.specs.InBodyBlocks.{block_start, heading_start, list_item_
 use Rattle.tree_rules.specs.InBodyBlocks as blocks
 use Rattle.tree_rules.specs.InBodyEnds.{block_end, heading_end, in_body_end, list_item_end, p_end}
 use Rattle.tree_rules.specs.Rows.{Row, done, ignored}
-use Rattle.tree_rules.specs.Settling.{step}
 use Rattle.tree_rules.specs.State.{State}
 use Rattle.rebuilt_documents.specs.Contents.{end_of, start_of}
 use Rattle.rebuilt_documents.specs.Planted.{of_html, with_new}
 use Rattle.rebuilt_documents.proofs.Standing.{built, end_taken, ending, if_false, if_true, inserted_now, now, opening}
-use Rattle.rebuilt_documents.proofs.Standing.{refused_now, start_taken, with_tree_now}
+use Rattle.rebuilt_documents.proofs.Standing.{refused_now, start_taken, stepped, with_tree_now}
 
 -- an open element: neither a paragraph nor a heading
 pub record IsOuter (n : ℕ) (f : Forest) : Type 0 where
@@ -132,48 +131,48 @@ item_now s ok p rest f list =
 pub block_opens : (s : State) (ok : Bool) (p : ℕ) (rest : List ℕ) (f : Forest) (name : List ℕ)
     (attributes : List Attribute) → AreOuter f (p ∷ rest) → is_html (codes "template") (of_html name) ≡ false →
     ((t : Tag) (s : State) → in_body_start (tag_group name) t s ≡ block_start t) →
-    step (now s ok (p ∷ rest) [] f) (start_of name attributes)
-    ≡ now s ok (nodes f ∷ p ∷ rest) [] (with_new p name attributes f)
+    stepped (now s ok (p ∷ rest) [] f) (start_of name attributes)
+    ≡ Some (now s ok (nodes f ∷ p ∷ rest) [] (with_new p name attributes f))
 block_opens s ok p rest f name attributes are plain row =
     let t = opening name attributes in
     let outer = are.0 in
     start_taken s ok p rest [] f outer.word name attributes (close_p ∷ insert at_place t ∷ []) outer.named
     (row t (now s ok (p ∷ rest) [] f))
-    ∙ ap (act (insert at_place t)) (closed_p_now s ok (p ∷ rest) f are)
-    ∙ inserted_now s ok p rest [] f name attributes (outer_plain p f outer) plain
+    ∙ ap Some (ap (act (insert at_place t)) (closed_p_now s ok (p ∷ rest) f are)
+    ∙ inserted_now s ok p rest [] f name attributes (outer_plain p f outer) plain)
 
 pub heading_opens : (s : State) (ok : Bool) (p : ℕ) (rest : List ℕ) (f : Forest) (name : List ℕ)
     (attributes : List Attribute) → AreOuter f (p ∷ rest) → is_html (codes "template") (of_html name) ≡ false →
     ((t : Tag) (s : State) → in_body_start (tag_group name) t s ≡ heading_start t) →
-    step (now s ok (p ∷ rest) [] f) (start_of name attributes)
-    ≡ now s ok (nodes f ∷ p ∷ rest) [] (with_new p name attributes f)
+    stepped (now s ok (p ∷ rest) [] f) (start_of name attributes)
+    ≡ Some (now s ok (nodes f ∷ p ∷ rest) [] (with_new p name attributes f))
 heading_opens s ok p rest f name attributes are plain row =
     let t = opening name attributes in
     let outer = are.0 in
     start_taken s ok p rest [] f outer.word name attributes (close_p ∷ pop_if headings ∷ insert at_place t ∷ [])
     outer.named (row t (now s ok (p ∷ rest) [] f))
-    ∙ ap (λ z. act (insert at_place t) (act (pop_if headings) z)) (closed_p_now s ok (p ∷ rest) f are)
+    ∙ ap Some (ap (λ z. act (insert at_place t) (act (pop_if headings) z)) (closed_p_now s ok (p ∷ rest) f are)
     ∙ ap (act (insert at_place t)) (pop_if_now s ok p rest f
     (of_name (is_element_of headings) p f outer.word false outer.named outer.no_heading))
-    ∙ inserted_now s ok p rest [] f name attributes (outer_plain p f outer) plain
+    ∙ inserted_now s ok p rest [] f name attributes (outer_plain p f outer) plain)
 
 pub item_opens : (s : State) (ok : Bool) (p : ℕ) (rest : List ℕ) (f : Forest) (name : List ℕ)
     (attributes : List Attribute) → AreOuter f (p ∷ rest) → IsList p f →
     is_html (codes "template") (of_html name) ≡ false →
     ((t : Tag) (s : State) → in_body_start (tag_group name) t s ≡ list_item_start t) →
-    step (now s ok (p ∷ rest) [] f) (start_of name attributes)
-    ≡ now s false (nodes f ∷ p ∷ rest) [] (with_new p name attributes f)
+    stepped (now s ok (p ∷ rest) [] f) (start_of name attributes)
+    ≡ Some (now s false (nodes f ∷ p ∷ rest) [] (with_new p name attributes f))
 item_opens s ok p rest f name attributes are list plain row =
     let t = opening name attributes in
     let outer = are.0 in
     start_taken s ok p rest [] f outer.word name attributes
     (refuse_frameset ∷ close_item (one (codes "li")) ∷ close_p ∷ insert at_place t ∷ []) outer.named
     (row t (now s ok (p ∷ rest) [] f))
-    ∙ ap (λ z. act (insert at_place t) (act close_p (act (close_item (one (codes "li"))) z)))
+    ∙ ap Some (ap (λ z. act (insert at_place t) (act close_p (act (close_item (one (codes "li"))) z)))
     (refused_now s ok (p ∷ rest) [] f)
     ∙ ap (λ z. act (insert at_place t) (act close_p z)) (item_now s false p rest f list)
     ∙ ap (act (insert at_place t)) (closed_p_now s false (p ∷ rest) f are)
-    ∙ inserted_now s false p rest [] f name attributes (outer_plain p f outer) plain
+    ∙ inserted_now s false p rest [] f name attributes (outer_plain p f outer) plain)
 
 -- end tags
 implied_same : (b : Building) (except : Elements) (n : ℕ) (low : List ℕ) (f : Forest) →
@@ -209,11 +208,12 @@ closes_by : (s : State) (ok : Bool) (except set : Elements) (n : ℕ) (low : Lis
     name_of n f ≡ of_html name → is_implied except (of_html name) ≡ false → is_element_of set (of_html name) ≡ true →
     in_body_end (tag_group name) (ending name) (now s ok (n ∷ low) [] f)
     ≡ done (imply_but except ∷ pop_to set ∷ []) →
-    step (now s ok (n ∷ low) [] f) (end_of name) ≡ now s ok low [] f
+    stepped (now s ok (n ∷ low) [] f) (end_of name) ≡ Some (now s ok low [] f)
 closes_by s ok except set n low f name named stays found row =
     end_taken s ok n low [] f name name (imply_but except ∷ pop_to set ∷ []) named row
-    ∙ ap (act (pop_to set)) (implied_now s ok except n low f (of_name (is_implied except) n f name false named stays))
-    ∙ popped_now s ok set n low f (of_name (is_element_of set) n f name true named found)
+    ∙ ap Some (ap (act (pop_to set)) (implied_now s ok except n low f
+    (of_name (is_implied except) n f name false named stays))
+    ∙ popped_now s ok set n low f (of_name (is_element_of set) n f name true named found))
 
 row_if : (b : Bool) (row : Row) → b ≡ true → (if b then row else ignored) ≡ row
 row_if b row e = if_true b row ignored e
@@ -222,7 +222,7 @@ pub block_closes : (s : State) (ok : Bool) (n : ℕ) (low : List ℕ) (f : Fores
     name_of n f ≡ of_html name → is_implied blocks.none (of_html name) ≡ false →
     is_element_of (one name) (of_html name) ≡ true →
     ((t : Tag) (s : State) → in_body_end (tag_group name) t s ≡ block_end t s) →
-    step (now s ok (n ∷ low) [] f) (end_of name) ≡ now s ok low [] f
+    stepped (now s ok (n ∷ low) [] f) (end_of name) ≡ Some (now s ok low [] f)
 block_closes s ok n low f name named stays found row =
     closes_by s ok blocks.none (one name) n low f name named stays found
     (row (ending name) (now s ok (n ∷ low) [] f)
@@ -234,7 +234,7 @@ pub heading_closes : (s : State) (ok : Bool) (n : ℕ) (low : List ℕ) (f : For
     name_of n f ≡ of_html name → is_implied blocks.none (of_html name) ≡ false →
     is_element_of headings (of_html name) ≡ true →
     ((t : Tag) (s : State) → in_body_end (tag_group name) t s ≡ heading_end s) →
-    step (now s ok (n ∷ low) [] f) (end_of name) ≡ now s ok low [] f
+    stepped (now s ok (n ∷ low) [] f) (end_of name) ≡ Some (now s ok low [] f)
 heading_closes s ok n low f name named stays found row =
     closes_by s ok blocks.none headings n low f name named stays found
     (row (ending name) (now s ok (n ∷ low) [] f)
@@ -244,7 +244,7 @@ heading_closes s ok n low f name named stays found row =
 
 pub item_closes : (s : State) (ok : Bool) (n : ℕ) (low : List ℕ) (f : Forest) → name_of n f ≡ of_html (codes "li") →
     ((t : Tag) (s : State) → in_body_end (tag_group (codes "li")) t s ≡ list_item_end s) →
-    step (now s ok (n ∷ low) [] f) (end_of (codes "li")) ≡ now s ok low [] f
+    stepped (now s ok (n ∷ low) [] f) (end_of (codes "li")) ≡ Some (now s ok low [] f)
 item_closes s ok n low f named row =
     closes_by s ok (one (codes "li")) (one (codes "li")) n low f (codes "li") named refl refl
     (row (ending (codes "li")) (now s ok (n ∷ low) [] f)
@@ -272,10 +272,10 @@ closed_p_then s ok n low f named =
 
 pub paragraph_closes : (s : State) (ok : Bool) (n : ℕ) (low : List ℕ) (f : Forest) → name_of n f ≡ of_html (codes "p") →
     ((t : Tag) (s : State) → in_body_end (tag_group (codes "p")) t s ≡ p_end s) →
-    step (now s ok (n ∷ low) [] f) (end_of (codes "p")) ≡ now s ok low [] f
+    stepped (now s ok (n ∷ low) [] f) (end_of (codes "p")) ≡ Some (now s ok low [] f)
 paragraph_closes s ok n low f named row =
     end_taken s ok n low [] f (codes "p") (codes "p") (close_p ∷ []) named
     (row (ending (codes "p")) (now s ok (n ∷ low) [] f)
     ∙ if_true _ (done (close_p ∷ [])) _ (in_scope_now s ok button_scope_barriers (one (codes "p")) n low f
     (of_name (is_element_of (one (codes "p"))) n f (codes "p") true named refl)))
-    ∙ closed_p_then s ok n low f named
+    ∙ ap Some (closed_p_then s ok n low f named)

@@ -1,13 +1,14 @@
 -- Whole documents rebuild.
-use Rattle.std.proofs.Common.{◌≡◌, ◌<◌, false, List, [], ◌∷◌, codes, fold, refl, ap, ◌∙◌, arith}
-use Rattle.html_forest.specs.Forest.{Forest, nodes}
+use Rattle.std.proofs.Common.{◌≡◌, ◌<◌, false, List, [], ◌∷◌, codes, fold, refl, ap, ◌∙◌, arith, Some, Option, None, ℕ}
+use Rattle.html_forest.specs.Forest.{Forest, nodes, page_alone}
 use Rattle.html_grammar.specs.Items.{Item, end_of_file}
+use Rattle.kept_text.specs.KeptText.{IsAtBeginning}
 use Rattle.tree_rules.specs.Settling.{step}
 use Rattle.tree_rules.specs.State.{State}
 use Rattle.tree_words.specs.declared.modes.InsertionMode.TheVariants as modes
 use Rattle.rebuilt_documents.specs.Contents.{Content, IsBlocks, end_of, start_of, tokens_and}
 use Rattle.rebuilt_documents.specs.Planted.{planted, with_new}
-use Rattle.rebuilt_documents.specs.Rebuilt.{DocumentsRebuild, document_tokens, head_alone, title_tokens}
+use Rattle.rebuilt_documents.specs.Rebuilt.{DocumentsRebuild, document_tokens, document_tree, head_alone, title_tokens}
 use Rattle.rebuilt_documents.specs.Rebuilt.{with_title}
 use Rattle.rebuilt_documents.proofs.BlockNames.{outer, outer_body, outer_html}
 use Rattle.rebuilt_documents.proofs.BlockSteps.{AreOuter}
@@ -17,6 +18,9 @@ use Rattle.rebuilt_documents.proofs.Pages.{title_reaches}
 use Rattle.rebuilt_documents.proofs.Planting.{Keeps, element_kind, grown_keeps, last_held, name_kept, new_name}
 use Rattle.rebuilt_documents.proofs.Planting.{planted_keeps, size_grown, still_held}
 use Rattle.rebuilt_documents.proofs.Standing.{now, runs, runs_on}
+use Rattle.rebuilt_documents.proofs.WholeStates.{folds}
+use Rattle.std.proofs.lemmas.Option.{none-some, same_Some}
+use Rattle.std.specs.Option.{option_map}
 
 in_body : (f : Forest) → Keeps head_alone f → AreOuter (with_new 2 (codes "body") [] f) (nodes f ∷ 2 ∷ [])
 in_body f keeps =
@@ -35,9 +39,9 @@ in_body f keeps =
     )
 
 body_rebuilds : (s : State) (content : Content) (f : Forest) → IsBlocks false content → Keeps head_alone f →
-    (runs (now s false (nodes f ∷ 2 ∷ []) [] (with_new 2 (codes "body") [] f))
-    (tokens_and content (end_of (codes "body") ∷ end_of (codes "html") ∷ end_of_file ∷ []))).tree.forest
-    ≡ planted (nodes f) content (with_new 2 (codes "body") [] f)
+    option_map (λ (z : State). z.tree.forest) (runs (now s false (nodes f ∷ 2 ∷ []) [] (with_new 2 (codes "body") [] f))
+    (tokens_and content (end_of (codes "body") ∷ end_of (codes "html") ∷ end_of_file ∷ [])))
+    ≡ Some (planted (nodes f) content (with_new 2 (codes "body") [] f))
 body_rebuilds s content f is keeps =
     let n = nodes f in
     let g = with_new 2 (codes "body") [] f in
@@ -45,17 +49,16 @@ body_rebuilds s content f is keeps =
     let kind = element_kind (codes "body") [] in
     let comes = blocks_come false content is s false n (2 ∷ []) g
     (end_of (codes "body") ∷ end_of (codes "html") ∷ end_of_file ∷ []) (in_body f keeps) tt in
-    ap (λ z. z.tree.forest) comes.come
+    ap (option_map (λ (z : State). z.tree.forest)) comes.come
     ∙ page_ends s comes.flag n (2 ∷ []) h
     (name_kept g h (planted_keeps content n g) n (last_held n (nodes g) (size_grown 2 kind f))
     ∙ new_name 2 (codes "body") [] f)
 
-runs_are : (s : State) (items : List Item) → fold step s items ≡ runs s items
-unfolding runs
-runs_are s items = refl
-
-pub documents_come : DocumentsRebuild
-documents_come s title content is alone keeps_doctype blocks =
+pub documents_run : (s : State) (title : Option (List ℕ)) (content : Content) → IsAtBeginning s →
+    s.tree.forest ≡ page_alone → s.options.drop_doctype ≡ false → IsBlocks false content →
+    option_map (λ (z : State). z.tree.forest) (runs s (document_tokens title content))
+    ≡ Some (document_tree title content)
+documents_run s title content is alone keeps_doctype blocks =
     let more = tokens_and content (end_of (codes "body") ∷ end_of (codes "html") ∷ end_of_file ∷ []) in
     let behind_title = end_of (codes "head") ∷ start_of (codes "body") [] ∷ more in
     let f = with_title title head_alone in
@@ -63,9 +66,8 @@ documents_come s title content is alone keeps_doctype blocks =
     let first = beginning_reaches s (title_tokens title behind_title) is alone keeps_doctype in
     let second = title_reaches first.at title behind_title in
     let z = second.at in
-    ap (λ k. k.tree.forest)
-    (runs_are s (document_tokens title content)
-    ∙ first.come
+    ap (option_map (λ (z : State). z.tree.forest))
+    (first.come
     ∙ second.come
     ∙ runs_on (page_at z modes.InHead (3 ∷ 2 ∷ []) f) (page_at z modes.AfterHead (2 ∷ []) f) (end_of (codes "head"))
     (start_of (codes "body") [] ∷ more)
@@ -75,3 +77,14 @@ documents_come s title content is alone keeps_doctype blocks =
     (start_of (codes "body") []) more
     (body_step z f (name_kept head_alone f keeps 2 (omega arith))))
     ∙ body_rebuilds z content f blocks keeps
+
+forest_of : (s : State) (items : List Item) (r : Option State) (g : Forest) → runs s items ≡ r →
+    option_map (λ (z : State). z.tree.forest) r ≡ Some g → (fold step s items).tree.forest ≡ g
+forest_of s items None g e h = absurd (none-some g h)
+forest_of s items (Some z) g e h = ap (λ (z : State). z.tree.forest) (folds s items z e) ∙ same_Some z.tree.forest g h
+
+pub documents_come : DocumentsRebuild
+documents_come s title content is alone keeps_doctype blocks =
+    forest_of s (document_tokens title content) (runs s (document_tokens title content)) (document_tree title content)
+    refl
+    (documents_run s title content is alone keeps_doctype blocks)

@@ -1,6 +1,6 @@
 -- Inline contents rebuild: below the current node what was planted stands, and of the list of active formatting
 -- elements some are left.
-use Rattle.std.proofs.Common.{◌≡◌, ℕ, ◌<◌, ◌||◌, inl, Bool, true, false, List, [], ◌∷◌, None, codes}
+use Rattle.std.proofs.Common.{◌≡◌, ℕ, ◌<◌, ◌||◌, inl, Bool, true, false, List, [], ◌∷◌, None, codes, Some}
 use Rattle.std.proofs.Common.{bytes_eq, refl, sym, ap, subst, ◌∙◌}
 use Rattle.formatting_list.specs.Entries.{Entry, last_named}
 use Rattle.formatting_list.specs.Pushing.{pushed}
@@ -14,7 +14,6 @@ use Rattle.tree_rules.specs.Actions.{act, adopt, at_place, insert_formatting, in
 use Rattle.tree_rules.specs.Actions.{refuse_frameset}
 use Rattle.tree_rules.specs.InBody.{in_body_start}
 use Rattle.tree_rules.specs.InBodyPhrases.{formatting_start}
-use Rattle.tree_rules.specs.Settling.{step}
 use Rattle.tree_rules.specs.State.{State}
 use Rattle.rebuilt_documents.specs.Contents.{Content, HasOne, Inline, IsInline, IsInlines, end_of, ended}
 use Rattle.rebuilt_documents.specs.Contents.{in_no_namespace}
@@ -31,7 +30,7 @@ use Rattle.rebuilt_documents.proofs.Planting.{still_held}
 use Rattle.rebuilt_documents.proofs.Said.{run_said, says_one}
 use Rattle.rebuilt_documents.proofs.Standing.{built, end_taken, ending, if_false, listed_now, now, opening}
 use Rattle.rebuilt_documents.proofs.Standing.{reconstructed_now}
-use Rattle.rebuilt_documents.proofs.Standing.{refused_now, runs, runs_on, start_taken, void_now}
+use Rattle.rebuilt_documents.proofs.Standing.{refused_now, runs, runs_on, start_taken, stepped, void_now}
 use Rattle.rebuilt_documents.proofs.Sublists.{AllUnder, AreOpen, IsFree, IsSub, NoLink, no_link_named}
 use Rattle.rebuilt_documents.proofs.Sublists.{shortened, shortened_sub, sub_free, sub_itself, sub_open, sub_trans}
 use Rattle.rebuilt_documents.proofs.Sublists.{under_more}
@@ -81,7 +80,7 @@ comes_on s ok p rest entries f g h items middle more first second = record {
 }
 
 comes_step : (s : State) (ok after : Bool) (p : ℕ) (rest : List ℕ) (entries : List Entry) (f g : Forest) (item : Item)
-    (more : List Item) → step (now s ok (p ∷ rest) entries f) item ≡ now s after (p ∷ rest) entries g →
+    (more : List Item) → stepped (now s ok (p ∷ rest) entries f) item ≡ Some (now s after (p ∷ rest) entries g) →
     Comes s ok p rest entries f (item ∷ more) more g
 comes_step s ok after p rest entries f g item more e = record {
   flag = after;
@@ -98,37 +97,38 @@ text_comes s ok p rest entries f c cs more stands fresh =
     let said = run_said (λ b g. now s b (p ∷ rest) entries g) p (of_html stands.word)
     (says_one s p rest entries stands.word stands.are_open
     (λ g named. no_template p g stands.word named stands.plain)) c cs ok f stands.held stands.named fresh in
-    comes_step s ok said.0 p rest entries f (with_text p (c ∷ cs) f) (characters (c ∷ cs)) more said.1
+    comes_step s ok said.0 p rest entries f (with_text p (c ∷ cs) f) (characters (c ∷ cs)) more (ap Some said.1)
 
 -- a line break
 break_step : (s : State) (ok : Bool) (p : ℕ) (rest : List ℕ) (entries : List Entry) (f : Forest) →
-    Stands p rest entries f → step (now s ok (p ∷ rest) entries f) (start_of (codes "br") [])
-    ≡ now s false (p ∷ rest) entries (with_new p (codes "br") [] f)
+    Stands p rest entries f → stepped (now s ok (p ∷ rest) entries f) (start_of (codes "br") [])
+    ≡ Some (now s false (p ∷ rest) entries (with_new p (codes "br") [] f))
 break_step s ok p rest entries f stands =
     let t = opening (codes "br") [] in
     start_taken s ok p rest entries f stands.word (codes "br") []
     (reconstruct ∷ insert_void at_place t ∷ refuse_frameset ∷ []) stands.named
     (break_opens t (now s ok (p ∷ rest) entries f))
-    ∙ ap (λ z. act refuse_frameset (act (insert_void at_place t) z))
+    ∙ ap Some (ap (λ z. act refuse_frameset (act (insert_void at_place t) z))
     (reconstructed_now s ok (p ∷ rest) entries f stands.are_open)
     ∙ ap (act refuse_frameset) (void_now s ok p rest entries f (codes "br") []
     (no_template p f stands.word stands.named stands.plain) refl)
-    ∙ refused_now s ok (p ∷ rest) entries (with_new p (codes "br") [] f)
+    ∙ refused_now s ok (p ∷ rest) entries (with_new p (codes "br") [] f))
 
 -- a mark or a link: it opens, holds what is inside it, and is closed
 open_step : (s : State) (ok : Bool) (p : ℕ) (rest : List ℕ) (entries : List Entry) (f : Forest) (name : List ℕ)
     (attributes : List Attribute) → Stands p rest entries f → IsListedName name →
     in_body_start (tag_group name) (opening name attributes) (now s ok (p ∷ rest) entries f)
     ≡ formatting_start (opening name attributes) →
-    step (now s ok (p ∷ rest) entries f) (start_of name attributes)
-    ≡ now s ok (nodes f ∷ p ∷ rest) (pushed (nodes f) (opening name attributes) entries) (with_new p name attributes f)
+    stepped (now s ok (p ∷ rest) entries f) (start_of name attributes)
+    ≡ Some (now s ok (nodes f ∷ p ∷ rest) (pushed (nodes f) (opening name attributes) entries)
+    (with_new p name attributes f))
 open_step s ok p rest entries f name attributes stands is opens =
     let t = opening name attributes in
     start_taken s ok p rest entries f stands.word name attributes (reconstruct ∷ insert_formatting t ∷ []) stands.named
     opens
-    ∙ ap (act (insert_formatting t)) (reconstructed_now s ok (p ∷ rest) entries f stands.are_open)
+    ∙ ap Some (ap (act (insert_formatting t)) (reconstructed_now s ok (p ∷ rest) entries f stands.are_open)
     ∙ listed_now s ok p rest entries f name attributes (no_template p f stands.word stands.named stands.plain) is.plain
-    is.kept
+    is.kept)
 
 inside_stands : (p : ℕ) (rest : List ℕ) (entries : List Entry) (f : Forest) (name : List ℕ)
     (attributes : List Attribute) → Stands p rest entries f → IsListedName name →
@@ -184,7 +184,7 @@ span_comes s ok p rest entries f h name attributes items more stands is opens ke
           (end_of name) more
           (end_taken s inner.flag n (p ∷ rest) inner.left h name name (adopt name ∷ []) named
           (is.closing (ending name) (now s inner.flag (n ∷ p ∷ rest) inner.left h))
-          ∙ adopted_now s inner.flag n (p ∷ rest) name inner.left earlier h closed);
+          ∙ ap Some (adopted_now s inner.flag n (p ∷ rest) name inner.left earlier h closed));
     }
 
 pub element_comes : (s : State) (ok : Bool) (p : ℕ) (rest : List ℕ) (entries : List Entry) (f : Forest) (name : List ℕ)

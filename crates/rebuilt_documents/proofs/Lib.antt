@@ -1,4 +1,5 @@
 mod Adopting
+mod Asking
 mod AtOnce
 mod BlockNames
 mod BlockSteps

@@ -1,6 +1,8 @@
 -- What stands around a body: from a page's first item to its body's start tag, and from the body's end tag to the end.
 use Rattle.std.proofs.Common.{◌≡◌, ℕ, ◌||◌, Bool, true, false, List, [], ◌∷◌, Option, None, Some, codes}
 use Rattle.std.proofs.Common.{refl, sym, ap, subst, ◌∙◌, arith}
+use Rattle.std.specs.Option.{option_map}
+use Rattle.html_lexemes.specs.declared.token.Tag.{Tag}
 use Rattle.formatting_list.specs.Entries.{Entry}
 use Rattle.html_forest.specs.Forest.{Forest, is_integration_point, name_of, nodes, page_alone}
 use Rattle.html_forest.specs.Places.{below, put_words, with_doctype}
@@ -28,7 +30,7 @@ use Rattle.tree_rules.specs.InHead.{in_head_end, in_head_start}
 use Rattle.tree_rules.specs.Rank.{rank}
 use Rattle.tree_rules.specs.Rows.{asks, done, ignored}
 use Rattle.tree_rules.specs.Rule.{foreign_row, rule}
-use Rattle.tree_rules.specs.Settling.{entered, given_by, past_tag, settle, step, taken, taken_character}
+use Rattle.tree_rules.specs.Settling.{entered, given_by, past_tag, settle, taken, taken_character}
 use Rattle.tree_rules.specs.State.{Ask, Mark, State, character, doctype, finish, raw, start}
 use Rattle.tree_rules.specs.State as marks
 use Rattle.tree_rules.specs.Table.{row}
@@ -45,7 +47,7 @@ use Rattle.rebuilt_documents.proofs.Inlines.{no_template}
 use Rattle.rebuilt_documents.proofs.Planting.{Keeps, element_kind, grown_keeps, keeps_itself, keeps_on}
 use Rattle.rebuilt_documents.proofs.Said.{SaysOne, run_said}
 use Rattle.rebuilt_documents.proofs.Standing.{built, end_taken, ending, html_takes, if_false, if_true, now, opening}
-use Rattle.rebuilt_documents.proofs.Standing.{runs, runs_on, taken_done}
+use Rattle.rebuilt_documents.proofs.Standing.{runs, runs_on, settled_as, stepped, stepped_done, taken_done}
 
 -- a state outside the body
 unfoldable pub page_at : State → InsertionMode → List ℕ → Forest → State
@@ -77,6 +79,16 @@ by_mode_at mark s mode p rest f word e = or_true _ (takes mark (name_of p f) (is
     (subst (λ name. takes mark name (is_integration_point p f) ≡ true) (sym e)
     (html_takes mark word (is_integration_point p f)))
 
+-- what an item of a page comes to, by a row of its mode
+stepped_at : (t : Tag) (mark : Mark) (s : State) (mode : InsertionMode) (p : ℕ) (rest : List ℕ) (f : Forest)
+    (word : List ℕ) (actions : List Action) → name_of p f ≡ of_html word →
+    row mode mark (page_at s mode (p ∷ rest) f) ≡ done actions →
+    settled_as t (taken mark (page_at s mode (p ∷ rest) f)) ≡ Some (act_all actions (page_at s mode (p ∷ rest) f))
+unfolding page_at
+stepped_at t mark s mode p rest f word actions named is =
+    let here = page_at s mode (p ∷ rest) f in
+    stepped_done t mark here actions (rule_taken mark here (by_mode_at mark s mode p rest f word named) ∙ is)
+
 taken_at : (mark : Mark) (s : State) (mode : InsertionMode) (p : ℕ) (rest : List ℕ) (f : Forest) (word : List ℕ)
     (actions : List Action) → name_of p f ≡ of_html word →
     row mode mark (page_at s mode (p ∷ rest) f) ≡ done actions →
@@ -86,18 +98,21 @@ taken_at mark s mode p rest f word actions named is =
     let here = page_at s mode (p ∷ rest) f in
     taken_done mark here actions (rule_taken mark here (by_mode_at mark s mode p rest f word named) ∙ is)
 
-taken_asks : (mark : Mark) (s : State) (ask : Ask) (actions : List Action) → rule mark s ≡ asks ask actions →
-    (taken mark s).state ≡ entered ask (act_all actions s)
-taken_asks mark s ask actions e = ap (λ r. (given_by r s (settle (rank mark s) mark)).state) e
+stepped_asks : (t : Tag) (mark : Mark) (s : State) (ask : Ask) (actions : List Action) → rule mark s
+    ≡ asks ask actions →
+    settled_as t (taken mark s)
+    ≡ settled_as t (record { ask = ask; state = entered ask (act_all actions s) })
+stepped_asks t mark s ask actions e = ap (λ r. settled_as t (given_by r s (settle (rank mark s) mark))) e
 
 start_at : (s : State) (mode : InsertionMode) (stack : List ℕ) (f : Forest) (name : List ℕ)
-    (attributes : List Attribute) → step (page_at s mode stack f) (start_of name attributes)
-    ≡ (taken (start (opening name attributes)) (page_at s mode stack f)).state
+    (attributes : List Attribute) → stepped (page_at s mode stack f) (start_of name attributes)
+    ≡ settled_as (opening name attributes) (taken (start (opening name attributes)) (page_at s mode stack f))
 unfolding page_at
 start_at s mode stack f name attributes = refl
 
 end_at : (s : State) (mode : InsertionMode) (stack : List ℕ) (f : Forest) (name : List ℕ) →
-    step (page_at s mode stack f) (end_of name) ≡ (taken (finish (ending name)) (page_at s mode stack f)).state
+    stepped (page_at s mode stack f) (end_of name)
+    ≡ settled_as (ending name) (taken (finish (ending name)) (page_at s mode stack f))
 unfolding page_at
 end_at s mode stack f name = refl
 
@@ -168,11 +183,11 @@ unfolding page_at built
 doctype_rule s keeps = if_false s.options.drop_doctype _ _ keeps
 
 doctype_step : (s : State) → IsAtBeginning s → s.tree.forest ≡ page_alone → s.options.drop_doctype ≡ false →
-    step s html_doctype ≡ page_at (behind_doctype s) modes.BeforeHtml [] with_one
+    stepped s html_doctype ≡ Some (page_at (behind_doctype s) modes.BeforeHtml [] with_one)
 doctype_step s is alone keeps =
-    ap (λ z. (taken (doctype plain_doctype) z).state) (begins s is alone)
+    ap Some (ap (λ z. (taken (doctype plain_doctype) z).state) (begins s is alone)
     ∙ taken_done (doctype plain_doctype) (page_at s modes.Initial [] page_alone) _ (doctype_rule s keeps)
-    ∙ doctype_acts s
+    ∙ doctype_acts s)
 
 -- `html` and `head`
 abbrev with_root : Forest
@@ -188,11 +203,12 @@ html_acts : (s : State) → act_all (insert at_place (opening (codes "html") [])
 unfolding page_at built act
 html_acts s = refl
 
-html_step : (s : State) → step (page_at s modes.BeforeHtml [] with_one) (start_of (codes "html") [])
-    ≡ page_at s modes.BeforeHead (2 ∷ []) with_root
+html_step : (s : State) → stepped (page_at s modes.BeforeHtml [] with_one) (start_of (codes "html") [])
+    ≡ Some (page_at s modes.BeforeHead (2 ∷ []) with_root)
 html_step s = start_at s modes.BeforeHtml [] with_one (codes "html") []
-    ∙ taken_done (start (opening (codes "html") [])) (page_at s modes.BeforeHtml [] with_one) _ (html_rule s)
-    ∙ html_acts s
+    ∙ stepped_done (opening (codes "html") []) (start (opening (codes "html") []))
+    (page_at s modes.BeforeHtml [] with_one) _ (html_rule s)
+    ∙ ap Some (html_acts s)
 
 head_acts : (s : State) → act_all (insert at_place (opening (codes "head") []) ∷ keep_head ∷ go_to modes.InHead ∷ [])
     (page_at s modes.BeforeHead (2 ∷ []) with_root)
@@ -200,19 +216,21 @@ head_acts : (s : State) → act_all (insert at_place (opening (codes "head") [])
 unfolding page_at built act
 head_acts s = refl
 
-head_step : (s : State) → step (page_at s modes.BeforeHead (2 ∷ []) with_root) (start_of (codes "head") [])
-    ≡ page_at (record s { head = Some 3 }) modes.InHead (3 ∷ 2 ∷ []) head_alone
+head_step : (s : State) → stepped (page_at s modes.BeforeHead (2 ∷ []) with_root) (start_of (codes "head") [])
+    ≡ Some (page_at (record s { head = Some 3 }) modes.InHead (3 ∷ 2 ∷ []) head_alone)
 head_step s = start_at s modes.BeforeHead (2 ∷ []) with_root (codes "head") []
-    ∙ taken_at (start (opening (codes "head") [])) s modes.BeforeHead 2 [] with_root (codes "html") _ refl
+    ∙ stepped_at (opening (codes "head") []) (start (opening (codes "head") [])) s modes.BeforeHead 2 [] with_root
+    (codes "html") _ refl
     (ap (λ g. before_head_start g (opening (codes "head") []) (page_at s modes.BeforeHead (2 ∷ []) with_root))
     group_head)
-    ∙ head_acts s
+    ∙ ap Some (head_acts s)
 
 -- a title
 abbrev titled : Forest
 titled = with_new 3 (codes "title") [] head_alone
 
-title_rule : (s : State) → rule (start (opening (codes "title") [])) (page_at s modes.InHead (3 ∷ 2 ∷ []) head_alone)
+pub title_rule : (s : State) → rule (start (opening (codes "title") []))
+    (page_at s modes.InHead (3 ∷ 2 ∷ []) head_alone)
     ≡ asks (raw Rcdata) (insert at_place (opening (codes "title") []) ∷ [])
 unfolding page_at built
 title_rule s = ap (λ g. in_head_start at_place g (opening (codes "title") [])
@@ -224,12 +242,13 @@ title_acts : (s : State) → entered (raw Rcdata) (act_all (insert at_place (ope
 unfolding page_at built act
 title_acts s = refl
 
-title_step : (s : State) → step (page_at s modes.InHead (3 ∷ 2 ∷ []) head_alone) (start_of (codes "title") [])
-    ≡ page_at (record s { original = modes.InHead }) modes.Text (4 ∷ 3 ∷ 2 ∷ []) titled
+title_step : (s : State) → stepped (page_at s modes.InHead (3 ∷ 2 ∷ []) head_alone) (start_of (codes "title") [])
+    ≡ Some (page_at (record s { original = modes.InHead }) modes.Text (4 ∷ 3 ∷ 2 ∷ []) titled)
 title_step s = start_at s modes.InHead (3 ∷ 2 ∷ []) head_alone (codes "title") []
-    ∙ taken_asks (start (opening (codes "title") [])) (page_at s modes.InHead (3 ∷ 2 ∷ []) head_alone) _ _
+    ∙ stepped_asks (opening (codes "title") []) (start (opening (codes "title") []))
+    (page_at s modes.InHead (3 ∷ 2 ∷ []) head_alone) _ _
     (title_rule s)
-    ∙ title_acts s
+    ∙ ap Some (title_acts s)
 
 title_said : (s : State) (c p : ℕ) (rest : List ℕ) (f : Forest) → is_template p f ≡ false →
     act (say (c ∷ [])) (page_at s modes.Text (p ∷ rest) f)
@@ -262,8 +281,9 @@ title_text s [] more = refl
 title_text s (c ∷ cs) more =
     runs_on (page_at s modes.Text (4 ∷ 3 ∷ 2 ∷ []) titled)
     (page_at s modes.Text (4 ∷ 3 ∷ 2 ∷ []) (with_text 4 (c ∷ cs) titled)) (characters (c ∷ cs)) more
-    (run_said (λ ok f. page_at s modes.Text (4 ∷ 3 ∷ 2 ∷ []) f) 4 (of_html (codes "title")) (title_says s) c cs true
-    titled (omega arith) refl refl).1
+    (ap Some (run_said (λ ok f. page_at s modes.Text (4 ∷ 3 ∷ 2 ∷ []) f) 4 (of_html (codes "title")) (title_says s) c
+    cs true
+    titled (omega arith) refl refl).1)
 
 title_end_rule : (s : State) (stack : List ℕ) (f : Forest) →
     rule (finish (ending (codes "title"))) (page_at s modes.Text stack f) ≡ done (pop ∷ go_back ∷ [])
@@ -276,11 +296,13 @@ unfolding page_at built act
 title_end_acts s f e = rw e
 
 title_end_step : (s : State) (f : Forest) → s.original ≡ modes.InHead →
-    step (page_at s modes.Text (4 ∷ 3 ∷ 2 ∷ []) f) (end_of (codes "title")) ≡ page_at s modes.InHead (3 ∷ 2 ∷ []) f
+    stepped (page_at s modes.Text (4 ∷ 3 ∷ 2 ∷ []) f) (end_of (codes "title"))
+    ≡ Some (page_at s modes.InHead (3 ∷ 2 ∷ []) f)
 title_end_step s f e = end_at s modes.Text (4 ∷ 3 ∷ 2 ∷ []) f (codes "title")
-    ∙ taken_done (finish (ending (codes "title"))) (page_at s modes.Text (4 ∷ 3 ∷ 2 ∷ []) f) _
+    ∙ stepped_done (ending (codes "title")) (finish (ending (codes "title")))
+    (page_at s modes.Text (4 ∷ 3 ∷ 2 ∷ []) f) _
     (title_end_rule s (4 ∷ 3 ∷ 2 ∷ []) f)
-    ∙ title_end_acts s f e
+    ∙ ap Some (title_end_acts s f e)
 
 pub title_reaches : (s : State) (title : Option (List ℕ)) (more : List Item) →
     Reaches (page_at s modes.InHead (3 ∷ 2 ∷ []) head_alone) (title_tokens title more) more modes.InHead (3 ∷ 2 ∷ [])
@@ -330,11 +352,13 @@ unfolding page_at built act
 head_end_acts s f = refl
 
 pub head_end_step : (s : State) (f : Forest) → name_of 3 f ≡ of_html (codes "head") →
-    step (page_at s modes.InHead (3 ∷ 2 ∷ []) f) (end_of (codes "head")) ≡ page_at s modes.AfterHead (2 ∷ []) f
+    stepped (page_at s modes.InHead (3 ∷ 2 ∷ []) f) (end_of (codes "head"))
+    ≡ Some (page_at s modes.AfterHead (2 ∷ []) f)
 head_end_step s f named = end_at s modes.InHead (3 ∷ 2 ∷ []) f (codes "head")
-    ∙ taken_at (finish (ending (codes "head"))) s modes.InHead 3 (2 ∷ []) f (codes "head") _ named
+    ∙ stepped_at (ending (codes "head")) (finish (ending (codes "head"))) s modes.InHead 3 (2 ∷ []) f (codes "head") _
+    named
     (ap (λ g. in_head_end g (page_at s modes.InHead (3 ∷ 2 ∷ []) f)) group_head)
-    ∙ head_end_acts s f
+    ∙ ap Some (head_end_acts s f)
 
 body_acts : (s : State) (f : Forest) → is_template 2 f ≡ false →
     act_all (insert at_place (opening (codes "body") []) ∷ refuse_frameset ∷ go_to modes.InBody ∷ [])
@@ -343,12 +367,13 @@ unfolding page_at built act now
 body_acts s f plain = rw plain
 
 pub body_step : (s : State) (f : Forest) → name_of 2 f ≡ of_html (codes "html") →
-    step (page_at s modes.AfterHead (2 ∷ []) f) (start_of (codes "body") [])
-    ≡ now s false (nodes f ∷ 2 ∷ []) [] (with_new 2 (codes "body") [] f)
+    stepped (page_at s modes.AfterHead (2 ∷ []) f) (start_of (codes "body") [])
+    ≡ Some (now s false (nodes f ∷ 2 ∷ []) [] (with_new 2 (codes "body") [] f))
 body_step s f named = start_at s modes.AfterHead (2 ∷ []) f (codes "body") []
-    ∙ taken_at (start (opening (codes "body") [])) s modes.AfterHead 2 [] f (codes "html") _ named
+    ∙ stepped_at (opening (codes "body") []) (start (opening (codes "body") [])) s modes.AfterHead 2 [] f
+    (codes "html") _ named
     (ap (λ g. after_head_start g (opening (codes "body") []) (page_at s modes.AfterHead (2 ∷ []) f)) group_body)
-    ∙ body_acts s f (no_template 2 f (codes "html") named refl)
+    ∙ ap Some (body_acts s f (no_template 2 f (codes "html") named refl))
 
 -- from the body's end to the page's
 body_in_scope : (s : State) (ok : Bool) (n : ℕ) (rest : List ℕ) (f : Forest) → name_of n f ≡ of_html (codes "body") →
@@ -368,12 +393,12 @@ unfolding page_at built act now
 body_end_acts s ok stack f = refl
 
 body_end_step : (s : State) (ok : Bool) (n : ℕ) (rest : List ℕ) (f : Forest) → name_of n f ≡ of_html (codes "body") →
-    step (now s ok (n ∷ rest) [] f) (end_of (codes "body"))
-    ≡ page_at (record s { frameset_ok = ok }) modes.AfterBody (n ∷ rest) f
+    stepped (now s ok (n ∷ rest) [] f) (end_of (codes "body"))
+    ≡ Some (page_at (record s { frameset_ok = ok }) modes.AfterBody (n ∷ rest) f)
 body_end_step s ok n rest f named =
     end_taken s ok n rest [] f (codes "body") (codes "body") (go_to modes.AfterBody ∷ []) named
     (body_in_scope s ok n rest f named)
-    ∙ body_end_acts s ok (n ∷ rest) f
+    ∙ ap Some (body_end_acts s ok (n ∷ rest) f)
 
 html_end_row : (s : State) (stack : List ℕ) (f : Forest) →
     after_body_end (tag_group (codes "html")) (page_at s modes.AfterBody stack f)
@@ -388,24 +413,28 @@ unfolding page_at built act
 html_end_acts s stack f = refl
 
 html_end_step : (s : State) (n : ℕ) (rest : List ℕ) (f : Forest) → name_of n f ≡ of_html (codes "body") →
-    step (page_at s modes.AfterBody (n ∷ rest) f) (end_of (codes "html"))
-    ≡ page_at s modes.AfterAfterBody (n ∷ rest) f
+    stepped (page_at s modes.AfterBody (n ∷ rest) f) (end_of (codes "html"))
+    ≡ Some (page_at s modes.AfterAfterBody (n ∷ rest) f)
 html_end_step s n rest f named = end_at s modes.AfterBody (n ∷ rest) f (codes "html")
-    ∙ taken_at (finish (ending (codes "html"))) s modes.AfterBody n rest f (codes "body") _ named
+    ∙ stepped_at (ending (codes "html")) (finish (ending (codes "html"))) s modes.AfterBody n rest f (codes "body") _
+    named
     (html_end_row s (n ∷ rest) f)
-    ∙ html_end_acts s (n ∷ rest) f
+    ∙ ap Some (html_end_acts s (n ∷ rest) f)
 
 file_ends : (s : State) (n : ℕ) (rest : List ℕ) (f : Forest) → name_of n f ≡ of_html (codes "body") →
-    (runs (page_at s modes.AfterAfterBody (n ∷ rest) f) (end_of_file ∷ [])).tree.forest ≡ f
+    option_map (λ (z : State). z.tree.forest) (runs (page_at s modes.AfterAfterBody (n ∷ rest) f) (end_of_file ∷ []))
+    ≡ Some f
 unfolding page_at built runs
 file_ends s n rest f named =
-    ap (λ z. z.tree.forest) (taken_at marks.end_of_file s modes.AfterAfterBody n rest f (codes "body") [] named refl)
+    ap (λ (z : State). let found : Option Forest = Some z.tree.forest in found)
+    (taken_at marks.end_of_file s modes.AfterAfterBody n rest f (codes "body") [] named refl)
 
 pub page_ends : (s : State) (ok : Bool) (n : ℕ) (rest : List ℕ) (f : Forest) → name_of n f ≡ of_html (codes "body") →
-    (runs (now s ok (n ∷ rest) [] f) (end_of (codes "body") ∷ end_of (codes "html") ∷ end_of_file ∷ [])).tree.forest ≡ f
+    option_map (λ (z : State). z.tree.forest)
+    (runs (now s ok (n ∷ rest) [] f) (end_of (codes "body") ∷ end_of (codes "html") ∷ end_of_file ∷ [])) ≡ Some f
 page_ends s ok n rest f named =
     let s' = record s { frameset_ok = ok } in
-    ap (λ z. z.tree.forest)
+    ap (option_map (λ (z : State). z.tree.forest))
     (runs_on (now s ok (n ∷ rest) [] f) (page_at s' modes.AfterBody (n ∷ rest) f) (end_of (codes "body"))
     (end_of (codes "html") ∷ end_of_file ∷ []) (body_end_step s ok n rest f named)
     ∙ runs_on (page_at s' modes.AfterBody (n ∷ rest) f) (page_at s' modes.AfterAfterBody (n ∷ rest) f)

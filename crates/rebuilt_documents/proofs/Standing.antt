@@ -1,5 +1,9 @@
 -- A state in the body: its open elements, its listed ones, and its forest; and how a rule comes to it.
-use Rattle.std.proofs.Common.{◌≡◌, ℕ, Bool, true, false, List, [], ◌∷◌, None, codes, fold}
+use Rattle.std.proofs.Common.{◌≡◌, ℕ, ◌||◌, ◌&&◌, Bool, true, false, List, [], ◌∷◌, Option, None, Some, codes}
+use Rattle.std.specs.Option.{option_and_then}
+use Rattle.html_grammar.specs.Items as items
+use Rattle.html_lexemes.specs.declared.states.RawKind.TheVariants.{Rawtext, Rcdata, ScriptData, ScriptDataEscaped}
+use Rattle.html_lexemes.specs.declared.token.TagKind.{TagKind}
 use Rattle.std.proofs.Common.{if◌then◌else◌}
 use Rattle.std.proofs.Common.{refl, sym, ap, subst, ◌∙◌}
 use Rattle.formatting_list.specs.Entries.{Entry, formatted, marker}
@@ -25,8 +29,9 @@ use Rattle.tree_rules.specs.InBodyEnds.{in_body_end}
 use Rattle.tree_rules.specs.Rank.{rank}
 use Rattle.tree_rules.specs.Rows.{done}
 use Rattle.tree_rules.specs.Rule.{foreign_row, rule}
-use Rattle.tree_rules.specs.Settling.{given_by, past_tag, settle, step, taken}
-use Rattle.tree_rules.specs.State.{Mark, State, character, comment, doctype, end_of_file, finish, null, start}
+use Rattle.tree_rules.specs.Settling.{Settled, given_by, past_tag, settle, step, taken, taken_tag}
+use Rattle.tree_rules.specs.State.{Ask, Mark, State, character, comment, doctype, encoding, end_of_file, finish}
+use Rattle.tree_rules.specs.State.{nothing, null, plaintext, raw, script, start}
 use Rattle.tree_rules.specs.Table.{row}
 use Rattle.tree_words.specs.declared.modes.InsertionMode.TheVariants.{InBody}
 use Rattle.rebuilt_documents.specs.Contents.{end_of, start_of}
@@ -46,13 +51,53 @@ now s ok stack entries f = record s {
   tree = built s.tree stack entries f;
 }
 
-unfoldable pub runs : State → List Item → State
-runs s items = fold step s items
+-- what an item comes to, where the tokenizer is asked for nothing, or for the text of a title
+abbrev pub is_nothing : Ask → Bool
+is_nothing nothing = true
+is_nothing plaintext = false
+is_nothing (raw kind) = false
+is_nothing (script n) = false
+is_nothing (encoding name) = false
 
-pub runs_on : (s s' : State) (item : Item) (more : List Item) → step s item ≡ s' →
+abbrev pub is_rcdata : Ask → Bool
+is_rcdata (raw Rcdata) = true
+is_rcdata (raw Rawtext) = false
+is_rcdata (raw ScriptData) = false
+is_rcdata (raw (ScriptDataEscaped kind)) = false
+is_rcdata nothing = false
+is_rcdata plaintext = false
+is_rcdata (script n) = false
+is_rcdata (encoding name) = false
+
+abbrev pub opens_title : TagKind → List ℕ → Bool
+opens_title StartTag name = is_one_of (codes "title" ∷ []) name
+opens_title EndTag name = false
+
+abbrev pub kept_if : Bool → State → Option State
+kept_if true s = Some s
+kept_if false s = None
+
+abbrev pub settled_as : Tag → Settled → Option State
+settled_as t settled = kept_if (is_nothing settled.ask || (opens_title t.kind t.name && is_rcdata settled.ask))
+    settled.state
+
+abbrev pub stepped : State → Item → Option State
+stepped s (items.tag t) = settled_as t (taken_tag t s)
+stepped s (items.characters cs) = Some (step s (items.characters cs))
+stepped s items.null_character = Some (step s items.null_character)
+stepped s (items.comment cs) = Some (step s (items.comment cs))
+stepped s (items.doctype d) = Some (step s (items.doctype d))
+stepped s items.error = Some (step s items.error)
+stepped s items.end_of_file = Some (step s items.end_of_file)
+
+unfoldable pub runs : State → List Item → Option State
+runs s [] = Some s
+runs s (item ∷ items) = option_and_then (λ z. runs z items) (stepped s item)
+
+pub runs_on : (s s' : State) (item : Item) (more : List Item) → stepped s item ≡ Some s' →
     runs s (item ∷ more) ≡ runs s' more
 unfolding runs
-runs_on s s' item more e = ap (λ z. fold step z more) e
+runs_on s s' item more e = ap (option_and_then (λ z. runs z more)) e
 
 abbrev pub opening : List ℕ → List Attribute → Tag
 opening name attributes = record {
@@ -107,6 +152,10 @@ pub taken_done : (mark : Mark) (s : State) (actions : List Action) → rule mark
     (taken mark s).state ≡ act_all actions s
 taken_done mark s actions e = ap (λ r. (given_by r s (settle (rank mark s) mark)).state) e
 
+pub stepped_done : (t : Tag) (mark : Mark) (s : State) (actions : List Action) → rule mark s ≡ done actions →
+    settled_as t (taken mark s) ≡ Some (act_all actions s)
+stepped_done t mark s actions e = ap (λ r. settled_as t (given_by r s (settle (rank mark s) mark))) e
+
 pub past_now : (s : State) (ok : Bool) (stack : List ℕ) (entries : List Entry) (f : Forest) →
     past_tag (now s ok stack entries f) ≡ now s ok stack entries f
 unfolding now
@@ -115,22 +164,22 @@ past_now s ok stack entries f = refl
 pub start_taken : (s : State) (ok : Bool) (p : ℕ) (rest : List ℕ) (entries : List Entry) (f : Forest)
     (word name : List ℕ) (attributes : List Attribute) (actions : List Action) → name_of p f ≡ of_html word →
     in_body_start (tag_group name) (opening name attributes) (now s ok (p ∷ rest) entries f) ≡ done actions →
-    step (now s ok (p ∷ rest) entries f) (start_of name attributes)
-    ≡ act_all actions (now s ok (p ∷ rest) entries f)
+    stepped (now s ok (p ∷ rest) entries f) (start_of name attributes)
+    ≡ Some (act_all actions (now s ok (p ∷ rest) entries f))
 unfolding now
 start_taken s ok p rest entries f word name attributes actions named is =
     let here = now s ok (p ∷ rest) entries f in
-    taken_done (start (opening name attributes)) here actions
+    stepped_done (opening name attributes) (start (opening name attributes)) here actions
     (rule_in_body (start (opening name attributes)) s ok p rest entries f word named ∙ is)
 
 pub end_taken : (s : State) (ok : Bool) (p : ℕ) (rest : List ℕ) (entries : List Entry) (f : Forest)
     (word name : List ℕ) (actions : List Action) → name_of p f ≡ of_html word →
     in_body_end (tag_group name) (ending name) (now s ok (p ∷ rest) entries f) ≡ done actions →
-    step (now s ok (p ∷ rest) entries f) (end_of name) ≡ act_all actions (now s ok (p ∷ rest) entries f)
+    stepped (now s ok (p ∷ rest) entries f) (end_of name) ≡ Some (act_all actions (now s ok (p ∷ rest) entries f))
 unfolding now
 end_taken s ok p rest entries f word name actions named is =
     let here = now s ok (p ∷ rest) entries f in
-    taken_done (finish (ending name)) here actions
+    stepped_done (ending name) (finish (ending name)) here actions
     (rule_in_body (finish (ending name)) s ok p rest entries f word named ∙ is)
 
 -- what is done to the tree alone

@@ -1,6 +1,6 @@
 -- Parts of documents, from a state in the body to a state.
-use Rattle.std.proofs.Common.{◌≡◌, ℕ, inl, inr, Bool, false, true, List, [], ◌∷◌, Option, None, codes, fold}
-use Rattle.std.proofs.Common.{refl, sym, ap, ◌∙◌}
+use Rattle.std.proofs.Common.{◌≡◌, ℕ, inl, inr, Bool, false, true, List, [], ◌∷◌, Option, None, codes, fold, Some}
+use Rattle.std.proofs.Common.{sym, ap, ◌∙◌}
 use Rattle.formatting_list.specs.Entries.{Entry}
 use Rattle.html_forest.specs.Forest.{Forest, nodes}
 use Rattle.html_grammar.specs.Items.{Item}
@@ -20,7 +20,11 @@ use Rattle.rebuilt_documents.proofs.BlockSteps.{AreOuter}
 use Rattle.rebuilt_documents.proofs.Blocks.{IsAbove, blocks_come}
 use Rattle.rebuilt_documents.proofs.InlineNames.{for_one}
 use Rattle.rebuilt_documents.proofs.Inlines.{inlines_come}
-use Rattle.rebuilt_documents.proofs.Standing.{built, now, runs}
+use Rattle.rebuilt_documents.proofs.Standing.{built, kept_if, now, runs, stepped}
+use Rattle.html_grammar.specs.Items as items
+use Rattle.html_lexemes.specs.declared.token.Tag.{Tag}
+use Rattle.tree_rules.specs.Settling.{taken_tag}
+use Rattle.std.proofs.lemmas.Option.{none-some, option_and_then_some, same_Some}
 
 body_of : State → InsertionMode → Option ℕ → (skips : Bool) → List ℕ → (fostering ok : Bool) → List Entry → Forest →
     State
@@ -45,13 +49,29 @@ changed_now s p rest ok entries f is stack =
     ∙ ap (λ ns. body_of s InBody None false ns s.tree.fostering ok entries f) stack
     ∙ ap (λ b. body_of s InBody None false (p ∷ rest) b ok entries f) is.fostering
 
-folded : (s s' : State) (items : List Item) → s ≡ s' → fold step s items ≡ runs s' items
-unfolding runs
-folded s s' items e = ap (λ z. fold step z items) e
+step_of : (s : State) (t : Tag) (b : Bool) (z : State) → kept_if b (taken_tag t s).state ≡ Some z →
+    step s (items.tag t) ≡ z
+step_of s t true z e = same_Some (taken_tag t s).state z e
+step_of s t false z e = absurd (none-some z e)
 
-runs_out : (s : State) → runs s [] ≡ s
+pub one_step : (s : State) (item : Item) (z : State) → stepped s item ≡ Some z → step s item ≡ z
+one_step s (items.tag t) z e = step_of s t _ z e
+one_step s (items.characters cs) z e = same_Some (step s (items.characters cs)) z e
+one_step s items.null_character z e = same_Some (step s items.null_character) z e
+one_step s (items.comment cs) z e = same_Some (step s (items.comment cs)) z e
+one_step s (items.doctype d) z e = same_Some (step s (items.doctype d)) z e
+one_step s items.error z e = same_Some (step s items.error) z e
+one_step s items.end_of_file z e = same_Some (step s items.end_of_file) z e
+
+pub folds : (s : State) (items : List Item) (z : State) → runs s items ≡ Some z → fold step s items ≡ z
 unfolding runs
-runs_out s = refl
+folds s [] z e = same_Some s z e
+folds s (item ∷ items) z e = option_and_then_some (λ y. runs y items) (stepped s item) z e
+    (λ y f g. ap (λ x. fold step x items) (one_step s item y f) ∙ folds y items z g)
+
+folded : (s s' z : State) (items : List Item) → s ≡ s' → runs s' items ≡ runs z [] → fold step s items ≡ z
+unfolding runs
+folded s s' z items e h = ap (λ x. fold step x items) e ∙ folds s' items z h
 
 pub inlines_whole : InlinesRebuild
 inlines_whole s p rest word linked behind_text content is stack named plain under are free fresh inlines =
@@ -69,9 +89,8 @@ inlines_whole s p rest word linked behind_text content is stack named plain unde
       comes.flag,
       comes.left,
       comes.sub,
-      folded s (now s s.frameset_ok (p ∷ rest) entries f) (tokens content)
-          (changed_now s p rest s.frameset_ok entries f is stack)
-          ∙ comes.come ∙ runs_out (now s comes.flag (p ∷ rest) comes.left g)
+      folded s (now s s.frameset_ok (p ∷ rest) entries f) (now s comes.flag (p ∷ rest) comes.left g) (tokens content)
+          (changed_now s p rest s.frameset_ok entries f is stack) comes.come
           ∙ sym (changed_now s p rest comes.flag comes.left g is stack),
     )
 
@@ -96,10 +115,9 @@ blocks_whole s p rest of_list content is stack none_listed under hold items bloc
     let comes = blocks_come of_list content blocks s s.frameset_ok p rest f [] (all_outer f (p ∷ rest) under hold)
     (above of_list p f items) in (
       comes.flag,
-      folded s (now s s.frameset_ok (p ∷ rest) [] f) (tokens content)
+      folded s (now s s.frameset_ok (p ∷ rest) [] f) (now s comes.flag (p ∷ rest) [] g) (tokens content)
           (changed_now s p rest s.frameset_ok s.tree.formatting f is stack
-          ∙ ap (λ es. now s s.frameset_ok (p ∷ rest) es f) none_listed)
-          ∙ comes.come ∙ runs_out (now s comes.flag (p ∷ rest) [] g)
+          ∙ ap (λ es. now s s.frameset_ok (p ∷ rest) es f) none_listed) comes.come
           ∙ ap (λ es. now s comes.flag (p ∷ rest) es g) (sym none_listed)
           ∙ sym (changed_now s p rest comes.flag s.tree.formatting g is stack),
     )

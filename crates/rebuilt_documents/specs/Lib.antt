@@ -1,3 +1,4 @@
+pub mod Asked
 pub mod Contents
 pub mod Planted
 pub mod Parts

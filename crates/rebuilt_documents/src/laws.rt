@@ -4,6 +4,7 @@ ghost use Rattle.html_forest.specs.Forest.{Forest, nodes};
 ghost use Rattle.rebuilt_documents.specs.Contents.{Content};
 ghost use Rattle.rebuilt_documents.specs.Parts.{BlocksRebuild, InlinesRebuild};
 ghost use Rattle.rebuilt_documents.specs.Planted.{planted, standing};
+ghost use Rattle.rebuilt_documents.specs.Asked.{DocumentsAsk};
 ghost use Rattle.rebuilt_documents.specs.Rebuilt.{DocumentsRebuild};
 
 /// The rule table over the tokens of a document's tree gives that tree.
@@ -25,4 +26,9 @@ pub fn inlines_rebuild()
 /// Blocks rebuild below the current node; nothing is listed before and behind them.
 pub fn blocks_rebuild()
     ensures { BlocksRebuild }
+{}
+
+/// Along a document tree construction asks the tokenizer to read the text of its title as such, and asks nothing else.
+pub fn documents_ask()
+    ensures { DocumentsAsk }
 {}

@@ -5,4 +5,6 @@
 mod laws;
 mod rows;
 
-pub use laws::{a_planted_tree_is_at_once, blocks_rebuild, documents_rebuild, inlines_rebuild};
+pub use laws::{
+    a_planted_tree_is_at_once, blocks_rebuild, documents_ask, documents_rebuild, inlines_rebuild,
+};

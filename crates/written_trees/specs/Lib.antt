@@ -1,0 +1,3 @@
+pub mod Documents
+pub mod Trees
+pub mod Written
