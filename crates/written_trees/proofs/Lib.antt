@@ -1,3 +1,4 @@
+pub mod CalledDocuments
 pub mod DocumentsRead
 pub mod Elements
 pub mod PageTexts
