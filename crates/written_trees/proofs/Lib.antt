@@ -1,3 +1,4 @@
+pub mod CallsTold
 pub mod DocumentsRead
 pub mod Elements
 pub mod PageTexts

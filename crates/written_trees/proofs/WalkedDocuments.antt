@@ -37,7 +37,7 @@ one_longer front x n e = omega (arith, e, length-append front (x ∷ []))
 longer_by : (front more : Forest) (n s : ℕ) → length front ≡ n → length more ≡ s → length (front ++ more) ≡ n + s
 longer_by front more n s e h = omega (arith, e, h, length-append front more)
 
-length_listed : (n : ℕ) (content : Content) → length (listed n content) ≡ size content
+pub length_listed : (n : ℕ) (content : Content) → length (listed n content) ≡ size content
 length_listed n none = refl
 length_listed n (say c cs rest) = ap suc (length_listed (suc n) rest)
 length_listed n (span name attributes kids rest) =

@@ -1,3 +1,4 @@
 pub mod Documents
+pub mod Told
 pub mod Trees
 pub mod Written

@@ -9,7 +9,8 @@ ghost use Rattle.html_grammar.specs.PageText.{page_text};
 ghost use Rattle.html_grammar.specs.Reading.{Reading};
 ghost use Rattle.html_grammar.specs.declared.modes.Mode.{Mode as SeenMode};
 ghost use Rattle.html_lexemes.specs.References.{References};
-ghost use Rattle.html_serializer.specs.Walks.{walk_text};
+ghost use Rattle.html_serializer.specs.Walks.{calls_of, walk_text};
+ghost use Rattle.html_serializer.specs.declared.options.TraversalScope.{TraversalScope as Scope};
 ghost use Rattle.html_serializer.specs.declared.options.TraversalScope.TheVariants.{ChildrenOnly};
 ghost use Rattle.html_tree_builder.specs.Defaults.{default_parse};
 ghost use Rattle.html_tree_builder.specs.Grown.{IsTreeOfPage, beginning};
@@ -19,6 +20,7 @@ ghost use Rattle.rebuilt_documents.specs.Rebuilt.{document_tokens, document_tree
 ghost use Rattle.tree_rules.specs.Settling.{meaning};
 ghost use Rattle.tree_rules.specs.State.{State};
 ghost use Rattle.written_trees.specs.Documents.{AreRepliedTo, HoldsNoNul, HoldsNoReturn, document_text};
+ghost use Rattle.written_trees.specs.Told.{document_calls};
 ghost use Rattle.written_trees.specs.Trees.{whole_tree};
 ghost use Rattle.written_trees.specs.Written.{AreReadBack, items_text, mode_after_all, ordinary};
 
@@ -82,6 +84,12 @@ pub fn a_document_is_walked()
 {
     a_documents_tree_at_once();
 }
+
+/// The walk of a document's tree tells the document's calls, the document's own node counted or not.
+pub fn a_document_tells_its_calls()
+    ensures { (scope : Scope) (title : Option (List ℕ)) (content : Content) →
+        calls_of scope 0 (whole_tree title content) ≡ document_calls title content }
+{}
 
 /// What is written of a document is written again of the tree that it is read to.
 pub fn a_written_document_is_written_back<H>()

@@ -5,8 +5,8 @@
 mod laws;
 
 pub use laws::{
-    a_document_is_walked, a_documents_tree_at_once, a_written_document_has_its_tree,
-    a_written_document_is_a_page_text, a_written_document_is_read_back,
-    a_written_document_is_written_back, a_written_page_has_its_tree, no_text_is_two_documents,
-    written_items_are_read_back,
+    a_document_is_walked, a_document_tells_its_calls, a_documents_tree_at_once,
+    a_written_document_has_its_tree, a_written_document_is_a_page_text,
+    a_written_document_is_read_back, a_written_document_is_written_back,
+    a_written_page_has_its_tree, no_text_is_two_documents, written_items_are_read_back,
 };
