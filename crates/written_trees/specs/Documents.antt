@@ -36,7 +36,7 @@ document_text title content = codes "<!DOCTYPE html><html><head>" ++ (title_text
 
 -- ---- which characters stand in it
 
--- a character stands in no value, in no text and no value, and not in the title
+-- a character stands in none of the values of attributes; in no text and no value; and not in the title
 abbrev pub AreWithout : ℕ → List Attribute → Type 0
 AreWithout c [] = Unit {0}
 AreWithout c (a ∷ attributes) = (is_in c a.value ≡ false) × AreWithout c attributes
