@@ -1,11 +1,9 @@
 -- A page begins where the laws of its items ask it to.
-use Rattle.std.proofs.Common.{◌≡◌, ℕ, ◌+◌, true, List, refl, subst, sym, None, Some}
+use Rattle.std.proofs.Common.{◌≡◌, ℕ, ◌+◌, refl, subst, sym, None, Some}
 use Rattle.html_forest.specs.Forest.{Forest}
 use Rattle.html_forest.specs.Orders.{IsForest}
 use Rattle.html_forest.specs.declared.sink.QuirksMode.{QuirksMode}
-use Rattle.html_tree_builder.specs.Grown.{Beginning, IsTreeOfPage}
-use Rattle.html_tree_state.specs.Sound.{Sound}
-use Rattle.kept_text.specs.KeptText.{IsAtBeginning, TellsPlainTags, in_texts, in_told, is_kept}
+use Rattle.kept_text.specs.KeptText.{IsAtBeginning, in_texts, in_told}
 use Rattle.kept_text.specs.PageTexts.{KeepsTextOfPage, items_of}
 use Rattle.page_laws.specs.Trees.{HasSkeletonOfTree, KeepsTextOfTree}
 use Rattle.page_skeleton.specs.Skeleton.{HasSkeletonOfPage, IsSkeleton}
