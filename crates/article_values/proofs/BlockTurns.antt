@@ -5,7 +5,7 @@ use Rattle.std.proofs.lemmas.List.{nil_from_length}
 use Rattle.std.specs.Option.{option_or}
 use Rattle.article_values.specs.Articles.{Blocks, Items, bullets, no_items, numbers}
 use Rattle.article_values.specs.Faults.{fault_of_blocks, fault_of_items, has_item, fault_where, is_too_deep}
-use Rattle.article_values.specs.Views.{block_step, block_view, blocks_view, in_turn, item_before, items_view}
+use Rattle.article_values.specs.Views.{block_step, block_view, blocks_view, held, in_turn, item_before, items_view}
 use Rattle.article_values.specs.declared.error.ArticleError.{ArticleError}
 use Rattle.article_values.specs.declared.error.ArticleError.TheVariants.{EmptyList, TooDeep}
 use Rattle.article_values.specs.declared.values.Block.{Block}
@@ -102,11 +102,11 @@ bullets_case v d items slice told rest is e h =
     ∙ ap (λ o. option_or o (fault_of_blocks d rest)) (sym h)
 
 seen_numbers : (first : ℤ) (items : Vec (Vec Block Global) Global) (rest : Blocks) →
-    block_view (views.Numbers first items) rest ≡ numbers first (items_view items.items) rest
+    block_view (views.Numbers first items) rest ≡ numbers (held first) (items_view items.items) rest
 seen_numbers first items rest =
     ap (λ v. block_view v rest) (sym (rolls-Numbers first items))
     ∙ ap (λ f. f rest) (fold-roll-Block (Blocks → Blocks) block_step (Block-F.Numbers first items))
-    ∙ ap (λ xs. numbers first xs rest) (fused _ (λ v. v.items) (λ v. refl) items.items)
+    ∙ ap (λ xs. numbers (held first) xs rest) (fused _ (λ v. v.items) (λ v. refl) items.items)
 
 pub numbers_case : (v : Block) (d : ℕ) (first : ℤ) (items : Vec (Vec Block Global) Global)
     (slice : List (Vec Block Global))
@@ -116,7 +116,7 @@ pub numbers_case : (v : Block) (d : ℕ) (first : ℤ) (items : Vec (Vec Block G
 numbers_case v d first items slice told rest is e h =
     ap (λ v. fault_of_blocks d (block_view v rest)) is
     ∙ ap (fault_of_blocks d) (seen_numbers first items rest)
-    ∙ ap (λ xs. fault_of_blocks d (numbers first (items_view xs) rest)) (sym e)
+    ∙ ap (λ xs. fault_of_blocks d (numbers (held first) (items_view xs) rest)) (sym e)
     ∙ list_apart (not (has_item (items_view slice))) (is_too_deep d) EmptyList TooDeep
     (fault_of_items (suc d) (items_view slice)) (fault_of_blocks d rest)
     ∙ ap (λ o. option_or o (fault_of_blocks d rest)) (sym h)

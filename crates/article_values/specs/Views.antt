@@ -1,6 +1,7 @@
 -- Blocks and inlines as contracts see them: each one is what it puts before the rest that follows it.
-use Rattle.std.specs.Prelude.{ℕ, List, [], ◌∷◌, map, chars, string_bytes, Vec, String, Option, option_map}
+use Rattle.std.specs.Prelude.{ℕ, ℤ, List, [], ◌∷◌, map, chars, string_bytes, Vec, String, Option, option_map}
 use Rattle.std.specs.Global.{Global}
+use Rattle.std.specs.Int.{cast_signed, cast_unsigned, w64}
 use Rattle.article_values.specs.Articles.{Blocks, Inlines, Items, bold, bullets, code, division, emphasis, heading, italic, item, line_break, link, no_blocks, no_inlines, no_items, numbers, paragraph, span, words}
 use Rattle.article_values.specs.declared.values.Inline.{Inline, fold-Inline}
 use Rattle.article_values.specs.declared.values.Inline.TheOpen.{Inline-F}
@@ -31,13 +32,17 @@ inlines_view inlines = in_turn no_inlines (map inline_view inlines)
 abbrev pub item_before : List (Blocks → Blocks) → Items → Items
 item_before blocks rest = item (in_turn no_blocks blocks) rest
 
+-- a number as 64 bits hold it, which is that number itself where it is one of 64 bits
+abbrev pub held : ℤ → ℤ
+held number = cast_signed w64 (cast_unsigned w64 number)
+
 abbrev pub block_step : Block-F (Blocks → Blocks) → Blocks → Blocks
 block_step (Block-F.Paragraph inlines) = paragraph (inlines_view inlines.items)
 block_step (Block-F.Heading level inlines) = heading level (inlines_view inlines.items)
 block_step (Block-F.Division blocks) = division (in_turn no_blocks blocks.items)
 block_step (Block-F.Bullets items) = bullets (in_turn no_items (map (λ blocks. item_before blocks.items) items.items))
 block_step (Block-F.Numbers first items) =
-    numbers first (in_turn no_items (map (λ blocks. item_before blocks.items) items.items))
+    numbers (held first) (in_turn no_items (map (λ blocks. item_before blocks.items) items.items))
 
 abbrev pub block_view : Block → Blocks → Blocks
 block_view = fold-Block (Blocks → Blocks) block_step

@@ -1,0 +1,101 @@
+//! Inlines, told to a serializer.
+ghost use Rattle.std.specs.Prelude.{◌≡◌, List, chars};
+ghost use Rattle.html_serializer.specs.Calls.{Call};
+ghost use Rattle.article_values.specs.Articles.{Inlines as SeenInlines, link, no_inlines};
+ghost use Rattle.article_values.specs.Views.{inline_view, inlines_view};
+ghost use Rattle.written_articles.specs.Contents.{content_of_inlines};
+ghost use Rattle.written_trees.specs.Tellings.{calls_and};
+ghost use Rattle.article_writing.specs.Tells.{Tells};
+
+use crate::elements::{tell_element, tell_text};
+use crate::inner::Inner;
+use crate::names::attribute;
+use article_values::Inline;
+use html_serializer::{SerializeFault, Serializer};
+use std::alloc::Global;
+
+/// Tells inlines, one after another.
+#[cycle(telling)]
+pub(crate) fn tell_inlines<S: Serializer>(
+    alloc: Global,
+    serializer: &mut S,
+    inlines: &[Inline],
+) -> Result<(), SerializeFault>
+    ensures { Tells {X = List Call} S.means (S.seen serializer.old) (S.seen serializer.new) result
+        (λ more. calls_and (content_of_inlines (inlines_view inlines.now)) more) (λ more. more) }
+{
+    'inlines: for inline in inlines {
+        tell_inline(alloc, serializer, inline)?;
+    }
+    Ok(())
+}
+
+#[cycle(telling)]
+fn tell_inline<S: Serializer>(
+    alloc: Global,
+    serializer: &mut S,
+    inline: &Inline,
+) -> Result<(), SerializeFault>
+    ensures { (rest : SeenInlines) → Tells {X = List Call} S.means (S.seen serializer.old) (S.seen serializer.new)
+        result (λ more. calls_and (content_of_inlines (inline_view inline.now rest)) more)
+        (λ more. calls_and (content_of_inlines rest) more) }
+{
+    match inline {
+        Inline::Text(text) => tell_text(serializer, text.as_str()),
+        Inline::Break => tell_element(alloc, serializer, "br", &[], Inner::Text("")),
+        Inline::Bold(contents) => {
+            tell_element(
+                alloc,
+                serializer,
+                "b",
+                &[],
+                Inner::Inlines(contents.as_slice()),
+            )
+        }
+        Inline::Italic(contents) => {
+            tell_element(
+                alloc,
+                serializer,
+                "i",
+                &[],
+                Inner::Inlines(contents.as_slice()),
+            )
+        }
+        Inline::Emphasis(contents) => {
+            tell_element(
+                alloc,
+                serializer,
+                "em",
+                &[],
+                Inner::Inlines(contents.as_slice()),
+            )
+        }
+        Inline::Code(contents) => {
+            tell_element(
+                alloc,
+                serializer,
+                "code",
+                &[],
+                Inner::Inlines(contents.as_slice()),
+            )
+        }
+        Inline::Link(target, contents) => {
+            tell_link(alloc, serializer, target.as_str(), contents.as_slice())
+        }
+    }
+}
+
+#[cycle(telling)]
+fn tell_link<S: Serializer>(
+    alloc: Global,
+    serializer: &mut S,
+    target: &str,
+    contents: &[Inline],
+) -> Result<(), SerializeFault>
+    ensures { Tells {X = List Call} S.means (S.seen serializer.old) (S.seen serializer.new) result
+        (λ more. calls_and (content_of_inlines (link (chars target.now) (inlines_view contents.now) no_inlines)) more)
+        (λ more. more) }
+{
+    let href = attribute(alloc, "href", target)?;
+    tell_element(alloc, serializer, "a", &[href], Inner::Inlines(contents))
+}

@@ -1,0 +1,84 @@
+//! The written form of an article.
+ghost use Rattle.std.specs.Prelude.{◌≡◌, ◌≢◌, ℕ, List, Option, None, true, Err, OnErr, OnOk};
+ghost use Rattle.html_serializer.specs.Writing.{Grows, GrowsPart};
+ghost use Rattle.html_serializer.specs.declared.options.TraversalScope.TheVariants.{ChildrenOnly};
+ghost use Rattle.article_values.specs.Articles.{Blocks as SeenBlocks};
+ghost use Rattle.written_articles.specs.Contents.{article_text};
+
+use crate::elements::tell_element;
+use crate::inner::Inner;
+use article_values::Article;
+use html_lexemes::ByteWriter;
+use html_serializer::{
+    Serialize, SerializeFault, SerializeOpts, Serializer, TraversalScope, serialize,
+};
+use std::alloc::Global;
+use written_articles::an_article_is_written_back;
+use written_trees::a_document_is_told;
+
+/// An article, which can be told to a serializer as the page that is written of it (WHATWG HTML, 13.3).
+#[derive(Drop)]
+pub struct SerializableArticle<'a> {
+    /// The article.
+    pub article: &'a Article,
+}
+
+impl Serialize for SerializableArticle<'_> {
+    ghost use Rattle.article_values.specs.Views.{blocks_view};
+    ghost use Rattle.written_articles.specs.Contents.{article_tree};
+
+    ghost forest = { λ a. article_tree a.article.now.title (blocks_view a.article.now.blocks) };
+
+    ghost node = { λ a. 0 };
+
+    fn serialize<S: Serializer>(
+        &self,
+        alloc: Global,
+        serializer: &mut S,
+        _scope: &TraversalScope,
+    ) -> Result<(), SerializeFault> {
+        a_document_is_told();
+        serializer.write_doctype("html")?;
+        let root = Inner::Root(self.article.title(), self.article.blocks());
+        tell_element(alloc, serializer, "html", &[], root)
+    }
+}
+
+/// Articles that are written. It stands for a method of `Article`, whose crate knows no serializer.
+pub trait WriteArticle {
+    /// The characters of the title, where there is one.
+    ghost title: { Self → Option (List ℕ) };
+
+    /// The blocks of the body.
+    ghost blocks: { Self → SeenBlocks };
+
+    /// Writes the article's page (WHATWG HTML, 13.3). It doesn't flush the writer. The error is the writer's refusal or
+    /// want of memory; then a beginning is written.
+    fn write_html<W: ByteWriter>(&self, alloc: Global, writer: &mut W) -> Result<(), SerializeFault>
+        ensures ok { OnOk result (Grows (article_text (title self.now) (blocks self.now)) (W.contents writer.old)
+            (W.contents writer.new)) }
+        ensures part { OnErr result (GrowsPart (article_text (title self.now) (blocks self.now))
+            (W.contents writer.old) (W.contents writer.new)) }
+        ensures stays { W.has_failed writer.old ≡ true → W.has_failed writer.new ≡ true }
+        ensures failed { result ≡ Err SerializeFault.Write → W.has_failed writer.new ≡ true }
+        ensures kinds { result ≢ Err SerializeFault.NoParent };
+}
+
+impl WriteArticle for Article {
+    ghost use Rattle.article_values.specs.Views.{blocks_view};
+
+    ghost title = { λ a. a.title };
+
+    ghost blocks = { λ a. blocks_view a.blocks };
+
+    fn write_html<W: ByteWriter>(
+        &self,
+        alloc: Global,
+        writer: &mut W,
+    ) -> Result<(), SerializeFault> {
+        an_article_is_written_back();
+        self.blocks();
+        let page = SerializableArticle { article: self };
+        serialize(alloc, writer, &page, SerializeOpts::default())
+    }
+}
