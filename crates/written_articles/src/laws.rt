@@ -2,6 +2,8 @@
 ghost use Rattle.std.specs.Prelude.{◌≡◌, ℕ, Bool, List, Option, None, chars, false, IsUtf8};
 ghost use Rattle.article_values.specs.Articles.{Blocks};
 ghost use Rattle.article_values.specs.Faults.{first_fault};
+ghost use Rattle.article_values.specs.Views.{blocks_view};
+ghost use Rattle.article_values.specs.declared.values.Block.{Block as SeenBlock};
 ghost use Rattle.escaped_texts.specs.Escaped.{KnowsEscapes};
 ghost use Rattle.html_forest.specs.Forest.{Forest, page_alone};
 ghost use Rattle.html_forest.specs.declared.sink.QuirksMode.{QuirksMode as Quirks};
@@ -72,6 +74,12 @@ pub fn bytes_of_an_article_have_its_tree()
     a_written_article_has_its_tree::<Handle>();
     utf8_is_read_as_its_text();
 }
+
+/// The first numbers of lists in blocks, as contracts see them, are numbers of 64 bits: so the law below holds of any two
+/// articles that stand in memory.
+pub fn first_numbers_fit()
+    ensures { (blocks : List SeenBlock) → NumbersFit (blocks_view blocks) }
+{}
 
 /// Two articles of which the same text is written are equal.
 pub fn no_text_is_two_articles()
