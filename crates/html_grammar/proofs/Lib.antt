@@ -1,3 +1,4 @@
+pub mod CharacterCuts
 pub mod DoctypeLemmas
 pub mod FirstOfEach
 pub mod FirstOfEachOnly

@@ -19,11 +19,11 @@ equals_mark : chars (61 ∷ []) ≡ 61 ∷ []
 unfolding chars
 equals_mark = refl
 
-pub quoted-by_double : (cs rest : List ℕ) (d : ℕ) (o : Option Cut) → cs ≡ d ∷ rest → d ≡ 34 → o ≡ cut (after (chars (34 ∷ []))) rest → o ≡ written_value cs
-quoted-by_double cs rest d o e q h = h ∙ ap (λ m. cut (after m) rest) double_mark ∙ ap written_value (sym (e ∙ ap (λ x. x ∷ rest) q))
+pub quoted-by_double : (cs rest : List ℕ) (d : ℕ) (o : Option Cut) → cs ≡ d ∷ rest → d ≡ 34 → o ≡ cut (after (34 ∷ [])) rest → o ≡ written_value cs
+quoted-by_double cs rest d o e q h = h ∙ ap written_value (sym (e ∙ ap (λ x. x ∷ rest) q))
 
-pub quoted-by_single : (cs rest : List ℕ) (d : ℕ) (o : Option Cut) → cs ≡ d ∷ rest → d ≡ 39 → o ≡ cut (after (chars (39 ∷ []))) rest → o ≡ written_value cs
-quoted-by_single cs rest d o e q h = h ∙ ap (λ m. cut (after m) rest) single_mark ∙ ap written_value (sym (e ∙ ap (λ x. x ∷ rest) q))
+pub quoted-by_single : (cs rest : List ℕ) (d : ℕ) (o : Option Cut) → cs ≡ d ∷ rest → d ≡ 39 → o ≡ cut (after (39 ∷ [])) rest → o ≡ written_value cs
+quoted-by_single cs rest d o e q h = h ∙ ap written_value (sym (e ∙ ap (λ x. x ∷ rest) q))
 
 abbrev whole_with : List ℕ → List ℕ → Cut
 whole_with slice cs = record { slice = slice; rest = cs }

@@ -7,7 +7,7 @@ ghost use Rattle.html_grammar.specs.Read.{cut_of};
 ghost use Rattle.html_grammar.specs.Slices.{cut};
 
 use crate::characters::shown_character;
-use crate::slices::{behind, cut_at, first_and_rest};
+use crate::slices::{behind, cut_at_character, first_and_rest};
 use html_lexemes::Text;
 use std::alloc::{AllocError, Global};
 
@@ -32,7 +32,7 @@ pub fn bogus_comment_slice(text: &str) -> (&str, &str)
     ensures slice_utf8 { IsUtf8 result.0.now }
     ensures rest_utf8 { IsUtf8 result.1.now }
 {
-    cut_at(text, ">").unwrap_or((text, ""))
+    cut_at_character(text, '>').unwrap_or((text, ""))
 }
 
 // the shortest slice before an end mark, and what follows the mark

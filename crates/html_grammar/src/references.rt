@@ -1,7 +1,8 @@
-ghost use Rattle.std.specs.Prelude.{◌≡◌, ◌==◌, ◌||◌, ◌≤◌, if◌then◌else◌, chars, not, option_map, IfOk, IfSome, IsTrue};
+ghost use Rattle.std.specs.Prelude.{◌≡◌, ◌==◌, ◌||◌, ◌≤◌, if◌then◌else◌, chars, not, option_map, true, IfOk, IfSome, IsTrue};
 ghost use Rattle.std.specs.Char.{IsScalar};
 ghost use Rattle.std.specs.List.{list_all, list_any};
 ghost use Rattle.std.specs.Str.{IsUtf8};
+ghost use Rattle.html_lexemes.specs.References.{References};
 ghost use Rattle.html_grammar.specs.Characters.{is_alphanumeric, is_digit};
 ghost use Rattle.html_grammar.specs.Classes.{is_of};
 ghost use Rattle.html_grammar.specs.Read.{found_of};
@@ -9,7 +10,7 @@ ghost use Rattle.html_grammar.specs.References.{behind_number_sign, named, numbe
 ghost use Rattle.html_grammar.specs.Slices.{first_passes};
 
 use crate::characters::shown_character;
-use crate::slices::{CharacterClass, behind, first_and_rest, split_while};
+use crate::slices::{CharacterClass, behind, first_and_rest, skip, split_while};
 use html_lexemes::{ReferenceTable, Text};
 use std::alloc::{AllocError, Global};
 
@@ -74,6 +75,9 @@ fn is_kept(found: &Found<'_>) -> bool
 pub fn value_of(alloc: Global, table: &ReferenceTable, text: &str) -> Result<Text, AllocError>
     ensures { IfOk result (λ value. value ≡ value_of table.now (chars text.now)) }
 {
+    if is_shown(text) {
+        return Text::from_str(alloc, text);
+    }
     let mut value = String::new(alloc);
     let mut rest = text;
     'value: while let Some((c, behind_c)) = first_and_rest(rest) {
@@ -86,6 +90,16 @@ pub fn value_of(alloc: Global, table: &ReferenceTable, text: &str) -> Result<Tex
         rest = behind_c;
     }
     Ok(Text::from(value))
+}
+
+// whether a value is what is written: it has no reference and no NUL
+fn is_shown(text: &str) -> bool
+    ensures { (table : References) → result ≡ true → value_of table (chars text.now) ≡ chars text.now }
+{
+    match first_and_rest(skip(text, CharacterClass::Shown)) {
+        Some(_) => false,
+        None => true,
+    }
 }
 
 // the reference behind a character of an attribute's value, which is one behind `&` alone

@@ -24,12 +24,17 @@ pub enum CharacterClass {
     AttributeName,
     /// What a value without quotes goes on with: no space or `>`.
     Unquoted,
+    /// What stands before this character: each other one.
+    Before(char),
+    /// What stands in a value for itself: neither `&` nor NUL.
+    Shown,
     /// What a doctype's identifier goes on with, before this quote: neither the quote nor `>`.
     Identifier(char),
 }
 
 impl CharacterClass {
     /// Whether a character is of the class.
+    #[inline(always)]
     pub fn has(self, c: char) -> bool
         ensures { result ≡ is_of self c }
     {
@@ -43,6 +48,8 @@ impl CharacterClass {
             CharacterClass::TagName => !(is_space || c == '/' || c == '>'),
             CharacterClass::AttributeName => !(is_space || c == '/' || c == '>' || c == '='),
             CharacterClass::Unquoted => !(is_space || c == '>'),
+            CharacterClass::Before(mark) => c != mark,
+            CharacterClass::Shown => c != '&' && c != '\0',
             CharacterClass::Identifier(quote) => c != quote && c != '>',
         }
     }
@@ -60,6 +67,7 @@ pub fn first_and_rest(text: &str) -> Option<(char, &str)>
 }
 
 /// The longest front of a text that is of a class, and what follows it.
+#[inline(always)]
 pub fn split_while(text: &str, class: CharacterClass) -> (&str, &str)
     ensures front { chars result.0.now ≡ front_while (is_of class) (chars text.now) }
     ensures rest { chars result.1.now ≡ rest_while (is_of class) (chars text.now) }
@@ -123,4 +131,17 @@ pub fn cut_at<'t>(text: &'t str, mark: &str) -> Option<(&'t str, &'t str)>
         length += c.len_utf8();
     }
     None
+}
+
+/// The slice of a text before the first of a character, and what follows this. `None` is a text without it.
+pub fn cut_at_character<'t>(text: &'t str, mark: char) -> Option<(&'t str, &'t str)>
+    ensures value { option_map cut_of result ≡ cut (after (mark ∷ [])) (chars text.now) }
+    ensures slice_utf8 { IfSome result (λ r. IsUtf8 r.0.now) }
+    ensures rest_utf8 { IfSome result (λ r. IsUtf8 r.1.now) }
+{
+    let (slice, marked) = split_while(text, CharacterClass::Before(mark));
+    match first_and_rest(marked) {
+        Some((_, rest)) => Some((slice, rest)),
+        None => None,
+    }
 }

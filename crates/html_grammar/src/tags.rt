@@ -11,7 +11,7 @@ ghost use Rattle.html_grammar.specs.TagParts.{HasLaterNames, attribute_and_rest,
 ghost use Rattle.html_grammar.specs.Read.{cut_of, tag_and_rest};
 
 use crate::references::value_of;
-use crate::slices::{CharacterClass, behind, cut_at, first_and_rest, skip, split_while};
+use crate::slices::{CharacterClass, behind, cut_at_character, first_and_rest, skip, split_while};
 use html_lexemes::{
     Attribute, Attributes, LocalName, Namespace, QualName, ReferenceTable, Tag, TagKind, Text,
 };
@@ -164,8 +164,8 @@ fn written_value(text: &str) -> Option<(&str, &str)>
     ensures rest_utf8 { IfSome result (λ r. IsUtf8 r.1.now) }
 {
     match first_and_rest(text) {
-        Some(('"', rest)) => cut_at(rest, "\""),
-        Some(('\'', rest)) => cut_at(rest, "'"),
+        Some(('"', rest)) => cut_at_character(rest, '"'),
+        Some(('\'', rest)) => cut_at_character(rest, '\''),
         _ => Some(split_while(text, CharacterClass::Unquoted)),
     }
 }

@@ -1,5 +1,5 @@
 //! How many elements of each name are open.
-ghost use Rattle.std.specs.Prelude.{◌≡◌, IsTrue, ℕ, ◌<◌, ◌++◌, true, false, List, [], ◌∷◌, chars, length};
+ghost use Rattle.std.specs.Prelude.{◌≡◌, IsTrue, ℕ, ◌<◌, ◌++◌, true, false, List, [], ◌∷◌, bytes_eq, chars, length, slice_index_or};
 ghost use Rattle.html_lexemes.specs.declared.names.QualName.{QualName as SeenQualName};
 ghost use Rattle.html_lexemes.specs.declared.names.Namespace.TheVariants.{Html};
 ghost use Rattle.name_sets.specs.Counts.{count_in, count_of, counted_names, counts_of, has_counts, has_foreign, has_one};
@@ -247,6 +247,23 @@ fn words_before(word: &str) -> usize
     )
 }
 
+// whether two texts are equal; most differ in length or in their first byte, which is seen at once
+fn are_equal(one: &str, other: &str) -> bool
+    ensures { result ≡ bytes_eq one.now other.now }
+{
+    one.len() == other.len() && first_byte(one) == first_byte(other) && one == other
+}
+
+// the first byte of a text, 0 where it has none
+fn first_byte(text: &str) -> u8
+    ensures { result ≡ slice_index_or text.now 0 0 }
+{
+    match text.as_bytes().first() {
+        Some(first) => *first,
+        None => 0,
+    }
+}
+
 // how many words stand before a word; all of them where it is none of them
 fn place_among(name: &str, words: &[&str]) -> usize
     requires { IsTrue (are_ascii (words_of words.now)) }
@@ -254,7 +271,7 @@ fn place_among(name: &str, words: &[&str]) -> usize
 {
     let mut place = 0;
     for word in words {
-        if name == *word {
+        if are_equal(name, word) {
             return place;
         }
         place += 1;

@@ -25,7 +25,10 @@ impl ParseErrors {
         self.leave_name();
         let mut names = AttributeNames::new(self.alloc());
         let mut state = State::TagName;
-        'characters: for (at, c) in text.char_indices() {
+        let mut behind_c = 0usize;
+        'characters: for c in text.chars() {
+            let at = behind_c;
+            behind_c = end_of(at, c);
             if self.is_plain_in_tag(state, c) {
                 continue;
             }
@@ -154,4 +157,9 @@ fn value_state(kind: AttrValueKind, c: char) -> Option<State> {
         AttrValueKind::DoubleQuoted if c == '"' => Some(State::AfterAttributeValueQuoted),
         _ => Some(State::AttributeValue(kind)),
     }
+}
+
+// where a character ends that begins at a byte
+fn end_of(at: usize, c: char) -> usize {
+    at.saturating_add(c.len_utf8())
 }

@@ -6,9 +6,9 @@ use Rattle.name_sets.proofs.counts.place_among.Goals as goal
 pub loop-word-init : goal.loop-word-init
 loop-word-init c = (c.requires, (sym (zero-add _), refl))
 
-pub returns-then-eq : goal.returns-then-eq
-returns-then-eq c = found_before c.args.words.now c.loop-word.word-index _ _ _ c.utf8.name c.loop-word-test.true
-    c.loop-word.invariant.0 c.if-eq.ensures c.loop-word.invariant.1.0
+pub returns-then-are_equal : goal.returns-then-are_equal
+returns-then-are_equal c = found_before c.args.words.now c.loop-word.word-index _ _ _ c.utf8.name c.loop-word-test.true
+    c.loop-word.invariant.0 c.if-are_equal.ensures c.loop-word.invariant.1.0
 
 pub loop-word-preserved : goal.loop-word-preserved
 loop-word-preserved c = (
@@ -16,7 +16,7 @@ loop-word-preserved c = (
       c.loop-word.invariant.0,
   (
     not_before c.args.words.now c.loop-word.word-index _ _ _ c.utf8.name c.loop-word-test.true
-        c.loop-word.invariant.0 c.if-eq.ensures c.loop-word.invariant.1.0,
+        c.loop-word.invariant.0 c.if-are_equal.ensures c.loop-word.invariant.1.0,
     omega (arith, c.loop-word.invariant.1.1),
   ),
 )

@@ -1,4 +1,4 @@
-use Rattle.std.proofs.Common.{[], arith, ap, subst, sym, ◌∙◌, ◌+◌, ◌*◌, ◌%◌, IsUtf8, chars, map}
+use Rattle.std.proofs.Common.{arith, ap, subst, sym, ◌∙◌, ◌+◌, ◌*◌, ◌%◌, IsUtf8, chars, map}
 use Rattle.std.proofs.lemmas.List.{nil_from_length}
 use Rattle.std.proofs.lemmas.Str.{IsUtf8-past_char, chars-nil, chars_past_char}
 use Rattle.std.specs.Char.{to_ascii_lowercase}
