@@ -77,6 +77,7 @@ impl WriteArticle for Article {
         writer: &mut W,
     ) -> Result<(), SerializeFault> {
         an_article_is_written_back();
+        // That an article has no fault is told by the call that lends its blocks.
         self.blocks();
         let page = SerializableArticle { article: self };
         serialize(alloc, writer, &page, SerializeOpts::default())

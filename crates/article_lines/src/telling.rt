@@ -1,0 +1,79 @@
+//! How articles are told.
+use crate::case::article_of;
+use crate::error::Error;
+use article_values::Article;
+use article_writing::WriteArticle;
+use dom_serializer::SerializeDom;
+use html_lexemes::{Device, ReferenceTable};
+use html_render_dom::RcDom;
+use html_tree_builder::ParseOpts;
+use page_reading::PageReader;
+use row_fields::push_line;
+use std::alloc::Global;
+use std::str;
+use tree_lines::lines_of;
+
+/// What is told.
+#[derive(Clone, Copy)]
+pub(crate) struct Telling {
+    /// Whether trees are, behind their pages.
+    pub(crate) trees: bool,
+}
+
+impl Telling {
+    /// The page of an article, or its first fault, and an empty line.
+    pub(crate) fn told(self, alloc: Global, case: &[&str]) -> Result<String, Error> {
+        let mut told = String::new(alloc);
+        match article_of(alloc, case)? {
+            Ok(article) => self.push_page(&mut told, &article)?,
+            Err(fault) => writeln!(told, "{fault:?}")?,
+        }
+        told.push('\n')?;
+        Ok(told)
+    }
+
+    fn push_page(self, told: &mut String, article: &Article) -> Result<(), Error> {
+        let alloc = *told.allocator();
+        let page = written(alloc, article)?;
+        let Ok(text) = str::from_utf8(page.as_slice()) else {
+            return Err(Error::Differs("as UTF-8"));
+        };
+        push_line(told, "written", text)?;
+        let tree = tree_read_back(alloc, page.as_slice())?;
+        if self.trees {
+            told.push_str(tree.as_str())?;
+        }
+        Ok(())
+    }
+}
+
+fn written(alloc: Global, article: &Article) -> Result<Vec<u8>, Error> {
+    let mut page = Device::new(Vec::new(alloc));
+    article.write_html(alloc, &mut page)?;
+    Ok(page.into_inner())
+}
+
+/// The lines on the tree of a page, which is the same however the page comes, and is written as the page.
+fn tree_read_back(alloc: Global, page: &[u8]) -> Result<String, Error> {
+    let dom = tree_of(alloc, page, page.len())?;
+    let mut again = Device::new(Vec::new(alloc));
+    dom.serialize(alloc, &mut again)?;
+    if again.into_inner().as_slice() != page {
+        return Err(Error::Differs("and written again"));
+    }
+    let lines = lines_of(alloc, &dom)?;
+    if lines_of(alloc, &tree_of(alloc, page, 1)?)? != lines {
+        return Err(Error::Differs("a byte at a time"));
+    }
+    Ok(lines)
+}
+
+/// The tree of a page that comes in pieces of so many bytes.
+fn tree_of(alloc: Global, page: &[u8], size: usize) -> Result<RcDom, Error> {
+    let table = ReferenceTable::basic(alloc)?;
+    let mut reader = PageReader::new(alloc, table, ParseOpts::default(), page.len())?;
+    for piece in page.chunks(size) {
+        reader.push(piece)?;
+    }
+    Ok(reader.finish()?)
+}
