@@ -1,0 +1,58 @@
+-- An article's blocks as calls of blocks of lines, by the words of block_layout.
+use Rattle.std.specs.Prelude.{ℕ, ℤ, ◌+◌, Bool, true, false, List, [], ◌∷◌, ◌++◌, length, replicate, codes, Option, None, Some}
+use Rattle.std.specs.Option.{option_and_then}
+use Rattle.block_layout.specs.Laid.{Laid, add_block, end_block, flush, nothing_laid, start_block}
+use Rattle.render_laying.specs.Items.{spaces}
+use Rattle.render_sizes.specs.Extents.{capped}
+use Rattle.article_values.specs.Articles.{Blocks, Items, bullets, division, heading, item, no_blocks, no_items, numbers, paragraph}
+use Rattle.article_layout.specs.Calls.{measure, run, run_whole}
+use Rattle.article_layout.specs.Layouts.{Options, Tag, how_many, outermost, item_prefix, least_in, least_of_items, next_number, parts_of, room, room_of_numbers, targets_in, targets_of, targets_of_items, to_room}
+
+-- the lines of another block behind prefixes
+abbrev pub append : Options → (width within : ℕ) → List ℕ → List ℕ → Laid Tag → Laid Tag → Laid Tag
+append o width within first following sub b =
+    add_block (measure o within) (measure o width) outermost first following sub.lines b
+
+abbrev mutual
+  pub run_blocks : Options → (width links : ℕ) → Blocks → Laid Tag → Option (Laid Tag)
+  run_blocks o width n no_blocks b = Some b
+  run_blocks o width n (paragraph is rest) b =
+      option_and_then (λ b. run_blocks o width (n + length (targets_in o is)) rest (end_block b))
+      (option_and_then (run (measure o width) (parts_of o outermost n is)) (start_block (measure o width) outermost b))
+  run_blocks o width n (heading level is rest) b = let prefix = replicate level 0x23 ++ codes " " in
+      option_and_then (λ within. option_and_then (λ sub. option_and_then
+      (λ b. run_blocks o width (n + length (targets_in o is)) rest (end_block (append o width within prefix prefix sub b)))
+      (start_block (measure o width) outermost b))
+      (run_whole (measure o within) (parts_of o outermost n is) nothing_laid))
+      (room width (level + 1) (capped (least_in o is + (level + 1))))
+  run_blocks o width n (division kids rest) b =
+      option_and_then (run_blocks o width (n + length (targets_of o kids)) rest)
+      (option_and_then (flush (measure o width) outermost)
+      (option_and_then (run_blocks o width n kids) (flush (measure o width) outermost b)))
+  run_blocks o width n (bullets items rest) b =
+      option_and_then (run_blocks o width (n + length (targets_of_items o items)) rest)
+      (option_and_then (run_items o width n 2 (capped (least_of_items o items + 2)) None items)
+      (start_block (measure o width) outermost b))
+  run_blocks o width n (numbers first items rest) b = let columns = room_of_numbers first (how_many items) in
+      option_and_then (run_blocks o width (n + length (targets_of_items o items)) rest)
+      (option_and_then (run_items o width n columns (capped (least_of_items o items + columns)) (Some first) items)
+      (start_block (measure o width) outermost b))
+
+  pub run_items : Options → (width links columns least : ℕ) → Option ℤ → Items → Laid Tag → Option (Laid Tag)
+  run_items o width n columns least at no_items b = Some b
+  run_items o width n columns least at (item kids rest) b =
+      option_and_then (λ within. option_and_then (λ sub. option_and_then
+      (λ b. run_items o width (n + length (targets_of o kids)) columns least (next_number at) rest
+      (append o width within (to_room columns (item_prefix at)) (spaces columns) sub b))
+      (flush (measure o width) outermost b))
+      (option_and_then (flush (measure o within) outermost) (run_blocks o within n kids nothing_laid)))
+      (room width columns least)
+
+-- whether the next text would start a block
+abbrev pub awaits_behind : Blocks → Bool → Bool
+awaits_behind no_blocks b = b
+awaits_behind (paragraph is rest) b = awaits_behind rest true
+awaits_behind (heading level is rest) b = awaits_behind rest true
+awaits_behind (division kids rest) b = awaits_behind rest (awaits_behind kids b)
+awaits_behind (bullets items rest) b = awaits_behind rest false
+awaits_behind (numbers first items rest) b = awaits_behind rest false
