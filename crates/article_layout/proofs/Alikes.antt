@@ -1,8 +1,7 @@
 -- Lines that are alike but for a paragraph's.
-use Rattle.std.proofs.Common.{◌≡◌, ℕ, ◌==◌, Bool, true, false, not, ◌||◌, List, [], ◌∷◌, ◌++◌, map, Option, None, Some, if◌then◌else◌, filter, refl, sym, ap, subst, ◌∙◌, append_assoc, append-nil}
+use Rattle.std.proofs.Common.{◌≡◌, ℕ, Bool, true, false, not, ◌||◌, List, [], ◌∷◌, ◌++◌, map, None, if◌then◌else◌, refl, sym, ap, subst, ◌∙◌, append_assoc, append-nil}
 use Rattle.std.proofs.lemmas.List.Elements.{filter-append}
 use Rattle.std.proofs.lemmas.List.Folds.{list_any-append}
-use Rattle.std.specs.List.{list_any}
 use Rattle.article_layout.specs.Exchanges.{Alike, IsParagraph, changed, is_number, no_lines, others, same_line}
 use Rattle.article_layout.specs.Layouts.{Line, Options, behind, empty_line, has_content, parted, prefixed, outermost}
 use Rattle.text_pieces.specs.Sources.{is_filled}

@@ -1,16 +1,16 @@
 -- The calls of a paragraph lay just its lines.
-use Rattle.std.proofs.Common.{◌≡◌, ℕ, Bool, true, false, not, ◌&&◌, ◌||◌, List, [], ◌∷◌, ◌++◌, map, codes, Option, None, Some, if◌then◌else◌, fold, refl, sym, ap, subst, ◌∙◌, append_assoc, append-nil}
+use Rattle.std.proofs.Common.{◌≡◌, ℕ, Bool, true, false, not, ◌&&◌, List, [], ◌∷◌, ◌++◌, map, Option, None, Some, if◌then◌else◌, refl, sym, ap, ◌∙◌, append_assoc, append-nil}
 use Rattle.std.specs.Option.{option_and_then, option_map}
-use Rattle.std.specs.Prelude.{flat_map, unwrap_or}
+use Rattle.std.specs.Prelude.{flat_map}
 use Rattle.normal_text.specs.Letters.{has_marker}
 use Rattle.normal_text.specs.Riders.{has_wide_text, normal_lines, normal_waiting}
-use Rattle.tagged_lines.specs.Tagged.{Item, marker}
+use Rattle.tagged_lines.specs.Tagged.{Item}
 use Rattle.text_borders.specs.Across.{CellLine, Hanging}
 use Rattle.text_borders.specs.Lines.{text}
-use Rattle.text_pieces.specs.Items.{has_text, markers_of}
+use Rattle.text_pieces.specs.Items.{markers_of}
 use Rattle.text_pieces.specs.Sources.{Source, fragment, fragments, is_filled, letter, names_of as marker_names, sourced}
 use Rattle.text_pieces.specs.declared.white_space.WhiteSpace.{WhiteSpace}
-use Rattle.text_pieces.specs.declared.white_space.WhiteSpace.TheVariants.{Normal, Pre, PreWrap}
+use Rattle.text_pieces.specs.declared.white_space.WhiteSpace.TheVariants.{Normal}
 use Rattle.text_wrapping.specs.Blocks.{Block, ended_lines, ends_in_columns, padded, took_all, without_source}
 use Rattle.text_wrapping.specs.Blocks.{lines_behind as ended_behind}
 use Rattle.preserved_text.specs.Preserved.{names_of}
@@ -18,7 +18,7 @@ use Rattle.block_layout.specs.Laid.{Laid, Running, add_empty_line, add_text, add
 use Rattle.block_layout.specs.Laid.{lines_behind as found_behind}
 use Rattle.block_layout.specs.declared.measure.Measure.{Measure}
 use Rattle.article_layout.specs.Calls.{block_with, cell_of, measure, run, run_whole}
-use Rattle.article_layout.specs.Layouts.{Line, Options, Part, Stretch, Tag, all_fit, begun_by, break_lines, breaks, empty_line, filled, if_fits, line_of, lines_of_stretches, paragraph_lines, parts_of, says, stretch_lines, stretches, wrap_at, outermost}
+use Rattle.article_layout.specs.Layouts.{Line, Options, Part, Stretch, Tag, all_fit, begun_by, break_lines, breaks, empty_line, if_fits, line_of, lines_of_stretches, paragraph_lines, parts_of, says, stretch_lines, stretches, wrap_at, outermost}
 use Rattle.article_values.specs.Articles.{Inlines}
 
 -- ---- nothing

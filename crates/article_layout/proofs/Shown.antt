@@ -1,5 +1,5 @@
 -- A paragraph with a visible character has a line with content, and its links don't depend on the text.
-use Rattle.std.proofs.Common.{◌≡◌, ℕ, suc, ◌+◌, ◌==◌, Bool, true, false, not, ◌&&◌, ◌||◌, List, [], ◌∷◌, ◌++◌, length, map, codes, Option, None, Some, if◌then◌else◌, filter, refl, sym, ap, subst, ◌∙◌}
+use Rattle.std.proofs.Common.{◌≡◌, ℕ, suc, ◌+◌, ◌==◌, Bool, true, false, not, ◌&&◌, ◌||◌, List, [], ◌∷◌, ◌++◌, length, map, codes, Option, None, Some, if◌then◌else◌, refl, sym, ap, subst, ◌∙◌}
 use Rattle.std.proofs.lemmas.Bool.{eq-eqb}
 use Rattle.std.proofs.lemmas.List.Elements.{filter-append}
 use Rattle.std.proofs.lemmas.List.Folds.{list_any-append}
@@ -13,7 +13,7 @@ use Rattle.text_pieces.specs.Items.{has_text}
 use Rattle.text_pieces.specs.Sources.{Source, is_filled, letter, fragment, sourced}
 use Rattle.text_wrapping.specs.Blocks.{ends_in_columns}
 use Rattle.article_layout.specs.Showing.{has_visible, is_visible}
-use Rattle.article_values.specs.Articles.{Inlines, Style, line_break, link, no_inlines, span, words}
+use Rattle.article_values.specs.Articles.{Inlines, Style, line_break, link, span, words}
 use Rattle.article_layout.specs.Exchanges.{DifferInline, IsParagraph, HasVisible, behind_break, behind_link, behind_span, behind_text, in_link, in_span, is_number, others, this_text}
 use Rattle.article_layout.specs.Layouts.{Line, Options, Part, Stretch, begun_by, all_fit, all_shallow, break_lines, breaks, empty_line, has_content, has_none, if_fits, line_of, lines_of_stretches, mark_of, number_mark, paragraph_lines, parts_of, says, stretch_lines, stretches, targets_in, unless_shallow, wrap_at, Tag, outermost, within}
 

@@ -1,5 +1,5 @@
 -- An article's blocks as calls of blocks of lines, by the words of block_layout.
-use Rattle.std.specs.Prelude.{ℕ, ℤ, ◌+◌, Bool, true, false, List, [], ◌∷◌, ◌++◌, length, replicate, codes, Option, None, Some}
+use Rattle.std.specs.Prelude.{ℕ, ℤ, ◌+◌, Bool, true, false, List, ◌++◌, length, replicate, codes, Option, None, Some}
 use Rattle.std.specs.Option.{option_and_then}
 use Rattle.block_layout.specs.Laid.{Laid, add_block, end_block, flush, nothing_laid, start_block}
 use Rattle.render_laying.specs.Items.{spaces}

@@ -1,5 +1,5 @@
 -- A paragraph's text as calls of a block of lines.
-use Rattle.std.specs.Prelude.{ℕ, Bool, false, List, [], ◌∷◌, ◌++◌, map, Option, None, Some}
+use Rattle.std.specs.Prelude.{ℕ, false, List, [], ◌∷◌, Option, Some}
 use Rattle.std.specs.Option.{option_and_then}
 use Rattle.block_layout.specs.Laid.{Laid, Running, add_text, break_line, flush}
 use Rattle.block_layout.specs.declared.measure.Measure.{Measure}

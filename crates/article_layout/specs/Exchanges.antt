@@ -1,9 +1,7 @@
 -- Articles that differ in one text, and lines that differ in one paragraph.
 use Rattle.std.specs.Prelude.{◌≡◌, ℕ, ℤ, suc, ◌+◌, ◌==◌, Bool, true, false, not, List, [], ◌∷◌, ◌++◌, filter, Option, None, Some}
 use Rattle.std.specs.Char.{is_whitespace}
-use Rattle.std.specs.List.{list_any}
-use Rattle.tagged_lines.specs.Columns.{width_of}
-use Rattle.article_values.specs.Articles.{Blocks, Inlines, Items, Style, bullets, division, heading, item, line_break, link, no_blocks, no_items, no_inlines, numbers, paragraph, span, words}
+use Rattle.article_values.specs.Articles.{Blocks, Inlines, Items, Style, bullets, division, heading, item, line_break, link, numbers, paragraph, span, words}
 use Rattle.article_layout.specs.Layouts.{Line, count, count_items, has_content}
 use Rattle.article_layout.specs.Showing.{is_visible}
 

@@ -6,7 +6,7 @@ use Rattle.std.specs.List.{list_all, list_any}
 use Rattle.std.specs.Option.{option_map, option_and_then}
 use Rattle.footnote_lines.specs.Footnotes.{footnote_lines}
 use Rattle.normal_text.specs.Riders.{has_wide_text, normal_lines}
-use Rattle.tagged_lines.specs.Tagged.{Item, character, tagged}
+use Rattle.tagged_lines.specs.Tagged.{Item, tagged}
 use Rattle.text_decorators.specs.Texts.{footnote_text}
 use Rattle.text_pieces.specs.Items.{has_text}
 use Rattle.text_pieces.specs.Sources.{Source, is_filled, sourced}

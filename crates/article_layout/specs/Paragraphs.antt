@@ -1,5 +1,4 @@
 -- Articles of paragraphs alone.
-use Rattle.std.specs.Prelude.{ℕ, ◌≤◌}
 use Rattle.article_values.specs.Articles.{Blocks, bullets, division, heading, no_blocks, numbers, paragraph}
 
 abbrev pub AreParagraphs : Blocks → Type 0

@@ -1,5 +1,5 @@
 -- The visible characters of lines and of texts.
-use Rattle.std.specs.Prelude.{ℕ, Bool, false, not, nat_lt, ◌&&◌, ◌||◌, List, [], ◌∷◌, filter, flat_map}
+use Rattle.std.specs.Prelude.{ℕ, Bool, false, not, nat_lt, ◌&&◌, ◌||◌, List, [], ◌∷◌, filter}
 use Rattle.tagged_lines.specs.Columns.{width_of}
 use Rattle.tagged_lines.specs.Tagged.{Item, characters}
 use Rattle.text_pieces.specs.Sources.{Source, fragment, is_break_point, letter}

@@ -1,5 +1,5 @@
 //! Laws of the layout of articles.
-ghost use Rattle.std.specs.Prelude.{◌≡◌, ◌≤◌, ◌++◌, ℕ, List, [], map, Option, None, Some, option_map, filter, flat_map, option_and_then};
+ghost use Rattle.std.specs.Prelude.{◌≡◌, ◌≤◌, ◌++◌, ℕ, List, [], map, None, Some, option_map, filter, flat_map, option_and_then};
 ghost use Rattle.article_values.specs.Articles.{Blocks, Inlines};
 ghost use Rattle.article_layout.specs.BlockCalls.{run_blocks};
 ghost use Rattle.article_layout.specs.Calls.{block_with, cell_of, measure, run_whole};
