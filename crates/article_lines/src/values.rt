@@ -127,7 +127,13 @@ impl Values {
     fn inlines_at(&mut self, level: usize) -> Result<Vec<Inline>, Error> {
         let mut inlines = Vec::new(self.alloc);
         for _ in 0..self.count_at(level) {
-            let Some(Waiting { value: Value::Inline(inline), .. }) = self.waiting.pop() else {
+            let Some(
+                Waiting {
+                    value: Value::Inline(inline),
+                    ..
+                },
+            ) = self.waiting.pop()
+            else {
                 return Err(Error::Case("a block stands where inlines do"));
             };
             inlines.push(inline)?;
@@ -138,7 +144,13 @@ impl Values {
     fn blocks_at(&mut self, level: usize) -> Result<Vec<Block>, Error> {
         let mut blocks = Vec::new(self.alloc);
         for _ in 0..self.count_at(level) {
-            let Some(Waiting { value: Value::Block(block), .. }) = self.waiting.pop() else {
+            let Some(
+                Waiting {
+                    value: Value::Block(block),
+                    ..
+                },
+            ) = self.waiting.pop()
+            else {
                 return Err(Error::Case("what is no block stands where blocks do"));
             };
             blocks.push(block)?;
@@ -149,7 +161,13 @@ impl Values {
     fn items_at(&mut self, level: usize) -> Result<Vec<Vec<Block>>, Error> {
         let mut items = Vec::new(self.alloc);
         for _ in 0..self.count_at(level) {
-            let Some(Waiting { value: Value::Item(item), .. }) = self.waiting.pop() else {
+            let Some(
+                Waiting {
+                    value: Value::Item(item),
+                    ..
+                },
+            ) = self.waiting.pop()
+            else {
                 return Err(Error::Case("what is no item stands in a list"));
             };
             items.push(item)?;
