@@ -44,11 +44,13 @@ fn serve<R: Env + Input + Print + AllocGlobal>(rt: &R) -> Result<(), Error> {
 
 fn asks_for_trees<R: Env + AllocGlobal>(rt: &R) -> Result<bool, Error> {
     let mut words = env::args(rt)?.skip(1);
-    match (words.next(), words.next()) {
-        (None, _) => Ok(false),
-        (Some(word), None) if word.as_str() == "--trees" => Ok(true),
-        _ => Err(Error::Words),
+    let Some(word) = words.next() else {
+        return Ok(false);
+    };
+    if word.as_str() != "--trees" || words.next().is_some() {
+        return Err(Error::Words);
     }
+    Ok(true)
 }
 
 fn tell_cases<W: Write>(

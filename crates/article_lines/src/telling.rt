@@ -68,11 +68,11 @@ fn tree_read_back(alloc: Global, page: &[u8]) -> Result<String, Error> {
     Ok(lines)
 }
 
-/// The tree of a page that comes in pieces of so many bytes.
+/// The tree of a page that comes in pieces of so many bytes, of one at least.
 fn tree_of(alloc: Global, page: &[u8], size: usize) -> Result<RcDom, Error> {
     let table = ReferenceTable::basic(alloc)?;
     let mut reader = PageReader::new(alloc, table, ParseOpts::default(), page.len())?;
-    for piece in page.chunks(size) {
+    for piece in page.chunks(size.max(1)) {
         reader.push(piece)?;
     }
     Ok(reader.finish()?)
