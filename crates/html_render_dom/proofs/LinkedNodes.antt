@@ -7,10 +7,12 @@ use Rattle.html_forest.specs.Forest.{Forest, Holds, Kind, children_at, document,
 use Rattle.html_forest.specs.Orders.{HasNoParent, IsForest, IsIn, of_child}
 use Rattle.html_forest.proofs.Nodes.{holds_child}
 use Rattle.html_render_dom.specs.Links.{AreLinks, IsLinked}
-use Rattle.html_render_dom.specs.Nodes.{forest_of, link_at, links_of}
+use Rattle.html_render_dom.specs.Nodes.{forest_of, links_of}
+use Rattle.html_render_dom.specs.Siblings.{Links, link_at}
+use Rattle.html_render_dom.proofs.LinkChanges.{down}
 use Rattle.html_render_dom.specs.declared.nodes.Nodes.{Nodes}
 
-pub linked_at : (held : Nodes) (f : Forest) (links : List (Option ℕ)) → forest_of held ≡ f → links_of held ≡ links →
+pub linked_at : (held : Nodes) (f : Forest) (links : Links) → forest_of held ≡ f → links_of held ≡ links →
     IsForest f → AreLinks f links → IsLinked held
 linked_at held f links e l forest are = record {
   forest = subst IsForest (sym e) forest;
@@ -21,25 +23,26 @@ pub no_child : (n : ℕ) (f : Forest) → HasNoParent n f → (q : ℕ) → ¬ (
 no_child n f free q h = free q (of_child q n h)
 
 -- the parent that a child has noted
-pub noted_child : (held : Nodes) (n p : ℕ) → IsLinked held → Some p ≡ link_at n (links_of held) →
+pub noted_child : (held : Nodes) (n p : ℕ) → IsLinked held → Some p ≡ link_at n (links_of held).parent →
     IsIn n (children_at p (forest_of held))
 noted_child held n p linked e = linked.links.up n p (sym e)
 
 pub noted_holds : (held : Nodes) (n p : ℕ) → IsLinked held → Some p
-    ≡ link_at n (links_of held) → Holds p (forest_of held)
+    ≡ link_at n (links_of held).parent → Holds p (forest_of held)
 noted_holds held n p linked e = holds_child p n (forest_of held) (noted_child held n p linked e)
 
 -- a node that has noted no parent stands nowhere
-pub stands_nowhere : (held : Nodes) (n : ℕ) → IsLinked held → None ≡ link_at n (links_of held) →
+pub stands_nowhere : (held : Nodes) (n : ℕ) → IsLinked held → None ≡ link_at n (links_of held).parent →
     ((p : ℕ) → parent_of n (forest_of held) ≡ Some p → IsIn n (children_at p (forest_of held))) →
     parent_of n (forest_of held) ≡ None
 stands_nowhere held n linked none found = of (parent_of n (forest_of held)) refl where
   of : (at : Option ℕ) → parent_of n (forest_of held) ≡ at → at ≡ None
   of None e = refl
-  of (Some p) e = absurd (let both : None ≡ Some p = none ∙ linked.links.down n p (found p e) in cc)
+  of (Some p) e = absurd (let both : None ≡ Some p = none ∙ down (forest_of held) (links_of held) n p linked.links
+      (found p e) in cc)
 
 -- what a node has noted is its parent
-pub noted_parent : (held : Nodes) (n : ℕ) (at : Option ℕ) → IsLinked held → at ≡ link_at n (links_of held) →
+pub noted_parent : (held : Nodes) (n : ℕ) (at : Option ℕ) → IsLinked held → at ≡ link_at n (links_of held).parent →
     ((p : ℕ) → parent_of n (forest_of held) ≡ Some p → IsIn n (children_at p (forest_of held))) →
     ((p : ℕ) → IsIn n (children_at p (forest_of held)) → parent_of n (forest_of held) ≡ Some p) →
     at ≡ parent_of n (forest_of held)

@@ -4,7 +4,7 @@ use Rattle.std.proofs.Common.{length, take, slice_index_or, refl, sym, ap, subst
 use Rattle.std.proofs.Math.Bool.{or-false}
 use Rattle.std.proofs.lemmas.List.{take_more}
 use Rattle.std.specs.Cmp.{both_ways}
-use Rattle.std.specs.HashSet.{HashSet, Updates, contains}
+use Rattle.std.specs.HashSet.{HashSet, Updates}
 use Rattle.std.specs.List.{list_any}
 use Rattle.std.specs.declared.hash.BuildHasherDefault.{BuildHasherDefault}
 use Rattle.std.specs.declared.hash.FoldHasher.{FoldHasher}

@@ -1,16 +1,15 @@
 -- What a write to one node leaves of all nodes.
-use Rattle.std.proofs.Common.{◌≡◌, ℕ, ◌+◌, ◌<◌, Bool, false, List, [], ◌∷◌, ◌++◌, Option, None, Some, map, length}
-use Rattle.std.proofs.Common.{slice_index_or, slice_set, option_map, is_some, MatchOption, refl, sym, ap, ◌∙◌, zero}
+use Rattle.std.proofs.Common.{◌≡◌, ℕ, ◌<◌, Bool, false, List, [], ◌∷◌, Option, map, length}
+use Rattle.std.proofs.Common.{slice_index_or, slice_set, option_map, is_some, refl, sym, ap, ◌∙◌, zero}
 use Rattle.std.proofs.Common.{suc, arith}
-use Rattle.std.specs.Option.{option_to_list}
 use Rattle.std.proofs.Math.Seq.{map-set_same}
-use Rattle.std.proofs.lemmas.List.{length-map, map_push}
 use Rattle.html_lexemes.specs.declared.names.Attribute.{Attribute}
 use Rattle.html_lexemes.specs.declared.names.QualName.{QualName}
 use Rattle.html_forest.specs.Changes.{changed, kind_with}
 use Rattle.html_forest.specs.Forest.{Kind, Node, element, node_at, text_of}
-use Rattle.html_render_dom.specs.Nodes.{kind_of, link_of, node_of}
+use Rattle.html_render_dom.specs.Nodes.{kind_of, links_in, node_in}
 use Rattle.html_render_dom.specs.Numbers.{number_of}
+use Rattle.html_render_dom.specs.Siblings.{Links}
 use Rattle.html_render_dom.specs.declared.node.Handle.{Handle}
 use Rattle.html_render_dom.specs.declared.node.Node.{Node as HeldNode}
 use Rattle.html_render_dom.specs.declared.node.NodeData.{NodeData}
@@ -32,34 +31,30 @@ element_with name attributes contents point = element (record {
 abbrev pub adding : List Attribute → Node → Node
 adding more x = record { kind = kind_with more x.kind; children = x.children }
 
-node_at_or : (xs : List HeldNode) (n : ℕ) (d : HeldNode) → n < length (map node_of xs) →
-    node_at n (map node_of xs) ≡ node_of (slice_index_or xs n d)
-node_at_or [] n d h = absurd (omega arith)
-node_at_or (x ∷ xs) zero d h = refl
-node_at_or (x ∷ xs) (suc n) d h = node_at_or xs n d (omega arith)
+node_at_or : (next : List (Option ℕ)) (xs : List HeldNode) (n : ℕ) (d : HeldNode) → n < length (map (node_in next) xs) →
+    node_at n (map (node_in next) xs) ≡ node_in next (slice_index_or xs n d)
+node_at_or next [] n d h = absurd (omega arith)
+node_at_or next (x ∷ xs) zero d h = refl
+node_at_or next (x ∷ xs) (suc n) d h = node_at_or next xs n d (omega arith)
 
-pub node_read : (xs : List HeldNode) (n : ℕ) (x : HeldNode) → x ≡ slice_index_or xs n x → n < length (map node_of xs) →
-    node_at n (map node_of xs) ≡ node_of x
-node_read xs n x read h = node_at_or xs n x h ∙ sym (ap node_of read)
+pub node_read : (next : List (Option ℕ)) (xs : List HeldNode) (n : ℕ) (x : HeldNode) → x ≡ slice_index_or xs n x → n <
+    length (map (node_in next) xs) →
+    node_at n (map (node_in next) xs) ≡ node_in next x
+node_read next xs n x read h = node_at_or next xs n x h ∙ sym (ap (node_in next) read)
 
-changed_or : (g : Node → Node) (xs : List HeldNode) (n : ℕ) (y d : HeldNode) → n < length (map node_of xs) →
-    node_of y ≡ g (node_of (slice_index_or xs n d)) → map node_of (slice_set xs n y) ≡ changed n g (map node_of xs)
-changed_or g [] n y d h is = absurd (omega arith)
-changed_or g (x ∷ xs) zero y d h is = ap (λ v. v ∷ map node_of xs) is
-changed_or g (x ∷ xs) (suc n) y d h is = ap (λ v. node_of x ∷ v) (changed_or g xs n y d (omega arith) is)
+changed_or : (next : List (Option ℕ)) (g : Node → Node) (xs : List HeldNode) (n : ℕ) (y d : HeldNode) → n < length
+    (map (node_in next) xs) →
+    node_in next y ≡ g (node_in next (slice_index_or xs n d)) → map (node_in next) (slice_set xs n y) ≡ changed n g
+    (map (node_in next) xs)
+changed_or next g [] n y d h is = absurd (omega arith)
+changed_or next g (x ∷ xs) zero y d h is = ap (λ v. v ∷ map (node_in next) xs) is
+changed_or next g (x ∷ xs) (suc n) y d h is = ap (λ v. node_in next x ∷ v) (changed_or next g xs n y d (omega arith) is)
 
-pub node_changed : (g : Node → Node) (xs : List HeldNode) (n : ℕ) (x y : HeldNode) → x ≡ slice_index_or xs n x →
-    n < length (map node_of xs) → node_of y ≡ g (node_of x) →
-    map node_of (slice_set xs n y) ≡ changed n g (map node_of xs)
-node_changed g xs n x y read h is = changed_or g xs n y x h (is ∙ ap (λ v. g (node_of v)) read)
-
-pub same_nodes : (xs : List HeldNode) (n : ℕ) (x y : HeldNode) → x ≡ slice_index_or xs n x → node_of y ≡ node_of x →
-    map node_of (slice_set xs n y) ≡ map node_of xs
-same_nodes xs n x y read is = map-set_same node_of xs n y x (is ∙ ap node_of read)
-
-pub same_links : (xs : List HeldNode) (n : ℕ) (x y : HeldNode) → x ≡ slice_index_or xs n x → link_of y ≡ link_of x →
-    map link_of (slice_set xs n y) ≡ map link_of xs
-same_links xs n x y read is = map-set_same link_of xs n y x (is ∙ ap link_of read)
+node_changed : (next : List (Option ℕ)) (g : Node → Node) (xs : List HeldNode) (n : ℕ) (x y : HeldNode) → x ≡
+    slice_index_or xs n x →
+    n < length (map (node_in next) xs) → node_in next y ≡ g (node_in next x) →
+    map (node_in next) (slice_set xs n y) ≡ changed n g (map (node_in next) xs)
+node_changed next g xs n x y read h is = changed_or next g xs n y x h (is ∙ ap (λ v. g (node_in next v)) read)
 
 -- a node that is no text, and one that is no element
 pub no_text : (d : NodeData) → ((t : List ℕ) → d ≡ data_of.Text t → ⊥) → false ≡ is_some (text_of (kind_of d))
@@ -80,9 +75,18 @@ no_element more (data_of.Comment contents) isnt = refl
 no_element more (data_of.Element name attrs contents point) isnt = absurd (isnt name attrs contents point refl)
 no_element more (data_of.ProcessingInstruction target contents) isnt = refl
 
--- the last of some things was taken out
-pub popped : {B : Type 0} (f : HeldNode → B) (xs ys : List HeldNode) (r : Option HeldNode) (n m : ℕ) →
-    xs ≡ ys ++ option_to_list r → MatchOption r ((n ≡ 0) × (m ≡ 0)) (λ _. m + 1 ≡ n) → n ≡ length xs →
-    0 < length (map node_of xs) → (b : B) × (map f xs ≡ map f ys ++ b ∷ [])
-popped f xs ys None n m split empty count some = absurd (omega (arith, empty.0, count, length-map xs node_of))
-popped f xs ys (Some x) n m split _ count some = (f x, ap (map f) split ∙ map_push f ys x)
+-- all nodes, where one of them changes in what it is alone
+pub forest_changed : (g : Node → Node) (xs : List HeldNode) (n : ℕ) (x y : HeldNode) → x ≡ slice_index_or xs n x →
+    n < length (map (node_in (links_in xs).next) xs) →
+    node_in (links_in xs).next y ≡ g (node_in (links_in xs).next x) → links_in (slice_set xs n y) ≡ links_in xs →
+    map (node_in (links_in (slice_set xs n y)).next) (slice_set xs n y) ≡ changed n g
+    (map (node_in (links_in xs).next) xs)
+forest_changed g xs n x y read h is links =
+    ap (λ (l : Links). map (node_in l.next) (slice_set xs n y)) links ∙ node_changed (links_in xs).next g xs n x y
+    read h is
+
+pub forest_same : (xs : List HeldNode) (n : ℕ) (x y : HeldNode) → x ≡ slice_index_or xs n x →
+    node_in (links_in xs).next y ≡ node_in (links_in xs).next x → links_in (slice_set xs n y) ≡ links_in xs →
+    map (node_in (links_in (slice_set xs n y)).next) (slice_set xs n y) ≡ map (node_in (links_in xs).next) xs
+forest_same xs n x y read is links = ap (λ (l : Links). map (node_in l.next) (slice_set xs n y)) links
+    ∙ map-set_same (node_in (links_in xs).next) xs n y x (is ∙ ap (node_in (links_in xs).next) read)

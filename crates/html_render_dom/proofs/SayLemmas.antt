@@ -16,10 +16,11 @@ use Rattle.html_forest.proofs.LawTexts.{new_text, new_text_behind, text_more}
 use Rattle.html_forest.proofs.MovedNodes.{said_kept}
 use Rattle.html_forest.proofs.Nodes.{kept, size_changed}
 use Rattle.html_forest.proofs.ParentChanges.{child_of_parent}
-use Rattle.html_render_dom.proofs.LinkLemmas.{linked_same}
+use Rattle.html_render_dom.proofs.LinkChanges.{down, linked_same}
 use Rattle.html_render_dom.proofs.LinkedNodes.{linked_at}
 use Rattle.html_render_dom.specs.Links.{AreLinks, IsLinked}
-use Rattle.html_render_dom.specs.Nodes.{forest_of, is_some_text, link_at, links_of}
+use Rattle.html_render_dom.specs.Nodes.{forest_of, is_some_text, links_of}
+use Rattle.html_render_dom.specs.Siblings.{Links, link_at}
 use Rattle.html_render_dom.specs.Numbers.{number_of}
 use Rattle.html_render_dom.specs.declared.node.Handle.{Handle}
 use Rattle.html_render_dom.specs.declared.nodes.Nodes.{Nodes}
@@ -33,13 +34,14 @@ has_characters bytes some utf8 is =
     let none : length (chars bytes) ≡ 0 = ap length is in omega arith
 
 -- the parent that is noted is the parent
-parent_noted : (s : ℕ) (f : Forest) (links : List (Option ℕ)) (o : Option ℕ) → IsForest f → AreLinks f links →
-    link_at s links ≡ o → parent_of s f ≡ o
+parent_noted : (s : ℕ) (f : Forest) (links : Links) (o : Option ℕ) → IsForest f → AreLinks f links →
+    link_at s links.parent ≡ o → parent_of s f ≡ o
 parent_noted s f links (Some p) forest linked e = parent_is s p f forest (linked.up s p e)
 parent_noted s f links None forest linked e = none (parent_of s f) refl where
   none : (o : Option ℕ) → parent_of s f ≡ o → parent_of s f ≡ None
   none None is = is
-  none (Some p) is = absurd (let down : link_at s links ≡ Some p = linked.down s p (child_of_parent s p f is) in cc)
+  none (Some p) is = absurd (let down : link_at s links.parent ≡ Some p = down f links s p linked
+      (child_of_parent s p f is) in cc)
 
 with_parent : (s p : ℕ) (f : Forest) → parent_of s f ≡ Some p →
     one_before s (children_at p f) ≡ one_before s (siblings_of s f)
@@ -48,12 +50,12 @@ with_parent s p f e = rw e
 without_parent : (s : ℕ) (f : Forest) → parent_of s f ≡ None → None ≡ one_before s (siblings_of s f)
 without_parent s f e = rw e
 
-pub before_some : (held : Nodes) (s p : ℕ) → IsLinked held → Some p ≡ link_at s (links_of held) →
+pub before_some : (held : Nodes) (s p : ℕ) → IsLinked held → Some p ≡ link_at s (links_of held).parent →
     one_before s (children_at p (forest_of held)) ≡ one_before s (siblings_of s (forest_of held))
 before_some held s p linked e = with_parent s p (forest_of held)
     (parent_noted s (forest_of held) (links_of held) (Some p) linked.forest linked.links (sym e))
 
-pub before_none : (held : Nodes) (s : ℕ) → IsLinked held → None ≡ link_at s (links_of held) →
+pub before_none : (held : Nodes) (s : ℕ) → IsLinked held → None ≡ link_at s (links_of held).parent →
     None ≡ one_before s (siblings_of s (forest_of held))
 before_none held s linked e = without_parent s (forest_of held)
     (parent_noted s (forest_of held) (links_of held) None linked.forest linked.links (sym e))
@@ -70,15 +72,16 @@ pub said_linked : {E : Type 0} (r : Result Bool E) (held old : Nodes) (n : ℕ) 
     IfOk r (λ is. is ≡ false → forest_of held ≡ forest_of old) → OnErr r (forest_of held ≡ forest_of old) →
     links_of held ≡ links_of old → IsLinked held
 said_linked r held old n cs linked more other err links =
-    either (said_or_same r (forest_of held) (changed n (saying cs) (forest_of old)) (forest_of old) more other err) where
-      either : (forest_of held ≡ changed n (saying cs) (forest_of old)) ⊎ (forest_of held
-          ≡ forest_of old) → IsLinked held
-      either (inl said) = linked_at held (changed n (saying cs) (forest_of old)) (links_of old) said links
-          (said_kept n cs (forest_of old) linked.forest)
-          (linked_same (forest_of old) (changed n (saying cs) (forest_of old)) (links_of old) linked.links
-          (size_changed n (saying cs) (forest_of old))
-          (λ q. kept (λ x. x.children) (saying cs) n q (forest_of old) (λ x. refl)))
-      either (inr same) = linked_at held (forest_of old) (links_of old) same links linked.forest linked.links
+    either (said_or_same r (forest_of held) (changed n (saying cs) (forest_of old)) (forest_of old) more other err)
+  where
+    either : (forest_of held ≡ changed n (saying cs) (forest_of old)) ⊎ (forest_of held
+        ≡ forest_of old) → IsLinked held
+    either (inl said) = linked_at held (changed n (saying cs) (forest_of old)) (links_of old) said links
+        (said_kept n cs (forest_of old) linked.forest)
+        (linked_same (forest_of old) (changed n (saying cs) (forest_of old)) (links_of old) linked.links
+        (size_changed n (saying cs) (forest_of old))
+        (λ q. kept (λ x. x.children) (saying cs) n q (forest_of old) (λ x. refl)))
+    either (inr same) = linked_at held (forest_of old) (links_of old) same links linked.forest linked.links
 
 -- the node right before a place is there
 last_in : (ns : List ℕ) (n : ℕ) → last_of ns ≡ Some n → IsIn n ns

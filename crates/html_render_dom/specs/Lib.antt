@@ -5,4 +5,6 @@ pub mod Links
 pub mod Names
 pub mod Nodes
 pub mod Numbers
+pub mod Siblings
+pub mod Spans
 pub mod Styled

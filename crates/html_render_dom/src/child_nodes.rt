@@ -1,31 +1,68 @@
 //! The children of a node, one by one.
-ghost use Rattle.std.specs.Prelude.{◌≡◌, []};
+ghost use Rattle.std.specs.Prelude.{◌≡◌, [], option_map};
 ghost use Rattle.std.specs.Iterator.{YieldsFirstBy, YieldsLastBy, item_count};
+ghost use Rattle.html_forest.specs.Forest.{Holds, children_at};
 ghost use Rattle.html_render_dom.specs.ChildNodes.{children_left};
+ghost use Rattle.html_render_dom.specs.Links.{IsLinked};
+ghost use Rattle.html_render_dom.specs.Nodes.{forest_of};
 ghost use Rattle.html_render_dom.specs.Numbers.{number_of};
+ghost use Rattle.html_render_dom.specs.Spans.{is_at};
 
-use crate::children::Children;
 use crate::node::Handle;
+use crate::nodes::Nodes;
+use std::marker::Model;
 
 /// The children of a node, in order, from either end. Once none is left there is none, however often it is asked.
 #[derive(Drop)]
 pub struct ChildNodes<'a> {
-    rest: &'a [Handle],
+    nodes: &'a Nodes,
+    front: Option<Handle>,
+    back: Option<Handle>,
+}
+
+impl<'a> Model for ChildNodes<'a> {
+    ghost use Rattle.std.specs.Prelude.{List, ℕ, length, option_map};
+    ghost use Rattle.html_render_dom.specs.Nodes.{kinds_of, links_of};
+    ghost use Rattle.html_render_dom.specs.Numbers.{number_of};
+    ghost use Rattle.html_render_dom.specs.Spans.{IsLeft, span};
+
+    ghost Value = { List ℕ };
+
+    ghost view = { λ c. span (links_of c.nodes.now).next (length (links_of c.nodes.now).next)
+        (option_map number_of c.front)
+        (option_map number_of c.back) };
+
+    ghost invariant = { λ c. IsLeft (links_of c.nodes.now) (length (kinds_of c.nodes.now))
+        (option_map number_of c.front)
+        (option_map number_of c.back) };
+}
+
+impl Nodes {
+    /// The children of a node, in order.
+    pub(crate) fn children(&self, target: Handle) -> ChildNodes<'_>
+        requires linked { IsLinked self.now }
+        requires holds { Holds (number_of target) (forest_of self.now) }
+        ensures { children_left result ≡ children_at (number_of target) (forest_of self.now) }
+    {
+        let front = self.child_behind(target, None);
+        let back = self.child_before(target, None);
+        ChildNodes {
+            nodes: self,
+            front,
+            back,
+        }
+    }
 }
 
 impl<'a> ChildNodes<'a> {
-    pub(crate) fn of(children: &'a Children) -> ChildNodes<'a>
-        ensures { children_left result ≡ children.now }
-    {
-        ChildNodes {
-            rest: children.as_slice(),
-        }
-    }
-
-    pub(crate) fn none() -> ChildNodes<'a>
+    pub(crate) fn none(nodes: &'a Nodes) -> ChildNodes<'a>
         ensures { children_left result ≡ [] }
     {
-        ChildNodes { rest: &[] }
+        ChildNodes {
+            nodes,
+            front: None,
+            back: None,
+        }
     }
 }
 
@@ -38,9 +75,14 @@ impl Iterator for ChildNodes<'_> {
 
     /// The first child that is left.
     fn next(&mut self) -> Option<Handle> {
-        let (first, others) = self.rest.split_first()?;
-        self.rest = others;
-        Some(*first)
+        let first = self.front?;
+        if is_at(first, self.back) {
+            self.front = None;
+            self.back = None;
+            return Some(first);
+        }
+        self.front = self.nodes.next_sibling(first);
+        Some(first)
     }
 }
 
@@ -49,8 +91,22 @@ impl DoubleEndedIterator for ChildNodes<'_> {
 
     /// The last child that is left.
     fn next_back(&mut self) -> Option<Handle> {
-        let (last, others) = self.rest.split_last()?;
-        self.rest = others;
-        Some(*last)
+        let last = self.back?;
+        if is_at(last, self.front) {
+            self.front = None;
+            self.back = None;
+            return Some(last);
+        }
+        self.back = self.nodes.previous_sibling(last);
+        Some(last)
+    }
+}
+
+fn is_at(number: Handle, end: Option<Handle>) -> bool
+    ensures { result ≡ is_at (number_of number) (option_map number_of end) }
+{
+    match end {
+        Some(other) => number == other,
+        None => false,
     }
 }

@@ -3,7 +3,6 @@
 
 mod asking;
 mod child_nodes;
-mod children;
 mod content;
 mod dom;
 mod lent;

@@ -1,20 +1,20 @@
 //! Changes of nodes that keep them a forest, with each parent noted.
 ghost use Rattle.std.specs.Prelude.{◌≡◌, ℕ, [], ◌∷◌, ◌++◌, true, false, IfOk, IfSome, None, OnErr, OnOk, Some};
-ghost use Rattle.std.specs.Prelude.{chars, length, option_map, take};
+ghost use Rattle.std.specs.Prelude.{chars, option_map};
 ghost use Rattle.html_forest.specs.Changes.{changed, contents_number, detached, made, made_element, reparented};
 ghost use Rattle.html_forest.specs.Changes.{saying, with_attributes};
 ghost use Rattle.html_forest.specs.Conditions.{CanMove, CanReparent, IsPlace};
-ghost use Rattle.html_forest.specs.Forest.{Forest, Holds, Kind, children_at, document, element_of, nodes};
-ghost use Rattle.html_forest.specs.Orders.{IsForest, IsIn};
+ghost use Rattle.html_forest.specs.Forest.{Holds, document, element_of, nodes};
 ghost use Rattle.html_forest.specs.Places.{before, below, neighbour, put_node, put_words};
 ghost use Rattle.html_render_dom.specs.Links.{IsLinked};
-ghost use Rattle.html_render_dom.specs.Nodes.{forest_of, is_some_text, kind_of, link_at, links_of};
+ghost use Rattle.html_render_dom.specs.Nodes.{forest_of, is_some_text, kind_of, kinds_of, links_of, with_no_links};
 ghost use Rattle.html_render_dom.specs.Numbers.{number_of};
 
 use crate::node::{Handle, NodeData};
 use crate::nodes::Nodes;
 use html_forest::{
-    ElementFlags, attributes_are_added, attributes_keep_a_forest, how_many_nodes_there_are,
+    ElementFlags, a_node_stands_where_it_was_put, a_node_taken_out_stands_nowhere,
+    attributes_are_added, attributes_keep_a_forest, how_many_nodes_there_are,
     making_keeps_a_forest, putting_keeps_a_forest, reparenting_keeps_a_forest,
     taking_out_keeps_a_forest, what_a_parent_alone_is_changed_by, what_was_made_may_be_put,
     what_was_not_named_stays, where_children_stand,
@@ -35,7 +35,7 @@ impl Nodes {
         making_keeps_a_forest();
         where_children_stand();
         how_many_nodes_there_are();
-        let made = self.next();
+        let made = self.next()?;
         self.push(node)?;
         Ok(made)
     }
@@ -57,11 +57,12 @@ impl Nodes {
         making_keeps_a_forest();
         where_children_stand();
         how_many_nodes_there_are();
-        let made = self.next();
+        let made = self.next()?;
+        let contents = self.contents_number(flags.template)?;
         let element = NodeData::Element {
             name,
             attrs,
-            template_contents: self.contents_number(flags.template),
+            template_contents: contents,
             mathml_annotation_xml_integration_point: flags.mathml_annotation_xml_integration_point,
         };
         if flags.template {
@@ -73,23 +74,22 @@ impl Nodes {
     }
 
     // the number of what holds the contents of a template that is made next
-    fn contents_number(&self, is_template: bool) -> Option<Handle>
-        ensures { option_map number_of result ≡ contents_number is_template (forest_of self.now) }
+    fn contents_number(&self, is_template: bool) -> Result<Option<Handle>, AllocError>
+        ensures { IfOk result (λ contents. option_map number_of contents
+            ≡ contents_number is_template (forest_of self.now)) }
     {
         if is_template {
-            Some(self.next_but_one())
+            Ok(Some(self.next_but_one()?))
         } else {
-            None
+            Ok(None)
         }
     }
 
     // an element and what holds its contents, or neither
     fn push_template(&mut self, element: NodeData) -> Result<(), AllocError>
-        ensures forest { OnOk result (forest_of self.new
-            ≡ made document (made (kind_of element) (forest_of self.old))) }
-        ensures links { OnOk result (links_of self.new ≡ (links_of self.old ++ None ∷ []) ++ None ∷ []) }
-        ensures kept { OnErr result (forest_of self.new ≡ forest_of self.old) }
-        ensures kept_links { OnErr result (links_of self.new ≡ links_of self.old) }
+        ensures kinds { OnOk result (kinds_of self.new ≡ (kinds_of self.old ++ kind_of element ∷ []) ++ document ∷ []) }
+        ensures links { OnOk result (links_of self.new ≡ with_no_links (with_no_links (links_of self.old))) }
+        ensures kept { OnErr result (self.new.items.items ≡ self.old.items.items) }
     {
         self.push(element)?;
         let result = self.push(NodeData::Document);
@@ -100,43 +100,41 @@ impl Nodes {
     }
 
     /// Puts a node that stands nowhere behind the children of another.
-    pub(crate) fn put_below(&mut self, parent: Handle, child: Handle) -> Result<(), AllocError>
+    pub(crate) fn put_below(&mut self, parent: Handle, child: Handle)
         requires linked { IsLinked self.old }
         requires place { IsPlace (below (number_of parent)) (forest_of self.old) }
         requires can { CanMove (below (number_of parent)) (number_of child) (forest_of self.old) }
-        ensures forest { OnOk result (forest_of self.new
-            ≡ put_node (below (number_of parent)) (number_of child) (forest_of self.old)) }
-        ensures kept { OnErr result (forest_of self.new ≡ forest_of self.old) }
+        ensures forest { forest_of self.new ≡ put_node (below (number_of parent)) (number_of child)
+            (forest_of self.old) }
         ensures linked { IsLinked self.new }
     {
         putting_keeps_a_forest();
-        where_children_stand();
+        a_node_stands_where_it_was_put();
+        what_was_not_named_stays();
         how_many_nodes_there_are();
-        self.push_child(parent, child)?;
-        self.set_parent(child, Some(parent));
-        Ok(())
+        let last = self.child_before(parent, None);
+        self.put(parent, last, None, child);
     }
 
     /// Puts a node that stands nowhere before a child.
-    pub(crate) fn put_before(&mut self, sibling: Handle, child: Handle) -> Result<(), AllocError>
+    pub(crate) fn put_before(&mut self, sibling: Handle, child: Handle)
         requires linked { IsLinked self.old }
         requires place { IsPlace (before (number_of sibling)) (forest_of self.old) }
         requires can { CanMove (before (number_of sibling)) (number_of child) (forest_of self.old) }
-        ensures forest { OnOk result (forest_of self.new
-            ≡ put_node (before (number_of sibling)) (number_of child) (forest_of self.old)) }
-        ensures kept { OnErr result (forest_of self.new ≡ forest_of self.old) }
+        ensures forest { forest_of self.new
+            ≡ put_node (before (number_of sibling)) (number_of child) (forest_of self.old) }
         ensures linked { IsLinked self.new }
     {
         putting_keeps_a_forest();
-        where_children_stand();
-        what_a_parent_alone_is_changed_by();
+        a_node_stands_where_it_was_put();
+        what_was_not_named_stays();
         how_many_nodes_there_are();
+        where_children_stand();
         let Some(parent) = self.parent(sibling) else {
             unreachable!()
         };
-        self.insert_child(parent, sibling, child)?;
-        self.set_parent(child, Some(parent));
-        Ok(())
+        let previous = self.child_before(parent, Some(sibling));
+        self.put(parent, previous, Some(sibling), child);
     }
 
     /// Takes a node out of its parent's children, where it has a parent.
@@ -146,15 +144,15 @@ impl Nodes {
         ensures linked { IsLinked self.new }
     {
         taking_out_keeps_a_forest();
-        where_children_stand();
         what_a_parent_alone_is_changed_by();
+        a_node_taken_out_stands_nowhere();
+        what_was_not_named_stays();
         how_many_nodes_there_are();
-        match self.parent(target) {
-            Some(parent) => {
-                self.remove_child(parent, target);
-                self.set_parent(target, None);
-            }
-            None => {}
+        where_children_stand();
+        if let Some(parent) = self.parent(target) {
+            let previous = self.child_before(parent, Some(target));
+            let next = self.child_behind(parent, Some(target));
+            self.take(parent, previous, next, target);
         }
     }
 
@@ -172,11 +170,8 @@ impl Nodes {
     {
         what_was_made_may_be_put();
         let made = self.make(node)?;
-        let result = self.put_below(parent, made);
-        if result.is_err() {
-            self.take_back();
-        }
-        result
+        self.put_below(parent, made);
+        Ok(())
     }
 
     /// A node more, before a child.
@@ -197,21 +192,8 @@ impl Nodes {
     {
         what_was_made_may_be_put();
         let made = self.make(node)?;
-        let result = self.put_before(sibling, made);
-        if result.is_err() {
-            self.take_back();
-        }
-        result
-    }
-
-    // takes back the node that was made last and stands nowhere
-    fn take_back(&mut self)
-        requires linked { IsLinked self.old }
-        requires made { (f : Forest) × ((kind : Kind) × ((forest_of self.old ≡ made kind f) × IsForest f)) }
-        ensures forest { (f : Forest) (kind : Kind) → forest_of self.old ≡ made kind f → forest_of self.new ≡ f }
-        ensures linked { IsLinked self.new }
-    {
-        self.pop();
+        self.put_before(sibling, made);
+        Ok(())
     }
 
     // the node right before a child
@@ -220,7 +202,7 @@ impl Nodes {
         ensures { option_map number_of result ≡ neighbour (before (number_of sibling)) (forest_of self.now) }
     {
         match self.parent(sibling) {
-            Some(parent) => self.children(parent).before(sibling),
+            Some(parent) => self.child_before(parent, Some(sibling)),
             None => None,
         }
     }
@@ -242,47 +224,6 @@ impl Nodes {
         }
     }
 
-    // puts the children of a node behind those of another, or leaves all where they are
-    fn move_children(&mut self, from: Handle, to: Handle) -> Result<(), AllocError>
-        requires from { Holds (number_of from) (forest_of self.old) }
-        requires to { Holds (number_of to) (forest_of self.old) }
-        requires apart { ¬ (number_of from ≡ number_of to) }
-        ensures forest { OnOk result (forest_of self.new
-            ≡ reparented (number_of from) (number_of to) (forest_of self.old)) }
-        ensures kept { OnErr result (forest_of self.new ≡ forest_of self.old) }
-        ensures links { links_of self.new ≡ links_of self.old }
-    {
-        let mut children = self.take_children(from);
-        let result = self.add_children(to, &mut children);
-        if result.is_err() {
-            self.give_children(from, children);
-        }
-        result
-    }
-
-    // notes a node as the parent of its children from one on, as it is noted for those before
-    fn link_children(&mut self, parent: Handle, first: usize)
-        requires holds { Holds (number_of parent) (forest_of self.old) }
-        requires within { (n : ℕ) → IsIn n (children_at (number_of parent) (forest_of self.old))
-            → Holds n (forest_of self.old) }
-        requires counted { length (links_of self.old) ≡ nodes (forest_of self.old) }
-        requires before { (n : ℕ) → IsIn n (take first (children_at (number_of parent) (forest_of self.old)))
-            → link_at n (links_of self.old) ≡ Some (number_of parent) }
-        ensures forest { forest_of self.new ≡ forest_of self.old }
-        ensures children { (n : ℕ) → IsIn n (children_at (number_of parent) (forest_of self.old))
-            → link_at n (links_of self.new) ≡ Some (number_of parent) }
-        ensures others { (n : ℕ) → ¬ (IsIn n (children_at (number_of parent) (forest_of self.old)))
-            → link_at n (links_of self.new) ≡ link_at n (links_of self.old) }
-        ensures counted { length (links_of self.new) ≡ length (links_of self.old) }
-    {
-        let mut index = first;
-        while index < self.children(parent).as_slice().len() {
-            let child = self.children(parent).as_slice()[index];
-            self.set_parent(child, Some(parent));
-            index += 1;
-        }
-    }
-
     /// Puts characters behind the children of a node.
     pub(crate) fn say_below(&mut self, parent: Handle, words: Text) -> Result<(), AllocError>
         requires linked { IsLinked self.old }
@@ -295,7 +236,7 @@ impl Nodes {
         if words.as_str().is_empty() {
             return Ok(());
         }
-        let neighbour = self.children(parent).last();
+        let neighbour = self.child_before(parent, None);
         if self.say_at(neighbour, words.as_str())? {
             return Ok(());
         }
@@ -341,22 +282,21 @@ impl Nodes {
     }
 
     /// Puts the children of a node behind those of another.
-    pub(crate) fn reparent(&mut self, from: Handle, to: Handle) -> Result<(), AllocError>
+    pub(crate) fn reparent(&mut self, from: Handle, to: Handle)
         requires linked { IsLinked self.old }
-        requires holds { Holds (number_of from) (forest_of self.old) }
         requires can { CanReparent (number_of from) (number_of to) (forest_of self.old) }
-        ensures forest { OnOk result (forest_of self.new
-            ≡ reparented (number_of from) (number_of to) (forest_of self.old)) }
-        ensures kept { OnErr result (forest_of self.new ≡ forest_of self.old) }
+        ensures forest { forest_of self.new ≡ reparented (number_of from) (number_of to) (forest_of self.old) }
         ensures linked { IsLinked self.new }
     {
         reparenting_keeps_a_forest();
-        where_children_stand();
-        how_many_nodes_there_are();
         what_was_not_named_stays();
-        let first = self.children(to).as_slice().len();
-        self.move_children(from, to)?;
-        self.link_children(to, first);
-        Ok(())
+        how_many_nodes_there_are();
+        where_children_stand();
+        if let Some(first) = self.child_behind(from, None) {
+            let last = self.child_before(from, None);
+            let before = self.child_before(to, None);
+            self.link_children(to, Some(first));
+            self.give(from, to, before, first, last);
+        }
     }
 }

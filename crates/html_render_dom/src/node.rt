@@ -1,11 +1,11 @@
-use crate::children::Children;
 use crate::content::Content;
 use html_lexemes::{Attributes, QualName, Text};
 
-/// A node of a tree, by its number. It means something to the tree that gave it.
+/// A node of a tree, by its number. It means something to the tree that gave it. A tree has no more than 2^32 nodes:
+/// one more is refused, as for want of memory.
 #[derive(Clone, Copy, Debug, PartialEq, Eq)]
 pub struct Handle {
-    pub(crate) number: usize,
+    pub(crate) number: u32,
 }
 
 /// What a node is (WHATWG DOM, 4.5 to 4.14).
@@ -56,6 +56,9 @@ pub enum NodeData {
 #[derive(Drop)]
 pub(crate) struct Node {
     pub(crate) data: Content,
-    pub(crate) children: Children,
     pub(crate) parent: Option<Handle>,
+    pub(crate) first: Option<Handle>,
+    pub(crate) last: Option<Handle>,
+    pub(crate) previous: Option<Handle>,
+    pub(crate) next: Option<Handle>,
 }

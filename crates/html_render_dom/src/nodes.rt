@@ -1,21 +1,20 @@
-ghost use Rattle.std.specs.Prelude.{◌≡◌, ℕ, ◌+◌, ◌<◌, [], ◌∷◌, ◌++◌, true, false, IfOk, None, OnErr, OnOk, Option};
-ghost use Rattle.std.specs.Prelude.{Some};
-ghost use Rattle.std.specs.Prelude.{chars, is_some, option_map, slice_set};
+ghost use Rattle.std.specs.Prelude.{◌≡◌, ℕ, ◌+◌, ◌<◌, [], ◌∷◌, ◌++◌, true, false, IfOk, None, OnErr, OnOk, Some};
+ghost use Rattle.std.specs.Prelude.{chars, is_some, length, option_map};
 ghost use Rattle.std.specs.Bool.{nat_lt};
-ghost use Rattle.html_forest.specs.Changes.{changed, childless, made, saying, with_attributes, with_more};
-ghost use Rattle.html_forest.specs.Changes.{without_child};
-ghost use Rattle.html_forest.specs.Forest.{Holds, Node as ForestNode, children_at, kind_at, nodes, text_of};
-ghost use Rattle.html_forest.specs.Orders.{AreDistinct};
-ghost use Rattle.html_forest.specs.Places.{behind, in_front, last_of, one_before};
-ghost use Rattle.html_render_dom.specs.Nodes.{forest_of, kind_of, link_at, links_of, with_children};
+ghost use Rattle.html_forest.specs.Changes.{changed, saying, with_attributes};
+ghost use Rattle.html_forest.specs.Forest.{Holds, kind_at, nodes, text_of};
+ghost use Rattle.html_forest.specs.Orders.{IsIn};
+ghost use Rattle.html_render_dom.specs.Nodes.{IsFollowed, chain, forest_of, kind_of, kinds_of, links_of};
+ghost use Rattle.html_render_dom.specs.Nodes.{spot_at, with_no_links, with_parents};
 ghost use Rattle.html_render_dom.specs.Numbers.{number_of};
+ghost use Rattle.html_render_dom.specs.Siblings.{before_of, behind_of, given, holder, joined, link_at, put_between};
+ghost use Rattle.html_render_dom.specs.Siblings.{taken_from, with_before, with_behind, with_parent};
+ghost use Rattle.html_render_dom.specs.declared.node.Node.{Node as HeldNode};
 
-use crate::children::Children;
 use crate::content::Content;
 use crate::node::{Handle, Node, NodeData};
 use html_lexemes::Attributes;
 use std::alloc::{AllocError, Global};
-use std::mem;
 
 /// All nodes of a tree, by their numbers.
 #[derive(Drop)]
@@ -25,8 +24,7 @@ pub(crate) struct Nodes {
 
 impl Nodes {
     pub(crate) fn new(alloc: Global) -> Nodes
-        ensures forest { forest_of result ≡ [] }
-        ensures links { links_of result ≡ [] }
+        ensures { result.items.items ≡ [] }
     {
         Nodes {
             items: Vec::new(alloc),
@@ -40,45 +38,42 @@ impl Nodes {
         Handle { number: 0 }
     }
 
-    /// The next number.
-    pub(crate) fn next(&self) -> Handle
-        ensures { number_of result ≡ nodes (forest_of self.now) }
+    /// The next number. It is refused where it is past those that a handle has.
+    pub(crate) fn next(&self) -> Result<Handle, AllocError>
+        ensures { IfOk result (λ next. number_of next ≡ nodes (forest_of self.now)) }
     {
-        Handle {
-            number: self.items.len(),
-        }
+        handle_at(self.items.len())
     }
 
-    /// The number behind the next.
-    pub(crate) fn next_but_one(&self) -> Handle
-        ensures { number_of result ≡ nodes (forest_of self.now) + 1 }
+    /// The number behind the next, refused as that.
+    pub(crate) fn next_but_one(&self) -> Result<Handle, AllocError>
+        ensures { IfOk result (λ next. number_of next ≡ nodes (forest_of self.now) + 1) }
     {
-        Handle {
-            number: self.items.len() + 1,
-        }
+        handle_at(self.items.len() + 1)
     }
 
     /// A node more, which stands nowhere.
     pub(crate) fn push(&mut self, node: NodeData) -> Result<(), AllocError>
-        ensures forest { OnOk result (forest_of self.new ≡ made (kind_of node) (forest_of self.old)) }
-        ensures links { OnOk result (links_of self.new ≡ links_of self.old ++ None ∷ []) }
-        ensures kept { OnErr result (forest_of self.new ≡ forest_of self.old) }
-        ensures kept_links { OnErr result (links_of self.new ≡ links_of self.old) }
+        ensures kinds { OnOk result (kinds_of self.new ≡ kinds_of self.old ++ kind_of node ∷ []) }
+        ensures links { OnOk result (links_of self.new ≡ with_no_links (links_of self.old)) }
+        ensures more { OnOk result ((x : HeldNode) × (self.new.items.items ≡ self.old.items.items ++ x ∷ [])) }
+        ensures kept { OnErr result (self.new.items.items ≡ self.old.items.items) }
     {
-        let children = Children::new(*self.items.allocator());
         self.items.push(Node {
             data: Content::new(node),
-            children,
             parent: None,
+            first: None,
+            last: None,
+            previous: None,
+            next: None,
         })?;
         Ok(())
     }
 
-    /// Takes the last node back, which stands nowhere.
+    /// Takes the last node back.
     pub(crate) fn pop(&mut self)
-        requires { 0 < nodes (forest_of self.old) }
-        ensures forest { (x : ForestNode) × (forest_of self.old ≡ forest_of self.new ++ x ∷ []) }
-        ensures links { (link : Option ℕ) × (links_of self.old ≡ links_of self.new ++ link ∷ []) }
+        requires { 0 < length (kinds_of self.old) }
+        ensures { (x : HeldNode) × (self.old.items.items ≡ self.new.items.items ++ x ∷ []) }
     {
         self.items.pop();
     }
@@ -87,7 +82,7 @@ impl Nodes {
     pub(crate) fn holds(&self, target: Handle) -> bool
         ensures { result ≡ nat_lt (number_of target) (nodes (forest_of self.now)) }
     {
-        target.number < self.items.len()
+        (target.number as usize) < self.items.len()
     }
 
     /// What a node is.
@@ -95,112 +90,192 @@ impl Nodes {
         requires { Holds (number_of target) (forest_of self.now) }
         ensures { kind_of result.now ≡ kind_at (number_of target) (forest_of self.now) }
     {
-        self.items[target.number].data.data()
-    }
-
-    /// The children of a node.
-    pub(crate) fn children(&self, target: Handle) -> &Children
-        requires { Holds (number_of target) (forest_of self.now) }
-        ensures { result.now ≡ children_at (number_of target) (forest_of self.now) }
-    {
-        &self.items[target.number].children
+        self.items[target.number as usize].data.data()
     }
 
     /// The parent that a node has noted; past the last node none.
     pub(crate) fn parent(&self, target: Handle) -> Option<Handle>
-        ensures { option_map number_of result ≡ link_at (number_of target) (links_of self.now) }
+        ensures { option_map number_of result ≡ link_at (number_of target) (links_of self.now).parent }
     {
-        match self.items.get(target.number) {
+        match self.items.get(target.number as usize) {
             Some(node) => node.parent,
             None => None,
         }
     }
 
-    /// Notes the parent of a node.
+    /// The sibling right behind a child.
+    #[inline(always)]
+    pub(crate) fn next_sibling(&self, child: Handle) -> Option<Handle>
+        requires { number_of child < length (kinds_of self.now) }
+        ensures { option_map number_of result ≡ link_at (number_of child) (links_of self.now).next }
+    {
+        self.items[child.number as usize].next
+    }
+
+    /// The sibling right before a child.
+    #[inline(always)]
+    pub(crate) fn previous_sibling(&self, child: Handle) -> Option<Handle>
+        requires { number_of child < length (kinds_of self.now) }
+        ensures { option_map number_of result ≡ link_at (number_of child) (links_of self.now).previous }
+    {
+        self.items[child.number as usize].previous
+    }
+
+    /// The child right behind a spot.
+    pub(crate) fn child_behind(&self, parent: Handle, spot: Option<Handle>) -> Option<Handle>
+        requires { holder (spot_at parent spot) < length (kinds_of self.now) }
+        ensures { option_map number_of result ≡ behind_of (spot_at parent spot) (links_of self.now) }
+    {
+        match spot {
+            None => self.items[parent.number as usize].first,
+            Some(child) => self.items[child.number as usize].next,
+        }
+    }
+
+    /// The child right before a spot.
+    pub(crate) fn child_before(&self, parent: Handle, spot: Option<Handle>) -> Option<Handle>
+        requires { holder (spot_at parent spot) < length (kinds_of self.now) }
+        ensures { option_map number_of result ≡ before_of (spot_at parent spot) (links_of self.now) }
+    {
+        match spot {
+            None => self.items[parent.number as usize].last,
+            Some(child) => self.items[child.number as usize].previous,
+        }
+    }
+
     pub(crate) fn set_parent(&mut self, target: Handle, parent: Option<Handle>)
-        requires { Holds (number_of target) (forest_of self.old) }
-        ensures forest { forest_of self.new ≡ forest_of self.old }
+        requires { number_of target < length (kinds_of self.old) }
+        ensures kinds { kinds_of self.new ≡ kinds_of self.old }
+        ensures links { links_of self.new ≡ with_parent (number_of target) (option_map number_of parent)
+            (links_of self.old) }
+    {
+        self.items[target.number as usize].parent = parent;
+    }
+
+    pub(crate) fn set_behind(&mut self, parent: Handle, spot: Option<Handle>, to: Option<Handle>)
+        requires { holder (spot_at parent spot) < length (kinds_of self.old) }
+        ensures kinds { kinds_of self.new ≡ kinds_of self.old }
+        ensures links { links_of self.new ≡ with_behind (spot_at parent spot) (option_map number_of to)
+            (links_of self.old) }
+    {
+        match spot {
+            None => self.items[parent.number as usize].first = to,
+            Some(child) => self.items[child.number as usize].next = to,
+        }
+    }
+
+    pub(crate) fn set_before(&mut self, parent: Handle, spot: Option<Handle>, to: Option<Handle>)
+        requires { holder (spot_at parent spot) < length (kinds_of self.old) }
+        ensures kinds { kinds_of self.new ≡ kinds_of self.old }
+        ensures links { links_of self.new ≡ with_before (spot_at parent spot) (option_map number_of to)
+            (links_of self.old) }
+    {
+        match spot {
+            None => self.items[parent.number as usize].last = to,
+            Some(child) => self.items[child.number as usize].previous = to,
+        }
+    }
+
+    /// Puts two spots of a node's children beside each other.
+    pub(crate) fn join(&mut self, parent: Handle, before: Option<Handle>, behind: Option<Handle>)
+        requires before { holder (spot_at parent before) < length (kinds_of self.old) }
+        requires behind { holder (spot_at parent behind) < length (kinds_of self.old) }
+        ensures kinds { kinds_of self.new ≡ kinds_of self.old }
         ensures links { links_of self.new
-            ≡ slice_set (links_of self.old) (number_of target) (option_map number_of parent) }
+            ≡ joined (spot_at parent before) (spot_at parent behind) (links_of self.old) }
     {
-        self.items[target.number].parent = parent;
+        self.set_behind(parent, before, behind);
+        self.set_before(parent, behind, before);
     }
 
-    /// Puts a child behind the children of a node.
-    pub(crate) fn push_child(&mut self, parent: Handle, child: Handle) -> Result<(), AllocError>
-        requires { Holds (number_of parent) (forest_of self.old) }
-        ensures forest { OnOk result (forest_of self.new
-            ≡ changed (number_of parent) (behind (number_of child)) (forest_of self.old)) }
-        ensures kept { OnErr result (forest_of self.new ≡ forest_of self.old) }
-        ensures links { links_of self.new ≡ links_of self.old }
-    {
-        self.items[parent.number].children.push(child)
-    }
-
-    /// Puts a child before another of a node.
-    pub(crate) fn insert_child(
+    /// Puts a node between two spots below a parent.
+    pub(crate) fn put(
         &mut self,
         parent: Handle,
-        sibling: Handle,
+        before: Option<Handle>,
+        behind: Option<Handle>,
         child: Handle,
-    ) -> Result<(), AllocError>
-        requires { Holds (number_of parent) (forest_of self.old)
-            × AreDistinct (children_at (number_of parent) (forest_of self.old)) }
-        ensures forest { OnOk result (forest_of self.new
-            ≡ changed (number_of parent) (in_front (number_of sibling) (number_of child)) (forest_of self.old)) }
-        ensures kept { OnErr result (forest_of self.new ≡ forest_of self.old) }
-        ensures links { links_of self.new ≡ links_of self.old }
+    )
+        requires before { holder (spot_at parent before) < length (kinds_of self.old) }
+        requires behind { holder (spot_at parent behind) < length (kinds_of self.old) }
+        requires child { number_of child < length (kinds_of self.old) }
+        ensures kinds { kinds_of self.new ≡ kinds_of self.old }
+        ensures links { links_of self.new ≡ put_between (number_of parent) (spot_at parent before)
+            (spot_at parent behind) (number_of child)
+            (links_of self.old) }
     {
-        self.items[parent.number]
-            .children
-            .insert_before(sibling, child)
+        self.join(parent, before, Some(child));
+        self.join(parent, Some(child), behind);
+        self.set_parent(child, Some(parent));
     }
 
-    /// Takes a child out of the children of a node.
-    pub(crate) fn remove_child(&mut self, parent: Handle, child: Handle)
-        requires { Holds (number_of parent) (forest_of self.old)
-            × AreDistinct (children_at (number_of parent) (forest_of self.old)) }
-        ensures forest { forest_of self.new
-            ≡ changed (number_of parent) (without_child (number_of child)) (forest_of self.old) }
-        ensures links { links_of self.new ≡ links_of self.old }
-    {
-        self.items[parent.number].children.remove(child);
-    }
-
-    /// Takes the children of a node out, and leaves it none.
-    pub(crate) fn take_children(&mut self, target: Handle) -> Children
-        requires { Holds (number_of target) (forest_of self.old) }
-        ensures children { result ≡ children_at (number_of target) (forest_of self.old) }
-        ensures forest { forest_of self.new ≡ changed (number_of target) childless (forest_of self.old) }
-        ensures links { links_of self.new ≡ links_of self.old }
-    {
-        let empty = Children::new(*self.items.allocator());
-        mem::replace(&mut self.items[target.number].children, empty)
-    }
-
-    /// Puts more children behind those of a node, and leaves none of them.
-    pub(crate) fn add_children(
+    /// Takes a node from between two spots below a parent.
+    pub(crate) fn take(
         &mut self,
-        target: Handle,
-        more: &mut Children,
-    ) -> Result<(), AllocError>
-        requires { Holds (number_of target) (forest_of self.old) }
-        ensures forest { OnOk result (forest_of self.new
-            ≡ changed (number_of target) (with_more more.old) (forest_of self.old)) }
-        ensures kept { OnErr result (forest_of self.new ≡ forest_of self.old) }
-        ensures given { OnErr result (more.new ≡ more.old) }
-        ensures links { links_of self.new ≡ links_of self.old }
+        parent: Handle,
+        before: Option<Handle>,
+        behind: Option<Handle>,
+        child: Handle,
+    )
+        requires before { holder (spot_at parent before) < length (kinds_of self.old) }
+        requires behind { holder (spot_at parent behind) < length (kinds_of self.old) }
+        requires child { number_of child < length (kinds_of self.old) }
+        ensures kinds { kinds_of self.new ≡ kinds_of self.old }
+        ensures links { links_of self.new ≡ taken_from (spot_at parent before) (spot_at parent behind) (number_of child)
+            (links_of self.old) }
     {
-        self.items[target.number].children.append(more)
+        self.join(parent, before, behind);
+        self.set_behind(parent, Some(child), None);
+        self.set_before(parent, Some(child), None);
+        self.set_parent(child, None);
     }
 
-    /// Gives a node these children in place of its own.
-    pub(crate) fn give_children(&mut self, target: Handle, children: Children)
-        requires { Holds (number_of target) (forest_of self.old) }
-        ensures forest { forest_of self.new ≡ changed (number_of target) (with_children children) (forest_of self.old) }
-        ensures links { links_of self.new ≡ links_of self.old }
+    /// Notes a node as the parent of these children, from the first one on.
+    pub(crate) fn link_children(&mut self, parent: Handle, first: Option<Handle>)
+        requires followed { IsFollowed (links_of self.old).next (option_map number_of first)
+            (chain (links_of self.old).next (length (links_of self.old).next) (option_map number_of first)) }
+        requires within { (n : ℕ) → IsIn n (chain (links_of self.old).next (length (links_of self.old).next)
+            (option_map number_of first)) →
+            n < length (kinds_of self.old) }
+        requires counted { length (links_of self.old).parent ≡ length (kinds_of self.old) }
+        ensures kinds { kinds_of self.new ≡ kinds_of self.old }
+        ensures links { links_of self.new ≡ with_parents (links_of self.new).parent (links_of self.old) }
+        ensures counted { length (links_of self.new).parent ≡ length (links_of self.old).parent }
+        ensures children { (n : ℕ) → IsIn n (chain (links_of self.old).next (length (links_of self.old).next)
+            (option_map number_of first)) →
+            link_at n (links_of self.new).parent ≡ Some (number_of parent) }
+        ensures others { (n : ℕ) → ¬ (IsIn n (chain (links_of self.old).next (length (links_of self.old).next)
+            (option_map number_of first))) →
+            link_at n (links_of self.new).parent ≡ link_at n (links_of self.old).parent }
     {
-        self.items[target.number].children = children;
+        let mut rest = first;
+        while let Some(child) = rest {
+            self.set_parent(child, Some(parent));
+            rest = self.next_sibling(child);
+        }
+    }
+
+    /// Puts the children of a node, from the first to the last, behind those of another.
+    pub(crate) fn give(
+        &mut self,
+        from: Handle,
+        to: Handle,
+        before: Option<Handle>,
+        first: Handle,
+        last: Option<Handle>,
+    )
+        requires before { holder (spot_at to before) < length (kinds_of self.old) }
+        requires first { number_of first < length (kinds_of self.old) }
+        requires from { number_of from < length (kinds_of self.old) }
+        requires to { number_of to < length (kinds_of self.old) }
+        ensures kinds { kinds_of self.new ≡ kinds_of self.old }
+        ensures links { links_of self.new ≡ given (number_of from) (number_of to) (spot_at to before)
+            (number_of first) (option_map number_of last) (links_of self.old) }
+    {
+        self.join(to, before, Some(first));
+        self.set_before(to, None, last);
+        self.set_behind(from, None, None);
+        self.set_before(from, None, None);
     }
 
     /// Adds characters to a text, and says whether the node is one; else nothing changes.
@@ -213,7 +288,7 @@ impl Nodes {
         ensures kept { OnErr result (forest_of self.new ≡ forest_of self.old) }
         ensures links { links_of self.new ≡ links_of self.old }
     {
-        self.items[target.number].data.say(words)
+        self.items[target.number as usize].data.say(words)
     }
 
     /// Adds the attributes whose names an element lacks; another node has none.
@@ -229,6 +304,18 @@ impl Nodes {
         ensures links { links_of self.new ≡ links_of self.old }
     {
         let alloc = *self.items.allocator();
-        self.items[target.number].data.add_attributes(alloc, more)
+        self.items[target.number as usize]
+            .data
+            .add_attributes(alloc, more)
+    }
+}
+
+// the handle of a number, of those that are small enough
+fn handle_at(index: usize) -> Result<Handle, AllocError>
+    ensures { IfOk result (λ handle. number_of handle ≡ index) }
+{
+    match u32::try_from(index) {
+        Ok(number) => Ok(Handle { number }),
+        Err(_) => Err(AllocError),
     }
 }

@@ -112,7 +112,7 @@ impl TreeSink for RcDom {
         ensures errors { self.new.errors ≡ self.old.errors }
     {
         match child {
-            NodeOrText::AppendNode(node) => self.nodes.put_below(parent, node)?,
+            NodeOrText::AppendNode(node) => self.nodes.put_below(parent, node),
             NodeOrText::AppendText(text) => self.nodes.say_below(parent, text)?,
         }
         Ok(())
@@ -132,7 +132,7 @@ impl TreeSink for RcDom {
         ensures errors { self.new.errors ≡ self.old.errors }
     {
         match child {
-            NodeOrText::AppendNode(node) => self.nodes.put_before(sibling, node)?,
+            NodeOrText::AppendNode(node) => self.nodes.put_before(sibling, node),
             NodeOrText::AppendText(text) => self.nodes.say_before(sibling, text)?,
         }
         Ok(())
@@ -230,7 +230,7 @@ impl TreeSink for RcDom {
         ensures memory { IfErr result (λ e. e ≡ Memory) }
         ensures errors { self.new.errors ≡ self.old.errors }
     {
-        self.nodes.reparent(node, new_parent)?;
+        self.nodes.reparent(node, new_parent);
         Ok(())
     }
 

@@ -1,4 +1,3 @@
-use Rattle.std.proofs.Common.{◌≡◌, List}
 use Rattle.std.specs.Vec.Iter.{into_iter_items}
 use Rattle.html_render_dom.proofs.NamesLemmas.{IsPushing}
 use Rattle.html_render_dom.proofs.names.push_missing.Given as goal
