@@ -169,6 +169,27 @@ pub nothing_told : {S : Type 0} {B : Type 0} (means : S → Call → Reply → S
     (q : Result B SerializeFault) → IsErrAnd q (λ e. e ≡ Memory) → IsTold means s calls (reply_of q) s
 nothing_told means s calls q h = reply_err means s s calls Memory q (out_of_memory s calls) h
 
+-- calls that are the same
+pub step_of : {S : Type 0} {A : Type 0} (means : S → Call → Reply → S → Type 0) (f : Forest) (s t : S)
+    (calls other : List Call) (turns : List Turn) (r : Result A SerializeFault) → other ≡ calls
+    → OnOk r (IsStep means f s calls t turns) → OnOk r (IsStep means f s other t turns)
+step_of means f s t calls other turns r e h =
+    subst (λ l. OnOk r (IsStep means f s l t turns)) (sym e) h
+
+pub cut_of : {S : Type 0} {A : Type 0} (means : S → Call → Reply → S → Type 0) (s t : S) (calls other : List Call)
+    (r : Result A SerializeFault) → other ≡ calls
+    → IfErr r (λ fault. IsTold means s calls (refused fault) t)
+    → IfErr r (λ fault. IsTold means s other (refused fault) t)
+cut_of means s t calls other r e h =
+    subst (λ l. IfErr r (λ fault. IsTold means s l (refused fault) t)) (sym e) h
+
+pub none_err : {S : Type 0} {B : Type 0} (means : S → Call → Reply → S → Type 0) (s : S) (calls : List Call)
+    (q : Result B SerializeFault) → IsErrAnd q (λ e. e ≡ Memory)
+    → IfErr q (λ fault. IsTold means s calls (refused fault) s)
+none_err means s calls (Ok v) h = tt
+none_err means s calls (Err y) h =
+    subst (λ z. IsTold means s calls (refused z) s) (sym h) (out_of_memory s calls)
+
 -- the beginning of an element
 abbrev pub behind_start : Forest → ℕ → List Call → List Call
 behind_start f n later = (joined (calls_within (nodes f) f) (inner_of n f) ++ finish (name_of n f) ∷ []) ++ later

@@ -9,7 +9,7 @@ use Rattle.html_serializer.specs.Calls.{Call}
 use Rattle.html_serializer.specs.Walks.{calls_within, joined}
 use Rattle.dom_serializer.specs.Turns.{AreReady, IsReady, calls_of_turn, pending, pending_before, visits}
 use Rattle.dom_serializer.specs.declared.turn.Turn.{Turn}
-use Rattle.dom_serializer.specs.declared.turn.Turn.TheVariants.{Visit}
+use Rattle.dom_serializer.specs.declared.turn.Turn.TheVariants.{Row, Visit}
 
 pub pending-push : (f : Forest) (ts : List Turn) (t : Turn) (later : List Call)
     → pending_before f (ts ++ t ∷ []) later ≡ calls_of_turn f t ++ pending_before f ts later
@@ -19,12 +19,7 @@ pending-push f (x ∷ ts) t later = pending-push f ts t (calls_of_turn f x ++ la
 pub pending-visits : (f : Forest) (ts : List Turn) (ns : List ℕ)
     → pending f (ts ++ visits ns) ≡ joined (calls_within (nodes f) f) ns ++ pending f ts
 pending-visits f ts [] = ap (λ l. pending f l) (append-nil ts)
-pending-visits f ts (n ∷ ns) =
-    ap (λ l. pending f l) (sym (append_assoc ts (visits ns) (Visit (handle_of n) ∷ [])))
-    ∙ (pending-push f (ts ++ visits ns) (Visit (handle_of n)) []
-    ∙ (ap (λ l. calls_within (nodes f) f n ++ l) (pending-visits f ts ns)
-    ∙ sym (append_assoc (calls_within (nodes f) f n) (joined (calls_within (nodes f) f) ns)
-    (pending f ts))))
+pending-visits f ts (n ∷ ns) = pending-push f ts (Row (handle_of n) ns) []
 
 pub ready-push : (f : Forest) (ts : List Turn) (t : Turn) → AreReady f ts → IsReady f t → AreReady f (ts ++ t ∷ [])
 ready-push f [] t h r = (r, tt)
@@ -37,24 +32,27 @@ ready-pop f (x ∷ ts) t h = let r = ready-pop f ts t h.1 in (r.0, (h.0, r.1))
 pub ready-visits : (f : Forest) (ts : List Turn) (ns : List ℕ) → AreReady f ts
     → ((n : ℕ) → IsIn n ns → ¬ (IsDocument n f)) → AreReady f (ts ++ visits ns)
 ready-visits f ts [] h plain = subst (AreReady f) (sym (append-nil ts)) h
-ready-visits f ts (n ∷ ns) h plain =
-    subst (AreReady f) (append_assoc ts (visits ns) (Visit (handle_of n) ∷ []))
-    (ready-push f (ts ++ visits ns) (Visit (handle_of n)) (ready-visits f ts ns h (λ m i. plain m (inr i)))
-    (plain n (inl refl)))
+ready-visits f ts (n ∷ ns) h plain = ready-push f ts (Row (handle_of n) ns) h plain
 
--- a last node is the first turn of all
-last_visit : (ns : List ℕ) (n : Handle) → visits (ns ++ number_of n ∷ []) ≡ Visit n ∷ visits ns
-last_visit [] n = refl
-last_visit (m ∷ ns) n = ap (λ l. l ++ Visit (handle_of m) ∷ []) (last_visit ns n)
+-- the first of some nodes, with the others behind it
+pub visits-put : (ts new : List Turn) (ns others : List ℕ) (n : Handle) → ns ≡ number_of n ∷ others
+    → new ≡ ts ++ Row n others ∷ [] → new ≡ ts ++ visits ns
+visits-put ts new ns others n e put = put ∙ ap (λ l. ts ++ visits l) (sym e)
 
-pub visits-step : (ts whole : List Turn) (ns front : List ℕ) (n : Handle) → ns ≡ front ++ number_of n ∷ []
-    → ts ++ visits ns ≡ whole → (ts ++ Visit n ∷ []) ++ visits front ≡ whole
-visits-step ts whole ns front n e h =
-    append_assoc ts (Visit n ∷ []) (visits front)
-    ∙ (ap (λ l. ts ++ l) (sym (ap visits e ∙ last_visit front n)) ∙ h)
+pub visits-none : (ts : List Turn) (ns : List ℕ) → ns ≡ [] → ts ≡ ts ++ visits ns
+visits-none ts ns e = sym (append-nil ts) ∙ ap (λ l. ts ++ visits l) (sym e)
 
-pub visits-end : (ts whole : List Turn) (ns : List ℕ) → ns ≡ [] → ts ++ visits ns ≡ whole → ts ≡ whole
-visits-end ts whole ns e h = sym (append-nil ts) ∙ (ap (λ l. ts ++ visits l) (sym e) ∙ h)
+-- a node is told before those behind it
+pub row-calls : (f : Forest) (ts put : List Turn) (n : Handle) (others : List ℕ) → put ≡ ts ++ visits others
+    → calls_of_turn f (Row n others) ++ pending f ts ≡ calls_of_turn f (Visit n) ++ pending f put
+row-calls f ts put n others e =
+    append_assoc (calls_of_turn f (Visit n)) (joined (calls_within (nodes f) f) others) (pending f ts)
+    ∙ ap (λ l. calls_of_turn f (Visit n) ++ l) (sym (ap (pending f) e ∙ pending-visits f ts others))
+
+pub row-ready : (f : Forest) (ts put : List Turn) (n : Handle) (others : List ℕ) → put ≡ ts ++ visits others
+    → IsReady f (Row n others) → AreReady f ts → IsReady f (Visit n) × AreReady f put
+row-ready f ts put n others e ready h =
+    (ready (number_of n) (inl refl), subst (AreReady f) (sym e) (ready-visits f ts others h (λ m i. ready m (inr i))))
 
 -- nothing was left to be popped
 pub none_popped : (old new : List Turn) (count : ℕ) → count ≡ 0 → new ≡ take (count - 1) old → old ≡ new ++ []

@@ -2,16 +2,19 @@
 use Rattle.std.specs.Prelude.{ℕ, Bool, true, false, List, [], ◌∷◌, ◌++◌}
 use Rattle.html_forest.specs.Forest.{Forest, IsElement, Kind, comment, doctype, document, element, instruction}
 use Rattle.html_forest.specs.Forest.{name_of, nodes, text}
-use Rattle.html_forest.specs.Orders.{IsDocument}
+use Rattle.html_forest.specs.Orders.{IsDocument, IsIn}
+use Rattle.html_render_dom.specs.ChildNodes.{children_left}
 use Rattle.html_render_dom.specs.Numbers.{handle_of, number_of}
 use Rattle.html_serializer.specs.Calls.{Call, finish}
-use Rattle.html_serializer.specs.Walks.{calls_within}
+use Rattle.html_serializer.specs.Walks.{calls_within, joined}
 use Rattle.dom_serializer.specs.declared.turn.Turn.{Turn}
-use Rattle.dom_serializer.specs.declared.turn.Turn.TheVariants.{End, Visit}
+use Rattle.dom_serializer.specs.declared.turn.Turn.TheVariants.{End, Row, Visit}
 
 -- the calls of a turn
 abbrev pub calls_of_turn : Forest → Turn → List Call
 calls_of_turn f (Visit n) = calls_within (nodes f) f (number_of n)
+calls_of_turn f (Row n others) =
+    joined (calls_within (nodes f) f) (number_of n ∷ children_left others)
 calls_of_turn f (End n) = finish (name_of (number_of n) f) ∷ []
 
 -- the calls of turns, of which the last comes first, and others behind them
@@ -25,16 +28,17 @@ pending f ts = pending_before f ts []
 -- a node that is to be told is no document, and what ends is an element
 abbrev pub IsReady : Forest → Turn → Type 0
 IsReady f (Visit n) = ¬ (IsDocument (number_of n) f)
+IsReady f (Row n others) = (m : ℕ) → IsIn m (number_of n ∷ children_left others) → ¬ (IsDocument m f)
 IsReady f (End n) = IsElement (number_of n) f
 
 abbrev pub AreReady : Forest → List Turn → Type 0
 AreReady f [] = Unit {0}
 AreReady f (t ∷ ts) = IsReady f t × AreReady f ts
 
--- nodes that are to be told, the first one last
+-- nodes that are to be told, in one turn
 abbrev pub visits : List ℕ → List Turn
 visits [] = []
-visits (n ∷ ns) = visits ns ++ Visit (handle_of n) ∷ []
+visits (n ∷ ns) = Row (handle_of n) ns ∷ []
 
 abbrev pub is_document : Kind → Bool
 is_document document = true

@@ -13,19 +13,19 @@ use html_serializer::{TraversalScope, a_walk_goes_one_step_on};
 use std::alloc::{AllocError, Global};
 
 // what is to be told of a node
-pub(crate) fn first_turns(
+pub(crate) fn first_turns<'a>(
     alloc: Global,
-    dom: &RcDom,
+    dom: &'a RcDom,
     node: Handle,
     scope: &TraversalScope,
-) -> Result<Vec<Turn>, AllocError>
+) -> Result<Vec<Turn<'a>>, AllocError>
     requires { IsForest dom.now.forest }
     ensures calls { IfOk result (λ turns. pending dom.now.forest turns.items
         ≡ calls_of scope.now (number_of node) dom.now.forest) }
     ensures ready { IfOk result (λ turns. AreReady dom.now.forest turns.items) }
 {
     a_walk_goes_one_step_on();
-    let mut turns = Vec::new(alloc);
+    let mut turns: Vec<Turn<'a>> = Vec::new(alloc);
     match scope {
         TraversalScope::IncludeNode => {
             // a document is told by what stands in it

@@ -7,19 +7,19 @@ ghost use Rattle.html_forest.specs.Orders.{IsForest};
 ghost use Rattle.html_render_dom.specs.Numbers.{number_of};
 ghost use Rattle.html_serializer.specs.Calls.{refused, reply_of};
 ghost use Rattle.html_serializer.specs.Told.{IsTold};
-ghost use Rattle.dom_serializer.specs.declared.turn.Turn.TheVariants.{End, Visit};
+ghost use Rattle.dom_serializer.specs.declared.turn.Turn.TheVariants.{End, Row, Visit};
 
 use crate::inner::inner;
 use crate::turn::Turn;
 use crate::visits::push_visits;
 use html_lexemes::{Attributes, QualName};
-use html_render_dom::{Handle, NodeData, RcDom};
+use html_render_dom::{ChildNodes, Handle, NodeData, RcDom};
 use html_serializer::{SerializeFault, Serializer, a_walk_goes_one_step_on};
 
 // tells all that is still to be told, the last turn first
-pub(crate) fn tell_all<S: Serializer>(
-    dom: &RcDom,
-    turns: &mut Vec<Turn>,
+pub(crate) fn tell_all<'a, S: Serializer>(
+    dom: &'a RcDom,
+    turns: &mut Vec<Turn<'a>>,
     serializer: &mut S,
 ) -> Result<(), SerializeFault>
     requires { IsForest dom.now.forest × AreReady dom.now.forest turns.old.items }
@@ -33,31 +33,53 @@ pub(crate) fn tell_all<S: Serializer>(
 }
 
 // tells a turn, and puts what stands in it before what is still to be told
-fn tell<S: Serializer>(
-    dom: &RcDom,
-    turn: Turn,
-    turns: &mut Vec<Turn>,
+fn tell<'a, S: Serializer>(
+    dom: &'a RcDom,
+    turn: Turn<'a>,
+    turns: &mut Vec<Turn<'a>>,
     serializer: &mut S,
 ) -> Result<(), SerializeFault>
     requires { IsForest dom.now.forest × (IsReady dom.now.forest turn × AreReady dom.now.forest turns.old.items) }
     ensures ok { OnOk result (IsStep S.means dom.now.forest (S.seen serializer.old)
-        (calls_of_turn dom.now.forest turn ++ pending dom.now.forest turns.old.items)
+        (calls_of_turn dom.now.forest turn.entry ++ pending dom.now.forest turns.old.items)
         (S.seen serializer.new) turns.new.items) }
     ensures err { IfErr result (λ fault. IsTold S.means (S.seen serializer.old)
-        (calls_of_turn dom.now.forest turn ++ pending dom.now.forest turns.old.items)
+        (calls_of_turn dom.now.forest turn.entry ++ pending dom.now.forest turns.old.items)
         (refused fault) (S.seen serializer.new)) }
 {
     match turn {
         Turn::Visit(node) => visit(dom, node, turns, serializer),
+        Turn::Row(node, others) => visit_first(dom, node, others, turns, serializer),
         Turn::End(node) => end(dom, node, turns, serializer),
     }
 }
 
-// tells the end of an element
-fn end<S: Serializer>(
-    dom: &RcDom,
+// tells the first of some nodes, and puts the others before what is still to be told
+fn visit_first<'a, S: Serializer>(
+    dom: &'a RcDom,
     node: Handle,
-    turns: &mut Vec<Turn>,
+    others: ChildNodes<'a>,
+    turns: &mut Vec<Turn<'a>>,
+    serializer: &mut S,
+) -> Result<(), SerializeFault>
+    requires { IsForest dom.now.forest
+        × (IsReady dom.now.forest (Row node others) × AreReady dom.now.forest turns.old.items) }
+    ensures ok { OnOk result (IsStep S.means dom.now.forest (S.seen serializer.old)
+        (calls_of_turn dom.now.forest (Row node others.entry) ++ pending dom.now.forest turns.old.items)
+        (S.seen serializer.new) turns.new.items) }
+    ensures err { IfErr result (λ fault. IsTold S.means (S.seen serializer.old)
+        (calls_of_turn dom.now.forest (Row node others.entry) ++ pending dom.now.forest turns.old.items)
+        (refused fault) (S.seen serializer.new)) }
+{
+    push_visits(turns, others)?;
+    visit(dom, node, turns, serializer)
+}
+
+// tells the end of an element
+fn end<'a, S: Serializer>(
+    dom: &'a RcDom,
+    node: Handle,
+    turns: &mut Vec<Turn<'a>>,
     serializer: &mut S,
 ) -> Result<(), SerializeFault>
     requires { IsElement (number_of node) dom.now.forest × AreReady dom.now.forest turns.old.items }
@@ -88,10 +110,10 @@ fn element_name(dom: &RcDom, node: Handle) -> &QualName
 }
 
 // tells a node, or its beginning, with what stands in it still to be told
-fn visit<S: Serializer>(
-    dom: &RcDom,
+fn visit<'a, S: Serializer>(
+    dom: &'a RcDom,
     node: Handle,
-    turns: &mut Vec<Turn>,
+    turns: &mut Vec<Turn<'a>>,
     serializer: &mut S,
 ) -> Result<(), SerializeFault>
     requires { IsForest dom.now.forest
@@ -120,12 +142,12 @@ fn visit<S: Serializer>(
 }
 
 // tells the beginning of an element
-fn begin<S: Serializer>(
-    dom: &RcDom,
+fn begin<'a, S: Serializer>(
+    dom: &'a RcDom,
     node: Handle,
     name: &QualName,
     attrs: &Attributes,
-    turns: &mut Vec<Turn>,
+    turns: &mut Vec<Turn<'a>>,
     serializer: &mut S,
 ) -> Result<(), SerializeFault>
     requires ready { IsForest dom.now.forest × (IsElement (number_of node) dom.now.forest

@@ -7,13 +7,17 @@ use crate::turn::Turn;
 use html_render_dom::ChildNodes;
 use std::alloc::AllocError;
 
-// the last is pushed first, so that the first is told first
-pub(crate) fn push_visits(turns: &mut Vec<Turn>, nodes: ChildNodes<'_>) -> Result<(), AllocError>
+// one turn for all of them, and none where there is none: so each turn tells something
+pub(crate) fn push_visits<'a>(
+    turns: &mut Vec<Turn<'a>>,
+    nodes: ChildNodes<'a>,
+) -> Result<(), AllocError>
     ensures { OnOk result (turns.new.items ≡ turns.old.items ++ visits (children_left nodes.entry)) }
 {
     let mut rest = nodes;
-    'nodes: while let Some(last) = rest.next_back() {
-        turns.push(Turn::Visit(last))?;
-    }
+    let Some(first) = rest.next() else {
+        return Ok(());
+    };
+    turns.push(Turn::Row(first, rest))?;
     Ok(())
 }

@@ -8,7 +8,8 @@ use Rattle.dom_serializer.proofs.first.first_turns.Goals as goal
 pub returns-then-stands_for_document-clause-calls : goal.returns-then-stands_for_document-clause-calls
 returns-then-stands_for_document-clause-calls c =
     let f = c.args.dom.now.forest in
-    first_inner f c.push_visits.new.turns.items c.new-turns.result.items (children_left c.inner.result) (number_of c.args.node)
+    first_inner f c.push_visits.new.turns.items c.new-turns.result.items (children_left c.inner.result)
+    (number_of c.args.node)
     c.new-turns.ensures.items c.in_ok-push_visits-in-IncludeNode.ensures c.inner.ensures
     ∙ first_document f (number_of c.args.node) (λ n. c.a_walk_goes_one_step_on.ensures f n c.requires)
     c.if-stands_for_document.ensures
@@ -16,7 +17,8 @@ returns-then-stands_for_document-clause-calls c =
 
 pub returns-then-stands_for_document-clause-ready : goal.returns-then-stands_for_document-clause-ready
 returns-then-stands_for_document-clause-ready c =
-    first_ready c.args.dom.now.forest c.push_visits.new.turns.items c.new-turns.result.items (children_left c.inner.result)
+    first_ready c.args.dom.now.forest c.push_visits.new.turns.items c.new-turns.result.items
+    (children_left c.inner.result)
     (number_of c.args.node) c.requires
     c.new-turns.ensures.items c.in_ok-push_visits-in-IncludeNode.ensures c.inner.ensures
 

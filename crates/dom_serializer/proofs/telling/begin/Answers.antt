@@ -39,7 +39,8 @@ returns-in_err-push_visits-clause-err g c =
 pub returns-clause-ok : goal.returns-clause-ok
 returns-clause-ok g c =
     let f = c.args.dom.now.forest in
-    begin_step g.S.Serializer.means f _ _ c.args.node c.args.name.now c.as_slice.result.now (children_left c.inner.result)
+    begin_step g.S.Serializer.means f _ _ c.args.node c.args.name.now c.as_slice.result.now
+    (children_left c.inner.result)
     c.args.turns.now.items c.push.new.self.items c.push_visits.new.turns.items
     (λ n. c.a_walk_goes_one_step_on.ensures f n c.requires.ready.0) c.requires.ready.0 c.requires.ready.1.0
     c.requires.ready.1.1 c.inner.ensures c.requires.read.0 (c.as_slice.ensures ∙ c.requires.read.1)
