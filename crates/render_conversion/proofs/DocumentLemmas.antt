@@ -1,12 +1,13 @@
 -- The whole page.
-use Rattle.std.proofs.Common.{◌≡◌, List, [], ◌∷◌, ◌++◌, ap, ◌∙◌}
+use Rattle.std.proofs.Common.{◌≡◌, ℕ, ◌==◌, true, List, [], ◌∷◌, ◌++◌, length, refl, sym, ap, ◌∙◌, arith}
+use Rattle.std.proofs.lemmas.Bool.{eqb-true}
 use Rattle.forest_trees.specs.Trees.{trees}
 use Rattle.html_forest.specs.Forest.{Forest}
 use Rattle.html_render_dom.specs.Numbers.{number_of}
 use Rattle.html_render_dom.specs.declared.node.Handle.{Handle}
 use Rattle.render_values.specs.Arena.{flat, values_of}
 use Rattle.render_values.specs.Reading.{read_back}
-use Rattle.render_values.specs.Values.{Values}
+use Rattle.render_values.specs.Values.{Values, none as no_values}
 use Rattle.render_values.specs.declared.node.RenderNode.{RenderNode}
 use Rattle.style_cascade.specs.declared.rules.StyleRule.{StyleRule}
 use Rattle.render_conversion.specs.Conversion.{document_values, values}
@@ -27,3 +28,15 @@ document_is rules f d turns none nodes empty first is end start done =
 pub document_read : (rules : List StyleRule) (f : Forest) (nodes : List RenderNode) (tree : Values)
     → nodes ≡ flat (document_values rules f) → tree ≡ values_of nodes → tree ≡ document_values rules f
 document_read rules f nodes tree is same = same ∙ (ap values_of is ∙ read_back (document_values rules f))
+
+no_nodes : (nodes : List RenderNode) → length nodes ≡ 0 → nodes ≡ []
+no_nodes [] e = refl
+no_nodes (x ∷ nodes) e = absurd (omega (arith, e))
+
+-- a page without nodes has no values
+pub none_read : (rules : List StyleRule) (f : Forest) (nodes : List RenderNode) (n : ℕ)
+    → nodes ≡ flat (document_values rules f) → n ≡ length nodes → (n == 0) ≡ true
+    → document_values rules f ≡ no_values
+none_read rules f nodes n is size empty =
+    sym (document_read rules f nodes (values_of nodes) is refl)
+    ∙ (ap values_of (no_nodes nodes (sym size ∙ eqb-true n 0 empty)) ∙ read_back no_values)

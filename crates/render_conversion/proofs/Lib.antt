@@ -6,3 +6,4 @@ pub mod StepLemmas
 pub mod StyleLemmas
 pub mod TextLemmas
 pub mod TitleLemmas
+pub mod WaitingLemmas

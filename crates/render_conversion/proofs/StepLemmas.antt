@@ -30,7 +30,7 @@ use Rattle.render_conversion.specs.Turns.{AreOpen, IsDone, later, visits, weight
 use Rattle.render_conversion.specs.declared.meaning.Meaning.{Meaning}
 use Rattle.render_conversion.specs.declared.place.Place.{Place}
 use Rattle.render_conversion.specs.declared.turns.Turn.{Turn}
-use Rattle.render_conversion.specs.declared.turns.Turn.TheVariants.{Behind, Close, Visit}
+use Rattle.render_conversion.specs.declared.turns.Turn.TheVariants.{Behind, Close, Row, Visit}
 
 abbrev pub Law : Forest → Type 0
 Law f = (n : ℕ) (ns : List ℕ) → trees f (n ∷ ns) ≡ node (kind_at n f) (trees f (children_at n f)) (trees f ns)
@@ -93,18 +93,12 @@ pub later_visits : (styles : Styles) (f : Forest) (place : Place) (ns : List ℕ
     → later styles f (visits place ns ++ ts) xs
     ≡ later styles f ts (xs ++ flat (values styles place (trees f ns)))
 later_visits styles f place [] ts xs law = ap (later styles f ts) (sym (append-nil xs))
-later_visits styles f place (n ∷ ns) ts xs law =
-    let one = flat (values styles place (trees f (n ∷ []))) in
-    let more = flat (values styles place (trees f ns)) in
-    later_visits styles f place ns ts (xs ++ one) law
-    ∙ ap (later styles f ts) (append_assoc xs one more
-    ∙ ap (λ l. xs ++ l) (sym (ap flat (values_more styles f place n ns law)
-    ∙ flat_joined (values styles place (trees f (n ∷ []))) (values styles place (trees f ns)))))
+later_visits styles f place (n ∷ ns) ts xs law = refl
 
 open_visits : (place : Place) (ns : List ℕ) (ts : List Turn) (xs : List RenderNode) → AreOpen xs ts
     → AreOpen xs (visits place ns ++ ts)
 open_visits place [] ts xs h = h
-open_visits place (n ∷ ns) ts xs h = open_visits place ns ts xs h
+open_visits place (n ∷ ns) ts xs h = h
 
 steps_more : (f : Forest) (n : ℕ) (ns : List ℕ) → Law f
     → steps (trees f (n ∷ ns)) ≡ steps (trees f (n ∷ [])) + steps (trees f ns)
@@ -116,10 +110,46 @@ steps_more f n ns law =
 weight_visits : (f : Forest) (place : Place) (ns : List ℕ) (ts : List Turn) → Law f
     → weight f (visits place ns ++ ts) ≡ steps (trees f ns) + weight f ts
 weight_visits f place [] ts law = omega arith
-weight_visits f place (n ∷ ns) ts law =
-    let a = weight_visits f place ns ts law in
-    let b = steps_more f n ns law in
+weight_visits f place (n ∷ ns) ts law = refl
+
+-- the first of some nodes is visited, and then the others
+row_later : (styles : Styles) (f : Forest) (place : Place) (n : Handle) (others : List ℕ) (ts : List Turn)
+    (xs : List RenderNode) → Law f
+    → later styles f (Visit n place ∷ visits place others ++ ts) xs ≡ later styles f (Row n others place ∷ ts) xs
+row_later styles f place n others ts xs law =
+    let one = flat (values styles place (trees f (number_of n ∷ []))) in
+    let more = flat (values styles place (trees f others)) in
+    later_visits styles f place others ts (xs ++ one) law
+    ∙ ap (later styles f ts) (append_assoc xs one more
+    ∙ ap (λ l. xs ++ l) (sym (ap flat (values_more styles f place (number_of n) others law)
+    ∙ flat_joined (values styles place (trees f (number_of n ∷ []))) (values styles place (trees f others)))))
+
+row_weight : (f : Forest) (place : Place) (n : Handle) (others : List ℕ) (ts : List Turn) → Law f
+    → weight f (Visit n place ∷ visits place others ++ ts) ≡ weight f (Row n others place ∷ ts)
+row_weight f place n others ts law =
+    let a = weight_visits f place others ts law in
+    let b = steps_more f (number_of n) others law in
     omega arith
+
+pub row_open : (place : Place) (others : List ℕ) (ts put : List Turn) (xs : List RenderNode)
+    → put ≡ visits place others ++ ts → AreOpen xs ts → AreOpen xs put
+row_open place others ts put xs e h = subst (AreOpen xs) (sym e) (open_visits place others ts xs h)
+
+pub row_done : {A : Type 0} {E : Type 0} (r : Result A E) (styles : Styles) (f : Forest) (n : Handle)
+    (others : List ℕ) (place : Place) (ts put new : List Turn) (xs ys : List RenderNode) → Law f
+    → put ≡ visits place others ++ ts → OnOk r (IsDone styles f (Visit n place ∷ put) xs new ys)
+    → OnOk r (IsDone styles f (Row n others place ∷ ts) xs new ys)
+row_done (Err e) styles f n others place ts put new xs ys law is done = tt
+row_done (Ok v) styles f n others place ts put new xs ys law is done =
+    let w : weight f (Visit n place ∷ put) ≡ weight f (Row n others place ∷ ts) =
+    ap (λ l. weight f (Visit n place ∷ l)) is ∙ row_weight f place n others ts law in
+    record {
+      same = done.same ∙ (ap (λ l. later styles f (Visit n place ∷ l) xs) is
+          ∙ row_later styles f place n others ts xs law);
+      opened = done.opened;
+      flat = done.flat;
+      falls = subst (λ k. weight f new < k) w done.falls;
+    }
 
 -- ---- values that stand open
 
@@ -130,6 +160,7 @@ take_seam (x ∷ xs) ys = ap (λ l. x ∷ l) (take_seam xs ys)
 open_more : (xs ys : List RenderNode) (ts : List Turn) → AreOpen xs ts → AreOpen (xs ++ ys) ts
 open_more xs ys [] h = tt
 open_more xs ys (Visit n place ∷ ts) h = open_more xs ys ts h
+open_more xs ys (Row n others place ∷ ts) h = open_more xs ys ts h
 open_more xs ys (Behind n place ∷ ts) h = open_more xs ys ts h
 open_more xs ys (Close opened ∷ ts) h =
     let e = take-append-le opened.at xs ys (below opened.at (length xs) h.0) in

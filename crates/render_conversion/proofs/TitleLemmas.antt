@@ -1,5 +1,5 @@
 -- Texts of trees, read node by node.
-use Rattle.std.proofs.Common.{◌≡◌, ℕ, ◌+◌, ◌<◌, true, false, if◌then◌else◌, List, [], ◌∷◌, ◌++◌, map, refl}
+use Rattle.std.proofs.Common.{◌≡◌, ℕ, ◌+◌, ◌<◌, true, false, if◌then◌else◌, List, [], ◌∷◌, ◌++◌, refl}
 use Rattle.std.proofs.Common.{sym, ap}
 use Rattle.std.proofs.Common.{◌∙◌, append_assoc, append-nil, arith}
 use Rattle.std.specs.Prelude.{Some}
@@ -24,40 +24,35 @@ steps_then : (ts us : Trees) → steps (followed_by ts us) ≡ steps ts + steps 
 steps_then none us = omega arith
 steps_then (node kind kids rest) us = let a = steps_then rest us in omega arith
 
-abbrev numbers : List Handle → List ℕ
-numbers hs = map number_of hs
-
 -- a node is read, and its children are still to be read
-pub next_text : (f : Forest) (whole old new : List ℕ) (waiting left later : List Handle) (n : Handle) (kids : List ℕ)
-    → Law f → InOrder f → waiting ≡ n ∷ left → kids ≡ children_at (number_of n) f
-    → numbers later ≡ kids ++ numbers left → new ≡ old ++ own_text (kind_at (number_of n) f)
-    → old ++ text_of (trees f (numbers waiting)) ≡ whole
-    → new ++ text_of (trees f (numbers later)) ≡ whole
-next_text f whole old new waiting left later n kids law order first is put pushed so_far =
+pub next_text : (f : Forest) (whole old new waiting left mid later others : List ℕ) (n : Handle) (kids : List ℕ)
+    → Law f → InOrder f → waiting ≡ number_of n ∷ (others ++ left) → mid ≡ others ++ left
+    → kids ≡ children_at (number_of n) f → later ≡ kids ++ mid → new ≡ old ++ own_text (kind_at (number_of n) f)
+    → old ++ text_of (trees f waiting) ≡ whole → new ++ text_of (trees f later) ≡ whole
+next_text f whole old new waiting left mid later others n kids law order first others_put is put pushed so_far =
     let c = number_of n in
     let below = text_of (trees f (children_at c f)) in
-    let behind = text_of (trees f (numbers left)) in
-    let of_later : text_of (trees f (numbers later)) ≡ below ++ behind =
-    ap (λ l. text_of (trees f l)) (put ∙ ap (λ l. l ++ numbers left) is)
-    ∙ (ap text_of (order (children_at c f) (numbers left))
-    ∙ text_then (trees f (children_at c f)) (trees f (numbers left))) in
-    let of_waiting : text_of (trees f (numbers waiting)) ≡ own_text (kind_at c f) ++ (below ++ behind) =
-    ap (λ l. text_of (trees f (numbers l))) first ∙ ap text_of (law c (numbers left)) in
-    ap (λ l. l ++ text_of (trees f (numbers later))) pushed
+    let behind = text_of (trees f mid) in
+    let of_later : text_of (trees f later) ≡ below ++ behind =
+    ap (λ l. text_of (trees f l)) (put ∙ ap (λ l. l ++ mid) is)
+    ∙ (ap text_of (order (children_at c f) mid) ∙ text_then (trees f (children_at c f)) (trees f mid)) in
+    let of_waiting : text_of (trees f waiting) ≡ own_text (kind_at c f) ++ (below ++ behind) =
+    ap (λ l. text_of (trees f l)) (first ∙ ap (λ l. c ∷ l) (sym others_put)) ∙ ap text_of (law c mid) in
+    ap (λ l. l ++ text_of (trees f later)) pushed
     ∙ (ap (λ l. (old ++ own_text (kind_at c f)) ++ l) of_later
     ∙ (append_assoc old (own_text (kind_at c f)) (below ++ behind)
     ∙ (ap (λ l. old ++ l) (sym of_waiting) ∙ so_far)))
 
-pub fewer : (f : Forest) (waiting left later : List Handle) (n : Handle) (kids : List ℕ) → Law f → InOrder f
-    → waiting ≡ n ∷ left → kids ≡ children_at (number_of n) f → numbers later ≡ kids ++ numbers left
-    → steps (trees f (numbers later)) < steps (trees f (numbers waiting))
-fewer f waiting left later n kids law order first is put =
+pub fewer : (f : Forest) (waiting left mid later others : List ℕ) (n : Handle) (kids : List ℕ) → Law f → InOrder f
+    → waiting ≡ number_of n ∷ (others ++ left) → mid ≡ others ++ left → kids ≡ children_at (number_of n) f
+    → later ≡ kids ++ mid → steps (trees f later) < steps (trees f waiting)
+fewer f waiting left mid later others n kids law order first others_put is put =
     let c = number_of n in
-    let a = ap (λ l. steps (trees f l)) (put ∙ ap (λ l. l ++ numbers left) is) in
-    let b = ap steps (order (children_at c f) (numbers left)) in
-    let d = steps_then (trees f (children_at c f)) (trees f (numbers left)) in
-    let e = ap (λ l. steps (trees f (numbers l))) first in
-    let g = ap steps (law c (numbers left)) in
+    let a = ap (λ l. steps (trees f l)) (put ∙ ap (λ l. l ++ mid) is) in
+    let b = ap steps (order (children_at c f) mid) in
+    let d = steps_then (trees f (children_at c f)) (trees f mid) in
+    let e = ap (λ l. steps (trees f l)) (first ∙ ap (λ l. c ∷ l) (sym others_put)) in
+    let g = ap steps (law c mid) in
     omega arith
 
 -- a title, or the first title behind what is none
@@ -73,15 +68,15 @@ title_behind f ns n rest law first title =
     ap (λ l. title_of (trees f l)) first ∙ (ap title_of (law n rest)
     ∙ ap (λ b. if b then Some (text_of (trees f (children_at n f))) else title_of (trees f rest)) title)
 
-pub start_text : (f : Forest) (n : ℕ) (cs kids : List ℕ) (waiting before : List Handle) → cs ≡ []
-    → numbers waiting ≡ kids ++ numbers before → before ≡ [] → kids ≡ children_at n f
-    → cs ++ text_of (trees f (numbers waiting)) ≡ text_of (trees f (children_at n f))
+pub start_text : (f : Forest) (n : ℕ) (cs kids waiting before : List ℕ) → cs ≡ [] → waiting ≡ kids ++ before
+    → before ≡ [] → kids ≡ children_at n f
+    → cs ++ text_of (trees f waiting) ≡ text_of (trees f (children_at n f))
 start_text f n cs kids waiting before no_text pushed end is =
-    ap (λ l. l ++ text_of (trees f (numbers waiting))) no_text
-    ∙ ap (λ l. text_of (trees f l)) (pushed ∙ (ap (λ l. kids ++ numbers l) end ∙ (append-nil kids ∙ is)))
+    ap (λ l. l ++ text_of (trees f waiting)) no_text
+    ∙ ap (λ l. text_of (trees f l)) (pushed ∙ (ap (λ l. kids ++ l) end ∙ (append-nil kids ∙ is)))
 
-pub whole_text : (f : Forest) (whole cs : List ℕ) (waiting : List Handle) → waiting ≡ [] → trees f [] ≡ none
-    → cs ++ text_of (trees f (numbers waiting)) ≡ whole → cs ≡ whole
+pub whole_text : (f : Forest) (whole cs waiting : List ℕ) → waiting ≡ [] → trees f [] ≡ none
+    → cs ++ text_of (trees f waiting) ≡ whole → cs ≡ whole
 whole_text f whole cs waiting end empty h =
     sym (append-nil cs)
-    ∙ (ap (λ ts. cs ++ text_of ts) (sym empty) ∙ (ap (λ l. cs ++ text_of (trees f (numbers l))) (sym end) ∙ h))
+    ∙ (ap (λ ts. cs ++ text_of ts) (sym empty) ∙ (ap (λ l. cs ++ text_of (trees f l)) (sym end) ∙ h))

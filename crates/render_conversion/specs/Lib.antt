@@ -15,3 +15,4 @@ pub mod StyleRows
 pub mod Styles
 pub mod Titles
 pub mod Turns
+pub mod Waiting

@@ -2,6 +2,7 @@
 use Rattle.std.specs.Prelude.{◌≡◌, ℕ, ◌+◌, ◌<◌, List, [], ◌∷◌, ◌++◌, length, take}
 use Rattle.forest_trees.specs.Trees.{steps, trees}
 use Rattle.html_forest.specs.Forest.{Forest, kind_at}
+use Rattle.html_render_dom.specs.ChildNodes.{children_left}
 use Rattle.html_render_dom.specs.Numbers.{handle_of, number_of}
 use Rattle.render_values.specs.Arena.{IsFlat, flat}
 use Rattle.render_values.specs.Closing.{closed}
@@ -10,13 +11,15 @@ use Rattle.render_conversion.specs.Conversion.{content, values}
 use Rattle.render_conversion.specs.Styles.{Styles, parts_of}
 use Rattle.render_conversion.specs.declared.place.Place.{Place}
 use Rattle.render_conversion.specs.declared.turns.Turn.{Turn}
-use Rattle.render_conversion.specs.declared.turns.Turn.TheVariants.{Behind, Close, Visit}
+use Rattle.render_conversion.specs.declared.turns.Turn.TheVariants.{Behind, Close, Row, Visit}
 
 -- nodes, with all that is still to be done
 abbrev pub later : Styles → Forest → List Turn → List RenderNode → List RenderNode
 later styles f [] nodes = nodes
 later styles f (Visit n place ∷ ts) nodes =
     later styles f ts (nodes ++ flat (values styles place (trees f (number_of n ∷ []))))
+later styles f (Row n others place ∷ ts) nodes =
+    later styles f ts (nodes ++ flat (values styles place (trees f (number_of n ∷ children_left others))))
 later styles f (Behind n place ∷ ts) nodes =
     later styles f ts (nodes ++ flat (content place (parts_of styles (kind_at (number_of n) f)).after))
 later styles f (Close opened ∷ ts) nodes = later styles f ts (closed opened nodes)
@@ -25,6 +28,7 @@ later styles f (Close opened ∷ ts) nodes = later styles f ts (closed opened no
 abbrev pub AreOpen : List RenderNode → List Turn → Type 0
 AreOpen nodes [] = Unit {0}
 AreOpen nodes (Visit n place ∷ ts) = AreOpen nodes ts
+AreOpen nodes (Row n others place ∷ ts) = AreOpen nodes ts
 AreOpen nodes (Behind n place ∷ ts) = AreOpen nodes ts
 AreOpen nodes (Close opened ∷ ts) =
     (opened.at < length nodes) × (IsFlat (take opened.at nodes) × AreOpen (take opened.at nodes) ts)
@@ -33,12 +37,14 @@ AreOpen nodes (Close opened ∷ ts) =
 abbrev pub weight : Forest → List Turn → ℕ
 weight f [] = 0
 weight f (Visit n place ∷ ts) = steps (trees f (number_of n ∷ [])) + weight f ts
+weight f (Row n others place ∷ ts) = steps (trees f (number_of n ∷ children_left others)) + weight f ts
 weight f (Behind n place ∷ ts) = 1 + weight f ts
 weight f (Close opened ∷ ts) = 1 + weight f ts
 
+-- nodes that are to be visited, in one turn
 abbrev pub visits : Place → List ℕ → List Turn
 visits place [] = []
-visits place (n ∷ ns) = Visit (handle_of n) place ∷ visits place ns
+visits place (n ∷ ns) = Row (handle_of n) ns place ∷ []
 
 -- a turn was done: with what is left the nodes come to the same
 pub record IsDone (styles : Styles) (f : Forest) (old : List Turn) (before : List RenderNode) (new : List Turn)

@@ -2,6 +2,7 @@
 ghost use Rattle.std.specs.Prelude.{◌≡◌, ◌≢◌, Err, IfOk};
 ghost use Rattle.render_conversion.specs.Conversion.{document_values};
 ghost use Rattle.render_conversion.specs.declared.error.RenderError.TheVariants.{Fail, TooNarrow};
+ghost use Rattle.render_values.specs.Arena.{IsFlat, flat};
 ghost use Rattle.render_values.specs.Values.{none};
 
 use crate::error::RenderError;
@@ -9,8 +10,8 @@ use crate::place::Place;
 use crate::turns::{Turn, Turns};
 use crate::walk::read_all;
 use html_render_dom::RcDom;
-use render_values::RenderTree;
-use std::alloc::Global;
+use render_values::{RenderNode, RenderTree};
+use std::alloc::{AllocError, Global};
 use style_cascade::StyleRule;
 
 /// The render tree of a page, by rules of style of which the last among equals holds. The error is `Fail` exactly where
@@ -25,12 +26,25 @@ pub fn dom_to_render_tree(
     ensures fail { result ≡ Err Fail → document_values rules.now dom.now.forest ≡ none }
     ensures kinds { result ≢ Err TooNarrow }
 {
-    let mut nodes = Vec::new(alloc);
-    let mut turns = Turns::new(alloc);
-    turns.push(Turn::Visit(dom.document(), Place::Flow))?;
-    read_all(alloc, dom, rules, &mut nodes, &mut turns)?;
+    let nodes = nodes_of(alloc, dom, rules)?;
     if nodes.is_empty() {
         return Err(RenderError::Fail);
     }
     Ok(RenderTree::new(nodes))
+}
+
+// the values of a page, in their order
+fn nodes_of<'a>(
+    alloc: Global,
+    dom: &'a RcDom,
+    rules: &[StyleRule],
+) -> Result<Vec<RenderNode>, AllocError>
+    ensures values { IfOk result (λ nodes. nodes.items ≡ flat (document_values rules.now dom.now.forest)) }
+    ensures flat { IfOk result (λ nodes. IsFlat nodes.items) }
+{
+    let mut nodes = Vec::new(alloc);
+    let mut turns: Turns<'a> = Turns::new(alloc);
+    turns.push(Turn::Visit(dom.document(), Place::Flow))?;
+    read_all(alloc, dom, rules, &mut nodes, &mut turns)?;
+    Ok(nodes)
 }

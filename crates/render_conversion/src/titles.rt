@@ -70,7 +70,9 @@ fn text_in(alloc: Global, dom: &RcDom, node: Handle) -> Result<Text, AllocError>
     let mut text = Text::from_str(alloc, "")?;
     let mut waiting = Waiting::new(alloc);
     waiting.push_all(dom.children(node))?;
-    'nodes: while let Some(next) = waiting.pop() {
+    'nodes: while let Some(row) = waiting.pop() {
+        let next = row.first;
+        waiting.push_all(row.others)?;
         push_own_text(&mut text, dom, next)?;
         waiting.push_all(dom.children(next))?;
     }

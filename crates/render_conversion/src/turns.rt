@@ -9,11 +9,13 @@ use render_values::Opened;
 use std::alloc::{AllocError, Global};
 use std::marker::Model;
 
-/// What is still to be done: a node is visited, a text is put behind children, or a value ends.
-#[derive(Clone, Copy)]
-pub(crate) enum Turn {
+/// What is still to be done: nodes are visited, a text is put behind children, or a value ends.
+#[derive(Drop)]
+pub(crate) enum Turn<'a> {
     /// A node that stands at a place.
     Visit(Handle, Place),
+    /// A node, and then those behind it, which stand at a place.
+    Row(Handle, ChildNodes<'a>, Place),
     /// The text that a rule puts behind a node's children, which stand at a place.
     Behind(Handle, Place),
     /// All that stands behind a value is in it.
@@ -22,11 +24,11 @@ pub(crate) enum Turn {
 
 /// Turns; contracts see them in their order.
 #[derive(Drop)]
-pub(crate) struct Turns {
-    items: Vec<Turn>,
+pub(crate) struct Turns<'a> {
+    items: Vec<Turn<'a>>,
 }
 
-impl Model for Turns {
+impl<'a> Model for Turns<'a> {
     ghost use Rattle.std.specs.Prelude.{List, reverse};
     ghost use Rattle.render_conversion.specs.declared.turns.Turn.{Turn};
 
@@ -35,8 +37,8 @@ impl Model for Turns {
     ghost view = { λ t. reverse t.items.items };
 }
 
-impl Turns {
-    pub(crate) fn new(alloc: Global) -> Turns
+impl<'a> Turns<'a> {
+    pub(crate) fn new(alloc: Global) -> Turns<'a>
         ensures { result ≡ [] }
     {
         Turns {
@@ -45,32 +47,32 @@ impl Turns {
     }
 
     /// A turn, before all others.
-    pub(crate) fn push(&mut self, turn: Turn) -> Result<(), AllocError>
-        ensures { OnOk result (self.new ≡ turn ∷ self.old) }
+    pub(crate) fn push(&mut self, turn: Turn<'a>) -> Result<(), AllocError>
+        ensures { OnOk result (self.new ≡ turn.entry ∷ self.old) }
     {
         self.items.push(turn)?;
         Ok(())
     }
 
     /// The first of them.
-    pub(crate) fn pop(&mut self) -> Option<Turn>
+    pub(crate) fn pop(&mut self) -> Option<Turn<'a>>
         ensures { MatchOption result (self.old ≡ []) (λ turn. self.old ≡ turn ∷ self.new) }
     {
         self.items.pop()
     }
 }
 
-/// Visits of some nodes, before all other turns.
-pub(crate) fn push_visits(
-    turns: &mut Turns,
-    nodes: ChildNodes<'_>,
+/// Visits of some nodes, before all other turns: one turn for all of them, and none where there is none.
+pub(crate) fn push_visits<'a>(
+    turns: &mut Turns<'a>,
+    nodes: ChildNodes<'a>,
     place: Place,
 ) -> Result<(), AllocError>
     ensures { OnOk result (turns.new ≡ visits place (children_left nodes.entry) ++ turns.old) }
 {
     let mut rest = nodes;
-    'nodes: while let Some(last) = rest.next_back() {
-        turns.push(Turn::Visit(last, place))?;
-    }
-    Ok(())
+    let Some(first) = rest.next() else {
+        return Ok(());
+    };
+    turns.push(Turn::Row(first, rest, place))
 }

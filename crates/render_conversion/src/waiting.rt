@@ -1,5 +1,5 @@
 //! Nodes that are still to be read.
-ghost use Rattle.std.specs.Prelude.{◌≡◌, ◌∷◌, ◌++◌, [], MatchOption, OnOk, map};
+ghost use Rattle.std.specs.Prelude.{◌≡◌, ◌∷◌, ◌++◌, [], MatchOption, OnOk};
 ghost use Rattle.html_render_dom.specs.ChildNodes.{children_left};
 ghost use Rattle.html_render_dom.specs.Numbers.{number_of};
 
@@ -7,23 +7,30 @@ use html_render_dom::{ChildNodes, Handle};
 use std::alloc::{AllocError, Global};
 use std::marker::Model;
 
-/// Nodes that are still to be read; contracts see them in their order.
+/// A node that is still to be read, and those behind it.
 #[derive(Drop)]
-pub(crate) struct Waiting {
-    items: Vec<Handle>,
+pub(crate) struct Row<'a> {
+    pub(crate) first: Handle,
+    pub(crate) others: ChildNodes<'a>,
 }
 
-impl Model for Waiting {
-    ghost use Rattle.std.specs.Prelude.{List, reverse};
-    ghost use Rattle.html_render_dom.specs.declared.node.Handle.{Handle};
-
-    ghost Value = { List Handle };
-
-    ghost view = { λ w. reverse w.items.items };
+/// Nodes that are still to be read; contracts see their numbers in their order.
+#[derive(Drop)]
+pub(crate) struct Waiting<'a> {
+    items: Vec<Row<'a>>,
 }
 
-impl Waiting {
-    pub(crate) fn new(alloc: Global) -> Waiting
+impl<'a> Model for Waiting<'a> {
+    ghost use Rattle.std.specs.Prelude.{List, ℕ, reverse};
+    ghost use Rattle.render_conversion.specs.Waiting.{numbers_in};
+
+    ghost Value = { List ℕ };
+
+    ghost view = { λ w. numbers_in (reverse w.items.items) };
+}
+
+impl<'a> Waiting<'a> {
+    pub(crate) fn new(alloc: Global) -> Waiting<'a>
         ensures { result ≡ [] }
     {
         Waiting {
@@ -31,28 +38,22 @@ impl Waiting {
         }
     }
 
-    // a node, before all others
-    fn push(&mut self, node: Handle) -> Result<(), AllocError>
-        ensures { OnOk result (self.new ≡ node ∷ self.old) }
-    {
-        self.items.push(node)?;
-        Ok(())
-    }
-
     /// Nodes, before all others.
-    pub(crate) fn push_all(&mut self, nodes: ChildNodes<'_>) -> Result<(), AllocError>
-        ensures { OnOk result (map number_of self.new ≡ children_left nodes.entry ++ map number_of self.old) }
+    pub(crate) fn push_all(&mut self, nodes: ChildNodes<'a>) -> Result<(), AllocError>
+        ensures { OnOk result (self.new ≡ children_left nodes.entry ++ self.old) }
     {
-        let mut rest = nodes;
-        'nodes: while let Some(last) = rest.next_back() {
-            self.push(last)?;
-        }
+        let mut others = nodes;
+        let Some(first) = others.next() else {
+            return Ok(());
+        };
+        self.items.push(Row { first, others })?;
         Ok(())
     }
 
-    /// The first of them.
-    pub(crate) fn pop(&mut self) -> Option<Handle>
-        ensures { MatchOption result (self.old ≡ []) (λ node. self.old ≡ node ∷ self.new) }
+    /// The first of them, with those that were put there behind it.
+    pub(crate) fn pop(&mut self) -> Option<Row<'a>>
+        ensures { MatchOption result (self.old ≡ [])
+            (λ row. self.old ≡ number_of row.first ∷ (children_left row.others ++ self.new)) }
     {
         self.items.pop()
     }

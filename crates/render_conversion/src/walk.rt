@@ -7,7 +7,7 @@ ghost use Rattle.render_values.specs.Arena.{IsFlat};
 ghost use Rattle.render_conversion.specs.Heads.{head_of};
 ghost use Rattle.render_conversion.specs.Styles.{styles_of};
 ghost use Rattle.render_conversion.specs.Turns.{AreOpen, IsDone, later};
-ghost use Rattle.render_conversion.specs.declared.turns.Turn.TheVariants.{Behind, Visit};
+ghost use Rattle.render_conversion.specs.declared.turns.Turn.TheVariants.{Behind, Row, Visit};
 
 use crate::contents::say;
 use crate::fragments::fragment_of;
@@ -16,18 +16,18 @@ use crate::place::{Place, is_guarded, is_seen};
 use crate::styles::{look_of, style_of};
 use crate::turns::{Turn, Turns, push_visits};
 use forest_trees::a_tree_goes_one_step_on;
-use html_render_dom::{Handle, RcDom};
+use html_render_dom::{ChildNodes, Handle, RcDom};
 use render_values::{Head, Opened, RenderInfo, RenderNode, RenderStyle, close};
 use std::alloc::{AllocError, Global};
 use style_cascade::StyleRule;
 
 /// Does all that is still to be done. The error is want of memory alone.
-pub(crate) fn read_all(
+pub(crate) fn read_all<'a>(
     alloc: Global,
-    dom: &RcDom,
+    dom: &'a RcDom,
     rules: &[StyleRule],
     nodes: &mut Vec<RenderNode>,
-    turns: &mut Turns,
+    turns: &mut Turns<'a>,
 ) -> Result<(), AllocError>
     requires forest { IsForest dom.now.forest }
     requires ordered { AreOpen nodes.old.items turns.old }
@@ -43,25 +43,51 @@ pub(crate) fn read_all(
 }
 
 // does what is to be done first
-fn take(
+fn take<'a>(
     alloc: Global,
-    dom: &RcDom,
+    dom: &'a RcDom,
     rules: &[StyleRule],
-    turn: Turn,
+    turn: Turn<'a>,
     nodes: &mut Vec<RenderNode>,
-    turns: &mut Turns,
+    turns: &mut Turns<'a>,
 ) -> Result<(), AllocError>
     requires forest { IsForest dom.now.forest }
     requires ordered { AreOpen nodes.old.items (turn ∷ turns.old) }
     requires flat { IsFlat nodes.old.items }
-    ensures { OnOk result (IsDone (styles_of rules.now) dom.now.forest (turn ∷ turns.old) nodes.old.items turns.new
+    ensures { OnOk result (IsDone (styles_of rules.now) dom.now.forest (turn.entry ∷ turns.old) nodes.old.items
+        turns.new
         nodes.new.items) }
 {
     match turn {
         Turn::Visit(node, place) => visit(alloc, dom, rules, node, place, nodes, turns),
+        Turn::Row(node, others, place) => {
+            visit_first(alloc, dom, rules, node, others, place, nodes, turns)
+        }
         Turn::Behind(node, place) => behind(alloc, dom, rules, node, place, nodes, turns),
         Turn::Close(opened) => close(alloc, nodes, opened),
     }
+}
+
+// visits the first of some nodes; the others are visited before all else that is still to be done
+fn visit_first<'a>(
+    alloc: Global,
+    dom: &'a RcDom,
+    rules: &[StyleRule],
+    node: Handle,
+    others: ChildNodes<'a>,
+    place: Place,
+    nodes: &mut Vec<RenderNode>,
+    turns: &mut Turns<'a>,
+) -> Result<(), AllocError>
+    requires forest { IsForest dom.now.forest }
+    requires ordered { AreOpen nodes.old.items turns.old }
+    requires flat { IsFlat nodes.old.items }
+    ensures { OnOk result (IsDone (styles_of rules.now) dom.now.forest (Row node others.entry place ∷ turns.old)
+        nodes.old.items turns.new nodes.new.items) }
+{
+    a_tree_goes_one_step_on();
+    push_visits(turns, others, place)?;
+    visit(alloc, dom, rules, node, place, nodes, turns)
 }
 
 // the value of a node begins
@@ -89,14 +115,14 @@ fn push_head(
 }
 
 // visits a node: its value begins, and ends behind its children's
-fn visit(
+fn visit<'a>(
     alloc: Global,
-    dom: &RcDom,
+    dom: &'a RcDom,
     rules: &[StyleRule],
     node: Handle,
     place: Place,
     nodes: &mut Vec<RenderNode>,
-    turns: &mut Turns,
+    turns: &mut Turns<'a>,
 ) -> Result<(), AllocError>
     requires forest { IsForest dom.now.forest }
     requires ordered { AreOpen nodes.old.items turns.old }
@@ -127,14 +153,14 @@ fn visit(
 }
 
 // puts a text behind a node's children
-fn behind(
+fn behind<'a>(
     alloc: Global,
-    dom: &RcDom,
+    dom: &'a RcDom,
     rules: &[StyleRule],
     node: Handle,
     place: Place,
     nodes: &mut Vec<RenderNode>,
-    turns: &mut Turns,
+    turns: &mut Turns<'a>,
 ) -> Result<(), AllocError>
     requires ordered { AreOpen nodes.old.items turns.old }
     requires flat { IsFlat nodes.old.items }

@@ -1,10 +1,13 @@
-use Rattle.render_conversion.proofs.DocumentLemmas.{document_is, document_read}
+use Rattle.std.proofs.Common.{vec_len, sym, ◌∙◌}
+use Rattle.render_conversion.proofs.DocumentLemmas.{document_read, none_read}
 use Rattle.render_conversion.proofs.convert.dom_to_render_tree.Goals as goal
 
 pub returns-clause-tree : goal.returns-clause-tree
 returns-clause-tree c =
-    document_read c.args.rules.now c.args.dom.now.forest c.read_all.new.nodes.items c.new.result
-    (document_is c.args.rules.now c.args.dom.now.forest c.document.result c.push.new.self c.new-turns.result
-    c.read_all.new.nodes.items c.new-nodes.result.items c.document.ensures.number c.in_ok-push.ensures
-    c.new-turns.ensures c.new-nodes.ensures.items c.in_ok-read_all.ensures.all)
-    c.new.ensures
+    document_read c.args.rules.now c.args.dom.now.forest c.in_ok-nodes.nodes.items c.new.result
+    c.in_ok-nodes.ensures.values c.new.ensures
+
+pub returns-then-is_empty-clause-fail : goal.returns-then-is_empty-clause-fail
+returns-then-is_empty-clause-fail c = λ _.
+    none_read c.args.rules.now c.args.dom.now.forest c.in_ok-nodes.nodes.items (vec_len c.in_ok-nodes.nodes)
+    c.in_ok-nodes.ensures.values c.in_ok-nodes.nodes.ok.0 (sym c.is_empty.ensures ∙ c.if-is_empty.true)

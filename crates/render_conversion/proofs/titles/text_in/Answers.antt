@@ -18,20 +18,22 @@ pub nodes-preserved : goal.nodes-preserved
 nodes-preserved c =
     next_text c.args.dom.now.forest
     (text_of (trees c.args.dom.now.forest (children_at (number_of c.args.node) c.args.dom.now.forest)))
-    c.nodes.text c.push_own_text.new.text c.nodes.waiting c.pop.new.self c.push_all-in-Some.new.self c.in-Some.next
+    c.nodes.text c.push_own_text.new.text c.nodes.waiting c.pop.new.self c.push_all-in-Some.new.self
+    c.push_all-in-Some-2.new.self (children_left c.in-Some.row.others) c.in-Some.row.first
     (children_left c.children-in-Some.result)
     (λ n ns. c.a_tree_goes_one_step_on.ensures.first c.args.dom.now.forest n ns c.requires)
-    (c.trees_stand_in_order.ensures c.args.dom.now.forest) c.in-Some.ensures c.children-in-Some.ensures
-    c.in_ok-push_all-2.ensures c.in_ok-push_own_text.ensures
+    (c.trees_stand_in_order.ensures c.args.dom.now.forest) c.in-Some.ensures c.in_ok-push_all-2.ensures
+    c.children-in-Some.ensures c.in_ok-push_all-3.ensures c.in_ok-push_own_text.ensures
     c.nodes.invariant
 
 pub nodes-smaller : goal.nodes-smaller
 nodes-smaller c =
-    fewer c.args.dom.now.forest c.nodes.waiting c.pop.new.self c.push_all-in-Some.new.self c.in-Some.next
+    fewer c.args.dom.now.forest c.nodes.waiting c.pop.new.self c.push_all-in-Some.new.self
+    c.push_all-in-Some-2.new.self (children_left c.in-Some.row.others) c.in-Some.row.first
     (children_left c.children-in-Some.result)
     (λ n ns. c.a_tree_goes_one_step_on.ensures.first c.args.dom.now.forest n ns c.requires)
-    (c.trees_stand_in_order.ensures c.args.dom.now.forest) c.in-Some.ensures c.children-in-Some.ensures
-    c.in_ok-push_all-2.ensures
+    (c.trees_stand_in_order.ensures c.args.dom.now.forest) c.in-Some.ensures c.in_ok-push_all-2.ensures
+    c.children-in-Some.ensures c.in_ok-push_all-3.ensures
 
 pub returns : goal.returns
 returns c =

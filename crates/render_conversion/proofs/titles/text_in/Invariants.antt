@@ -1,4 +1,4 @@
-use Rattle.std.proofs.Common.{◌≡◌, ◌++◌, map}
+use Rattle.std.proofs.Common.{◌≡◌, ◌++◌}
 use Rattle.forest_trees.specs.Trees.{steps, trees}
 use Rattle.html_forest.specs.Forest.{children_at}
 use Rattle.html_render_dom.specs.Numbers.{number_of}
@@ -8,8 +8,8 @@ use Rattle.render_conversion.proofs.titles.text_in.Given as goal
 -- what was read, before what is still to be read
 abbrev pub invariant-nodes : goal.invariant-nodes
 invariant-nodes l =
-    l.text ++ text_of (trees l.dom.forest (map number_of l.waiting))
+    l.text ++ text_of (trees l.dom.forest l.waiting)
     ≡ text_of (trees l.dom.forest (children_at (number_of l.fn.node) l.dom.forest))
 
 abbrev pub decreases-nodes : goal.decreases-nodes
-decreases-nodes l = steps (trees l.dom.forest (map number_of l.waiting))
+decreases-nodes l = steps (trees l.dom.forest l.waiting)
