@@ -17,6 +17,7 @@ KINDS = {
     "listed": ("<!DOCTYPE html>", lambda n: f"<font size={n}>", ""),
     "foreign_ends": ("<!DOCTYPE html><svg>", lambda n: "<g>", "</x>"),
     "adopted": ("<!DOCTYPE html>", lambda n: "<a><div>", ""),
+    "fostered": ("<!DOCTYPE html><table>", lambda n: "<br>", "</table>"),
     "body_attributes": ("<!DOCTYPE html>", lambda n: f"<body a{n}=x>", ""),
 }
 

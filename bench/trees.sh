@@ -24,7 +24,7 @@ for size in 1 2 4 8; do
   python3 "$here/make_tokens.py" markup "$size" >"$folder/page"
   tell "markup, $size MB"
 done
-for kind in div i li p cells a attributes other_ends listed_ends listed foreign_ends adopted body_attributes; do
+for kind in div i li p cells a attributes other_ends listed_ends listed foreign_ends adopted fostered body_attributes; do
   for count in 25000 50000 100000; do
     python3 "$here/make_nested.py" "$kind" "$count" >"$folder/page"
     tell "$kind, $count"
