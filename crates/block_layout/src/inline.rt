@@ -1,6 +1,7 @@
 //! The text that runs.
-ghost use Rattle.std.specs.Prelude.{◌≡◌, ◌⊎◌, ◌&&◌, not, [], None, Some, chars, IfErr, OnOk, IfOk};
+ghost use Rattle.std.specs.Prelude.{◌≡◌, ◌⊎◌, ◌&&◌, not, false, [], None, Some, chars, IsTrue, IfErr, OnOk, IfOk};
 ghost use Rattle.text_pieces.specs.declared.white_space.WhiteSpace.{WhiteSpace as SeenMode};
+ghost use Rattle.block_layout.specs.declared.measure.Measure.{Measure as SeenMeasure};
 ghost use Rattle.std.specs.List.{list_all};
 ghost use Rattle.std.specs.Char.{is_whitespace};
 ghost use Rattle.text_pieces.specs.Sources.{is_filled};
@@ -41,6 +42,26 @@ impl<T: EqualCopy + Drop> BlockLayout<T> {
     {
         self.enter_mode(measure, tag, mode, text)?;
         self.run_on(measure, tag, mode, text, main_tag, wrap_tag)
+    }
+
+    /// Adds text of one tag as `add_text` does under any tag, where a text runs that has no other mode, its white space
+    /// is not preserved, and no block is awaited. Tells whether it did; else nothing has changed. The error is want of
+    /// memory alone.
+    #[inline(always)]
+    pub fn add_more(&mut self, mode: WhiteSpace, text: &str, tag: &T) -> Result<bool, AllocError>
+        ensures more { IfOk result (λ more. IsTrue more → ((laid_of T.seen self.old).awaits ≡ false)
+            × ((measure : SeenMeasure) (other : T.Seen)
+            → add_text measure other mode (chars text.now) (T.seen tag.now) (T.seen tag.now)
+            (laid_of T.seen self.old) ≡ Some (laid_of T.seen self.new))) }
+        ensures stays { IfOk result (λ more. more ≡ false → laid_of T.seen self.new ≡ laid_of T.seen self.old) }
+        ensures joined { HasJoinedTexts T.seen self.old → HasJoinedTexts T.seen self.new }
+    {
+        if !self.awaits {
+            if let Some(running) = &mut self.running {
+                return running.add_more(mode, text, tag);
+            }
+        }
+        Ok(false)
     }
 
     #[inline(always)]

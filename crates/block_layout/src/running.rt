@@ -21,7 +21,7 @@ ghost use Rattle.text_pieces.specs.Modes.{is_same_mode};
 ghost use Rattle.block_layout.specs.Laid.{mode_behind};
 
 impl<T: EqualCopy + Drop> Running<T> {
-    ghost use Rattle.std.specs.Prelude.{◌⊎◌, None, Some, map, All, IfOk, IfErr, OnOk};
+    ghost use Rattle.std.specs.Prelude.{◌⊎◌, false, None, Some, map, All, IsTrue, IfOk, IfErr, OnOk};
     ghost use Rattle.std.specs.Option.{option_map};
     ghost use Rattle.tagged_lines.specs.Tagged.{line_items, IsJoined};
     ghost use Rattle.text_pieces.specs.Sources.{names};
@@ -86,6 +86,34 @@ impl<T: EqualCopy + Drop> Running<T> {
         self.text.add_text(text, mode, main_tag, wrap_tag)?;
         self.mode = mode_behind(mode, text, self.mode);
         Ok(())
+    }
+
+    /// Adds text of one tag as `add_text` does, where it has no other mode, and its white space is not preserved. Tells
+    /// whether it did; else nothing has changed.
+    #[inline(always)]
+    pub(crate) fn add_more(
+        &mut self,
+        mode: WhiteSpace,
+        text: &str,
+        tag: &T,
+    ) -> Result<bool, AllocError>
+        ensures more { IfOk result (λ more. IsTrue more
+            → (is_other_mode mode (running_of T.seen self.old).mode ≡ false)
+            × (option_map (with_added mode (chars text.now) (running_of T.seen self.old))
+            (added mode (chars text.now) (T.seen tag.now) (T.seen tag.now) (running_of T.seen self.old).text)
+            ≡ Some (running_of T.seen self.new))) }
+        ensures stays { IfOk result (λ more. more ≡ false
+            → running_of T.seen self.new ≡ running_of T.seen self.old) }
+        ensures joined { RunsJoined T.seen self.old → RunsJoined T.seen self.new }
+    {
+        if self.has_other_mode(mode) {
+            return Ok(false);
+        }
+        if !self.text.add_more(text, mode, tag)? {
+            return Ok(false);
+        }
+        self.mode = mode_behind(mode, text, self.mode);
+        Ok(true)
     }
 
     /// Adds a marker. What was refused is to be thrown away.

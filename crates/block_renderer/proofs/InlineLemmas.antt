@@ -1,14 +1,17 @@
 -- Text that is added under what stands.
-use Rattle.std.specs.Prelude.{◌≡◌, ℕ, nat_lt, Bool, true, false, List, [], ◌∷◌, ◌++◌, Option, Some, map, if◌then◌else◌, refl}
+use Rattle.std.specs.Prelude.{◌≡◌, ◌⊎◌, ℕ, nat_lt, Bool, true, false, not, ◌&&◌, List, [], ◌∷◌, ◌++◌, Option, Some, map, if◌then◌else◌, refl}
+use Rattle.std.specs.Char.{is_whitespace}
+use Rattle.std.specs.List.{list_all}
 use Rattle.std.specs.Option.{option_and_then}
-use Rattle.std.proofs.Common.{sym, ap, ◌∙◌}
+use Rattle.std.proofs.Common.{inl, inr, sym, ap, ◌∙◌}
 use Rattle.std.proofs.lemmas.List.{map-append}
 use Rattle.text_marks.specs.Marks.{preformat_first, preformat_further}
+use Rattle.text_pieces.specs.Modes.{is_preserved}
 use Rattle.text_pieces.specs.declared.white_space.WhiteSpace.{WhiteSpace}
 use Rattle.block_layout.specs.declared.measure.Measure.{Measure}
-use Rattle.block_layout.specs.Laid.{Laid, is_ignored, start_awaited, add_text}
+use Rattle.block_layout.specs.Laid.{Laid, is_ignored, start_awaited, start_block, add_text}
 use Rattle.block_layout.specs.LaidRows.{before_last}
-use Rattle.renderer_calls.specs.Renderers.{Marking, Sub, measure_of, mode_of, with_laid, on_laid, preformatted_added, tagged_added, text_added, add_inline}
+use Rattle.renderer_calls.specs.Renderers.{Marking, Sub, measure_of, mode_of, with_laid, on_laid, struck, struck_text, preformatted_added, tagged_added, text_added, add_inline}
 
 other_branch : {B : Type 0} (b : Bool) (x y : B) → b ≡ false → (if b then x else y) ≡ y
 other_branch true x y e = cc
@@ -26,6 +29,35 @@ inline_is m cs s mode measure laid b o e f test stays started added =
     ∙ ap (λ o. on_laid s (option_and_then (text_added m cs s) o))
     (sym (ap (λ k. start_awaited k s.annotations s.laid) f) ∙ started)
     ∙ added
+
+same_branch : {B : Type 0} (b : Bool) (x : B) → (if b then x else x) ≡ x
+same_branch true x = refl
+same_branch false x = refl
+
+unstruck : {H A : Type 0} (s : Sub H A) (cs : List ℕ)
+    → (s.options.use_unicode_strikeout ≡ false) ⊎ (s.strikeouts ≡ 0) → struck_text s cs ≡ cs
+unstruck s cs (inl off) = other_branch s.options.use_unicode_strikeout (struck s.strikeouts cs) cs off
+unstruck s cs (inr none) =
+    ap (λ n. if s.options.use_unicode_strikeout then struck n cs else cs) none
+    ∙ same_branch s.options.use_unicode_strikeout cs
+
+-- a text that goes on what runs, as it is
+pub more_is : {H A : Type 0} (m : Marking H A) (cs : List ℕ) (s : Sub H A) (mode : WhiteSpace) (laid : Laid (List A))
+    → mode ≡ mode_of s → s.preformats ≡ 0 → (s.options.use_unicode_strikeout ≡ false) ⊎ (s.strikeouts ≡ 0)
+    → s.laid.awaits ≡ false → ((measure : Measure) (tag : List A)
+    → add_text measure tag mode cs s.annotations s.annotations s.laid ≡ Some laid)
+    → add_inline m cs s ≡ Some (with_laid s laid)
+more_is m cs s mode laid is plain even stays added =
+    other_branch (is_ignored (mode_of s) cs s.laid) (Some s)
+    (on_laid s (option_and_then (text_added m cs s) (start_awaited (measure_of s) s.annotations s.laid)))
+    (ap (λ b. b && (not (is_preserved (mode_of s)) && list_all is_whitespace cs)) stays)
+    ∙ ap (λ b. on_laid s (option_and_then (text_added m cs s)
+    (if b then start_block (measure_of s) s.annotations s.laid else Some s.laid))) stays
+    ∙ ap (λ ds. on_laid s (tagged_added m ds s s.laid)) (unstruck s cs even)
+    ∙ ap (λ n. on_laid s (if nat_lt 0 n then preformatted_added m cs s s.laid
+    else add_text (measure_of s) s.annotations (mode_of s) cs s.annotations s.annotations s.laid)) plain
+    ∙ ap (λ k. on_laid s (add_text (measure_of s) s.annotations k cs s.annotations s.annotations s.laid)) (sym is)
+    ∙ ap (on_laid s) (added (measure_of s) s.annotations)
 
 -- an empty text needs no tags
 pub empty_is : {H A : Type 0} (m : Marking H A) (cs : List ℕ) (s : Sub H A) (measure : Measure) (laid : Laid (List A))

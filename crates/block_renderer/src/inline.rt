@@ -1,5 +1,5 @@
 //! Text of a renderer.
-ghost use Rattle.std.specs.Prelude.{◌≡◌, ◌⊎◌, ◌++◌, ◌∷◌, [], None, Some, map, chars, string_bytes, if◌then◌else◌, nat_lt, Err, IfOk, IfErr, OnOk};
+ghost use Rattle.std.specs.Prelude.{◌≡◌, ◌⊎◌, ◌++◌, ◌∷◌, false, [], None, Some, map, chars, string_bytes, if◌then◌else◌, nat_lt, Err, IsTrue, IfOk, IfErr, OnOk};
 ghost use Rattle.text_marks.specs.Marks.{preformat_first, preformat_further};
 ghost use Rattle.text_pieces.specs.declared.fault.BlockError.TheVariants as errors;
 ghost use Rattle.block_layout.specs.Laid.{add_text};
@@ -19,6 +19,48 @@ impl<D: TextDecorator + Drop> SubRenderer<D> {
     /// Adds text, unless it is ignored behind a block.
     #[inline(always)]
     pub(crate) fn add_inline(&mut self, text: &str) -> Result<(), BlockError>
+        ensures kinds { IfErr result (λ e. (e ≡ errors.TooNarrow) ⊎ (e ≡ errors.Memory)) }
+        ensures done { OnOk result (Comes D.Annotation.seen D.held D.text D.gives D.marks D.after D.pops D.sub
+            (λ m s. add_inline m (chars text.now) s) self.old self.new) }
+        ensures narrow { result ≡ Err errors.TooNarrow → Fails D.Annotation.seen D.held D.text D.gives D.marks D.after
+            D.pops D.sub (λ m s. add_inline m (chars text.now) s) self.old }
+        ensures joined { IsJoinedSub D.Annotation.seen self.old → IsJoinedSub D.Annotation.seen self.new }
+    {
+        if self.add_more(text)? {
+            return Ok(());
+        }
+        self.add_other(text)
+    }
+
+    /// Adds text as `add_inline` does, where it goes on what runs as it is. Tells whether it did; else nothing has
+    /// changed.
+    #[inline(always)]
+    fn add_more(&mut self, text: &str) -> Result<bool, AllocError>
+        ensures more { IfOk result (λ more. IsTrue more → Comes D.Annotation.seen D.held D.text D.gives D.marks D.after
+            D.pops D.sub (λ m s. add_inline m (chars text.now) s) self.old self.new) }
+        ensures stays { IfOk result (λ more. more ≡ false
+            → sub_of D.Annotation.seen D.held self.new ≡ sub_of D.Annotation.seen D.held self.old) }
+        ensures joined { IsJoinedSub D.Annotation.seen self.old → IsJoinedSub D.Annotation.seen self.new }
+    {
+        if !self.is_plain() {
+            return Ok(false);
+        }
+        let mode = self.mode();
+        self.laid.add_more(mode, text, &self.annotations)
+    }
+
+    /// Whether text is neither struck nor under one annotation more.
+    #[inline(always)]
+    fn is_plain(&self) -> bool
+        ensures { IsTrue result → (self.now.preformats ≡ 0)
+            × ((self.now.options.use_unicode_strikeout ≡ false) ⊎ (self.now.strikeouts ≡ 0)) }
+    {
+        self.preformats == 0 && (!self.options.use_unicode_strikeout || self.strikeouts == 0)
+    }
+
+    /// Adds text that doesn't go on what runs as it is, unless it is ignored behind a block.
+    #[inline(always)]
+    fn add_other(&mut self, text: &str) -> Result<(), BlockError>
         ensures kinds { IfErr result (λ e. (e ≡ errors.TooNarrow) ⊎ (e ≡ errors.Memory)) }
         ensures done { OnOk result (Comes D.Annotation.seen D.held D.text D.gives D.marks D.after D.pops D.sub
             (λ m s. add_inline m (chars text.now) s) self.old self.new) }

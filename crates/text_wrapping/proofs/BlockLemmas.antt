@@ -1,7 +1,7 @@
 -- What a block holds behind each call.
 use Rattle.std.proofs.Common.{◌≡◌, ◌≢◌, ℕ, Bool, true, false, ◌&&◌, ◌==◌, List, [], ◌∷◌, ◌++◌, None, Some, map, length, sym, ap, ◌∙◌, refl, append_assoc, append-nil, arith, chars, String, Global}
 use Rattle.std.specs.Prelude.{Option, string_bytes, if◌then◌else◌}
-use Rattle.std.specs.Option.{option_and_then}
+use Rattle.std.specs.Option.{option_map, option_and_then}
 use Rattle.std.proofs.lemmas.Bool.Decides.{nat_tests}
 use Rattle.tagged_lines.specs.Tagged.{Item}
 use Rattle.text_pieces.specs.Cuts.{Lacks, IsCutAt}
@@ -10,10 +10,10 @@ use Rattle.preserved_text.specs.Preserved.{names_of}
 use Rattle.text_pieces.specs.declared.piece.Piece.{Piece}
 use Rattle.text_pieces.specs.declared.piece.Piece.TheVariants.{Fragment}
 use Rattle.preserved_text.proofs.TrimLemmas.{sources-append, nil_length}
-use Rattle.text_pieces.specs.Modes.{is_preserved}
+use Rattle.text_pieces.specs.Modes.{is_preserved, is_same_mode}
 use Rattle.text_pieces.specs.declared.white_space.WhiteSpace.{WhiteSpace}
 use Rattle.text_wrapping.specs.Lines.{lines_in, waiting_in}
-use Rattle.text_wrapping.specs.Blocks.{Block, padded, lines_behind, lines_or_empty, is_too_narrow, ended, line_ended, line_feed, with_letter, took, took_all, in_mode, added, behind_sources, with_lines, with_source}
+use Rattle.text_wrapping.specs.Blocks.{Block, padded, lines_behind, lines_or_empty, is_too_narrow, ended, line_ended, line_feed, with_letter, took, took_all, in_mode, with_mode, added, behind_sources, with_lines, with_source}
 
 -- ---- texts that end nothing
 
@@ -55,6 +55,11 @@ pub run_taken : {S : Type 0} (main further : S) (cs : List ℕ) (b new : Block S
     → new ≡ behind_sources (sourced cs main further) b → took_all main further cs b ≡ Some new
 run_taken main further cs b new normal run =
     took_letters main further cs b (normal_letters b.mode cs normal) ∙ ap Some (sym run)
+
+-- a text of the same mode goes on
+pub same_mode : {S : Type 0} (mode : WhiteSpace) (b : Block S) → is_same_mode mode b.mode ≡ true
+    → in_mode mode b ≡ Some b
+same_mode mode b same = ap (λ t. if t then Some b else option_map (with_mode mode) (ended b)) same
 
 -- an empty text
 pub nothing_behind : {S : Type 0} (main further : S) (cs : List ℕ) (b : Block S) → cs ≡ []

@@ -4,6 +4,7 @@
 mod block;
 mod copies;
 mod laws;
+mod one_tag;
 mod padding;
 mod showing;
 mod text_block;

@@ -1,5 +1,5 @@
 //! Blocks of text of which no call was refused.
-ghost use Rattle.std.specs.Prelude.{◌≡◌, ◌⊎◌, ◌++◌, true, false, None, Some, map, chars, All, IfOk, IfErr, OnOk, if◌then◌else◌};
+ghost use Rattle.std.specs.Prelude.{◌≡◌, ◌⊎◌, ◌++◌, true, false, None, Some, map, chars, All, IsTrue, IfOk, IfErr, OnOk, if◌then◌else◌};
 ghost use Rattle.text_pieces.specs.Sources.{sources_of, piece_sources, names};
 ghost use Rattle.preserved_text.specs.Preserved.{names_of};
 ghost use Rattle.text_pieces.specs.Modes.{is_preserved, is_same_mode};
@@ -7,6 +7,7 @@ ghost use Rattle.text_wrapping.specs.Blocks.{lines_or_empty};
 ghost use Rattle.tagged_lines.specs.Tagged.{line_items, IsJoined};
 
 use crate::copies::{clone_lines, clone_pieces};
+use crate::one_tag::push_tagged;
 use crate::padding::pad_lines;
 use crate::showing::{ends_in_columns, has_visible, have_columns};
 use normal_text::lay_normal;
@@ -101,6 +102,36 @@ impl<T: EqualCopy + Drop> TextBlock<T> {
         }
         self.enter(ws_mode)?;
         self.take_all(text, main_tag, wrap_tag)
+    }
+
+    /// Adds text of one tag as `add_text` does, where it ends nothing: it is empty, or of the mode of the text so far,
+    /// in which white space is not preserved. Tells whether it did; else nothing has changed. The error is want of
+    /// memory alone.
+    #[inline(always)]
+    pub fn add_more(&mut self, text: &str, ws_mode: WhiteSpace, tag: &T) -> Result<bool, AllocError>
+        ensures more { IfOk result (λ more. IsTrue more → added ws_mode (chars text.now) (T.seen tag.now)
+            (T.seen tag.now) (text_of T.seen self.old) ≡ Some (text_of T.seen self.new)) }
+        ensures stays { IfOk result (λ more. more ≡ false → text_of T.seen self.new ≡ text_of T.seen self.old) }
+        ensures joined { AreJoinedLines T.seen self.old → AreJoinedLines T.seen self.new }
+    {
+        if text.is_empty() {
+            return Ok(true);
+        }
+        if self.mode.preserve_whitespace() || !is_same_mode(ws_mode, self.mode) {
+            return Ok(false);
+        }
+        self.take_tagged(text, tag)?;
+        Ok(true)
+    }
+
+    /// Takes text of one tag that ends nothing.
+    #[inline(always)]
+    fn take_tagged(&mut self, text: &str, tag: &T) -> Result<(), AllocError>
+        ensures run { OnOk result (text_of T.seen self.new ≡ behind_sources (sourced (chars text.now)
+            (T.seen tag.now) (T.seen tag.now)) (text_of T.seen self.old)) }
+        ensures joined { AreJoinedLines T.seen self.old → AreJoinedLines T.seen self.new }
+    {
+        push_tagged(&mut self.pieces, text, tag)
     }
 
     /// Ends the text so far, where it is of another mode.

@@ -3,7 +3,7 @@ use Rattle.std.proofs.lemmas.Result.{on_ok_weaker}
 use Rattle.block_layout.specs.Seen.{laid_of}
 use Rattle.block_renderer.specs.Seen.{sub_of, tags_seen, marking}
 use Rattle.block_renderer.proofs.InlineLemmas.{inline_is}
-use Rattle.block_renderer.proofs.sub_renderer.SubRenderer.add_inline.Goals as goal
+use Rattle.block_renderer.proofs.sub_renderer.SubRenderer.add_other.Goals as goal
 
 pub returns-clause-done : goal.returns-clause-done
 returns-clause-done g c =

@@ -1,0 +1,113 @@
+//! Adding text of one tag at the end of pieces.
+ghost use Rattle.std.specs.Prelude.{◌≡◌, ◌<◌, ◌++◌, chars, vec_len, IfOk, OnOk, IsTrue};
+ghost use Rattle.text_pieces.specs.Sources.{sourced, sources_of, text_sources, wrap_seen};
+ghost use Rattle.text_pieces.specs.Joins.{HasTags, EndsWithTags, Extends};
+
+use std::alloc::{AllocError, Global};
+use tagged_lines::{EqualCopy, roomy_copy};
+use text_pieces::{Piece, TextPiece};
+
+/// Adds characters with that tag, where a preserved line was wrapped too, at the end; they join the last piece, where
+/// it has no other. The error is want of memory alone.
+#[inline(always)]
+pub(crate) fn push_tagged<T: EqualCopy + Drop>(
+    pieces: &mut Vec<Piece<T>>,
+    text: &str,
+    tag: &T,
+) -> Result<(), AllocError>
+    ensures { OnOk result (sources_of T.seen pieces.new.items ≡ sources_of T.seen pieces.old.items
+        ++ sourced (chars text.now) (T.seen tag.now) (T.seen tag.now)) }
+{
+    if ends_with_tag(pieces, tag) {
+        extend_last(pieces, text)
+    } else {
+        push_new(pieces, text, tag)
+    }
+}
+
+/// Whether the last piece is a text with that tag alone.
+#[inline(always)]
+fn ends_with_tag<T: EqualCopy>(pieces: &[Piece<T>], tag: &T) -> bool
+    ensures { IsTrue result → EndsWithTags T.seen (T.seen tag.now) (T.seen tag.now) pieces.now }
+{
+    match pieces.last() {
+        Some(last) => has_tag(last, tag),
+        None => false,
+    }
+}
+
+#[inline(always)]
+fn has_tag<T: EqualCopy>(piece: &Piece<T>, tag: &T) -> bool
+    ensures { IsTrue result → HasTags T.seen (T.seen tag.now) (T.seen tag.now) piece.now }
+{
+    match piece {
+        Piece::Text(piece) => has_only_tag(piece, tag),
+        Piece::Fragment(_) => false,
+    }
+}
+
+#[inline(always)]
+fn has_only_tag<T: EqualCopy>(piece: &TextPiece<T>, tag: &T) -> bool
+    ensures { IsTrue result → (T.seen piece.now.main_tag ≡ T.seen tag.now)
+        × (wrap_seen T.seen piece.now ≡ T.seen tag.now) }
+{
+    match &piece.wrap_tag {
+        Some(_) => false,
+        None => piece.main_tag == *tag,
+    }
+}
+
+/// Adds to the text of the last piece.
+#[inline(always)]
+fn extend_last<T: EqualCopy + Drop>(
+    pieces: &mut Vec<Piece<T>>,
+    text: &str,
+) -> Result<(), AllocError>
+    requires { 0 < vec_len pieces.old }
+    ensures { OnOk result ((main further : T.Seen) → EndsWithTags T.seen main further pieces.old.items
+        → sources_of T.seen pieces.new.items
+        ≡ sources_of T.seen pieces.old.items ++ sourced (chars text.now) main further) }
+{
+    let last = pieces.len() - 1;
+    extend(&mut pieces[last], text)
+}
+
+/// Adds to the text; a marker stays as it is.
+#[inline(always)]
+fn extend<T>(piece: &mut Piece<T>, text: &str) -> Result<(), AllocError>
+    ensures { OnOk result (Extends piece.old piece.new text.now) }
+{
+    match piece {
+        Piece::Text(piece) => piece.text.push_str(text),
+        Piece::Fragment(_) => Ok(()),
+    }
+}
+
+/// Adds the text as a piece of its own.
+fn push_new<T: EqualCopy + Drop>(
+    pieces: &mut Vec<Piece<T>>,
+    text: &str,
+    tag: &T,
+) -> Result<(), AllocError>
+    ensures { OnOk result (sources_of T.seen pieces.new.items ≡ sources_of T.seen pieces.old.items
+        ++ sourced (chars text.now) (T.seen tag.now) (T.seen tag.now)) }
+{
+    let piece = piece_of(*pieces.allocator(), text, tag)?;
+    pieces.push(Piece::Text(piece))?;
+    Ok(())
+}
+
+fn piece_of<T: EqualCopy + Drop>(
+    alloc: Global,
+    text: &str,
+    tag: &T,
+) -> Result<TextPiece<T>, AllocError>
+    ensures { IfOk result (λ piece. text_sources T.seen piece
+        ≡ sourced (chars text.now) (T.seen tag.now) (T.seen tag.now)) }
+{
+    Ok(TextPiece {
+        text: roomy_copy(alloc, text)?,
+        main_tag: tag.copy(alloc)?,
+        wrap_tag: None,
+    })
+}
