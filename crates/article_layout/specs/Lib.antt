@@ -1,3 +1,4 @@
+pub mod ArticleValues
 pub mod BlockCalls
 pub mod Calls
 pub mod Exchanges

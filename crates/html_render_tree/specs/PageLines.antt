@@ -1,30 +1,19 @@
 -- The lines of a page.
-use Rattle.std.specs.Prelude.{◌≡◌, ◌⊎◌, ℕ, ◌-◌, max, List, [], ◌∷◌, Option, None, Some, if◌then◌else◌, map}
+use Rattle.std.specs.Prelude.{◌≡◌, ◌⊎◌, ℕ, List, [], ◌∷◌, Option, None, Some, if◌then◌else◌, map}
 use Rattle.std.specs.Option.{option_and_then, option_map}
 use Rattle.block_renderer.specs.Footnotes.{add_footnotes}
 use Rattle.renderer_calls.specs.Renderers.{Marking, Sub, lines_of_sub, new_sub, with_block_started, with_held}
 use Rattle.renderer_calls.specs.declared.options.RenderOptions.{RenderOptions}
 use Rattle.renderer_calls.specs.Texts.{text_of_lines}
-use Rattle.tagged_lines.specs.Columns.{text_columns}
 use Rattle.tagged_lines.specs.Tagged.{Item, line_items}
 use Rattle.tagged_lines.specs.declared.tagged_line.TaggedLine.{TaggedLine}
 use Rattle.text_block_renderer.specs.Parts.{Parts, whole_page}
 use Rattle.text_borders.specs.Lines.{BlockLine, line_shown}
-use Rattle.text_marks.specs.Marks.{Mark, header, ordered_item, page_end, quote, unordered_item}
-use Rattle.render_sizes.specs.Extents.{PrefixColumns, measure_of}
+use Rattle.text_marks.specs.Marks.{page_end}
+use Rattle.render_sizes.specs.Extents.{measure_of}
 use Rattle.render_values.specs.Values.{Values}
-use Rattle.render_laying.specs.Items.{number_after}
 use Rattle.render_walk.specs.Lay.{laid_parts}
-
--- the columns of a decorator's prefixes; of a list with numbers those of the wider of the first and the last
-abbrev pub prefix_columns : (text : Mark → List ℕ) → PrefixColumns
-prefix_columns text = record {
-  heading = λ level. text_columns (text (header level));
-  quote = text_columns (text quote);
-  bullet = text_columns (text unordered_item);
-  numbers = λ first items. max (text_columns (text (ordered_item first)))
-      (text_columns (text (ordered_item (number_after first (items - 1)))));
-}
+pub use Rattle.render_laying.specs.Items.{prefix_columns}
 
 -- what a page is rendered by: the options, how narrow text may be wrapped, and what a decorator of the page holds
 pub record Setting (H : Type 0) : Type 0 where

@@ -1,14 +1,8 @@
 -- The values of pages of paragraphs.
-use Rattle.std.specs.Prelude.{ℕ, List, [], ◌∷◌, None}
-use Rattle.render_values.specs.Looks.{plain}
+use Rattle.std.specs.Prelude.{ℕ, List, [], ◌∷◌}
 use Rattle.render_values.specs.Values.{Values, none, value}
-use Rattle.render_values.specs.declared.info.Head.{Head}
-use Rattle.render_values.specs.declared.info.RenderInfo.{RenderInfo}
 use Rattle.render_values.specs.declared.info.RenderInfo.TheVariants as infos
-
--- no style is said of it, and no fragment starts in it
-abbrev pub plain_head : RenderInfo → Head
-plain_head info = record { info = info; style = plain; fragment = None }
+pub use Rattle.render_values.specs.Plain.{container, plain_head}
 
 -- an empty text has no value
 abbrev pub text_values : List ℕ → Values
@@ -19,9 +13,6 @@ text_values (c ∷ cs) = value (plain_head (infos.Text (c ∷ cs))) none none
 abbrev pub block_values : List (List ℕ) → Values
 block_values [] = none
 block_values (text ∷ texts) = value (plain_head infos.Block) (text_values text) (block_values texts)
-
-abbrev pub container : Values → Values
-container inside = value (plain_head infos.Container) inside none
 
 -- the document, `html` and `body`, each in the one before
 abbrev pub paragraph_values : List (List ℕ) → Values

@@ -3,7 +3,8 @@ use Rattle.std.specs.Prelude.{ℕ, ◌-◌, max, ℤ, pos, ◌+ℤ◌, List, ◌
 use Rattle.std.specs.Int.{w64, saturate_signed}
 use Rattle.renderer_calls.specs.Renderers.{Marking}
 use Rattle.tagged_lines.specs.Columns.{text_columns}
-use Rattle.text_marks.specs.Marks.{Mark, ordered_item, unordered_item}
+use Rattle.text_marks.specs.Marks.{Mark, header, ordered_item, quote, unordered_item}
+use Rattle.render_sizes.specs.Extents.{PrefixColumns}
 use Rattle.render_laying.specs.Laying.{Laying, mark_of}
 use Rattle.render_laying.specs.declared.around.ItemMark.{ItemMark}
 use Rattle.render_laying.specs.declared.around.ItemMark.TheVariants.{Bullet, Number}
@@ -36,3 +37,13 @@ last_mark (Number z) items = Number (number_after z (items - 1))
 abbrev pub item_columns : {H A : Type 0} → Marking H A → (first last : ItemMark) → Laying H A → ℕ
 item_columns m first last l =
     max (text_columns (mark_of m (item_mark first) l)) (text_columns (mark_of m (item_mark last) l))
+
+-- the columns of a decorator's prefixes; of a list with numbers those of the wider of the first and the last
+abbrev pub prefix_columns : (text : Mark → List ℕ) → PrefixColumns
+prefix_columns text = record {
+  heading = λ level. text_columns (text (header level));
+  quote = text_columns (text quote);
+  bullet = text_columns (text unordered_item);
+  numbers = λ first items. max (text_columns (text (ordered_item first)))
+      (text_columns (text (ordered_item (number_after first (items - 1)))));
+}

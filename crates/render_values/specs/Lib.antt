@@ -4,6 +4,7 @@ pub mod Closing
 pub mod Emptiness
 pub mod Endings
 pub mod Looks
+pub mod Plain
 pub mod Raising
 pub mod Reading
 pub mod Values

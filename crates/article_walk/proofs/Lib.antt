@@ -1,0 +1,2 @@
+pub mod Leasts
+pub mod Prefixes

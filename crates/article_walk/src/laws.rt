@@ -1,0 +1,26 @@
+//! Laws of what the values of articles ask for: each is the contract of a function that does nothing.
+ghost use Rattle.std.specs.Prelude.{◌≡◌, ◌+◌, ℕ, ℤ};
+ghost use Rattle.article_layout.specs.ArticleValues.{values_of_blocks, values_of_inlines, values_of_items};
+ghost use Rattle.article_layout.specs.Layouts.{Options, least_in, least_of, least_of_items, room_of_numbers};
+ghost use Rattle.article_values.specs.Articles.{Blocks, Inlines, Items};
+ghost use Rattle.article_walk.specs.Measures.{plain_measure};
+ghost use Rattle.render_sizes.specs.Extents.{extent};
+ghost use Rattle.tagged_lines.specs.Columns.{text_columns};
+ghost use Rattle.text_decorators.specs.Texts.{plain_text};
+ghost use Rattle.text_marks.specs.Marks.{header, unordered_item};
+
+/// At least, an article's values ask for as many columns as the layout says that the article asks for, behind the
+/// marks of plain text: of blocks, of a list's items and of what a paragraph says. The mark of a heading has its level
+/// and one more in columns, a bullet two, and the numbers of a list as many as the layout leaves them.
+pub fn values_ask_for_what_the_article_asks()
+    ensures blocks { (o : Options) (blocks : Blocks)
+        → (extent (plain_measure o) (values_of_blocks o blocks)).least ≡ least_of o blocks }
+    ensures items { (o : Options) (items : Items)
+        → (extent (plain_measure o) (values_of_items o items)).least ≡ least_of_items o items }
+    ensures inlines { (o : Options) (inlines : Inlines)
+        → (extent (plain_measure o) (values_of_inlines o inlines)).least ≡ least_in o inlines }
+    ensures headings { (level : ℕ) → text_columns (plain_text (header level)) ≡ level + 1 }
+    ensures bullets { text_columns (plain_text unordered_item) ≡ 2 }
+    ensures numbers { (o : Options) (first : ℤ) (items : ℕ)
+        → (plain_measure o).prefixes.numbers first items ≡ room_of_numbers first items }
+{}
