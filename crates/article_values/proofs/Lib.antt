@@ -2,3 +2,5 @@ mod BlockTurns
 mod Fitting
 mod LettingGo
 mod Turns
+pub mod VariantViews
+pub mod Weights

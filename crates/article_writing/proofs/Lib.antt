@@ -1,6 +1,5 @@
 pub mod Documents
+pub mod InnerSizes
 pub mod Naming
-pub mod Sizes
 pub mod Telling
 pub mod Texts
-pub mod Views

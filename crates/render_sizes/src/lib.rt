@@ -14,3 +14,4 @@ pub use prefixes::Prefixes;
 pub use render_values;
 pub use sizes::{measured, number};
 pub use tables::table_among;
+pub use texts::text_size;

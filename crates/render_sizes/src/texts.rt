@@ -47,7 +47,7 @@ fn added(gap: bool, is_space: bool, c: char) -> usize
 }
 
 /// The columns of a text whose white space is collapsed: one for it at the start, none at the end behind others.
-pub(crate) fn text_size(text: &str) -> usize
+pub fn text_size(text: &str) -> usize
     ensures { result ≡ capped (text_size (chars text.now)) }
 {
     if text.is_empty() {

@@ -1,4 +1,4 @@
--- How much there is to tell: a measure of the telling, which goes as deep as an article is nested.
+-- How much stands in blocks: a measure of what goes through an article as deep as it is nested.
 use Rattle.std.proofs.Common.{◌≡◌, ℕ, ℤ, zero, suc, ◌+◌, ◌<◌, ◌≤◌, List, [], ◌∷◌, map, length, get_or, refl, sym, ap, ◌∙◌, Vec, String, Global, arith}
 use Rattle.article_values.specs.Sizes.{total}
 use Rattle.article_values.specs.declared.values.Block.{Block, fold-Block}
@@ -14,8 +14,6 @@ use Rattle.article_values.specs.declared.values.Inline.TheVariants.{rolls-Bold, 
 use Rattle.article_values.specs.declared.values.Inline.TheVariants as variants
 use Rattle.article_values.specs.declared.values.Inline.TheViews as views
 use Rattle.article_values.specs.Sizes.{inline_size, inline_size_step, inlines_size}
-use Rattle.article_writing.specs.declared.inner.Inner.{Inner}
-use Rattle.article_writing.specs.declared.inner.Inner.TheVariants.{Blocks, Head, Inlines, Items, Root, Text}
 
 -- of blocks, with the inlines in them
 abbrev pub weight_step : Block-F ℕ → ℕ
@@ -33,14 +31,6 @@ blocks_weight blocks = total (map weight blocks)
 
 abbrev pub items_weight : List (Vec Block Global) → ℕ
 items_weight items = total (map (λ blocks. suc (blocks_weight blocks.items)) items)
-
-abbrev pub inner_weight : Inner → ℕ
-inner_weight (Inlines inlines) = inlines_size inlines.now
-inner_weight (Blocks blocks) = blocks_weight blocks.now
-inner_weight (Items items) = items_weight items.now
-inner_weight (Text text) = 0
-inner_weight (Head title) = 1
-inner_weight (Root title blocks) = suc (suc (blocks_weight blocks.now))
 
 -- ---- one of many
 pub one_of : {A : Type 0} (f : A → ℕ) (xs : List A) (i : ℕ) (x : A) → i < length xs → x ≡ get_or xs i x →
