@@ -1,5 +1,6 @@
 -- The values of an article's page.
-use Rattle.std.proofs.Common.{◌≡◌, ℕ, ℤ, suc, ◌<◌, ◌^◌, true, false, not, List, [], ◌∷◌, codes, Option, None, refl, ap, ◌∙◌}
+use Rattle.std.proofs.Common.{◌≡◌, ℕ, ℤ, suc, ◌<◌, ◌^◌, true, false, not, List, [], ◌∷◌, codes, Option, None, refl}
+use Rattle.std.proofs.Common.{ap, ◌∙◌}
 use Rattle.std.specs.Fmt.{signed_decimal}
 use Rattle.std.specs.Int.Signed.{mag}
 use Rattle.std.specs.Option.{option_or}
@@ -64,7 +65,8 @@ module _ (o : Options) (s : Styles) (seen : (name : List ℕ) → s name ≡ sty
   paragraph_value : (kids rest : Trees) → values s Flow (node (kind_of (codes "p") []) kids rest)
       ≡ value (plain_head infos.Block) (values s Flow kids) (values s Flow rest)
   paragraph_value kids rest =
-      ap (by_style Flow (kind_of (codes "p") []) kids (values s Flow kids) (values s Flow rest)) (unset (codes "p") refl)
+      ap (by_style Flow (kind_of (codes "p") []) kids (values s Flow kids) (values s Flow rest))
+      (unset (codes "p") refl)
       ∙ ap (held_in infos.Block (values s Flow rest)) (joined_none (values s Flow kids))
 
   division_value : (kids rest : Trees) → values s Flow (node (kind_of (codes "div") []) kids rest)
@@ -84,7 +86,8 @@ module _ (o : Options) (s : Styles) (seen : (name : List ℕ) → s name ≡ sty
   -- a list has an item
   abbrev IsBullets : (kids rest : Trees) → Values → Type 0
   IsBullets kids rest vs = values s InList kids ≡ vs →
-      values s Flow (node (kind_of (codes "ul") []) kids rest) ≡ value (plain_head infos.Bullets) vs (values s Flow rest)
+      values s Flow (node (kind_of (codes "ul") []) kids rest)
+      ≡ value (plain_head infos.Bullets) vs (values s Flow rest)
 
   bullets_value : (kids rest : Trees) (head : Head) (first more : Values) → IsBullets kids rest (value head first more)
   bullets_value kids rest head first more e =

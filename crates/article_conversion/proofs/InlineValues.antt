@@ -1,5 +1,5 @@
 -- The values of what stands in a paragraph.
-use Rattle.std.proofs.Common.{◌≡◌, ℕ, suc, ◌&&◌, Bool, true, false, not, List, [], ◌∷◌, codes, None, refl, sym, ap, ◌∙◌}
+use Rattle.std.proofs.Common.{◌≡◌, ℕ, suc, ◌&&◌, Bool, true, false, not, List, [], ◌∷◌, codes, None, refl, ap, ◌∙◌}
 use Rattle.std.proofs.Common.{if◌then◌else◌}
 use Rattle.std.specs.Char.{is_whitespace}
 use Rattle.std.specs.List.{list_all}
@@ -24,7 +24,7 @@ use Rattle.render_conversion.specs.declared.place.Place.TheVariants.{Flow}
 use Rattle.render_values.specs.Emptiness.{all_empty, holds_none, is_empty_value}
 use Rattle.render_values.specs.Endings.{ended, ending}
 use Rattle.render_values.specs.Reading.{joined_none}
-use Rattle.render_values.specs.Values.{Values, joined, none, value}
+use Rattle.render_values.specs.Values.{Values, none, value}
 use Rattle.render_values.specs.declared.closing.Condition.TheVariants.{AnyShown}
 use Rattle.render_values.specs.declared.closing.Outcome.TheVariants.{Goes, Stays}
 use Rattle.render_values.specs.declared.info.RenderInfo.TheVariants as infos

@@ -1,11 +1,11 @@
 -- What the rules that mark emphasis, strong text, terms and code say of an article's elements.
-use Rattle.std.proofs.Common.{◌≡◌, ℕ, Bool, true, false, List, [], ◌∷◌, map, codes, refl, ap, ◌∙◌, if◌then◌else◌}
+use Rattle.std.proofs.Common.{◌≡◌, ℕ, Bool, true, false, List, [], ◌∷◌, refl, ap, ◌∙◌, if◌then◌else◌}
 use Rattle.std.specs.Prelude.{Some}
 use Rattle.article_layout.specs.Layouts.{style_mark}
 use Rattle.article_values.specs.Articles.{Style, bold, code, emphasis, italic}
 use Rattle.article_conversion.specs.ArticleValues.{AreRulesOf}
 use Rattle.paragraph_lines.proofs.QuietRules.{part_by, parts_by, same_seen, seen_at}
-use Rattle.render_conversion.specs.Decorating.{SeenRule, decorating_rules, seen_rule}
+use Rattle.render_conversion.specs.Decorating.{SeenRule, decorating_rules}
 use Rattle.render_conversion.specs.Styles.{Part, Parts, all_unset, part_at, styles_of, unset}
 use Rattle.render_values.specs.Looks.{plain}
 use Rattle.style_cascade.specs.declared.rules.StylePlace.{StylePlace}

@@ -80,7 +80,8 @@ trees_of_listed (span name attributes kids rest) (suc k) n f front behind e befo
     (trees_of_listed kids k (suc n) f past (outer ++ behind) behind_x (longer front x n before)
     (less_inside (size kids) (size rest) k held))
     ∙ ap (λ ts. node kind (trees_of_content kids) ts)
-    (trees_of_listed rest (suc k) m f (past ++ inner) behind (behind_x ∙ sym (append_assoc past inner (outer ++ behind)))
+    (trees_of_listed rest (suc k) m f (past ++ inner) behind
+    (behind_x ∙ sym (append_assoc past inner (outer ++ behind)))
     (number_behind n (length past) (length inner) (length (past ++ inner)) (size kids) (length-append past inner)
     (longer front x n before) (length_listed (suc n) kids)) (less_behind (size kids) (size rest) k held))
 
