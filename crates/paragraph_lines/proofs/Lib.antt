@@ -1,7 +1,7 @@
 mod OwnLines
-mod QuietRules
+pub mod QuietRules
 mod RenderedLines
 mod StatesLaid
-mod TreesOfPages
+pub mod TreesOfPages
 mod ValuesLaid
 mod ValuesOfPages

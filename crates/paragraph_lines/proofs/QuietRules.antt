@@ -29,7 +29,7 @@ same_step : (b : Bool) (rule : StyleRule) (kept : List StyleRule) (seen : List S
 same_step true rule kept seen e = ap (λ ds. rule_declares rule ++ ds) e
 same_step false rule kept seen e = e
 
-same_seen : (name : List ℕ) (place : StylePlace) (rules : List StyleRule) →
+pub same_seen : (name : List ℕ) (place : StylePlace) (rules : List StyleRule) →
     declared_at name place rules ≡ seen_at name place (map seen_rule rules)
 same_seen name place [] = refl
 same_seen name place (rule ∷ rules) =
@@ -43,7 +43,7 @@ nothing_declared : (rules : List StyleRule) → AreQuiet rules → (name : List 
 nothing_declared rules quiet name place e = ⊎_elim (λ none. ap (declared_at name place) none)
     (λ marks. same_seen name place rules ∙ ap (seen_at name place) marks ∙ e) quiet
 
-abbrev part_by : List (Declared Style) → Part
+abbrev pub part_by : List (Declared Style) → Part
 part_by ds = record {
   look = record {
     colour = option_map (λ d. d.val) (cascade (of_property colour_of ds));
@@ -58,7 +58,7 @@ part_unset : (rules : List StyleRule) (name : List ℕ) (place : StylePlace) →
     part_at place rules name ≡ unset
 part_unset rules name place e = ap part_by e
 
-abbrev parts_by : Part → Part → Part → Parts
+abbrev pub parts_by : Part → Part → Part → Parts
 parts_by itself before after = record { itself = itself; before = before; after = after }
 
 -- an element of which the marking rules say nothing has no style

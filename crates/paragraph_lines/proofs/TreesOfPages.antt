@@ -34,19 +34,19 @@ node_behind : (front rest : Forest) (x : Node) → node_at (length front) (front
 node_behind [] rest x = refl
 node_behind (y ∷ front) rest x = node_behind front rest x
 
-node_here : (f front rest : Forest) (x : Node) (n : ℕ) → f ≡ front ++ x ∷ rest → length front ≡ n → node_at n f ≡ x
+pub node_here : (f front rest : Forest) (x : Node) (n : ℕ) → f ≡ front ++ x ∷ rest → length front ≡ n → node_at n f ≡ x
 node_here f front rest x n e before = ap (λ g. node_at n g) e
     ∙ ap (λ k. node_at k (front ++ x ∷ rest)) (sym before) ∙ node_behind front rest x
 
 one_more : (a b n : ℕ) → a ≡ b + 1 → b ≡ n → a ≡ suc n
 one_more a b n e h = omega (arith, e, h)
 
-longer : (front : Forest) (x : Node) (n : ℕ) → length front ≡ n → length (front ++ x ∷ []) ≡ suc n
+pub longer : (front : Forest) (x : Node) (n : ℕ) → length front ≡ n → length (front ++ x ∷ []) ≡ suc n
 longer front x n e = one_more (length (front ++ x ∷ [])) (length front) n (length-append front (x ∷ [])) e
 
 -- ---- its tree
 
-tree_here : (k n : ℕ) (f : Forest) (x : Node) (more : Trees) → node_at n f ≡ x →
+pub tree_here : (k n : ℕ) (f : Forest) (x : Node) (more : Trees) → node_at n f ≡ x →
     tree_before (suc k) f n more ≡ node x.kind (each_before (tree_before k f) x.children) more
 tree_here k n f x more e = ap (λ (y : Node). node y.kind (each_before (tree_before k f) y.children) more) e
 
@@ -110,7 +110,7 @@ trees_of_listed ((c ∷ cs) ∷ texts) k n f front e before held =
 size_both : (x a b r s : ℕ) → x ≡ a + b → a ≡ r → b ≡ s → suc x ≡ suc (r + s)
 size_both x a b r s e h k = omega (arith, e, h, k)
 
-length_listed : (n : ℕ) (content : Content) → length (listed n content) ≡ size content
+pub length_listed : (n : ℕ) (content : Content) → length (listed n content) ≡ size content
 length_listed n none = refl
 length_listed n (say c cs rest) = ap suc (length_listed (suc n) rest)
 length_listed n (span name attributes kids rest) =

@@ -1,0 +1,5 @@
+mod BlockValues
+mod InlineValues
+mod MarkStyles
+mod StartNumbers
+mod TreesOfContents

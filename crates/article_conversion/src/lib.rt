@@ -1,0 +1,6 @@
+//! What the page of an article is converted to, by recursion on the article.
+#![tactic(auto)]
+
+mod laws;
+
+pub use laws::articles_have_their_values;
