@@ -1,2 +1,5 @@
+pub mod InlinesWalked
 pub mod Leasts
+pub mod PagesLaid
 pub mod Prefixes
+pub mod SaidTexts

@@ -1,11 +1,18 @@
-//! Laws of what the values of articles ask for: each is the contract of a function that does nothing.
-ghost use Rattle.std.specs.Prelude.{◌≡◌, ◌+◌, ℕ, ℤ};
+//! Laws of the values of articles: each is the contract of a function that does nothing.
+ghost use Rattle.std.specs.Prelude.{◌≡◌, ◌+◌, ◌++◌, ℕ, ℤ, Bool, false, List, length, option_map};
 ghost use Rattle.article_layout.specs.ArticleValues.{values_of_blocks, values_of_inlines, values_of_items};
-ghost use Rattle.article_layout.specs.Layouts.{Options, least_in, least_of, least_of_items, room_of_numbers};
+ghost use Rattle.article_layout.specs.Calls.{measure, run};
+ghost use Rattle.article_layout.specs.Layouts.{Options, Tag, least_in, least_of, least_of_items, parts_of, room_of_numbers};
+ghost use Rattle.article_layout.specs.Layouts.{targets_in};
 ghost use Rattle.article_values.specs.Articles.{Blocks, Inlines, Items};
 ghost use Rattle.article_walk.specs.Measures.{plain_measure};
+ghost use Rattle.article_walk.specs.Pages.{AreFilled, Place, laying_at, options_of};
+ghost use Rattle.block_layout.specs.Laid.{Laid};
 ghost use Rattle.render_sizes.specs.Extents.{extent};
+ghost use Rattle.render_walk.specs.Lay.{lay};
+ghost use Rattle.renderer_calls.specs.declared.options.RenderOptions.{RenderOptions};
 ghost use Rattle.tagged_lines.specs.Columns.{text_columns};
+ghost use Rattle.text_block_renderer.specs.PlainText.{plain_marking};
 ghost use Rattle.text_decorators.specs.Texts.{plain_text};
 ghost use Rattle.text_marks.specs.Marks.{header, unordered_item};
 
@@ -23,4 +30,16 @@ pub fn values_ask_for_what_the_article_asks()
     ensures bullets { text_columns (plain_text unordered_item) ≡ 2 }
     ensures numbers { (o : Options) (first : ℤ) (items : ℕ)
         → (plain_measure o).prefixes.numbers first items ≡ room_of_numbers first items }
+{}
+
+/// The values of what a paragraph says, none of whose texts is empty, are laid out in a renderer of plain text as the
+/// layout's calls of texts and breaks: what these calls make of the block of lines in the renderer, the values do, and
+/// where the calls come to nothing, the values do. The targets of its links stand behind those before it.
+pub fn values_of_a_paragraph_are_its_calls()
+    ensures { (given : RenderOptions) (decorates : Bool) (min_wrap : ℕ) (held : Unit {0}) (place : Place)
+        (targets : List (List ℕ)) (tag : Tag) (block : Laid Tag) (inlines : Inlines) → AreFilled inlines
+        → block.awaits ≡ false → let o = options_of given decorates min_wrap in
+        lay plain_marking (plain_measure o) (values_of_inlines o inlines) (laying_at given held place targets tag block)
+        ≡ option_map (laying_at given held place (targets ++ targets_in o inlines) tag)
+        (run (measure o place.width) (parts_of o tag (length targets) inlines) block) }
 {}

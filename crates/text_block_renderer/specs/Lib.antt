@@ -1,3 +1,4 @@
 pub mod PartLaws
 pub mod Parts
+pub mod PlainText
 pub mod SeenParts
