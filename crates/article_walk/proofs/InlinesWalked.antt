@@ -104,7 +104,8 @@ module _ (given : RenderOptions) (decorates : Bool) (min_wrap : ℕ) (held : Uni
   said_mark w d [] b = Some b
   said_mark w d (c ∷ cs) b = say w d (c ∷ cs) b
 
-  mark_quiet : (w : Measure) (d : Tag) (mark : List ℕ) (b : Laid Tag) → b.awaits ≡ false → IsQuiet (said_mark w d mark b)
+  mark_quiet : (w : Measure) (d : Tag) (mark : List ℕ) (b : Laid Tag) → b.awaits ≡ false →
+      IsQuiet (said_mark w d mark b)
   mark_quiet w d [] b quiet = quiet
   mark_quiet w d (c ∷ cs) b quiet = say_quiet w d (c ∷ cs) b quiet
 
@@ -180,7 +181,8 @@ module _ (given : RenderOptions) (decorates : Bool) (min_wrap : ℕ) (held : Uni
 
   mark_behind : (mark : List ℕ) (p : Place) (ts : List (List ℕ)) (d : Tag) (b : Laid Tag) → b.awaits ≡ false →
       walk (text_before mark none) (at p ts d b) ≡ option_map (at p ts d) (said_mark (ms p) d mark b)
-  mark_behind mark p ts d b quiet = before_walked mark none p ts d b quiet ∙ kept (option_map (at p ts d) (said_mark (ms p) d mark b))
+  mark_behind mark p ts d b quiet =
+      before_walked mark none p ts d b quiet ∙ kept (option_map (at p ts d) (said_mark (ms p) d mark b))
     where
       kept : (x : Option Layings) → option_and_then (walk none) x ≡ x
       kept None = refl
@@ -206,7 +208,8 @@ module _ (given : RenderOptions) (decorates : Bool) (min_wrap : ℕ) (held : Uni
       ∙ ap (option_map (at p behind d)) (sym (chained (said_mark w d mark) (run w parts) (said_mark w d mark b)))
 
   span_run : (w : Measure) (d : Tag) (mark : List ℕ) (inside rest : List Part) (b : Laid Tag) →
-      option_and_then (run w rest) (option_and_then (say w d []) (option_and_then (marked_run w d mark inside) (say w d [] b)))
+      option_and_then (run w rest) (option_and_then (say w d []) (option_and_then (marked_run w d mark inside)
+      (say w d [] b)))
       ≡ run w (says mark d ∷ (inside ++ says mark d ∷ rest)) b
   span_run w d mark inside rest b =
       ap (λ x. option_and_then (run w rest) (option_and_then (say w d []) x))
@@ -215,7 +218,8 @@ module _ (given : RenderOptions) (decorates : Bool) (min_wrap : ℕ) (held : Uni
       ∙ by_text (say w d mark b)
     where
       first : (x : Option (Laid Tag)) → option_and_then (marked_run w d mark inside) x
-          ≡ option_and_then (said_mark w d mark) (option_and_then (run w inside) (option_and_then (said_mark w d mark) x))
+          ≡ option_and_then (said_mark w d mark)
+          (option_and_then (run w inside) (option_and_then (said_mark w d mark) x))
       first None = refl
       first (Some b) = refl
 
@@ -235,10 +239,11 @@ module _ (given : RenderOptions) (decorates : Bool) (min_wrap : ℕ) (held : Uni
       IsQuiet (marked_run w d mark parts b)
   marked_quiet w d mark parts b quiet =
       then_quiet (said_mark w d mark) (option_and_then (run w parts) (said_mark w d mark b))
-      (then_quiet (run w parts) (said_mark w d mark b) (mark_quiet w d mark b quiet) (λ b quiet. run_quiet w parts b quiet))
+      (then_quiet (run w parts) (said_mark w d mark b) (mark_quiet w d mark b quiet)
+      (λ b quiet. run_quiet w parts b quiet))
       (λ b quiet. mark_quiet w d mark b quiet)
 
-  counted : (ts more : List (List ℕ)) (n : ℕ) → length ts ≡ n → length (ts ++ more) ≡ n + length more
+  pub counted : (ts more : List (List ℕ)) (n : ℕ) → length ts ≡ n → length (ts ++ more) ≡ n + length more
   counted ts more n count = length-append ts more ∙ ap (λ k. k + length more) count
 
   span_walked : (style : Style) (kids rest : Inlines) → IsWalked kids → IsWalked rest → IsWalked (span style kids rest)
@@ -258,17 +263,21 @@ module _ (given : RenderOptions) (decorates : Bool) (min_wrap : ℕ) (held : Uni
       let filled_quiet : IsQuiet filled =
       then_quiet (marked_run w e mark parts) begun begun_quiet (λ b quiet. marked_quiet w e mark parts b quiet) in
       let ended : Option (Laid Tag) = option_and_then (say w e []) filled in
-      let ended_quiet : IsQuiet ended = then_quiet (say w e []) filled filled_quiet (λ b quiet. say_quiet w e [] b quiet) in
+      let ended_quiet : IsQuiet ended = then_quiet (say w e []) filled filled_quiet
+      (λ b quiet. say_quiet w e [] b quiet) in
       styled_walked style inside others p ts d b
-      ∙ ap (λ x. option_and_then (walk others) (option_and_then (laying_of.says plain_marking (ends_mark (end_of style)))
+      ∙ ap (λ x. option_and_then (walk others) (option_and_then (laying_of.says plain_marking (ends_mark
+      (end_of style)))
       (option_and_then (walk inside) x))) (span_begun style p ts d b quiet)
-      ∙ ap (λ x. option_and_then (walk others) (option_and_then (laying_of.says plain_marking (ends_mark (end_of style))) x))
+      ∙ ap (λ x. option_and_then (walk others) (option_and_then (laying_of.says plain_marking (ends_mark
+      (end_of style))) x))
       (next (walk inside) (marked_run w e mark parts) (at p ts e) (at p behind e) begun begun_quiet
       (λ b quiet. marked_walked mark kids in_kids p ts n count e b quiet))
       ∙ ap (option_and_then (walk others))
       (next (laying_of.says plain_marking (ends_mark (end_of style))) (say w e []) (at p behind e) (at p behind d)
       filled filled_quiet (λ b quiet. span_ended style p behind d b quiet))
-      ∙ next (walk others) (run w following) (at p behind d) (at p (behind ++ targets_in article rest) d) ended ended_quiet
+      ∙ next (walk others) (run w following) (at p behind d) (at p
+      (behind ++ targets_in article rest) d) ended ended_quiet
       (λ b quiet. then_rest p behind (n + length targets) (counted ts targets n count) d b quiet)
       ∙ ap (λ all. option_map (at p all d) (option_and_then (run w following) ended))
       (append_assoc ts targets (targets_in article rest))
@@ -347,7 +356,8 @@ module _ (given : RenderOptions) (decorates : Bool) (min_wrap : ℕ) (held : Uni
       let ended_quiet : IsQuiet ended =
       then_quiet (closed w d mark) filled filled_quiet (λ b quiet. closed_quiet w d mark b quiet) in
       linked_walked target inside others p ts d b
-      ∙ ap (λ x. option_and_then (walk others) (option_and_then (ends_link plain_marking) (option_and_then (walk inside) x)))
+      ∙ ap (λ x. option_and_then (walk others) (option_and_then (ends_link plain_marking) (option_and_then
+      (walk inside) x)))
       (link_begun given decorates min_wrap held target p ts d b quiet)
       ∙ ap (λ x. option_and_then (walk others) (option_and_then (ends_link plain_marking) x))
       (next (walk inside) (run w parts) (at p here e) (at p behind e) begun begun_quiet
@@ -365,7 +375,8 @@ module _ (given : RenderOptions) (decorates : Bool) (min_wrap : ℕ) (held : Uni
   link_by : (shallow : Bool) (target : List ℕ) (kids rest : Inlines) → IsWalked kids → IsWalked rest → (p : Place)
       (ts : List (List ℕ)) (n : ℕ) → length ts ≡ n → (d : Tag) (b : Laid Tag) → b.awaits ≡ false →
       walk (link_before shallow target (values_of_inlines article kids) (values_of_inlines article rest)) (at p ts d b)
-      ≡ option_map (at p (ts ++ (unless_shallow shallow (target ∷ targets_in article kids) ++ targets_in article rest)) d)
+      ≡ option_map (at p (ts ++ (unless_shallow shallow
+      (target ∷ targets_in article kids) ++ targets_in article rest)) d)
       (run (ms p) (unless_shallow shallow (says (codes "[") (within d)
       ∷ (parts_of article (within d) (suc n) kids ++ says (codes "]") (within d)
       ∷ says (number_mark article (n + suc (length (targets_in article kids)))) d ∷ []))

@@ -27,6 +27,10 @@ Page = Sub (Unit {0}) (Unit {0})
 abbrev pub Layings : Type 0
 Layings = Laying (Unit {0}) (Unit {0})
 
+-- of a part with so many columns
+abbrev pub part_at : ℕ → Place → Place
+part_at width p = record { width = width; modes = fold (λ _ mode. mode) Normal p.modes ∷ []; normal = p.normal }
+
 pub twice : {A B C : Type 0} (f : B → C) (g : A → B) (h : A → C) (x : Option A) → ((a : A) → f (g a) ≡ h a) →
     option_map f (option_map g x) ≡ option_map h x
 twice f g h None e = refl
@@ -158,7 +162,8 @@ module _ (given : RenderOptions) (decorates : Bool) (min_wrap : ℕ) (held : Uni
   number_by : (p : Place) (ts : List (List ℕ)) (d : Tag) (b : Laid Tag) (x : Option (Laid Tag)) → IsQuiet x →
       option_and_then (say (m p) d []) x ≡ x →
       option_map (in_parts (laying p ts (within d) b)) (option_and_then (add_part_number plain_marking)
-      (option_map (with_current (part_behind p ts (within d) b)) (option_map popped (option_map (sub_at p (within d)) x))))
+      (option_map (with_current (part_behind p ts (within d) b)) (option_map popped (option_map (sub_at p
+      (within d)) x))))
       ≡ option_map (laying p ts d) (option_and_then (say (m p) d (number_mark o (length ts))) x)
   number_by p ts d b None quiet same = refl
   number_by p ts d b (Some c) quiet same =

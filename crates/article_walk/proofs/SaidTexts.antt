@@ -57,7 +57,8 @@ module _ (m : Measure) where
   found_quiet tag fill b None e = tt
   found_quiet tag fill b (Some found) e = lines_await tag fill found.1 b ∙ e
 
-  flush_quiet_of : (tag : Tag) (r : Option (Running Tag)) (b : Laid Tag) → b.awaits ≡ false → IsQuiet (flush_of m tag r b)
+  flush_quiet_of : (tag : Tag) (r : Option (Running Tag)) (b : Laid Tag) → b.awaits ≡ false → IsQuiet
+      (flush_of m tag r b)
   flush_quiet_of tag None b e = e
   flush_quiet_of tag (Some r) b e = found_quiet tag r.fill b (laid_text r.text) e
 
@@ -128,7 +129,8 @@ module _ (m : Measure) where
   empty_by d r b e = refl
 
   first_by : (d : Tag) (cs : List ℕ) (r : Option (Running Tag)) (b : Laid Tag) →
-      say m d cs (with_running (record b { running = r }) (running_or_new m d r)) ≡ say m d cs (record b { running = r })
+      say m d cs (with_running (record b { running = r }) (running_or_new m d r)) ≡ say m d cs
+      (record b { running = r })
   first_by d [] None b = refl
   first_by d (c ∷ cs) None b = refl
   first_by d cs (Some r) b = refl
