@@ -11,7 +11,7 @@ use Rattle.tagged_lines.specs.Columns.{text_columns}
 use Rattle.article_walk.specs.Measures.{plain_measure}
 use Rattle.article_walk.proofs.Prefixes.{both, heading_columns_are, item_columns_are}
 
-number_of_items : (o : Options) (items : Items) → number (values_of_items o items) ≡ how_many items
+pub number_of_items : (o : Options) (items : Items) → number (values_of_items o items) ≡ how_many items
 number_of_items o no_items = refl
 number_of_items o (item kids rest) = ap suc (number_of_items o rest)
 
@@ -83,7 +83,8 @@ module _ (o : Options) where
 
   -- the columns of a list's numbers
   pub numbers_columns : (first : ℤ) (n : ℕ) → by.prefixes.numbers first n ≡ room_of_numbers first n
-  numbers_columns first n = both max (item_columns_are (Some first)) (item_columns_are (Some (number_after first (n - 1))))
+  numbers_columns first n = both max (item_columns_are (Some first)) (item_columns_are (Some (number_after first
+      (n - 1))))
 
   mutual
     pub least_of_values : (blocks : Blocks) → least (values_of_blocks o blocks) ≡ least_of o blocks
