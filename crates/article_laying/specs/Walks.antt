@@ -1,9 +1,13 @@
 -- What a walk over an article makes of what it laid out before: the targets of links so far and the paragraphs so far
 -- are kept beside the lines, where the layout counts them.
-use Rattle.std.specs.Prelude.{ℕ, ℤ, suc, ◌+◌, Bool, List, [], ◌∷◌, ◌++◌, ◌&&◌, length, replicate, codes, Option, None, Some, if◌then◌else◌}
+use Rattle.std.specs.Prelude.{ℕ, ℤ, suc, ◌+◌, Bool, List, [], ◌∷◌, ◌++◌, ◌&&◌, length, replicate, codes, Option, None}
+use Rattle.std.specs.Prelude.{Some, if◌then◌else◌}
 use Rattle.std.specs.Option.{option_map, option_and_then}
-use Rattle.article_layout.specs.Layouts.{Line, Options, Tag, all_shallow, how_many, item_prefix, least_in, least_of_items, mark_of, next_number, notes, number_mark, paragraph_lines, parted, prefixed, room, room_of_numbers, targets_in, to_room, within}
-use Rattle.article_values.specs.Articles.{Blocks, Inlines, Items, Style, bullets, division, heading, item, line_break, link, no_blocks, no_inlines, no_items, numbers, paragraph, span, words}
+use Rattle.article_layout.specs.Layouts.{Line, Options, Tag, all_shallow, how_many, item_prefix, least_in}
+use Rattle.article_layout.specs.Layouts.{least_of_items, mark_of, next_number, notes, number_mark, paragraph_lines}
+use Rattle.article_layout.specs.Layouts.{parted, prefixed, room, room_of_numbers, targets_in, to_room, within}
+use Rattle.article_values.specs.Articles.{Blocks, Inlines, Items, Style, bullets, division, heading, item, line_break}
+use Rattle.article_values.specs.Articles.{link, no_blocks, no_inlines, no_items, numbers, paragraph, span, words}
 use Rattle.block_layout.specs.Laid.{Laid, add_text, break_line}
 use Rattle.block_layout.specs.declared.measure.Measure.{Measure}
 use Rattle.render_laying.specs.Items.{spaces}

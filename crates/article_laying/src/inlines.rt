@@ -102,11 +102,12 @@ fn say(
     text: &str,
     tag: &Vec<()>,
 ) -> Result<(), BlockError>
-    ensures done { (targets : SeenVec (SeenString SeenGlobal) SeenGlobal) → OnOk result (adds (measure (options_of room.options) room.width) (chars text.now)
-        (tag_of tag.now) (said_of block.old targets) ≡ Some (said_of block.new targets)) }
-    ensures narrow { (targets : SeenVec (SeenString SeenGlobal) SeenGlobal) → result ≡ Err errors.TooNarrow → adds
-        (measure (options_of room.options) room.width) (chars text.now) (tag_of tag.now) (said_of block.old targets)
-        ≡ None }
+    ensures done { (targets : SeenVec (SeenString SeenGlobal) SeenGlobal) → OnOk result
+        (adds (measure (options_of room.options) room.width) (chars text.now) (tag_of tag.now)
+        (said_of block.old targets) ≡ Some (said_of block.new targets)) }
+    ensures narrow { (targets : SeenVec (SeenString SeenGlobal) SeenGlobal) → result ≡ Err errors.TooNarrow
+        → adds (measure (options_of room.options) room.width) (chars text.now) (tag_of tag.now)
+        (said_of block.old targets) ≡ None }
     ensures failed { result ≡ Err errors.Failed → ⊥ }
 {
     block.add_text(room.measure(), tag, WhiteSpace::Normal, text, tag, tag)

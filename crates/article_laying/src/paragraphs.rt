@@ -48,8 +48,8 @@ fn numbered(
     Ok(all)
 }
 
-/// The lines of a paragraph or a heading, whose number is that of those so far. Refused as `TooNarrow` where a character
-/// is wider than lines, or as `Memory`.
+/// The lines of a paragraph or a heading, whose number is that of those so far. Refused as `TooNarrow` where a
+/// character is wider than lines, or as `Memory`.
 pub(crate) fn paragraph_lines(
     alloc: Global,
     room: Room,

@@ -8,7 +8,7 @@ use std::io;
 #[derive(Debug, Drop, thiserror::Error)]
 pub(crate) enum Error {
     /// The words of the command line.
-    #[error("usage: article_lines [--trees]")]
+    #[error("usage: article_lines [--lines] [--trees]")]
     Words,
     /// A line of standard input.
     #[error("a line belongs to no article: {0}")]

@@ -1,11 +1,12 @@
 //! Tells articles as they are written. Standard input has them, a value a line and an empty line behind each; standard
 //! output gets the page that is written of each, or its first fault, and an empty line behind it. Each page is parsed,
-//! as a whole and a byte at a time, and what is written of its trees must be the page. With `--trees` the nodes of the
-//! tree stand behind the page, one a line.
+//! as a whole and a byte at a time, and what is written of its trees must be the page. With `--lines` the lines that the
+//! article is laid out on stand behind the page, and with `--trees` the nodes of the tree behind these, one a line.
 #![tactic(auto)]
 
 mod case;
 mod error;
+mod lines;
 mod telling;
 mod values;
 
@@ -32,9 +33,7 @@ fn main(rt: HostRuntime) -> ExitCode {
 /// Tells each case in turn. What stands before a line that belongs to none is told.
 fn serve<R: Env + Input + Print + AllocGlobal>(rt: &R) -> Result<(), Error> {
     let alloc = rt.alloc();
-    let telling = Telling {
-        trees: asks_for_trees(rt)?,
-    };
+    let telling = asked_for(rt)?;
     let text = io::read_to_string(alloc, rt.reader())?;
     let mut output = BufWriter::new(alloc, io::writer(rt))?;
     let told = tell_cases(alloc, telling, text.as_str(), &mut output);
@@ -42,15 +41,20 @@ fn serve<R: Env + Input + Print + AllocGlobal>(rt: &R) -> Result<(), Error> {
     told
 }
 
-fn asks_for_trees<R: Env + AllocGlobal>(rt: &R) -> Result<bool, Error> {
-    let mut words = env::args(rt)?.skip(1);
-    let Some(word) = words.next() else {
-        return Ok(false);
+/// What the words of the command line ask for.
+fn asked_for<R: Env + AllocGlobal>(rt: &R) -> Result<Telling, Error> {
+    let mut telling = Telling {
+        lines: false,
+        trees: false,
     };
-    if word.as_str() != "--trees" || words.next().is_some() {
-        return Err(Error::Words);
+    for word in env::args(rt)?.skip(1) {
+        match word.as_str() {
+            "--lines" => telling.lines = true,
+            "--trees" => telling.trees = true,
+            _ => return Err(Error::Words),
+        }
     }
-    Ok(true)
+    Ok(telling)
 }
 
 fn tell_cases<W: Write>(

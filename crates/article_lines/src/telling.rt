@@ -1,6 +1,8 @@
 //! How articles are told.
-use crate::case::article_of;
+use crate::case::{Case, case_of};
 use crate::error::Error;
+use crate::lines::push_lines;
+use article_laying::LineOptions;
 use article_values::Article;
 use article_writing::WriteArticle;
 use dom_serializer::SerializeDom;
@@ -16,7 +18,9 @@ use tree_lines::lines_of;
 /// What is told.
 #[derive(Clone, Copy)]
 pub(crate) struct Telling {
-    /// Whether trees are, behind their pages.
+    /// Whether the lines of articles are, behind their pages.
+    pub(crate) lines: bool,
+    /// Whether trees are, behind these.
     pub(crate) trees: bool,
 }
 
@@ -24,21 +28,35 @@ impl Telling {
     /// The page of an article, or its first fault, and an empty line.
     pub(crate) fn told(self, alloc: Global, case: &[&str]) -> Result<String, Error> {
         let mut told = String::new(alloc);
-        match article_of(alloc, case)? {
-            Ok(article) => self.push_page(&mut told, &article)?,
+        let Case {
+            article,
+            options,
+            width,
+        } = case_of(alloc, case)?;
+        match article {
+            Ok(article) => self.push_page(&mut told, &article, options, width)?,
             Err(fault) => writeln!(told, "{fault:?}")?,
         }
         told.push('\n')?;
         Ok(told)
     }
 
-    fn push_page(self, told: &mut String, article: &Article) -> Result<(), Error> {
+    fn push_page(
+        self,
+        told: &mut String,
+        article: &Article,
+        options: LineOptions,
+        width: usize,
+    ) -> Result<(), Error> {
         let alloc = *told.allocator();
         let page = written(alloc, article)?;
         let Ok(text) = str::from_utf8(page.as_slice()) else {
             return Err(Error::Differs("as UTF-8"));
         };
         push_line(told, "written", text)?;
+        if self.lines {
+            push_lines(told, article, options, width)?;
+        }
         let tree = tree_read_back(alloc, page.as_slice())?;
         if self.trees {
             told.push_str(tree.as_str())?;
