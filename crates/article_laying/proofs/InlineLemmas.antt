@@ -1,5 +1,5 @@
 -- Inlines, one after another, and whether there are any.
-use Rattle.std.proofs.Common.{◌≡◌, ℕ, suc, ◌+◌, ◌<◌, ◌==◌, Bool, false, List, [], ◌∷◌, drop, length, get_or, max, refl, sym, ap, ◌∙◌, subst, add-one, drop-cons, ne_eqb, arith}
+use Rattle.std.proofs.Common.{◌≡◌, ℕ, suc, ◌==◌, false, List, [], ◌∷◌, length, max, refl, sym, ◌∙◌, subst, ne_eqb, arith}
 use Rattle.article_layout.specs.Layouts.{has_none}
 use Rattle.article_values.specs.Articles.{Inlines}
 use Rattle.article_values.specs.Views.{inline_step, inline_view, inlines_view}
@@ -9,11 +9,6 @@ use Rattle.article_values.specs.declared.values.Inline.TheOpen.{Inline-F}
 
 suc_is_some : (n : ℕ) → (suc n == 0) ≡ false
 suc_is_some n = ne_eqb (suc n) 0 (λ e. cc)
-
--- what is left at a place
-pub first_left : {A : Type 0} (xs : List A) (i : ℕ) (x : A) → i < length xs → x ≡ get_or xs i x →
-    drop i xs ≡ x ∷ drop (i + 1) xs
-first_left xs i x h is = rw (add-one, drop-cons xs i x h) (ap (λ y. y ∷ drop (suc i) xs) (sym is))
 
 abbrev IsOne : Inline → Type 0
 IsOne i = (rest : Inlines) → has_none (inline_view i rest) ≡ false

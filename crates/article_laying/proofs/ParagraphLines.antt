@@ -10,7 +10,7 @@ use Rattle.article_laying.proofs.SaidRuns.{said_is}
 use Rattle.article_values.specs.Articles.{Inlines}
 use Rattle.block_layout.specs.Laid.{Laid, flush, nothing_laid}
 use Rattle.tagged_lines.specs.Tagged.{Item}
-use Rattle.text_borders.specs.Across.{CellLine, Hanging}
+use Rattle.text_borders.specs.Across.{CellLine}
 use Rattle.text_wrapping.specs.Blocks.{ends_in_columns}
 
 module _ (o : Options) (width k : ℕ) where

@@ -4,7 +4,7 @@ use Rattle.std.specs.Option.{option_and_then, option_map}
 use Rattle.std.proofs.lemmas.List.{length-append}
 use Rattle.article_layout.specs.Calls.{run}
 use Rattle.article_layout.specs.Layouts.{Options, Part, Tag, all_shallow, breaks, mark_of, number_mark, parts_of, says, targets_in, unless_shallow, within}
-use Rattle.article_laying.specs.Walks.{Said, adds, breaks_at, linked, numbered, said, shown_link, spanned}
+use Rattle.article_laying.specs.Walks.{Said, adds, linked, numbered, said}
 use Rattle.article_values.specs.Articles.{Inlines, Style, line_break, link, no_inlines, span, words}
 use Rattle.block_layout.specs.Laid.{Laid, add_text, break_line}
 use Rattle.block_layout.specs.declared.measure.Measure.{Measure}

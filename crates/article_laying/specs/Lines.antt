@@ -1,5 +1,5 @@
 -- What contracts see of a line.
-use Rattle.std.specs.Prelude.{List, Vec, map}
+use Rattle.std.specs.Prelude.{Vec, map}
 use Rattle.std.specs.Global.{Global}
 use Rattle.article_laying.specs.declared.line_list.Line.{Line as CodeLine}
 use Rattle.article_layout.specs.Layouts.{Line, Tag}

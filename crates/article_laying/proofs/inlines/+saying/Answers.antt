@@ -1,11 +1,11 @@
-use Rattle.std.proofs.Common.{◌≡◌, List, [], Option, None, Some, Err, refl, sym, ap, ◌∙◌, if◌then◌else◌, codes, string_bytes}
+use Rattle.std.proofs.Common.{◌≡◌, [], None, Some, Err, refl, sym, ap, ◌∙◌, if◌then◌else◌}
 use Rattle.std.specs.Option.{option_and_then}
 use Rattle.std.specs.Str.{chars}
 use Rattle.std.proofs.lemmas.Result.{err_from_is_err_and, on_ok_weaker}
 use Rattle.article_laying.specs.Lines.{tag_of}
 use Rattle.article_laying.specs.Seen.{said_of}
 use Rattle.article_laying.specs.Settings.{options_of}
-use Rattle.article_laying.specs.Walks.{Said, adds, numbered, said, spanned}
+use Rattle.article_laying.specs.Walks.{adds, said, spanned}
 use Rattle.article_layout.specs.Calls.{measure}
 use Rattle.article_layout.specs.Layouts.{within}
 use Rattle.article_values.specs.Articles.{bold, code, emphasis, italic}

@@ -1,6 +1,5 @@
-use Rattle.std.proofs.Common.{◌≡◌, Err, sym, ap, ◌∙◌, map}
+use Rattle.std.proofs.Common.{◌≡◌, Err, ap, ◌∙◌, map}
 use Rattle.std.proofs.lemmas.Result.{err_from_is_err_and}
-use Rattle.article_laying.specs.Lines.{line_of}
 use Rattle.article_laying.specs.Seen.{at_of, lines_of, told, told_of}
 use Rattle.article_laying.specs.Settings.{options_of}
 use Rattle.article_laying.specs.Walks.{with_notes}

@@ -1,4 +1,4 @@
-use Rattle.std.proofs.Common.{◌≡◌, false, not, Some, sym, ap, ◌∙◌, map}
+use Rattle.std.proofs.Common.{false, not, sym, ap, ◌∙◌, map}
 use Rattle.std.proofs.lemmas.Option.{none-some}
 use Rattle.std.proofs.lemmas.Result.{IfOk-weaker}
 use Rattle.article_layout.specs.Layouts.{article_lines, stretch_lines, wrap_at}

@@ -4,7 +4,7 @@ use Rattle.article_laying.specs.Lines.{line_of, tag_of}
 use Rattle.article_laying.specs.Seen.{said_of}
 use Rattle.article_laying.specs.Settings.{options_of}
 use Rattle.article_values.specs.Views.{inlines_view}
-use Rattle.block_layout.specs.Laid.{Laid, flush}
+use Rattle.block_layout.specs.Laid.{flush}
 use Rattle.block_layout.specs.Seen.{laid_of}
 use Rattle.text_cells.specs.Cells.{laid_line_of}
 use Rattle.text_pieces.specs.Sources.{names}
