@@ -39,7 +39,7 @@ module _ (m : Measure) (tag : Tag) where
 
 module _ (kept : KeepsMarkers) (o : Options) where
   -- lines, and whether the next text starts a block
-  abbrev laid : List Line → Bool → Laid Tag
+  abbrev pub laid : List Line → Bool → Laid Tag
   laid lines awaits =
       record { lines = map cell_of lines; running = None; awaits = awaits; markers = []; hanging = [] }
 
@@ -47,7 +47,7 @@ module _ (kept : KeepsMarkers) (o : Options) where
   cells_both [] ys = refl
   cells_both (x ∷ xs) ys = ap (λ t. cell_of x ∷ t) (cells_both xs ys)
 
-  behind_lines : (xs ys : List Line) (awaits : Bool) →
+  pub behind_lines : (xs ys : List Line) (awaits : Bool) →
       record { lines = map cell_of xs ++ map cell_of ys; running = None; awaits = awaits; markers = []; hanging = [] }
       ≡ laid (xs ++ ys) awaits
   behind_lines xs ys awaits = ap (λ cs. let all : Laid Tag =
@@ -72,7 +72,7 @@ module _ (kept : KeepsMarkers) (o : Options) where
     started_by lines awaits true = behind_lines lines (empty_line o width outermost None ∷ []) false
     started_by lines awaits false = refl
 
-    started_is : (lines : List Line) (awaits : Bool) →
+    pub started_is : (lines : List Line) (awaits : Bool) →
         start_block m outermost (laid lines awaits) ≡ Some (laid (parted o width lines) false)
     started_is lines awaits = ap Some
         (ap (λ b. if b then record {

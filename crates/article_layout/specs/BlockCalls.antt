@@ -1,7 +1,10 @@
 -- An article's blocks as calls of blocks of lines, by the words of block_layout.
-use Rattle.std.specs.Prelude.{ℕ, ℤ, ◌+◌, Bool, true, false, List, ◌++◌, length, replicate, codes, Option, None, Some}
-use Rattle.std.specs.Option.{option_and_then}
-use Rattle.block_layout.specs.Laid.{Laid, add_block, end_block, flush, nothing_laid, start_block}
+use Rattle.std.specs.Prelude.{ℕ, ℤ, suc, ◌+◌, Bool, true, false, List, [], ◌∷◌, ◌++◌, length, replicate, codes, Option, None, Some, if◌then◌else◌}
+use Rattle.std.specs.Option.{option_and_then, option_map}
+use Rattle.block_layout.specs.Laid.{Laid, add_block, add_text_lines, end_block, flush, nothing_laid, start_block}
+use Rattle.footnote_lines.specs.Footnotes.{footnote_lines}
+use Rattle.tagged_lines.specs.Tagged.{tagged}
+use Rattle.text_decorators.specs.Texts.{footnote_text}
 use Rattle.render_laying.specs.Items.{spaces}
 use Rattle.render_sizes.specs.Extents.{capped}
 use Rattle.article_values.specs.Articles.{Blocks, Items, bullets, division, heading, item, no_blocks, no_items, numbers, paragraph}
@@ -56,3 +59,22 @@ awaits_behind (heading level is rest) b = awaits_behind rest true
 awaits_behind (division kids rest) b = awaits_behind rest (awaits_behind kids b)
 awaits_behind (bullets items rest) b = awaits_behind rest false
 awaits_behind (numbers first items rest) b = awaits_behind rest false
+
+-- ---- behind the last block
+
+-- the lines of targets, numbered from a number on
+abbrev pub add_notes : Options → (width number : ℕ) → List (List ℕ) → Laid Tag → Laid Tag
+add_notes o width n [] b = b
+add_notes o width n (target ∷ targets) b =
+    add_notes o width (suc n) targets (add_text_lines (measure o width) outermost outermost
+    (footnote_lines o.wraps_links width (tagged (footnote_text n target) tt)) b)
+
+-- targets are a block of their own, where there are any
+abbrev pub run_notes : Options → ℕ → List (List ℕ) → Laid Tag → Option (Laid Tag)
+run_notes o width [] b = Some b
+run_notes o width (target ∷ targets) b = option_map (add_notes o width 1 (target ∷ targets))
+    (option_and_then (flush (measure o width) outermost) (start_block (measure o width) outermost b))
+
+-- those that stand there
+abbrev pub noted : Options → List (List ℕ) → List (List ℕ)
+noted o targets = if o.footnotes then targets else []

@@ -1,11 +1,11 @@
 //! Laws of the layout of articles.
 ghost use Rattle.std.specs.Prelude.{◌≡◌, ◌≤◌, ◌++◌, ℕ, List, [], map, None, Some, option_map, filter, flat_map, option_and_then};
 ghost use Rattle.article_values.specs.Articles.{Blocks, Inlines};
-ghost use Rattle.article_layout.specs.BlockCalls.{run_blocks};
+ghost use Rattle.article_layout.specs.BlockCalls.{noted, run_blocks, run_notes};
 ghost use Rattle.article_layout.specs.Calls.{block_with, cell_of, measure, run_whole};
 ghost use Rattle.article_layout.specs.Exchanges.{Differ, others};
-ghost use Rattle.article_layout.specs.Layouts.{Line, Options, Stretch, Tag, article_lines, lay, outermost, paragraph_lines, parts_of};
-ghost use Rattle.article_layout.specs.Layouts.{stretch_lines, wrap_at};
+ghost use Rattle.article_layout.specs.Layouts.{Line, Options, Stretch, Tag, article_lines, lay, layout, notes, outermost, paragraph_lines};
+ghost use Rattle.article_layout.specs.Layouts.{parts_of, stretch_lines, targets_of, wrap_at};
 ghost use Rattle.article_layout.specs.Paragraphs.{AreParagraphs};
 ghost use Rattle.article_layout.specs.Showing.{is_visible, visible_of};
 ghost use Rattle.block_layout.specs.Laid.{Laid, flush, nothing_laid};
@@ -55,6 +55,17 @@ pub fn calls_of_an_article()
     ensures { (o : Options) (width : ℕ) (a : Blocks) → option_map (λ (b : Laid Tag). b.lines)
         (option_and_then (flush (measure o width) outermost) (run_blocks o width 0 a nothing_laid))
         ≡ option_map (map cell_of) (lay o width 0 0 a []) }
+{
+    normal_lines_keep_markers::<Vec<()>>();
+}
+
+/// The calls of an article's blocks and of its targets behind them lay just its lines, and are refused just where it has
+/// none.
+pub fn calls_of_a_whole_article()
+    ensures { (o : Options) (width : ℕ) (a : Blocks) → option_map (λ (b : Laid Tag). b.lines)
+        (option_and_then (flush (measure o width) outermost) (option_and_then (run_notes o width
+        (noted o (targets_of o a))) (run_blocks o width 0 a nothing_laid)))
+        ≡ option_map (map cell_of) (layout o (notes o width) width a) }
 {
     normal_lines_keep_markers::<Vec<()>>();
 }
