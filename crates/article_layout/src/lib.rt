@@ -5,6 +5,6 @@
 mod laws;
 
 pub use laws::{
-    calls_of_a_paragraph, calls_of_a_whole_article, calls_of_an_article, exchange, paragraphs_are_never_refused,
-    visible_characters_once,
+    calls_of_a_paragraph, calls_of_a_whole_article, calls_of_an_article, exchange,
+    paragraphs_are_never_refused, visible_characters_once,
 };

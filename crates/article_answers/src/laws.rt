@@ -1,0 +1,25 @@
+//! The law of articles and their pages.
+ghost use Rattle.std.specs.Prelude.{◌≡◌, ℕ, Bool, List, Option};
+ghost use Rattle.article_answers.specs.ArticleAnswers.{IsForArticles, IsWritten, article_answer};
+ghost use Rattle.article_values.specs.Articles.{Blocks};
+ghost use Rattle.page_config.specs.PageAnswers.{HasAnswer, PageAnswer};
+ghost use Rattle.page_config.specs.Settings.{PageSetting};
+ghost use Rattle.text_block_renderer.specs.PlainText.{plain_closes, plain_marking};
+
+use article_conversion::articles_have_their_values;
+use article_rendering::articles_are_laid;
+use written_articles::bytes_of_an_article_have_its_tree;
+
+/// What is written of an article, read however it is cut, built into a tree, converted and rendered as plain text, has
+/// the lines of the article at each width, or is too narrow just where the article has none: no text of it is markup,
+/// and none reaches another paragraph.
+pub fn an_article_is_laid_out_as_itself()
+    ensures { (c : PageSetting (Unit {0})) (decorates : Bool) (width : ℕ) (title : Option (List ℕ)) (blocks : Blocks)
+        (bytes : List ℕ) (answer : PageAnswer (Unit {0})) → IsForArticles c decorates → IsWritten title blocks bytes
+        → HasAnswer plain_marking (λ _. tt) plain_closes c width bytes answer
+        → answer ≡ article_answer c decorates width blocks }
+{
+    bytes_of_an_article_have_its_tree();
+    articles_have_their_values();
+    articles_are_laid();
+}
