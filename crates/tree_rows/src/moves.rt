@@ -1,7 +1,7 @@
 //! Nodes that are moved, in any sink.
 ghost use Rattle.std.specs.Prelude.{◌≡◌, OnOk};
 ghost use Rattle.html_forest.specs.Forest.{page_alone};
-ghost use Rattle.tree_rows.specs.Pages.{fostered, moved, reparented_page};
+ghost use Rattle.tree_rows.specs.Pages.{fostered, given_page, moved, refilled_page, reparented_page};
 
 use crate::outline::PLAIN;
 use html_lexemes::{Attributes, ParseFault, QualName};
@@ -77,5 +77,52 @@ pub(crate) fn wrap_children<S: TreeSink>(
     let inner = sink.create_element(inner, Attributes::new(alloc), PLAIN)?;
     sink.reparent_children(outer, inner)?;
     sink.append(outer, NodeOrText::AppendNode(inner))?;
+    Ok(())
+}
+
+/// An element whose child goes to another one, behind the child that stands there.
+pub(crate) fn give_children<S: TreeSink>(
+    alloc: Global,
+    sink: &mut S,
+    from: QualName,
+    first: QualName,
+    to: QualName,
+    second: QualName,
+) -> Result<(), ParseFault>
+    requires { S.forest sink.old ≡ page_alone }
+    ensures { OnOk result (S.forest sink.new ≡ given_page from first to second) }
+{
+    let document = sink.get_document();
+    let from = sink.create_element(from, Attributes::new(alloc), PLAIN)?;
+    sink.append(document, NodeOrText::AppendNode(from))?;
+    let a = sink.create_element(first, Attributes::new(alloc), PLAIN)?;
+    sink.append(from, NodeOrText::AppendNode(a))?;
+    let to = sink.create_element(to, Attributes::new(alloc), PLAIN)?;
+    sink.append(document, NodeOrText::AppendNode(to))?;
+    let b = sink.create_element(second, Attributes::new(alloc), PLAIN)?;
+    sink.append(to, NodeOrText::AppendNode(b))?;
+    sink.reparent_children(from, to)?;
+    Ok(())
+}
+
+/// An element whose only child is taken out, and that is given another.
+pub(crate) fn refill<S: TreeSink>(
+    alloc: Global,
+    sink: &mut S,
+    outer: QualName,
+    first: QualName,
+    second: QualName,
+) -> Result<(), ParseFault>
+    requires { S.forest sink.old ≡ page_alone }
+    ensures { OnOk result (S.forest sink.new ≡ refilled_page outer first second) }
+{
+    let document = sink.get_document();
+    let outer = sink.create_element(outer, Attributes::new(alloc), PLAIN)?;
+    sink.append(document, NodeOrText::AppendNode(outer))?;
+    let a = sink.create_element(first, Attributes::new(alloc), PLAIN)?;
+    sink.append(outer, NodeOrText::AppendNode(a))?;
+    sink.remove_from_parent(a)?;
+    let b = sink.create_element(second, Attributes::new(alloc), PLAIN)?;
+    sink.append(outer, NodeOrText::AppendNode(b))?;
     Ok(())
 }

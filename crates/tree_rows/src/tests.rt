@@ -4,7 +4,7 @@ ghost use Rattle.html_forest.specs.Forest.{page_alone};
 
 use crate::elements::{add_twice, ask, fill_template, tell_all};
 use crate::finished::finished;
-use crate::moves::{foster, move_siblings, wrap_children};
+use crate::moves::{foster, give_children, move_siblings, refill, wrap_children};
 use crate::outline::{Declared, build_outline, build_remarks};
 use crate::texts::say_around;
 use html_lexemes::{
@@ -23,6 +23,8 @@ enum Page {
     Moved,
     Fostered,
     Wrapped,
+    Given,
+    Refilled,
     Added,
     Filled,
     Said,
@@ -31,7 +33,7 @@ enum Page {
 // what is built of which elements, and the lines of the tree
 type Row = (Page, [&'static str; 4], &'static str);
 
-static PAGES: [Row; 8] = [
+static PAGES: [Row; 10] = [
     (
         Page::Outline,
         ["html", "head", "body", ""],
@@ -72,6 +74,23 @@ element\thtml\tp
   element\thtml\ti
   element\thtml\tu
 ",
+    ),
+    // children go behind those that stand there (WHATWG DOM, 4.2.3, "append")
+    (
+        Page::Given,
+        ["p", "i", "div", "b"],
+        "quirks\tNoQuirks
+element\thtml\tp
+element\thtml\tdiv
+ element\thtml\tb
+ element\thtml\ti
+",
+    ),
+    // once its only child is removed a parent has none (WHATWG DOM, 4.2.3, "remove")
+    (
+        Page::Refilled,
+        ["p", "i", "b", ""],
+        "quirks\tNoQuirks\nelement\thtml\tp\n element\thtml\tb\n",
     ),
     // those that are there keep their values (WHATWG HTML, 13.2.6.4.7, "html")
     (
@@ -148,6 +167,8 @@ fn built(alloc: Global, page: &Page, words: &[&str; 4]) -> Result<RcDom, ParseFa
         Page::Moved => move_siblings(alloc, &mut dom, a, b, c)?,
         Page::Fostered => foster(alloc, &mut dom, a, b, c)?,
         Page::Wrapped => wrap_children(alloc, &mut dom, a, b, c, html(alloc, words[3])?)?,
+        Page::Given => give_children(alloc, &mut dom, a, b, c, html(alloc, words[3])?)?,
+        Page::Refilled => refill(alloc, &mut dom, a, b, c)?,
         Page::Added => add_twice(
             &mut dom,
             a,
