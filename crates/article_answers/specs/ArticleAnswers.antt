@@ -12,8 +12,8 @@ use Rattle.page_config.specs.Settings.{PageSetting}
 use Rattle.tagged_lines.specs.Tagged.{Item}
 use Rattle.written_articles.specs.Contents.{NumbersFit, article_text}
 
--- Pages are parsed as by default, by a table that knows the names of escaped text; no rules of style stand but those that
--- mark emphasis, strong text, terms and code, where spans are marked; and no part may pass the width.
+-- Pages are parsed as by default, by a table that knows the names of escaped text; no rules of style stand but those
+-- that mark emphasis, strong text, terms and code, where spans are marked; and no part may pass the width.
 pub record IsForArticles (c : PageSetting (Unit {0})) (decorates : Bool) : Type 0 where
   pub table : KnowsEscapes c.table
   pub parsing : c.parsing ≡ default_parse

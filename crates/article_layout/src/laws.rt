@@ -59,8 +59,8 @@ pub fn calls_of_an_article()
     normal_lines_keep_markers::<Vec<()>>();
 }
 
-/// The calls of an article's blocks and of its targets behind them lay just its lines, and are refused just where it has
-/// none.
+/// The calls of an article's blocks and of its targets behind them lay just its lines, and are refused just where it
+/// has none.
 pub fn calls_of_a_whole_article()
     ensures { (o : Options) (width : ℕ) (a : Blocks) → option_map (λ (b : Laid Tag). b.lines)
         (option_and_then (flush (measure o width) outermost) (option_and_then (run_notes o width
