@@ -6,7 +6,6 @@ use Rattle.normal_text.specs.Letters.{has_marker}
 use Rattle.normal_text.specs.Riders.{has_wide_text, normal_lines, normal_waiting}
 use Rattle.tagged_lines.specs.Tagged.{Item}
 use Rattle.text_borders.specs.Across.{CellLine, Hanging}
-use Rattle.text_borders.specs.Lines.{text}
 use Rattle.text_pieces.specs.Items.{markers_of}
 use Rattle.text_pieces.specs.Sources.{Source, fragment, fragments, is_filled, letter, names_of as marker_names, sourced}
 use Rattle.text_pieces.specs.declared.white_space.WhiteSpace.{WhiteSpace}
