@@ -1,16 +1,16 @@
 -- What an article's values are rendered as is what its layout's calls give.
-use Rattle.std.proofs.Common.{◌≡◌, ℕ, suc, ◌<◌, nat_lt, Bool, true, false, List, [], ◌∷◌, map, fold, Option, None, Some, if◌then◌else◌, ⊎_elim, refl, sym, ap, ◌∙◌, lt-ltb}
+use Rattle.std.proofs.Common.{◌≡◌, ℕ, suc, ◌<◌, Bool, List, [], ◌∷◌, map, fold, Option, None, Some, if◌then◌else◌, ⊎_elim, refl, sym, ap, ◌∙◌, lt-ltb}
 use Rattle.std.specs.Option.{option_and_then, option_map}
 use Rattle.article_layout.specs.ArticleValues.{page_values}
 use Rattle.article_layout.specs.BlockCalls.{add_notes, noted as noted_targets, run_blocks, run_notes}
 use Rattle.article_layout.specs.Calls.{cell_of, measure}
-use Rattle.article_layout.specs.Layouts.{Line, Options, Tag, article_lines, layout, notes, outermost, targets_of}
+use Rattle.article_layout.specs.Layouts.{Line, Options, Tag, layout, notes, outermost, targets_of}
 use Rattle.article_rendering.specs.ArticlesLaid.{AreLaidAs, options_by, shown_lines}
 use Rattle.article_values.specs.Articles.{Blocks}
 use Rattle.article_walk.specs.Pages.{page_of, parts_at, renderer_at}
 use Rattle.block_layout.specs.Laid.{Laid, finished, flush, nothing_laid, start_block}
 use Rattle.block_renderer.specs.Footnotes.{add_footnote, add_footnotes}
-use Rattle.html_render_tree.specs.PageLines.{HasNoLines, IsClosed, IsNoted, IsRendered, IsTooNarrow, IsUnclosed}
+use Rattle.html_render_tree.specs.PageLines.{IsClosed, IsNoted, IsRendered, IsTooNarrow}
 use Rattle.html_render_tree.specs.PageLines.{NeverNoted, Setting, laid_page, noted, with_notes}
 use Rattle.render_values.specs.Values.{Values}
 use Rattle.renderer_calls.specs.Renderers.{Sub, lines_of_sub, with_held, with_laid}
@@ -18,7 +18,7 @@ use Rattle.tagged_lines.specs.Tagged.{Item, tagged}
 use Rattle.text_block_renderer.specs.Parts.{Parts}
 use Rattle.text_block_renderer.specs.PlainText.{plain_closes, plain_marking}
 use Rattle.text_borders.specs.Across.{CellLine}
-use Rattle.text_borders.specs.Lines.{BlockLine, line_shown}
+use Rattle.text_borders.specs.Lines.{line_shown}
 use Rattle.text_decorators.specs.Texts.{footnote_text, footnote_texts}
 use Rattle.text_marks.specs.Marks.{page_end}
 

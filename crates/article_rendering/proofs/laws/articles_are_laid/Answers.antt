@@ -1,4 +1,4 @@
-use Rattle.std.proofs.Common.{◌≡◌, Bool, false, List, [], refl, sym, ap, ◌∙◌}
+use Rattle.std.proofs.Common.{◌≡◌, false, [], ap, ◌∙◌}
 use Rattle.article_layout.specs.ArticleValues.{page_values}
 use Rattle.article_rendering.proofs.ArticlesRendered.{laid_as}
 use Rattle.article_rendering.proofs.laws.articles_are_laid.Goals as goal
