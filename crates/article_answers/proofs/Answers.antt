@@ -1,5 +1,5 @@
 -- What is answered of an article's page is the article's own answer.
-use Rattle.std.proofs.Common.{◌≡◌, ℕ, zero, suc, ◌<◌, Bool, false, List, [], Option, None, Some, ⊎_elim, refl, sym, ap, subst, ◌∙◌, arith}
+use Rattle.std.proofs.Common.{◌≡◌, ℕ, zero, suc, ◌<◌, Bool, false, List, Option, None, ⊎_elim, refl, sym, ap, subst, ◌∙◌, arith}
 use Rattle.article_answers.specs.ArticleAnswers.{IsForArticles, IsWritten, answer_of, article_answer}
 use Rattle.article_conversion.specs.ArticleValues.{AreRulesOf}
 use Rattle.article_layout.specs.ArticleValues.{page_values}
