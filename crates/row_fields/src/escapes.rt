@@ -1,3 +1,7 @@
+//! Texts in fields.
+ghost use Rattle.std.specs.Prelude.{◌≡◌, ◌++◌, chars, string_bytes, OnOk};
+ghost use Rattle.row_fields.specs.Escapes.{code_of, escape_of, field_of, is_unseen};
+
 use crate::field_fault::FieldFault;
 use std::alloc::{AllocError, Global};
 
@@ -58,22 +62,39 @@ fn character_of(digits: &str) -> Option<char> {
     char::from_u32(code)
 }
 
-/// Adds a text with its escapes to a line.
-pub fn push_escaped(line: &mut String, text: &str) -> Result<(), AllocError> {
+/// Adds a text with its escapes to a line. The error is want of memory; then a beginning of it was added.
+pub fn push_escaped(line: &mut String, text: &str) -> Result<(), AllocError>
+    ensures { OnOk result (chars (string_bytes line.new)
+        ≡ chars (string_bytes line.old) ++ field_of (chars text.now)) }
+{
     for c in text.chars() {
-        match c {
-            '\\' => line.push_str("\\\\")?,
-            '\n' => line.push_str("\\n")?,
-            '\t' => line.push_str("\\t")?,
-            '\r' => line.push_str("\\r")?,
-            c if is_unseen(c) => write!(line, "\\u{{{:X}}}", u32::from(c))?,
-            c => line.push(c)?,
-        }
+        push_character(line, c)?;
     }
     Ok(())
 }
 
+fn push_character(line: &mut String, c: char) -> Result<(), AllocError>
+    ensures { OnOk result (chars (string_bytes line.new) ≡ chars (string_bytes line.old) ++ escape_of c) }
+{
+    match c {
+        '\\' => line.push_str("\\\\"),
+        '\n' => line.push_str("\\n"),
+        '\t' => line.push_str("\\t"),
+        '\r' => line.push_str("\\r"),
+        c if is_unseen(c) => push_code(line, c),
+        c => line.push(c),
+    }
+}
+
+fn push_code(line: &mut String, c: char) -> Result<(), AllocError>
+    ensures { OnOk result (chars (string_bytes line.new) ≡ chars (string_bytes line.old) ++ code_of c) }
+{
+    write!(line, "\\u{{{:X}}}", u32::from(c))
+}
+
 // whether a character does not show by itself: a control, a mark on what precedes it, or U+FEFF
-fn is_unseen(c: char) -> bool {
+fn is_unseen(c: char) -> bool
+    ensures { result ≡ is_unseen c }
+{
     c.is_control() || matches!(c, '\u{20d0}'..='\u{20ff}' | '\u{feff}')
 }

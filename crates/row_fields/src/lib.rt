@@ -1,6 +1,6 @@
 //! The fields of lines that programs are told cases by, and tell answers in: tabs stand between the fields, and within
-//! them `\\`, `\n`, `\t`, `\r` and `\u{HEX}` for characters, and `\N` for no text. And texts in pieces, as those programs
-//! feed them.
+//! them `\\`, `\n`, `\t`, `\r` and `\u{HEX}` for characters, and `\N` for no text. And texts in pieces, as those
+//! programs feed them.
 #![tactic(auto)]
 
 mod escapes;
