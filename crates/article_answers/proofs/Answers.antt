@@ -1,6 +1,7 @@
 -- What is answered of an article's page is the article's own answer.
-use Rattle.std.proofs.Common.{◌≡◌, ℕ, zero, suc, ◌<◌, Bool, false, List, Option, None, ⊎_elim, refl, sym, ap, subst, ◌∙◌, arith}
-use Rattle.article_answers.specs.ArticleAnswers.{IsForArticles, IsWritten, answer_of, article_answer}
+use Rattle.std.proofs.Common.{◌≡◌, ℕ, zero, suc, ◌<◌, Bool, false, List, Option, None, ⊎_elim, refl, sym, ap, subst}
+use Rattle.std.proofs.Common.{◌∙◌, arith}
+use Rattle.article_answers.specs.ArticleAnswers.{IsForArticles, IsWritten, answer_of, article_answer, options_for}
 use Rattle.article_conversion.specs.ArticleValues.{AreRulesOf}
 use Rattle.article_layout.specs.ArticleValues.{page_values}
 use Rattle.article_layout.specs.Layouts.{Options}
@@ -41,11 +42,11 @@ IsLaid = (c : Setting (Unit {0})) (decorates : Bool) (width : ℕ) (blocks : Blo
     c.options.allow_width_overflow ≡ false → 0 < width → AreFilledBlocks blocks →
     AreLaidAs c width (shown_lines (options_by c decorates) width blocks) (page_values (options_by c decorates) blocks)
 
-module _ (tree : HasItsTree) (values : HasItsValues) (laid : IsLaid) (c : PageSetting (Unit {0})) (decorates : Bool)
-    (title : Option (List ℕ)) (blocks : Blocks) (bytes : List ℕ) (is : IsForArticles c decorates)
+module _ (tree : HasItsTree) (values : HasItsValues) (laid : IsLaid) (c : PageSetting (Unit {0}))
+    (title : Option (List ℕ)) (blocks : Blocks) (bytes : List ℕ) (is : IsForArticles c)
     (w : IsWritten title blocks bytes) where
   abbrev o : Options
-  o = options_by c.rendering decorates
+  o = options_for c
 
   abbrev Answered : ℕ → Values → PageAnswer (Unit {0}) → Type 0
   Answered width vs answer = IsAnswerOf plain_marking (λ _. tt) plain_closes c.rendering width vs answer
@@ -53,16 +54,18 @@ module _ (tree : HasItsTree) (values : HasItsValues) (laid : IsLaid) (c : PageSe
   values_are : (width : ℕ) (answer : PageAnswer (Unit {0}))
       (h : HasAnswer plain_marking (λ _. tt) plain_closes c width bytes answer) → h.values ≡ page_values o blocks
   values_are width answer h =
-      let same : h.page.forest ≡ article_tree title blocks = tree c.table is.table title blocks bytes h.page.forest h.page.quirks
+      let same : h.page.forest ≡ article_tree title blocks =
+      tree c.table is.table title blocks bytes h.page.forest h.page.quirks
       w.faultless w.utf8 w.text
       (subst (λ p. IsTreeOfBytes c.table p bytes h.page.forest h.page.quirks) is.parsing h.page.tree) in
       sym h.page.same ∙ ap (document_values c.rules) same ∙ values o c.rules title blocks is.rules w.faultless w.numbers
 
   laid_at : (width : ℕ) → 0 < width → AreLaidAs c.rendering width (shown_lines o width blocks) (page_values o blocks)
-  laid_at width wide = laid c.rendering decorates width blocks is.within wide (article_filled title blocks w.faultless)
+  laid_at width wide =
+      laid c.rendering c.decorates width blocks is.within wide (article_filled title blocks w.faultless)
 
   answer_is : (width : ℕ) (answer : PageAnswer (Unit {0})) → Answered width (page_values o blocks) answer →
-      answer ≡ article_answer c decorates width blocks
+      answer ≡ article_answer c width blocks
   answer_is width (lines shown) a = ap answer_of (sym ((laid_at width a.1.0).lines shown a.1.1))
   answer_is zero too_narrow a = refl
   answer_is (suc n) too_narrow a = ⊎_elim (λ e. cc)
@@ -71,6 +74,6 @@ module _ (tree : HasItsTree) (values : HasItsValues) (laid : IsLaid) (c : PageSe
 
   pub as_itself : (width : ℕ) (answer : PageAnswer (Unit {0})) →
       HasAnswer plain_marking (λ _. tt) plain_closes c width bytes answer →
-      answer ≡ article_answer c decorates width blocks
+      answer ≡ article_answer c width blocks
   as_itself width answer h =
       answer_is width answer (subst (λ vs. Answered width vs answer) (values_are width answer h) h.answered)

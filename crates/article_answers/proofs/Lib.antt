@@ -1,2 +1,4 @@
 mod Answers
 mod FilledTexts
+mod ToldLines
+mod PlainRules

@@ -2,5 +2,7 @@
 #![tactic(auto)]
 
 mod laws;
+mod layout;
 
-pub use laws::an_article_is_laid_out_as_itself;
+pub use laws::{an_article_is_laid_out_as_itself, plain_configurations_are_for_articles};
+pub use layout::LayArticle;

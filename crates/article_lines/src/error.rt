@@ -25,7 +25,10 @@ pub(crate) enum Error {
     /// The reading of a page.
     #[error("no tree: {0}")]
     Page(#[from] PageFault),
-    /// A page that was read is written otherwise, or has another tree where it comes a byte at a time.
+    /// The lines of an article or of its page.
+    #[error("no lines: {0}")]
+    Layout(#[from] page_config::Error),
+    /// A page that was read is written otherwise, has another tree where it comes a byte at a time, or other lines.
     #[error("a page, read {0}, is another")]
     Differs(&'static str),
     /// Standard input or output, or want of memory for it.

@@ -1,30 +1,21 @@
 //! The lines of an article.
-use crate::error::Error;
-use article_laying::{ArticleLine, LineOptions, lay_article};
-use article_values::Article;
+use article_laying::ArticleLine;
 use row_fields::push_escaped;
 use std::alloc::AllocError;
 use tagged_lines::{TaggedLine, TaggedLineElement};
-use text_pieces::BlockError;
 
 /// Adds the lines of an article, each behind the number of its paragraph or a dash, or that the width is too narrow.
 pub(crate) fn push_lines(
     told: &mut String,
-    article: &Article,
-    options: LineOptions,
-    width: usize,
-) -> Result<(), Error> {
-    let alloc = *told.allocator();
-    match lay_article(alloc, article.blocks(), options, width) {
-        Ok(lines) => {
-            for line in lines.iter() {
-                push_line(told, line)?;
-            }
-            Ok(())
-        }
-        Err(BlockError::TooNarrow) => Ok(told.push_str("TooNarrow\n")?),
-        Err(BlockError::Memory | BlockError::Failed) => Err(Error::Memory(AllocError)),
+    lines: Option<&[ArticleLine]>,
+) -> Result<(), AllocError> {
+    let Some(lines) = lines else {
+        return told.push_str("TooNarrow\n");
+    };
+    for line in lines.iter() {
+        push_line(told, line)?;
     }
+    Ok(())
 }
 
 fn push_line(told: &mut String, line: &ArticleLine) -> Result<(), AllocError> {

@@ -1,12 +1,14 @@
 //! Tells articles as they are written. Standard input has them, a value a line and an empty line behind each; standard
 //! output gets the page that is written of each, or its first fault, and an empty line behind it. Each page is parsed,
-//! as a whole and a byte at a time, and what is written of its trees must be the page. With `--lines` the lines that the
-//! article is laid out on stand behind the page, and with `--trees` the nodes of the tree behind these, one a line.
+//! as a whole and a byte at a time, and what is written of its trees must be the page. With `--lines` the lines that
+//! the article is laid out on stand behind the page, which must have the same when it is read in both ways; and with
+//! `--trees` the nodes of the tree behind these, one a line.
 #![tactic(auto)]
 
 mod case;
 mod error;
 mod lines;
+mod pages;
 mod telling;
 mod values;
 
@@ -18,8 +20,8 @@ use std::rt::Env;
 use std::{env, io};
 use telling::Telling;
 
-/// Ends with status 0 where each case was an article or had a fault, and each page was read back, and else 1 with a text
-/// on standard error.
+/// Ends with status 0 where each case was an article or had a fault, and each page was read back, and else 1 with a
+/// text on standard error.
 fn main(rt: HostRuntime) -> ExitCode {
     match serve(&rt) {
         Ok(()) => ExitCode::from(0),

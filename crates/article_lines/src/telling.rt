@@ -2,6 +2,8 @@
 use crate::case::{Case, case_of};
 use crate::error::Error;
 use crate::lines::push_lines;
+use crate::pages::{compare, config_of};
+use article_answers::LayArticle;
 use article_laying::LineOptions;
 use article_values::Article;
 use article_writing::WriteArticle;
@@ -9,6 +11,7 @@ use dom_serializer::SerializeDom;
 use html_lexemes::{Device, ReferenceTable};
 use html_render_dom::RcDom;
 use html_tree_builder::ParseOpts;
+use page_config::Error as PageError;
 use page_reading::PageReader;
 use row_fields::push_line;
 use std::alloc::Global;
@@ -55,7 +58,7 @@ impl Telling {
         };
         push_line(told, "written", text)?;
         if self.lines {
-            push_lines(told, article, options, width)?;
+            push_laid(told, article, page.as_slice(), options, width)?;
         }
         let tree = tree_read_back(alloc, page.as_slice())?;
         if self.trees {
@@ -63,6 +66,25 @@ impl Telling {
         }
         Ok(())
     }
+}
+
+/// The lines of an article, which its page has too.
+fn push_laid(
+    told: &mut String,
+    article: &Article,
+    page: &[u8],
+    options: LineOptions,
+    width: usize,
+) -> Result<(), Error> {
+    let alloc = *told.allocator();
+    let lines = match article.layout(alloc, &config_of(alloc, options)?, width) {
+        Ok(lines) => Some(lines),
+        Err(PageError::TooNarrow) => None,
+        Err(fault) => return Err(Error::Layout(fault)),
+    };
+    let lines = lines.as_ref().map(|lines| lines.as_slice());
+    compare(alloc, page, options, width, lines)?;
+    Ok(push_lines(told, lines)?)
 }
 
 fn written(alloc: Global, article: &Article) -> Result<Vec<u8>, Error> {

@@ -208,6 +208,20 @@ impl<D: TextDecorator + Drop> RenderConfig<D> {
         config
     }
 
+    /// What a page is rendered by, but for the least width of text, the rules of style and the decorator.
+    pub fn options(&self) -> RenderOptions
+        ensures { result ≡ (setting_of D.held D.sub self.now).options }
+    {
+        self.options
+    }
+
+    /// So narrow, in columns, may text be wrapped.
+    pub fn narrowest_wrap(&self) -> usize
+        ensures { result ≡ (setting_of D.held D.sub self.now).min_wrap }
+    {
+        self.min_wrap_width
+    }
+
     /// `*` stands before and behind emphasis and terms, `**` before and behind strong text, and a backquote before and
     /// behind code: ten rules of the program, before all that stand. The error is want of memory.
     pub fn do_decorate(self, alloc: Global) -> Result<RenderConfig<D>, RenderError>

@@ -16,6 +16,7 @@ pub record IsPlain (names : References) (c : PageSetting (Unit {0})) : Type 0 wh
   pub rules : map seen_rule c.rules ≡ decorating_rules
   pub options : c.rendering.options ≡ record default_options { include_link_footnotes = true }
   pub min_wrap : c.rendering.min_wrap ≡ 3
+  pub decorates : c.decorates ≡ true
 
 -- the answer to a page of these bytes as plain text, by a table of references
 pub record HasPlainAnswer (table : References) (width : ℕ) (bytes : List ℕ) (answer : PageAnswer (Unit {0})) : Type 0

@@ -1,5 +1,5 @@
 -- What contracts see of a `Config`.
-use Rattle.std.specs.Prelude.{ℕ, List, []}
+use Rattle.std.specs.Prelude.{ℕ, Bool, false, List, []}
 use Rattle.html_lexemes.specs.References.{References}
 use Rattle.html_render_tree.specs.PageLines.{Setting}
 use Rattle.html_render_tree.specs.Settings.{rules_of, setting_of}
@@ -10,12 +10,14 @@ use Rattle.renderer_calls.specs.Defaults.{default_options}
 use Rattle.renderer_calls.specs.declared.options.RenderOptions.{RenderOptions}
 use Rattle.style_cascade.specs.declared.rules.StyleRule.{StyleRule}
 
--- the table of references and the options by which a page is parsed, the rules of style, and what it is rendered by
+-- the table of references and the options by which a page is parsed, the rules of style, and what it is rendered by;
+-- and whether the rules that mark emphasis, strong text, terms and code were asked for
 pub record PageSetting (H : Type 0) : Type 0 where
   pub table : References
   pub parsing : ParseOpts
   pub rules : List StyleRule
   pub rendering : Setting H
+  pub decorates : Bool
 
 -- what pages are read and rendered by, as a decorator that is made for each holds it
 abbrev pub page_setting : {D T H : Type 0} → (D → H) → (H → H) → Config D T → PageSetting H
@@ -24,6 +26,7 @@ page_setting held sub c = record {
   parsing = c.parsing;
   rules = rules_of c.rendering;
   rendering = setting_of held sub c.rendering;
+  decorates = c.decorates;
 }
 
 -- the same of a decorator that holds nothing
@@ -34,13 +37,14 @@ bare_setting c = page_setting (λ _. tt) (λ h. h) c
 abbrev pub max_bytes_of : {D T : Type 0} → Config D T → ℕ
 max_bytes_of c = c.max_bytes
 
--- where nothing else is said: parsed and rendered as pages are by default, without rules of style
+-- where nothing else is said: parsed and rendered as pages are by default, without rules of style or marks
 abbrev pub by_default : {H : Type 0} → References → (held : H) → PageSetting H
 by_default table held = record {
   table = table;
   parsing = default_parse;
   rules = [];
   rendering = record { options = default_options; min_wrap = 3; held = held };
+  decorates = false;
 }
 
 -- the same, rendered with other options

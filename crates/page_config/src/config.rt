@@ -7,7 +7,7 @@ use html_lexemes::ReferenceTable;
 use html_render_dom::RcDom;
 use html_render_tree::{RenderConfig, RenderTree};
 use html_tree_builder::ParseOpts;
-use renderer_calls::ImageRenderMode;
+use renderer_calls::{ImageRenderMode, RenderOptions};
 use std::alloc::Global;
 use style_cascade::StyleRule;
 use tagged_lines::TaggedLine;
@@ -21,6 +21,8 @@ pub struct Config<D: TextDecorator> {
     pub(crate) table: ReferenceTable,
     pub(crate) parsing: ParseOpts,
     pub(crate) max_bytes: usize,
+    /// Whether marks of emphasis, strong text, terms and code were asked for.
+    pub(crate) decorates: bool,
 }
 
 impl<D: TextDecorator + Drop> Config<D> {
@@ -47,6 +49,7 @@ impl<D: TextDecorator + Drop> Config<D> {
             table,
             parsing: ParseOpts::default(),
             max_bytes: usize::MAX,
+            decorates: false,
         }
     }
 
@@ -203,28 +206,58 @@ impl<D: TextDecorator + Drop> Config<D> {
     }
 
     /// `*` stands before and behind emphasis and terms, `**` before and behind strong text, and a backquote before and
-    /// behind code: ten rules of the program, before all that stand. The error is want of memory.
+    /// behind code: ten rules of the program, before all that stand. Asked for again it changes nothing. The error is
+    /// want of memory.
     pub fn do_decorate(self, alloc: Global) -> Result<Config<D>, Error>
         ensures setting { IfOk result (λ c. page_setting D.held D.sub c ≡ record (page_setting D.held D.sub self) {
           rules = (page_setting D.held D.sub c).rules;
+          decorates = true;
         }) }
-        ensures rules { IfOk result
+        ensures rules { (page_setting D.held D.sub self).decorates ≡ false → IfOk result
             (λ c. IsDecorated (page_setting D.held D.sub self).rules (page_setting D.held D.sub c).rules) }
+        ensures again { (page_setting D.held D.sub self).decorates ≡ true
+            → IfOk result (λ c. page_setting D.held D.sub c ≡ page_setting D.held D.sub self) }
         ensures bytes { IfOk result (λ c. max_bytes_of c ≡ max_bytes_of self) }
         ensures memory { IfErr result (λ e. e ≡ errors.Memory) }
     {
+        if self.decorates {
+            return Ok(self);
+        }
         let Config {
             rendering,
             table,
             parsing,
             max_bytes,
+            ..
         } = self;
         Ok(Config {
             rendering: rendering.do_decorate(alloc)?,
             table,
             parsing,
             max_bytes,
+            decorates: true,
         })
+    }
+
+    /// Whether these marks were asked for.
+    pub fn decorates(&self) -> bool
+        ensures { result ≡ (page_setting D.held D.sub self.now).decorates }
+    {
+        self.decorates
+    }
+
+    /// What a page is rendered by, but for the least width of text, the rules of style and the decorator.
+    pub fn options(&self) -> RenderOptions
+        ensures { result ≡ (page_setting D.held D.sub self.now).rendering.options }
+    {
+        self.rendering.options()
+    }
+
+    /// So narrow, in columns, may text be wrapped.
+    pub fn narrowest_wrap(&self) -> usize
+        ensures { result ≡ (page_setting D.held D.sub self.now).rendering.min_wrap }
+    {
+        self.rendering.narrowest_wrap()
     }
 
     /// Further rules of style, behind all that stand. The error is want of memory.
@@ -240,12 +273,14 @@ impl<D: TextDecorator + Drop> Config<D> {
             table,
             parsing,
             max_bytes,
+            decorates,
         } = self;
         Ok(Config {
             rendering: rendering.style_rules(rules)?,
             table,
             parsing,
             max_bytes,
+            decorates,
         })
     }
 

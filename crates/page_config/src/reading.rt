@@ -80,6 +80,7 @@ impl<D: TextDecorator + Drop> Config<D> {
             table,
             parsing,
             max_bytes,
+            ..
         } = self;
         let dom = read_page(alloc, input, table, parsing, max_bytes)?;
         let tree = rendering.dom_to_render_tree(alloc, &dom)?;

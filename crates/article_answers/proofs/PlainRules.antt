@@ -1,0 +1,10 @@
+-- Rules that mark texts, where these were asked for.
+use Rattle.std.proofs.Common.{◌≡◌, Bool, true, false, List, map}
+use Rattle.article_conversion.specs.ArticleValues.{AreRulesOf}
+use Rattle.render_conversion.specs.Decorating.{decorating_rules, seen_rule}
+use Rattle.style_cascade.specs.declared.rules.StyleRule.{StyleRule}
+
+pub rules_of_plain : (decorates : Bool) (rules : List StyleRule) → decorates ≡ true →
+    map seen_rule rules ≡ decorating_rules → AreRulesOf decorates rules
+rules_of_plain true rules is same = same
+rules_of_plain false rules is same = cc
