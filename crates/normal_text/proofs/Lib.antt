@@ -4,6 +4,8 @@ pub mod NormalItems
 pub mod NormalReading
 pub mod NormalRuns
 pub mod NormalWords
+pub mod SpacedLemmas
+pub mod SpacedLaying
 pub mod LayoutFewest
 pub mod LayoutFilling
 pub mod LayoutFullest

@@ -68,7 +68,7 @@ without_room seen old new more test ended_line =
     }
 
 -- letters behind those of the line at hand
-abbrev pushed : {S : Type 0} → Filled S → List (Mark S) → Filled S
+abbrev pub pushed : {S : Type 0} → Filled S → List (Mark S) → Filled S
 pushed f ms = filled f.done (f.line ++ ms)
 
 same_filled : {S : Type 0} (done other : List (List (Mark S))) (line : List (Mark S)) → done ≡ other
@@ -99,7 +99,7 @@ add_by_room width done (n ∷ ns) ms more h =
     ms)
 
 -- what a call holds that added letters to the line
-holds_pushed : {T S : Type 0} (seen : T → S) (width : ℕ) (overflow : Bool) (old new : Filling T) (f : Filled S)
+pub holds_pushed : {T S : Type 0} (seen : T → S) (width : ℕ) (overflow : Bool) (old new : Filling T) (f : Filled S)
     (ms : List (Mark S)) → HoldsLines seen width overflow old f → new.width ≡ old.width
     → new.allow_overflow ≡ old.allow_overflow → new.done.items ≡ old.done.items
     → line_items seen new.line ≡ line_items seen old.line ++ behind_items f.line ms

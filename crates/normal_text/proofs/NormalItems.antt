@@ -57,7 +57,7 @@ letters_counted (l ∷ ls) =
 
 -- ---- letters behind those of a line
 
-following_items-append : {S : Type 0} (xs ys : List (Mark S)) → following_items (xs ++ ys) ≡ following_items
+pub following_items-append : {S : Type 0} (xs ys : List (Mark S)) → following_items (xs ++ ys) ≡ following_items
     xs ++ following_items ys
 following_items-append [] ys = refl
 following_items-append (x ∷ xs) ys =

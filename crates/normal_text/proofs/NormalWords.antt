@@ -48,11 +48,11 @@ word_laid seen old mid new space cs code tag space_is laid w no_space word kept 
 
 -- ---- a whole word is read
 
-no_letters : {S : Type 0} (ls : List (Letter S)) → letter_items ls ≡ [] → ls ≡ []
+pub no_letters : {S : Type 0} (ls : List (Letter S)) → letter_items ls ≡ [] → ls ≡ []
 no_letters [] h = refl
 no_letters (l ∷ ls) h = cc
 
-lettered_columns : {S : Type 0} (cs : List ℕ) (tag : S) → letters_columns (lettered cs tag) ≡ text_columns cs
+pub lettered_columns : {S : Type 0} (cs : List ℕ) (tag : S) → letters_columns (lettered cs tag) ≡ text_columns cs
 lettered_columns [] tag = refl
 lettered_columns (c ∷ cs) tag = ap (λ n. width_of c + n) (lettered_columns cs tag) ∙ sym (sum_by-cons width_of c cs)
 
@@ -60,7 +60,7 @@ some_letters : (cs : List ℕ) → text_columns cs ≢ 0 → cs ≢ []
 some_letters [] some e = some refl
 some_letters (c ∷ cs) some e = cc
 
-whole_read : {T S : Type 0} (block : NormalText T) (width : ℕ) (r : Reading S) (cs : List ℕ) (code : ℕ) (tag : S)
+pub whole_read : {T S : Type 0} (block : NormalText T) (width : ℕ) (r : Reading S) (cs : List ℕ) (code : ℕ) (tag : S)
     → All (JoinsWord block) cs → r.letters ≡ [] → text_columns cs ≢ 0 → is_break_point code ≡ true
     → read_letters width r (lettered (cs ++ code ∷ []) tag)
     ≡ reading (add_unit width r.lines (piece r.space (lettered cs tag))) (if is_white_space code then Some tag else None)
@@ -113,6 +113,19 @@ pub run_held : {T S : Type 0} (seen : T → S) (old new : NormalText T) (cs rest
     → line_items seen new.word ≡ line_items seen old.word ++ tagged cs tag → ReadsRun seen old new cs rest rest tag
 run_held seen old new cs rest tag all w l s added =
     record { front = cs; whole = refl; reads = run_reads seen old new cs tag all w l s added }
+
+-- behind characters a front of what follows them
+pub run_further : {T S : Type 0} (seen : T → S) (old mid new : NormalText T) (run rest behind left : List ℕ) (tag : S)
+    → ReadsRun seen old mid run rest (chars behind) tag → ReadsFront seen mid new behind left tag
+    → ReadsRun seen old new run rest (chars left) tag
+run_further seen old mid new run rest behind left tag first second =
+    record {
+      front = first.front ++ second.front;
+      whole = first.whole ∙ ap (λ l. first.front ++ l) second.whole
+          ∙ sym (append_assoc first.front second.front (chars left));
+      reads = subst (Reads seen old new) (sym (map-append _ first.front second.front))
+          (reads_more seen old mid new (lettered first.front tag) (lettered second.front tag) first.reads second.reads);
+    }
 
 -- ---- a front is read
 

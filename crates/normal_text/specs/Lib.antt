@@ -7,4 +7,5 @@ pub mod MarkedTags
 pub mod NormalStates
 pub mod Riders
 pub mod RowWords
+pub mod SpacedWords
 pub mod Units

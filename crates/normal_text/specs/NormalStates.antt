@@ -1,13 +1,14 @@
 -- What contracts see of a `NormalText`: how its lines, its white space and its word follow from what was read.
-use Rattle.std.specs.Prelude.{◌≡◌, ◌≢◌, length, encode_utf8, ℕ, ◌+◌, ◌<◌, Bool, true, false, ◌||◌, nat_le, List, [], ◌∷◌, ◌++◌, Option, None, Some, map, fold, is_some, All, IsTrue, if◌then◌else◌, chars}
+use Rattle.std.specs.Prelude.{◌≡◌, ◌≢◌, length, encode_utf8, ℕ, ◌+◌, ◌<◌, ◌≤◌, Bool, true, false, ◌||◌, nat_le, List, [], ◌∷◌, ◌++◌, Option, None, Some, map, fold, is_some, All, IsTrue, if◌then◌else◌, chars}
 use Rattle.std.specs.Option.{option_map}
 use Rattle.tagged_lines.specs.Columns.{columns_of, width_of}
-use Rattle.tagged_lines.specs.Tagged.{Item, character, line_items, IsJoined}
-use Rattle.normal_text.specs.Units.{Letter, piece, lettered, is_break_point, is_white_space, first_of, has_columns}
+use Rattle.tagged_lines.specs.Tagged.{Item, character, line_items, line_columns, IsJoined}
+use Rattle.normal_text.specs.Units.{Letter, Piece, piece, lettered, is_break_point, is_white_space, first_of, has_columns}
 use Rattle.text_pieces.specs.Cuts.{IsBehind}
 use Rattle.text_pieces.specs.Sources.{is_filled}
 use Rattle.normal_text.specs.Layout.{Mark, opens, inside, marked, columns, marks_items, gap}
 use Rattle.normal_text.specs.Greedy.{Filled, filled, all_lines, add_unit, add_marks, add_mark}
+use Rattle.normal_text.specs.SpacedWords.{IsWord, spaced}
 use Rattle.normal_text.specs.Filling.{Reading, reading, read_letters, nothing_read}
 use Rattle.normal_text.specs.declared.filling.Filling.{Filling}
 use Rattle.normal_text.specs.declared.normal.NormalText.{NormalText}
@@ -101,6 +102,21 @@ pub record LaysUnit {T S : Type 0} (seen : T → S) (old new : Filling T) (space
   pub lays_unit : (l : Letter S) (ls : List (Letter S)) → items ≡ letter_items (l ∷ ls)
       → Lays seen old new (λ width f. add_unit width f (piece space (l ∷ ls)))
 
+-- The line has columns, and goes on with so many more.
+pub record TakesMore {T S : Type 0} (seen : T → S) (filling : Filling T) (more : ℕ) : Type 0 where
+  pub some : line_columns (line_items seen filling.line) ≢ 0
+  pub fits : line_columns (line_items seen filling.line) + more ≤ filling.width
+
+-- words of one tag, each behind a space of the same
+abbrev pub word_pieces : {S : Type 0} → S → List (List ℕ) → List (Piece S)
+word_pieces tag words = map (λ word. piece (Some tag) (lettered word tag)) words
+
+-- Lays words, each behind a space, where the line goes on with them.
+pub record LaysWords {T S : Type 0} (seen : T → S) (old new : Filling T) (text : List ℕ) (tag : S) : Type 0 where
+  pub lays_words : (words : List (List ℕ)) → All IsWord words → text ≡ spaced words
+      → TakesMore seen old (length (spaced words))
+      → Lays seen old new (λ width f. fold (add_unit width) f (word_pieces tag words))
+
 -- The lines, the white space and the word of a state of reading.
 pub record HoldsReading {T S : Type 0} (seen : T → S) (width : ℕ) (overflow : Bool) (block : NormalText T)
     (r : Reading S) : Type 0 where
@@ -162,6 +178,11 @@ pub record LaysWord {T S : Type 0} (seen : T → S) (old new : NormalText T) (ru
       → run ≢ [] → is_break_point code ≡ true → HoldsReading seen width overflow new
       (reading (add_unit width r.lines (piece r.space (lettered run tag))) (if is_white_space code then Some tag else None)
       [])
+
+-- No word is at hand, and a space with that tag is to stand before the next.
+pub record AwaitsWord {T S : Type 0} (seen : T → S) (block : NormalText T) (tag : S) : Type 0 where
+  pub space : option_map seen block.space ≡ Some tag
+  pub none_held : line_items seen block.word ≡ []
 
 -- Some of the letters finds no line.
 pub record MeetsWider {T S : Type 0} (seen : T → S) (old : NormalText T) (ls : List (Letter S)) : Type 0 where

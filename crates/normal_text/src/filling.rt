@@ -1,4 +1,4 @@
-ghost use Rattle.std.specs.Prelude.{◌≡◌, ℕ, Bool, ◌+◌, ◌||◌, nat_le, [], ◌∷◌, ◌++◌, map, All, option_copied, chars, string_bytes, IfOk, IfErr, OnOk};
+ghost use Rattle.std.specs.Prelude.{◌≡◌, ◌≢◌, ◌≤◌, ℕ, Bool, ◌+◌, ◌||◌, nat_le, [], ◌∷◌, ◌++◌, map, All, option_copied, chars, string_bytes, IfOk, IfErr, OnOk};
 ghost use Rattle.std.specs.Option.{option_map};
 ghost use Rattle.tagged_lines.specs.Columns.{text_columns};
 ghost use Rattle.tagged_lines.specs.Tagged.{line_items, element_items, line_columns, tagged, IsJoined};
@@ -20,7 +20,7 @@ pub(crate) struct Filling<T> {
 impl<T: EqualCopy + Drop> Filling<T> {
     ghost use Rattle.normal_text.specs.Layout.{marks_items};
     ghost use Rattle.normal_text.specs.Greedy.{Filled, filled, all_lines};
-    ghost use Rattle.normal_text.specs.NormalStates.{HoldsLines, Lays, LaysUnit, LaysWhole, LaysCut, Cuts, with_room};
+    ghost use Rattle.normal_text.specs.NormalStates.{HoldsLines, Lays, LaysUnit, LaysWhole, LaysCut, Cuts, LaysWords, TakesMore, with_room};
 
     pub(crate) fn new(alloc: Global, width: usize, allow_overflow: bool) -> Filling<T>
         ensures { HoldsLines T.seen width allow_overflow result (filled [] []) }
@@ -53,6 +53,30 @@ impl<T: EqualCopy + Drop> Filling<T> {
     {
         let taken = self.line.width();
         taken <= self.width && gap <= self.width - taken && columns <= self.width - taken - gap
+    }
+
+    /// The columns that are left on a line that has some.
+    pub(crate) fn room(&self) -> usize
+        ensures { (columns : ℕ) → columns ≢ 0 → columns ≤ result → TakesMore T.seen self.now columns }
+    {
+        let taken = self.line.width();
+        if taken == 0 {
+            return 0;
+        }
+        self.width.saturating_sub(taken)
+    }
+
+    /// Adds words, each behind a space, which have that many columns and go on the line, where it has some.
+    pub(crate) fn push_words(
+        &mut self,
+        words: &str,
+        columns: usize,
+        tag: &T,
+    ) -> Result<(), AllocError>
+        requires { columns ≡ text_columns (chars words.now) }
+        ensures { OnOk result (LaysWords T.seen self.old self.new (chars words.now) (T.seen tag.now)) }
+    {
+        self.line.push_counted(words, columns, tag)
     }
 
     /// Adds a word behind the line's text, with a space of the given tag between them, where both go on

@@ -10,6 +10,7 @@ mod marked_tag;
 mod normal;
 mod normal_lines;
 mod shown;
+mod spaced_words;
 mod units_laws;
 mod units_rows;
 mod word_ends;

@@ -1,10 +1,11 @@
-ghost use Rattle.std.specs.Prelude.{◌≡◌, ◌≢◌, ◌↔◌, ◌⊎◌, ℕ, Bool, true, false, ◌||◌, nat_le, List, [], ◌∷◌, ◌++◌, map, chars, is_err, IsTrue, All, length, ◌<◌, ◌≤◌, IfOk, IfErr, IfSome, IsNone, IsUtf8, encode_utf8, OnOk, if◌then◌else◌};
+ghost use Rattle.std.specs.Prelude.{◌≡◌, ◌≢◌, ◌⊎◌, ℕ, Bool, true, false, ◌||◌, nat_le, List, [], ◌∷◌, ◌++◌, map, chars, is_err, IsTrue, All, length, ◌<◌, ◌≤◌, IfOk, IfErr, IfSome, IsNone, IsUtf8, encode_utf8, OnOk, if◌then◌else◌};
 ghost use Rattle.std.specs.Char.{IsScalar};
 ghost use Rattle.tagged_lines.specs.Columns.{text_columns};
 ghost use Rattle.tagged_lines.specs.Tagged.{line_items, line_columns, IsJoined};
 ghost use Rattle.normal_text.specs.Units.{is_break_point};
 
 use crate::filling::Filling;
+use crate::spaced_words::{is_visible_ascii, words_in_front};
 use std::alloc::{AllocError, Global};
 use tagged_lines::{Columns, EqualCopy, TaggedLine, UnicodeColumns, columns_of};
 use text_pieces::{BlockError, first_char, is_break_point, split_before};
@@ -29,7 +30,7 @@ impl<T: EqualCopy + Drop> NormalText<T> {
     ghost use Rattle.normal_text.specs.Units.{units};
     ghost use Rattle.normal_text.specs.Greedy.{all_lines, add_units};
     ghost use Rattle.normal_text.specs.Filling.{Reading, read_letters, nothing_read, lines_read};
-    ghost use Rattle.normal_text.specs.NormalStates.{HasRead, HasWider, HoldsReading, Moves, MeetsWider, Reads, ReadsFront, JoinsWord, RunsTo, ReadsRun, EndsWord, LaysWord, end_read, space_read, word_read, lay_read};
+    ghost use Rattle.normal_text.specs.NormalStates.{HasRead, HasWider, HoldsReading, Moves, MeetsWider, Reads, ReadsFront, JoinsWord, RunsTo, ReadsRun, EndsWord, LaysWord, AwaitsWord, end_read, space_read, word_read, lay_read};
 
     /// No text yet. With `allow_overflow` a character wider than the width stands alone on a line.
     pub(crate) fn new(alloc: Global, width: usize, allow_overflow: bool) -> NormalText<T>
@@ -86,7 +87,7 @@ impl<T: EqualCopy + Drop> NormalText<T> {
         self.add_run(run, rest, tag)
     }
 
-    /// Adds the first character; what follows is left.
+    /// Adds the first character, and behind a space the words that go on the line; what follows is left.
     fn add_first<'a>(&mut self, text: &'a str, tag: &T) -> Result<&'a str, BlockError>
         ensures kinds { IfErr result (λ e. (e ≡ BlockError.TooNarrow) ⊎ (e ≡ BlockError.Memory)) }
         ensures read { IfOk result (λ rest. ReadsFront T.seen self.old self.new text.now rest.now (T.seen tag.now)) }
@@ -99,11 +100,50 @@ impl<T: EqualCopy + Drop> NormalText<T> {
             return Ok(text);
         };
         self.add_char(c, tag)?;
-        Ok(after)
+        Ok(self.add_words(c, text, after, tag)?)
+    }
+
+    /// Adds the words that stand behind a space, which was read, where they are parted by single spaces and go on the line,
+    /// and the space behind them; what follows is left. The error is want of memory alone.
+    fn add_words<'a>(
+        &mut self,
+        read: char,
+        text: &'a str,
+        after: &'a str,
+        tag: &T,
+    ) -> Result<&'a str, AllocError>
+        requires { text.now ≡ encode_utf8 read ++ after.now }
+        ensures read { IfOk result (λ left. ReadsFront T.seen self.old self.new after.now left.now (T.seen tag.now)) }
+        ensures text { IfOk result (λ left. IsUtf8 left.now) }
+        ensures no_longer { IfOk result (λ left. length left.now ≤ length after.now) }
+    {
+        if read != ' ' || !self.awaits_word(tag) {
+            return Ok(after);
+        }
+        let (columns, rest) = words_in_front(text, self.lines.room());
+        let (words, rest) = split_before(text, rest);
+        let Some((c, behind)) = first_char(rest) else {
+            return Ok(after);
+        };
+        if columns == 0 || c != ' ' {
+            return Ok(after);
+        }
+        self.lines.push_words(words, columns, tag)?;
+        Ok(behind)
+    }
+
+    /// Whether no word is at hand, and a space with that tag is to stand before the next.
+    fn awaits_word(&self, tag: &T) -> bool
+        ensures { IsTrue result → AwaitsWord T.seen self.now (T.seen tag.now) }
+    {
+        match &self.space {
+            Some(space) => *space == *tag && self.word.is_empty(),
+            None => false,
+        }
     }
 
     /// Adds characters that join the word at hand. Where they are a whole word, it is laid without being held, and the break
-    /// point behind it is added too; what follows is left.
+    /// point behind it is added too, with the words behind that go on the line; what follows is left.
     fn add_run<'a>(&mut self, run: &str, rest: &'a str, tag: &T) -> Result<&'a str, BlockError>
         requires { All (JoinsWord self.old) (chars run.now) }
         ensures kinds { IfErr result (λ e. e ≡ BlockError.Memory) }
@@ -116,7 +156,7 @@ impl<T: EqualCopy + Drop> NormalText<T> {
         match self.end_of_word(columns, rest) {
             Some((c, behind)) => {
                 self.add_word(run, columns, c, tag)?;
-                Ok(behind)
+                Ok(self.add_words(c, rest, behind, tag)?)
             }
             None => {
                 self.word.push_counted(run, columns, tag)?;
@@ -265,9 +305,3 @@ impl<T: EqualCopy + Drop> NormalText<T> {
 }
 
 const ZERO_WIDTH_SPACE: char = '\u{200b}';
-
-fn is_visible_ascii(c: char) -> bool
-    ensures { IsTrue result ↔ ((0x21 ≤ c) × (c ≤ 0x7E)) }
-{
-    matches!(c, '!'..='~')
-}
