@@ -61,6 +61,14 @@ visible_joins block c fits is fits_is holds =
     joins_word block c 1 fits (no_break_point c is.0 is.1) (columns_of-one c (inr (omega (arith, is.0), is.1))) fits_is
     holds
 
+-- a run that nothing follows is the whole text
+pub whole_joins : {T : Type 0} (block : NormalText T) (text rest bytes : List ℕ) → RunsTo block text rest → rest ≡ []
+    → text ≡ bytes → All (JoinsWord block) (chars bytes)
+whole_joins block text rest bytes r none same =
+    let p = r.parts in
+    subst (λ l. All (JoinsWord block) (chars l))
+    (sym (p.whole ∙ ap (λ l. p.front ++ l) none ∙ append-nil p.front) ∙ same) r.joins
+
 -- ---- reading the run
 
 pub letters_run : {T S : Type 0} (block : NormalText T) (width : ℕ) (r : Reading S) (cs : List ℕ) (tag : S)

@@ -1,4 +1,4 @@
-ghost use Rattle.std.specs.Prelude.{◌≡◌, ◌≢◌, ◌⊎◌, ℕ, Bool, true, false, ◌||◌, nat_le, List, [], ◌∷◌, ◌++◌, map, chars, is_err, IsTrue, All, length, ◌<◌, ◌≤◌, IfOk, IfErr, IfSome, IsNone, IsUtf8, encode_utf8, OnOk, if◌then◌else◌};
+ghost use Rattle.std.specs.Prelude.{◌≡◌, ◌≢◌, ◌⊎◌, ℕ, Bool, true, false, ◌||◌, nat_le, List, [], ◌∷◌, ◌++◌, map, chars, string_bytes, is_err, IsTrue, All, length, ◌<◌, ◌≤◌, IfOk, IfErr, IfSome, IsNone, IsUtf8, encode_utf8, OnOk, if◌then◌else◌};
 ghost use Rattle.std.specs.Char.{IsScalar};
 ghost use Rattle.tagged_lines.specs.Columns.{text_columns};
 ghost use Rattle.tagged_lines.specs.Tagged.{line_items, line_columns, IsJoined};
@@ -55,6 +55,32 @@ impl<T: EqualCopy + Drop> NormalText<T> {
             → HasWider width overflow (lettered (chars text.now) (T.seen tag.now)) }
     {
         self.add_normal(text, tag)
+    }
+
+    /// Adds text as `add_text` does; where all of it joins the word at hand, it is moved there.
+    pub(crate) fn add_string(&mut self, text: String, tag: T) -> Result<(), BlockError>
+        ensures kinds { IfErr result (λ e. (e ≡ BlockError.TooNarrow) ⊎ (e ≡ BlockError.Memory)) }
+        ensures read { OnOk result ((width : ℕ) (overflow : Bool) (read : List (Letter T.Seen))
+            → HasRead T.seen width overflow read self.old
+            → HasRead T.seen width overflow (read ++ lettered (chars (string_bytes text)) (T.seen tag)) self.new) }
+        ensures narrow { result ≡ Err BlockError.TooNarrow → (width : ℕ) (overflow : Bool) (read : List (Letter T.Seen))
+            → HasRead T.seen width overflow read self.old
+            → HasWider width overflow (lettered (chars (string_bytes text)) (T.seen tag)) }
+    {
+        if !self.after_run(text.as_str()).is_empty() {
+            return self.add_text(text.as_str(), &tag);
+        }
+        self.add_part(text, tag)?;
+        Ok(())
+    }
+
+    /// Moves a text whose characters join the word at hand behind it.
+    fn add_part(&mut self, text: String, tag: T) -> Result<(), AllocError>
+        requires { All (JoinsWord self.old) (chars (string_bytes text)) }
+        ensures { OnOk result (Reads T.seen self.old self.new (lettered (chars (string_bytes text)) (T.seen tag))) }
+    {
+        let columns = columns_of(text.as_str());
+        self.word.push_string(text, columns, tag)
     }
 
     fn add_normal(&mut self, text: &str, tag: &T) -> Result<(), BlockError>

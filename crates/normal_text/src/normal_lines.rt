@@ -1,7 +1,7 @@
 //! The lines of normal text, with its markers.
 ghost use Rattle.std.specs.Prelude.{◌≡◌, ◌⊎◌, ℕ, Bool, true, false, not, ◌||◌, List, [], ◌∷◌, ◌++◌, map, chars, string_bytes, All, IfOk, IfErr, OnOk};
 ghost use Rattle.tagged_lines.specs.Tagged.{line_items, IsJoined};
-ghost use Rattle.text_pieces.specs.Sources.{names, sources_of, piece_sources};
+ghost use Rattle.text_pieces.specs.Sources.{names, sources_of, piece_sources, text_sources};
 ghost use Rattle.normal_text.specs.Riders.{normal_lines, normal_waiting, has_wide_text};
 ghost use Rattle.normal_text.specs.Units.{Letter};
 ghost use Rattle.normal_text.specs.Letters.{has_marker, letters_of};
@@ -12,7 +12,7 @@ use crate::marked::MarkedText;
 use crate::normal::NormalText;
 use std::alloc::Global;
 use tagged_lines::EqualCopy;
-use text_pieces::{BlockError, LaidText, Piece};
+use text_pieces::{BlockError, LaidText, Piece, TextPiece};
 
 /// The lines of normal text, and the markers that wait for what comes behind it.
 pub fn lay_normal<T: EqualCopy + Drop>(
@@ -36,6 +36,30 @@ pub fn lay_normal<T: EqualCopy + Drop>(
         lay_marked(alloc, width, allow_overflow, pieces)
     } else {
         lay_plain(alloc, width, allow_overflow, pieces)
+    }
+}
+
+/// The lines as `lay_normal` gives them, onto which texts are moved where they can be.
+pub fn lay_owned<T: EqualCopy + Drop>(
+    alloc: Global,
+    width: usize,
+    allow_overflow: bool,
+    pieces: Vec<Piece<T>>,
+) -> Result<LaidText<T>, BlockError>
+    ensures lines { IfOk result (λ laid. map (line_items T.seen) laid.lines.items
+        ≡ normal_lines width (sources_of T.seen pieces.items)) }
+    ensures waiting { IfOk result (λ laid. names laid.waiting.items
+        ≡ normal_waiting width (sources_of T.seen pieces.items)) }
+    ensures room { OnOk result ((allow_overflow || not (has_wide_text width (sources_of T.seen pieces.items))) ≡ true) }
+    ensures joined { IfOk result (λ laid. All (IsJoined T.seen) laid.lines.items) }
+    ensures narrow { result ≡ Err BlockError.TooNarrow → (allow_overflow ≡ false)
+        × (has_wide_text width (sources_of T.seen pieces.items) ≡ true) }
+    ensures kinds { IfErr result (λ e. (e ≡ BlockError.TooNarrow) ⊎ (e ≡ BlockError.Memory)) }
+{
+    if has_marker(&pieces) {
+        lay_marked(alloc, width, allow_overflow, &pieces)
+    } else {
+        lay_moved(alloc, width, allow_overflow, pieces)
     }
 }
 
@@ -123,6 +147,88 @@ fn read_piece<T: EqualCopy + Drop>(
         Piece::Text(piece) => text.add_text(piece.text.as_str(), &piece.main_tag),
         Piece::Fragment(_) => Ok(()),
     }
+}
+
+fn lay_moved<T: EqualCopy + Drop>(
+    alloc: Global,
+    width: usize,
+    allow_overflow: bool,
+    pieces: Vec<Piece<T>>,
+) -> Result<LaidText<T>, BlockError>
+    ensures lines { has_marker (sources_of T.seen pieces.items) ≡ false → IfOk result (λ laid.
+        map (line_items T.seen) laid.lines.items ≡ normal_lines width (sources_of T.seen pieces.items)) }
+    ensures waiting { has_marker (sources_of T.seen pieces.items) ≡ false → IfOk result (λ laid.
+        names laid.waiting.items ≡ normal_waiting width (sources_of T.seen pieces.items)) }
+    ensures room { OnOk result ((allow_overflow || not (has_wide_text width (sources_of T.seen pieces.items))) ≡ true) }
+    ensures joined { IfOk result (λ laid. All (IsJoined T.seen) laid.lines.items) }
+    ensures narrow { result ≡ Err BlockError.TooNarrow → (allow_overflow ≡ false)
+        × (has_wide_text width (sources_of T.seen pieces.items) ≡ true) }
+    ensures kinds { IfErr result (λ e. (e ≡ BlockError.TooNarrow) ⊎ (e ≡ BlockError.Memory)) }
+{
+    let mut text = NormalText::new(alloc, width, allow_overflow);
+    take_all(&mut text, pieces)?;
+    let lines = text.into_lines()?;
+    Ok(LaidText {
+        lines,
+        waiting: Vec::new(alloc),
+    })
+}
+
+/// Adds the texts of the pieces, which are taken.
+fn take_all<T: EqualCopy + Drop>(
+    text: &mut NormalText<T>,
+    pieces: Vec<Piece<T>>,
+) -> Result<(), BlockError>
+    ensures read { OnOk result ((width : ℕ) (overflow : Bool) (read : List (Letter T.Seen))
+        → HasRead T.seen width overflow read text.old
+        → HasRead T.seen width overflow (read ++ letters_of (sources_of T.seen pieces.items)) text.new) }
+    ensures narrow { result ≡ Err BlockError.TooNarrow → (width : ℕ) (overflow : Bool) (read : List (Letter T.Seen))
+        → HasRead T.seen width overflow read text.old
+        → (overflow ≡ false) × (has_wide_text width (sources_of T.seen pieces.items) ≡ true) }
+    ensures kinds { IfErr result (λ e. (e ≡ BlockError.TooNarrow) ⊎ (e ≡ BlockError.Memory)) }
+{
+    for piece in pieces {
+        take_piece(text, piece)?;
+    }
+    Ok(())
+}
+
+fn take_piece<T: EqualCopy + Drop>(
+    text: &mut NormalText<T>,
+    piece: Piece<T>,
+) -> Result<(), BlockError>
+    ensures read { OnOk result ((width : ℕ) (overflow : Bool) (read : List (Letter T.Seen))
+        → HasRead T.seen width overflow read text.old
+        → HasRead T.seen width overflow (read ++ letters_of (piece_sources T.seen piece)) text.new) }
+    ensures narrow { result ≡ Err BlockError.TooNarrow → (width : ℕ) (overflow : Bool) (read : List (Letter T.Seen))
+        → HasRead T.seen width overflow read text.old
+        → (overflow ≡ false) × (has_wide_text width (piece_sources T.seen piece) ≡ true) }
+    ensures kinds { IfErr result (λ e. (e ≡ BlockError.TooNarrow) ⊎ (e ≡ BlockError.Memory)) }
+{
+    match piece {
+        Piece::Text(piece) => take_text(text, piece),
+        Piece::Fragment(_) => Ok(()),
+    }
+}
+
+fn take_text<T: EqualCopy + Drop>(
+    text: &mut NormalText<T>,
+    piece: TextPiece<T>,
+) -> Result<(), BlockError>
+    ensures read { OnOk result ((width : ℕ) (overflow : Bool) (read : List (Letter T.Seen))
+        → HasRead T.seen width overflow read text.old
+        → HasRead T.seen width overflow (read ++ letters_of (text_sources T.seen piece)) text.new) }
+    ensures narrow { result ≡ Err BlockError.TooNarrow → (width : ℕ) (overflow : Bool) (read : List (Letter T.Seen))
+        → HasRead T.seen width overflow read text.old
+        → (overflow ≡ false) × (has_wide_text width (text_sources T.seen piece) ≡ true) }
+    ensures kinds { IfErr result (λ e. (e ≡ BlockError.TooNarrow) ⊎ (e ≡ BlockError.Memory)) }
+{
+    let TextPiece {
+        text: characters,
+        main_tag,
+        ..
+    } = piece;
+    text.add_string(characters, main_tag)
 }
 
 fn lay_marked<T: EqualCopy + Drop>(

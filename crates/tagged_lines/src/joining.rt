@@ -28,6 +28,25 @@ pub(crate) fn push_text<T: EqualCopy + Drop>(
     }
 }
 
+/// Moves a text to the end, as `push_text` adds one.
+pub(crate) fn push_string<T: EqualCopy + Drop>(
+    elements: &mut Vec<TaggedLineElement<T>>,
+    text: String,
+    tag: T,
+) -> Result<(), AllocError>
+    ensures ok { OnOk result (elements_items T.seen elements.new.items
+        ≡ elements_items T.seen elements.old.items ++ tagged (chars (string_bytes text)) (T.seen tag)) }
+    ensures err { OnErr result (elements_items T.seen elements.new.items
+        ≡ elements_items T.seen elements.old.items) }
+    ensures joined { AreJoined T.seen elements.old.items → AreJoined T.seen elements.new.items }
+{
+    if text.is_empty() || ends_with_tag(elements, &tag) {
+        push_text(elements, text.as_str(), &tag)
+    } else {
+        push_own(elements, text, tag)
+    }
+}
+
 /// Adds a text of one character at the end, as `push_text`.
 pub(crate) fn push_character<T: EqualCopy + Drop>(
     elements: &mut Vec<TaggedLineElement<T>>,
@@ -257,6 +276,21 @@ fn push_new<T: EqualCopy + Drop>(
     let alloc = *elements.allocator();
     let s = roomy_copy(alloc, text)?;
     let tag = tag.copy(alloc)?;
+    push_own(elements, s, tag)
+}
+
+// Moves the text to the end, as an element of its own.
+fn push_own<T: EqualCopy + Drop>(
+    elements: &mut Vec<TaggedLineElement<T>>,
+    s: String,
+    tag: T,
+) -> Result<(), AllocError>
+    ensures ok { OnOk result (elements_items T.seen elements.new.items
+        ≡ elements_items T.seen elements.old.items ++ tagged (chars (string_bytes s)) (T.seen tag)) }
+    ensures err { OnErr result (elements.new.items ≡ elements.old.items) }
+    ensures joined { OnOk result (AreJoined T.seen elements.old.items → string_bytes s ≢ []
+        → ¬ EndsWithTag T.seen (T.seen tag) elements.old.items → AreJoined T.seen elements.new.items) }
+{
     make_room(elements)?;
     elements.push(TaggedLineElement::Str(TaggedString { s, tag }))?;
     Ok(())

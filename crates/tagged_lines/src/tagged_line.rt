@@ -6,7 +6,9 @@ ghost use Rattle.tagged_lines.specs.Elements.{elements_text};
 
 use crate::columns::{Columns, UnicodeColumns};
 use crate::equal_copy::EqualCopy;
-use crate::joining::{move_elements, push_character, push_elements, push_marker, push_text};
+use crate::joining::{
+    move_elements, push_character, push_elements, push_marker, push_string, push_text,
+};
 use crate::line_iterators::{LineChars, TaggedStrings};
 use crate::spaces::{MOST_SPACES, spaces};
 use crate::tagged_string::{TaggedLineElement, columns_of};
@@ -165,6 +167,20 @@ impl<T: EqualCopy + Drop> TaggedLine<T> {
         let columns = self.columns.checked_add(columns).ok_or(AllocError)?;
         push_text(&mut self.elements, text, tag)?;
         self.columns = columns;
+        Ok(())
+    }
+
+    /// Moves a text whose columns are known to the end. The error is want of memory alone, and leaves the line as it was.
+    pub fn push_string(&mut self, text: String, columns: usize, tag: T) -> Result<(), AllocError>
+        requires { columns ≡ text_columns (chars (string_bytes text)) }
+        ensures ok { OnOk result (line_items T.seen self.new
+            ≡ line_items T.seen self.old ++ tagged (chars (string_bytes text)) (T.seen tag)) }
+        ensures err { OnErr result (line_items T.seen self.new ≡ line_items T.seen self.old) }
+        ensures joined { IsJoined T.seen self.old → IsJoined T.seen self.new }
+    {
+        let total = self.columns.checked_add(columns).ok_or(AllocError)?;
+        push_string(&mut self.elements, text, tag)?;
+        self.columns = total;
         Ok(())
     }
 }

@@ -1,5 +1,5 @@
 //! Blocks of text of which no call was refused.
-ghost use Rattle.std.specs.Prelude.{◌≡◌, ◌⊎◌, ◌++◌, true, false, None, Some, map, chars, All, IsTrue, IfOk, IfErr, OnOk, if◌then◌else◌};
+ghost use Rattle.std.specs.Prelude.{◌≡◌, ◌⊎◌, ◌++◌, [], true, false, None, Some, map, chars, All, IsTrue, IfOk, IfErr, OnOk, if◌then◌else◌};
 ghost use Rattle.text_pieces.specs.Sources.{sources_of, piece_sources, names};
 ghost use Rattle.preserved_text.specs.Preserved.{names_of};
 ghost use Rattle.text_pieces.specs.Modes.{is_preserved, is_same_mode};
@@ -10,7 +10,7 @@ use crate::copies::{clone_lines, clone_pieces};
 use crate::one_tag::push_tagged;
 use crate::padding::pad_lines;
 use crate::showing::{ends_in_columns, has_visible, have_columns};
-use normal_text::lay_normal;
+use normal_text::{lay_normal, lay_owned};
 use preserved_text::lay_preserved;
 use std::alloc::{AllocError, Global};
 use tagged_lines::{EqualCopy, TaggedLine};
@@ -223,7 +223,7 @@ impl<T: EqualCopy + Drop> TextBlock<T> {
         if self.pieces.is_empty() {
             return Ok(());
         }
-        let LaidText { lines, waiting } = self.lay()?;
+        let LaidText { lines, waiting } = self.take_laid()?;
         self.put_lines(lines)?;
         self.wait(waiting)?;
         Ok(())
@@ -327,6 +327,27 @@ impl<T: EqualCopy + Drop> TextBlock<T> {
         self.end_text()?;
         let TextBlock { lines, .. } = self;
         Ok(lines)
+    }
+
+    /// The lines and the markers as `lay` gives them; the text may be taken.
+    fn take_laid(&mut self) -> Result<LaidText<T>, BlockError>
+        ensures kinds { IfErr result (λ e. (e ≡ BlockError.TooNarrow) ⊎ (e ≡ BlockError.Memory)) }
+        ensures lines { IfOk result (λ laid. map (line_items T.seen) laid.lines.items
+            ≡ lines_in self.old.mode self.old.width (sources_of T.seen self.old.pieces.items)) }
+        ensures waiting { IfOk result (λ laid. names laid.waiting.items
+            ≡ waiting_in self.old.mode self.old.width (sources_of T.seen self.old.pieces.items)) }
+        ensures room { OnOk result (is_too_narrow (text_of T.seen self.old) ≡ false) }
+        ensures narrow { result ≡ Err BlockError.TooNarrow → is_too_narrow (text_of T.seen self.old) ≡ true }
+        ensures joined { IfOk result (λ laid. All (IsJoined T.seen) laid.lines.items) }
+        ensures kept { with_source [] (text_of T.seen self.new) ≡ with_source [] (text_of T.seen self.old) }
+        ensures stays { AreJoinedLines T.seen self.old → AreJoinedLines T.seen self.new }
+    {
+        if self.mode.preserve_whitespace() {
+            return self.lay();
+        }
+        let alloc = *self.lines.allocator();
+        let pieces = std::mem::replace(&mut self.pieces, Vec::new(alloc));
+        lay_owned(alloc, self.width, self.allow_overflow, pieces)
     }
 
     /// The lines of the text that has not ended, and the markers that wait for what comes behind it.

@@ -1,21 +1,19 @@
-use Rattle.std.proofs.Common.{◌++◌, ap, ◌∙◌, chars}
-use Rattle.tagged_lines.proofs.Joined.{text_joined}
-use Rattle.tagged_lines.specs.Elements.{elements_items, tagged}
-use Rattle.tagged_lines.specs.declared.tagged_string.TaggedLineElement.TheVariants.{Str}
-use Rattle.tagged_lines.proofs.Joins.{items_pushed}
+use Rattle.std.proofs.Common.{◌≡◌, ◌≢◌, [], ◌++◌, sym, ap, ◌∙◌, subst, chars, string_bytes}
+use Rattle.std.proofs.lemmas.Result.{on_ok_weaker}
+use Rattle.tagged_lines.specs.Elements.{elements_items, tagged, EndsWithTag}
 use Rattle.tagged_lines.proofs.joining.push_new.Goals as goal
 
 pub returns-clause-ok : goal.returns-clause-ok
 returns-clause-ok g c =
     let es = c.args.elements.now.items in
     let seen = g.T.EqualCopy.seen in
-    items_pushed seen es c.push.new.self.items (Str (record { s = c.in_ok-s.s; tag = c.in_ok-tag.tag }))
-    (rw c.make_room.ensures at c.in_ok-push.ensures.items)
+    on_ok_weaker c.push_own.result (λ pushed. pushed
     ∙ ap (λ bytes. elements_items seen es ++ tagged (chars bytes) (seen c.in_ok-tag.tag)) c.in_ok-s.ensures.ok
-    ∙ ap (λ t. elements_items seen es ++ tagged (chars c.args.text.now) t) c.in_ok-tag.ensures
+    ∙ ap (λ t. elements_items seen es ++ tagged (chars c.args.text.now) t) c.in_ok-tag.ensures) c.push_own.ensures.ok
 
 pub returns-clause-joined : goal.returns-clause-joined
 returns-clause-joined g c =
-    text_joined g.T.EqualCopy.seen c.args.elements.now.items c.push.new.self.items
-    (record { s = c.in_ok-s.s; tag = c.in_ok-tag.tag }) c.args.text.now (g.T.EqualCopy.seen c.args.tag.now)
-    (rw c.make_room.ensures at c.in_ok-push.ensures.items) c.in_ok-s.ensures.ok c.in_ok-tag.ensures
+    let es = c.args.elements.now.items in
+    let seen = g.T.EqualCopy.seen in
+    on_ok_weaker c.push_own.result (λ pushed joined some ends. pushed joined (λ none. some (sym c.in_ok-s.ensures.ok ∙ none))
+    (λ h. ends (subst (λ t. EndsWithTag seen t es) c.in_ok-tag.ensures h))) c.push_own.ensures.joined

@@ -11,3 +11,11 @@ returns-then-is_empty-clause-ended g c =
     let seen = g.T.EqualCopy.seen in
     nothing_ended (text_of seen c.args.self.now) (ap (sources_of seen) (nil_from_length c.args.self.now.pieces.items
     (grind (arith, nat_tests, c.args.self.now.pieces.ok.0))))
+
+pub returns-in_err-wait-clause-joined : goal.returns-in_err-wait-clause-joined
+returns-in_err-wait-clause-joined g c = λ h.
+    c.wait.ensures.joined (c.put_lines.ensures.joined (c.take_laid.ensures.stays h) c.in_ok-lines.ensures.joined)
+
+pub returns-clause-joined : goal.returns-clause-joined
+returns-clause-joined g c = λ h.
+    c.wait.ensures.joined (c.put_lines.ensures.joined (c.take_laid.ensures.stays h) c.in_ok-lines.ensures.joined)
