@@ -1,13 +1,14 @@
 use html_lexemes::{Attribute, Attributes, Namespace, QualName};
 use html_render_dom::html_forest::QuirksMode;
-use html_render_dom::{Handle, NodeData, RcDom};
+use html_render_dom::{ChildNodes, Handle, NodeData, RcDom};
 use row_fields::{push_field, push_line};
 use std::alloc::{AllocError, Global};
 
-/// A node whose line is still to come, and how far below the document's children it stands.
-#[derive(Clone, Copy)]
-struct Coming {
+/// Siblings whose lines are still to come, and how far below the document's children they stand.
+#[derive(Drop)]
+struct Coming<'a> {
     node: Handle,
+    others: ChildNodes<'a>,
     level: usize,
 }
 
@@ -27,14 +28,14 @@ pub fn lines_below(alloc: Global, dom: &RcDom) -> Result<String, AllocError> {
     Ok(lines)
 }
 
-fn push_below(lines: &mut String, dom: &RcDom) -> Result<(), AllocError> {
-    let mut coming = Vec::new(*lines.allocator());
-    push_children(&mut coming, dom, dom.document(), 0)?;
+fn push_below<'a>(lines: &mut String, dom: &'a RcDom) -> Result<(), AllocError> {
+    let mut coming: Vec<Coming<'a>> = Vec::new(*lines.allocator());
+    push_row(&mut coming, dom.children(dom.document()), 0)?;
     for _ in 0..u64::MAX {
         let Some(next) = coming.pop() else {
             break;
         };
-        push_node(lines, &mut coming, dom, next)?;
+        push_first(lines, &mut coming, dom, next)?;
     }
     Ok(())
 }
@@ -47,30 +48,48 @@ fn word_of(mode: QuirksMode) -> &'static str {
     }
 }
 
-/// The children of a node are to come, the first one next.
-fn push_children(
-    coming: &mut Vec<Coming>,
-    dom: &RcDom,
-    parent: Handle,
+/// These nodes come next, in one entry.
+fn push_row<'a>(
+    coming: &mut Vec<Coming<'a>>,
+    nodes: ChildNodes<'a>,
     level: usize,
 ) -> Result<(), AllocError> {
-    for child in dom.children(parent).rev() {
-        coming.push(Coming { node: child, level })?;
-    }
+    let mut others = nodes;
+    let Some(node) = others.next() else {
+        return Ok(());
+    };
+    coming.push(Coming {
+        node,
+        others,
+        level,
+    })?;
     Ok(())
 }
 
-/// Writes the line of a node, and those of its attributes; what is in it is to come.
-fn push_node(
+/// Writes the line of the first of some siblings, and those of its attributes. What is in it comes next, and then the
+/// others.
+fn push_first<'a>(
     lines: &mut String,
-    coming: &mut Vec<Coming>,
-    dom: &RcDom,
-    at: Coming,
+    coming: &mut Vec<Coming<'a>>,
+    dom: &'a RcDom,
+    first: Coming<'a>,
 ) -> Result<(), AllocError> {
-    let below = at.level.saturating_add(1);
-    push_children(coming, dom, at.node, below)?;
-    push_level(lines, at.level)?;
-    match dom.data(at.node) {
+    push_row(coming, first.others, first.level)?;
+    push_node(lines, coming, dom, first.node, first.level)
+}
+
+/// Writes the line of a node, and those of its attributes; what is in it is to come.
+fn push_node<'a>(
+    lines: &mut String,
+    coming: &mut Vec<Coming<'a>>,
+    dom: &'a RcDom,
+    node: Handle,
+    level: usize,
+) -> Result<(), AllocError> {
+    let below = level.saturating_add(1);
+    push_row(coming, dom.children(node), below)?;
+    push_level(lines, level)?;
+    match dom.data(node) {
         Some(
             NodeData::Doctype {
                 name,
@@ -112,16 +131,16 @@ fn push_node(
 }
 
 /// The contents of a template, before its children.
-fn push_contents(
+fn push_contents<'a>(
     lines: &mut String,
-    coming: &mut Vec<Coming>,
-    dom: &RcDom,
+    coming: &mut Vec<Coming<'a>>,
+    dom: &'a RcDom,
     contents: Handle,
     level: usize,
 ) -> Result<(), AllocError> {
     push_level(lines, level)?;
     lines.push_str("contents\n")?;
-    push_children(coming, dom, contents, level.saturating_add(1))
+    push_row(coming, dom.children(contents), level.saturating_add(1))
 }
 
 fn push_name(lines: &mut String, name: &QualName) -> Result<(), AllocError> {
