@@ -1,2 +1,3 @@
 pub mod Computed
+pub mod Crowding
 pub mod Said

@@ -2,6 +2,7 @@
 ghost use Rattle.std.specs.Prelude.{◌≡◌};
 ghost use Rattle.html_forest.specs.Forest.{page_alone};
 
+use crate::crowds::crowd;
 use crate::elements::{add_twice, ask, fill_template, tell_all};
 use crate::finished::finished;
 use crate::moves::{foster, give_children, move_siblings, refill, wrap_children};
@@ -11,7 +12,7 @@ use html_lexemes::{
     Attribute, Attributes, ErrorMessage, LocalName, Namespace, ParseFault, QualName, Text,
 };
 use html_render_dom::html_forest::{QuirksMode, TreeSink};
-use html_render_dom::{NodeData, RcDom};
+use html_render_dom::{Handle, NodeData, RcDom};
 use std::alloc::{AllocError, Global};
 use std::process::Abort;
 use tree_lines::lines_of;
@@ -259,4 +260,35 @@ fn are_elements(alloc: Global) -> Result<bool, ParseFault> {
 #[test]
 fn elements_are_asked_for(rt: HostRuntime) {
     told(&rt, are_elements(rt.alloc()), 0);
+}
+
+fn is_remark(dom: &RcDom, node: Option<Handle>, text: &str) -> bool {
+    match node {
+        Some(node) => match dom.data(node) {
+            Some(NodeData::Comment { contents }) => contents.as_str() == text,
+            _ => false,
+        },
+        None => false,
+    }
+}
+
+// a node is inserted right before the child that is named (WHATWG DOM, 4.2.3, "insert"), however many there are
+fn is_crowded(dom: &RcDom, count: usize) -> bool {
+    let mut children = dom.children(dom.document());
+    let is_first = is_remark(dom, children.next(), "first");
+    let is_last = is_remark(dom, children.next_back(), "last");
+    let is_behind = is_remark(dom, children.next_back(), "behind");
+    let are_many = children.nth(count.saturating_sub(1)).is_some() && children.next().is_none();
+    is_first && is_last && is_behind && are_many
+}
+
+fn is_crowd_put(alloc: Global, count: u32) -> Result<bool, ParseFault> {
+    let mut dom = RcDom::new(alloc)?;
+    crowd(alloc, &mut dom, count)?;
+    Ok(is_crowded(&dom, count as usize))
+}
+
+#[test]
+fn a_child_has_many_before_it(rt: HostRuntime) {
+    told(&rt, is_crowd_put(rt.alloc(), 100_000), 0);
 }
