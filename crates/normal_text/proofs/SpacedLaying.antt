@@ -7,13 +7,13 @@ use Rattle.std.proofs.lemmas.List.Elements.{All-nil, All-cons, All-head, All-tai
 use Rattle.std.proofs.lemmas.List.Sums.{fold-append, sum_by-cons}
 use Rattle.std.proofs.lemmas.Str.{chars_past_char}
 use Rattle.tagged_lines.specs.Columns.{text_columns, width_of, columns_of-one}
-use Rattle.tagged_lines.specs.Tagged.{character, line_items, line_columns, tagged, IsJoined}
+use Rattle.tagged_lines.specs.Tagged.{Item, character, line_items, line_columns, tagged, IsJoined}
 use Rattle.normal_text.specs.SpacedWords.{IsVisible, IsWord, spaced, closed, HasWords}
 use Rattle.normal_text.specs.Units.{Letter, piece, lettered, letters_columns}
-use Rattle.normal_text.specs.Layout.{Mark, opens, inside, marked, columns, following_items}
+use Rattle.normal_text.specs.Layout.{Mark, opens, inside, marked, columns, following_columns, following_items}
 use Rattle.normal_text.specs.Greedy.{Filled, filled, add_unit}
 use Rattle.normal_text.specs.Filling.{Reading, reading, read_letter, read_letters}
-use Rattle.normal_text.specs.NormalStates.{HoldsLines, Lays, LaysWords, TakesMore, word_pieces, HoldsReading, Reads, ReadsFront, AllHaveRoom, has_room, JoinsWord, AwaitsWord}
+use Rattle.normal_text.specs.NormalStates.{HoldsLines, Lays, LaysWords, TakesMore, word_pieces, HoldsReading, Moves, Reads, ReadsFront, AllHaveRoom, has_room, JoinsWord, AwaitsWord}
 use Rattle.normal_text.specs.declared.filling.Filling.{Filling}
 use Rattle.normal_text.specs.declared.normal.NormalText.{NormalText}
 use Rattle.normal_text.proofs.NormalItems.{marks_counted, behind_items, columns_behind, unit_columns, unit_items, following_items-append}
@@ -93,8 +93,7 @@ words_room seen width overflow old r tag (w ∷ ws) h room all =
     let fit : Letter _ → Type 0 = λ x. IsTrue (has_room width overflow x) in
     let word = All-head IsWord w ws all in
     let first = All-append fit (lettered w tag) (l ∷ [])
-    (run_room seen width overflow old r w tag h (all_join old room w word.visible))
-    (break_room width overflow l refl) in
+    (run_room seen width overflow old r w tag h (all_join old room w word.visible)) (break_room width overflow l refl) in
     subst (AllHaveRoom width overflow) (sym (map-append _ (w ++ 0x20 ∷ []) (closed ws)))
     (All-append fit (lettered (w ++ 0x20 ∷ []) tag) (lettered (closed ws) tag)
     (subst (AllHaveRoom width overflow) (sym (map-append _ w (0x20 ∷ []))) first)
@@ -125,8 +124,7 @@ word_fits width done n ns tag c cs fits =
     columns_behind n ns ms ∙ ap (λ k. columns (n ∷ ns) + k) more in
     let left = below (letters_columns ls) width (omega (arith, fits)) in
     let right = below (columns ((n ∷ ns) ++ ms)) width (omega (arith, fits, counted)) in (
-      if_true (nat_le (letters_columns ls) width) _ _ left
-          ∙ if_true (nat_le (columns ((n ∷ ns) ++ ms)) width) _ _ right,
+      if_true (nat_le (letters_columns ls) width) _ _ left ∙ if_true (nat_le (columns ((n ∷ ns) ++ ms)) width) _ _ right,
       counted,
     )
 
@@ -172,8 +170,7 @@ words_pushed seen old new text tag w o d added joins =
                 (omega (arith, more.fits, same, h.same_width)) in
                 subst (HoldsLines seen width overflow new) (sym fills.whole)
                 (holds_pushed seen width overflow old new f fills.marks h w o d
-                (added ∙ ap (λ i. line_items seen old.line ++ i)
-                (ap (λ cs. tagged cs tag) text_is ∙ sym fills.items)) joins);
+                (added ∙ ap (λ i. line_items seen old.line ++ i) (ap (λ cs. tagged cs tag) text_is ∙ sym fills.items)) joins);
           };
     }
 
@@ -225,16 +222,15 @@ words_moved seen old new words text tag awaits all text_is more laid w s o =
 
 -- the words in front of a text are read, with the space behind them
 pub words_taken : {T S : Type 0} (seen : T → S) (old new : NormalText T) (text after here rest back behind : List ℕ)
-    (n room read c : ℕ) (tag : S) → AwaitsWord seen old tag → IsUtf8 text → IsUtf8 back
-    → text ≡ encode_utf8 read ++ after → read ≡ 0x20
+    (n room read c : ℕ) (tag : S) → AwaitsWord seen old tag → IsUtf8 text → IsUtf8 back → text ≡ encode_utf8 read ++ after → read ≡ 0x20
     → HasWords text rest n room → ((front : List ℕ) → text ≡ front ++ rest → here ≡ front)
     → chars text ≡ chars here ++ chars back → back ≡ encode_utf8 c ++ behind → c ≡ 0x20 → n ≢ 0
     → ((k : ℕ) → k ≢ 0 → k ≤ room → TakesMore seen old.lines k)
     → LaysWords seen old.lines new.lines (chars here) tag
     → new.width ≡ old.width → new.space ≡ old.space → new.word ≡ old.word
     → ReadsFront seen old new after behind tag
-words_taken seen old new text after here rest back behind n room read c tag awaits utf8 back_utf8 begins read_is has
-    only parts split is_space some takes laid w s o =
+words_taken seen old new text after here rest back behind n room read c tag awaits utf8 back_utf8 begins read_is has only
+    parts split is_space some takes laid w s o =
     let words_are : chars here ≡ spaced has.words = ap chars (only has.parts.front has.parts.whole) ∙ has.whole in
     let back_is = chars_past_char back behind c back_utf8 split ∙ ap (λ x. x ∷ chars behind) is_space in
     let text_is = chars_past_char text after read utf8 begins ∙ ap (λ x. x ∷ chars after) read_is in

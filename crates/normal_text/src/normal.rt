@@ -129,8 +129,8 @@ impl<T: EqualCopy + Drop> NormalText<T> {
         Ok(self.add_words(c, text, after, tag)?)
     }
 
-    /// Behind a space that was read, adds the words that are parted by single spaces and go on the line, and the space
-    /// behind them; what follows is left. The error is want of memory alone.
+    /// Adds the words that stand behind a space, which was read, where they are parted by single spaces and go on the line,
+    /// and the space behind them; what follows is left. The error is want of memory alone.
     fn add_words<'a>(
         &mut self,
         read: char,
@@ -168,8 +168,8 @@ impl<T: EqualCopy + Drop> NormalText<T> {
         }
     }
 
-    /// Adds characters that join the word at hand. Where they are a whole word, it is laid without being held, and the
-    /// break point behind it is added too, with the words behind that go on the line; what follows is left.
+    /// Adds characters that join the word at hand. Where they are a whole word, it is laid without being held, and the break
+    /// point behind it is added too, with the words behind that go on the line; what follows is left.
     fn add_run<'a>(&mut self, run: &str, rest: &'a str, tag: &T) -> Result<&'a str, BlockError>
         requires { All (JoinsWord self.old) (chars run.now) }
         ensures kinds { IfErr result (λ e. e ≡ BlockError.Memory) }

@@ -1,11 +1,11 @@
 //! Words of visible ASCII that stand behind single spaces.
-ghost use Rattle.std.specs.Prelude.{◌↔◌, ◌≤◌, IfSome, IsTrue, IsUtf8};
+ghost use Rattle.std.specs.Prelude.{◌≡◌, ◌↔◌, ◌≤◌, IfSome, IsTrue, IsUtf8};
 ghost use Rattle.normal_text.specs.SpacedWords.{HasRun, HasWord, HasWords};
 
 use text_pieces::first_char;
 
-/// The columns of the words in front of a text, each with a space before it, as many as `room` columns hold, and what
-/// follows them.
+/// The columns of the words in front of a text, each behind a space, as many as `room` columns hold with their spaces, and
+/// what follows them.
 pub(crate) fn words_in_front(text: &str, room: usize) -> (usize, &str)
     ensures words { HasWords text.now result.1.now result.0 room }
     ensures text { IsUtf8 result.1.now }
@@ -19,8 +19,7 @@ pub(crate) fn words_in_front(text: &str, room: usize) -> (usize, &str)
     (columns, rest)
 }
 
-/// The columns of a space and the word behind it in front of a text, which take at most `room`, and the rest, which
-/// begins with a space.
+/// The columns of a space and the word behind it in front of a text, which take at most `room`, and the space that follows.
 fn word_in_front(text: &str, room: usize) -> Option<(usize, &str)>
     ensures word { IfSome result (λ parts. HasWord text.now parts.1.now parts.0 room) }
     ensures text { IfSome result (λ parts. IsUtf8 parts.1.now) }

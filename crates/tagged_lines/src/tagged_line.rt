@@ -170,7 +170,7 @@ impl<T: EqualCopy + Drop> TaggedLine<T> {
         Ok(())
     }
 
-    /// Moves a text whose columns are known to the end. The error is want of memory alone; the line is then as it was.
+    /// Moves a text whose columns are known to the end. The error is want of memory alone, and leaves the line as it was.
     pub fn push_string(&mut self, text: String, columns: usize, tag: T) -> Result<(), AllocError>
         requires { columns ≡ text_columns (chars (string_bytes text)) }
         ensures ok { OnOk result (line_items T.seen self.new

@@ -1,4 +1,4 @@
-use Rattle.std.proofs.Common.{◌++◌, sym, ap, ◌∙◌, subst, chars}
+use Rattle.std.proofs.Common.{◌≡◌, ◌≢◌, [], ◌++◌, sym, ap, ◌∙◌, subst, chars, string_bytes}
 use Rattle.std.proofs.lemmas.Result.{on_ok_weaker}
 use Rattle.tagged_lines.specs.Elements.{elements_items, tagged, EndsWithTag}
 use Rattle.tagged_lines.proofs.joining.push_new.Goals as goal
@@ -15,6 +15,5 @@ pub returns-clause-joined : goal.returns-clause-joined
 returns-clause-joined g c =
     let es = c.args.elements.now.items in
     let seen = g.T.EqualCopy.seen in
-    on_ok_weaker c.push_own.result (λ pushed joined some ends. pushed joined
-    (λ none. some (sym c.in_ok-s.ensures.ok ∙ none))
+    on_ok_weaker c.push_own.result (λ pushed joined some ends. pushed joined (λ none. some (sym c.in_ok-s.ensures.ok ∙ none))
     (λ h. ends (subst (λ t. EndsWithTag seen t es) c.in_ok-tag.ensures h))) c.push_own.ensures.joined

@@ -16,5 +16,5 @@ returns-then-not-is_empty-clause-read g c =
 pub returns-clause-read : goal.returns-clause-read
 returns-clause-read g c = λ width overflow read has.
     read_more g.T.EqualCopy.seen c.args.self.now c.add_part.new.self
-    (lettered (chars (string_bytes c.args.text)) (g.T.EqualCopy.seen c.args.tag)) c.in_ok-add_part.ensures width
-    overflow read has
+    (lettered (chars (string_bytes c.args.text)) (g.T.EqualCopy.seen c.args.tag)) c.in_ok-add_part.ensures width overflow
+    read has
