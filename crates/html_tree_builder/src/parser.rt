@@ -146,7 +146,7 @@ impl<S: TreeSink + Drop> Parser<S> {
     pub fn finish(self) -> Result<S::Output, ParseFault>
         requires { IsFit S.number S.forest S.quirks self }
         ensures memory { has_failed self ≡ false → IfErr result (λ e. e ≡ Memory) }
-        ensures failed { has_failed self ≡ true → IfErr result (λ e. e ≡ Failed) }
+        ensures failed { has_failed self ≡ true → result ≡ Err Failed }
         ensures grown { IfOk result (λ output. IsGrown (Completes S.number S.handle S.forest S.quirks self [])
             (S.tree output) (S.tree_quirks output)) }
     {
@@ -163,7 +163,7 @@ impl<S: TreeSink + Drop> Parser<S> {
     pub fn one(self, piece: String) -> Result<S::Output, ParseFault>
         requires { IsFit S.number S.forest S.quirks self }
         ensures memory { has_failed self ≡ false → IfErr result (λ e. e ≡ Memory) }
-        ensures failed { has_failed self ≡ true → IfErr result (λ e. e ≡ Failed) }
+        ensures failed { has_failed self ≡ true → result ≡ Err Failed }
         ensures grown { IfOk result (λ output. IsGrown
             (Completes S.number S.handle S.forest S.quirks self (chars (string_bytes piece)))
             (S.tree output) (S.tree_quirks output)) }
