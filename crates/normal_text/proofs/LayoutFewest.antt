@@ -1,12 +1,17 @@
 -- The fullest layout has the fewest lines and is the only one; a letter wider than the width has no layout.
-use Rattle.std.proofs.Common.{◌≡◌, ℕ, suc, ◌+◌, ◌<◌, ◌≤◌, ◌⊎◌, inl, inr, Bool, true, false, List, [], ◌∷◌, ◌++◌, length, All, refl, sym, ap, subst, ◌∙◌, arith, le_antisymm, length-append, ⊎_elim, Some, None, unwrap_or}
+use Rattle.std.proofs.Common.{◌≡◌, ℕ, suc, ◌+◌, ◌<◌, ◌≤◌, ◌⊎◌, inl, inr, Bool, true, false, List, [], ◌∷◌, ◌++◌, length}
+use Rattle.std.proofs.Common.{All, refl, sym, ap, subst, ◌∙◌, arith, le_antisymm, length-append, ⊎_elim, Some, None}
+use Rattle.std.proofs.Common.{unwrap_or}
 use Rattle.std.specs.List.{AllByRecursion}
 use Rattle.std.proofs.lemmas.List.Elements.{All-from_recursion, recursion_from_All}
 use Rattle.std.proofs.lemmas.List.Sums.{sum_by-cons}
 use Rattle.tagged_lines.specs.Columns.{width_of, columns_of-one, text_columns}
 use Rattle.tagged_lines.specs.Tagged.{Item, character, characters}
-use Rattle.normal_text.specs.Layout.{Joint, Mark, opens, starts, inside, cuttable, gap, gap_items, following_items, marks_items, following_columns, columns, IsLine, IsAllowed, IsLayout, IsFullest, HasNoLayout, joined_lines}
-use Rattle.normal_text.proofs.LayoutSplits.{IsLonger, IsWithin, longer_or_within, same_fronts, following_columns-append, Follow, run_from_allowed, CanBegin, lines_begin}
+use Rattle.normal_text.specs.Layout.{Joint, Mark, opens, starts, inside, cuttable, gap, gap_items, following_items}
+use Rattle.normal_text.specs.Layout.{marks_items, following_columns, columns, IsLine, IsAllowed, IsLayout, IsFullest}
+use Rattle.normal_text.specs.Layout.{HasNoLayout, joined_lines}
+use Rattle.normal_text.proofs.LayoutSplits.{IsLonger, IsWithin, longer_or_within, same_fronts, following_columns-append}
+use Rattle.normal_text.proofs.LayoutSplits.{Follow, run_from_allowed, CanBegin, lines_begin}
 
 -- ---- what is left of a layout
 

@@ -1,5 +1,7 @@
 -- Filling unit by unit gives the fullest layout.
-use Rattle.std.proofs.Common.{◌≡◌, ℕ, ◌<◌, ◌≤◌, ◌⊎◌, inl, inr, Bool, true, false, IsTrue, List, [], ◌∷◌, ◌++◌, map, flat_map, fold, All, get_or, leb, if◌then◌else◌, refl, sym, ap, subst, ◌∙◌, append_assoc, append-nil, arith}
+use Rattle.std.proofs.Common.{◌≡◌, ℕ, ◌<◌, ◌≤◌, ◌⊎◌, inl, inr, Bool, true, false, IsTrue, List, [], ◌∷◌, ◌++◌, map}
+use Rattle.std.proofs.Common.{flat_map, fold, All, get_or, leb, if◌then◌else◌, refl, sym, ap, subst, ◌∙◌, append_assoc}
+use Rattle.std.proofs.Common.{append-nil, arith}
 use Rattle.std.specs.Prelude.{Option}
 use Rattle.std.specs.List.{AllByRecursion}
 use Rattle.std.proofs.lemmas.Bool.{cond_both}
@@ -8,10 +10,12 @@ use Rattle.std.proofs.lemmas.Bool.Decides.{nat_tests}
 use Rattle.tagged_lines.specs.Columns.{width_of}
 use Rattle.normal_text.specs.Units.{Letter, Piece, has_letters, letters_columns}
 use Rattle.text_pieces.specs.Sources.{is_filled}
-use Rattle.normal_text.specs.Layout.{Mark, mark, marked, opens, starts, inside, cuttable, can_start, following_columns, columns, unit_marks, IsAllowed, IsFullest, joined_lines}
+use Rattle.normal_text.specs.Layout.{Mark, mark, marked, opens, starts, inside, cuttable, can_start, following_columns}
+use Rattle.normal_text.specs.Layout.{columns, unit_marks, IsAllowed, IsFullest, joined_lines}
 use Rattle.normal_text.specs.Greedy.{Filled, filled, ended, all_lines, add_marks, add_mark, add_unit, add_units}
 use Rattle.normal_text.proofs.LayoutSplits.{Follow, run_more, run_from_allowed, allowed_from_run, joined-append}
-use Rattle.normal_text.proofs.LayoutFullest.{IsBest, AreBest, AllInside, best_last, best_before, best_before_starts, AreBest-push, fullest_from_best}
+use Rattle.normal_text.proofs.LayoutFullest.{IsBest, AreBest, AllInside, best_last, best_before, best_before_starts}
+use Rattle.normal_text.proofs.LayoutFullest.{AreBest-push, fullest_from_best}
 
 -- The state holds the marks `ms`, and its lines are the best whatever comes.
 pub record IsFilledWith {S : Type 0} (w : ℕ) (o : Bool) (ms : List (Mark S)) (f : Filled S) : Type 0 where

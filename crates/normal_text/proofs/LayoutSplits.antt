@@ -1,9 +1,11 @@
 -- Two ways to cut a list, and what more letters do to a line.
-use Rattle.std.proofs.Common.{◌≡◌, ℕ, ◌+◌, ◌≤◌, ◌⊎◌, inl, inr, Bool, true, false, IsTrue, List, [], ◌∷◌, ◌++◌, length, refl, ap, ◌∙◌, arith, length-append}
+use Rattle.std.proofs.Common.{◌≡◌, ℕ, ◌+◌, ◌≤◌, ◌⊎◌, inl, inr, Bool, true, false, IsTrue, List, [], ◌∷◌, ◌++◌, length}
+use Rattle.std.proofs.Common.{refl, ap, ◌∙◌, arith, length-append}
 use Rattle.std.specs.List.{AllByRecursion}
 use Rattle.std.proofs.lemmas.List.Elements.{All-from_recursion, recursion_from_All}
 use Rattle.std.proofs.lemmas.Grind.{flat_map-append}
-use Rattle.normal_text.specs.Layout.{Mark, can_start, can_follow, following_columns, columns, IsLine, IsOverflow, IsAllowed, joined_lines}
+use Rattle.normal_text.specs.Layout.{Mark, can_start, can_follow, following_columns, columns, IsLine, IsOverflow}
+use Rattle.normal_text.specs.Layout.{IsAllowed, joined_lines}
 
 -- ---- two fronts of one list
 

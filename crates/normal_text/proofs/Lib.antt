@@ -6,6 +6,9 @@ pub mod NormalRuns
 pub mod NormalWords
 pub mod SpacedLemmas
 pub mod SpacedLaying
+pub mod SpacedEnds
+pub mod SpacedMoved
+pub mod EndedText
 pub mod LayoutFewest
 pub mod LayoutFilling
 pub mod LayoutFullest

@@ -1,5 +1,6 @@
 -- No marker of normal text is lost.
-use Rattle.std.proofs.Common.{◌≡◌, ℕ, Bool, true, false, not, ◌&&◌, nat_le, List, [], ◌∷◌, ◌++◌, map, flat_map, sym, ap, ◌∙◌, refl, subst, append-nil, append_assoc, None, Some, inl}
+use Rattle.std.proofs.Common.{◌≡◌, ℕ, Bool, true, false, not, ◌&&◌, nat_le, List, [], ◌∷◌, ◌++◌, map, flat_map, sym, ap}
+use Rattle.std.proofs.Common.{◌∙◌, refl, subst, append-nil, append_assoc, None, Some, inl}
 use Rattle.std.specs.Prelude.{Option, fold, filter, is_some, cond, if◌then◌else◌}
 use Rattle.std.proofs.lemmas.Bool.{false≢true}
 use Rattle.unicode_width.proofs.Computing.{unicode_width}
@@ -9,10 +10,14 @@ use Rattle.text_pieces.specs.Sources.{Source, letter, fragment, is_break_point, 
 use Rattle.text_pieces.specs.Sources.{names_of}
 use Rattle.text_pieces.specs.Items.{has_text, markers_of}
 use Rattle.text_pieces.proofs.ElementLemmas.{markers_of-append}
-use Rattle.normal_text.specs.Units.{Letter, Piece, piece, units, pieces_after, with_front, space_of, first_of, joining, joined, has_columns, has_letters, letters_columns}
-use Rattle.normal_text.specs.Layout.{Joint, opens, starts, inside, cuttable, Mark, mark, marked, unit_marks, gap_items, following_items, marks_items, joined_lines}
+use Rattle.normal_text.specs.Units.{Letter, Piece, piece, units, pieces_after, with_front, space_of, first_of, joining}
+use Rattle.normal_text.specs.Units.{joined, has_columns, has_letters, letters_columns}
+use Rattle.normal_text.specs.Layout.{Joint, opens, starts, inside, cuttable, Mark, mark, marked, unit_marks, gap_items}
+use Rattle.normal_text.specs.Layout.{following_items, marks_items, joined_lines}
 use Rattle.normal_text.specs.Greedy.{all_lines, add_units}
-use Rattle.normal_text.specs.Riders.{Rider, plain, note, ride, plain_letter, Carried, nothing_carried, carried, carry, is_carrier, in_word_at, shown_item, shown_lines, settled_lines, settled_rest, normal_lines, normal_waiting}
+use Rattle.normal_text.specs.Riders.{Rider, plain, note, ride, plain_letter, Carried, nothing_carried, carried, carry}
+use Rattle.normal_text.specs.Riders.{is_carrier, in_word_at, shown_item, shown_lines, settled_lines, settled_rest}
+use Rattle.normal_text.specs.Riders.{normal_lines, normal_waiting}
 use Rattle.normal_text.proofs.LayoutFilling.{filled_is_fullest, letters_there}
 use Rattle.normal_text.proofs.UnitsLetters.{stands, letters_of, units_letters, units_have_letters}
 

@@ -1,5 +1,7 @@
 -- Markers put among the letters of a text: what is carried of it.
-use Rattle.std.proofs.Common.{◌≡◌, ℕ, ◌+◌, ◌<◌, Bool, true, false, not, ◌&&◌, ◌||◌, nat_lt, List, [], ◌∷◌, ◌++◌, map, length, take, get_or, sym, ap, ◌∙◌, refl, subst, append_assoc, append-nil, arith, String, Global, add-one}
+use Rattle.std.proofs.Common.{◌≡◌, ℕ, ◌+◌, ◌<◌, Bool, true, false, not, ◌&&◌, ◌||◌, nat_lt, List, [], ◌∷◌, ◌++◌, map}
+use Rattle.std.proofs.Common.{length, take, get_or, sym, ap, ◌∙◌, refl, subst, append_assoc, append-nil, arith, String}
+use Rattle.std.proofs.Common.{Global, add-one}
 use Rattle.std.specs.Prelude.{All, fold, string_bytes, if◌then◌else◌}
 use Rattle.std.specs.Str.{chars}
 use Rattle.std.proofs.lemmas.Bool.Decides.{nat_tests}
@@ -12,9 +14,11 @@ use Rattle.tagged_lines.specs.Columns.{columns_of, width_of}
 use Rattle.text_pieces.specs.Sources.{names, Source, letter, fragment, sourced, is_break_point}
 use Rattle.normal_text.specs.Units.{Letter, lettered}
 use Rattle.normal_text.specs.NormalStates.{HasRead, HasWider}
-use Rattle.normal_text.specs.Riders.{Rider, plain, ride, plain_letter, Carried, carry, is_carrier, in_word_at, has_wide_text}
+use Rattle.normal_text.specs.Riders.{Rider, plain, ride, plain_letter, Carried, carry, is_carrier, in_word_at}
+use Rattle.normal_text.specs.Riders.{has_wide_text}
 use Rattle.normal_text.specs.MarkedTags.{tag_seen}
-use Rattle.normal_text.specs.MarkedStates.{HoldsLetters, Carries, CarriesOn, MeetsWide, AddsWords, MeetsWideWord, BeginsWord, words_letters, words_waiting, in_word_behind}
+use Rattle.normal_text.specs.MarkedStates.{HoldsLetters, Carries, CarriesOn, MeetsWide, AddsWords, MeetsWideWord}
+use Rattle.normal_text.specs.MarkedStates.{BeginsWord, words_letters, words_waiting, in_word_behind}
 use Rattle.normal_text.specs.declared.marked.MarkedText.{MarkedText}
 use Rattle.normal_text.specs.declared.marked_tag.MarkedTag.{MarkedTag}
 use Rattle.normal_text.specs.declared.normal.NormalText.{NormalText}

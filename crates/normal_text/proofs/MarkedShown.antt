@@ -1,5 +1,6 @@
 -- Each character of normal text that is shown stands on its lines once, in order.
-use Rattle.std.proofs.Common.{◌≡◌, ℕ, Bool, true, false, not, ◌&&◌, List, [], ◌∷◌, ◌++◌, map, flat_map, filter, is_some, cond, sym, ap, ◌∙◌, refl, append-nil, append_assoc, Some, None, inl}
+use Rattle.std.proofs.Common.{◌≡◌, ℕ, Bool, true, false, not, ◌&&◌, List, [], ◌∷◌, ◌++◌, map, flat_map, filter, is_some}
+use Rattle.std.proofs.Common.{cond, sym, ap, ◌∙◌, refl, append-nil, append_assoc, Some, None, inl}
 use Rattle.std.specs.Prelude.{fold, if◌then◌else◌}
 use Rattle.std.proofs.lemmas.Bool.{cond-false}
 use Rattle.std.proofs.lemmas.List.Elements.{filter-append}
@@ -9,10 +10,12 @@ use Rattle.text_pieces.specs.Sources.{Source, letter, fragment, is_break_point}
 use Rattle.text_pieces.specs.Items.{has_text}
 use Rattle.text_pieces.proofs.ItemColumns.{characters-append, no_characters}
 use Rattle.normal_text.specs.Units.{Letter, units}
-use Rattle.normal_text.specs.Layout.{Joint, opens, starts, inside, cuttable, Mark, unit_marks, gap_items, following_items, marks_items, joined_lines}
+use Rattle.normal_text.specs.Layout.{Joint, opens, starts, inside, cuttable, Mark, unit_marks, gap_items}
+use Rattle.normal_text.specs.Layout.{following_items, marks_items, joined_lines}
 use Rattle.normal_text.specs.Greedy.{all_lines, add_units}
 use Rattle.normal_text.specs.Letters.{is_shown, codes_of}
-use Rattle.normal_text.specs.Riders.{Rider, plain, note, ride, plain_letter, Carried, nothing_carried, carried, carry, is_carrier, in_word_at, shown_item, shown_lines, settled_lines, normal_lines}
+use Rattle.normal_text.specs.Riders.{Rider, plain, note, ride, plain_letter, Carried, nothing_carried, carried, carry}
+use Rattle.normal_text.specs.Riders.{is_carrier, in_word_at, shown_item, shown_lines, settled_lines, normal_lines}
 use Rattle.normal_text.proofs.LayoutFilling.{filled_is_fullest, letters_there}
 use Rattle.normal_text.proofs.UnitsLetters.{stands, units_letters, units_have_letters}
 use Rattle.normal_text.proofs.MarkedKept.{letters_in, letters_in-append, units_marked}

@@ -1,5 +1,6 @@
 -- Lines of normal text with its markers keep the width.
-use Rattle.std.proofs.Common.{◌≡◌, ℕ, ◌≤◌, Bool, true, false, not, ◌&&◌, ◌||◌, nat_le, nat_lt, List, [], ◌∷◌, ◌++◌, map, ap, ◌∙◌, refl, subst, arith}
+use Rattle.std.proofs.Common.{◌≡◌, ℕ, ◌≤◌, Bool, true, false, not, ◌&&◌, ◌||◌, nat_le, nat_lt, List, [], ◌∷◌, ◌++◌, map}
+use Rattle.std.proofs.Common.{ap, ◌∙◌, refl, subst, arith}
 use Rattle.std.specs.Prelude.{All, IsTrue, fold, if◌then◌else◌}
 use Rattle.std.proofs.lemmas.Bool.Decides.{nat_tests}
 use Rattle.std.proofs.lemmas.List.Elements.{All-nil, All-cons, All-head, All-tail, All-append}
@@ -12,7 +13,9 @@ use Rattle.normal_text.specs.Units.{Letter, units}
 use Rattle.normal_text.specs.Layout.{marks_items}
 use Rattle.normal_text.specs.Greedy.{all_lines, add_units}
 use Rattle.normal_text.specs.NormalStates.{AllHaveRoom, has_room}
-use Rattle.normal_text.specs.Riders.{Rider, plain, note, ride, plain_letter, Carried, nothing_carried, carried, carry, is_carrier, in_word_at, shown_item, shown_lines, settled_lines, normal_lines, has_wide_text}
+use Rattle.normal_text.specs.Riders.{Rider, plain, note, ride, plain_letter, Carried, nothing_carried, carried, carry}
+use Rattle.normal_text.specs.Riders.{is_carrier, in_word_at, shown_item, shown_lines, settled_lines, normal_lines}
+use Rattle.normal_text.specs.Riders.{has_wide_text}
 use Rattle.normal_text.proofs.UnitsReading.{read_is_units}
 use Rattle.normal_text.proofs.NormalFinal.{lines_are, lines_within}
 use Rattle.normal_text.proofs.MarkedLemmas.{no_width}

@@ -1,5 +1,7 @@
 -- Markers change no line: line by line, the characters are those of the text without its markers.
-use Rattle.std.proofs.Common.{◌≡◌, ◌⊎◌, ℕ, ◌+◌, ◌≤◌, Bool, true, false, not, ◌&&◌, ◌||◌, nat_le, nat_lt, List, [], ◌∷◌, ◌++◌, map, filter, is_some, cond, sym, ap, subst, ◌∙◌, refl, append-nil, append_assoc, None, inl, inr, arith}
+use Rattle.std.proofs.Common.{◌≡◌, ◌⊎◌, ℕ, ◌+◌, ◌≤◌, Bool, true, false, not, ◌&&◌, ◌||◌, nat_le, nat_lt, List, [], ◌∷◌}
+use Rattle.std.proofs.Common.{◌++◌, map, filter, is_some, cond, sym, ap, subst, ◌∙◌, refl, append-nil, append_assoc}
+use Rattle.std.proofs.Common.{None, inl, inr, arith}
 use Rattle.std.specs.Prelude.{Option, All, IsTrue, fold, if◌then◌else◌}
 use Rattle.std.proofs.lemmas.Bool.{false≢true}
 use Rattle.std.proofs.lemmas.Bool.Decides.{nat_tests}
@@ -8,11 +10,13 @@ use Rattle.tagged_lines.specs.Columns.{columns_of, width_of}
 use Rattle.tagged_lines.specs.Tagged.{Item, character, marker, characters}
 use Rattle.text_pieces.specs.Sources.{Source, letter, fragment, is_break_point, is_filled}
 use Rattle.text_pieces.specs.Items.{has_text}
-use Rattle.normal_text.specs.Units.{Letter, Piece, piece, units, has_columns, with_front, space_of, first_of, pieces_after, joining, joined, has_letters}
+use Rattle.normal_text.specs.Units.{Letter, Piece, piece, units, has_columns, with_front, space_of, first_of}
+use Rattle.normal_text.specs.Units.{pieces_after, joining, joined, has_letters}
 use Rattle.normal_text.specs.Layout.{IsAllowed, Mark, marks_items}
 use Rattle.normal_text.specs.Greedy.{all_lines, add_units}
 use Rattle.normal_text.specs.Letters.{letters_of as source_letters, texts_of}
-use Rattle.normal_text.specs.Riders.{Rider, plain, note, ride, plain_letter, nothing_carried, carry, is_carrier, in_word_at, shown_item, shown_lines, settled_lines, normal_lines, has_wide_text}
+use Rattle.normal_text.specs.Riders.{Rider, plain, note, ride, plain_letter, nothing_carried, carry, is_carrier}
+use Rattle.normal_text.specs.Riders.{in_word_at, shown_item, shown_lines, settled_lines, normal_lines, has_wide_text}
 use Rattle.normal_text.proofs.UnitsReading.{pieces_after-filled, pieces_after-letter, pieces_after-break}
 use Rattle.normal_text.proofs.NormalFinal.{letters_fit, units_fit}
 use Rattle.normal_text.proofs.MarkedWidth.{carried_room}

@@ -1,22 +1,27 @@
 -- The lines of the code are those of the filling functions.
-use Rattle.std.proofs.Common.{◌≡◌, ℕ, ◌+◌, ◌<◌, ◌≤◌, Bool, true, false, nat_le, List, [], ◌∷◌, ◌++◌, map, fold, length, get_or, take, sym, ap, ◌∙◌, refl, subst, append_assoc, arith}
+use Rattle.std.proofs.Common.{◌≡◌, ℕ, ◌+◌, ◌<◌, ◌≤◌, Bool, true, false, nat_le, List, [], ◌∷◌, ◌++◌, map, fold, length}
+use Rattle.std.proofs.Common.{get_or, take, sym, ap, ◌∙◌, refl, subst, append_assoc, arith}
 use Rattle.std.specs.Prelude.{Option, All, if◌then◌else◌}
 use Rattle.std.proofs.lemmas.List.{append-nil, map-append}
 use Rattle.std.proofs.lemmas.List.Elements.{All-push}
 use Rattle.std.proofs.lemmas.List.Sums.{fold-append}
 use Rattle.std.proofs.lemmas.Bool.Decides.{nat_tests}
 use Rattle.tagged_lines.specs.Columns.{width_of}
-use Rattle.tagged_lines.specs.Tagged.{Item, character, marker, line_items, line_columns, tagged, element_items, elements_items, IsJoined}
+use Rattle.tagged_lines.specs.Tagged.{Item, character, marker, line_items, line_columns, tagged, element_items}
+use Rattle.tagged_lines.specs.Tagged.{elements_items, IsJoined}
 use Rattle.tagged_lines.specs.declared.tagged_string.TaggedLineElement.{TaggedLineElement}
 use Rattle.tagged_lines.specs.declared.tagged_line.TaggedLine.{TaggedLine}
 use Rattle.tagged_lines.proofs.Joins.{elements_items-append}
 use Rattle.normal_text.specs.Units.{Letter, letters_columns}
-use Rattle.normal_text.specs.Layout.{Mark, opens, starts, inside, cuttable, marked, gap, columns, following_columns, marks_items}
+use Rattle.normal_text.specs.Layout.{Mark, opens, starts, inside, cuttable, marked, gap, columns, following_columns}
+use Rattle.normal_text.specs.Layout.{marks_items}
 use Rattle.normal_text.specs.Greedy.{Filled, filled, ended, all_lines, add_marks, add_mark}
-use Rattle.normal_text.specs.NormalStates.{HoldsLines, Lays, LaysUnit, LaysWhole, LaysCut, Cuts, ShowsAs, AreGapless, letter_items, space_columns, space_behind, with_room}
+use Rattle.normal_text.specs.NormalStates.{HoldsLines, Lays, LaysUnit, LaysWhole, LaysCut, Cuts, ShowsAs, AreGapless}
+use Rattle.normal_text.specs.NormalStates.{letter_items, space_columns, space_behind, with_room}
 use Rattle.normal_text.specs.declared.filling.Filling.{Filling}
 use Rattle.text_pieces.proofs.ElementLemmas.{next_taken}
-use Rattle.normal_text.proofs.NormalItems.{marks_counted, letters_counted, behind_items, items_behind, columns_behind, unit_columns, unit_items, lone_items, lone_columns, cut_shows}
+use Rattle.normal_text.proofs.NormalItems.{marks_counted, letters_counted, behind_items, items_behind, columns_behind}
+use Rattle.normal_text.proofs.NormalItems.{unit_columns, unit_items, lone_items, lone_columns, cut_shows}
 
 pub if_true : {A : Type 0} (b : Bool) (x y : A) → b ≡ true → (if b then x else y) ≡ x
 if_true true x y h = refl

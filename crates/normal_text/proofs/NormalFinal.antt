@@ -1,5 +1,6 @@
 -- What a block makes of what was read is the fullest layout, and what it refuses has none.
-use Rattle.std.proofs.Common.{◌≡◌, ℕ, ◌≤◌, ◌⊎◌, Bool, true, false, nat_le, ◌||◌, List, ◌++◌, map, get_or, inl, inr, sym, ap, ◌∙◌, refl, subst, append_assoc, arith}
+use Rattle.std.proofs.Common.{◌≡◌, ℕ, ◌≤◌, ◌⊎◌, Bool, true, false, nat_le, ◌||◌, List, ◌++◌, map, get_or, inl, inr, sym}
+use Rattle.std.proofs.Common.{ap, ◌∙◌, refl, subst, append_assoc, arith}
 use Rattle.std.specs.Prelude.{Result, Ok, Err, IfOk, All}
 use Rattle.std.proofs.lemmas.Bool.Decides.{nat_tests}
 use Rattle.tagged_lines.specs.Columns.{width_of}

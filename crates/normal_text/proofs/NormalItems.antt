@@ -5,7 +5,8 @@ use Rattle.std.proofs.lemmas.List.Sums.{sum_by-cons}
 use Rattle.tagged_lines.specs.Columns.{columns_of, text_columns, width_of, columns_of-one}
 use Rattle.tagged_lines.specs.Tagged.{Item, character, characters, line_columns, tagged}
 use Rattle.normal_text.specs.Units.{Letter, letters_columns}
-use Rattle.normal_text.specs.Layout.{Mark, Joint, mark, opens, starts, inside, cuttable, marked, gap, columns, following_columns, gap_items, following_items, marks_items}
+use Rattle.normal_text.specs.Layout.{Mark, Joint, mark, opens, starts, inside, cuttable, marked, gap, columns}
+use Rattle.normal_text.specs.Layout.{following_columns, gap_items, following_items, marks_items}
 use Rattle.normal_text.specs.NormalStates.{letter_items, space_columns, space_behind, AreGapless, ShowsAs}
 
 -- ---- columns

@@ -1,5 +1,6 @@
 -- What a block holds follows from what was read.
-use Rattle.std.proofs.Common.{◌≡◌, ℕ, ◌+◌, ◌<◌, Bool, true, false, nat_le, nat_lt, ◌||◌, List, [], ◌∷◌, ◌++◌, length, get_or, take, drop, sym, ap, ◌∙◌, refl, subst, append_assoc, arith}
+use Rattle.std.proofs.Common.{◌≡◌, ℕ, ◌+◌, ◌<◌, Bool, true, false, nat_le, nat_lt, ◌||◌, List, [], ◌∷◌, ◌++◌, length}
+use Rattle.std.proofs.Common.{get_or, take, drop, sym, ap, ◌∙◌, refl, subst, append_assoc, arith}
 use Rattle.std.specs.Prelude.{Result, Ok, Err, OnOk, Option, None, Some, is_some, unwrap_or, if◌then◌else◌, IsTrue}
 use Rattle.std.specs.Option.{option_map}
 use Rattle.std.proofs.lemmas.List.{map-append, take-append-drop, drop_more}
@@ -8,11 +9,13 @@ use Rattle.std.proofs.lemmas.List.Sums.{fold-append}
 use Rattle.std.proofs.lemmas.Bool.Decides.{nat_tests}
 use Rattle.tagged_lines.specs.Columns.{columns_of, width_of}
 use Rattle.tagged_lines.specs.Tagged.{Item, line_items, line_columns}
-use Rattle.normal_text.specs.Units.{Letter, piece, lettered, letters_columns, has_columns, is_break_point, space_of, first_of}
+use Rattle.normal_text.specs.Units.{Letter, piece, lettered, letters_columns, has_columns, is_break_point, space_of}
+use Rattle.normal_text.specs.Units.{first_of}
 use Rattle.text_pieces.specs.Sources.{is_filled}
 use Rattle.normal_text.specs.Greedy.{Filled, add_unit}
 use Rattle.normal_text.specs.Filling.{Reading, reading, read_letter, read_letters, nothing_read, last_filled}
-use Rattle.normal_text.specs.NormalStates.{HoldsLines, LaysUnit, HoldsReading, Moves, Reads, MeetsWider, HasRead, HasWider, AllHaveRoom, has_room, word_read, space_read, end_read, lay_read}
+use Rattle.normal_text.specs.NormalStates.{HoldsLines, LaysUnit, HoldsReading, Moves, Reads, MeetsWider, HasRead}
+use Rattle.normal_text.specs.NormalStates.{HasWider, AllHaveRoom, has_room, word_read, space_read, end_read, lay_read}
 use Rattle.normal_text.specs.declared.normal.NormalText.{NormalText}
 use Rattle.normal_text.proofs.NormalItems.{letters_counted}
 use Rattle.text_pieces.proofs.ElementLemmas.{next_taken}
@@ -99,7 +102,7 @@ or_left : (b c : Bool) → b ≡ true → (b || c) ≡ true
 or_left true c h = refl
 or_left false c h = cc
 
-or_right : (b c : Bool) → c ≡ true → (b || c) ≡ true
+pub or_right : (b c : Bool) → c ≡ true → (b || c) ≡ true
 or_right true c h = refl
 or_right false c h = h
 

@@ -1,5 +1,6 @@
 -- Characters of a word that are added all at once.
-use Rattle.std.proofs.Common.{◌≡◌, ℕ, Bool, true, false, nat_le, ◌||◌, List, [], ◌∷◌, ◌++◌, sym, ap, ◌∙◌, refl, subst, append_assoc, chars, encode_utf8, ◌≤◌, inr, arith}
+use Rattle.std.proofs.Common.{◌≡◌, ℕ, Bool, true, false, nat_le, ◌||◌, List, [], ◌∷◌, ◌++◌, sym, ap, ◌∙◌, refl, subst}
+use Rattle.std.proofs.Common.{append_assoc, chars, encode_utf8, ◌≤◌, inr, arith}
 use Rattle.std.specs.Prelude.{Some, is_some, IsTrue, All}
 use Rattle.std.specs.Option.{option_map}
 use Rattle.std.specs.Char.{IsScalar}
@@ -12,7 +13,8 @@ use Rattle.tagged_lines.specs.Columns.{columns_of, columns_of-one, width_of}
 use Rattle.tagged_lines.specs.Tagged.{line_items, tagged, character}
 use Rattle.normal_text.specs.Units.{Letter, lettered, is_break_point}
 use Rattle.normal_text.specs.Filling.{Reading, reading, read_letters}
-use Rattle.normal_text.specs.NormalStates.{HoldsLines, HoldsReading, Reads, AllHaveRoom, has_room, letter_items, JoinsWord, RunsTo}
+use Rattle.normal_text.specs.NormalStates.{HoldsLines, HoldsReading, Reads, AllHaveRoom, has_room, letter_items}
+use Rattle.normal_text.specs.NormalStates.{JoinsWord, RunsTo}
 use Rattle.normal_text.specs.declared.normal.NormalText.{NormalText}
 use Rattle.normal_text.proofs.NormalReading.{other_same, or_skips, width_read}
 
@@ -51,7 +53,7 @@ joins_word block code n fits no_break columns_are fits_is holds =
           ∙ sym fits_is ∙ holds;
     }
 
-no_break_point : (c : ℕ) → 0x21 ≤ c → c ≤ 0x7E → is_break_point c ≡ false
+pub no_break_point : (c : ℕ) → 0x21 ≤ c → c ≤ 0x7E → is_break_point c ≡ false
 no_break_point c low high = grind (arith, nat_tests)
 
 -- visible ASCII is no break point, and has one column

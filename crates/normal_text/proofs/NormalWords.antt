@@ -1,5 +1,6 @@
 -- Whole words that are laid without being held, and texts read front by front.
-use Rattle.std.proofs.Common.{◌≡◌, ◌≢◌, ℕ, ◌+◌, ◌<◌, ◌≤◌, Bool, true, List, [], ◌∷◌, ◌++◌, length, sym, ap, ◌∙◌, refl, subst, append_assoc, append-nil, chars, IsUtf8, encode_utf8, arith}
+use Rattle.std.proofs.Common.{◌≡◌, ◌≢◌, ℕ, ◌+◌, ◌<◌, ◌≤◌, Bool, true, List, [], ◌∷◌, ◌++◌, length, sym, ap, ◌∙◌, refl}
+use Rattle.std.proofs.Common.{subst, append_assoc, append-nil, chars, IsUtf8, encode_utf8, arith}
 use Rattle.std.specs.Prelude.{Option, None, Some, is_some, IsTrue, All, if◌then◌else◌}
 use Rattle.std.specs.Option.{option_map}
 use Rattle.std.proofs.lemmas.List.{map-append, length-append}
@@ -8,10 +9,13 @@ use Rattle.std.proofs.lemmas.List.Sums.{fold-append, sum_by-cons}
 use Rattle.std.proofs.lemmas.Str.{chars-nil, chars_past_char}
 use Rattle.tagged_lines.specs.Columns.{columns_of, text_columns, width_of}
 use Rattle.tagged_lines.specs.Tagged.{line_items, tagged}
-use Rattle.normal_text.specs.Units.{Letter, piece, lettered, letters_columns, has_columns, is_break_point, is_white_space, space_of, first_of}
+use Rattle.normal_text.specs.Units.{Letter, piece, lettered, letters_columns, has_columns, is_break_point}
+use Rattle.normal_text.specs.Units.{is_white_space, space_of, first_of}
 use Rattle.normal_text.specs.Greedy.{Filled, add_unit}
 use Rattle.normal_text.specs.Filling.{Reading, reading, read_letter, read_letters}
-use Rattle.normal_text.specs.NormalStates.{HoldsLines, LaysUnit, HoldsReading, Moves, Reads, MeetsWider, AllHaveRoom, has_room, letter_items, JoinsWord, RunsTo, ReadsFront, ReadsRun, EndsWord, LaysWord, space_read}
+use Rattle.normal_text.specs.NormalStates.{HoldsLines, LaysUnit, HoldsReading, Moves, Reads, MeetsWider, AllHaveRoom}
+use Rattle.normal_text.specs.NormalStates.{has_room, letter_items, JoinsWord, RunsTo, ReadsFront, ReadsRun, EndsWord}
+use Rattle.normal_text.specs.NormalStates.{LaysWord, space_read}
 use Rattle.normal_text.specs.declared.normal.NormalText.{NormalText}
 use Rattle.normal_text.proofs.NormalFilling.{if_true}
 use Rattle.normal_text.proofs.NormalReading.{positive, break_room, reads_nothing, reads_more, wider_within}

@@ -1,5 +1,6 @@
 -- Lines without the notes: unit by unit, the letters that are no notes are filled as if the notes were none.
-use Rattle.std.proofs.Common.{◌≡◌, ℕ, ◌+◌, ◌≤◌, Bool, true, false, nat_le, List, [], ◌∷◌, ◌++◌, map, sym, ap, subst, ◌∙◌, refl, append-nil, append_assoc, arith}
+use Rattle.std.proofs.Common.{◌≡◌, ℕ, ◌+◌, ◌≤◌, Bool, true, false, nat_le, List, [], ◌∷◌, ◌++◌, map, sym, ap, subst}
+use Rattle.std.proofs.Common.{◌∙◌, refl, append-nil, append_assoc, arith}
 use Rattle.std.specs.Prelude.{Option, All, fold, if◌then◌else◌}
 use Rattle.std.proofs.lemmas.Bool.{false≢true}
 use Rattle.std.proofs.lemmas.Bool.Decides.{nat_tests}
@@ -10,7 +11,8 @@ use Rattle.tagged_lines.specs.Tagged.{Item, character, characters}
 use Rattle.text_pieces.specs.Sources.{is_filled}
 use Rattle.text_pieces.proofs.ItemColumns.{characters-append}
 use Rattle.normal_text.specs.Units.{Letter, Piece, piece, letters_columns}
-use Rattle.normal_text.specs.Layout.{Joint, opens, starts, inside, cuttable, Mark, mark, marked, gap, following_columns, columns, gap_items, following_items, marks_items}
+use Rattle.normal_text.specs.Layout.{Joint, opens, starts, inside, cuttable, Mark, mark, marked, gap, following_columns}
+use Rattle.normal_text.specs.Layout.{columns, gap_items, following_items, marks_items}
 use Rattle.normal_text.specs.Greedy.{Filled, filled, ended, all_lines, add_marks, add_mark, add_unit, add_units}
 use Rattle.normal_text.specs.Riders.{Rider, plain, note, shown_item}
 use Rattle.normal_text.proofs.LayoutSplits.{following_columns-append}

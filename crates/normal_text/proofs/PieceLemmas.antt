@@ -1,5 +1,6 @@
 -- Pieces of a text, one after another.
-use Rattle.std.proofs.Common.{◌≡◌, ℕ, Bool, true, false, not, ◌&&◌, ◌||◌, nat_le, nat_lt, List, [], ◌∷◌, ◌++◌, map, sym, ap, ◌∙◌, refl, subst, append_assoc, append-nil, arith, length}
+use Rattle.std.proofs.Common.{◌≡◌, ℕ, Bool, true, false, not, ◌&&◌, ◌||◌, nat_le, nat_lt, List, [], ◌∷◌, ◌++◌, map, sym}
+use Rattle.std.proofs.Common.{ap, ◌∙◌, refl, subst, append_assoc, append-nil, arith, length}
 use Rattle.std.specs.Prelude.{Result, Ok, Err, OnOk, All, IsTrue, fold, if◌then◌else◌}
 use Rattle.std.proofs.lemmas.Bool.Decides.{nat_tests}
 use Rattle.std.proofs.lemmas.List.Elements.{All-nil, All-cons, All-head, All-tail}
@@ -13,7 +14,8 @@ use Rattle.normal_text.specs.Units.{Letter, lettered, units}
 use Rattle.normal_text.specs.Layout.{Mark, marks_items, IsAllowed}
 use Rattle.normal_text.specs.Greedy.{all_lines, add_units}
 use Rattle.normal_text.specs.NormalStates.{HasRead, AllHaveRoom, has_room}
-use Rattle.normal_text.specs.Riders.{Rider, plain_letter, ride, Carried, carry, carried, nothing_carried, is_carrier, settled_rest, shown_lines, normal_waiting, has_wide_text}
+use Rattle.normal_text.specs.Riders.{Rider, plain_letter, ride, Carried, carry, carried, nothing_carried, is_carrier}
+use Rattle.normal_text.specs.Riders.{settled_rest, shown_lines, normal_waiting, has_wide_text}
 use Rattle.normal_text.specs.Letters.{letters_of, has_marker}
 use Rattle.normal_text.specs.MarkedStates.{Carries, CarriesOn, MeetsWide, CarriesFront, ReadsSources}
 use Rattle.normal_text.specs.declared.marked.MarkedText.{MarkedText}
@@ -206,7 +208,7 @@ no_sources seen (p ∷ ps) none = absurd (omega (arith, none))
 
 -- ---- room of what is carried
 
-all_parts : {X : Type 0} (P : X → Type 0) (xs ys : List X) → All P (xs ++ ys) → All P xs × All P ys
+pub all_parts : {X : Type 0} (P : X → Type 0) (xs ys : List X) → All P (xs ++ ys) → All P xs × All P ys
 all_parts P [] ys h = (All-nil P, h)
 all_parts P (x ∷ xs) ys h =
     let rest = all_parts P xs ys (All-tail P x (xs ++ ys) h) in

@@ -1,5 +1,6 @@
 -- Normal text without markers: its lines are those of its fullest layout.
-use Rattle.std.proofs.Common.{◌≡◌, ℕ, ◌<◌, ◌⊎◌, Bool, true, false, not, ◌&&◌, ◌||◌, nat_le, nat_lt, List, [], ◌∷◌, ◌++◌, map, inl, inr, sym, ap, ◌∙◌, refl, subst, append_assoc, append-nil, arith}
+use Rattle.std.proofs.Common.{◌≡◌, ℕ, ◌<◌, ◌⊎◌, Bool, true, false, not, ◌&&◌, ◌||◌, nat_le, nat_lt, List, [], ◌∷◌, ◌++◌}
+use Rattle.std.proofs.Common.{map, inl, inr, sym, ap, ◌∙◌, refl, subst, append_assoc, append-nil, arith}
 use Rattle.std.specs.Prelude.{All, IsTrue, fold, if◌then◌else◌}
 use Rattle.std.proofs.lemmas.Bool.Decides.{nat_tests}
 use Rattle.std.proofs.lemmas.List.Elements.{All-nil, All-cons, All-head, All-tail}
@@ -11,7 +12,8 @@ use Rattle.normal_text.specs.Units.{Letter, units}
 use Rattle.normal_text.specs.Layout.{Mark, marks_items, IsAllowed, AreLinesOf, NeverFits}
 use Rattle.normal_text.specs.Greedy.{all_lines, add_units}
 use Rattle.normal_text.specs.NormalStates.{AllHaveRoom, has_room, HasWider}
-use Rattle.normal_text.specs.Riders.{Rider, plain, Carried, carry, is_carrier, in_word_at, plain_letter, shown_item, shown_lines, settled_lines, normal_lines, has_wide_text}
+use Rattle.normal_text.specs.Riders.{Rider, plain, Carried, carry, is_carrier, in_word_at, plain_letter, shown_item}
+use Rattle.normal_text.specs.Riders.{shown_lines, settled_lines, normal_lines, has_wide_text}
 use Rattle.normal_text.specs.Letters.{letters_of, has_marker}
 use Rattle.normal_text.proofs.LayoutFilling.{filled_is_fullest, letters_there}
 use Rattle.normal_text.proofs.UnitsLetters.{units_have_letters}

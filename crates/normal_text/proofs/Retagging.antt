@@ -1,12 +1,15 @@
 -- Tags have no say in a layout: the same letters under other tags stand on the same lines.
-use Rattle.std.proofs.Common.{◌≡◌, ℕ, ◌+◌, Bool, true, false, nat_le, nat_lt, List, [], ◌∷◌, ◌++◌, map, sym, ap, ◌∙◌, refl}
+use Rattle.std.proofs.Common.{◌≡◌, ℕ, ◌+◌, Bool, true, false, nat_le, nat_lt, List, [], ◌∷◌, ◌++◌, map, sym, ap, ◌∙◌}
+use Rattle.std.proofs.Common.{refl}
 use Rattle.std.specs.Prelude.{Option, None, Some, is_some, fold, filter, if◌then◌else◌}
 use Rattle.std.specs.Option.{option_map}
 use Rattle.std.proofs.lemmas.List.{map-append}
 use Rattle.tagged_lines.specs.Columns.{columns_of, width_of}
 use Rattle.tagged_lines.specs.Tagged.{Item, character, marker}
-use Rattle.normal_text.specs.Units.{Letter, Piece, piece, letters_columns, has_columns, is_break_point, is_white_space, has_letters, with_front, space_of, first_of, pieces_after, joining, joined, units}
-use Rattle.normal_text.specs.Layout.{Joint, opens, starts, inside, cuttable, Mark, mark, marked, gap, following_columns, columns, gap_items, following_items, marks_items}
+use Rattle.normal_text.specs.Units.{Letter, Piece, piece, letters_columns, has_columns, is_break_point, is_white_space}
+use Rattle.normal_text.specs.Units.{has_letters, with_front, space_of, first_of, pieces_after, joining, joined, units}
+use Rattle.normal_text.specs.Layout.{Joint, opens, starts, inside, cuttable, Mark, mark, marked, gap, following_columns}
+use Rattle.normal_text.specs.Layout.{columns, gap_items, following_items, marks_items}
 use Rattle.normal_text.specs.Greedy.{Filled, filled, ended, all_lines, add_marks, add_mark, add_unit, add_units}
 
 abbrev pub retag : {A B : Type 0} → (A → B) → Letter A → Letter B

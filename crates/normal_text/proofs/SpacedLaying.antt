@@ -1,5 +1,7 @@
 -- Words behind single spaces: how they are read, and laid on a line at once.
-use Rattle.std.proofs.Common.{◌≡◌, ◌≢◌, ℕ, ◌+◌, ◌≤◌, Bool, true, false, ◌||◌, nat_le, List, [], ◌∷◌, ◌++◌, length, map, fold, sym, ap, ◌∙◌, refl, subst, append_assoc, append-nil, chars, IsUtf8, encode_utf8, inr, arith}
+use Rattle.std.proofs.Common.{◌≡◌, ◌≢◌, ℕ, ◌+◌, ◌≤◌, Bool, true, false, ◌||◌, nat_le, List, [], ◌∷◌, ◌++◌, length, map}
+use Rattle.std.proofs.Common.{fold, sym, ap, ◌∙◌, refl, subst, append_assoc, append-nil, chars, IsUtf8, encode_utf8}
+use Rattle.std.proofs.Common.{inr, arith}
 use Rattle.std.specs.Prelude.{Some, IsTrue, All}
 use Rattle.std.specs.Option.{option_map}
 use Rattle.std.proofs.lemmas.List.{length-append, map-append}
@@ -13,10 +15,12 @@ use Rattle.normal_text.specs.Units.{Letter, piece, lettered, letters_columns}
 use Rattle.normal_text.specs.Layout.{Mark, opens, inside, marked, columns, following_columns, following_items}
 use Rattle.normal_text.specs.Greedy.{Filled, filled, add_unit}
 use Rattle.normal_text.specs.Filling.{Reading, reading, read_letter, read_letters}
-use Rattle.normal_text.specs.NormalStates.{HoldsLines, Lays, LaysWords, TakesMore, word_pieces, HoldsReading, Moves, Reads, ReadsFront, AllHaveRoom, has_room, JoinsWord, AwaitsWord}
+use Rattle.normal_text.specs.NormalStates.{HoldsLines, Lays, LaysWords, TakesMore, word_pieces, HoldsReading, Moves}
+use Rattle.normal_text.specs.NormalStates.{Reads, ReadsFront, AllHaveRoom, has_room, JoinsWord, AwaitsWord}
 use Rattle.normal_text.specs.declared.filling.Filling.{Filling}
 use Rattle.normal_text.specs.declared.normal.NormalText.{NormalText}
-use Rattle.normal_text.proofs.NormalItems.{marks_counted, behind_items, columns_behind, unit_columns, unit_items, following_items-append}
+use Rattle.normal_text.proofs.NormalItems.{marks_counted, behind_items, columns_behind, unit_columns, unit_items}
+use Rattle.normal_text.proofs.NormalItems.{following_items-append}
 use Rattle.normal_text.proofs.NormalFilling.{if_true, below, pushed, holds_pushed}
 use Rattle.normal_text.proofs.NormalReading.{break_room, width_read}
 use Rattle.normal_text.proofs.NormalRuns.{visible_joins, run_room, lettered_items}
@@ -24,21 +28,21 @@ use Rattle.normal_text.proofs.NormalWords.{whole_read, lettered_columns, no_lett
 
 -- ---- columns of words
 
-visible_columns : (cs : List ℕ) → All IsVisible cs → text_columns cs ≡ length cs
+pub visible_columns : (cs : List ℕ) → All IsVisible cs → text_columns cs ≡ length cs
 visible_columns [] all = refl
 visible_columns (c ∷ cs) all =
     let head = All-head IsVisible c cs all in
     let one = width_read c 1 (columns_of-one c (inr (omega (arith, head.0), head.1))) in
     omega (arith, sum_by-cons width_of c cs, one, visible_columns cs (All-tail IsVisible c cs all))
 
-some_columns : (cs : List ℕ) → IsWord cs → text_columns cs ≢ 0
+pub some_columns : (cs : List ℕ) → IsWord cs → text_columns cs ≢ 0
 some_columns [] w none = w.some refl
 some_columns (c ∷ cs) w none = omega (arith, none, visible_columns (c ∷ cs) w.visible)
 
 space_columns : width_of 0x20 ≡ 1
 space_columns = width_read 0x20 1 (columns_of-one 0x20 (inr (omega arith, omega arith)))
 
-text_columns-append : (xs ys : List ℕ) → text_columns (xs ++ ys) ≡ text_columns xs + text_columns ys
+pub text_columns-append : (xs ys : List ℕ) → text_columns (xs ++ ys) ≡ text_columns xs + text_columns ys
 text_columns-append [] ys = omega arith
 text_columns-append (x ∷ xs) ys =
     omega (arith, sum_by-cons width_of x (xs ++ ys), sum_by-cons width_of x xs, text_columns-append xs ys)
@@ -60,7 +64,7 @@ spaced_columns (w ∷ ws) all =
 
 -- ---- words are read
 
-all_join : {T : Type 0} (block : NormalText T) → (block.lines.allow_overflow || nat_le 1 block.lines.width) ≡ true
+pub all_join : {T : Type 0} (block : NormalText T) → (block.lines.allow_overflow || nat_le 1 block.lines.width) ≡ true
     → (cs : List ℕ) → All IsVisible cs → All (JoinsWord block) cs
 all_join block room [] all = All-nil (JoinsWord block)
 all_join block room (c ∷ cs) all =
@@ -68,7 +72,7 @@ all_join block room (c ∷ cs) all =
     (visible_joins block c (block.lines.allow_overflow || nat_le 1 block.lines.width) (All-head IsVisible c cs all) refl
     room) (all_join block room cs (All-tail IsVisible c cs all))
 
-words_read : {T S : Type 0} (block : NormalText T) (width : ℕ) (lines : Filled S) (tag : S) (ws : List (List ℕ))
+pub words_read : {T S : Type 0} (block : NormalText T) (width : ℕ) (lines : Filled S) (tag : S) (ws : List (List ℕ))
     → (block.lines.allow_overflow || nat_le 1 block.lines.width) ≡ true → All IsWord ws
     → read_letters width (reading lines (Some tag) []) (lettered (closed ws) tag)
     ≡ reading (fold (add_unit width) lines (word_pieces tag ws)) (Some tag) []
@@ -83,7 +87,7 @@ words_read block width lines tag (w ∷ ws) room all =
     ∙ words_read block width (add_unit width lines (piece (Some tag) (lettered w tag))) tag ws room
     (All-tail IsWord w ws all)
 
-words_room : {T S : Type 0} (seen : T → S) (width : ℕ) (overflow : Bool) (old : NormalText T) (r : Reading S) (tag : S)
+pub words_room : {T S : Type 0} (seen : T → S) (width : ℕ) (overflow : Bool) (old : NormalText T) (r : Reading S) (tag : S)
     (ws : List (List ℕ)) → HoldsReading seen width overflow old r
     → (old.lines.allow_overflow || nat_le 1 old.lines.width) ≡ true → All IsWord ws
     → AllHaveRoom width overflow (lettered (closed ws) tag)
@@ -101,14 +105,14 @@ words_room seen width overflow old r tag (w ∷ ws) h room all =
 
 -- ---- words are laid
 
-tagged-append : {S : Type 0} (xs ys : List ℕ) (tag : S) → tagged (xs ++ ys) tag ≡ tagged xs tag ++ tagged ys tag
+pub tagged-append : {S : Type 0} (xs ys : List ℕ) (tag : S) → tagged (xs ++ ys) tag ≡ tagged xs tag ++ tagged ys tag
 tagged-append xs ys tag = map-append _ xs ys
 
 -- what words add to a line
-record Fills {S : Type 0} (width : ℕ) (f : Filled S) (tag : S) (ws : List (List ℕ)) : Type 0 where
-  marks : List (Mark S)
-  whole : fold (add_unit width) f (word_pieces tag ws) ≡ pushed f marks
-  items : behind_items f.line marks ≡ tagged (spaced ws) tag
+pub record Fills {S : Type 0} (width : ℕ) (f : Filled S) (tag : S) (ws : List (List ℕ)) : Type 0 where
+  pub marks : List (Mark S)
+  pub whole : fold (add_unit width) f (word_pieces tag ws) ≡ pushed f marks
+  pub items : behind_items f.line marks ≡ tagged (spaced ws) tag
 
 word_fits : {S : Type 0} (width : ℕ) (done : List (List (Mark S))) (n : Mark S) (ns : List (Mark S)) (tag : S) (c : ℕ)
     (cs : List ℕ) → columns (n ∷ ns) + (1 + letters_columns (lettered (c ∷ cs) tag)) ≤ width
@@ -128,7 +132,7 @@ word_fits width done n ns tag c cs fits =
       counted,
     )
 
-words_fill : {S : Type 0} (width : ℕ) (done : List (List (Mark S))) (line : List (Mark S)) (tag : S)
+pub words_fill : {S : Type 0} (width : ℕ) (done : List (List (Mark S))) (line : List (Mark S)) (tag : S)
     (ws : List (List ℕ)) → columns line ≢ 0 → All IsWord ws → columns line + length (spaced ws) ≤ width
     → Fills width (filled done line) tag ws
 words_fill width done [] tag ws some all fits = absurd (some refl)
@@ -176,7 +180,7 @@ words_pushed seen old new text tag w o d added joins =
 
 -- ---- the call
 
-closed_spaced : (ws : List (List ℕ)) (ys : List ℕ) → spaced ws ++ 0x20 ∷ ys ≡ 0x20 ∷ (closed ws ++ ys)
+pub closed_spaced : (ws : List (List ℕ)) (ys : List ℕ) → spaced ws ++ 0x20 ∷ ys ≡ 0x20 ∷ (closed ws ++ ys)
 closed_spaced [] ys = refl
 closed_spaced (w ∷ ws) ys =
     ap (λ l. 0x20 ∷ l) (append_assoc w (spaced ws) (0x20 ∷ ys) ∙ ap (λ l. w ++ l) (closed_spaced ws ys)
@@ -194,7 +198,7 @@ one_fits seen filling more t =
     either true c h = refl
     either false c h = h
 
-words_moved : {T S : Type 0} (seen : T → S) (old new : NormalText T) (words : List (List ℕ)) (text : List ℕ) (tag : S)
+pub words_moved : {T S : Type 0} (seen : T → S) (old new : NormalText T) (words : List (List ℕ)) (text : List ℕ) (tag : S)
     → AwaitsWord seen old tag → All IsWord words → text ≡ spaced words
     → TakesMore seen old.lines (length (spaced words)) → LaysWords seen old.lines new.lines text tag
     → new.width ≡ old.width → new.space ≡ old.space → new.word ≡ old.word

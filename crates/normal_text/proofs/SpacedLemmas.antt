@@ -1,5 +1,6 @@
 -- Words of visible ASCII behind single spaces: how they are found in a text.
-use Rattle.std.proofs.Common.{◌≡◌, ◌≢◌, ℕ, suc, ◌+◌, ◌-◌, ◌<◌, ◌≤◌, List, [], ◌∷◌, ◌++◌, length, sym, ap, ◌∙◌, refl, subst, append_assoc, append-nil, chars, encode_utf8, arith}
+use Rattle.std.proofs.Common.{◌≡◌, ◌≢◌, ℕ, suc, ◌+◌, ◌-◌, ◌<◌, ◌≤◌, List, [], ◌∷◌, ◌++◌, length, sym, ap, ◌∙◌, refl}
+use Rattle.std.proofs.Common.{subst, append_assoc, append-nil, chars, encode_utf8, arith}
 use Rattle.std.specs.Prelude.{All}
 use Rattle.std.specs.Char.{IsScalar}
 use Rattle.std.proofs.lemmas.List.{length-append}
@@ -47,7 +48,7 @@ run_more text rest behind c n room r split scalar visible some =
 
 -- ---- a word
 
-some_length : (cs : List ℕ) (n : ℕ) → n ≡ length cs → n ≢ 0 → cs ≢ []
+pub some_length : (cs : List ℕ) (n : ℕ) → n ≡ length cs → n ≢ 0 → cs ≢ []
 some_length [] n counted some e = some counted
 some_length (c ∷ cs) n counted some e = cc
 
@@ -97,7 +98,7 @@ counted_words : (words : List (List ℕ)) (word : List ℕ) (n m : ℕ) → n �
 counted_words words word n m n_is m_is =
     omega (arith, n_is, m_is, ap length (spaced_push words word), length-append (spaced words) (0x20 ∷ word))
 
-fits_words : (n m room : ℕ) → n ≤ room → m ≤ room - n → n + m ≤ room
+pub fits_words : (n m room : ℕ) → n ≤ room → m ≤ room - n → n + m ≤ room
 fits_words n m room one other = omega (arith, one, other)
 
 pub words_more : (text rest behind : List ℕ) (n m room : ℕ) → HasWords text rest n room

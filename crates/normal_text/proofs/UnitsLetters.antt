@@ -1,11 +1,15 @@
 -- The letters of the units are those of the stretch, in order, without break points and characters without a width.
-use Rattle.std.proofs.Common.{◌≡◌, ◌≢◌, ℕ, ◌≤◌, Bool, true, false, not, ◌&&◌, cond, List, [], ◌∷◌, ◌++◌, Option, None, All, flat_map, filter, is_some, refl, sym, ap, ◌∙◌, append_assoc, get_or}
+use Rattle.std.proofs.Common.{◌≡◌, ◌≢◌, ℕ, ◌≤◌, Bool, true, false, not, ◌&&◌, cond, List, [], ◌∷◌, ◌++◌, Option, None}
+use Rattle.std.proofs.Common.{All, flat_map, filter, is_some, refl, sym, ap, ◌∙◌, append_assoc, get_or}
 use Rattle.std.proofs.lemmas.Bool.{cond-false}
-use Rattle.std.proofs.lemmas.List.Elements.{All-nil, All-cons, All-head, All-tail, All-same, All-weaker, All-filter, filter_passes}
+use Rattle.std.proofs.lemmas.List.Elements.{All-nil, All-cons, All-head, All-tail, All-same, All-weaker, All-filter}
+use Rattle.std.proofs.lemmas.List.Elements.{filter_passes}
 use Rattle.tagged_lines.specs.Columns.{columns_of, width_of}
-use Rattle.normal_text.specs.Units.{Letter, Piece, piece, has_columns, with_front, is_break_point, space_of, pieces_after, joining, joined, has_letters, units}
+use Rattle.normal_text.specs.Units.{Letter, Piece, piece, has_columns, with_front, is_break_point, space_of}
+use Rattle.normal_text.specs.Units.{pieces_after, joining, joined, has_letters, units}
 use Rattle.text_pieces.specs.Sources.{is_filled}
-use Rattle.normal_text.proofs.UnitsReading.{joining-with_columns, joining-without, pieces_after-letter, pieces_after-break, pieces_after-filled}
+use Rattle.normal_text.proofs.UnitsReading.{joining-with_columns, joining-without, pieces_after-letter}
+use Rattle.normal_text.proofs.UnitsReading.{pieces_after-break, pieces_after-filled}
 
 -- whether a character of the stretch stands in a unit
 abbrev pub stands : {S : Type 0} → Letter S → Bool

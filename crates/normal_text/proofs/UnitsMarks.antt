@@ -1,11 +1,14 @@
 -- Each letter that stands in a unit is among the marks.
-use Rattle.std.proofs.Common.{◌≡◌, ℕ, ◌<◌, Bool, true, false, not, ◌&&◌, List, [], ◌∷◌, ◌++◌, Option, None, Some, map, flat_map, filter, is_some, unwrap_or, refl, sym, ap, subst, ◌∙◌, append_assoc, arith, nat_le}
+use Rattle.std.proofs.Common.{◌≡◌, ℕ, ◌<◌, Bool, true, false, not, ◌&&◌, List, [], ◌∷◌, ◌++◌, Option, None, Some, map}
+use Rattle.std.proofs.Common.{flat_map, filter, is_some, unwrap_or, refl, sym, ap, subst, ◌∙◌, append_assoc, arith}
+use Rattle.std.proofs.Common.{nat_le}
 use Rattle.std.proofs.lemmas.Bool.{cond-true, cond_both}
 use Rattle.std.proofs.lemmas.List.{map-append}
 use Rattle.std.proofs.lemmas.List.Elements.{filter-append}
 use Rattle.tagged_lines.specs.Columns.{columns_of, width_of}
 use Rattle.normal_text.specs.Units.{Letter, Piece, letters_columns, is_break_point, units}
-use Rattle.normal_text.specs.Layout.{Joint, opens, starts, inside, cuttable, Mark, mark, marked, unit_marks, marks, marks_items, IsFullest, AreLinesOf, HasNoLayout, NeverFits}
+use Rattle.normal_text.specs.Layout.{Joint, opens, starts, inside, cuttable, Mark, mark, marked, unit_marks, marks}
+use Rattle.normal_text.specs.Layout.{marks_items, IsFullest, AreLinesOf, HasNoLayout, NeverFits}
 use Rattle.normal_text.specs.Greedy.{all_lines, add_units}
 use Rattle.normal_text.specs.Filling.{read_letters, nothing_read, lines_read}
 use Rattle.normal_text.proofs.UnitsLetters.{stands, letters_of, units_letters}

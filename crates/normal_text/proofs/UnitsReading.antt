@@ -1,8 +1,10 @@
 -- Reading letter by letter fills the lines as adding the units does.
-use Rattle.std.proofs.Common.{◌≡◌, ℕ, ◌+◌, Bool, true, false, cond, List, [], ◌∷◌, ◌++◌, Option, None, Some, filter, fold, is_some, refl, sym, ap, ◌∙◌, append_assoc, append-nil, arith, ltb-false, nat_lt}
+use Rattle.std.proofs.Common.{◌≡◌, ℕ, ◌+◌, Bool, true, false, cond, List, [], ◌∷◌, ◌++◌, Option, None, Some, filter}
+use Rattle.std.proofs.Common.{fold, is_some, refl, sym, ap, ◌∙◌, append_assoc, append-nil, arith, ltb-false, nat_lt}
 use Rattle.std.proofs.lemmas.Bool.{cond-true, cond-false}
 use Rattle.tagged_lines.specs.Columns.{columns_of}
-use Rattle.normal_text.specs.Units.{Letter, Piece, piece, letters_columns, has_columns, with_front, is_break_point, space_of, pieces_after, first_of, joining, joined, has_letters, units}
+use Rattle.normal_text.specs.Units.{Letter, Piece, piece, letters_columns, has_columns, with_front, is_break_point}
+use Rattle.normal_text.specs.Units.{space_of, pieces_after, first_of, joining, joined, has_letters, units}
 use Rattle.text_pieces.specs.Sources.{is_filled}
 use Rattle.normal_text.specs.Layout.{Mark}
 use Rattle.normal_text.specs.Greedy.{Filled, filled, all_lines, add_unit, add_units}

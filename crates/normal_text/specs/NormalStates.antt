@@ -1,15 +1,18 @@
 -- What contracts see of a `NormalText`: how its lines, its white space and its word follow from what was read.
-use Rattle.std.specs.Prelude.{◌≡◌, ◌≢◌, length, encode_utf8, ℕ, ◌+◌, ◌<◌, ◌≤◌, Bool, true, false, ◌||◌, nat_le, List, [], ◌∷◌, ◌++◌, Option, None, Some, map, fold, is_some, All, IsTrue, if◌then◌else◌, chars}
+use Rattle.std.specs.Prelude.{◌≡◌, ◌≢◌, length, encode_utf8, ℕ, ◌+◌, ◌<◌, ◌≤◌, Bool, true, false, ◌||◌, nat_le, List}
+use Rattle.std.specs.Prelude.{[], ◌∷◌, ◌++◌, Option, None, Some, map, fold, is_some, All, IsTrue, if◌then◌else◌, chars}
 use Rattle.std.specs.Option.{option_map}
 use Rattle.tagged_lines.specs.Columns.{columns_of, width_of}
-use Rattle.tagged_lines.specs.Tagged.{Item, character, line_items, line_columns, IsJoined}
-use Rattle.normal_text.specs.Units.{Letter, Piece, piece, lettered, is_break_point, is_white_space, first_of, has_columns}
+use Rattle.tagged_lines.specs.Tagged.{Item, character, line_items, line_columns, tagged, IsJoined}
+use Rattle.normal_text.specs.Units.{Letter, Piece, piece, lettered, is_break_point, is_white_space, first_of}
+use Rattle.normal_text.specs.Units.{has_columns, units}
 use Rattle.text_pieces.specs.Cuts.{IsBehind}
 use Rattle.text_pieces.specs.Sources.{is_filled}
 use Rattle.normal_text.specs.Layout.{Mark, opens, inside, marked, columns, marks_items, gap}
-use Rattle.normal_text.specs.Greedy.{Filled, filled, all_lines, add_unit, add_marks, add_mark}
-use Rattle.normal_text.specs.SpacedWords.{IsWord, spaced}
+use Rattle.normal_text.specs.Greedy.{Filled, filled, all_lines, add_unit, add_units, add_marks, add_mark}
+use Rattle.normal_text.specs.SpacedWords.{IsWord, spaced, IsWordsAndSpace, IsLineAndSpace}
 use Rattle.normal_text.specs.Filling.{Reading, reading, read_letters, nothing_read}
+use Rattle.tagged_lines.specs.declared.tagged_line.TaggedLine.{TaggedLine}
 use Rattle.normal_text.specs.declared.filling.Filling.{Filling}
 use Rattle.normal_text.specs.declared.normal.NormalText.{NormalText}
 
@@ -117,6 +120,14 @@ pub record LaysWords {T S : Type 0} (seen : T → S) (old new : Filling T) (text
       → TakesMore seen old (length (spaced words))
       → Lays seen old new (λ width f. fold (add_unit width) f (word_pieces tag words))
 
+-- The line goes on with a text of one tag, and nothing else changes.
+pub record GoesOnWith {T S : Type 0} (seen : T → S) (old new : Filling T) (text : List ℕ) (tag : S) : Type 0 where
+  pub same_width : new.width ≡ old.width
+  pub same_overflow : new.allow_overflow ≡ old.allow_overflow
+  pub same_done : new.done.items ≡ old.done.items
+  pub line : line_items seen new.line ≡ line_items seen old.line ++ tagged text tag
+  pub joins : IsJoined seen old.line → IsJoined seen new.line
+
 -- The lines, the white space and the word of a state of reading.
 pub record HoldsReading {T S : Type 0} (seen : T → S) (width : ℕ) (overflow : Bool) (block : NormalText T)
     (r : Reading S) : Type 0 where
@@ -184,6 +195,21 @@ pub record AwaitsWord {T S : Type 0} (seen : T → S) (block : NormalText T) (ta
   pub space : option_map seen block.space ≡ Some tag
   pub none_held : line_items seen block.word ≡ []
 
+-- No word is at hand and nothing is on the line, and a text is words that go there, and a space.
+pub record FillsLine {T S : Type 0} (seen : T → S) (block : NormalText T) (text : List ℕ) (columns : ℕ) : Type 0 where
+  pub none_held : line_items seen block.word ≡ []
+  pub fresh : line_items seen block.lines.line ≡ []
+  pub words : IsLineAndSpace text columns
+  pub fits : columns ≤ block.width
+
+-- A space with that tag is to stand before the next word, and a text is words that go on the line, each behind a space, and
+-- one more space.
+pub record FillsOn {T S : Type 0} (seen : T → S) (block : NormalText T) (text : List ℕ) (columns : ℕ) (tag : S) : Type 0
+  where
+    pub awaits : AwaitsWord seen block tag
+    pub words : IsWordsAndSpace text columns
+    pub more : TakesMore seen block.lines columns
+
 -- Some of the letters finds no line.
 pub record MeetsWider {T S : Type 0} (seen : T → S) (old : NormalText T) (ls : List (Letter S)) : Type 0 where
   pub wider : (width : ℕ) (overflow : Bool) (r : Reading S) → HoldsReading seen width overflow old r
@@ -194,6 +220,16 @@ pub record HasRead {T S : Type 0} (seen : T → S) (width : ℕ) (overflow : Boo
     (block : NormalText T) : Type 0 where
   pub state : HoldsReading seen width overflow block (read_letters width nothing_read read)
   pub room : AllHaveRoom width overflow read
+
+-- The lines are those of what a block has read and these letters behind it, and lines can hold each.
+pub record EndsAs {T S : Type 0} (seen : T → S) (block : NormalText T) (ls : List (Letter S))
+    (lines : List (TaggedLine T)) : Type 0 where
+  pub laid : (width : ℕ) (overflow : Bool) (read : List (Letter S)) → HasRead seen width overflow read block
+      → map (line_items seen) lines ≡ map marks_items (all_lines (add_units width (units (read ++ ls))))
+  pub room : (width : ℕ) (overflow : Bool) (read : List (Letter S)) → HasRead seen width overflow read block
+      → AllHaveRoom width overflow (read ++ ls)
+  pub joined : (width : ℕ) (overflow : Bool) (read : List (Letter S)) → HasRead seen width overflow read block
+      → All (IsJoined seen) lines
 
 -- A letter of the word at hand.
 abbrev pub word_read : {S : Type 0} → ℕ → S → ℕ → Reading S → Reading S

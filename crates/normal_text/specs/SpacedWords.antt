@@ -1,6 +1,7 @@
 -- Words of visible ASCII that stand behind single spaces.
-use Rattle.std.specs.Prelude.{◌≡◌, ◌≢◌, ℕ, suc, ◌+◌, ◌≤◌, List, [], ◌∷◌, ◌++◌, length, All, chars}
+use Rattle.std.specs.Prelude.{◌≡◌, ◌≢◌, ℕ, suc, ◌+◌, ◌≤◌, List, [], ◌∷◌, ◌++◌, length, All, chars, ◌⊎◌}
 use Rattle.text_pieces.specs.Cuts.{IsBehind}
+use Rattle.tagged_lines.specs.Columns.{text_columns}
 
 -- visible ASCII
 abbrev pub IsVisible : ℕ → Type 0
@@ -45,3 +46,36 @@ pub record HasWords (text rest : List ℕ) (columns room : ℕ) : Type 0 where
   pub whole : chars parts.front ≡ spaced words
   pub counted : columns ≡ length (spaced words)
   pub fits : columns ≤ room
+
+-- A text is words, each behind a space, of so many columns, and one more space.
+pub record IsWordsAndSpace (text : List ℕ) (columns : ℕ) : Type 0 where
+  pub words : List (List ℕ)
+  pub are_words : All IsWord words
+  pub whole : text ≡ spaced words ++ 0x20 ∷ []
+  pub counted : columns ≡ length (spaced words)
+
+-- A text is a word and words behind a space each, of so many columns, and one more space.
+pub record IsLineAndSpace (text : List ℕ) (columns : ℕ) : Type 0 where
+  pub first : List ℕ
+  pub words : List (List ℕ)
+  pub is_word : IsWord first
+  pub are_words : All IsWord words
+  pub whole : text ≡ (first ++ spaced words) ++ 0x20 ∷ []
+  pub counted : columns ≡ length (first ++ spaced words)
+
+-- A text with a space at its end, without which it has so many columns.
+pub record EndsInSpace (text : List ℕ) (columns : ℕ) : Type 0 where
+  pub front : List ℕ
+  pub whole : text ≡ front ++ 0x20 ∷ []
+  pub counted : columns ≡ text_columns front
+
+-- A text whose last character is visible ASCII.
+pub record EndsVisibly (text : List ℕ) : Type 0 where
+  pub front : List ℕ
+  pub last : ℕ
+  pub whole : text ≡ front ++ last ∷ []
+  pub visible : IsVisible last
+
+-- The text, or one that ends in visible ASCII and a space behind it.
+abbrev pub IsEnded : List ℕ → List ℕ → Type 0
+IsEnded text ended = (ended ≡ text) ⊎ (EndsVisibly text × (ended ≡ text ++ 0x20 ∷ []))

@@ -1,9 +1,12 @@
-ghost use Rattle.std.specs.Prelude.{◌≡◌, ◌≢◌, ◌≤◌, ℕ, Bool, ◌+◌, ◌||◌, nat_le, [], ◌∷◌, ◌++◌, map, All, option_copied, chars, string_bytes, IfOk, IfErr, OnOk};
+ghost use Rattle.std.specs.Prelude.{◌≡◌, ◌≢◌, ◌≤◌, ℕ, Bool, ◌+◌, ◌||◌, nat_le, [], ◌∷◌, ◌++◌, map, All, option_copied};
+ghost use Rattle.std.specs.Prelude.{chars, string_bytes, IfOk, IfErr, OnOk, List, IsTrue};
 ghost use Rattle.std.specs.Option.{option_map};
 ghost use Rattle.tagged_lines.specs.Columns.{text_columns};
 ghost use Rattle.tagged_lines.specs.Tagged.{line_items, element_items, line_columns, tagged, IsJoined};
+ghost use Rattle.normal_text.specs.SpacedWords.{EndsInSpace};
 ghost use Rattle.normal_text.specs.NormalStates.{space_behind, space_columns};
 
+use crate::spaced_words::without_last;
 use std::alloc::{AllocError, Global};
 use tagged_lines::{Columns, EqualCopy, TaggedLine, TaggedLineElement, UnicodeColumns};
 use text_pieces::BlockError;
@@ -20,7 +23,8 @@ pub(crate) struct Filling<T> {
 impl<T: EqualCopy + Drop> Filling<T> {
     ghost use Rattle.normal_text.specs.Layout.{marks_items};
     ghost use Rattle.normal_text.specs.Greedy.{Filled, filled, all_lines};
-    ghost use Rattle.normal_text.specs.NormalStates.{HoldsLines, Lays, LaysUnit, LaysWhole, LaysCut, Cuts, LaysWords, TakesMore, with_room};
+    ghost use Rattle.normal_text.specs.NormalStates.{HoldsLines, Lays, LaysUnit, LaysWhole, LaysCut, Cuts, LaysWords};
+    ghost use Rattle.normal_text.specs.NormalStates.{TakesMore, GoesOnWith, with_room};
 
     pub(crate) fn new(alloc: Global, width: usize, allow_overflow: bool) -> Filling<T>
         ensures { HoldsLines T.seen width allow_overflow result (filled [] []) }
@@ -77,6 +81,27 @@ impl<T: EqualCopy + Drop> Filling<T> {
         ensures { OnOk result (LaysWords T.seen self.old self.new (chars words.now) (T.seen tag.now)) }
     {
         self.line.push_counted(words, columns, tag)
+    }
+
+    /// Whether the line has nothing on it.
+    pub(crate) fn is_fresh(&self) -> bool
+        ensures { IsTrue result → line_items T.seen self.now.line ≡ [] }
+    {
+        self.line.is_empty()
+    }
+
+    /// Moves a text, but for the space at its end, to the line's end; what is moved has that many columns.
+    pub(crate) fn move_words(
+        &mut self,
+        text: String,
+        columns: usize,
+        tag: T,
+    ) -> Result<(), AllocError>
+        requires { EndsInSpace (chars (string_bytes text)) columns }
+        ensures { OnOk result ((front : List ℕ) → chars (string_bytes text) ≡ front ++ 0x20 ∷ []
+            → GoesOnWith T.seen self.old self.new front (T.seen tag)) }
+    {
+        self.line.push_string(without_last(text), columns, tag)
     }
 
     /// Adds a word behind the line's text, with a space of the given tag between them, where both go on

@@ -1,4 +1,5 @@
-ghost use Rattle.std.specs.Prelude.{◌≡◌, ◌<◌, ◌≤◌, ◌++◌, ◌∷◌, ◌⊎◌, ℕ, Bool, true, false, IsTrue, List, All, flat_map, length};
+ghost use Rattle.std.specs.Prelude.{◌≡◌, ◌<◌, ◌≤◌, ◌++◌, ◌∷◌, ◌⊎◌, ℕ, Bool, true, false, IsTrue, List, All, flat_map};
+ghost use Rattle.std.specs.Prelude.{length};
 ghost use Rattle.tagged_lines.specs.Columns.{width_of};
 ghost use Rattle.tagged_lines.specs.Tagged.{Item, line_columns};
 ghost use Rattle.normal_text.specs.Units.{Letter, Piece, has_letters};

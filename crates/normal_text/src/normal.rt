@@ -1,11 +1,15 @@
-ghost use Rattle.std.specs.Prelude.{◌≡◌, ◌≢◌, ◌⊎◌, ℕ, Bool, true, false, ◌||◌, nat_le, List, [], ◌∷◌, ◌++◌, map, chars, string_bytes, is_err, IsTrue, All, length, ◌<◌, ◌≤◌, IfOk, IfErr, IfSome, IsNone, IsUtf8, encode_utf8, OnOk, if◌then◌else◌};
+ghost use Rattle.std.specs.Prelude.{◌≡◌, ◌≢◌, ◌⊎◌, ℕ, Bool, true, false, ◌||◌, nat_le, List, [], ◌∷◌, ◌++◌, map, chars};
+ghost use Rattle.std.specs.Prelude.{string_bytes, is_err, IsTrue, All, length, ◌<◌, ◌≤◌, IfOk, IfErr, IfSome, IsNone};
+ghost use Rattle.std.specs.Prelude.{IsUtf8, encode_utf8, OnOk, if◌then◌else◌};
 ghost use Rattle.std.specs.Char.{IsScalar};
 ghost use Rattle.tagged_lines.specs.Columns.{text_columns};
 ghost use Rattle.tagged_lines.specs.Tagged.{line_items, line_columns, IsJoined};
 ghost use Rattle.normal_text.specs.Units.{is_break_point};
 
 use crate::filling::Filling;
-use crate::spaced_words::{is_visible_ascii, words_in_front};
+use crate::spaced_words::{
+    ended, is_visible_ascii, line_before_space, words_before_space, words_in_front,
+};
 use std::alloc::{AllocError, Global};
 use tagged_lines::{Columns, EqualCopy, TaggedLine, UnicodeColumns, columns_of};
 use text_pieces::{BlockError, first_char, is_break_point, split_before};
@@ -30,7 +34,10 @@ impl<T: EqualCopy + Drop> NormalText<T> {
     ghost use Rattle.normal_text.specs.Units.{units};
     ghost use Rattle.normal_text.specs.Greedy.{all_lines, add_units};
     ghost use Rattle.normal_text.specs.Filling.{Reading, read_letters, nothing_read, lines_read};
-    ghost use Rattle.normal_text.specs.NormalStates.{HasRead, HasWider, HoldsReading, Moves, MeetsWider, Reads, ReadsFront, JoinsWord, RunsTo, ReadsRun, EndsWord, LaysWord, AwaitsWord, end_read, space_read, word_read, lay_read};
+    ghost use Rattle.normal_text.specs.NormalStates.{HasRead, HasWider, HoldsReading, Moves, MeetsWider, Reads};
+    ghost use Rattle.normal_text.specs.NormalStates.{ReadsFront, JoinsWord, RunsTo, ReadsRun, EndsWord, LaysWord};
+    ghost use Rattle.normal_text.specs.NormalStates.{AwaitsWord, FillsLine, FillsOn, EndsAs, end_read, space_read};
+    ghost use Rattle.normal_text.specs.NormalStates.{word_read, lay_read};
 
     /// No text yet. With `allow_overflow` a character wider than the width stands alone on a line.
     pub(crate) fn new(alloc: Global, width: usize, allow_overflow: bool) -> NormalText<T>
@@ -57,7 +64,8 @@ impl<T: EqualCopy + Drop> NormalText<T> {
         self.add_normal(text, tag)
     }
 
-    /// Adds text as `add_text` does; where all of it joins the word at hand, it is moved there.
+    /// Adds text as `add_text` does; where all of it joins the word at hand, or is words that go on the line, it is moved
+    /// there.
     pub(crate) fn add_string(&mut self, text: String, tag: T) -> Result<(), BlockError>
         ensures kinds { IfErr result (λ e. (e ≡ BlockError.TooNarrow) ⊎ (e ≡ BlockError.Memory)) }
         ensures read { OnOk result ((width : ℕ) (overflow : Bool) (read : List (Letter T.Seen))
@@ -67,11 +75,103 @@ impl<T: EqualCopy + Drop> NormalText<T> {
             → HasRead T.seen width overflow read self.old
             → HasWider width overflow (lettered (chars (string_bytes text)) (T.seen tag)) }
     {
-        if !self.after_run(text.as_str()).is_empty() {
-            return self.add_text(text.as_str(), &tag);
+        self.add_own(text, tag)
+    }
+
+    fn add_own(&mut self, text: String, tag: T) -> Result<(), BlockError>
+        ensures kinds { IfErr result (λ e. (e ≡ BlockError.TooNarrow) ⊎ (e ≡ BlockError.Memory)) }
+        ensures read { OnOk result (Reads T.seen self.old self.new
+            (lettered (chars (string_bytes text)) (T.seen tag))) }
+        ensures narrow { result ≡ Err BlockError.TooNarrow
+            → MeetsWider T.seen self.old (lettered (chars (string_bytes text)) (T.seen tag)) }
+    {
+        if let Some(columns) = self.whole_line(text.as_str()) {
+            return Ok(self.begin_line(text, columns, tag)?);
         }
-        self.add_part(text, tag)?;
+        let after = self.after_run(text.as_str());
+        if after.is_empty() {
+            return Ok(self.add_part(text, tag)?);
+        }
+        if text.as_str().starts_with(' ') {
+            return self.add_spaced(text, tag);
+        }
+        self.add_behind(text.as_str(), after, &tag)
+    }
+
+    /// The columns of a text but for the space at its end, where it is a line's words and that space, and no word is at hand
+    /// and nothing on the line.
+    fn whole_line(&self, text: &str) -> Option<usize>
+        ensures { IfSome result (λ columns. FillsLine T.seen self.now (chars text.now) columns) }
+    {
+        if self.word.is_empty() && self.lines.is_fresh() {
+            line_before_space(text, self.width)
+        } else {
+            None
+        }
+    }
+
+    /// Moves words onto the line, which has none, and reads the space behind them.
+    fn begin_line(&mut self, text: String, columns: usize, tag: T) -> Result<(), AllocError>
+        requires { FillsLine T.seen self.old (chars (string_bytes text)) columns }
+        ensures { OnOk result (Reads T.seen self.old self.new
+            (lettered (chars (string_bytes text)) (T.seen tag))) }
+    {
+        let space = self.lines.copy_tag(&tag)?;
+        self.lines.move_words(text, columns, tag)?;
+        self.space = Some(space);
         Ok(())
+    }
+
+    /// Adds the first character; where the text is words that then go on the line, and a space behind them, it is moved there.
+    fn add_spaced(&mut self, text: String, tag: T) -> Result<(), BlockError>
+        ensures kinds { IfErr result (λ e. (e ≡ BlockError.TooNarrow) ⊎ (e ≡ BlockError.Memory)) }
+        ensures read { OnOk result (Reads T.seen self.old self.new
+            (lettered (chars (string_bytes text)) (T.seen tag))) }
+        ensures narrow { result ≡ Err BlockError.TooNarrow
+            → MeetsWider T.seen self.old (lettered (chars (string_bytes text)) (T.seen tag)) }
+    {
+        let Some((c, after)) = first_char(text.as_str()) else {
+            return Ok(());
+        };
+        self.add_char(c, &tag)?;
+        if let Some(columns) = self.more_of_line(text.as_str(), &tag) {
+            return Ok(self.move_more(text, columns, tag)?);
+        }
+        let rest = self.add_words(c, text.as_str(), after, &tag)?;
+        self.add_normal(rest, &tag)
+    }
+
+    /// The columns of a text but for the space at its end, where it is words that go on the line, each behind a space, and
+    /// that space.
+    fn more_of_line(&self, text: &str, tag: &T) -> Option<usize>
+        ensures { IfSome result (λ columns. FillsOn T.seen self.now (chars text.now) columns (T.seen tag.now)) }
+    {
+        if self.awaits_word(tag) {
+            words_before_space(text, self.lines.room())
+        } else {
+            None
+        }
+    }
+
+    /// Moves words, each behind a space, onto the line, and reads the space behind them; the first space was read.
+    fn move_more(&mut self, text: String, columns: usize, tag: T) -> Result<(), AllocError>
+        requires { FillsOn T.seen self.old (chars (string_bytes text)) columns (T.seen tag) }
+        ensures { OnOk result ((first : ℕ) (after : List ℕ) → chars (string_bytes text) ≡ first ∷ after
+            → Reads T.seen self.old self.new (lettered after (T.seen tag))) }
+    {
+        self.lines.move_words(text, columns, tag)
+    }
+
+    /// Adds a text in which `after` follows the characters in front that join the word at hand.
+    fn add_behind(&mut self, text: &str, after: &str, tag: &T) -> Result<(), BlockError>
+        requires { RunsTo self.old text.now after.now }
+        ensures kinds { IfErr result (λ e. (e ≡ BlockError.TooNarrow) ⊎ (e ≡ BlockError.Memory)) }
+        ensures read { OnOk result (Reads T.seen self.old self.new (lettered (chars text.now) (T.seen tag.now))) }
+        ensures narrow { result ≡ Err BlockError.TooNarrow
+            → MeetsWider T.seen self.old (lettered (chars text.now) (T.seen tag.now)) }
+    {
+        let rest = self.add_front_to(text, after, tag)?;
+        self.add_normal(rest, tag)
     }
 
     /// Moves a text whose characters join the word at hand behind it.
@@ -106,7 +206,26 @@ impl<T: EqualCopy + Drop> NormalText<T> {
         ensures text { IfOk result (λ rest. IsUtf8 rest.now) }
         ensures shorter { IfOk result (λ rest. text.now ≢ [] → length rest.now < length text.now) }
     {
-        let (run, rest) = split_before(text, self.after_run(text));
+        let after = self.after_run(text);
+        self.add_front_to(text, after, tag)
+    }
+
+    /// Adds characters as `add_front` does, which knows what follows them.
+    fn add_front_to<'a>(
+        &mut self,
+        text: &'a str,
+        after: &str,
+        tag: &T,
+    ) -> Result<&'a str, BlockError>
+        requires { RunsTo self.old text.now after.now }
+        ensures kinds { IfErr result (λ e. (e ≡ BlockError.TooNarrow) ⊎ (e ≡ BlockError.Memory)) }
+        ensures read { IfOk result (λ rest. ReadsFront T.seen self.old self.new text.now rest.now (T.seen tag.now)) }
+        ensures narrow { result ≡ Err BlockError.TooNarrow
+            → MeetsWider T.seen self.old (lettered (chars text.now) (T.seen tag.now)) }
+        ensures text { IfOk result (λ rest. IsUtf8 rest.now) }
+        ensures shorter { IfOk result (λ rest. text.now ≢ [] → length rest.now < length text.now) }
+    {
+        let (run, rest) = split_before(text, after);
         if run.is_empty() {
             return self.add_first(text, tag);
         }
@@ -313,6 +432,25 @@ impl<T: EqualCopy + Drop> NormalText<T> {
         self.lines.add_word(space.as_ref(), &mut self.word)?;
         self.word.clear();
         Ok(())
+    }
+
+    /// The lines of the text with one more behind it, which is moved where it can be.
+    pub(crate) fn into_lines_behind(
+        mut self,
+        text: String,
+        tag: T,
+    ) -> Result<Vec<TaggedLine<T>>, BlockError>
+        ensures kinds { IfErr result (λ e. (e ≡ BlockError.TooNarrow) ⊎ (e ≡ BlockError.Memory)) }
+        ensures ends { IfOk result (λ lines. EndsAs T.seen self
+            (lettered (chars (string_bytes text)) (T.seen tag)) lines.items) }
+        ensures narrow { result ≡ Err BlockError.TooNarrow → (width : ℕ) (overflow : Bool) (read : List (Letter T.Seen))
+            → HasRead T.seen width overflow read self
+            → HasWider width overflow (lettered (chars (string_bytes text)) (T.seen tag)) }
+    {
+        // A space behind the last word is never shown, and ends it.
+        let text = ended(text)?;
+        self.add_string(text, tag)?;
+        self.into_lines()
     }
 
     /// The lines of the text.

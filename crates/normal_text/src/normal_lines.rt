@@ -1,17 +1,18 @@
 //! The lines of normal text, with its markers.
-ghost use Rattle.std.specs.Prelude.{◌≡◌, ◌⊎◌, ℕ, Bool, true, false, not, ◌||◌, List, [], ◌∷◌, ◌++◌, map, chars, string_bytes, All, IfOk, IfErr, OnOk};
+ghost use Rattle.std.specs.Prelude.{◌≡◌, ◌⊎◌, ℕ, Bool, true, false, not, ◌||◌, List, [], ◌∷◌, ◌++◌, map, chars};
+ghost use Rattle.std.specs.Prelude.{string_bytes, All, IfOk, IfErr, OnOk};
 ghost use Rattle.tagged_lines.specs.Tagged.{line_items, IsJoined};
 ghost use Rattle.text_pieces.specs.Sources.{names, sources_of, piece_sources, text_sources};
 ghost use Rattle.normal_text.specs.Riders.{normal_lines, normal_waiting, has_wide_text};
 ghost use Rattle.normal_text.specs.Units.{Letter};
 ghost use Rattle.normal_text.specs.Letters.{has_marker, letters_of};
-ghost use Rattle.normal_text.specs.NormalStates.{HasRead};
+ghost use Rattle.normal_text.specs.NormalStates.{HasRead, EndsAs};
 ghost use Rattle.normal_text.specs.MarkedStates.{CarriesOn, MeetsWide};
 
 use crate::marked::MarkedText;
 use crate::normal::NormalText;
 use std::alloc::Global;
-use tagged_lines::EqualCopy;
+use tagged_lines::{EqualCopy, TaggedLine};
 use text_pieces::{BlockError, LaidText, Piece, TextPiece};
 
 /// The lines of normal text, and the markers that wait for what comes behind it.
@@ -165,13 +166,69 @@ fn lay_moved<T: EqualCopy + Drop>(
         × (has_wide_text width (sources_of T.seen pieces.items) ≡ true) }
     ensures kinds { IfErr result (λ e. (e ≡ BlockError.TooNarrow) ⊎ (e ≡ BlockError.Memory)) }
 {
-    let mut text = NormalText::new(alloc, width, allow_overflow);
-    take_all(&mut text, pieces)?;
-    let lines = text.into_lines()?;
+    let text = NormalText::new(alloc, width, allow_overflow);
+    let lines = end_with_all(text, pieces)?;
     Ok(LaidText {
         lines,
         waiting: Vec::new(alloc),
     })
+}
+
+/// The lines of the text with the pieces' texts behind it.
+fn end_with_all<T: EqualCopy + Drop>(
+    text: NormalText<T>,
+    pieces: Vec<Piece<T>>,
+) -> Result<Vec<TaggedLine<T>>, BlockError>
+    ensures ends { IfOk result (λ lines. EndsAs T.seen text (letters_of (sources_of T.seen pieces.items)) lines.items) }
+    ensures narrow { result ≡ Err BlockError.TooNarrow → (width : ℕ) (overflow : Bool) (read : List (Letter T.Seen))
+        → HasRead T.seen width overflow read text
+        → (overflow ≡ false) × (has_wide_text width (sources_of T.seen pieces.items) ≡ true) }
+    ensures kinds { IfErr result (λ e. (e ≡ BlockError.TooNarrow) ⊎ (e ≡ BlockError.Memory)) }
+{
+    let mut text = text;
+    let mut pieces = pieces;
+    match pieces.pop() {
+        Some(last) => {
+            take_all(&mut text, pieces)?;
+            end_with(text, last)
+        }
+        None => text.into_lines(),
+    }
+}
+
+/// The lines of the text with the last piece's text behind it.
+fn end_with<T: EqualCopy + Drop>(
+    text: NormalText<T>,
+    last: Piece<T>,
+) -> Result<Vec<TaggedLine<T>>, BlockError>
+    ensures ends { IfOk result (λ lines. EndsAs T.seen text (letters_of (piece_sources T.seen last)) lines.items) }
+    ensures narrow { result ≡ Err BlockError.TooNarrow → (width : ℕ) (overflow : Bool) (read : List (Letter T.Seen))
+        → HasRead T.seen width overflow read text
+        → (overflow ≡ false) × (has_wide_text width (piece_sources T.seen last) ≡ true) }
+    ensures kinds { IfErr result (λ e. (e ≡ BlockError.TooNarrow) ⊎ (e ≡ BlockError.Memory)) }
+{
+    match last {
+        Piece::Text(piece) => end_with_text(text, piece),
+        Piece::Fragment(_) => text.into_lines(),
+    }
+}
+
+fn end_with_text<T: EqualCopy + Drop>(
+    text: NormalText<T>,
+    last: TextPiece<T>,
+) -> Result<Vec<TaggedLine<T>>, BlockError>
+    ensures ends { IfOk result (λ lines. EndsAs T.seen text (letters_of (text_sources T.seen last)) lines.items) }
+    ensures narrow { result ≡ Err BlockError.TooNarrow → (width : ℕ) (overflow : Bool) (read : List (Letter T.Seen))
+        → HasRead T.seen width overflow read text
+        → (overflow ≡ false) × (has_wide_text width (text_sources T.seen last) ≡ true) }
+    ensures kinds { IfErr result (λ e. (e ≡ BlockError.TooNarrow) ⊎ (e ≡ BlockError.Memory)) }
+{
+    let TextPiece {
+        text: characters,
+        main_tag,
+        ..
+    } = last;
+    text.into_lines_behind(characters, main_tag)
 }
 
 /// Adds the texts of the pieces, which are taken.

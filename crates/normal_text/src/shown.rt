@@ -1,5 +1,6 @@
 //! Lines of text with markers on it, shown: markers in place of the letters that stood for them.
-ghost use Rattle.std.specs.Prelude.{◌≡◌, Bool, true, false, [], ◌∷◌, ◌++◌, map, chars, string_bytes, All, IfOk, OnOk, if◌then◌else◌};
+ghost use Rattle.std.specs.Prelude.{◌≡◌, Bool, true, false, [], ◌∷◌, ◌++◌, map, chars, string_bytes, All, IfOk, OnOk};
+ghost use Rattle.std.specs.Prelude.{if◌then◌else◌};
 ghost use Rattle.tagged_lines.specs.Tagged.{line_items, line_text, element_items, tagged, marker, IsJoined};
 ghost use Rattle.text_pieces.specs.Items.{has_text};
 ghost use Rattle.normal_text.specs.Riders.{note, shown_item, settled_lines, settled_rest};

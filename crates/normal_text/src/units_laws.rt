@@ -1,6 +1,7 @@
 //! What the definitions of units say together, each law a function that does nothing.
 
-ghost use Rattle.std.specs.Prelude.{◌≡◌, ◌≢◌, ℕ, ◌<◌, ◌≤◌, Bool, false, not, ◌&&◌, [], ◌∷◌, ◌++◌, List, Some, map, All, flat_map, filter, is_some};
+ghost use Rattle.std.specs.Prelude.{◌≡◌, ◌≢◌, ℕ, ◌<◌, ◌≤◌, Bool, false, not, ◌&&◌, [], ◌∷◌, ◌++◌, List, Some, map, All};
+ghost use Rattle.std.specs.Prelude.{flat_map, filter, is_some};
 ghost use Rattle.tagged_lines.specs.Columns.{columns_of, width_of};
 ghost use Rattle.normal_text.specs.Units.{Letter, units, is_break_point};
 ghost use Rattle.normal_text.specs.Layout.{Mark, marks, marks_items, IsFullest, AreLinesOf, HasNoLayout, NeverFits};

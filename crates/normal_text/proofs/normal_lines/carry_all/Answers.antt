@@ -3,7 +3,8 @@ use Rattle.std.specs.Prelude.{Err}
 use Rattle.std.proofs.lemmas.Result.{err_from_is_err_and}
 use Rattle.text_pieces.specs.Sources.{piece_sources, sources_of}
 use Rattle.normal_text.specs.MarkedStates.{CarriesFront}
-use Rattle.normal_text.proofs.PieceLemmas.{first_sources, no_sources, carries_nothing, carries_more, carries_all, carries_wide}
+use Rattle.normal_text.proofs.PieceLemmas.{first_sources, no_sources, carries_nothing, carries_more, carries_all}
+use Rattle.normal_text.proofs.PieceLemmas.{carries_wide}
 use Rattle.normal_text.proofs.normal_lines.carry_all.Goals as goal
 
 pub loop-first-init : goal.loop-first-init
