@@ -3,6 +3,7 @@ use Rattle.std.proofs.Common.{◌≡◌, ℕ, Bool, true, false, not, ◌&&◌, 
 use Rattle.std.proofs.Common.{ap, ◌∙◌, refl, subst, append_assoc, append-nil, arith, length}
 use Rattle.std.specs.Prelude.{Result, Ok, Err, OnOk, All, IsTrue, fold, if◌then◌else◌}
 use Rattle.std.proofs.lemmas.Bool.Decides.{nat_tests}
+use Rattle.std.proofs.lemmas.Grind.{flat_map-append}
 use Rattle.std.proofs.lemmas.List.Elements.{All-nil, All-cons, All-head, All-tail}
 use Rattle.std.proofs.lemmas.List.Sums.{fold-append}
 use Rattle.tagged_lines.specs.Columns.{width_of}
@@ -266,3 +267,10 @@ err_same a b r first second = cc
 pub ok_always : {A E : Type 0} (P : Type 0) (r : Result A E) → P → OnOk r P
 ok_always P (Ok x) h = h
 ok_always P (Err e) h = tt
+
+-- the pieces of a list without its last, and that one
+pub last_sources : {T S : Type 0} (seen : T → S) (all front : List (Piece T)) (last : Piece T)
+    → all ≡ front ++ last ∷ [] → sources_of seen all ≡ sources_of seen front ++ piece_sources seen last
+last_sources seen all front last e =
+    ap (sources_of seen) e ∙ flat_map-append (piece_sources seen) front (last ∷ [])
+    ∙ ap (λ back. sources_of seen front ++ back) (append-nil (piece_sources seen last))
