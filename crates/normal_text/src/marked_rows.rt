@@ -2,8 +2,8 @@
 ghost use Rattle.std.specs.Prelude.{◌≡◌, [], ◌∷◌, codes};
 ghost use Rattle.normal_text.specs.RowWords.{marked_lines, marked_waiting};
 
-/// A marker stays at its place in a word that is cut, ends the earlier piece where it stands at a cut, and else waits for
-/// the next word, or for what comes behind the text.
+/// A marker stays at its place in a word that is cut, ends the earlier piece where it stands at a cut, and else waits
+/// for the next word, or for what comes behind the text.
 fn markers_ride_on_words()
     ensures inside { marked_lines 4 (codes "ab") (codes "cdef") ≡ codes "ab#ncd" ∷ codes "ef" ∷ [] }
     ensures at_cut { marked_lines 4 (codes "abcd") (codes "ef") ≡ codes "abcd#n" ∷ codes "ef" ∷ [] }

@@ -64,8 +64,8 @@ impl<T: EqualCopy + Drop> NormalText<T> {
         self.add_normal(text, tag)
     }
 
-    /// Adds text as `add_text` does; where all of it joins the word at hand, or is words that go on the line, it is moved
-    /// there.
+    /// Adds text as `add_text` does; where all of it joins the word at hand, or is words that go on the line, it is
+    /// moved there.
     pub(crate) fn add_string(&mut self, text: String, tag: T) -> Result<(), BlockError>
         ensures kinds { IfErr result (λ e. (e ≡ BlockError.TooNarrow) ⊎ (e ≡ BlockError.Memory)) }
         ensures read { OnOk result ((width : ℕ) (overflow : Bool) (read : List (Letter T.Seen))
@@ -98,8 +98,8 @@ impl<T: EqualCopy + Drop> NormalText<T> {
         self.add_behind(text.as_str(), after, &tag)
     }
 
-    /// The columns of a text but for the space at its end, where it is a line's words and that space, and no word is at hand
-    /// and nothing on the line.
+    /// The columns of a text but for the space at its end, where it is a line's words and that space, and no word is at
+    /// hand and nothing on the line.
     fn whole_line(&self, text: &str) -> Option<usize>
         ensures { IfSome result (λ columns. FillsLine T.seen self.now (chars text.now) columns) }
     {
@@ -122,7 +122,8 @@ impl<T: EqualCopy + Drop> NormalText<T> {
         Ok(())
     }
 
-    /// Adds the first character; where the text is words that then go on the line, and a space behind them, it is moved there.
+    /// Adds the first character; where the text is words that then go on the line, and a space behind them, it is moved
+    /// there.
     fn add_spaced(&mut self, text: String, tag: T) -> Result<(), BlockError>
         ensures kinds { IfErr result (λ e. (e ≡ BlockError.TooNarrow) ⊎ (e ≡ BlockError.Memory)) }
         ensures read { OnOk result (Reads T.seen self.old self.new
@@ -141,8 +142,8 @@ impl<T: EqualCopy + Drop> NormalText<T> {
         self.add_normal(rest, &tag)
     }
 
-    /// The columns of a text but for the space at its end, where it is words that go on the line, each behind a space, and
-    /// that space.
+    /// The columns of a text but for the space at its end, where it is words that go on the line, each behind a space,
+    /// and that space.
     fn more_of_line(&self, text: &str, tag: &T) -> Option<usize>
         ensures { IfSome result (λ columns. FillsOn T.seen self.now (chars text.now) columns (T.seen tag.now)) }
     {
@@ -196,8 +197,8 @@ impl<T: EqualCopy + Drop> NormalText<T> {
         Ok(())
     }
 
-    /// Adds the characters in front that join the word at hand, all at once, or the first character where it joins none;
-    /// what follows is left.
+    /// Adds the characters in front that join the word at hand, all at once, or the first character where it joins
+    /// none; what follows is left.
     fn add_front<'a>(&mut self, text: &'a str, tag: &T) -> Result<&'a str, BlockError>
         ensures kinds { IfErr result (λ e. (e ≡ BlockError.TooNarrow) ⊎ (e ≡ BlockError.Memory)) }
         ensures read { IfOk result (λ rest. ReadsFront T.seen self.old self.new text.now rest.now (T.seen tag.now)) }
@@ -248,8 +249,8 @@ impl<T: EqualCopy + Drop> NormalText<T> {
         Ok(self.add_words(c, text, after, tag)?)
     }
 
-    /// Adds the words that stand behind a space, which was read, where they are parted by single spaces and go on the line,
-    /// and the space behind them; what follows is left. The error is want of memory alone.
+    /// Adds the words that stand behind a space, which was read, where they are parted by single spaces and go on the
+    /// line, and the space behind them; what follows is left. The error is want of memory alone.
     fn add_words<'a>(
         &mut self,
         read: char,
@@ -287,8 +288,8 @@ impl<T: EqualCopy + Drop> NormalText<T> {
         }
     }
 
-    /// Adds characters that join the word at hand. Where they are a whole word, it is laid without being held, and the break
-    /// point behind it is added too, with the words behind that go on the line; what follows is left.
+    /// Adds characters that join the word at hand. Where they are a whole word, it is laid without being held, and the
+    /// break point behind it is added too, with the words behind that go on the line; what follows is left.
     fn add_run<'a>(&mut self, run: &str, rest: &'a str, tag: &T) -> Result<&'a str, BlockError>
         requires { All (JoinsWord self.old) (chars run.now) }
         ensures kinds { IfErr result (λ e. e ≡ BlockError.Memory) }
@@ -310,7 +311,8 @@ impl<T: EqualCopy + Drop> NormalText<T> {
         }
     }
 
-    /// The break point behind characters of so many columns, and what follows it, where the characters are a whole word.
+    /// The break point behind characters of so many columns, and what follows it, where the characters are a whole
+    /// word.
     fn end_of_word<'a>(&self, columns: usize, rest: &'a str) -> Option<(char, &'a str)>
         ensures ends { IfSome result (λ parts. EndsWord T.seen self.now columns rest.now parts.0 parts.1.now) }
         ensures texts { IfSome result (λ parts. IsScalar parts.0 × IsUtf8 parts.1.now) }

@@ -7,8 +7,8 @@ ghost use Rattle.normal_text.specs.SpacedWords.{EndsVisibly, IsEnded};
 use std::alloc::AllocError;
 use text_pieces::{first_char, last_char};
 
-/// The columns of the words in front of a text, each behind a space, as many as `room` columns hold with their spaces, and
-/// what follows them.
+/// The columns of the words in front of a text, each behind a space, as many as `room` columns hold with their spaces,
+/// and what follows them.
 pub(crate) fn words_in_front(text: &str, room: usize) -> (usize, &str)
     ensures words { HasWords text.now result.1.now result.0 room }
     ensures text { IsUtf8 result.1.now }
@@ -22,8 +22,8 @@ pub(crate) fn words_in_front(text: &str, room: usize) -> (usize, &str)
     (columns, rest)
 }
 
-/// The columns of a text without the space at its end, where it is words of at most `room` columns, each behind a space, and
-/// that space.
+/// The columns of a text without the space at its end, where it is words of at most `room` columns, each behind a
+/// space, and that space.
 pub(crate) fn words_before_space(text: &str, room: usize) -> Option<usize>
     ensures words { IfSome result (λ columns. IsWordsAndSpace (chars text.now) columns) }
     ensures fits { IfSome result (λ columns. (columns ≢ 0) × (columns ≤ room)) }
@@ -40,8 +40,8 @@ pub(crate) fn words_before_space(text: &str, room: usize) -> Option<usize>
     }
 }
 
-/// The columns of a text without the space at its end, where it is words of at most `room` columns, parted by single spaces,
-/// and that space.
+/// The columns of a text without the space at its end, where it is words of at most `room` columns, parted by single
+/// spaces, and that space.
 pub(crate) fn line_before_space(text: &str, room: usize) -> Option<usize>
     ensures line { IfSome result (λ columns. IsLineAndSpace (chars text.now) columns) }
     ensures fits { IfSome result (λ columns. columns ≤ room) }
@@ -100,7 +100,8 @@ pub(crate) fn without_last(text: String) -> String
     }
 }
 
-/// The columns of a space and the word behind it in front of a text, which take at most `room`, and the space that follows.
+/// The columns of a space and the word behind it in front of a text, which take at most `room`, and the space that
+/// follows.
 fn word_in_front(text: &str, room: usize) -> Option<(usize, &str)>
     ensures word { IfSome result (λ parts. HasWord text.now parts.1.now parts.0 room) }
     ensures text { IfSome result (λ parts. IsUtf8 parts.1.now) }

@@ -16,6 +16,22 @@ pub trait EqualCopy: Eq {
         Self: Sized,
         ensures { IfOk result (λ c. seen c ≡ seen self.now) };
 
+    /// Tags that equal these, in order. The error is want of memory alone.
+    fn copies(tags: &[Self], alloc: Global) -> Result<Vec<Self>, AllocError>
+    where
+        Self: Sized + Drop,
+        ensures { IfOk result (λ copies. map seen copies.items ≡ map seen tags.now) }
+    {
+        if tags.is_empty() {
+            return Ok(Vec::new(alloc));
+        }
+        let mut copies = Vec::with_capacity(alloc, tags.len())?;
+        for tag in tags {
+            copies.push(tag.copy(alloc)?)?;
+        }
+        Ok(copies)
+    }
+
     ghost same: { (x y : Self) → Self.eq x y ≡ true → seen x ≡ seen y };
 
     ghost apart: { (x y : Self) → Self.eq x y ≡ false → seen x ≢ seen y };
@@ -33,6 +49,12 @@ impl EqualCopy for () {
     fn copy(&self, _alloc: Global) -> Result<(), AllocError> {
         Ok(())
     }
+
+    fn copies(tags: &[()], alloc: Global) -> Result<Vec<()>, AllocError> {
+        let mut copies = Vec::new(alloc);
+        copies.resize_with(tags.len(), || ())?;
+        Ok(copies)
+    }
 }
 
 impl<T: EqualCopy + Drop> EqualCopy for Vec<T> {
@@ -45,13 +67,6 @@ impl<T: EqualCopy + Drop> EqualCopy for Vec<T> {
     ghost apart = { λ x y. seen-apart T.eq T.seen T.apart x.items y.items };
 
     fn copy(&self, alloc: Global) -> Result<Vec<T>, AllocError> {
-        if self.is_empty() {
-            return Ok(Vec::new(alloc));
-        }
-        let mut tags = Vec::with_capacity(alloc, self.len())?;
-        for tag in self {
-            tags.push(tag.copy(alloc)?)?;
-        }
-        Ok(tags)
+        T::copies(self, alloc)
     }
 }

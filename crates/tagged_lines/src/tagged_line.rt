@@ -155,7 +155,8 @@ impl<T: EqualCopy + Drop> TaggedLine<T> {
         Ok(())
     }
 
-    /// Adds a text whose columns are known at the end. The error is want of memory alone, and leaves the line as it was.
+    /// Adds a text whose columns are known at the end. The error is want of memory alone, and leaves the line as it
+    /// was.
     pub fn push_counted(&mut self, text: &str, columns: usize, tag: &T) -> Result<(), AllocError>
         requires { columns ≡ text_columns (chars text.now) }
         ensures ok { OnOk result (line_items T.seen self.new
@@ -170,7 +171,8 @@ impl<T: EqualCopy + Drop> TaggedLine<T> {
         Ok(())
     }
 
-    /// Moves a text whose columns are known to the end. The error is want of memory alone, and leaves the line as it was.
+    /// Moves a text whose columns are known to the end. The error is want of memory alone, and leaves the line as it
+    /// was.
     pub fn push_string(&mut self, text: String, columns: usize, tag: T) -> Result<(), AllocError>
         requires { columns ≡ text_columns (chars (string_bytes text)) }
         ensures ok { OnOk result (line_items T.seen self.new
