@@ -1,10 +1,13 @@
 -- No text of an article without a fault is empty.
 use Rattle.std.proofs.Common.{◌≡◌, ℕ, suc, Bool, true, false, not, List, [], ◌∷◌, Option, None}
 use Rattle.std.specs.Option.{option_or}
-use Rattle.article_values.specs.Articles.{Blocks, Inlines, Items, bullets, division, heading, item, line_break, link, no_blocks, no_inlines, no_items, numbers, paragraph, span, words}
-use Rattle.article_values.specs.Faults.{fault_of_blocks, fault_of_inlines, fault_of_items, fault_of_title, fault_where, first_fault}
+use Rattle.article_values.specs.Articles.{Blocks, Inlines, Items, bullets, division, heading, item, line_break, link}
+use Rattle.article_values.specs.Articles.{no_blocks, no_inlines, no_items, numbers, paragraph, span, words}
+use Rattle.article_values.specs.Faults.{fault_of_blocks, fault_of_inlines, fault_of_items, fault_of_title, fault_where}
+use Rattle.article_values.specs.Faults.{first_fault}
 use Rattle.article_values.specs.Faults.{has_forbidden, has_item, is_level, is_too_deep}
-use Rattle.article_values.specs.declared.error.ArticleError.TheVariants.{BadLevel, EmptyList, ForbiddenCharacter, LinkInLink, NeighbourTexts, TooDeep}
+use Rattle.article_values.specs.declared.error.ArticleError.TheVariants.{BadLevel, EmptyList, ForbiddenCharacter}
+use Rattle.article_values.specs.declared.error.ArticleError.TheVariants.{LinkInLink, NeighbourTexts, TooDeep}
 use Rattle.article_walk.specs.Pages.{AreFilled, AreFilledBlocks, AreFilledItems}
 use Rattle.written_articles.proofs.Accepted.{both_none, passed}
 

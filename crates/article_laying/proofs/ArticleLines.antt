@@ -1,5 +1,6 @@
 -- The lines of an article, by what was laid out of its blocks.
-use Rattle.std.proofs.Common.{◌≡◌, ℕ, zero, suc, ◌+◌, ◌<◌, List, [], map, Option, None, Some, if◌then◌else◌, refl, sym, ap, ◌∙◌, lt-ltb, arith}
+use Rattle.std.proofs.Common.{◌≡◌, ℕ, zero, suc, ◌+◌, ◌<◌, List, [], map, Option, None, Some, if◌then◌else◌, refl, sym}
+use Rattle.std.proofs.Common.{ap, ◌∙◌, lt-ltb, arith}
 use Rattle.std.specs.Option.{option_map}
 use Rattle.std.proofs.lemmas.Option.{none-some, same_Some}
 use Rattle.article_layout.specs.Layouts.{Line, Options, article_lines, count, lay, layout, notes, targets_of}

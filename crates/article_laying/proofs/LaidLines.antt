@@ -1,10 +1,15 @@
 -- What a walk over blocks lays out is the layout of the blocks.
-use Rattle.std.proofs.Common.{◌≡◌, ℕ, ℤ, suc, ◌+◌, List, [], ◌++◌, length, Option, None, Some, refl, sym, ap, ◌∙◌, append_assoc, append-nil, arith}
+use Rattle.std.proofs.Common.{◌≡◌, ℕ, ℤ, suc, ◌+◌, List, [], ◌++◌, length, Option, None, Some, refl, sym, ap, ◌∙◌}
+use Rattle.std.proofs.Common.{append_assoc, append-nil, arith}
 use Rattle.std.specs.Option.{option_and_then, option_map}
 use Rattle.std.proofs.lemmas.List.{length-append}
-use Rattle.article_layout.specs.Layouts.{Line, Options, count, count_items, how_many, item_prefix, lay, lay_items, least_of_items, next_number, paragraph_lines, parted, prefixed, room, room_of_numbers, targets_in, targets_of, targets_of_items, to_room}
-use Rattle.article_laying.specs.Walks.{At, behind_item, behind_paragraph, heading_lines, heading_prefix, laid, laid_items}
-use Rattle.article_values.specs.Articles.{Blocks, Inlines, Items, bullets, division, heading, item, no_blocks, no_items, numbers, paragraph}
+use Rattle.article_layout.specs.Layouts.{Line, Options, count, count_items, how_many, item_prefix, lay, lay_items}
+use Rattle.article_layout.specs.Layouts.{least_of_items, next_number, paragraph_lines, parted, prefixed, room}
+use Rattle.article_layout.specs.Layouts.{room_of_numbers, targets_in, targets_of, targets_of_items, to_room}
+use Rattle.article_laying.specs.Walks.{At, behind_item, behind_paragraph, heading_lines, heading_prefix, laid}
+use Rattle.article_laying.specs.Walks.{laid_items}
+use Rattle.article_values.specs.Articles.{Blocks, Inlines, Items, bullets, division, heading, item, no_blocks, no_items}
+use Rattle.article_values.specs.Articles.{numbers, paragraph}
 use Rattle.render_laying.specs.Items.{spaces}
 use Rattle.render_sizes.specs.Extents.{capped}
 

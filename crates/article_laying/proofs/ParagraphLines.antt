@@ -1,9 +1,12 @@
 -- The lines of a paragraph, by what was said of it.
-use Rattle.std.proofs.Common.{◌≡◌, ℕ, Bool, true, false, List, [], ◌∷◌, ◌++◌, map, length, Option, None, Some, if◌then◌else◌, refl, sym, ap, ◌∙◌}
+use Rattle.std.proofs.Common.{◌≡◌, ℕ, Bool, true, false, List, [], ◌∷◌, ◌++◌, map, length, Option, None, Some}
+use Rattle.std.proofs.Common.{if◌then◌else◌, refl, sym, ap, ◌∙◌}
 use Rattle.std.specs.Option.{option_and_then, option_map}
 use Rattle.std.proofs.lemmas.Option.{none-some, same_Some}
 use Rattle.article_layout.specs.Calls.{block_with, cell_of, measure, run, run_whole}
-use Rattle.article_layout.specs.Layouts.{Line, Options, Part, Stretch, Tag, all_fit, break_lines, empty_line, if_fits, line_of, lines_of_stretches, outermost, paragraph_lines, parts_of, stretch_lines, stretches, targets_in}
+use Rattle.article_layout.specs.Layouts.{Line, Options, Part, Stretch, Tag, all_fit, break_lines, empty_line, if_fits}
+use Rattle.article_layout.specs.Layouts.{line_of, lines_of_stretches, outermost, paragraph_lines, parts_of}
+use Rattle.article_layout.specs.Layouts.{stretch_lines, stretches, targets_in}
 use Rattle.article_laying.specs.Seen.{of_paragraph}
 use Rattle.article_laying.specs.Walks.{Said, said}
 use Rattle.article_laying.proofs.SaidRuns.{said_is}

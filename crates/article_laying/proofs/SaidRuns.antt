@@ -1,9 +1,11 @@
 -- What is said of a paragraph is what its parts say, one after another.
-use Rattle.std.proofs.Common.{◌≡◌, ℕ, suc, ◌+◌, Bool, true, false, List, [], ◌∷◌, ◌++◌, length, Option, None, Some, codes, if◌then◌else◌, refl, sym, ap, ◌∙◌, append_assoc, append-nil, arith}
+use Rattle.std.proofs.Common.{◌≡◌, ℕ, suc, ◌+◌, Bool, true, false, List, [], ◌∷◌, ◌++◌, length, Option, None, Some}
+use Rattle.std.proofs.Common.{codes, if◌then◌else◌, refl, sym, ap, ◌∙◌, append_assoc, append-nil, arith}
 use Rattle.std.specs.Option.{option_and_then, option_map}
 use Rattle.std.proofs.lemmas.List.{length-append}
 use Rattle.article_layout.specs.Calls.{run}
-use Rattle.article_layout.specs.Layouts.{Options, Part, Tag, all_shallow, breaks, mark_of, number_mark, parts_of, says, targets_in, unless_shallow, within}
+use Rattle.article_layout.specs.Layouts.{Options, Part, Tag, all_shallow, breaks, mark_of, number_mark, parts_of, says}
+use Rattle.article_layout.specs.Layouts.{targets_in, unless_shallow, within}
 use Rattle.article_laying.specs.Walks.{Said, adds, linked, numbered, said}
 use Rattle.article_values.specs.Articles.{Inlines, Style, line_break, link, no_inlines, span, words}
 use Rattle.block_layout.specs.Laid.{Laid, add_text, break_line}

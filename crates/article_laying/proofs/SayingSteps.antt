@@ -1,5 +1,6 @@
 -- What is said of a span and of a link, step by step.
-use Rattle.std.proofs.Common.{◌≡◌, ℕ, Bool, false, List, [], ◌∷◌, ◌++◌, Option, chars, string_bytes, codes, refl, sym, ap, ◌∙◌, String, Global}
+use Rattle.std.proofs.Common.{◌≡◌, ℕ, Bool, false, List, [], ◌∷◌, ◌++◌, Option, chars, string_bytes, codes, refl, sym}
+use Rattle.std.proofs.Common.{ap, ◌∙◌, String, Global}
 use Rattle.std.specs.Option.{option_and_then}
 use Rattle.article_layout.specs.Layouts.{Options, Tag, mark_of, within}
 use Rattle.article_laying.specs.Walks.{Said, adds, linked, numbered, spanned, with_target}

@@ -1,15 +1,23 @@
 -- The calls of an article's blocks lay just its lines.
-use Rattle.std.proofs.Common.{◌≡◌, ℕ, ℤ, suc, ◌+◌, Bool, true, false, ◌||◌, List, [], ◌∷◌, ◌++◌, length, map, replicate, codes, Option, None, Some, if◌then◌else◌, fold, refl, sym, ap, ◌∙◌, append_assoc, append-nil}
+use Rattle.std.proofs.Common.{◌≡◌, ℕ, ℤ, suc, ◌+◌, Bool, true, false, ◌||◌, List, [], ◌∷◌, ◌++◌, length, map, replicate}
+use Rattle.std.proofs.Common.{codes, Option, None, Some, if◌then◌else◌, fold, refl, sym, ap, ◌∙◌, append_assoc}
+use Rattle.std.proofs.Common.{append-nil}
 use Rattle.std.specs.Option.{option_and_then, option_map}
 use Rattle.tagged_lines.specs.Tagged.{Item}
-use Rattle.block_layout.specs.Laid.{Laid, Running, add_block, add_prefixed, add_text_line, add_text_lines, end_block, flush, flush_of, laid_text, parted as laid_parted, start_block, text_laid, without_running}
+use Rattle.block_layout.specs.Laid.{Laid, Running, add_block, add_prefixed, add_text_line, add_text_lines, end_block}
+use Rattle.block_layout.specs.Laid.{flush, flush_of, laid_text, parted as laid_parted, start_block, text_laid}
+use Rattle.block_layout.specs.Laid.{without_running}
 use Rattle.block_layout.specs.Laid.{has_content as cells_have_content}
 use Rattle.block_layout.specs.declared.measure.Measure.{Measure}
-use Rattle.article_values.specs.Articles.{Blocks, Inlines, Items, bullets, division, heading, item, no_blocks, no_items, numbers, paragraph}
+use Rattle.article_values.specs.Articles.{Blocks, Inlines, Items, bullets, division, heading, item, no_blocks, no_items}
+use Rattle.article_values.specs.Articles.{numbers, paragraph}
 use Rattle.article_layout.specs.BlockCalls.{append, awaits_behind, run_blocks, run_items}
 use Rattle.article_layout.specs.Calls.{block_with, cell_of, measure, run, run_whole}
 use Rattle.render_sizes.specs.Extents.{capped}
-use Rattle.article_layout.specs.Layouts.{Line, Options, Tag, behind, count, count_items, empty_line, has_content, how_many, item_prefix, lay, lay_items, least_in, least_of_items, next_number, paragraph_lines, parted, parts_of, prefixed, room, room_of_numbers, targets_in, targets_of, targets_of_items, to_room, outermost, within}
+use Rattle.article_layout.specs.Layouts.{Line, Options, Tag, behind, count, count_items, empty_line, has_content}
+use Rattle.article_layout.specs.Layouts.{how_many, item_prefix, lay, lay_items, least_in, least_of_items, next_number}
+use Rattle.article_layout.specs.Layouts.{paragraph_lines, parted, parts_of, prefixed, room, room_of_numbers, targets_in}
+use Rattle.article_layout.specs.Layouts.{targets_of, targets_of_items, to_room, outermost, within}
 use Rattle.render_laying.specs.Items.{spaces}
 use Rattle.article_layout.proofs.Called.{KeepsMarkers, paragraph_called}
 

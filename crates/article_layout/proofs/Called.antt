@@ -1,5 +1,6 @@
 -- The calls of a paragraph lay just its lines.
-use Rattle.std.proofs.Common.{◌≡◌, ℕ, Bool, true, false, not, ◌&&◌, List, [], ◌∷◌, ◌++◌, map, Option, None, Some, if◌then◌else◌, refl, sym, ap, ◌∙◌, append_assoc, append-nil}
+use Rattle.std.proofs.Common.{◌≡◌, ℕ, Bool, true, false, not, ◌&&◌, List, [], ◌∷◌, ◌++◌, map, Option, None, Some}
+use Rattle.std.proofs.Common.{if◌then◌else◌, refl, sym, ap, ◌∙◌, append_assoc, append-nil}
 use Rattle.std.specs.Option.{option_and_then, option_map}
 use Rattle.std.specs.Prelude.{flat_map}
 use Rattle.normal_text.specs.Letters.{has_marker}
@@ -13,11 +14,15 @@ use Rattle.text_pieces.specs.declared.white_space.WhiteSpace.TheVariants.{Normal
 use Rattle.text_wrapping.specs.Blocks.{Block, ended_lines, ends_in_columns, padded, took_all, without_source}
 use Rattle.text_wrapping.specs.Blocks.{lines_behind as ended_behind}
 use Rattle.preserved_text.specs.Preserved.{names_of}
-use Rattle.block_layout.specs.Laid.{Laid, Running, add_empty_line, add_text, add_text_lines, behind_empty_line, break_line, broken_line, flush, laid_text, text_laid, with_added, with_markers, with_running, with_text_of}
+use Rattle.block_layout.specs.Laid.{Laid, Running, add_empty_line, add_text, add_text_lines, behind_empty_line}
+use Rattle.block_layout.specs.Laid.{break_line, broken_line, flush, laid_text, text_laid, with_added, with_markers}
+use Rattle.block_layout.specs.Laid.{with_running, with_text_of}
 use Rattle.block_layout.specs.Laid.{lines_behind as found_behind}
 use Rattle.block_layout.specs.declared.measure.Measure.{Measure}
 use Rattle.article_layout.specs.Calls.{block_with, cell_of, measure, run, run_whole}
-use Rattle.article_layout.specs.Layouts.{Line, Options, Part, Stretch, Tag, all_fit, begun_by, break_lines, breaks, empty_line, if_fits, line_of, lines_of_stretches, paragraph_lines, parts_of, says, stretch_lines, stretches, wrap_at, outermost}
+use Rattle.article_layout.specs.Layouts.{Line, Options, Part, Stretch, Tag, all_fit, begun_by, break_lines, breaks}
+use Rattle.article_layout.specs.Layouts.{empty_line, if_fits, line_of, lines_of_stretches, paragraph_lines, parts_of}
+use Rattle.article_layout.specs.Layouts.{says, stretch_lines, stretches, wrap_at, outermost}
 use Rattle.article_values.specs.Articles.{Inlines}
 
 -- ---- nothing

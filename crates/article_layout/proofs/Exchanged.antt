@@ -1,5 +1,6 @@
 -- Articles that differ in one text with a visible character have lines that are alike but for its paragraph.
-use Rattle.std.proofs.Common.{◌≡◌, ℕ, ℤ, suc, ◌+◌, ◌-◌, nat_le, max, Bool, true, false, ◌&&◌, if◌then◌else◌, List, [], ◌++◌, length, replicate, codes, Option, None, Some, refl, sym, ap, subst, ◌∙◌}
+use Rattle.std.proofs.Common.{◌≡◌, ℕ, ℤ, suc, ◌+◌, ◌-◌, nat_le, max, Bool, true, false, ◌&&◌, if◌then◌else◌, List, []}
+use Rattle.std.proofs.Common.{◌++◌, length, replicate, codes, Option, None, Some, refl, sym, ap, subst, ◌∙◌}
 use Rattle.std.proofs.lemmas.Option.{none-some, option_and_then_some, same_Some}
 use Rattle.std.specs.List.{list_any}
 use Rattle.std.specs.Option.{option_and_then, option_map}
@@ -8,12 +9,19 @@ use Rattle.normal_text.specs.Riders.{normal_lines}
 use Rattle.text_pieces.specs.Items.{has_text}
 use Rattle.text_pieces.specs.Sources.{Source, is_filled}
 use Rattle.article_layout.specs.Showing.{has_visible}
-use Rattle.article_values.specs.Articles.{Blocks, Items, bullets, division, heading, item, no_blocks, no_items, numbers, paragraph}
-use Rattle.article_layout.specs.Exchanges.{Alike, Differ, DifferItems, behind_bullets, behind_division, behind_heading, behind_item, behind_numbers, behind_paragraph, in_bullets, in_division, in_item, in_numbers, others, this_heading, this_paragraph}
+use Rattle.article_values.specs.Articles.{Blocks, Items, bullets, division, heading, item, no_blocks, no_items, numbers}
+use Rattle.article_values.specs.Articles.{paragraph}
+use Rattle.article_layout.specs.Exchanges.{Alike, Differ, DifferItems, behind_bullets, behind_division, behind_heading}
+use Rattle.article_layout.specs.Exchanges.{behind_item, behind_numbers, behind_paragraph, in_bullets, in_division}
+use Rattle.article_layout.specs.Exchanges.{in_item, in_numbers, others, this_heading, this_paragraph}
 use Rattle.render_sizes.specs.Extents.{capped}
-use Rattle.article_layout.specs.Layouts.{Line, Options, count, count_items, how_many, if_fits, item_prefix, layout, lay, lay_items, least_in, least_of_items, next_number, paragraph_lines, parted, prefixed, room, room_of_numbers, targets_in, targets_of, targets_of_items, to_room, Tag, within}
+use Rattle.article_layout.specs.Layouts.{Line, Options, count, count_items, how_many, if_fits, item_prefix, layout, lay}
+use Rattle.article_layout.specs.Layouts.{lay_items, least_in, least_of_items, next_number, paragraph_lines, parted}
+use Rattle.article_layout.specs.Layouts.{prefixed, room, room_of_numbers, targets_in, targets_of, targets_of_items}
+use Rattle.article_layout.specs.Layouts.{to_room, Tag, within}
 use Rattle.render_laying.specs.Items.{spaces}
-use Rattle.article_layout.proofs.Alikes.{alike_both, alike_changed, alike_others, alike_parted, alike_prefixed, alike_same, prefixed_is}
+use Rattle.article_layout.proofs.Alikes.{alike_both, alike_changed, alike_others, alike_parted, alike_prefixed}
+use Rattle.article_layout.proofs.Alikes.{alike_same, prefixed_is}
 use Rattle.article_layout.proofs.Shown.{left_shown, paragraph_is, right_shown, same_targets}
 
 same_some : {A : Type 0} (x : Option A) (a b : A) → x ≡ Some a → x ≡ Some b → a ≡ b

@@ -1,5 +1,6 @@
 -- The calls of an article's blocks and of its targets lay just its lines.
-use Rattle.std.proofs.Common.{◌≡◌, ℕ, suc, Bool, true, false, ◌&&◌, List, [], ◌∷◌, ◌++◌, map, Option, None, Some, if◌then◌else◌, refl, sym, ap, ◌∙◌, append_assoc, append-nil}
+use Rattle.std.proofs.Common.{◌≡◌, ℕ, suc, Bool, true, false, ◌&&◌, List, [], ◌∷◌, ◌++◌, map, Option, None, Some}
+use Rattle.std.proofs.Common.{if◌then◌else◌, refl, sym, ap, ◌∙◌, append_assoc, append-nil}
 use Rattle.std.specs.Option.{option_and_then, option_map}
 use Rattle.std.proofs.lemmas.Option.{none-some, same_Some}
 use Rattle.block_layout.specs.Laid.{Laid, add_text_lines, flush, nothing_laid, parted as laid_parted, start_block}
@@ -7,7 +8,8 @@ use Rattle.block_layout.specs.declared.measure.Measure.{Measure}
 use Rattle.article_values.specs.Articles.{Blocks}
 use Rattle.article_layout.specs.BlockCalls.{add_notes, awaits_behind, noted, run_blocks, run_notes}
 use Rattle.article_layout.specs.Calls.{cell_of, measure}
-use Rattle.article_layout.specs.Layouts.{Line, Options, Tag, lay, layout, note_line, notes, notes_from, outermost, parted, targets_of}
+use Rattle.article_layout.specs.Layouts.{Line, Options, Tag, lay, layout, note_line, notes, notes_from, outermost}
+use Rattle.article_layout.specs.Layouts.{parted, targets_of}
 use Rattle.footnote_lines.specs.Footnotes.{footnote_lines}
 use Rattle.tagged_lines.specs.Tagged.{Item, tagged}
 use Rattle.text_borders.specs.Across.{CellLine}

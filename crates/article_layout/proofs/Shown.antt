@@ -1,5 +1,6 @@
 -- A paragraph with a visible character has a line with content, and its links don't depend on the text.
-use Rattle.std.proofs.Common.{◌≡◌, ℕ, suc, ◌+◌, ◌==◌, Bool, true, false, not, ◌&&◌, ◌||◌, List, [], ◌∷◌, ◌++◌, length, map, codes, Option, None, Some, if◌then◌else◌, refl, sym, ap, subst, ◌∙◌}
+use Rattle.std.proofs.Common.{◌≡◌, ℕ, suc, ◌+◌, ◌==◌, Bool, true, false, not, ◌&&◌, ◌||◌, List, [], ◌∷◌, ◌++◌, length}
+use Rattle.std.proofs.Common.{map, codes, Option, None, Some, if◌then◌else◌, refl, sym, ap, subst, ◌∙◌}
 use Rattle.std.proofs.lemmas.Bool.{eq-eqb}
 use Rattle.std.proofs.lemmas.List.Elements.{filter-append}
 use Rattle.std.proofs.lemmas.List.Folds.{list_any-append}
@@ -14,8 +15,13 @@ use Rattle.text_pieces.specs.Sources.{Source, is_filled, letter, fragment, sourc
 use Rattle.text_wrapping.specs.Blocks.{ends_in_columns}
 use Rattle.article_layout.specs.Showing.{has_visible, is_visible}
 use Rattle.article_values.specs.Articles.{Inlines, Style, line_break, link, span, words}
-use Rattle.article_layout.specs.Exchanges.{DifferInline, IsParagraph, HasVisible, behind_break, behind_link, behind_span, behind_text, in_link, in_span, is_number, others, this_text}
-use Rattle.article_layout.specs.Layouts.{Line, Options, Part, Stretch, begun_by, all_fit, all_shallow, break_lines, breaks, empty_line, has_content, has_none, if_fits, line_of, lines_of_stretches, mark_of, number_mark, paragraph_lines, parts_of, says, stretch_lines, stretches, targets_in, unless_shallow, wrap_at, Tag, outermost, within}
+use Rattle.article_layout.specs.Exchanges.{DifferInline, IsParagraph, HasVisible, behind_break, behind_link}
+use Rattle.article_layout.specs.Exchanges.{behind_span, behind_text, in_link, in_span, is_number, others, this_text}
+use Rattle.article_layout.specs.Layouts.{Line, Options, Part, Stretch, begun_by, all_fit, all_shallow, break_lines}
+use Rattle.article_layout.specs.Layouts.{breaks, empty_line, has_content, has_none, if_fits, line_of}
+use Rattle.article_layout.specs.Layouts.{lines_of_stretches, mark_of, number_mark, paragraph_lines, parts_of, says}
+use Rattle.article_layout.specs.Layouts.{stretch_lines, stretches, targets_in, unless_shallow, wrap_at, Tag, outermost}
+use Rattle.article_layout.specs.Layouts.{within}
 
 -- a text with a visible character stands somewhere
 pub data HasShown : Inlines → Type 0 where

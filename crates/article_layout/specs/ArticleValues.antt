@@ -1,7 +1,9 @@
 -- The render values of an article's page.
 use Rattle.std.specs.Prelude.{ℕ, Bool, List, [], ◌∷◌, if◌then◌else◌}
 use Rattle.article_layout.specs.Layouts.{Options, all_shallow, mark_of}
-use Rattle.article_values.specs.Articles.{Blocks, Inlines, Items, Style, bold, bullets, code, division, emphasis, heading, italic, item, line_break, link, no_blocks, no_inlines, no_items, numbers, paragraph, span, words}
+use Rattle.article_values.specs.Articles.{Blocks, Inlines, Items, Style, bold, bullets, code, division, emphasis}
+use Rattle.article_values.specs.Articles.{heading, italic, item, line_break, link, no_blocks, no_inlines, no_items}
+use Rattle.article_values.specs.Articles.{numbers, paragraph, span, words}
 use Rattle.render_values.specs.Plain.{container, plain_head}
 use Rattle.render_values.specs.Values.{Values, joined, none, value}
 use Rattle.render_values.specs.declared.info.RenderInfo.{RenderInfo}

@@ -1,5 +1,6 @@
 -- An article's blocks as calls of blocks of lines, by the words of block_layout.
-use Rattle.std.specs.Prelude.{ℕ, ℤ, suc, ◌+◌, Bool, true, false, List, [], ◌∷◌, ◌++◌, length, replicate, codes, Option, None, Some, if◌then◌else◌}
+use Rattle.std.specs.Prelude.{ℕ, ℤ, suc, ◌+◌, Bool, true, false, List, [], ◌∷◌, ◌++◌, length, replicate, codes, Option}
+use Rattle.std.specs.Prelude.{None, Some, if◌then◌else◌}
 use Rattle.std.specs.Option.{option_and_then, option_map}
 use Rattle.block_layout.specs.Laid.{Laid, add_block, add_text_lines, end_block, flush, nothing_laid, start_block}
 use Rattle.footnote_lines.specs.Footnotes.{footnote_lines}
@@ -7,9 +8,12 @@ use Rattle.tagged_lines.specs.Tagged.{tagged}
 use Rattle.text_decorators.specs.Texts.{footnote_text}
 use Rattle.render_laying.specs.Items.{spaces}
 use Rattle.render_sizes.specs.Extents.{capped}
-use Rattle.article_values.specs.Articles.{Blocks, Items, bullets, division, heading, item, no_blocks, no_items, numbers, paragraph}
+use Rattle.article_values.specs.Articles.{Blocks, Items, bullets, division, heading, item, no_blocks, no_items, numbers}
+use Rattle.article_values.specs.Articles.{paragraph}
 use Rattle.article_layout.specs.Calls.{measure, run, run_whole}
-use Rattle.article_layout.specs.Layouts.{Options, Tag, how_many, outermost, item_prefix, least_in, least_of_items, next_number, parts_of, room, room_of_numbers, targets_in, targets_of, targets_of_items, to_room}
+use Rattle.article_layout.specs.Layouts.{Options, Tag, how_many, outermost, item_prefix, least_in, least_of_items}
+use Rattle.article_layout.specs.Layouts.{next_number, parts_of, room, room_of_numbers, targets_in, targets_of}
+use Rattle.article_layout.specs.Layouts.{targets_of_items, to_room}
 
 -- the lines of another block behind prefixes
 abbrev pub append : Options → (width within : ℕ) → List ℕ → List ℕ → Laid Tag → Laid Tag → Laid Tag

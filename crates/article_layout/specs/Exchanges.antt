@@ -1,7 +1,9 @@
 -- Articles that differ in one text, and lines that differ in one paragraph.
-use Rattle.std.specs.Prelude.{◌≡◌, ℕ, ℤ, suc, ◌+◌, ◌==◌, Bool, true, false, not, List, [], ◌∷◌, ◌++◌, filter, Option, None, Some}
+use Rattle.std.specs.Prelude.{◌≡◌, ℕ, ℤ, suc, ◌+◌, ◌==◌, Bool, true, false, not, List, [], ◌∷◌, ◌++◌, filter, Option}
+use Rattle.std.specs.Prelude.{None, Some}
 use Rattle.std.specs.Char.{is_whitespace}
-use Rattle.article_values.specs.Articles.{Blocks, Inlines, Items, Style, bullets, division, heading, item, line_break, link, numbers, paragraph, span, words}
+use Rattle.article_values.specs.Articles.{Blocks, Inlines, Items, Style, bullets, division, heading, item, line_break}
+use Rattle.article_values.specs.Articles.{link, numbers, paragraph, span, words}
 use Rattle.article_layout.specs.Layouts.{Line, count, count_items, has_content}
 use Rattle.article_layout.specs.Showing.{is_visible}
 

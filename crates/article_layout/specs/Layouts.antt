@@ -1,5 +1,7 @@
 -- The layout of an article: lines by recursion on the value, no tag, escape, parser or tree in it.
-use Rattle.std.specs.Prelude.{ℕ, ℤ, suc, ◌+◌, ◌-◌, nat_le, nat_lt, min, max, Bool, true, false, not, ◌&&◌, ◌||◌, List, [], ◌∷◌, ◌++◌, length, map, replicate, codes, Option, None, Some, unwrap_or, if◌then◌else◌}
+use Rattle.std.specs.Prelude.{ℕ, ℤ, suc, ◌+◌, ◌-◌, nat_le, nat_lt, min, max, Bool, true, false, not, ◌&&◌, ◌||◌, List}
+use Rattle.std.specs.Prelude.{[], ◌∷◌, ◌++◌, length, map, replicate, codes, Option, None, Some, unwrap_or}
+use Rattle.std.specs.Prelude.{if◌then◌else◌}
 use Rattle.std.specs.Char.{is_whitespace}
 use Rattle.std.specs.Fmt.{decimal, signed_decimal}
 use Rattle.std.specs.List.{list_all, list_any}
@@ -14,7 +16,9 @@ use Rattle.text_wrapping.specs.Blocks.{ends_in_columns, padded}
 use Rattle.render_laying.specs.Items.{number_after, spaces}
 use Rattle.render_sizes.specs.Extents.{capped}
 use Rattle.render_sizes.specs.TextSizes.{text_size}
-use Rattle.article_values.specs.Articles.{Blocks, Inlines, Items, Style, bold, bullets, code, division, emphasis, heading, italic, item, line_break, link, no_blocks, no_items, no_inlines, numbers, paragraph, span, words}
+use Rattle.article_values.specs.Articles.{Blocks, Inlines, Items, Style, bold, bullets, code, division, emphasis}
+use Rattle.article_values.specs.Articles.{heading, italic, item, line_break, link, no_blocks, no_items, no_inlines}
+use Rattle.article_values.specs.Articles.{numbers, paragraph, span, words}
 
 -- the options that matter here
 pub record Options : Type 0 where

@@ -1,10 +1,12 @@
 //! Laws of the layout of articles.
-ghost use Rattle.std.specs.Prelude.{◌≡◌, ◌≤◌, ◌++◌, ℕ, List, [], map, None, Some, option_map, filter, flat_map, option_and_then};
+ghost use Rattle.std.specs.Prelude.{◌≡◌, ◌≤◌, ◌++◌, ℕ, List, [], map, None, Some, option_map, filter, flat_map};
+ghost use Rattle.std.specs.Prelude.{option_and_then};
 ghost use Rattle.article_values.specs.Articles.{Blocks, Inlines};
 ghost use Rattle.article_layout.specs.BlockCalls.{noted, run_blocks, run_notes};
 ghost use Rattle.article_layout.specs.Calls.{block_with, cell_of, measure, run_whole};
 ghost use Rattle.article_layout.specs.Exchanges.{Differ, others};
-ghost use Rattle.article_layout.specs.Layouts.{Line, Options, Stretch, Tag, article_lines, lay, layout, notes, outermost, paragraph_lines};
+ghost use Rattle.article_layout.specs.Layouts.{Line, Options, Stretch, Tag, article_lines, lay, layout, notes};
+ghost use Rattle.article_layout.specs.Layouts.{outermost, paragraph_lines};
 ghost use Rattle.article_layout.specs.Layouts.{parts_of, stretch_lines, targets_of, wrap_at};
 ghost use Rattle.article_layout.specs.Paragraphs.{AreParagraphs};
 ghost use Rattle.article_layout.specs.Showing.{is_visible, visible_of};

@@ -1,11 +1,15 @@
 -- What the walk of a render tree makes of the values of an article's blocks: the calls of its blocks.
-use Rattle.std.proofs.Common.{◌≡◌, ℕ, ℤ, ◌+◌, ◌-◌, max, Bool, false, List, ◌++◌, length, replicate, codes, Option, None, Some, refl, sym, ap, ◌∙◌, append_assoc, append-nil}
+use Rattle.std.proofs.Common.{◌≡◌, ℕ, ℤ, ◌+◌, ◌-◌, max, Bool, false, List, ◌++◌, length, replicate, codes, Option, None}
+use Rattle.std.proofs.Common.{Some, refl, sym, ap, ◌∙◌, append_assoc, append-nil}
 use Rattle.std.specs.Option.{option_and_then, option_map}
 use Rattle.article_layout.specs.ArticleValues.{values_of_blocks, values_of_inlines, values_of_items}
 use Rattle.article_layout.specs.BlockCalls.{run_blocks, run_items}
 use Rattle.article_layout.specs.Calls.{run}
-use Rattle.article_layout.specs.Layouts.{Options, Tag, how_many, item_prefix, least_in, least_of_items, next_number, outermost, parts_of, room_of_numbers, targets_in, targets_of, targets_of_items, to_room}
-use Rattle.article_values.specs.Articles.{Blocks, Inlines, Items, bullets, division, heading, item, no_blocks, no_items, numbers, paragraph}
+use Rattle.article_layout.specs.Layouts.{Options, Tag, how_many, item_prefix, least_in, least_of_items, next_number}
+use Rattle.article_layout.specs.Layouts.{outermost, parts_of, room_of_numbers, targets_in, targets_of, targets_of_items}
+use Rattle.article_layout.specs.Layouts.{to_room}
+use Rattle.article_values.specs.Articles.{Blocks, Inlines, Items, bullets, division, heading, item, no_blocks, no_items}
+use Rattle.article_values.specs.Articles.{numbers, paragraph}
 use Rattle.block_layout.specs.Laid.{Laid, end_block, flush, nothing_laid, start_block}
 use Rattle.block_layout.specs.declared.measure.Measure.{Measure}
 use Rattle.render_laying.specs.Begins.{begins, ends, following, leading, style_begins, style_ends}
@@ -29,9 +33,11 @@ use Rattle.text_marks.specs.Marks.{header}
 use Rattle.article_walk.specs.Measures.{plain_measure}
 use Rattle.article_walk.specs.Pages.{AreFilled, AreFilledBlocks, AreFilledItems, Place}
 use Rattle.article_walk.proofs.InlinesWalked.{are_walked, around_it, counted, next, unstyled}
-use Rattle.article_walk.proofs.Leasts.{bullet_columns, least_of_inlines, least_of_item_values, number_of_items, numbers_columns}
+use Rattle.article_walk.proofs.Leasts.{bullet_columns, least_of_inlines, least_of_item_values, number_of_items}
+use Rattle.article_walk.proofs.Leasts.{numbers_columns}
 use Rattle.article_walk.proofs.PagesLaid.{Layings, ended, flushed, part_at, started}
-use Rattle.article_walk.proofs.PartsWalked.{article, at, behind_is, in_list, ms, put, put_then, start_last, start_quiet, start_rests, then_walk}
+use Rattle.article_walk.proofs.PartsWalked.{article, at, behind_is, in_list, ms, put, put_then, start_last, start_quiet}
+use Rattle.article_walk.proofs.PartsWalked.{start_rests, then_walk}
 use Rattle.article_walk.proofs.Prefixes.{both, heading_columns_are, item_columns_are}
 use Rattle.article_walk.proofs.SaidTexts.{nothing_more}
 

@@ -1,10 +1,13 @@
 -- What the walk of a render tree makes of the values of what a paragraph holds: the calls of its parts.
-use Rattle.std.proofs.Common.{◌≡◌, ℕ, suc, ◌+◌, Bool, true, false, List, [], ◌∷◌, ◌++◌, length, codes, Option, None, Some, if◌then◌else◌, refl, sym, ap, ◌∙◌, append_assoc, append-nil, length-append, arith}
+use Rattle.std.proofs.Common.{◌≡◌, ℕ, suc, ◌+◌, Bool, true, false, List, [], ◌∷◌, ◌++◌, length, codes, Option, None}
+use Rattle.std.proofs.Common.{Some, if◌then◌else◌, refl, sym, ap, ◌∙◌, append_assoc, append-nil, length-append, arith}
 use Rattle.std.specs.Option.{option_and_then, option_map}
 use Rattle.article_layout.specs.ArticleValues.{link_before, marked, style_info, text_before, values_of_inlines}
 use Rattle.article_layout.specs.Calls.{run}
-use Rattle.article_layout.specs.Layouts.{Options, Part, Tag, all_shallow, mark_of, number_mark, parts_of, says, targets_in, unless_shallow, within}
-use Rattle.article_values.specs.Articles.{Inlines, Style, bold, code, emphasis, italic, line_break, link, no_inlines, span, words}
+use Rattle.article_layout.specs.Layouts.{Options, Part, Tag, all_shallow, mark_of, number_mark, parts_of, says}
+use Rattle.article_layout.specs.Layouts.{targets_in, unless_shallow, within}
+use Rattle.article_values.specs.Articles.{Inlines, Style, bold, code, emphasis, italic, line_break, link, no_inlines}
+use Rattle.article_values.specs.Articles.{span, words}
 use Rattle.block_layout.specs.Laid.{Laid, break_line}
 use Rattle.block_layout.specs.declared.measure.Measure.{Measure}
 use Rattle.render_laying.specs.Begins.{begins, ends, following, leading, style_begins, style_ends}
@@ -22,8 +25,10 @@ use Rattle.text_block_renderer.specs.PlainText.{plain_marking}
 use Rattle.text_marks.specs.Marks.{Mark, code_end, code_start, emphasis_end, emphasis_start, strong_end, strong_start}
 use Rattle.article_walk.specs.Measures.{plain_measure}
 use Rattle.article_walk.specs.Pages.{AreFilled, Place}
-use Rattle.article_walk.proofs.PagesLaid.{Layings, broke, laying, link_begun, link_ended, m, mark_begun, mark_ended, o, said}
-use Rattle.article_walk.proofs.SaidTexts.{IsQuiet, both_behind, break_quiet, chained, empty_first, empty_last, run_both, run_quiet, say, say_quiet, then_quiet}
+use Rattle.article_walk.proofs.PagesLaid.{Layings, broke, laying, link_begun, link_ended, m, mark_begun, mark_ended, o}
+use Rattle.article_walk.proofs.PagesLaid.{said}
+use Rattle.article_walk.proofs.SaidTexts.{IsQuiet, both_behind, break_quiet, chained, empty_first, empty_last, run_both}
+use Rattle.article_walk.proofs.SaidTexts.{run_quiet, say, say_quiet, then_quiet}
 
 -- what is done to a block of lines in a renderer, and what is done behind it
 pub next : (f : Layings → Option Layings) (g : Laid Tag → Option (Laid Tag)) (here there : Laid Tag → Layings)

@@ -1,8 +1,13 @@
 -- The least width that an article's values ask for is the one that the article does.
-use Rattle.std.proofs.Common.{◌≡◌, ℕ, suc, ◌+◌, ◌-◌, max, ℤ, Bool, true, false, List, [], ◌∷◌, codes, None, Some, if◌then◌else◌, refl, sym, ap, ◌∙◌, arith}
-use Rattle.article_layout.specs.ArticleValues.{link_before, marked, style_info, text_before, values_of_blocks, values_of_inlines, values_of_items}
-use Rattle.article_layout.specs.Layouts.{Options, all_shallow, how_many, least_in, least_of, least_of_items, least_text, mark_of, room_of_numbers}
-use Rattle.article_values.specs.Articles.{Blocks, Inlines, Items, Style, bold, bullets, code, division, emphasis, heading, italic, item, line_break, link, no_blocks, no_inlines, no_items, numbers, paragraph, span, words}
+use Rattle.std.proofs.Common.{◌≡◌, ℕ, suc, ◌+◌, ◌-◌, max, ℤ, Bool, true, false, List, [], ◌∷◌, codes, None, Some}
+use Rattle.std.proofs.Common.{if◌then◌else◌, refl, sym, ap, ◌∙◌, arith}
+use Rattle.article_layout.specs.ArticleValues.{link_before, marked, style_info, text_before, values_of_blocks}
+use Rattle.article_layout.specs.ArticleValues.{values_of_inlines, values_of_items}
+use Rattle.article_layout.specs.Layouts.{Options, all_shallow, how_many, least_in, least_of, least_of_items, least_text}
+use Rattle.article_layout.specs.Layouts.{mark_of, room_of_numbers}
+use Rattle.article_values.specs.Articles.{Blocks, Inlines, Items, Style, bold, bullets, code, division, emphasis}
+use Rattle.article_values.specs.Articles.{heading, italic, item, line_break, link, no_blocks, no_inlines, no_items}
+use Rattle.article_values.specs.Articles.{numbers, paragraph, span, words}
 use Rattle.render_laying.specs.Items.{number_after}
 use Rattle.render_sizes.specs.Extents.{Measure, capped, extent, extent_of, number}
 use Rattle.render_values.specs.Plain.{plain_head}

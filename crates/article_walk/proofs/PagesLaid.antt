@@ -1,5 +1,6 @@
 -- A page's renderer by the block of lines that it holds, and what calls of the renderer do to that block.
-use Rattle.std.proofs.Common.{◌≡◌, ℕ, Bool, true, false, not, ◌&&◌, List, [], ◌∷◌, ◌++◌, Option, None, Some, if◌then◌else◌, refl, sym, ap, ◌∙◌, codes, fold, length}
+use Rattle.std.proofs.Common.{◌≡◌, ℕ, Bool, true, false, not, ◌&&◌, List, [], ◌∷◌, ◌++◌, Option, None, Some}
+use Rattle.std.proofs.Common.{if◌then◌else◌, refl, sym, ap, ◌∙◌, codes, fold, length}
 use Rattle.std.specs.List.{list_all}
 use Rattle.std.specs.Char.{is_whitespace}
 use Rattle.std.specs.Option.{option_and_then, option_map}
@@ -8,7 +9,8 @@ use Rattle.article_layout.specs.Layouts.{Options, Tag, number_mark, outermost, w
 use Rattle.block_layout.specs.Laid.{Laid, add_text, break_line, end_block, flush, start_block}
 use Rattle.block_layout.specs.declared.measure.Measure.{Measure}
 use Rattle.render_laying.specs.Laying.{Laying, begins_link, ends_link, in_current, in_parts, says}
-use Rattle.renderer_calls.specs.Calls.{adds_text, breaks_line, ends_block, ends_line, ends_mark, starts_block, starts_mark}
+use Rattle.renderer_calls.specs.Calls.{adds_text, breaks_line, ends_block, ends_line, ends_mark, starts_block}
+use Rattle.renderer_calls.specs.Calls.{starts_mark}
 use Rattle.renderer_calls.specs.Renderers.{Sub, add_inline, on_laid, popped, with_laid}
 use Rattle.renderer_calls.specs.declared.options.RenderOptions.{RenderOptions}
 use Rattle.text_block_renderer.specs.PlainText.{plain_marking}

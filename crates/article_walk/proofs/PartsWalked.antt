@@ -1,13 +1,17 @@
 -- Parts of a page behind prefixes: what a walk makes of them in a renderer, as calls of blocks of lines.
-use Rattle.std.proofs.Common.{◌≡◌, ℕ, ◌-◌, max, Bool, true, false, List, [], ◌∷◌, Option, None, Some, if◌then◌else◌, refl, sym, ap, ◌∙◌}
+use Rattle.std.proofs.Common.{◌≡◌, ℕ, ◌-◌, max, Bool, true, false, List, [], ◌∷◌, Option, None, Some, if◌then◌else◌}
+use Rattle.std.proofs.Common.{refl, sym, ap, ◌∙◌}
 use Rattle.std.specs.Option.{option_and_then, option_map}
 use Rattle.std.specs.Prelude.{IfSome, nat_le}
 use Rattle.article_layout.specs.BlockCalls.{append}
 use Rattle.article_layout.specs.Calls.{measure}
 use Rattle.article_layout.specs.Layouts.{Options, Tag, if_fits, outermost, room}
-use Rattle.block_layout.specs.Laid.{Laid, Running, add_text_line, add_text_lines, behind_empty_line, flush, flush_of, has_content, laid_text, nothing_laid, parted, start_block, started, text_laid, without_running}
+use Rattle.block_layout.specs.Laid.{Laid, Running, add_text_line, add_text_lines, behind_empty_line, flush, flush_of}
+use Rattle.block_layout.specs.Laid.{has_content, laid_text, nothing_laid, parted, start_block, started, text_laid}
+use Rattle.block_layout.specs.Laid.{without_running}
 use Rattle.block_layout.specs.declared.measure.Measure.{Measure}
-use Rattle.render_laying.specs.Laying.{Step, behind_prefix, in_around, in_current, in_part, part_begun, part_ended, says}
+use Rattle.render_laying.specs.Laying.{Step, behind_prefix, in_around, in_current, in_part, part_begun, part_ended}
+use Rattle.render_laying.specs.Laying.{says}
 use Rattle.render_laying.specs.declared.around.Around.{Around}
 use Rattle.renderer_calls.specs.Renderers.{with_block, with_laid}
 use Rattle.renderer_calls.specs.declared.options.RenderOptions.{RenderOptions}

@@ -1,11 +1,14 @@
 -- What texts and breaks do to a block of lines: they keep that it awaits no text, and an empty text beside another
 -- changes nothing.
-use Rattle.std.proofs.Common.{◌≡◌, ℕ, Bool, true, false, List, [], ◌∷◌, ◌++◌, Option, None, Some, if◌then◌else◌, refl, ap, ◌∙◌}
+use Rattle.std.proofs.Common.{◌≡◌, ℕ, Bool, true, false, List, [], ◌∷◌, ◌++◌, Option, None, Some, if◌then◌else◌, refl}
+use Rattle.std.proofs.Common.{ap, ◌∙◌}
 use Rattle.std.specs.Option.{option_and_then, option_map}
 use Rattle.std.specs.Prelude.{IfSome}
 use Rattle.article_layout.specs.Calls.{run}
 use Rattle.article_layout.specs.Layouts.{Part, Tag, breaks, says}
-use Rattle.block_layout.specs.Laid.{Laid, Running, add_text, add_text_line, add_text_lines, behind_empty_line, break_of, break_line, broken_line, enter_mode, flush, flush_of, laid_text, run_on, running_or_new, text_laid, with_added, with_running, with_text_of, without_running}
+use Rattle.block_layout.specs.Laid.{Laid, Running, add_text, add_text_line, add_text_lines, behind_empty_line, break_of}
+use Rattle.block_layout.specs.Laid.{break_line, broken_line, enter_mode, flush, flush_of, laid_text, run_on}
+use Rattle.block_layout.specs.Laid.{running_or_new, text_laid, with_added, with_running, with_text_of, without_running}
 use Rattle.block_layout.specs.LaidRows.{before_last}
 use Rattle.block_layout.specs.declared.measure.Measure.{Measure}
 use Rattle.tagged_lines.specs.Tagged.{Item}

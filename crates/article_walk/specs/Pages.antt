@@ -1,7 +1,8 @@
 -- Renderers of plain text in which what a paragraph says is laid out.
 use Rattle.std.specs.Prelude.{◌≡◌, ℕ, Bool, false, List, [], ◌∷◌, fold, refl}
 use Rattle.article_layout.specs.Layouts.{Options, Tag}
-use Rattle.article_values.specs.Articles.{Blocks, Inlines, Items, bullets, division, heading, item, line_break, link, no_blocks, no_inlines, no_items, numbers, paragraph, span, words}
+use Rattle.article_values.specs.Articles.{Blocks, Inlines, Items, bullets, division, heading, item, line_break, link}
+use Rattle.article_values.specs.Articles.{no_blocks, no_inlines, no_items, numbers, paragraph, span, words}
 use Rattle.block_layout.specs.Laid.{Laid}
 use Rattle.render_laying.specs.Laying.{Laying, outside}
 use Rattle.render_laying.specs.declared.around.Around.TheVariants.{Flow}

@@ -1,5 +1,6 @@
 -- What was told before others, put together.
-use Rattle.std.proofs.Common.{◌≡◌, ℕ, suc, ◌+◌, ◌<◌, List, [], ◌∷◌, drop, length, get_or, subst, sym, ap, ◌∙◌, refl, add-one, drop-cons}
+use Rattle.std.proofs.Common.{◌≡◌, ℕ, suc, ◌+◌, ◌<◌, List, [], ◌∷◌, drop, length, get_or, subst, sym, ap, ◌∙◌, refl}
+use Rattle.std.proofs.Common.{add-one, drop-cons}
 use Rattle.std.specs.Prelude.{Result, Ok, Err}
 use Rattle.html_lexemes.specs.declared.names.Attribute.{Attribute}
 use Rattle.html_serializer.specs.Calls.{Call, Reply, finish, refused, reply_of, start}

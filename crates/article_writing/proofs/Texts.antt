@@ -1,5 +1,6 @@
 -- Texts, with and without characters.
-use Rattle.std.proofs.Common.{◌≡◌, ℕ, List, [], ◌∷◌, length, ℤ, ◌==◌, true, false, refl, sym, ap, ◌∙◌, chars, FitsSigned, IsUtf8, encode_utf8_all, arith}
+use Rattle.std.proofs.Common.{◌≡◌, ℕ, List, [], ◌∷◌, length, ℤ, ◌==◌, true, false, refl, sym, ap, ◌∙◌, chars}
+use Rattle.std.proofs.Common.{FitsSigned, IsUtf8, encode_utf8_all, arith}
 use Rattle.std.specs.Fmt.{signed_decimal}
 use Rattle.std.specs.Int.{cast_signed, cast_unsigned, w64}
 use Rattle.std.proofs.lemmas.Fmt.{IsAscii-signed}

@@ -1,6 +1,7 @@
 -- A block of lines: what it holds, and what each call makes of it. Where a call comes to no block, a character is wider
 -- than the lines at which its text wraps.
-use Rattle.std.specs.Prelude.{ℕ, Bool, true, false, not, ◌&&◌, ◌||◌, List, [], ◌∷◌, ◌++◌, Option, None, Some, map, fold, if◌then◌else◌}
+use Rattle.std.specs.Prelude.{ℕ, Bool, true, false, not, ◌&&◌, ◌||◌, List, [], ◌∷◌, ◌++◌, Option, None, Some, map, fold}
+use Rattle.std.specs.Prelude.{if◌then◌else◌}
 use Rattle.std.specs.Char.{is_whitespace}
 use Rattle.std.specs.List.{list_all, list_any}
 use Rattle.std.specs.Option.{option_map, option_and_then}
@@ -9,21 +10,22 @@ use Rattle.text_pieces.specs.Items.{has_text}
 use Rattle.text_pieces.specs.Sources.{is_filled}
 use Rattle.text_pieces.specs.Modes.{is_preserved, is_same_mode}
 use Rattle.text_pieces.specs.declared.white_space.WhiteSpace.{WhiteSpace}
-use Rattle.text_wrapping.specs.Blocks.{Block, empty_block, padded, added, marked_by, fragments_taken, ended_lines, broken, has_columns}
+use Rattle.text_wrapping.specs.Blocks.{Block, empty_block, padded, added, marked_by, fragments_taken, ended_lines}
+use Rattle.text_wrapping.specs.Blocks.{broken, has_columns}
 use Rattle.text_borders.specs.Borders.{Border, has_holes, plain, horizontal, filled_to}
 use Rattle.text_borders.specs.Lines.{BlockLine, text, border}
 use Rattle.text_borders.specs.Across.{CellLine, Hanging, as_text}
 use Rattle.block_layout.specs.declared.measure.Measure.{Measure}
 
--- a text that is not laid out yet, its mode of white space once it is not empty, and the tag of the spaces that fill its
--- lines
+-- a text that is not laid out yet, its mode of white space once it is not empty, and the tag of the spaces that fill
+-- its lines
 pub record Running (S : Type 0) : Type 0 where
   pub mode : Option WhiteSpace
   pub text : Block S
   pub fill : S
 
--- The lines; the text that runs; whether a block has ended, and the next text starts another; the markers that wait for a
--- line of text; the cells that go on from the last row.
+-- The lines; the text that runs; whether a block has ended, and the next text starts another; the markers that wait for
+-- a line of text; the cells that go on from the last row.
 pub record Laid (S : Type 0) : Type 0 where
   pub lines : List (CellLine S)
   pub running : Option (Running S)

@@ -28,9 +28,12 @@ pub struct BlockLayout<T> {
 
 impl<T: EqualCopy + Drop> BlockLayout<T> {
     ghost use Rattle.block_layout.specs.Seen.{laid_of, running_of, AreLinesJoined, RunsJoined, HasJoinedTexts};
-    ghost use Rattle.block_layout.specs.Laid.{nothing_laid, is_nothing, has_no_text, add_line, add_border, add_text_line};
-    ghost use Rattle.block_layout.specs.Laid.{add_text_lines, laid_text, flush_of, flush, with_markers, behind_empty_line};
-    ghost use Rattle.block_layout.specs.Laid.{add_empty_line, parted, start_block, start_table, end_block, finished_lines};
+    ghost use Rattle.block_layout.specs.Laid.{nothing_laid, is_nothing, has_no_text, add_line, add_border};
+    ghost use Rattle.block_layout.specs.Laid.{add_text_line};
+    ghost use Rattle.block_layout.specs.Laid.{add_text_lines, laid_text, flush_of, flush, with_markers};
+    ghost use Rattle.block_layout.specs.Laid.{behind_empty_line};
+    ghost use Rattle.block_layout.specs.Laid.{add_empty_line, parted, start_block, start_table, end_block};
+    ghost use Rattle.block_layout.specs.Laid.{finished_lines};
     ghost use Rattle.text_borders.specs.Borders.{border_of};
     ghost use Rattle.text_borders.specs.Lines.{render_line_of, IsJoinedText};
     ghost use Rattle.text_cells.specs.Cells.{laid_line_of};
@@ -97,8 +100,8 @@ impl<T: EqualCopy + Drop> BlockLayout<T> {
         self.lines.push(LaidLine { line, content })
     }
 
-    /// Makes the text that runs lines. It is refused as `TooNarrow` where a character is wider than the text's lines and
-    /// may not stand alone, or as `Memory`.
+    /// Makes the text that runs lines. It is refused as `TooNarrow` where a character is wider than the text's lines
+    /// and may not stand alone, or as `Memory`.
     pub fn flush(&mut self, measure: Measure, tag: &T) -> Result<(), BlockError>
         ensures kinds { IfErr result (λ e. (e ≡ errors.TooNarrow) ⊎ (e ≡ errors.Memory)) }
         ensures flushed { OnOk result (flush measure (T.seen tag.now) (laid_of T.seen self.old)

@@ -18,11 +18,12 @@ use text_pieces::{BlockError, WhiteSpace};
 
 impl<T: EqualCopy + Drop> BlockLayout<T> {
     ghost use Rattle.block_layout.specs.Seen.{laid_of, running_of, RunsJoined, HasJoinedTexts};
-    ghost use Rattle.block_layout.specs.Laid.{flush, add_text, enter_mode, run_on, runs_otherwise, running_or_new, without_running};
+    ghost use Rattle.block_layout.specs.Laid.{flush, add_text, enter_mode, run_on, runs_otherwise, running_or_new};
+    ghost use Rattle.block_layout.specs.Laid.{without_running};
     ghost use Rattle.block_layout.specs.Laid.{is_ignored, start_awaited, mark, break_line, break_of, broken_line};
 
-    /// Adds text behind what runs; a text of another mode of white space ends that first. Where it begins to run here, its
-    /// lines are filled with spaces of the tag. Refused as `flush`.
+    /// Adds text behind what runs; a text of another mode of white space ends that first. Where it begins to run here,
+    /// its lines are filled with spaces of the tag. Refused as `flush`.
     #[inline(always)]
     pub fn add_text(
         &mut self,
@@ -178,8 +179,8 @@ impl<T: EqualCopy + Drop> BlockLayout<T> {
         Ok(())
     }
 
-    /// Adds a marker, the start of the fragment of that name, to the text that runs, or to one that begins to. Refused as
-    /// `Memory`.
+    /// Adds a marker, the start of the fragment of that name, to the text that runs, or to one that begins to. Refused
+    /// as `Memory`.
     pub fn record_frag_start(
         &mut self,
         measure: Measure,

@@ -19,10 +19,12 @@ use text_pieces::{BlockError, has_text};
 impl<T: EqualCopy + Drop> BlockLayout<T> {
     ghost use Rattle.block_layout.specs.Seen.{laid_of, HasJoinedTexts};
     ghost use Rattle.block_layout.specs.Laid.{add_border, without_hanging};
-    ghost use Rattle.block_layout.specs.LaidRows.{border_line, put_back, last_border, without_last_border, with_border, add_row_line, add_row_lines, with_row, row_laid, add_row};
+    ghost use Rattle.block_layout.specs.LaidRows.{border_line, put_back, last_border, without_last_border, with_border};
+    ghost use Rattle.block_layout.specs.LaidRows.{add_row_line, add_row_lines, with_row, row_laid, add_row};
 
     /// Adds cells beside one another: below the last line, where that is a border, and with a border below them where
-    /// borders are drawn. `collapse` takes the borders that are a cell's first and last line into those. Refused as `flush`.
+    /// borders are drawn. `collapse` takes the borders that are a cell's first and last line into those. Refused as
+    /// `flush`.
     pub fn add_row(
         &mut self,
         measure: Measure,

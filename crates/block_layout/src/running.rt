@@ -27,7 +27,8 @@ impl<T: EqualCopy + Drop> Running<T> {
     ghost use Rattle.text_pieces.specs.Sources.{names};
     ghost use Rattle.text_pieces.specs.declared.fault.BlockError.TheVariants as errors;
     ghost use Rattle.text_wrapping.specs.Blocks.{added, broken, has_columns};
-    ghost use Rattle.block_layout.specs.Laid.{running_or_new, is_other_mode, with_added, with_marker, with_text_of, laid_text};
+    ghost use Rattle.block_layout.specs.Laid.{running_or_new, is_other_mode, with_added, with_marker, with_text_of};
+    ghost use Rattle.block_layout.specs.Laid.{laid_text};
     ghost use Rattle.block_layout.specs.Seen.{running_of, RunsJoined};
 
     /// An empty text, whose lines are filled with spaces of the tag.

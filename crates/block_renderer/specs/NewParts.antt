@@ -2,7 +2,8 @@
 use Rattle.std.specs.Prelude.{ℕ, min, [], ◌∷◌}
 use Rattle.renderer_calls.specs.Renderers.{Sub, mode_of, new_sub}
 
--- White space and preformatting go on in it as they stand, strikeouts don't; `sub` is what a decorator made for it holds.
+-- White space and preformatting go on in it as they stand, strikeouts don't; `sub` is what a decorator made for it
+-- holds.
 abbrev pub part_of : {H A : Type 0} → (sub : H → H) → ℕ → Sub H A → Sub H A
 part_of sub width s = record (new_sub width s.options (sub s.held) s.annotations) {
   modes = mode_of s ∷ [];

@@ -1,5 +1,6 @@
 //! Text of a renderer.
-ghost use Rattle.std.specs.Prelude.{◌≡◌, ◌⊎◌, ◌++◌, ◌∷◌, false, [], None, Some, map, chars, string_bytes, if◌then◌else◌, nat_lt, Err, IsTrue, IfOk, IfErr, OnOk};
+ghost use Rattle.std.specs.Prelude.{◌≡◌, ◌⊎◌, ◌++◌, ◌∷◌, false, [], None, Some, map, chars, string_bytes};
+ghost use Rattle.std.specs.Prelude.{if◌then◌else◌, nat_lt, Err, IsTrue, IfOk, IfErr, OnOk};
 ghost use Rattle.text_marks.specs.Marks.{preformat_first, preformat_further};
 ghost use Rattle.text_pieces.specs.declared.fault.BlockError.TheVariants as errors;
 ghost use Rattle.block_layout.specs.Laid.{add_text};

@@ -1,5 +1,6 @@
 //! Lines behind a page.
-ghost use Rattle.std.specs.Prelude.{◌≡◌, ◌⊎◌, false, true, None, Some, fold, map, is_err, Err, IfOk, IfErr, OnOk, OnErr};
+ghost use Rattle.std.specs.Prelude.{◌≡◌, ◌⊎◌, false, true, None, Some, fold, map, is_err, Err, IfOk, IfErr, OnOk};
+ghost use Rattle.std.specs.Prelude.{OnErr};
 ghost use Rattle.tagged_lines.specs.Tagged.{line_items};
 ghost use Rattle.text_marks.specs.Marks.{page_end};
 ghost use Rattle.text_pieces.specs.Sources.{names};

@@ -1,5 +1,6 @@
 //! Marked text of a renderer.
-ghost use Rattle.std.specs.Prelude.{◌≡◌, ◌⊎◌, ◌++◌, ◌∷◌, [], None, Some, map, chars, string_bytes, Err, IfOk, IfErr, OnOk};
+ghost use Rattle.std.specs.Prelude.{◌≡◌, ◌⊎◌, ◌++◌, ◌∷◌, [], None, Some, map, chars, string_bytes, Err, IfOk, IfErr};
+ghost use Rattle.std.specs.Prelude.{OnOk};
 ghost use Rattle.text_marks.specs.Marks.{link_start, link_end, emphasis_start, emphasis_end, strong_start, strong_end};
 ghost use Rattle.text_marks.specs.Marks.{strikeout_start, strikeout_end, code_start, code_end, superscript_start};
 ghost use Rattle.text_marks.specs.Marks.{superscript_end, colour_start, background_start};
@@ -13,7 +14,8 @@ use text_marks::{Colour, TextDecorator};
 use text_pieces::BlockError;
 
 impl<D: TextDecorator + Drop> SubRenderer<D> {
-    ghost use Rattle.renderer_calls.specs.Renderers.{add_inline, pushed, popped, begin, finish, begin_link, finish_link};
+    ghost use Rattle.renderer_calls.specs.Renderers.{add_inline, pushed, popped, begin, finish, begin_link};
+    ghost use Rattle.renderer_calls.specs.Renderers.{finish_link};
     ghost use Rattle.renderer_calls.specs.Renderers.{begin_strikeout, finish_strikeout, add_image, begin_colour};
     ghost use Rattle.renderer_calls.specs.Renderers.{finish_colour, struck_more, struck_less, add_titled};
     ghost use Rattle.block_renderer.specs.Seen.{sub_of, has_failed, Comes, Fails, IsJoinedSub};

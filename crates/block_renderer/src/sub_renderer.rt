@@ -1,5 +1,6 @@
 //! Renderers over a decorator.
-ghost use Rattle.std.specs.Prelude.{◌≡◌, ◌⊎◌, [], false, true, None, Some, map, chars, string_bytes, is_err, Ok, Err, IfOk, IfErr, OnOk};
+ghost use Rattle.std.specs.Prelude.{◌≡◌, ◌⊎◌, [], false, true, None, Some, map, chars, string_bytes, is_err, Ok, Err};
+ghost use Rattle.std.specs.Prelude.{IfOk, IfErr, OnOk};
 ghost use Rattle.text_pieces.specs.declared.fault.BlockError.TheVariants as errors;
 
 use block_layout::{BlockLayout, Measure};
@@ -221,8 +222,8 @@ impl<D: TextDecorator + Drop> SubRenderer<D> {
         Ok(part)
     }
 
-    /// An empty renderer of so many columns for a part of the block in which white space and preformatting go on as they
-    /// stand here; strikeouts don't. The error is `Failed` behind a refusal, else `Memory`.
+    /// An empty renderer of so many columns for a part of the block in which white space and preformatting go on as
+    /// they stand here; strikeouts don't. The error is `Failed` behind a refusal, else `Memory`.
     pub fn new_part_renderer(&mut self, width: usize) -> Result<SubRenderer<D>, BlockError>
         ensures part { IsAnswered result (has_failed self.old) (has_failed self.new)
             (sub_of D.Annotation.seen D.held self.new ≡ sub_of D.Annotation.seen D.held self.old)

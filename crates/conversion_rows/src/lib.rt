@@ -1,5 +1,6 @@
-//! Tests alone: pages as render trees, written as lines, by the rules that mark texts and by others, and how many columns
-//! their values take. The answers are from outside. Each row of the table of conversion is computed on its definitions in `render_conversion`.
+//! Tests alone: pages as render trees, written as lines, by the rules that mark texts and by others, and how many
+//! columns their values take. The answers are from outside. Each row of the table of conversion is computed on its
+//! definitions in `render_conversion`.
 #![tactic(auto)]
 
 #[cfg(test)]

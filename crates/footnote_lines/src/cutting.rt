@@ -17,7 +17,8 @@ pub(crate) struct CutLines<T> {
 }
 
 impl<T: EqualCopy + Drop> CutLines<T> {
-    ghost use Rattle.footnote_lines.specs.Cuts.{cut_of, HasJoinedTexts, with_room, placed_within, placed_noted, placed_spaced};
+    ghost use Rattle.footnote_lines.specs.Cuts.{cut_of, HasJoinedTexts, with_room, placed_within, placed_noted};
+    ghost use Rattle.footnote_lines.specs.Cuts.{placed_spaced};
 
     /// No line is done.
     pub(crate) fn new(alloc: Global) -> CutLines<T>

@@ -1,5 +1,6 @@
 -- What a loop of writes has written so far.
-use Rattle.std.proofs.Common.{◌≡◌, ℕ, Bool, true, List, [], ◌++◌, Option, refl, sym, ap, subst, ◌∙◌, append_assoc, append-nil, ◌==◌, ◌∷◌, ◌+◌, ◌<◌, suc, length, get_or, drop, drop-cons, add-one, arith}
+use Rattle.std.proofs.Common.{◌≡◌, ℕ, Bool, true, List, [], ◌++◌, Option, refl, sym, ap, subst, ◌∙◌, append_assoc}
+use Rattle.std.proofs.Common.{append-nil, ◌==◌, ◌∷◌, ◌+◌, ◌<◌, suc, length, get_or, drop, drop-cons, add-one, arith}
 use Rattle.std.proofs.lemmas.Bool.Decides.{nat_tests}
 use Rattle.std.specs.Prelude.{Result, Ok, Err, IsErr, OnErr}
 use Rattle.std.specs.Io.KnownBytes.{Appends}

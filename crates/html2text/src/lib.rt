@@ -1,5 +1,5 @@
-//! The program `html2text`: what it writes of a page, what it answers to the words of its command line, and how it ends;
-//! with the libraries that it stands on, `page_config`, `command_words` and `named_files`.
+//! The program `html2text`: what it writes of a page, what it answers to the words of its command line, and how it
+//! ends; with the libraries that it stands on, `page_config`, `command_words` and `named_files`.
 #![tactic(auto)]
 
 mod outcome;

@@ -17,8 +17,8 @@ pub record IsGrown (ends : State → Type 0) (forest : Forest) (quirks : QuirksM
   pub nodes : forest ≡ final.tree.forest
   pub mode : quirks ≡ final.tree.quirks
 
--- The tree of a page (WHATWG HTML, 13.2): what the rule table makes, from the first nodes of a sink of trees on, of what
--- the page's text tells.
+-- The tree of a page (WHATWG HTML, 13.2): what the rule table makes, from the first nodes of a sink of trees on, of
+-- what the page's text tells.
 pub record Beginning : Type 0 where
   pub table : References
   pub options : ParseOpts

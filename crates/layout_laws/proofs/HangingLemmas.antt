@@ -9,7 +9,12 @@ use Rattle.text_wrapping.specs.Blocks.{added, broken}
 use Rattle.text_borders.specs.Borders.{Border, horizontal, plain}
 use Rattle.text_borders.specs.Across.{CellLine, Cell, across}
 use Rattle.block_layout.specs.declared.measure.Measure.{Measure}
-use Rattle.block_layout.specs.Laid.{Running, Laid, add_border, add_text_line, add_text_lines, without_running, laid_text, text_laid, flush_of, flush, started, behind_empty_line, add_empty_line, parted, start_block, without_hanging, start_table, running_or_new, with_added, with_running, run_on, runs_otherwise, enter_mode, add_text, start_awaited, with_text_of, broken_line, break_of, break_line, has_content, add_horizontal_border, add_prefixed, add_block}
+use Rattle.block_layout.specs.Laid.{Running, Laid, add_border, add_text_line, add_text_lines, without_running}
+use Rattle.block_layout.specs.Laid.{laid_text, text_laid, flush_of, flush, started, behind_empty_line, add_empty_line}
+use Rattle.block_layout.specs.Laid.{parted, start_block, without_hanging, start_table, running_or_new, with_added}
+use Rattle.block_layout.specs.Laid.{with_running, run_on, runs_otherwise, enter_mode, add_text, start_awaited}
+use Rattle.block_layout.specs.Laid.{with_text_of, broken_line, break_of, break_line, has_content, add_horizontal_border}
+use Rattle.block_layout.specs.Laid.{add_prefixed, add_block}
 use Rattle.block_layout.specs.LaidRows.{last_border, row_laid, add_row}
 use Rattle.layout_laws.proofs.OptionLemmas.{mapped, chained}
 

@@ -1,5 +1,6 @@
 -- Where a character that is wider than the lines may stand alone on one, no call is refused.
-use Rattle.std.proofs.Common.{◌≡◌, ℕ, Bool, true, false, not, ◌&&◌, ◌==◌, List, [], ◌∷◌, Option, None, Some, IfSome, ap, refl}
+use Rattle.std.proofs.Common.{◌≡◌, ℕ, Bool, true, false, not, ◌&&◌, ◌==◌, List, [], ◌∷◌, Option, None, Some, IfSome, ap}
+use Rattle.std.proofs.Common.{refl}
 use Rattle.std.specs.Prelude.{IsSome, IsSomeAnd, ⊤, fold, map, if◌then◌else◌}
 use Rattle.std.specs.Option.{option_map}
 use Rattle.tagged_lines.specs.Tagged.{Item}
@@ -8,12 +9,20 @@ use Rattle.text_pieces.specs.Sources.{is_filled}
 use Rattle.text_pieces.specs.declared.white_space.WhiteSpace.{WhiteSpace}
 use Rattle.preserved_text.specs.Preserved.{names_of}
 use Rattle.text_wrapping.specs.Lines.{lines_in, is_wide_in}
-use Rattle.text_wrapping.specs.Blocks.{Block, lines_behind as with_lines_behind, lines_or_empty, is_too_narrow, ended, line_ended, line_feed, with_letter, took, took_all, with_mode, in_mode, added, broken, fragments_taken, without_source, lines_of, ended_lines, ends_in_columns}
+use Rattle.text_wrapping.specs.Blocks.{Block, lines_behind as with_lines_behind, lines_or_empty, is_too_narrow, ended}
+use Rattle.text_wrapping.specs.Blocks.{line_ended, line_feed, with_letter, took, took_all, with_mode, in_mode, added}
+use Rattle.text_wrapping.specs.Blocks.{broken, fragments_taken, without_source, lines_of, ended_lines, ends_in_columns}
 use Rattle.text_borders.specs.Borders.{Border, horizontal, plain}
 use Rattle.text_borders.specs.Across.{CellLine, Cell, Row, across}
 use Rattle.block_layout.specs.declared.measure.Measure.{Measure}
-use Rattle.block_layout.specs.Laid.{Running, Laid, add_border, add_line, add_text_line, add_text_lines, without_running, lines_behind, laid_text, text_laid, flush_of, flush, started, behind_empty_line, add_empty_line, parted, start_block, without_hanging, start_table, running_or_new, with_added, with_running, run_on, runs_otherwise, enter_mode, add_text, start_awaited, mark, with_text_of, broken_line, break_of, break_line, has_content, add_horizontal_border, add_prefixed, add_block, finished, finished_lines}
-use Rattle.block_layout.specs.LaidRows.{last_border, without_last_border, with_border, add_row_line, add_row_lines, with_row, row_laid, add_row}
+use Rattle.block_layout.specs.Laid.{Running, Laid, add_border, add_line, add_text_line, add_text_lines, without_running}
+use Rattle.block_layout.specs.Laid.{lines_behind, laid_text, text_laid, flush_of, flush, started, behind_empty_line}
+use Rattle.block_layout.specs.Laid.{add_empty_line, parted, start_block, without_hanging, start_table, running_or_new}
+use Rattle.block_layout.specs.Laid.{with_added, with_running, run_on, runs_otherwise, enter_mode, add_text}
+use Rattle.block_layout.specs.Laid.{start_awaited, mark, with_text_of, broken_line, break_of, break_line, has_content}
+use Rattle.block_layout.specs.Laid.{add_horizontal_border, add_prefixed, add_block, finished, finished_lines}
+use Rattle.block_layout.specs.LaidRows.{last_border, without_last_border, with_border, add_row_line, add_row_lines}
+use Rattle.block_layout.specs.LaidRows.{with_row, row_laid, add_row}
 use Rattle.layout_laws.specs.LayoutLaws.{AllowsOverflow}
 use Rattle.layout_laws.proofs.OptionLemmas.{given_mapped, given_chained}
 

@@ -1,5 +1,6 @@
 -- Borders, other blocks and rows keep the lines of a block within its width.
-use Rattle.std.proofs.Common.{◌≡◌, ℕ, ◌+◌, ◌≤◌, Bool, true, false, ◌||◌, List, [], ◌∷◌, ◌++◌, length, Option, None, Some, IfSome, sym, ap, ◌∙◌, subst, refl, arith}
+use Rattle.std.proofs.Common.{◌≡◌, ℕ, ◌+◌, ◌≤◌, Bool, true, false, ◌||◌, List, [], ◌∷◌, ◌++◌, length, Option, None}
+use Rattle.std.proofs.Common.{Some, IfSome, sym, ap, ◌∙◌, subst, refl, arith}
 use Rattle.std.specs.Prelude.{All, fold, max, ⊤, if◌then◌else◌}
 use Rattle.std.specs.Option.{option_map}
 use Rattle.std.proofs.lemmas.Option.{MatchOption-at_some, same_Some}
@@ -18,8 +19,10 @@ use Rattle.text_borders.specs.Across.{CellLine, Cell, Hanging, Row, as_text, acr
 use Rattle.text_borders.specs.AcrossLaws.{LineFits, CellFits}
 use Rattle.text_borders.proofs.AcrossLemmas.{retagged_columns}
 use Rattle.block_layout.specs.declared.measure.Measure.{Measure}
-use Rattle.block_layout.specs.Laid.{Laid, add_border, add_horizontal_border, flush, finished, finished_lines, content_as_text, add_prefixed, add_block, without_hanging}
-use Rattle.block_layout.specs.LaidRows.{border_line, last_border, before_last, without_last_border, with_border, add_row_line, add_row_lines, with_row, row_laid, add_row, add_slashes}
+use Rattle.block_layout.specs.Laid.{Laid, add_border, add_horizontal_border, flush, finished, finished_lines}
+use Rattle.block_layout.specs.Laid.{content_as_text, add_prefixed, add_block, without_hanging}
+use Rattle.block_layout.specs.LaidRows.{border_line, last_border, before_last, without_last_border, with_border}
+use Rattle.block_layout.specs.LaidRows.{add_row_line, add_row_lines, with_row, row_laid, add_row, add_slashes}
 use Rattle.layout_laws.specs.LayoutLaws.{IsKept, IsWithin}
 use Rattle.layout_laws.proofs.OptionLemmas.{mapped}
 use Rattle.layout_laws.proofs.WidthLemmas.{TextLaws, Fits, line_put, line_added, flushed, none_hang}

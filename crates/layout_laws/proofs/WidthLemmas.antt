@@ -1,5 +1,6 @@
 -- Each call keeps the lines of a block within its width.
-use Rattle.std.proofs.Common.{◌≡◌, ℕ, ◌-◌, ◌<◌, ◌≤◌, ⊎_elim, Bool, true, false, ◌&&◌, List, [], ◌∷◌, ◌++◌, Option, None, Some, IfSome, map, sym, subst, refl, arith}
+use Rattle.std.proofs.Common.{◌≡◌, ℕ, ◌-◌, ◌<◌, ◌≤◌, ⊎_elim, Bool, true, false, ◌&&◌, List, [], ◌∷◌, ◌++◌, Option, None}
+use Rattle.std.proofs.Common.{Some, IfSome, map, sym, subst, refl, arith}
 use Rattle.std.specs.Prelude.{All, replicate, if◌then◌else◌}
 use Rattle.std.specs.Option.{option_map}
 use Rattle.std.proofs.lemmas.Bool.{cases_lt}
@@ -9,7 +10,8 @@ use Rattle.tagged_lines.specs.Tagged.{Item, character, marker, line_columns}
 use Rattle.text_pieces.specs.Items.{has_text}
 use Rattle.text_pieces.specs.Sources.{is_filled}
 use Rattle.text_pieces.specs.declared.white_space.WhiteSpace.{WhiteSpace}
-use Rattle.text_wrapping.specs.Blocks.{Block, empty_block, padded, added, ended, ended_lines, marked_by, broken, fragments_taken, without_source, ends_in_columns}
+use Rattle.text_wrapping.specs.Blocks.{Block, empty_block, padded, added, ended, ended_lines, marked_by, broken}
+use Rattle.text_wrapping.specs.Blocks.{fragments_taken, without_source, ends_in_columns}
 use Rattle.text_wrapping.specs.Lines.{lines_in}
 use Rattle.text_wrapping.specs.LawWords.{IsWithin as IsTextWithin}
 use Rattle.preserved_text.specs.Preserved.{names_of}
@@ -17,7 +19,12 @@ use Rattle.text_borders.specs.Lines.{BlockLine, text}
 use Rattle.text_borders.specs.Across.{CellLine}
 use Rattle.text_borders.specs.AcrossLaws.{LineFits, CellFits}
 use Rattle.block_layout.specs.declared.measure.Measure.{Measure}
-use Rattle.block_layout.specs.Laid.{Running, Laid, nothing_laid, padding, with_line, add_line, add_text_line, add_text_lines, without_running, lines_behind, laid_text, text_laid, flush_of, flush, started, behind_empty_line, add_empty_line, parted, start_block, without_hanging, start_table, end_block, running_or_new, with_added, with_marker, with_running, run_on, runs_otherwise, enter_mode, add_text, start_awaited, mark, with_text_of, broken_line, break_of, break_line, has_content}
+use Rattle.block_layout.specs.Laid.{Running, Laid, nothing_laid, padding, with_line, add_line, add_text_line}
+use Rattle.block_layout.specs.Laid.{add_text_lines, without_running, lines_behind, laid_text, text_laid, flush_of}
+use Rattle.block_layout.specs.Laid.{flush, started, behind_empty_line, add_empty_line, parted, start_block}
+use Rattle.block_layout.specs.Laid.{without_hanging, start_table, end_block, running_or_new, with_added, with_marker}
+use Rattle.block_layout.specs.Laid.{with_running, run_on, runs_otherwise, enter_mode, add_text, start_awaited, mark}
+use Rattle.block_layout.specs.Laid.{with_text_of, broken_line, break_of, break_line, has_content}
 use Rattle.layout_laws.specs.LayoutLaws.{IsKept, IsWithin}
 use Rattle.layout_laws.proofs.OptionLemmas.{known, mapped, chained}
 

@@ -8,7 +8,9 @@ ghost use Rattle.text_borders.specs.Borders.{Border};
 ghost use Rattle.text_borders.specs.Lines.{BlockLine, border, line_shown};
 ghost use Rattle.text_borders.specs.Across.{CellLine, Cell, across, width_across};
 ghost use Rattle.text_borders.specs.AcrossLaws.{LineFits, CellFits};
-ghost use Rattle.block_layout.specs.Laid.{Laid, nothing_laid, flush, add_text_lines, add_empty_line, start_block, start_table, end_block, start_awaited, add_text, mark, break_line, add_horizontal_border, add_border, add_block, finished_lines};
+ghost use Rattle.block_layout.specs.Laid.{Laid, nothing_laid, flush, add_text_lines, add_empty_line, start_block};
+ghost use Rattle.block_layout.specs.Laid.{start_table, end_block, start_awaited, add_text, mark, break_line};
+ghost use Rattle.block_layout.specs.Laid.{add_horizontal_border, add_border, add_block, finished_lines};
 ghost use Rattle.block_layout.specs.LaidRows.{last_border, add_row, add_slashes};
 ghost use Rattle.layout_laws.specs.LayoutLaws.{IsKept, IsWithin, AllowsOverflow};
 

@@ -2,7 +2,8 @@
 use Rattle.std.specs.Prelude.{◌≡◌, ℕ, ◌+◌, List, ◌++◌, codes, refl}
 use Rattle.std.specs.Fmt.{decimal}
 use Rattle.std.proofs.Common.{sym, ◌∙◌}
-use Rattle.text_marks.specs.Marks.{Mark, IsPrefix, IsSteady, link_start, link_end, header, quote, unordered_item, ordered_item}
+use Rattle.text_marks.specs.Marks.{Mark, IsPrefix, IsSteady, link_start, link_end, header, quote, unordered_item}
+use Rattle.text_marks.specs.Marks.{ordered_item}
 use Rattle.text_decorators.specs.Texts.{plain_text}
 use Rattle.text_decorators.specs.Steady.{plain_is_steady}
 use Rattle.link_counting.specs.declared.link_note.LinkNote.{LinkNote}

@@ -1,14 +1,18 @@
 -- Characters of a body that are added all at once.
-use Rattle.std.proofs.Common.{◌≡◌, ℕ, ◌+◌, ◌≤◌, Bool, true, false, List, [], ◌∷◌, ◌++◌, if◌then◌else◌, sym, ap, ◌∙◌, refl, subst, append-nil, append_assoc, inl, inr, arith}
+use Rattle.std.proofs.Common.{◌≡◌, ℕ, ◌+◌, ◌≤◌, Bool, true, false, List, [], ◌∷◌, ◌++◌, if◌then◌else◌, sym, ap, ◌∙◌}
+use Rattle.std.proofs.Common.{refl, subst, append-nil, append_assoc, inl, inr, arith}
 use Rattle.std.specs.Prelude.{not, ◌||◌, ◌&&◌, nat_lt, nat_le}
 use Rattle.std.proofs.lemmas.List.{map-append}
 use Rattle.std.proofs.lemmas.List.Sums.{fold-append, sum_by-cons}
 use Rattle.tagged_lines.specs.Columns.{width_of, text_columns}
 use Rattle.tagged_lines.specs.Tagged.{Item, character, tagged, line_columns}
 use Rattle.text_pieces.specs.Sources.{letter, sourced}
-use Rattle.preserved_text.specs.Preserved.{Kind, solid, white, tab, cut, nothing, kind_of, Laying, chosen, taken, fresh, with_room, put, put_all, written}
-use Rattle.preserved_text.specs.Pass.{Pass, passes, lettered, begins, entered, read_at, read_letter, read_source, read_all}
-use Rattle.preserved_text.specs.Fronts.{goes_on_with, BeginsSolid, JoinsBody, Fits, has_wider, all_lettered, run_lettered, IsSteady}
+use Rattle.preserved_text.specs.Preserved.{Kind, solid, white, tab, cut, nothing, kind_of, Laying, chosen, taken, fresh}
+use Rattle.preserved_text.specs.Preserved.{with_room, put, put_all, written}
+use Rattle.preserved_text.specs.Pass.{Pass, passes, lettered, begins, entered, read_at, read_letter, read_source}
+use Rattle.preserved_text.specs.Pass.{read_all}
+use Rattle.preserved_text.specs.Fronts.{goes_on_with, BeginsSolid, JoinsBody, Fits, has_wider, all_lettered}
+use Rattle.preserved_text.specs.Fronts.{run_lettered, IsSteady}
 use Rattle.preserved_text.proofs.ColumnLemmas.{lt_is_false, le_is_true}
 use Rattle.text_pieces.proofs.ItemColumns.{line_columns-append}
 

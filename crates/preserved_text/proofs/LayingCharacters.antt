@@ -1,5 +1,6 @@
 -- White space aside, the characters of the lines are those of the source line that have a width.
-use Rattle.std.proofs.Common.{◌≡◌, ℕ, Bool, true, false, List, [], ◌∷◌, ◌++◌, filter, flat_map, fold, if◌then◌else◌, refl, sym, ap, ◌∙◌, append-nil, arith}
+use Rattle.std.proofs.Common.{◌≡◌, ℕ, Bool, true, false, List, [], ◌∷◌, ◌++◌, filter, flat_map, fold, if◌then◌else◌}
+use Rattle.std.proofs.Common.{refl, sym, ap, ◌∙◌, append-nil, arith}
 use Rattle.std.specs.Prelude.{not, is_some, ◌==◌, ◌&&◌, ◌||◌}
 use Rattle.std.proofs.lemmas.Bool.{cond_both}
 use Rattle.std.proofs.lemmas.Bool.Decides.{nat_tests}
@@ -7,7 +8,9 @@ use Rattle.std.proofs.lemmas.List.Elements.{filter-append}
 use Rattle.tagged_lines.specs.Columns.{columns_of}
 use Rattle.tagged_lines.specs.Tagged.{Item, character, marker, characters}
 use Rattle.text_pieces.specs.Sources.{Source, letter, fragment, is_white_space}
-use Rattle.preserved_text.specs.Preserved.{solid, white, tab, cut, nothing, kind_of, is_solid, Laying, nothing_laid, has_text, line_text, fresh, lay_part, parts, preserved_lines, trimmed, is_begun, word_at, goes_over_white, word_behind}
+use Rattle.preserved_text.specs.Preserved.{solid, white, tab, cut, nothing, kind_of, is_solid, Laying, nothing_laid}
+use Rattle.preserved_text.specs.Preserved.{has_text, line_text, fresh, lay_part, parts, preserved_lines, trimmed}
+use Rattle.preserved_text.specs.Preserved.{is_begun, word_at, goes_over_white, word_behind}
 use Rattle.preserved_text.specs.LawWords.{is_shown, codes_of}
 use Rattle.text_pieces.proofs.ItemColumns.{no_characters}
 use Rattle.preserved_text.proofs.LayingKept.{IsSeen, laid_seen}

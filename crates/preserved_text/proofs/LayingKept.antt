@@ -1,13 +1,21 @@
 -- What laying a source line keeps, for anything that is seen item by item and not of spaces: its characters that are
 -- shown, and its markers.
-use Rattle.std.proofs.Common.{◌≡◌, ℕ, ◌+◌, ◌-◌, ◌%◌, Bool, true, false, List, [], ◌∷◌, ◌++◌, fold, flat_map, replicate, if◌then◌else◌, refl, sym, ap, subst, ◌∙◌, append_assoc, append-nil}
+use Rattle.std.proofs.Common.{◌≡◌, ℕ, ◌+◌, ◌-◌, ◌%◌, Bool, true, false, List, [], ◌∷◌, ◌++◌, fold, flat_map, replicate}
+use Rattle.std.proofs.Common.{if◌then◌else◌, refl, sym, ap, subst, ◌∙◌, append_assoc, append-nil}
 use Rattle.std.specs.Prelude.{◌==◌, ◌||◌, nat_le, nat_lt}
 use Rattle.std.proofs.lemmas.Bool.{cond_both}
 use Rattle.std.proofs.lemmas.Grind.{flat_map-append}
 use Rattle.tagged_lines.specs.Columns.{width_of}
 use Rattle.tagged_lines.specs.Tagged.{Item, character, marker, line_columns}
 use Rattle.text_pieces.specs.Sources.{Source, letter, fragment}
-use Rattle.preserved_text.specs.Preserved.{Kind, solid, white, tab, cut, nothing, kind_of, is_solid, has_solid, trimmed, Part, blank, stop, body, ended_word, is_begun, waiting_word, parts_at, word_at, goes_over_white, parts_behind, word_behind, parts, Laying, nothing_laid, space, chosen, has_text, line_text, line_taken, fresh, with_room, written, without_spaces, item_columns, put, put_all, put_space, lay_blank, to_stop, behind_stop, lay_stop, taken, Tagging, tag_one, tagged_body, remaining, broken_anywhere, broken_at_white, lay_items, lay_body, lay_part, laid}
+use Rattle.preserved_text.specs.Preserved.{Kind, solid, white, tab, cut, nothing, kind_of, is_solid, has_solid, trimmed}
+use Rattle.preserved_text.specs.Preserved.{Part, blank, stop, body, ended_word, is_begun, waiting_word, parts_at}
+use Rattle.preserved_text.specs.Preserved.{word_at, goes_over_white, parts_behind, word_behind, parts, Laying}
+use Rattle.preserved_text.specs.Preserved.{nothing_laid, space, chosen, has_text, line_text, line_taken, fresh}
+use Rattle.preserved_text.specs.Preserved.{with_room, written, without_spaces, item_columns, put, put_all, put_space}
+use Rattle.preserved_text.specs.Preserved.{lay_blank, to_stop, behind_stop, lay_stop, taken, Tagging, tag_one}
+use Rattle.preserved_text.specs.Preserved.{tagged_body, remaining, broken_anywhere, broken_at_white, lay_items}
+use Rattle.preserved_text.specs.Preserved.{lay_body, lay_part, laid}
 use Rattle.preserved_text.proofs.ColumnLemmas.{AreSpaces, AreSpaces-append, AreSpaces-replicate, AreSpaces-drop}
 
 -- What is seen of an item is what is seen of its source; nothing is, of spaces and of what stands in no body.

@@ -2,7 +2,8 @@
 use Rattle.std.proofs.Common.{◌≡◌, ℕ, Bool, List, [], ◌∷◌, ◌++◌, flat_map, refl, sym, ap, ◌∙◌}
 use Rattle.tagged_lines.specs.Tagged.{Item, character, marker}
 use Rattle.text_pieces.specs.Sources.{Source, letter, fragment}
-use Rattle.preserved_text.specs.Preserved.{laid, preserved_lines, preserved_waiting, markers_of, names_of, trimmed, word_behind}
+use Rattle.preserved_text.specs.Preserved.{laid, preserved_lines, preserved_waiting, markers_of, names_of, trimmed}
+use Rattle.preserved_text.specs.Preserved.{word_behind}
 use Rattle.preserved_text.proofs.LayingKept.{IsSeen, laid_seen}
 
 -- markers and names, item by item

@@ -1,12 +1,17 @@
 -- A source line of shown characters and spaces that fits the width is itself.
-use Rattle.std.proofs.Common.{◌≡◌, ℕ, ◌+◌, ◌≤◌, inl, inr, Bool, true, false, List, [], ◌∷◌, ◌++◌, fold, replicate, if◌then◌else◌, refl, sym, ap, subst, ◌∙◌, append_assoc, append-nil, arith}
+use Rattle.std.proofs.Common.{◌≡◌, ℕ, ◌+◌, ◌≤◌, inl, inr, Bool, true, false, List, [], ◌∷◌, ◌++◌, fold, replicate}
+use Rattle.std.proofs.Common.{if◌then◌else◌, refl, sym, ap, subst, ◌∙◌, append_assoc, append-nil, arith}
 use Rattle.std.specs.Prelude.{not, is_some, ◌==◌, ◌&&◌, ◌||◌, nat_le, nat_lt}
 use Rattle.std.proofs.lemmas.Bool.{cond_both, cond-true}
 use Rattle.std.proofs.lemmas.Bool.Decides.{nat_tests}
 use Rattle.tagged_lines.specs.Columns.{columns_of, columns_of-one, width_of}
 use Rattle.tagged_lines.specs.Tagged.{Item, character, line_columns}
 use Rattle.text_pieces.specs.Sources.{Source, letter, fragment}
-use Rattle.preserved_text.specs.Preserved.{white, cut, nothing, kind_of, is_solid, has_solid, trimmed, is_begun, parts_at, word_at, goes_over_white, parts_behind, Laying, space, fresh, with_room, written, without_spaces, lay_blank, taken, line_taken, Tagging, tag_one, tagged_body, put_all, broken_anywhere, broken_at_white, lay_items, lay_body, lay_part, preserved_lines}
+use Rattle.preserved_text.specs.Preserved.{white, cut, nothing, kind_of, is_solid, has_solid, trimmed, is_begun}
+use Rattle.preserved_text.specs.Preserved.{parts_at, word_at, goes_over_white, parts_behind, Laying, space, fresh}
+use Rattle.preserved_text.specs.Preserved.{with_room, written, without_spaces, lay_blank, taken, line_taken, Tagging}
+use Rattle.preserved_text.specs.Preserved.{tag_one, tagged_body, put_all, broken_anywhere, broken_at_white, lay_items}
+use Rattle.preserved_text.specs.Preserved.{lay_body, lay_part, preserved_lines}
 use Rattle.preserved_text.specs.LawWords.{ArePlain, source_columns, as_it_stands, one_line}
 use Rattle.preserved_text.proofs.ColumnLemmas.{le_is_true, lt_is_false, width_of-space}
 use Rattle.text_pieces.proofs.ItemColumns.{line_columns-append, line_columns-cons}

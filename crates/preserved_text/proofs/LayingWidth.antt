@@ -1,5 +1,6 @@
 -- No line passes the width, where no body has a character that is wider.
-use Rattle.std.proofs.Common.{◌≡◌, ℕ, ◌+◌, ◌-◌, ◌%◌, ◌≤◌, ◌⊎◌, Bool, true, false, List, [], ◌∷◌, ◌++◌, All, fold, replicate, if◌then◌else◌, refl, sym, ap, ◌∙◌, inl, inr, arith}
+use Rattle.std.proofs.Common.{◌≡◌, ℕ, ◌+◌, ◌-◌, ◌%◌, ◌≤◌, ◌⊎◌, Bool, true, false, List, [], ◌∷◌, ◌++◌, All, fold}
+use Rattle.std.proofs.Common.{replicate, if◌then◌else◌, refl, sym, ap, ◌∙◌, inl, inr, arith}
 use Rattle.std.specs.Prelude.{not, is_some, ◌==◌, ◌||◌, nat_le, nat_lt}
 use Rattle.std.proofs.lemmas.Bool.{cond_both}
 use Rattle.std.proofs.lemmas.Bool.Decides.{nat_tests}
@@ -7,8 +8,17 @@ use Rattle.std.proofs.lemmas.List.Elements.{All-append, All-cons, All-nil}
 use Rattle.tagged_lines.specs.Columns.{columns_of, width_of}
 use Rattle.tagged_lines.specs.Tagged.{Item, character, marker, line_columns}
 use Rattle.text_pieces.specs.Sources.{Source, letter, fragment, is_white_space}
-use Rattle.preserved_text.specs.Preserved.{Kind, solid, white, tab, cut, nothing, kind_of, trimmed, Part, blank, stop, body, ended_word, is_begun, parts_at, word_at, goes_over_white, parts_behind, parts, Laying, nothing_laid, space, chosen, has_text, line_text, line_taken, fresh, with_room, written, without_spaces, item_columns, put, put_all, put_space, lay_blank, to_stop, behind_stop, tabbed, lay_stop, taken, Tagging, tag_one, tagged_body, remaining, broken_anywhere, broken_at_white, lay_items, lay_body, lay_part, preserved_lines, has_wide_letter, has_wide_body, is_too_wide}
-use Rattle.preserved_text.proofs.ColumnLemmas.{le_when, lt_unless, le_unless, IsSpace, AreSpaces, AreSpaces-append, AreSpaces-replicate, item_columns-space, line_columns-replicate, line_columns-drop}
+use Rattle.preserved_text.specs.Preserved.{Kind, solid, white, tab, cut, nothing, kind_of, trimmed, Part, blank, stop}
+use Rattle.preserved_text.specs.Preserved.{body, ended_word, is_begun, parts_at, word_at, goes_over_white, parts_behind}
+use Rattle.preserved_text.specs.Preserved.{parts, Laying, nothing_laid, space, chosen, has_text, line_text, line_taken}
+use Rattle.preserved_text.specs.Preserved.{fresh, with_room, written, without_spaces, item_columns, put, put_all}
+use Rattle.preserved_text.specs.Preserved.{put_space, lay_blank, to_stop, behind_stop, tabbed, lay_stop, taken, Tagging}
+use Rattle.preserved_text.specs.Preserved.{tag_one, tagged_body, remaining, broken_anywhere, broken_at_white, lay_items}
+use Rattle.preserved_text.specs.Preserved.{lay_body, lay_part, preserved_lines, has_wide_letter, has_wide_body}
+use Rattle.preserved_text.specs.Preserved.{is_too_wide}
+use Rattle.preserved_text.proofs.ColumnLemmas.{le_when, lt_unless, le_unless, IsSpace, AreSpaces, AreSpaces-append}
+use Rattle.preserved_text.proofs.ColumnLemmas.{AreSpaces-replicate, item_columns-space, line_columns-replicate}
+use Rattle.preserved_text.proofs.ColumnLemmas.{line_columns-drop}
 use Rattle.text_pieces.proofs.ItemColumns.{line_columns-append, line_columns-cons, no_columns}
 
 -- What is laid is within the width; white space waits only where there are columns.

@@ -1,13 +1,21 @@
 -- One pass over a source line lays its parts.
-use Rattle.std.proofs.Common.{◌≡◌, ℕ, ◌+◌, Bool, true, false, not, ◌&&◌, ◌||◌, nat_lt, nat_le, List, [], ◌∷◌, ◌++◌, sym, ap, ◌∙◌, refl, subst, append-nil, append_assoc}
+use Rattle.std.proofs.Common.{◌≡◌, ℕ, ◌+◌, Bool, true, false, not, ◌&&◌, ◌||◌, nat_lt, nat_le, List, [], ◌∷◌, ◌++◌, sym}
+use Rattle.std.proofs.Common.{ap, ◌∙◌, refl, subst, append-nil, append_assoc}
 use Rattle.std.specs.Prelude.{fold, if◌then◌else◌}
 use Rattle.std.proofs.lemmas.Bool.{false≢true}
 use Rattle.std.proofs.lemmas.List.Sums.{fold-append}
 use Rattle.tagged_lines.specs.Columns.{width_of}
 use Rattle.tagged_lines.specs.Tagged.{Item, marker}
 use Rattle.text_pieces.specs.Sources.{Source, letter, fragment}
-use Rattle.preserved_text.specs.Preserved.{Kind, solid, white, tab, cut, nothing, kind_of, Part, blank, stop, body, is_begun, ended_word, waiting_word, parts_at, word_at, goes_over_white, parts_behind, word_behind, parts, trimmed, Laying, nothing_laid, has_text, line_text, line_taken, fresh, with_room, taken, Tagging, tag_one, tagged_body, lay_items, lay_blank, lay_stop, lay_body, lay_part, laid, preserved_lines, preserved_waiting, markers_of, names_of, has_wide_letter, has_wide_body, is_too_wide}
-use Rattle.preserved_text.specs.Pass.{Pass, new_pass, entered, begins, lettered, ended_body, closed, blanked, stopped, read_at, read_letter, read_marker, read_all, finished, left_markers}
+use Rattle.preserved_text.specs.Preserved.{Kind, solid, white, tab, cut, nothing, kind_of, Part, blank, stop, body}
+use Rattle.preserved_text.specs.Preserved.{is_begun, ended_word, waiting_word, parts_at, word_at, goes_over_white}
+use Rattle.preserved_text.specs.Preserved.{parts_behind, word_behind, parts, trimmed, Laying, nothing_laid, has_text}
+use Rattle.preserved_text.specs.Preserved.{line_text, line_taken, fresh, with_room, taken, Tagging, tag_one}
+use Rattle.preserved_text.specs.Preserved.{tagged_body, lay_items, lay_blank, lay_stop, lay_body, lay_part, laid}
+use Rattle.preserved_text.specs.Preserved.{preserved_lines, preserved_waiting, markers_of, names_of, has_wide_letter}
+use Rattle.preserved_text.specs.Preserved.{has_wide_body, is_too_wide}
+use Rattle.preserved_text.specs.Pass.{Pass, new_pass, entered, begins, lettered, ended_body, closed, blanked, stopped}
+use Rattle.preserved_text.specs.Pass.{read_at, read_letter, read_marker, read_all, finished, left_markers}
 
 -- ---- tests
 

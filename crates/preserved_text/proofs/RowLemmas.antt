@@ -1,5 +1,6 @@
 -- Lines that are being laid, item by item.
-use Rattle.std.proofs.Common.{◌≡◌, ℕ, ◌<◌, ◌≤◌, Bool, true, false, ◌-◌, List, [], ◌∷◌, ◌++◌, fold, length, take, get_or, sym, ap, ◌∙◌, refl, arith}
+use Rattle.std.proofs.Common.{◌≡◌, ℕ, ◌<◌, ◌≤◌, Bool, true, false, ◌-◌, List, [], ◌∷◌, ◌++◌, fold, length, take, get_or}
+use Rattle.std.proofs.Common.{sym, ap, ◌∙◌, refl, arith}
 use Rattle.std.specs.Prelude.{nat_le, if◌then◌else◌}
 use Rattle.std.proofs.lemmas.List.{append-nil, map-append}
 use Rattle.std.proofs.lemmas.List.Sums.{fold-append}
@@ -7,7 +8,8 @@ use Rattle.std.proofs.lemmas.Bool.Decides.{nat_tests}
 use Rattle.tagged_lines.specs.Tagged.{Item, character, tagged, element_items, elements_items, line_columns}
 use Rattle.tagged_lines.specs.declared.tagged_string.TaggedLineElement.{TaggedLineElement}
 use Rattle.tagged_lines.proofs.Joins.{elements_items-append}
-use Rattle.preserved_text.specs.Preserved.{Laying, has_text, line_text, line_taken, fresh, with_room, written, without_spaces, item_columns, put, remaining, broken_anywhere}
+use Rattle.preserved_text.specs.Preserved.{Laying, has_text, line_text, line_taken, fresh, with_room, written}
+use Rattle.preserved_text.specs.Preserved.{without_spaces, item_columns, put, remaining, broken_anywhere}
 use Rattle.preserved_text.proofs.ColumnLemmas.{le_is_true}
 use Rattle.text_pieces.proofs.ElementLemmas.{next_taken, all_taken}
 

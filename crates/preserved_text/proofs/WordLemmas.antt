@@ -1,5 +1,6 @@
 -- Words and the spaces between them, that are laid on a line all at once.
-use Rattle.std.proofs.Common.{◌≡◌, ℕ, ◌+◌, ◌-◌, ◌≤◌, Bool, true, false, List, [], ◌∷◌, ◌++◌, if◌then◌else◌, sym, ap, ◌∙◌, refl, subst, inl, inr, arith, chars, IsUtf8, encode_utf8}
+use Rattle.std.proofs.Common.{◌≡◌, ℕ, ◌+◌, ◌-◌, ◌≤◌, Bool, true, false, List, [], ◌∷◌, ◌++◌, if◌then◌else◌, sym, ap}
+use Rattle.std.proofs.Common.{◌∙◌, refl, subst, inl, inr, arith, chars, IsUtf8, encode_utf8}
 use Rattle.std.specs.Prelude.{◌⊎◌, not, ◌||◌, ◌&&◌, ◌==◌, is_some}
 use Rattle.std.specs.Char.{IsScalar}
 use Rattle.std.proofs.lemmas.Bool.Decides.{nat_tests}

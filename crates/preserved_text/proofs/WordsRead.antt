@@ -1,14 +1,19 @@
 -- Words and the spaces between them that go on the line at hand are read as they are laid there all at once.
-use Rattle.std.proofs.Common.{◌≡◌, ℕ, ◌+◌, ◌≤◌, Bool, true, false, List, [], ◌∷◌, ◌++◌, if◌then◌else◌, sym, ap, ◌∙◌, refl, subst, append-nil, append_assoc, inl, inr, arith}
+use Rattle.std.proofs.Common.{◌≡◌, ℕ, ◌+◌, ◌≤◌, Bool, true, false, List, [], ◌∷◌, ◌++◌, if◌then◌else◌, sym, ap, ◌∙◌}
+use Rattle.std.proofs.Common.{refl, subst, append-nil, append_assoc, inl, inr, arith}
 use Rattle.std.specs.Prelude.{◌⊎◌, not, ◌||◌, ◌&&◌, ◌==◌, nat_lt, is_some}
 use Rattle.std.proofs.lemmas.List.{map-append}
 use Rattle.std.proofs.lemmas.List.Sums.{fold-append, sum_by-cons}
 use Rattle.tagged_lines.specs.Columns.{columns_of, width_of, text_columns}
 use Rattle.tagged_lines.specs.Tagged.{Item, character, tagged, line_columns}
 use Rattle.text_pieces.specs.Sources.{letter, sourced}
-use Rattle.preserved_text.specs.Preserved.{Kind, solid, white, cut, kind_of, is_solid, Laying, space, chosen, line_text, line_taken, taken, fresh, written, without_spaces, put_all, broken_at_white, lay_blank}
-use Rattle.preserved_text.specs.Pass.{Pass, lettered, begins, closed, ended_body, blanked, read_at, read_letter, read_source, read_all}
-use Rattle.preserved_text.specs.Fronts.{AreWordsAndSpaces, ends_solid, StartsWithSpace, AreWords, WordsFit, has_wider, words_laid}
+use Rattle.preserved_text.specs.Preserved.{Kind, solid, white, cut, kind_of, is_solid, Laying, space, chosen, line_text}
+use Rattle.preserved_text.specs.Preserved.{line_taken, taken, fresh, written, without_spaces, put_all, broken_at_white}
+use Rattle.preserved_text.specs.Preserved.{lay_blank}
+use Rattle.preserved_text.specs.Pass.{Pass, lettered, begins, closed, ended_body, blanked, read_at, read_letter}
+use Rattle.preserved_text.specs.Pass.{read_source, read_all}
+use Rattle.preserved_text.specs.Fronts.{AreWordsAndSpaces, ends_solid, StartsWithSpace, AreWords, WordsFit, has_wider}
+use Rattle.preserved_text.specs.Fronts.{words_laid}
 use Rattle.preserved_text.proofs.ColumnLemmas.{le_is_true, lt_is_false, width_of-space}
 use Rattle.text_pieces.proofs.ItemColumns.{line_columns-append}
 use Rattle.preserved_text.proofs.LayingPlain.{space_is_white}

@@ -1,9 +1,11 @@
 -- Fronts of texts, whose characters are taken at once.
-use Rattle.std.specs.Prelude.{◌≡◌, ◌⊎◌, ℕ, ◌+◌, ◌≤◌, Bool, true, false, not, ◌||◌, nat_lt, List, [], ◌∷◌, ◌++◌, fold, chars}
+use Rattle.std.specs.Prelude.{◌≡◌, ◌⊎◌, ℕ, ◌+◌, ◌≤◌, Bool, true, false, not, ◌||◌, nat_lt, List, [], ◌∷◌, ◌++◌, fold}
+use Rattle.std.specs.Prelude.{chars}
 use Rattle.tagged_lines.specs.Columns.{width_of, text_columns}
 use Rattle.tagged_lines.specs.Tagged.{tagged}
 use Rattle.text_pieces.specs.Cuts.{IsBehind}
-use Rattle.preserved_text.specs.Preserved.{Kind, solid, white, tab, cut, nothing, kind_of, is_solid, chosen, written, without_spaces}
+use Rattle.preserved_text.specs.Preserved.{Kind, solid, white, tab, cut, nothing, kind_of, is_solid, chosen, written}
+use Rattle.preserved_text.specs.Preserved.{without_spaces}
 use Rattle.preserved_text.specs.Pass.{Pass, lettered}
 
 -- of the front's characters something holds

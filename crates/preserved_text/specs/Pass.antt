@@ -1,10 +1,12 @@
--- A source line whose white space stays, laid in one pass: parts are laid as they end, and the characters of a body have
--- their tags as they are read.
-use Rattle.std.specs.Prelude.{ℕ, ◌+◌, Bool, true, false, not, ◌&&◌, ◌||◌, nat_lt, List, [], ◌∷◌, ◌++◌, fold, if◌then◌else◌}
+-- A source line whose white space stays, laid in one pass: parts are laid as they end, and the characters of a body
+-- have their tags as they are read.
+use Rattle.std.specs.Prelude.{ℕ, ◌+◌, Bool, true, false, not, ◌&&◌, ◌||◌, nat_lt, List, [], ◌∷◌, ◌++◌, fold}
+use Rattle.std.specs.Prelude.{if◌then◌else◌}
 use Rattle.tagged_lines.specs.Columns.{width_of}
 use Rattle.tagged_lines.specs.Tagged.{Item, character, marker, line_columns}
 use Rattle.text_pieces.specs.Sources.{Source, letter, fragment}
-use Rattle.preserved_text.specs.Preserved.{Kind, solid, white, tab, cut, nothing, kind_of, Laying, nothing_laid, with_room, taken, chosen, lay_items, lay_blank, lay_stop, fresh, markers_of}
+use Rattle.preserved_text.specs.Preserved.{Kind, solid, white, tab, cut, nothing, kind_of, Laying, nothing_laid}
+use Rattle.preserved_text.specs.Preserved.{with_room, taken, chosen, lay_items, lay_blank, lay_stop, fresh, markers_of}
 
 -- The columns of a line, and whether lines break at white space; what was laid; the body so far, or the markers that
 -- wait for one; whether a body has begun, and whether its source line was wrapped before its end; whether some body has

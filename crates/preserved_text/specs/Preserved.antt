@@ -1,6 +1,7 @@
 -- A source line whose white space stays, on lines of at most a width (CSS 2.2, 16.6: `pre` and `pre-wrap`, but that too
 -- wide a line is wrapped). It is cut into parts, and these are laid one after another.
-use Rattle.std.specs.Prelude.{ℕ, ◌+◌, ◌-◌, ◌%◌, min, Bool, true, false, not, ◌&&◌, ◌||◌, ◌==◌, nat_le, nat_lt, List, [], ◌∷◌, ◌++◌, is_some, fold, replicate, drop, if◌then◌else◌}
+use Rattle.std.specs.Prelude.{ℕ, ◌+◌, ◌-◌, ◌%◌, min, Bool, true, false, not, ◌&&◌, ◌||◌, ◌==◌, nat_le, nat_lt, List, []}
+use Rattle.std.specs.Prelude.{◌∷◌, ◌++◌, is_some, fold, replicate, drop, if◌then◌else◌}
 use Rattle.tagged_lines.specs.Columns.{columns_of, width_of}
 use Rattle.tagged_lines.specs.Tagged.{Item, character, marker, line_columns}
 pub use Rattle.text_pieces.specs.Items.{has_text, item_columns, markers_of}

@@ -1,4 +1,5 @@
--- Words of worked rows: the characters, or the tags, of the lines of a text whose tags are 0, and 1 where it was wrapped.
+-- Words of worked rows: the characters, or the tags, of the lines of a text whose tags are 0, and 1 where it was
+-- wrapped.
 use Rattle.std.specs.Prelude.{ℕ, Bool, true, false, List, [], ◌∷◌, map}
 use Rattle.tagged_lines.specs.Tagged.{Item, character, marker, characters}
 use Rattle.text_pieces.specs.Sources.{sourced}

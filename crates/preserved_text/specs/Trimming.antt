@@ -1,5 +1,6 @@
 -- A source line without the white space at its end, piece by piece.
-use Rattle.std.specs.Prelude.{◌≡◌, ℕ, ◌≤◌, Bool, false, ◌||◌, List, [], ◌∷◌, ◌++◌, flat_map, length, take, drop, if◌then◌else◌}
+use Rattle.std.specs.Prelude.{◌≡◌, ℕ, ◌≤◌, Bool, false, ◌||◌, List, [], ◌∷◌, ◌++◌, flat_map, length, take, drop}
+use Rattle.std.specs.Prelude.{if◌then◌else◌}
 use Rattle.text_pieces.specs.Sources.{Source, piece_sources, sources_of}
 use Rattle.preserved_text.specs.Preserved.{kind_of, is_solid, trimmed}
 use Rattle.text_pieces.specs.declared.piece.Piece.{Piece}

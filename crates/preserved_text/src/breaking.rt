@@ -1,7 +1,11 @@
 //! White space and bodies on lines that are being laid.
-ghost use Rattle.std.specs.Prelude.{◌≡◌, ◌+◌, ◌-◌, ◌%◌, min, [], ◌++◌, ◌||◌, ◌==◌, nat_lt, chars, string_bytes, drop, replicate, length, fold, OnOk, IfOk, ◌∷◌, ◌≤◌, if◌then◌else◌};
-ghost use Rattle.tagged_lines.specs.Tagged.{line_items, element_items, line_columns, character, marker, tagged, IsJoined};
-ghost use Rattle.preserved_text.specs.Preserved.{line_taken, written, without_spaces, put_space, space, to_stop, behind_stop, tabbed, lay_stop, remaining, broken_anywhere, broken_at_white, lay_items, taken};
+ghost use Rattle.std.specs.Prelude.{◌≡◌, ◌+◌, ◌-◌, ◌%◌, min, [], ◌++◌, ◌||◌, ◌==◌, nat_lt, chars, string_bytes, drop};
+ghost use Rattle.std.specs.Prelude.{replicate, length, fold, OnOk, IfOk, ◌∷◌, ◌≤◌, if◌then◌else◌};
+ghost use Rattle.tagged_lines.specs.Tagged.{line_items, element_items, line_columns, character, marker, tagged};
+ghost use Rattle.tagged_lines.specs.Tagged.{IsJoined};
+ghost use Rattle.preserved_text.specs.Preserved.{line_taken, written, without_spaces, put_space, space, to_stop};
+ghost use Rattle.preserved_text.specs.Preserved.{behind_stop, tabbed, lay_stop, remaining, broken_anywhere};
+ghost use Rattle.preserved_text.specs.Preserved.{broken_at_white, lay_items, taken};
 
 use crate::laying::{Rows, chosen};
 use std::alloc::AllocError;
@@ -214,8 +218,8 @@ impl<T: EqualCopy + Drop> Rows<T> {
         Ok(())
     }
 
-    /// White space at least as wide as what is left of the line loses so many columns, and then a width's while it has as
-    /// many; narrower white space is written on the line.
+    /// White space at least as wide as what is left of the line loses so many columns, and then a width's while it has
+    /// as many; narrower white space is written on the line.
     fn break_anywhere(&mut self, width: usize) -> Result<(), AllocError>
         ensures laid { OnOk result (laying_of T.seen self.new ≡ broken_anywhere width (laying_of T.seen self.old)) }
         ensures joined { HasJoinedRows T.seen self.old → HasJoinedRows T.seen self.new }

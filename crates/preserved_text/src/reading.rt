@@ -119,8 +119,8 @@ impl<T: EqualCopy + Drop> SourceLine<T> {
         Ok(())
     }
 
-    /// Reads characters in front all at once: those that the body at hand goes on with, or words and spaces that go on the
-    /// line; what follows them is left.
+    /// Reads characters in front all at once: those that the body at hand goes on with, or words and spaces that go on
+    /// the line; what follows them is left.
     fn read_front<'a>(
         &mut self,
         text: &'a str,

@@ -1,8 +1,10 @@
 //! The pass over a source line.
-ghost use Rattle.std.specs.Prelude.{◌≡◌, ◌≤◌, ◌+◌, ◌++◌, ◌&&◌, ◌||◌, not, true, nat_lt, length, chars, OnOk, IfOk, IfErr, map, All, IsUtf8};
+ghost use Rattle.std.specs.Prelude.{◌≡◌, ◌≤◌, ◌+◌, ◌++◌, ◌&&◌, ◌||◌, not, true, nat_lt, length, chars, OnOk, IfOk};
+ghost use Rattle.std.specs.Prelude.{IfErr, map, All, IsUtf8};
 ghost use Rattle.tagged_lines.specs.Tagged.{line_items, line_columns, IsJoined};
 ghost use Rattle.text_pieces.specs.Sources.{names};
-ghost use Rattle.preserved_text.specs.Pass.{new_pass, begins, lettered, closed, blanked, stopped, read_letter, read_marker, read_at, finished, left_markers};
+ghost use Rattle.preserved_text.specs.Pass.{new_pass, begins, lettered, closed, blanked, stopped, read_letter};
+ghost use Rattle.preserved_text.specs.Pass.{read_marker, read_at, finished, left_markers};
 ghost use Rattle.preserved_text.specs.Preserved.{white, taken};
 ghost use Rattle.preserved_text.specs.Fronts.{all_lettered, words_laid, IsSteady};
 

@@ -3,7 +3,11 @@ use Rattle.std.specs.Prelude.{ℕ, ◌-◌, Bool, List, Option, Some, map}
 use Rattle.text_marks.specs.Marks.{Mark, link_end}
 use Rattle.text_pieces.specs.declared.white_space.WhiteSpace.{WhiteSpace}
 use Rattle.block_layout.specs.LaidRows.{before_last}
-use Rattle.renderer_calls.specs.Renderers.{Marking, Sub, with_empty_line, with_block_started, with_table_started, with_block_ended, with_line_broken, with_border_of, with_fragment, with_preformat, with_mode, flush_sub, add_inline, begin, finish, begin_link, finish_link, begin_strikeout, finish_strikeout, add_image, begin_colour, finish_colour, add_sub, add_cells, add_rows_below}
+use Rattle.renderer_calls.specs.Renderers.{Marking, Sub, with_empty_line, with_block_started, with_table_started}
+use Rattle.renderer_calls.specs.Renderers.{with_block_ended, with_line_broken, with_border_of, with_fragment}
+use Rattle.renderer_calls.specs.Renderers.{with_preformat, with_mode, flush_sub, add_inline, begin, finish, begin_link}
+use Rattle.renderer_calls.specs.Renderers.{finish_link, begin_strikeout, finish_strikeout, add_image, begin_colour}
+use Rattle.renderer_calls.specs.Renderers.{finish_colour, add_sub, add_cells, add_rows_below}
 
 -- A call of a renderer; others that it takes are of type R.
 pub data Call (R : Type 0) : Type 0 where

@@ -1,6 +1,7 @@
 -- A renderer of a block: what it holds, and what each call makes of it. Where a call comes to no renderer, a character
 -- is wider than the lines at which its text wraps.
-use Rattle.std.specs.Prelude.{ℕ, ◌+◌, ◌-◌, ◌==◌, nat_lt, nat_le, min, max, Bool, List, [], ◌∷◌, ◌++◌, Option, None, Some, fold, flat_map, replicate, unwrap_or, chars, if◌then◌else◌}
+use Rattle.std.specs.Prelude.{ℕ, ◌+◌, ◌-◌, ◌==◌, nat_lt, nat_le, min, max, Bool, List, [], ◌∷◌, ◌++◌, Option, None}
+use Rattle.std.specs.Prelude.{Some, fold, flat_map, replicate, unwrap_or, chars, if◌then◌else◌}
 use Rattle.std.specs.Option.{option_map, option_and_then}
 use Rattle.tagged_lines.specs.Columns.{width_of}
 use Rattle.text_marks.specs.Marks.{Mark, strikeout_start, strikeout_end, preformat_first, preformat_further, image}
@@ -10,11 +11,14 @@ use Rattle.text_borders.specs.Borders.{plain, horizontal}
 use Rattle.text_borders.specs.Lines.{BlockLine}
 use Rattle.text_borders.specs.Across.{Cell}
 use Rattle.block_layout.specs.declared.measure.Measure.{Measure}
-use Rattle.block_layout.specs.Laid.{Laid, nothing_laid, finished_lines, add_empty_line, start_block, start_table, end_block, flush, break_line, is_ignored, start_awaited, add_text, mark, add_border, add_horizontal_border, add_block}
+use Rattle.block_layout.specs.Laid.{Laid, nothing_laid, finished_lines, add_empty_line, start_block, start_table}
+use Rattle.block_layout.specs.Laid.{end_block, flush, break_line, is_ignored, start_awaited, add_text, mark, add_border}
+use Rattle.block_layout.specs.Laid.{add_horizontal_border, add_block}
 use Rattle.block_layout.specs.LaidRows.{add_row, add_slashes, before_last}
 use Rattle.renderer_calls.specs.declared.options.RenderOptions.{RenderOptions}
 use Rattle.renderer_calls.specs.declared.options.ImageRenderMode.{ImageRenderMode}
-use Rattle.renderer_calls.specs.declared.options.ImageRenderMode.TheVariants.{IgnoreEmpty, ShowAlways, Replace, Filename}
+use Rattle.renderer_calls.specs.declared.options.ImageRenderMode.TheVariants.{IgnoreEmpty, ShowAlways, Replace}
+use Rattle.renderer_calls.specs.declared.options.ImageRenderMode.TheVariants.{Filename}
 
 -- How a decorator marks text: the texts of its marks and what contracts see of their annotations; whether a colour has
 -- one; what it holds behind a mark; whether a colour's annotation ends with it; what one made for a part of the block

@@ -1,5 +1,6 @@
 -- Each call of a renderer that fits keeps its lines within its width.
-use Rattle.std.proofs.Common.{◌≡◌, ℕ, ◌+◌, ◌≤◌, Bool, true, false, List, [], ◌∷◌, Option, None, Some, IfSome, ap, ◌∙◌, refl, sym, subst, arith}
+use Rattle.std.proofs.Common.{◌≡◌, ℕ, ◌+◌, ◌≤◌, Bool, true, false, List, [], ◌∷◌, Option, None, Some, IfSome, ap, ◌∙◌}
+use Rattle.std.proofs.Common.{refl, sym, subst, arith}
 use Rattle.std.specs.Prelude.{All, fold, nat_lt, if◌then◌else◌}
 use Rattle.std.specs.Option.{option_map, option_and_then}
 use Rattle.std.proofs.lemmas.List.{length-replicate}
@@ -15,12 +16,24 @@ use Rattle.text_borders.specs.Lines.{border}
 use Rattle.text_borders.specs.Across.{Cell, CellLine, width_across}
 use Rattle.text_borders.specs.AcrossLaws.{LineFits, CellFits}
 use Rattle.block_layout.specs.declared.measure.Measure.{Measure}
-use Rattle.block_layout.specs.Laid.{Laid, add_text_lines, add_empty_line, start_block, start_table, end_block, flush, break_line, is_ignored, start_awaited, add_text, mark, add_border, add_horizontal_border, add_block}
+use Rattle.block_layout.specs.Laid.{Laid, add_text_lines, add_empty_line, start_block, start_table, end_block, flush}
+use Rattle.block_layout.specs.Laid.{break_line, is_ignored, start_awaited, add_text, mark, add_border}
+use Rattle.block_layout.specs.Laid.{add_horizontal_border, add_block}
 use Rattle.block_layout.specs.LaidRows.{add_row, row_laid, add_slashes, last_border}
 use Rattle.layout_laws.specs.LayoutLaws.{IsKept, IsWithin}
 use Rattle.layout_laws.proofs.OptionLemmas.{known, mapped, chained}
-use Rattle.renderer_calls.specs.Renderers.{Marking, Sub, measure_of, mode_of, with_laid, on_laid, struck_text, preformatted_added, tagged_added, text_added, add_inline, with_held, pushed, popped, struck_more, struck_less, begin, finish, begin_link, finish_link, begin_strikeout, image_title, add_titled, begin_colour, finish_colour, flush_sub, with_block, append_sub, add_sub, cell_of_sub, before_cells, cells_of_subs, with_cells, add_cells, slashed, ruled, add_below, add_first, add_rows_below}
-use Rattle.renderer_calls.specs.Calls.{Call, adds_empty_line, starts_block, starts_table, ends_block, ends_line, breaks_line, adds_border, adds_border_of, starts_preformat, ends_preformat, starts_mode, ends_mode, adds_text, starts_link, ends_link, starts_strikeout, ends_strikeout, starts_mark, ends_mark, adds_image, starts_fragment, starts_colour, ends_colour, adds_block, adds_cells, adds_rows_below, step}
+use Rattle.renderer_calls.specs.Renderers.{Marking, Sub, measure_of, mode_of, with_laid, on_laid, struck_text}
+use Rattle.renderer_calls.specs.Renderers.{preformatted_added, tagged_added, text_added, add_inline, with_held, pushed}
+use Rattle.renderer_calls.specs.Renderers.{popped, struck_more, struck_less, begin, finish, begin_link, finish_link}
+use Rattle.renderer_calls.specs.Renderers.{begin_strikeout, image_title, add_titled, begin_colour, finish_colour}
+use Rattle.renderer_calls.specs.Renderers.{flush_sub, with_block, append_sub, add_sub, cell_of_sub, before_cells}
+use Rattle.renderer_calls.specs.Renderers.{cells_of_subs, with_cells, add_cells, slashed, ruled, add_below, add_first}
+use Rattle.renderer_calls.specs.Renderers.{add_rows_below}
+use Rattle.renderer_calls.specs.Calls.{Call, adds_empty_line, starts_block, starts_table, ends_block, ends_line}
+use Rattle.renderer_calls.specs.Calls.{breaks_line, adds_border, adds_border_of, starts_preformat, ends_preformat}
+use Rattle.renderer_calls.specs.Calls.{starts_mode, ends_mode, adds_text, starts_link, ends_link, starts_strikeout}
+use Rattle.renderer_calls.specs.Calls.{ends_strikeout, starts_mark, ends_mark, adds_image, starts_fragment}
+use Rattle.renderer_calls.specs.Calls.{starts_colour, ends_colour, adds_block, adds_cells, adds_rows_below, step}
 use Rattle.renderer_laws.specs.RendererLaws.{IsKeptWithin, StaysWithin, FitsBehind, RowFits, CallFits, AllFit, after}
 
 -- what the crate below says of blocks

@@ -7,7 +7,8 @@ ghost use Rattle.renderer_calls.specs.declared.options.RenderOptions.{RenderOpti
 ghost use Rattle.renderer_calls.specs.Renderers.{Marking, Sub, new_sub, lines_of_sub, room_behind};
 ghost use Rattle.renderer_calls.specs.Calls.{Call, step};
 ghost use Rattle.block_renderer.specs.Footnotes.{add_footnotes};
-ghost use Rattle.renderer_laws.specs.RendererLaws.{IsKeptWithin, StaysWithin, CallFits, after, AllFit, HasRoom, CallHasRoom};
+ghost use Rattle.renderer_laws.specs.RendererLaws.{IsKeptWithin, StaysWithin, CallFits, after, AllFit, HasRoom};
+ghost use Rattle.renderer_laws.specs.RendererLaws.{CallHasRoom};
 
 use footnote_lines::footnotes_keep_the_width;
 use layout_laws::{calls_keep_the_width, overflow_never_refuses};
@@ -51,8 +52,8 @@ pub fn renderers_with_room_never_refuse<D: TextDecorator>()
     overflow_never_refuses::<Vec<D::Annotation>>();
 }
 
-/// Where no character may overflow, a prefix and the room behind it are the width, of which at least one column is room,
-/// and the width is what was asked for, or more. Where it may, there is always room.
+/// Where no character may overflow, a prefix and the room behind it are the width, of which at least one column is
+/// room, and the width is what was asked for, or more. Where it may, there is always room.
 pub fn a_prefix_and_its_room_are_the_width<D: TextDecorator>()
     ensures within { (prefix least : ℕ) (s : Sub D.Held D.Annotation.Seen) → s.options.allow_width_overflow ≡ false
         → IfSome (room_behind prefix least s) (λ n. (prefix + n ≡ s.width) × ((1 ≤ n) × (least ≤ s.width))) }

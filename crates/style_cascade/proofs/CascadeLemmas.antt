@@ -2,7 +2,8 @@
 use Rattle.std.proofs.Common.{◌≡◌, Bool, true, false, List, [], ◌∷◌, ◌++◌, true≢false, refl, sym, ap, ◌∙◌}
 use Rattle.std.specs.Prelude.{All, Option, None, Some, cond}
 use Rattle.std.proofs.lemmas.List.{append_assoc}
-use Rattle.std.proofs.lemmas.List.Elements.{All-nil, All-cons, All-head, All-tail, All-append, All-push, All-weaker, All-same}
+use Rattle.std.proofs.lemmas.List.Elements.{All-nil, All-cons, All-head, All-tail, All-append, All-push, All-weaker}
+use Rattle.std.proofs.lemmas.List.Elements.{All-same}
 use Rattle.style_cascade.specs.declared.cascade.Declared.{Declared}
 use Rattle.style_cascade.specs.Keys.{is_before, is_outranked}
 use Rattle.style_cascade.specs.Cascade.{Holds, IsCascaded}

@@ -1,5 +1,6 @@
 -- What is declared, one declaration or one rule more.
-use Rattle.std.proofs.Common.{◌≡◌, ℕ, ◌+◌, ◌<◌, ◌≤◌, Bool, true, false, List, [], ◌∷◌, ◌++◌, length, map, take, get_or, refl, sym, ap, subst, ◌∙◌}
+use Rattle.std.proofs.Common.{◌≡◌, ℕ, ◌+◌, ◌<◌, ◌≤◌, Bool, true, false, List, [], ◌∷◌, ◌++◌, length, map, take, get_or}
+use Rattle.std.proofs.Common.{refl, sym, ap, subst, ◌∙◌}
 use Rattle.std.specs.Prelude.{Option, None, Some, option_map, cond, flat_map, filter, bytes_eq, ◌&&◌}
 use Rattle.std.specs.Borrow.{Bor}
 use Rattle.std.specs.List.{cons_option}
@@ -21,7 +22,8 @@ use Rattle.style_cascade.specs.declared.cascade.StyleOrigin.{StyleOrigin}
 use Rattle.style_cascade.specs.declared.computed.ComputedStyle.{ComputedStyle}
 use Rattle.style_cascade.specs.Keys.{is_before}
 use Rattle.style_cascade.specs.Cascade.{IsCascaded}
-use Rattle.style_cascade.specs.Styles.{with_val, of_property, colour_of, background_of, display_of, white_space_of, content_of, rule_declares, is_same_place, declared_by, declared_at}
+use Rattle.style_cascade.specs.Styles.{with_val, of_property, colour_of, background_of, display_of, white_space_of}
+use Rattle.style_cascade.specs.Styles.{content_of, rule_declares, is_same_place, declared_by, declared_at}
 use Rattle.style_cascade.specs.Seen.{IsComputed, IsStyled, holding, text_declared}
 use Rattle.style_cascade.specs.declared.computed.PlaceStyle.{PlaceStyle}
 use Rattle.style_cascade.proofs.CascadeLemmas.{updated, cascades_on, is_updated}

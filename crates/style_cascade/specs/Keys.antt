@@ -1,5 +1,6 @@
 -- What decides between declarations of one property (CSS 2.2, 6.4.1).
-use Rattle.std.specs.Prelude.{ℕ, ◌+◌, ◌-◌, ◌==◌, ◌||◌, ◌&&◌, nat_lt, min, Bool, true, false, List, [], ◌∷◌, Option, None, Some}
+use Rattle.std.specs.Prelude.{ℕ, ◌+◌, ◌-◌, ◌==◌, ◌||◌, ◌&&◌, nat_lt, min, Bool, true, false, List, [], ◌∷◌, Option}
+use Rattle.std.specs.Prelude.{None, Some}
 use Rattle.style_cascade.specs.declared.cascade.StyleOrigin.{StyleOrigin}
 use Rattle.style_cascade.specs.declared.cascade.StyleOrigin.TheVariants as origins
 use Rattle.style_cascade.specs.declared.cascade.Importance.{Importance}

@@ -9,7 +9,8 @@ use Rattle.style_cascade.specs.declared.rules.Style.{Style}
 use Rattle.style_cascade.specs.declared.rules.StyleRule.{StyleRule}
 use Rattle.style_cascade.specs.declared.rules.StylePlace.TheVariants as places
 use Rattle.style_cascade.specs.Cascade.{IsCascaded}
-use Rattle.style_cascade.specs.Styles.{with_val, of_property, colour_of, background_of, display_of, white_space_of, content_of, declared_at}
+use Rattle.style_cascade.specs.Styles.{with_val, of_property, colour_of, background_of, display_of, white_space_of}
+use Rattle.style_cascade.specs.Styles.{content_of, declared_at}
 
 -- the declaration that holds
 abbrev pub holding : {T : Type 0} → WithSpec T → Option (Declared T)

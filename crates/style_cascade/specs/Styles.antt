@@ -1,5 +1,6 @@
 -- What rules declare of an element.
-use Rattle.std.specs.Prelude.{ℕ, ◌&&◌, Bool, true, false, List, Option, None, Some, map, flat_map, filter, filter_map, option_map, bytes_eq}
+use Rattle.std.specs.Prelude.{ℕ, ◌&&◌, Bool, true, false, List, Option, None, Some, map, flat_map, filter, filter_map}
+use Rattle.std.specs.Prelude.{option_map, bytes_eq}
 use Rattle.text_marks.specs.declared.colour.Colour.{Colour}
 use Rattle.text_pieces.specs.declared.white_space.WhiteSpace.{WhiteSpace}
 use Rattle.style_cascade.specs.declared.cascade.Declared.{Declared}

@@ -7,7 +7,8 @@ use Rattle.text_marks.specs.Marks.{link_start, link_end}
 use Rattle.layout_laws.proofs.OptionLemmas.{mapped, chained, given_mapped, given_chained}
 use Rattle.renderer_calls.specs.Renderers.{Marking, Sub, add_inline, begin_link, finish_link}
 use Rattle.renderer_laws.specs.RendererLaws.{IsKeptWithin, StaysWithin, HasRoom}
-use Rattle.text_block_renderer.specs.Parts.{Parts, with_part, with_current, with_target, begin_part_link, footnote_mark, numbered, add_part_number, finish_part_link}
+use Rattle.text_block_renderer.specs.Parts.{Parts, with_part, with_current, with_target, begin_part_link, footnote_mark}
+use Rattle.text_block_renderer.specs.Parts.{numbered, add_part_number, finish_part_link}
 use Rattle.text_block_renderer.specs.PartLaws.{AreKeptWithin, PartsStayWithin, HaveRoom}
 
 -- ---- a part that begins and ends

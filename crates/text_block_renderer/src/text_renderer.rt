@@ -28,7 +28,8 @@ impl<D: TextDecorator + Drop> TextRenderer<D> {
     ghost use Rattle.renderer_calls.specs.Renderers.{Sub};
     ghost use Rattle.text_block_renderer.specs.Parts.{Parts, whole_page, depth_of, with_part, with_current};
     ghost use Rattle.text_block_renderer.specs.Parts.{begin_part_link, finish_part_link, add_part_number};
-    ghost use Rattle.text_block_renderer.specs.SeenParts.{parts_of, page_has_failed, current_has_failed, with_current_renderer, PartsCome, PartsFail};
+    ghost use Rattle.text_block_renderer.specs.SeenParts.{parts_of, page_has_failed, current_has_failed};
+    ghost use Rattle.text_block_renderer.specs.SeenParts.{with_current_renderer, PartsCome, PartsFail};
     ghost use Rattle.text_pieces.specs.Sources.{names};
 
     /// A renderer of a page, of which no part has begun.

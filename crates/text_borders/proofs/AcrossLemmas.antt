@@ -1,5 +1,6 @@
 -- The columns of rows of cells.
-use Rattle.std.proofs.Common.{◌≡◌, ℕ, zero, suc, ◌+◌, ◌-◌, ◌<◌, ◌≤◌, Bool, true, false, List, [], ◌∷◌, ◌++◌, map, length, drop, replicate, if◌then◌else◌, sym, subst, ◌∙◌, refl, inl, inr, arith}
+use Rattle.std.proofs.Common.{◌≡◌, ℕ, zero, suc, ◌+◌, ◌-◌, ◌<◌, ◌≤◌, Bool, true, false, List, [], ◌∷◌, ◌++◌, map}
+use Rattle.std.proofs.Common.{length, drop, replicate, if◌then◌else◌, sym, subst, ◌∙◌, refl, inl, inr, arith}
 use Rattle.std.specs.Prelude.{nat_le, nat_lt, fold, max, All, Option, Some}
 use Rattle.std.specs.Option.{option_map}
 use Rattle.std.proofs.lemmas.List.{length-replicate}
@@ -8,12 +9,18 @@ use Rattle.tagged_lines.specs.Columns.{width_of}
 use Rattle.tagged_lines.specs.Tagged.{Item, character, marker, tagged, line_columns}
 use Rattle.text_pieces.proofs.ItemColumns.{line_columns-append, line_columns-cons}
 use Rattle.text_borders.specs.Segments.{Segment, with_up, with_down, joins_above, joins_below, runs_above}
-use Rattle.text_borders.specs.Borders.{Border, horizontal, stretched, change_to, columns_where, with_segments, punched_at, punched, shown, line_above}
+use Rattle.text_borders.specs.Borders.{Border, horizontal, stretched, change_to, columns_where, with_segments}
+use Rattle.text_borders.specs.Borders.{punched_at, punched, shown, line_above}
 use Rattle.text_borders.specs.Lines.{BlockLine, text, border}
 use Rattle.text_borders.specs.BorderLaws.{AreInOrder, IsSound}
-use Rattle.text_borders.specs.Across.{CellLine, Cell, Hanging, empty_cell, seated_behind, seated, OpenCell, spaces, whole, open_line, open_first, close_line, close_behind, close_last, opened, row_width, signs, of_cells, joined_to_row, border_below, retagged, widened, line_or, cell_items, row_items, row_lines, row_height, goes_on, with_holes, further, hanging_of, sign_of, is_given, row_cells, width_across, across}
+use Rattle.text_borders.specs.Across.{CellLine, Cell, Hanging, empty_cell, seated_behind, seated, OpenCell, spaces}
+use Rattle.text_borders.specs.Across.{whole, open_line, open_first, close_line, close_behind, close_last, opened}
+use Rattle.text_borders.specs.Across.{row_width, signs, of_cells, joined_to_row, border_below, retagged, widened}
+use Rattle.text_borders.specs.Across.{line_or, cell_items, row_items, row_lines, row_height, goes_on, with_holes}
+use Rattle.text_borders.specs.Across.{further, hanging_of, sign_of, is_given, row_cells, width_across, across}
 use Rattle.text_borders.specs.AcrossLaws.{LineFits, CellFits}
-use Rattle.text_borders.proofs.BorderLemmas.{one_column, length-stretched, length-change_to, length-punched, order_wider, order_more, stands_at, punched_sound, border_columns}
+use Rattle.text_borders.proofs.BorderLemmas.{one_column, length-stretched, length-change_to, length-punched}
+use Rattle.text_borders.proofs.BorderLemmas.{order_wider, order_more, stands_at, punched_sound, border_columns}
 
 -- ---- lines of cells
 

@@ -1,5 +1,6 @@
 -- The segments of borders that change, and the columns of what is shown.
-use Rattle.std.proofs.Common.{◌≡◌, ℕ, zero, suc, ◌+◌, ◌-◌, ◌<◌, ◌≤◌, Bool, true, false, List, [], ◌∷◌, ◌++◌, length, take, drop, replicate, if◌then◌else◌, sym, ap, ◌∙◌, refl, inl, inr, arith}
+use Rattle.std.proofs.Common.{◌≡◌, ℕ, zero, suc, ◌+◌, ◌-◌, ◌<◌, ◌≤◌, Bool, true, false, List, [], ◌∷◌, ◌++◌, length}
+use Rattle.std.proofs.Common.{take, drop, replicate, if◌then◌else◌, sym, ap, ◌∙◌, refl, inl, inr, arith}
 use Rattle.std.specs.Prelude.{◌==◌, ◌||◌, ◌&&◌, nat_le, fold, max, unwrap_or, Some, None}
 use Rattle.std.specs.Option.{option_map}
 use Rattle.std.proofs.lemmas.Bool.Decides.{nat_tests}
@@ -8,7 +9,8 @@ use Rattle.tagged_lines.specs.Columns.{width_of, columns_of-one, IsOfOneColumn}
 use Rattle.tagged_lines.specs.Tagged.{Item, character, line_columns}
 use Rattle.text_pieces.proofs.ItemColumns.{line_columns-append, line_columns-cons}
 use Rattle.text_borders.specs.Segments.{Segment, glyph, glyph_of, with_up, with_down, without_left, without_right}
-use Rattle.text_borders.specs.Borders.{Border, Hole, horizontal, stretched, change_at, change_to, chop_before, columns_where, glyphs, shown_from, shown, punched_at, holes_end, punched}
+use Rattle.text_borders.specs.Borders.{Border, Hole, horizontal, stretched, change_at, change_to, chop_before}
+use Rattle.text_borders.specs.Borders.{columns_where, glyphs, shown_from, shown, punched_at, holes_end, punched}
 use Rattle.text_borders.specs.BorderLaws.{segment_at, asks_at, IsChangedWhereAsked, AreInOrder, IsSound}
 
 -- ---- one column

@@ -1,5 +1,6 @@
 -- Segments of borders, one and many.
-use Rattle.std.proofs.Common.{◌≡◌, ℕ, zero, suc, ◌+◌, ◌-◌, ◌<◌, ◌≤◌, List, [], ◌∷◌, ◌++◌, map, length, take, drop, replicate, get_or, append_assoc, ap, ◌∙◌, refl, arith}
+use Rattle.std.proofs.Common.{◌≡◌, ℕ, zero, suc, ◌+◌, ◌-◌, ◌<◌, ◌≤◌, List, [], ◌∷◌, ◌++◌, map, length, take, drop}
+use Rattle.std.proofs.Common.{replicate, get_or, append_assoc, ap, ◌∙◌, refl, arith}
 use Rattle.std.specs.Prelude.{Bool, true, false, ◌==◌, fold, if◌then◌else◌}
 use Rattle.std.specs.Option.{option_map}
 use Rattle.std.proofs.lemmas.Bool.Decides.{nat_tests}
@@ -7,7 +8,8 @@ use Rattle.std.proofs.Math.ListN.{set}
 use Rattle.std.proofs.lemmas.List.{map-append, length-map, length-append, length-replicate}
 use Rattle.text_borders.specs.Segments.{Segment, segment_of, without_right}
 use Rattle.tagged_lines.specs.Tagged.{Item, line_columns}
-use Rattle.text_borders.specs.Borders.{Border, Hole, glyphs, shown_from, horizontal, stretched, change_at, change_to, chop_before, with_segments, columns_where}
+use Rattle.text_borders.specs.Borders.{Border, Hole, glyphs, shown_from, horizontal, stretched, change_at, change_to}
+use Rattle.text_borders.specs.Borders.{chop_before, with_segments, columns_where}
 use Rattle.text_borders.specs.declared.segment.BorderSegHoriz.{BorderSegHoriz}
 use Rattle.text_borders.specs.declared.segment.BorderSegHoriz.TheVariants.{Horiz}
 

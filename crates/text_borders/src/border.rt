@@ -9,8 +9,8 @@ use crate::segment::BorderSegHoriz;
 use std::alloc::{AllocError, Global};
 use tagged_lines::{EqualCopy, TaggedLine};
 
-/// A horizontal line of segments, each one column, with joins to what stands above and below it, and texts that stand in
-/// holes of it.
+/// A horizontal line of segments, each one column, with joins to what stands above and below it, and texts that stand
+/// in holes of it.
 #[derive(Drop)]
 pub struct BorderHoriz<T> {
     segments: Vec<BorderSegHoriz>,
@@ -28,7 +28,8 @@ pub(crate) struct Hole<T> {
 }
 
 impl<T: EqualCopy + Drop> BorderHoriz<T> {
-    ghost use Rattle.text_borders.specs.Borders.{border_of, has_holes, plain, stretched, with_segments, joined_above, joined_below};
+    ghost use Rattle.text_borders.specs.Borders.{border_of, has_holes, plain, stretched, with_segments, joined_above};
+    ghost use Rattle.text_borders.specs.Borders.{joined_below};
 
     /// A border of `─` of so many columns. The error is want of memory alone.
     pub fn new(alloc: Global, width: usize, tag: T) -> Result<BorderHoriz<T>, AllocError>
@@ -105,7 +106,8 @@ impl<T: EqualCopy + Drop> BorderHoriz<T> {
 }
 
 impl<T: EqualCopy + Drop> BorderHoriz<T> {
-    ghost use Rattle.text_borders.specs.Borders.{border_of, merged_above, merged_below, chopped_before, chopped_behind, punched_at, holes_end, punched, filled_to};
+    ghost use Rattle.text_borders.specs.Borders.{border_of, merged_above, merged_below, chopped_before, chopped_behind};
+    ghost use Rattle.text_borders.specs.Borders.{punched_at, holes_end, punched, filled_to};
 
     /// Takes in a border that stands below, from a column on: the border is joined to a line below where the other has
     /// `┴ ┬ ┼ └ ┘`. The error is want of memory alone.
@@ -192,8 +194,8 @@ impl<T: EqualCopy + Drop> BorderHoriz<T> {
     }
 
     /// Puts a text into the border, from a column on, to whose end it is stretched: the segments beside it lose the arm
-    /// that points to it. Where the text before ends behind that column, it stands behind that text. Texts are put in from
-    /// left to right. The error is want of memory alone.
+    /// that points to it. Where the text before ends behind that column, it stands behind that text. Texts are put in
+    /// from left to right. The error is want of memory alone.
     pub fn punch(&mut self, place: usize, line: TaggedLine<T>) -> Result<(), AllocError>
         ensures { OnOk result (border_of T.seen self.new
             ≡ punched place (line_items T.seen line) (border_of T.seen self.old)) }
@@ -224,8 +226,8 @@ impl<T: EqualCopy + Drop> BorderHoriz<T> {
         }
     }
 
-    /// Fills the border up to the width with spaces of its tag, where it is narrower. They stand behind it as a text, and
-    /// take no arm off. The error is want of memory alone.
+    /// Fills the border up to the width with spaces of its tag, where it is narrower. They stand behind it as a text,
+    /// and take no arm off. The error is want of memory alone.
     pub fn fill_to(&mut self, width: usize) -> Result<(), AllocError>
         ensures { OnOk result (border_of T.seen self.new ≡ filled_to width (border_of T.seen self.old)) }
     {

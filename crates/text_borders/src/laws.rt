@@ -10,15 +10,15 @@ ghost use Rattle.text_borders.specs.AcrossLaws.{CellFits, cells_width, AreSeated
 
 use tagged_lines::EqualCopy;
 
-/// A border that takes in another from below has the segments that it had, joined to a line below exactly where the other
-/// has `┴ ┬ ┼ └ ┘`.
+/// A border that takes in another from below has the segments that it had, joined to a line below exactly where the
+/// other has `┴ ┬ ┼ └ ┘`.
 pub fn joined_below_where_asked<T: EqualCopy>()
     ensures { (other : List Segment) (place : ℕ) (b : Border T.Seen) → IsChangedWhereAsked joins_below
         (option_map with_down) place other b.segments (merged_below other place b).segments }
 {}
 
-/// A border that takes in another from above has the segments that it had, joined to a line above exactly where the other
-/// has `┴ ┬ ┼ ┌ ┐`.
+/// A border that takes in another from above has the segments that it had, joined to a line above exactly where the
+/// other has `┴ ┬ ┼ ┌ ┐`.
 pub fn joined_above_where_asked<T: EqualCopy>()
     ensures { (other : List Segment) (place : ℕ) (b : Border T.Seen) → IsChangedWhereAsked joins_above
         (option_map with_up) place other b.segments (merged_above other place b).segments }
@@ -59,16 +59,16 @@ pub fn borders_of_rows_are_sound<T: EqualCopy>()
         → IfSome (across draws collapse tag (Some above) cells hanging).above IsSound }
 {}
 
-/// A border that is filled up to a width has so many columns, or its own where it is wider, and its texts still stand one
-/// behind the other within it.
+/// A border that is filled up to a width has so many columns, or its own where it is wider, and its texts still stand
+/// one behind the other within it.
 pub fn filled_borders_stay_sound<T: EqualCopy>()
     ensures width { (width : ℕ) (b : Border T.Seen)
         → length (filled_to width b).segments ≡ max (length b.segments) width }
     ensures sound { (width : ℕ) (b : Border T.Seen) → IsSound b → IsSound (filled_to width b) }
 {}
 
-/// Where each cell's lines are within its width, every line of a row has just the row's columns, and the border below it
-/// too, with its texts. So has the border above, where it is not wider, and the cells that go on keep their widths.
+/// Where each cell's lines are within its width, every line of a row has just the row's columns, and the border below
+/// it too, with its texts. So has the border above, where it is not wider, and the cells that go on keep their widths.
 pub fn rows_keep_their_width<T: EqualCopy>()
     ensures lines { (draws collapse : Bool) (tag : T.Seen) (above : Option (Border T.Seen)) (cells : List (Cell T.Seen))
         (hanging : List (Hanging T.Seen)) → All CellFits cells → All (λ h. CellFits h.cell) hanging
@@ -99,8 +99,9 @@ pub fn rows_keep_their_width<T: EqualCopy>()
         → All (λ h. CellFits h.cell) (across draws collapse tag above cells hanging).hanging }
 {}
 
-/// Where each cell that goes on has the place and the columns of a cell that is handed in, a row is as wide as the cells
-/// handed in with the signs between them. What goes on from a row are its cells that take more rows, at their places.
+/// Where each cell that goes on has the place and the columns of a cell that is handed in, a row is as wide as the
+/// cells handed in with the signs between them. What goes on from a row are its cells that take more rows, at their
+/// places.
 pub fn cells_keep_their_places<T: EqualCopy>()
     ensures width { (collapse : Bool) (tag : T.Seen) (above : Option (Border T.Seen)) (cells : List (Cell T.Seen))
         (hanging : List (Hanging T.Seen)) → AreSeatedIn 0 cells hanging

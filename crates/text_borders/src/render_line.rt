@@ -33,8 +33,8 @@ impl<T: EqualCopy + Drop> RenderLine<T> {
         }
     }
 
-    /// The line as text of so many columns where it has no more: text is filled with spaces of the tag, a border goes on
-    /// as `─`, and has the tag. The markers of a border are lost. The error is want of memory alone.
+    /// The line as text of so many columns where it has no more: text is filled with spaces of the tag, a border goes
+    /// on as `─`, and has the tag. The markers of a border are lost. The error is want of memory alone.
     pub fn into_widened(
         self,
         alloc: Global,
@@ -51,8 +51,8 @@ impl<T: EqualCopy + Drop> RenderLine<T> {
         }
     }
 
-    /// The line as text; of a border the characters alone, under the tag. The markers of a border are lost. The error is
-    /// want of memory alone.
+    /// The line as text; of a border the characters alone, under the tag. The markers of a border are lost. The error
+    /// is want of memory alone.
     pub fn into_text(self, alloc: Global, tag: &T) -> Result<TaggedLine<T>, AllocError>
         ensures items { IfOk result (λ line. line_items T.seen line
             ≡ as_text (T.seen tag.now) (render_line_of T.seen self)) }

@@ -1,7 +1,8 @@
 //! Worked rows, computed from the definitions.
 ghost use Rattle.std.specs.Prelude.{◌≡◌, ◌∷◌, [], true, false, None, map, codes};
 ghost use Rattle.tagged_lines.specs.Tagged.{character, characters, tagged};
-ghost use Rattle.text_borders.specs.Borders.{horizontal, plain, joined_above, joined_below, merged_above, merged_below, punched, shown, lines_above};
+ghost use Rattle.text_borders.specs.Borders.{horizontal, plain, joined_above, joined_below, merged_above, merged_below};
+ghost use Rattle.text_borders.specs.Borders.{punched, shown, lines_above};
 ghost use Rattle.text_borders.specs.Across.{empty_cell, across};
 ghost use Rattle.text_borders.specs.RowWords.{row_shown, first_row, next_row, cell, tall_cell, blank_cell, table_cell};
 
@@ -41,8 +42,8 @@ fn lines_come_down<T: EqualCopy>()
         ≡ codes " │   " }
 {}
 
-/// Rows of tables: cells beside one another, a cell that takes two rows, one with a table of its own, and cells where no
-/// borders are drawn.
+/// Rows of tables: cells beside one another, a cell that takes two rows, one with a table of its own, and cells where
+/// no borders are drawn.
 fn cells_stand_beside_one_another<T: EqualCopy>()
     ensures cells { (tag : T.Seen) → row_shown (first_row tag 5 (cell tag 1 1 (codes "1") ∷ cell tag 1 1 (codes "2")
         ∷ cell tag 1 1 (codes "3") ∷ [])) ≡ codes "─┬─┬─" ∷ codes "1│2│3" ∷ codes "─┴─┴─" ∷ [] }

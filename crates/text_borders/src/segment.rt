@@ -1,7 +1,8 @@
 //! Segments of borders.
 ghost use Rattle.std.specs.Prelude.{◌≡◌, Some};
 ghost use Rattle.std.specs.Option.{option_map};
-ghost use Rattle.text_borders.specs.Segments.{segment_of, without_left, without_right, with_up, with_down, glyph_of, joins_below, joins_above, runs_above};
+ghost use Rattle.text_borders.specs.Segments.{segment_of, without_left, without_right, with_up, with_down, glyph_of};
+ghost use Rattle.text_borders.specs.Segments.{joins_below, joins_above, runs_above};
 
 /// A segment of a border, one column of it. But for the slash, it is a set of arms: up, down, left and right.
 #[derive(Clone, Copy, Debug, PartialEq, Eq)]

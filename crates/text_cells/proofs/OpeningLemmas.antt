@@ -1,5 +1,6 @@
 -- Cells whose borders are taken out.
-use Rattle.std.proofs.Common.{◌≡◌, ℕ, zero, suc, ◌+◌, ◌-◌, Bool, true, false, List, [], ◌∷◌, ◌++◌, length, replicate, if◌then◌else◌, append_assoc, ap, ◌∙◌, refl, sym}
+use Rattle.std.proofs.Common.{◌≡◌, ℕ, zero, suc, ◌+◌, ◌-◌, Bool, true, false, List, [], ◌∷◌, ◌++◌, length, replicate}
+use Rattle.std.proofs.Common.{if◌then◌else◌, append_assoc, ap, ◌∙◌, refl, sym}
 use Rattle.tagged_lines.specs.Tagged.{Item}
 use Rattle.text_borders.specs.Segments.{Segment, joins_above}
 use Rattle.text_borders.specs.Borders.{Border, horizontal, stretched, columns_where, with_segments, lines_above}

@@ -1,5 +1,6 @@
 -- Cells and hanging cells in one row.
-use Rattle.std.proofs.Common.{◌≡◌, ℕ, ◌+◌, ◌-◌, Bool, true, false, List, [], ◌∷◌, ◌++◌, if◌then◌else◌, append_assoc, ap, ◌∙◌, refl, sym}
+use Rattle.std.proofs.Common.{◌≡◌, ℕ, ◌+◌, ◌-◌, Bool, true, false, List, [], ◌∷◌, ◌++◌, if◌then◌else◌, append_assoc, ap}
+use Rattle.std.proofs.Common.{◌∙◌, refl, sym}
 use Rattle.std.specs.Prelude.{max, nat_lt}
 use Rattle.text_borders.specs.Across.{Cell, Hanging, empty_cell, seated, seated_behind}
 use Rattle.text_cells.specs.OpenCells.{hangs_at, gap}

@@ -6,7 +6,9 @@ use Rattle.std.proofs.lemmas.List.{take_at}
 use Rattle.tagged_lines.specs.Tagged.{Item}
 use Rattle.text_borders.specs.Segments.{with_up, with_down}
 use Rattle.text_borders.specs.Borders.{Border, horizontal, plain, stretched, change_to, with_segments}
-use Rattle.text_borders.specs.Across.{Cell, Hanging, OpenCell, seated, opened, row_width, signs, of_cells, joined_to_row, border_below, sign_of, row_height, row_lines, with_holes, hanging_of, row_of, is_given, row_cells, across}
+use Rattle.text_borders.specs.Across.{Cell, Hanging, OpenCell, seated, opened, row_width, signs, of_cells}
+use Rattle.text_borders.specs.Across.{joined_to_row, border_below, sign_of, row_height, row_lines, with_holes}
+use Rattle.text_borders.specs.Across.{hanging_of, row_of, is_given, row_cells, across}
 use Rattle.text_cells.specs.OpenCells.{after}
 use Rattle.text_cells.proofs.GoingLemmas.{holes_after, hanging_after}
 

@@ -2,7 +2,9 @@
 use Rattle.std.specs.Prelude.{ℕ, Bool, List, chars, string_bytes}
 use Rattle.text_marks.specs.declared.colour.Colour.{Colour as ColourParts}
 use Rattle.text_decorators.specs.declared.annotation.RichAnnotation.{RichAnnotation}
-use Rattle.text_decorators.specs.declared.annotation.RichAnnotation.TheVariants.{Default, Link, Image, Emphasis, Strong, Strikeout, Code, Preformat, Colour, BgColour}
+use Rattle.text_decorators.specs.declared.annotation.RichAnnotation.TheVariants.{Default, Link, Image, Emphasis, Strong}
+use Rattle.text_decorators.specs.declared.annotation.RichAnnotation.TheVariants.{Strikeout, Code, Preformat, Colour}
+use Rattle.text_decorators.specs.declared.annotation.RichAnnotation.TheVariants.{BgColour}
 
 pub data RichTag : Type 0 where
   nothing : RichTag

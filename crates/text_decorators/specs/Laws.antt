@@ -3,11 +3,16 @@ use Rattle.std.specs.Prelude.{◌≡◌, ℕ, true, false, List, map, refl}
 use Rattle.std.proofs.Common.{ap, sym, ◌∙◌}
 use Rattle.tagged_lines.specs.Tagged.{line_items}
 use Rattle.tagged_lines.specs.declared.tagged_line.TaggedLine.{TaggedLine}
-use Rattle.text_decorators.specs.Annotations.{RichTag, nothing, link, image, emphasis, strong, strikeout, code, preformatted, colour, background, rich_tag}
-use Rattle.text_marks.specs.Marks.{Mark, link_start, emphasis_start, strong_start, strikeout_start, code_start, superscript_start, image as image_mark, preformat_first, preformat_further, colour_start, background_start}
+use Rattle.text_decorators.specs.Annotations.{RichTag, nothing, link, image, emphasis, strong, strikeout, code}
+use Rattle.text_decorators.specs.Annotations.{preformatted, colour, background, rich_tag}
+use Rattle.text_marks.specs.Marks.{Mark, link_start, emphasis_start, strong_start, strikeout_start, code_start}
+use Rattle.text_marks.specs.Marks.{superscript_start, image as image_mark, preformat_first, preformat_further}
+use Rattle.text_marks.specs.Marks.{colour_start, background_start}
 use Rattle.text_decorators.specs.Texts.{AreFootnotes, IsRich}
 use Rattle.text_decorators.specs.declared.annotation.RichAnnotation.{RichAnnotation}
-use Rattle.text_decorators.specs.declared.annotation.RichAnnotation.TheVariants.{Default, Link, Image, Emphasis, Strong, Strikeout, Code, Preformat, Colour, BgColour}
+use Rattle.text_decorators.specs.declared.annotation.RichAnnotation.TheVariants.{Default, Link, Image, Emphasis, Strong}
+use Rattle.text_decorators.specs.declared.annotation.RichAnnotation.TheVariants.{Strikeout, Code, Preformat, Colour}
+use Rattle.text_decorators.specs.declared.annotation.RichAnnotation.TheVariants.{BgColour}
 
 -- what is seen of the annotation that rich text notes at a mark
 abbrev pub rich_mark_tag : Mark → RichTag

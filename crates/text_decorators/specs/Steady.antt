@@ -1,5 +1,6 @@
 -- The prefixes of the three decorators are steady.
-use Rattle.std.specs.Prelude.{◌≡◌, ℕ, suc, ◌+◌, ◌/◌, ◌%◌, ◌<◌, ◌≤◌, ◌^◌, max, ℤ, pos, negsuc, ◌≤ℤ◌, ◌⊎◌, FitsSigned, Option, unwrap_or, List, [], ◌∷◌, ◌++◌, length, codes, refl}
+use Rattle.std.specs.Prelude.{◌≡◌, ℕ, suc, ◌+◌, ◌/◌, ◌%◌, ◌<◌, ◌≤◌, ◌^◌, max, ℤ, pos, negsuc, ◌≤ℤ◌, ◌⊎◌, FitsSigned}
+use Rattle.std.specs.Prelude.{Option, unwrap_or, List, [], ◌∷◌, ◌++◌, length, codes, refl}
 use Rattle.std.specs.Fmt.{decimal, signed_decimal}
 use Rattle.std.specs.Int.{w64}
 use Rattle.std.proofs.Common.{arith, ap, ◌∙◌, inl, inr, length-append}

@@ -1,11 +1,17 @@
 -- The texts of the three decorators, and what they note beside them.
-use Rattle.std.specs.Prelude.{◌≡◌, ℕ, suc, Bool, true, false, List, [], ◌∷◌, ◌++◌, map, replicate, codes, chars, string_bytes}
+use Rattle.std.specs.Prelude.{◌≡◌, ℕ, suc, Bool, true, false, List, [], ◌∷◌, ◌++◌, map, replicate, codes, chars}
+use Rattle.std.specs.Prelude.{string_bytes}
 use Rattle.std.specs.Fmt.{decimal, signed_decimal}
 use Rattle.tagged_lines.specs.Tagged.{tagged, line_items}
 use Rattle.tagged_lines.specs.declared.tagged_line.TaggedLine.{TaggedLine}
-use Rattle.text_marks.specs.Marks.{Mark, link_start, link_end, emphasis_start, strong_start, strikeout_start, code_start, superscript_start, superscript_end, image, preformat_first, preformat_further, header, quote, unordered_item, ordered_item, colour_start, background_start}
+use Rattle.text_marks.specs.Marks.{Mark, link_start, link_end, emphasis_start, strong_start, strikeout_start}
+use Rattle.text_marks.specs.Marks.{code_start, superscript_start, superscript_end, image, preformat_first}
+use Rattle.text_marks.specs.Marks.{preformat_further, header, quote, unordered_item, ordered_item, colour_start}
+use Rattle.text_marks.specs.Marks.{background_start}
 use Rattle.text_decorators.specs.declared.annotation.RichAnnotation.{RichAnnotation}
-use Rattle.text_decorators.specs.declared.annotation.RichAnnotation.TheVariants.{Default, Link, Image, Emphasis, Strong, Strikeout, Code, Preformat, Colour, BgColour}
+use Rattle.text_decorators.specs.declared.annotation.RichAnnotation.TheVariants.{Default, Link, Image, Emphasis, Strong}
+use Rattle.text_decorators.specs.declared.annotation.RichAnnotation.TheVariants.{Strikeout, Code, Preformat, Colour}
+use Rattle.text_decorators.specs.declared.annotation.RichAnnotation.TheVariants.{BgColour}
 
 -- Superscripts are marked as TeX does, headings, quotes and items as Markdown does.
 abbrev pub superscript_text : Mark → List ℕ

@@ -1,5 +1,6 @@
 -- Texts that are cut before a rest.
-use Rattle.std.proofs.Common.{◌≡◌, ℕ, ◌-◌, List, ◌++◌, length, take, drop, sym, ap, ◌∙◌, refl, subst, arith, chars, IsUtf8}
+use Rattle.std.proofs.Common.{◌≡◌, ℕ, ◌-◌, List, ◌++◌, length, take, drop, sym, ap, ◌∙◌, refl, subst, arith, chars}
+use Rattle.std.proofs.Common.{IsUtf8}
 use Rattle.std.specs.Str.{IsCharBoundary}
 use Rattle.std.proofs.lemmas.List.{take_at, take-append-drop, length-append}
 use Rattle.std.proofs.lemmas.Str.{chars-append, IsCharBoundary-at_seam}

@@ -1,5 +1,6 @@
 //! The characters of texts and lines.
-ghost use Rattle.std.specs.Prelude.{◌≡◌, ℕ, List, ◌<◌, ◌≤◌, ◌++◌, [], length, chars, IfSome, IsNone, IsUtf8, encode_utf8};
+ghost use Rattle.std.specs.Prelude.{◌≡◌, ℕ, List, ◌<◌, ◌≤◌, ◌++◌, [], length, chars, IfSome, IsNone, IsUtf8};
+ghost use Rattle.std.specs.Prelude.{encode_utf8};
 ghost use Rattle.std.specs.Char.{IsScalar};
 ghost use Rattle.tagged_lines.specs.Columns.{width_of};
 ghost use Rattle.tagged_lines.specs.Tagged.{line_items, line_text};

@@ -1,5 +1,6 @@
 -- Laws of blocks.
-use Rattle.std.proofs.Common.{◌≡◌, ℕ, ◌+◌, ◌-◌, ◌≤◌, Bool, true, false, ◌&&◌, ◌==◌, List, [], ◌∷◌, ◌++◌, None, Some, map, length, replicate, sym, ap, ◌∙◌, refl, arith}
+use Rattle.std.proofs.Common.{◌≡◌, ℕ, ◌+◌, ◌-◌, ◌≤◌, Bool, true, false, ◌&&◌, ◌==◌, List, [], ◌∷◌, ◌++◌, None, Some}
+use Rattle.std.proofs.Common.{map, length, replicate, sym, ap, ◌∙◌, refl, arith}
 use Rattle.std.specs.Prelude.{Option, if◌then◌else◌}
 use Rattle.std.specs.Option.{option_map, option_and_then}
 use Rattle.std.proofs.lemmas.Bool.{false≢true}
@@ -12,7 +13,8 @@ use Rattle.text_pieces.specs.declared.white_space.WhiteSpace.TheVariants.{Normal
 use Rattle.preserved_text.proofs.ColumnLemmas.{line_columns-replicate}
 use Rattle.text_pieces.proofs.ItemColumns.{line_columns-append}
 use Rattle.text_wrapping.specs.Lines.{lines_in}
-use Rattle.text_wrapping.specs.Blocks.{Block, padded, lines_behind, lines_or_empty, is_too_narrow, ended, line_ended, line_feed, with_letter, took, took_all, with_mode, in_mode, added}
+use Rattle.text_wrapping.specs.Blocks.{Block, padded, lines_behind, lines_or_empty, is_too_narrow, ended, line_ended}
+use Rattle.text_wrapping.specs.Blocks.{line_feed, with_letter, took, took_all, with_mode, in_mode, added}
 use Rattle.text_wrapping.specs.LawWords.{line_ends}
 use Rattle.text_wrapping.proofs.BlockLemmas.{took_all-append}
 

@@ -1,5 +1,6 @@
 -- What a block holds behind each call.
-use Rattle.std.proofs.Common.{◌≡◌, ◌≢◌, ℕ, Bool, true, false, ◌&&◌, ◌==◌, List, [], ◌∷◌, ◌++◌, None, Some, map, length, sym, ap, ◌∙◌, refl, append_assoc, append-nil, arith, chars, String, Global}
+use Rattle.std.proofs.Common.{◌≡◌, ◌≢◌, ℕ, Bool, true, false, ◌&&◌, ◌==◌, List, [], ◌∷◌, ◌++◌, None, Some, map, length}
+use Rattle.std.proofs.Common.{sym, ap, ◌∙◌, refl, append_assoc, append-nil, arith, chars, String, Global}
 use Rattle.std.specs.Prelude.{Option, string_bytes, if◌then◌else◌}
 use Rattle.std.specs.Option.{option_map, option_and_then}
 use Rattle.std.proofs.lemmas.Bool.Decides.{nat_tests}
@@ -13,7 +14,9 @@ use Rattle.preserved_text.proofs.TrimLemmas.{sources-append, nil_length}
 use Rattle.text_pieces.specs.Modes.{is_preserved, is_same_mode}
 use Rattle.text_pieces.specs.declared.white_space.WhiteSpace.{WhiteSpace}
 use Rattle.text_wrapping.specs.Lines.{lines_in, waiting_in}
-use Rattle.text_wrapping.specs.Blocks.{Block, padded, lines_behind, lines_or_empty, is_too_narrow, ended, line_ended, line_feed, with_letter, took, took_all, in_mode, with_mode, added, behind_sources, with_lines, with_source}
+use Rattle.text_wrapping.specs.Blocks.{Block, padded, lines_behind, lines_or_empty, is_too_narrow, ended, line_ended}
+use Rattle.text_wrapping.specs.Blocks.{line_feed, with_letter, took, took_all, in_mode, with_mode, added}
+use Rattle.text_wrapping.specs.Blocks.{behind_sources, with_lines, with_source}
 
 -- ---- texts that end nothing
 

@@ -1,5 +1,6 @@
 -- No line of a block passes its width.
-use Rattle.std.proofs.Common.{◌≡◌, ℕ, ◌≤◌, Bool, true, false, not, ◌&&◌, ◌==◌, List, [], ◌∷◌, None, Some, map, sym, ap, ◌∙◌, refl, subst, arith}
+use Rattle.std.proofs.Common.{◌≡◌, ℕ, ◌≤◌, Bool, true, false, not, ◌&&◌, ◌==◌, List, [], ◌∷◌, None, Some, map, sym, ap}
+use Rattle.std.proofs.Common.{◌∙◌, refl, subst, arith}
 use Rattle.std.specs.Prelude.{Option, All, if◌then◌else◌}
 use Rattle.std.specs.Option.{option_map, option_and_then}
 use Rattle.std.proofs.lemmas.List.Elements.{All-nil, All-cons, All-head, All-tail, All-append}
@@ -10,7 +11,9 @@ use Rattle.preserved_text.specs.Preserved.{preserved_lines, is_too_wide as is_wi
 use Rattle.text_pieces.specs.declared.white_space.WhiteSpace.{WhiteSpace}
 use Rattle.normal_text.specs.Riders.{normal_lines, has_wide_text}
 use Rattle.text_wrapping.specs.Lines.{lines_in, is_wide_in}
-use Rattle.text_wrapping.specs.Blocks.{Block, padded, lines_behind, lines_or_empty, is_too_narrow, ended, line_ended, line_feed, with_letter, took, took_all, with_mode, in_mode, added, lines_of, ended_lines}
+use Rattle.text_wrapping.specs.Blocks.{Block, padded, lines_behind, lines_or_empty, is_too_narrow, ended, line_ended}
+use Rattle.text_wrapping.specs.Blocks.{line_feed, with_letter, took, took_all, with_mode, in_mode, added, lines_of}
+use Rattle.text_wrapping.specs.Blocks.{ended_lines}
 use Rattle.text_wrapping.specs.LawWords.{IsWithin}
 use Rattle.text_wrapping.proofs.BlockLaws.{filled_width, some_same}
 

@@ -1,5 +1,6 @@
 //! Blocks of text.
-ghost use Rattle.std.specs.Prelude.{◌≡◌, ◌⊎◌, true, false, None, Some, map, chars, is_err, All, IfOk, IfErr, OnOk, if◌then◌else◌};
+ghost use Rattle.std.specs.Prelude.{◌≡◌, ◌⊎◌, true, false, None, Some, map, chars, is_err, All, IfOk, IfErr, OnOk};
+ghost use Rattle.std.specs.Prelude.{if◌then◌else◌};
 ghost use Rattle.text_pieces.specs.Sources.{names};
 ghost use Rattle.tagged_lines.specs.Tagged.{line_items, IsJoined};
 
@@ -16,8 +17,12 @@ pub struct WrappedBlock<T> {
 }
 
 impl<T: EqualCopy + Drop> WrappedBlock<T> {
-    ghost use Rattle.text_wrapping.specs.Blocks.{block_of, has_failed, empty_block, added, ended_lines, fragments_taken, marked_by, broken, has_columns, HasJoinedLines};
-    ghost use Rattle.text_wrapping.specs.Blocks.{block_of, has_failed, empty_block, added, took_all, in_mode, ended, line_ended, ended_lines, fragments_taken, behind_sources, with_lines, with_source, marked_by, padded, padding_of, is_too_narrow, broken, has_columns, HasJoinedLines};
+    ghost use Rattle.text_wrapping.specs.Blocks.{block_of, has_failed, empty_block, added, ended_lines};
+    ghost use Rattle.text_wrapping.specs.Blocks.{fragments_taken, marked_by, broken, has_columns, HasJoinedLines};
+    ghost use Rattle.text_wrapping.specs.Blocks.{block_of, has_failed, empty_block, added, took_all, in_mode, ended};
+    ghost use Rattle.text_wrapping.specs.Blocks.{line_ended, ended_lines, fragments_taken, behind_sources, with_lines};
+    ghost use Rattle.text_wrapping.specs.Blocks.{with_source, marked_by, padded, padding_of, is_too_narrow, broken};
+    ghost use Rattle.text_wrapping.specs.Blocks.{has_columns, HasJoinedLines};
     ghost use Rattle.text_wrapping.specs.Lines.{lines_in, waiting_in};
     ghost use Rattle.text_pieces.specs.Sources.{sourced, sources_of, fragments, names};
 
@@ -54,10 +59,10 @@ impl<T: EqualCopy + Drop> WrappedBlock<T> {
         })
     }
 
-    /// Adds text behind what was added before. In normal mode its words are wrapped, each character tagged `main_tag`. Where
-    /// white space is preserved, each LF ends a line; in mode `Pre` the characters from where a line was wrapped are
-    /// tagged `wrap_tag`. A text in another mode than the text before it ends that one; an empty text changes nothing.
-    /// After a refusal every call is refused as `Failed`. That a character is wider than the lines is told as
+    /// Adds text behind what was added before. In normal mode its words are wrapped, each character tagged `main_tag`.
+    /// Where white space is preserved, each LF ends a line; in mode `Pre` the characters from where a line was wrapped
+    /// are tagged `wrap_tag`. A text in another mode than the text before it ends that one; an empty text changes
+    /// nothing. After a refusal every call is refused as `Failed`. That a character is wider than the lines is told as
     /// `TooNarrow`, by the call that ends its text or line.
     pub fn add_text(
         &mut self,
@@ -101,8 +106,8 @@ impl<T: EqualCopy + Drop> WrappedBlock<T> {
         result
     }
 
-    /// Ends the text so far, and gives the names of the markers behind its last word, which found no line. After a refusal
-    /// every call is refused as `Failed`.
+    /// Ends the text so far, and gives the names of the markers behind its last word, which found no line. After a
+    /// refusal every call is refused as `Failed`.
     pub fn take_trailing_fragments(&mut self) -> Result<Vec<String>, BlockError>
         ensures refused { is_err result ≡ has_failed self.new }
         ensures failed { has_failed self.old ≡ true → result ≡ Err BlockError.Failed }
@@ -121,8 +126,8 @@ impl<T: EqualCopy + Drop> WrappedBlock<T> {
         result
     }
 
-    /// Ends the text so far, as a line break does, and tells whether its last line has columns. After a refusal every call
-    /// is refused as `Failed`.
+    /// Ends the text so far, as a line break does, and tells whether its last line has columns. After a refusal every
+    /// call is refused as `Failed`.
     pub fn break_text(&mut self) -> Result<bool, BlockError>
         ensures refused { is_err result ≡ has_failed self.new }
         ensures failed { has_failed self.old ≡ true → result ≡ Err BlockError.Failed }
@@ -147,8 +152,8 @@ impl<T: EqualCopy + Drop> WrappedBlock<T> {
         self.text.has_columns()
     }
 
-    /// The lines of the text, those of what has not ended too. Refused as `TooNarrow`, as `Memory`, or as `Failed` after a
-    /// refusal.
+    /// The lines of the text, those of what has not ended too. Refused as `TooNarrow`, as `Memory`, or as `Failed`
+    /// after a refusal.
     pub fn into_lines(self) -> Result<Vec<TaggedLine<T>>, BlockError>
         ensures failed { has_failed self ≡ true → result ≡ Err BlockError.Failed }
         ensures kinds { has_failed self ≡ false

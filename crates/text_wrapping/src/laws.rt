@@ -1,5 +1,6 @@
 //! Laws of blocks and their lines: each is the contract of a function that does nothing.
-ghost use Rattle.std.specs.Prelude.{◌≡◌, ℕ, ◌+◌, ◌≤◌, All, Bool, true, false, List, [], ◌++◌, length, Option, None, Some};
+ghost use Rattle.std.specs.Prelude.{◌≡◌, ℕ, ◌+◌, ◌≤◌, All, Bool, true, false, List, [], ◌++◌, length, Option, None};
+ghost use Rattle.std.specs.Prelude.{Some};
 ghost use Rattle.std.specs.Option.{option_and_then};
 ghost use Rattle.text_pieces.specs.Modes.{is_preserved};
 ghost use Rattle.text_pieces.specs.Sources.{Source, sourced};
@@ -64,8 +65,8 @@ pub fn filled_lines_have_the_width<T: EqualCopy>()
         → line_columns (padded width (Some tag) line) ≡ width }
 {}
 
-/// No line of a block passes the block's width where overflow is off: an empty block has none, and text, markers and the
-/// block's end keep it so.
+/// No line of a block passes the block's width where overflow is off: an empty block has none, and text, markers and
+/// the block's end keep it so.
 pub fn blocks_keep_the_width<T: EqualCopy>()
     ensures empty { (width : ℕ) (padding : Option T.Seen) → IsWithin width (empty_block width false padding) }
     ensures added { (width : ℕ) (mode : SeenMode) (cs : List ℕ) (main further : T.Seen) (b new : Block T.Seen)

@@ -1,5 +1,6 @@
 //! Blocks of text of which no call was refused.
-ghost use Rattle.std.specs.Prelude.{◌≡◌, ◌⊎◌, ◌++◌, [], true, false, None, Some, map, chars, All, IsTrue, IfOk, IfErr, OnOk, if◌then◌else◌};
+ghost use Rattle.std.specs.Prelude.{◌≡◌, ◌⊎◌, ◌++◌, [], true, false, None, Some, map, chars, All, IsTrue, IfOk, IfErr};
+ghost use Rattle.std.specs.Prelude.{OnOk, if◌then◌else◌};
 ghost use Rattle.text_pieces.specs.Sources.{sources_of, piece_sources, names};
 ghost use Rattle.preserved_text.specs.Preserved.{names_of};
 ghost use Rattle.text_pieces.specs.Modes.{is_preserved, is_same_mode};
@@ -31,10 +32,16 @@ pub struct TextBlock<T> {
 }
 
 impl<T: EqualCopy + Drop> TextBlock<T> {
-    ghost use Rattle.text_wrapping.specs.Blocks.{text_of, empty_block, added, took_all, in_mode, ended, line_ended, ended_lines, fragments_taken, behind_sources, with_lines, with_source, marked_by, padded, padding_of, is_too_narrow, broken, has_columns, AreJoinedLines};
+    ghost use Rattle.text_wrapping.specs.Blocks.{text_of, empty_block, added, took_all, in_mode, ended, line_ended};
+    ghost use Rattle.text_wrapping.specs.Blocks.{ended_lines, fragments_taken, behind_sources, with_lines, with_source};
+    ghost use Rattle.text_wrapping.specs.Blocks.{marked_by, padded, padding_of, is_too_narrow, broken, has_columns};
+    ghost use Rattle.text_wrapping.specs.Blocks.{AreJoinedLines};
     ghost use Rattle.text_wrapping.specs.Lines.{lines_in, waiting_in};
     ghost use Rattle.text_pieces.specs.Sources.{sourced, fragments};
-    ghost use Rattle.text_wrapping.specs.Blocks.{block_of, has_failed, empty_block, added, took_all, in_mode, ended, line_ended, ended_lines, fragments_taken, behind_sources, with_lines, with_source, marked_by, padded, padding_of, is_too_narrow, broken, has_columns, AreJoinedLines};
+    ghost use Rattle.text_wrapping.specs.Blocks.{block_of, has_failed, empty_block, added, took_all, in_mode, ended};
+    ghost use Rattle.text_wrapping.specs.Blocks.{line_ended, ended_lines, fragments_taken, behind_sources, with_lines};
+    ghost use Rattle.text_wrapping.specs.Blocks.{with_source, marked_by, padded, padding_of, is_too_narrow, broken};
+    ghost use Rattle.text_wrapping.specs.Blocks.{has_columns, AreJoinedLines};
     ghost use Rattle.text_wrapping.specs.Lines.{lines_in, waiting_in};
     ghost use Rattle.text_pieces.specs.Sources.{sourced, sources_of, fragments, names};
 
@@ -80,8 +87,8 @@ impl<T: EqualCopy + Drop> TextBlock<T> {
         })
     }
 
-    /// Adds text as `WrappedBlock::add_text` does. Refused as `TooNarrow`, where a character of the text or line that it
-    /// ends is wider than the lines, or as `Memory`.
+    /// Adds text as `WrappedBlock::add_text` does. Refused as `TooNarrow`, where a character of the text or line that
+    /// it ends is wider than the lines, or as `Memory`.
     #[inline(always)]
     pub fn add_text(
         &mut self,

@@ -75,8 +75,8 @@ pub fn bytes_of_an_article_have_its_tree()
     utf8_is_read_as_its_text();
 }
 
-/// The first numbers of lists in blocks, as contracts see them, are numbers of 64 bits: so the law below holds of any two
-/// articles that stand in memory.
+/// The first numbers of lists in blocks, as contracts see them, are numbers of 64 bits: so the law below holds of any
+/// two articles that stand in memory.
 pub fn first_numbers_fit()
     ensures { (blocks : List SeenBlock) → NumbersFit (blocks_view blocks) }
 {}

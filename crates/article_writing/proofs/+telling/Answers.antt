@@ -13,10 +13,13 @@ use Rattle.written_articles.specs.Contents.{content_of_blocks, content_of_inline
 use Rattle.written_trees.specs.Tellings.{calls_and, text_content}
 use Rattle.article_writing.specs.Tells.{Tells, inner_content}
 use Rattle.article_writing.specs.declared.inner.Inner.TheVariants.{Blocks, Head}
-use Rattle.article_values.proofs.Weights.{blocks_weight, items_weight, one_of, weight, weight_of_bullets, weight_of_numbers}
-use Rattle.article_writing.proofs.Telling.{element_told, handed_on, left_err, left_on, none_told, one_told, retold, then_told}
+use Rattle.article_values.proofs.Weights.{blocks_weight, items_weight, one_of, weight, weight_of_bullets}
+use Rattle.article_values.proofs.Weights.{weight_of_numbers}
+use Rattle.article_writing.proofs.Telling.{element_told, handed_on, left_err, left_on, none_told, one_told, retold}
+use Rattle.article_writing.proofs.Telling.{then_told}
 use Rattle.article_writing.proofs.Texts.{number_chars, text_calls}
-use Rattle.article_values.proofs.VariantViews.{seen_bold, seen_break, seen_bullets, seen_code, seen_division, seen_emphasis, seen_italic, seen_numbers, seen_paragraph, seen_text}
+use Rattle.article_values.proofs.VariantViews.{seen_bold, seen_break, seen_bullets, seen_code, seen_division}
+use Rattle.article_values.proofs.VariantViews.{seen_emphasis, seen_italic, seen_numbers, seen_paragraph, seen_text}
 use Rattle.article_writing.proofs.+telling.Goals as goal
 
 pub blocks::tell_block-tell_element-requires-in-Bullets : goal.blocks::tell_block-tell_element-requires-in-Bullets

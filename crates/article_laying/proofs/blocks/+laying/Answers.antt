@@ -7,7 +7,8 @@ use Rattle.article_laying.specs.Walks.{laid, laid_items, parted_at}
 use Rattle.article_layout.specs.Layouts.{how_many, least_of_items, room_of_numbers}
 use Rattle.article_values.specs.Views.{block_view, held, items_view}
 use Rattle.article_values.proofs.VariantViews.{seen_bullets, seen_numbers}
-use Rattle.article_values.proofs.Weights.{blocks_weight, items_weight, one_of, weight, weight_of_bullets, weight_of_numbers}
+use Rattle.article_values.proofs.Weights.{blocks_weight, items_weight, one_of, weight, weight_of_bullets}
+use Rattle.article_values.proofs.Weights.{weight_of_numbers}
 use Rattle.render_sizes.specs.Extents.{capped}
 use Rattle.article_laying.proofs.ListLemmas.{items_counted}
 use Rattle.article_laying.proofs.blocks.+laying.Goals as goal

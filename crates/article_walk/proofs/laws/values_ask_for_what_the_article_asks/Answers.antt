@@ -1,4 +1,5 @@
-use Rattle.article_walk.proofs.Leasts.{bullet_columns, least_of_inlines, least_of_item_values, least_of_values, numbers_columns}
+use Rattle.article_walk.proofs.Leasts.{bullet_columns, least_of_inlines, least_of_item_values, least_of_values}
+use Rattle.article_walk.proofs.Leasts.{numbers_columns}
 use Rattle.article_walk.proofs.Prefixes.{heading_columns_are}
 use Rattle.article_walk.proofs.laws.values_ask_for_what_the_article_asks.Goals as goal
 

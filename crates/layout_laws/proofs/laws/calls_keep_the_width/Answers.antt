@@ -3,8 +3,11 @@ use Rattle.std.proofs.lemmas.Option.{MatchOption-at_some}
 use Rattle.tagged_lines.specs.Tagged.{line_columns}
 use Rattle.text_borders.specs.Lines.{line_shown}
 use Rattle.layout_laws.specs.LayoutLaws.{IsWithin}
-use Rattle.layout_laws.proofs.WidthLemmas.{TextLaws, nothing_within, flushed, lines_added, empty_line_added, block_started, table_started, block_ended, awaited_started, text_added, marked, line_broken}
-use Rattle.layout_laws.proofs.RowWidths.{BorderLaws, RowLaws, border_added, horizontal_added, slashes_added, block_added, row_of_flushed, lines_finished}
+use Rattle.layout_laws.proofs.WidthLemmas.{TextLaws, nothing_within, flushed, lines_added, empty_line_added}
+use Rattle.layout_laws.proofs.WidthLemmas.{block_started, table_started, block_ended, awaited_started, text_added}
+use Rattle.layout_laws.proofs.WidthLemmas.{marked, line_broken}
+use Rattle.layout_laws.proofs.RowWidths.{BorderLaws, RowLaws, border_added, horizontal_added, slashes_added}
+use Rattle.layout_laws.proofs.RowWidths.{block_added, row_of_flushed, lines_finished}
 use Rattle.layout_laws.proofs.laws.calls_keep_the_width.Goals as goal
 
 pub returns : goal.returns

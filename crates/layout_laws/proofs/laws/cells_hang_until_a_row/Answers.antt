@@ -1,5 +1,6 @@
 use Rattle.std.proofs.Common.{refl}
-use Rattle.layout_laws.proofs.HangingLemmas.{flush_hangs, empty_line_hangs, block_hangs, table_hangs, awaited_hangs, text_hangs, break_hangs, border_hangs, other_hangs, row_hangs}
+use Rattle.layout_laws.proofs.HangingLemmas.{flush_hangs, empty_line_hangs, block_hangs, table_hangs, awaited_hangs}
+use Rattle.layout_laws.proofs.HangingLemmas.{text_hangs, break_hangs, border_hangs, other_hangs, row_hangs}
 use Rattle.layout_laws.proofs.laws.cells_hang_until_a_row.Goals as goal
 
 pub returns : goal.returns

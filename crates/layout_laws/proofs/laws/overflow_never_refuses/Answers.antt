@@ -1,4 +1,6 @@
-use Rattle.layout_laws.proofs.OverflowLemmas.{flushes, texts_allow, adds_empty_line, starts_block, starts_table, starts_awaited, adds_text, breaks_line, adds_horizontal, adds_block, adds_row, finishes, marks}
+use Rattle.layout_laws.proofs.OverflowLemmas.{flushes, texts_allow, adds_empty_line, starts_block, starts_table}
+use Rattle.layout_laws.proofs.OverflowLemmas.{starts_awaited, adds_text, breaks_line, adds_horizontal, adds_block}
+use Rattle.layout_laws.proofs.OverflowLemmas.{adds_row, finishes, marks}
 use Rattle.layout_laws.proofs.laws.overflow_never_refuses.Goals as goal
 
 pub returns-clause-nothing : goal.returns-clause-nothing

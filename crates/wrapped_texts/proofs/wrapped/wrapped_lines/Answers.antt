@@ -3,7 +3,8 @@ use Rattle.tagged_lines.specs.Tagged.{line_items}
 use Rattle.normal_text.specs.Layout.{AreLinesOf, NeverFits}
 use Rattle.text_wrapping.specs.Blocks.{ended_lines}
 use Rattle.wrapped_texts.specs.Letters.{letters_of}
-use Rattle.wrapped_texts.proofs.Pieces.{sources, letters_in_sources, no_marker_in_sources, piece_kept, pieces_kept, if_ok_map}
+use Rattle.wrapped_texts.proofs.Pieces.{sources, letters_in_sources, no_marker_in_sources, piece_kept, pieces_kept}
+use Rattle.wrapped_texts.proofs.Pieces.{if_ok_map}
 use Rattle.wrapped_texts.proofs.wrapped.wrapped_lines.Goals as goal
 
 pub loop-piece-preserved : goal.loop-piece-preserved
