@@ -1,20 +1,19 @@
 -- A space behind a text that ends in visible ASCII changes none of its lines; and lines that end with a text.
 use Rattle.std.proofs.Common.{◌≡◌, ◌≢◌, ℕ, ◌+◌, ◌<◌, Bool, true, false, List, [], ◌∷◌, ◌++◌, length, map, inl, inr}
 use Rattle.std.proofs.Common.{sym, ap, ◌∙◌, refl, subst, append_assoc, append-nil, arith}
-use Rattle.std.specs.Prelude.{Result, Ok, Err, IfOk, Option, None, Some, is_some, All, IsTrue, fold, if◌then◌else◌}
+use Rattle.std.specs.Prelude.{Result, Ok, Err, IfOk, Option, Some, is_some, All, IsTrue, if◌then◌else◌}
 use Rattle.std.proofs.lemmas.List.{length-append, map-append}
 use Rattle.std.proofs.lemmas.List.Sums.{fold-append}
 use Rattle.tagged_lines.specs.Columns.{columns_of, columns_of-one, width_of}
 use Rattle.tagged_lines.specs.Tagged.{line_items, IsJoined}
 use Rattle.tagged_lines.specs.declared.tagged_line.TaggedLine.{TaggedLine}
-use Rattle.text_pieces.specs.Sources.{Source, is_filled}
+use Rattle.text_pieces.specs.Sources.{is_filled}
 use Rattle.normal_text.specs.SpacedWords.{IsVisible, EndsVisibly, IsEnded}
 use Rattle.normal_text.specs.Units.{Letter, piece, lettered, letters_columns, has_columns, is_break_point, space_of}
 use Rattle.normal_text.specs.Units.{first_of, units}
 use Rattle.normal_text.specs.Layout.{marks_items}
-use Rattle.normal_text.specs.Greedy.{Filled, filled, all_lines, add_unit, add_units}
+use Rattle.normal_text.specs.Greedy.{Filled, all_lines, add_unit, add_units}
 use Rattle.normal_text.specs.Filling.{Reading, reading, read_letter, read_letters, nothing_read, lines_read}
-use Rattle.normal_text.specs.Letters.{letters_of}
 use Rattle.normal_text.specs.NormalStates.{HasRead, HasWider, AllHaveRoom, has_room, EndsAs}
 use Rattle.normal_text.specs.declared.normal.NormalText.{NormalText}
 use Rattle.normal_text.proofs.NormalFilling.{if_true}

@@ -1,16 +1,15 @@
 -- Each character of normal text that is shown stands on its lines once, in order.
-use Rattle.std.proofs.Common.{◌≡◌, ℕ, Bool, true, false, not, ◌&&◌, List, [], ◌∷◌, ◌++◌, map, flat_map, filter, is_some}
+use Rattle.std.proofs.Common.{◌≡◌, ℕ, Bool, true, false, List, [], ◌∷◌, ◌++◌, map, flat_map, filter}
 use Rattle.std.proofs.Common.{cond, sym, ap, ◌∙◌, refl, append-nil, append_assoc, Some, None, inl}
 use Rattle.std.specs.Prelude.{fold, if◌then◌else◌}
 use Rattle.std.proofs.lemmas.Bool.{cond-false}
 use Rattle.std.proofs.lemmas.List.Elements.{filter-append}
-use Rattle.tagged_lines.specs.Columns.{columns_of}
 use Rattle.tagged_lines.specs.Tagged.{Item, character, marker, characters}
-use Rattle.text_pieces.specs.Sources.{Source, letter, fragment, is_break_point}
+use Rattle.text_pieces.specs.Sources.{Source, letter, fragment}
 use Rattle.text_pieces.specs.Items.{has_text}
 use Rattle.text_pieces.proofs.ItemColumns.{characters-append, no_characters}
 use Rattle.normal_text.specs.Units.{Letter, units}
-use Rattle.normal_text.specs.Layout.{Joint, opens, starts, inside, cuttable, Mark, unit_marks, gap_items}
+use Rattle.normal_text.specs.Layout.{Joint, opens, starts, inside, cuttable, Mark, gap_items}
 use Rattle.normal_text.specs.Layout.{following_items, marks_items, joined_lines}
 use Rattle.normal_text.specs.Greedy.{all_lines, add_units}
 use Rattle.normal_text.specs.Letters.{is_shown, codes_of}

@@ -1,7 +1,6 @@
 -- Words with a space behind the last one: how they are found in a text, and how the space is put there and taken off.
-use Rattle.std.proofs.Common.{◌≡◌, ◌≢◌, ℕ, suc, ◌+◌, ◌-◌, ◌≤◌, List, [], ◌∷◌, ◌++◌, length, sym, ap, ◌∙◌, refl}
+use Rattle.std.proofs.Common.{◌≡◌, ◌≢◌, ℕ, ◌+◌, ◌-◌, ◌≤◌, List, [], ◌∷◌, ◌++◌, length, sym, ap, ◌∙◌, refl}
 use Rattle.std.proofs.Common.{append_assoc, chars, encode_utf8, IsUtf8, inr, arith, Bool, true, false, ◌&&◌}
-use Rattle.std.specs.Prelude.{All}
 use Rattle.std.specs.Char.{IsScalar}
 use Rattle.std.proofs.lemmas.List.{length-append}
 use Rattle.std.proofs.lemmas.Str.{chars-nil, chars-append, chars-IsAscii}
@@ -10,9 +9,7 @@ use Rattle.std.proofs.lemmas.Bool.{eqb-true}
 use Rattle.std.proofs.Math.Dec.{eqb}
 use lib.Pointwise.{pointwise}
 use Rattle.tagged_lines.proofs.Joins.{chars_of_one}
-use Rattle.tagged_lines.specs.Columns.{text_columns}
-use Rattle.text_pieces.specs.Cuts.{IsBehind}
-use Rattle.normal_text.specs.SpacedWords.{IsVisible, IsWord, spaced, HasRun, HasWords, IsWordsAndSpace}
+use Rattle.normal_text.specs.SpacedWords.{IsVisible, spaced, HasRun, HasWords, IsWordsAndSpace}
 use Rattle.normal_text.specs.SpacedWords.{IsLineAndSpace, EndsVisibly, IsEnded}
 use Rattle.normal_text.proofs.SpacedLemmas.{some_length, fits_words}
 

@@ -1,5 +1,5 @@
 -- Words behind single spaces: how they are read, and laid on a line at once.
-use Rattle.std.proofs.Common.{◌≡◌, ◌≢◌, ℕ, ◌+◌, ◌≤◌, Bool, true, false, ◌||◌, nat_le, List, [], ◌∷◌, ◌++◌, length, map}
+use Rattle.std.proofs.Common.{◌≡◌, ◌≢◌, ℕ, ◌+◌, ◌≤◌, Bool, true, false, ◌||◌, nat_le, List, [], ◌∷◌, ◌++◌, length}
 use Rattle.std.proofs.Common.{fold, sym, ap, ◌∙◌, refl, subst, append_assoc, append-nil, chars, IsUtf8, encode_utf8}
 use Rattle.std.proofs.Common.{inr, arith}
 use Rattle.std.specs.Prelude.{Some, IsTrue, All}
@@ -9,13 +9,13 @@ use Rattle.std.proofs.lemmas.List.Elements.{All-nil, All-cons, All-head, All-tai
 use Rattle.std.proofs.lemmas.List.Sums.{fold-append, sum_by-cons}
 use Rattle.std.proofs.lemmas.Str.{chars_past_char}
 use Rattle.tagged_lines.specs.Columns.{text_columns, width_of, columns_of-one}
-use Rattle.tagged_lines.specs.Tagged.{Item, character, line_items, line_columns, tagged, IsJoined}
+use Rattle.tagged_lines.specs.Tagged.{character, line_items, line_columns, tagged, IsJoined}
 use Rattle.normal_text.specs.SpacedWords.{IsVisible, IsWord, spaced, closed, HasWords}
 use Rattle.normal_text.specs.Units.{Letter, piece, lettered, letters_columns}
-use Rattle.normal_text.specs.Layout.{Mark, opens, inside, marked, columns, following_columns, following_items}
+use Rattle.normal_text.specs.Layout.{Mark, opens, inside, marked, columns, following_items}
 use Rattle.normal_text.specs.Greedy.{Filled, filled, add_unit}
 use Rattle.normal_text.specs.Filling.{Reading, reading, read_letter, read_letters}
-use Rattle.normal_text.specs.NormalStates.{HoldsLines, Lays, LaysWords, TakesMore, word_pieces, HoldsReading, Moves}
+use Rattle.normal_text.specs.NormalStates.{HoldsLines, LaysWords, TakesMore, word_pieces, HoldsReading}
 use Rattle.normal_text.specs.NormalStates.{Reads, ReadsFront, AllHaveRoom, has_room, JoinsWord, AwaitsWord}
 use Rattle.normal_text.specs.declared.filling.Filling.{Filling}
 use Rattle.normal_text.specs.declared.normal.NormalText.{NormalText}

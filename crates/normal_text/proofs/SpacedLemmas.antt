@@ -1,7 +1,6 @@
 -- Words of visible ASCII behind single spaces: how they are found in a text.
 use Rattle.std.proofs.Common.{◌≡◌, ◌≢◌, ℕ, suc, ◌+◌, ◌-◌, ◌<◌, ◌≤◌, List, [], ◌∷◌, ◌++◌, length, sym, ap, ◌∙◌, refl}
-use Rattle.std.proofs.Common.{subst, append_assoc, append-nil, chars, encode_utf8, arith}
-use Rattle.std.specs.Prelude.{All}
+use Rattle.std.proofs.Common.{append_assoc, append-nil, chars, encode_utf8, arith}
 use Rattle.std.specs.Char.{IsScalar}
 use Rattle.std.proofs.lemmas.List.{length-append}
 use Rattle.std.proofs.lemmas.List.Elements.{All-nil, All-same, All-push}

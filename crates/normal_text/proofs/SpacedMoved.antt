@@ -1,5 +1,5 @@
 -- Words that are moved onto a line in the text that they came in, and the end of a text that is moved.
-use Rattle.std.proofs.Common.{◌≡◌, ◌≢◌, ℕ, ◌+◌, ◌≤◌, Bool, true, ◌||◌, nat_le, List, [], ◌∷◌, ◌++◌, length, fold}
+use Rattle.std.proofs.Common.{◌≡◌, ℕ, ◌+◌, ◌≤◌, Bool, true, ◌||◌, nat_le, List, [], ◌∷◌, ◌++◌, length, fold}
 use Rattle.std.proofs.Common.{sym, ap, ◌∙◌, refl, subst, append_assoc, append-nil, chars, IsUtf8, encode_utf8, arith}
 use Rattle.std.specs.Prelude.{Option, None, Some, IsNone, IsTrue, All}
 use Rattle.std.specs.Option.{option_map}
@@ -9,13 +9,13 @@ use Rattle.std.proofs.lemmas.List.Sums.{fold-append}
 use Rattle.std.proofs.lemmas.Str.{chars-nil, chars_past_char}
 use Rattle.tagged_lines.specs.Columns.{text_columns}
 use Rattle.tagged_lines.specs.Tagged.{line_items, tagged, IsJoined}
-use Rattle.normal_text.specs.SpacedWords.{IsVisible, IsWord, spaced, closed, IsWordsAndSpace, IsLineAndSpace}
+use Rattle.normal_text.specs.SpacedWords.{IsWord, spaced, closed, IsWordsAndSpace, IsLineAndSpace}
 use Rattle.normal_text.specs.SpacedWords.{EndsInSpace}
 use Rattle.normal_text.specs.Units.{Letter, piece, lettered, letters_columns}
 use Rattle.normal_text.specs.Layout.{Mark, opens, inside, marked, columns, marks_items}
 use Rattle.normal_text.specs.Greedy.{Filled, filled, add_unit}
 use Rattle.normal_text.specs.Filling.{Reading, reading, read_letter, read_letters}
-use Rattle.normal_text.specs.NormalStates.{TakesMore, word_pieces, HoldsReading, Reads, ReadsFront, MeetsWider}
+use Rattle.normal_text.specs.NormalStates.{TakesMore, word_pieces, HoldsReading, Reads, ReadsFront}
 use Rattle.normal_text.specs.NormalStates.{AllHaveRoom, has_room, GoesOnWith, FillsLine, FillsOn, HoldsLines}
 use Rattle.normal_text.specs.declared.filling.Filling.{Filling}
 use Rattle.normal_text.specs.declared.normal.NormalText.{NormalText}
@@ -25,7 +25,7 @@ use Rattle.normal_text.proofs.NormalReading.{or_right, break_room, reads_nothing
 use Rattle.normal_text.proofs.NormalRuns.{run_room, lettered_items}
 use Rattle.normal_text.proofs.NormalWords.{whole_read, lettered_columns, no_letters}
 use Rattle.normal_text.proofs.SpacedLaying.{visible_columns, some_columns, text_columns-append, spaced_columns}
-use Rattle.normal_text.proofs.SpacedLaying.{all_join, words_read, words_room, tagged-append, Fills, words_fill}
+use Rattle.normal_text.proofs.SpacedLaying.{all_join, words_read, words_room, tagged-append, words_fill}
 use Rattle.normal_text.proofs.SpacedLaying.{words_pushed, closed_spaced, words_moved}
 
 -- ---- columns

@@ -1,10 +1,10 @@
 -- Texts of spaces.
-use Rattle.std.proofs.Common.{◌≡◌, ℕ, zero, suc, ◌-◌, ◌+◌, ◌<◌, ◌≤◌, List, [], ◌∷◌, ◌++◌, map, replicate, take, sym, ap, ◌∙◌, refl, append_assoc, subst, arith}
+use Rattle.std.proofs.Common.{◌≡◌, ℕ, zero, suc, ◌-◌, ◌+◌, ◌<◌, ◌≤◌, List, ◌∷◌, ◌++◌, replicate, sym, ap, ◌∙◌, refl, append_assoc, subst, arith}
 use Rattle.std.specs.Str.{chars, IsAscii, IsCharBoundary}
 use Rattle.std.proofs.lemmas.Str.Ascii.{IsAscii-from_all}
 use Rattle.std.proofs.lemmas.List.Elements.{All-replicate}
 use Rattle.std.proofs.lemmas.Str.{chars-IsAscii, IsCharBoundary-from_ascii}
-use Rattle.std.proofs.lemmas.List.{replicate-append-replicate, length-replicate, take-replicate}
+use Rattle.std.proofs.lemmas.List.{replicate-append-replicate, length-replicate}
 use Rattle.tagged_lines.specs.Elements.{Item, character, tagged}
 
 spaces_ascii : (n : ℕ) → IsAscii (replicate n 0x20)

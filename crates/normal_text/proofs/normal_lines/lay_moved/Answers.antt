@@ -2,7 +2,6 @@ use Rattle.std.proofs.Common.{sym, ap, ◌∙◌, []}
 use Rattle.std.specs.Prelude.{Err}
 use Rattle.std.proofs.lemmas.Result.{err_from_is_err_and}
 use Rattle.text_pieces.specs.Sources.{names, sources_of}
-use Rattle.normal_text.specs.Letters.{letters_of}
 use Rattle.normal_text.proofs.PlainLines.{plain_lines}
 use Rattle.normal_text.proofs.PieceLemmas.{err_same, plain_waiting, room_of}
 use Rattle.normal_text.proofs.normal_lines.lay_moved.Goals as goal

@@ -1,4 +1,4 @@
-use Rattle.std.proofs.Common.{◌≡◌, ◌≢◌, [], ◌++◌, sym, ap, ◌∙◌, subst, chars, string_bytes}
+use Rattle.std.proofs.Common.{◌++◌, sym, ap, ◌∙◌, subst, chars}
 use Rattle.std.proofs.lemmas.Result.{on_ok_weaker}
 use Rattle.tagged_lines.specs.Elements.{elements_items, tagged, EndsWithTag}
 use Rattle.tagged_lines.proofs.joining.push_new.Goals as goal

@@ -1,4 +1,4 @@
-use Rattle.std.proofs.Common.{replicate, ◌∙◌}
+use Rattle.std.proofs.Common.{◌∙◌}
 use Rattle.std.proofs.lemmas.List.{take-replicate}
 use Rattle.tagged_lines.proofs.SpacesPushed.{cut_spaces}
 use Rattle.tagged_lines.proofs.spaces.spaces.Goals as goal

@@ -1,4 +1,4 @@
-use Rattle.std.proofs.Common.{sym, ap, ◌∙◌, ◌++◌, chars, string_bytes}
+use Rattle.std.proofs.Common.{sym, ap, ◌∙◌, chars, string_bytes}
 use Rattle.std.specs.Prelude.{Err}
 use Rattle.std.proofs.lemmas.Result.{err_from_is_err_and}
 use Rattle.normal_text.proofs.PieceLemmas.{err_same}
