@@ -1,10 +1,11 @@
 -- What a value that begins leaves to be done.
 use Rattle.std.proofs.Common.{◌≡◌, Bool, true, false, if◌then◌else◌, ℕ, ◌+◌, ◌-◌, ◌*◌, ◌≤◌, List, [], ◌∷◌, ◌++◌}
-use Rattle.std.proofs.Common.{arith, refl}
+use Rattle.std.proofs.Common.{arith, nat_lt, refl}
 use Rattle.std.proofs.Common.{sym, ap, subst, ◌∙◌, append_assoc, length, map}
 use Rattle.std.specs.Prelude.{All}
+use Rattle.std.proofs.lemmas.Bool.Decides.{nat_tests}
 use Rattle.std.proofs.lemmas.List.{map-append}
-use Rattle.std.proofs.lemmas.List.Elements.{All-cons, All-head, All-nil, All-push, All-tail}
+use Rattle.std.proofs.lemmas.List.Elements.{All-cons, All-head, All-nil, All-tail}
 use Rattle.std.specs.Option.{option_and_then}
 use Rattle.renderer_calls.specs.Renderers.{Marking}
 use Rattle.render_sizes.specs.Extents.{Measure, extent_of, number}
@@ -16,8 +17,9 @@ use Rattle.render_values.specs.Arena.{values_of}
 use Rattle.render_walk.specs.Lay.{Content, content_of, laid, lay, table_of}
 use Rattle.table_rows.specs.Slots.{Table}
 use Rattle.render_laying.specs.Laying.{Laying, Step}
-use Rattle.render_walk.specs.Seen.{IsReady, IsSound, WorksOutside, load, weight, where_entered}
-use Rattle.render_walk.specs.Waiting.{Waiting, rest, segment, unwound}
+use Rattle.render_walk.specs.Seen.{IsReady, IsSound, WorksOutside, load, rest_of, rest_where, waiting_of, weight}
+use Rattle.render_walk.specs.Seen.{where_entered}
+use Rattle.render_walk.specs.Waiting.{Waiting, segment, unwound}
 use Rattle.render_walk.specs.declared.waiting.Waiting.{Waiting as CodeWaiting}
 use Rattle.render_walk.specs.declared.waiting.Waiting.TheVariants.{Rest, ValueEnds, LookEnds, PartEnds, ItemEnds}
 use Rattle.render_walk.specs.declared.waiting.Waiting.TheVariants.{CellEnds, ListEnds, RowEnds, TableEnds}
@@ -25,22 +27,43 @@ use Rattle.render_walk.proofs.SegmentLemmas.{none_sound, nothing_here}
 use Rattle.render_walk.proofs.ValueLemmas.{all_on}
 use Rattle.render_walk.proofs.WalkLemmas.{enters}
 
-pub entered : {X H A : Type 0} (f : X → Waiting H A) (m : Marking H A) (w : Measure) (old one items new : List X)
-    (r : X) (head : Head) (inner later vs next : Values) (c : Content) (is_entered : Bool) (before behind : Laying H A)
-    → one ≡ old ++ r ∷ [] → new ≡ one ++ items → f r ≡ rest later → vs ≡ value head inner later
+pub entered : {X H A : Type 0} (f : X → Waiting H A) (m : Marking H A) (w : Measure) (old one rests items new : List X)
+    (head : Head) (inner later vs next : Values) (c : Content) (is_entered : Bool) (before behind : Laying H A)
+    → one ≡ old ++ rests → new ≡ one ++ items
+    → ((l : Laying H A) → unwound m w (map f rests) l ≡ lay m w later l) → vs ≡ value head inner later
     → c ≡ content_of w head inner
     → ((inside : Step H A) → laid m head c inside before
     ≡ option_and_then (unwound m w (map f items)) (where_entered is_entered inside behind))
     → where_entered is_entered (lay m w inner) behind ≡ lay m w next behind
     → option_and_then (unwound m w (map f new)) (lay m w next behind)
     ≡ option_and_then (unwound m w (map f old)) (lay m w vs before)
-entered {X} f m w old one items new r head inner later vs next c is_entered before behind first second seen is known
-    opens goes =
+entered {X} f m w old one rests items new head inner later vs next c is_entered before behind first second waits is
+    known opens goes =
     ap (λ v. option_and_then (unwound m w v) (lay m w next behind))
-    (ap (map f) (second ∙ (ap (λ (v : List X). v ++ items) first ∙ append_assoc old (r ∷ []) items))
-    ∙ (map-append f old (r ∷ items) ∙ ap (λ x. map f old ++ x ∷ map f items) seen))
-    ∙ enters m w (map f old) (map f items) head inner later vs c before (lay m w next behind) is known
+    (ap (map f) (second ∙ (ap (λ (v : List X). v ++ items) first ∙ append_assoc old rests items))
+    ∙ (map-append f old (rests ++ items) ∙ ap (λ v. map f old ++ v) (map-append f rests items)))
+    ∙ enters m w (map f old) (map f rests) (map f items) head inner later vs c before (lay m w next behind) waits is
+    known
     (opens (lay m w inner) ∙ ap (option_and_then (unwound m w (map f items))) goes)
+
+no_rest : (from to : ℕ) → nat_lt from to ≡ false → to ≤ from
+no_rest from to is = grind (arith, nat_tests)
+
+waits_where : {D T H A : Type 0} (seen : T → A) (held : D → H) (nodes : List RenderNode) (m : Marking H A)
+    (w : Measure) (from to : ℕ) (is_some : Bool) (l : Laying H A) → nat_lt from to ≡ is_some
+    → unwound m w (map (waiting_of seen held nodes) (rest_where is_some from to)) l
+    ≡ lay m w (values_of (segment nodes from to)) l
+unfolding unwound
+waits_where seen held nodes m w from to true l is = refl
+waits_where seen held nodes m w from to false l is =
+    ap (λ v. lay m w v l) (sym (nothing_here nodes from to (no_rest from to is)))
+
+-- The values behind one are laid out, also where there are none.
+pub rest_waits : {D T H A : Type 0} (seen : T → A) (held : D → H) (nodes : List RenderNode) (m : Marking H A)
+    (w : Measure) (from to : ℕ) (l : Laying H A)
+    → unwound m w (map (waiting_of seen held nodes) (rest_of from to)) l
+    ≡ lay m w (values_of (segment nodes from to)) l
+rest_waits seen held nodes m w from to l = waits_where seen held nodes m w from to (nat_lt from to) l refl
 
 -- what stands in a value is next where it was entered, and nothing of it where it was not
 pub goes_in : {H A : Type 0} (m : Marking H A) (w : Measure) (nodes : List RenderNode) (is_entered : Bool)
@@ -90,12 +113,12 @@ light : {D T : Type 0} (x : CodeWaiting D T) → WorksOutside x → weight x ≡
 light (Rest from to) h = absurd h
 light (ValueEnds at) h = refl
 light (LookEnds style) h = refl
-light (PartEnds outer first following) h = refl
-light (ItemEnds outer first following around) h = refl
+light (PartEnds part) h = refl
+light (ItemEnds item) h = refl
 light ListEnds h = refl
-light (TableEnds place fenced) h = refl
+light (TableEnds table) h = refl
 light RowEnds h = refl
-light (CellEnds outer rows slots made taken) h = refl
+light (CellEnds cell) h = refl
 
 all_light : {D T : Type 0} (xs : List (CodeWaiting D T)) → All WorksOutside xs → load xs ≡ length xs
 all_light [] h = refl
@@ -105,15 +128,27 @@ all_light (x ∷ xs) h = omega (
   all_light xs (All-tail WorksOutside x xs h),
 )
 
+rest_load : (D T : Type 0) (is_some : Bool) (from to : ℕ)
+    → load {D = D} {T = T} (rest_where is_some from to) ≤ 8 * (to - from) + 1
+rest_load D T true from to = omega arith
+rest_load D T false from to = omega arith
+
 pub entered_load : {D T : Type 0} (old one items new : List (CodeWaiting D T)) (from to : ℕ)
-    → one ≡ old ++ Rest from to ∷ [] → new ≡ one ++ items → All WorksOutside items → length items ≤ 4
+    → one ≡ old ++ rest_of from to → new ≡ one ++ items → All WorksOutside items → length items ≤ 4
     → load new ≤ load old + 8 * (to - from) + 5
 entered_load {D} {T} old one items new from to first second works few =
-    let e : load new ≡ load old + (8 * (to - from) + 1 + load items) =
-    ap load (second ∙ (ap (λ (v : List (CodeWaiting D T)). v ++ items) first ∙ append_assoc old (Rest from to ∷ [])
+    let e : load new ≡ load old + load (rest_of from to ++ items) =
+    ap load (second ∙ (ap (λ (v : List (CodeWaiting D T)). v ++ items) first ∙ append_assoc old (rest_of from to)
     items))
-    ∙ load_on old (Rest from to ∷ items) in
-    omega (arith, e, all_light items works, few)
+    ∙ load_on old (rest_of from to ++ items) in
+    omega (
+      arith,
+      e,
+      load_on (rest_of from to) items,
+      rest_load D T (nat_lt from to) from to,
+      all_light items works,
+      few,
+    )
 
 pub left_load : {D T : Type 0} (old kept : List (CodeWaiting D T)) (x : CodeWaiting D T) → old ≡ kept ++ x ∷ []
     → load old ≡ load kept + weight x
@@ -126,12 +161,12 @@ works_ready : {D T : Type 0} (nodes : List RenderNode) (sizes : List Extent) (w 
 works_ready nodes sizes w (Rest from to) h = absurd h
 works_ready nodes sizes w (ValueEnds at) h = tt
 works_ready nodes sizes w (LookEnds style) h = tt
-works_ready nodes sizes w (PartEnds outer first following) h = h
-works_ready nodes sizes w (ItemEnds outer first following around) h = h
+works_ready nodes sizes w (PartEnds part) h = h
+works_ready nodes sizes w (ItemEnds item) h = h
 works_ready nodes sizes w ListEnds h = tt
-works_ready nodes sizes w (TableEnds place fenced) h = tt
+works_ready nodes sizes w (TableEnds table) h = tt
 works_ready nodes sizes w RowEnds h = tt
-works_ready nodes sizes w (CellEnds outer rows slots made taken) h = h
+works_ready nodes sizes w (CellEnds cell) h = h
 
 all_ready : {D T : Type 0} (nodes : List RenderNode) (sizes : List Extent) (w : Measure)
     (xs : List (CodeWaiting D T)) → All WorksOutside xs → All (IsReady nodes sizes w) xs
@@ -140,14 +175,23 @@ all_ready nodes sizes w (x ∷ xs) h = All-cons (IsReady nodes sizes w) x xs
     (works_ready nodes sizes w x (All-head WorksOutside x xs h))
     (all_ready nodes sizes w xs (All-tail WorksOutside x xs h))
 
+rest_ready : {D T : Type 0} (nodes : List RenderNode) (sizes : List Extent) (w : Measure) (is_some : Bool)
+    (from to : ℕ) → IsSound nodes sizes w from to → All (IsReady {D = D} {T = T} nodes sizes w)
+    (rest_where is_some from to)
+rest_ready nodes sizes w true from to sound =
+    All-cons (IsReady nodes sizes w) (Rest from to) [] sound (All-nil (IsReady nodes sizes w))
+rest_ready nodes sizes w false from to sound = All-nil (IsReady nodes sizes w)
+
 pub entered_ready : {D T : Type 0} (nodes : List RenderNode) (sizes : List Extent) (w : Measure)
-    (old one items new : List (CodeWaiting D T)) (from to : ℕ) → one ≡ old ++ Rest from to ∷ []
+    (old one items new : List (CodeWaiting D T)) (from to : ℕ) → one ≡ old ++ rest_of from to
     → new ≡ one ++ items → All WorksOutside items → IsSound nodes sizes w from to
     → All (IsReady nodes sizes w) old → All (IsReady nodes sizes w) new
 entered_ready nodes sizes w old one items new from to first second works sound ready =
     subst (All (IsReady nodes sizes w)) (sym second)
     (all_on (IsReady nodes sizes w) one items
-    (subst (All (IsReady nodes sizes w)) (sym first) (All-push (IsReady nodes sizes w) old (Rest from to) ready sound))
+    (subst (All (IsReady nodes sizes w)) (sym first)
+    (all_on (IsReady nodes sizes w) old (rest_of from to) ready
+    (rest_ready nodes sizes w (nat_lt from to) from to sound)))
     (all_ready nodes sizes w items works))
 
 pub front_ready : {X : Type 0} (P : X → Type 0) (all kept : List X) (x : X) → all ≡ kept ++ x ∷ [] → All P all

@@ -1,5 +1,6 @@
 -- What a value is in, opened.
 use Rattle.std.proofs.Common.{◌≡◌, Bool, true, false, ℕ, ℤ, List, [], ◌∷◌, Option, None, Some, refl, sym, ap, ◌∙◌}
+use Rattle.std.proofs.Common.{chars}
 use Rattle.std.specs.Option.{option_and_then}
 use Rattle.renderer_calls.specs.Renderers.{Marking, Sub}
 use Rattle.tagged_lines.specs.Columns.{text_columns}
@@ -17,13 +18,32 @@ use Rattle.render_laying.specs.Laying.{Laying, Step, behind_prefix, goes_on, in_
 use Rattle.render_laying.specs.Laying.{part_ended}
 use Rattle.render_walk.specs.Seen.{where_entered}
 use Rattle.render_walk.specs.Tables.{table_laid}
-use Rattle.render_walk.specs.Waiting.{Waiting, item_ends, list_ends, look_ends, part_ends, unwound, value_ends}
+use Rattle.render_walk.specs.Waiting.{Waiting, item_ends, list_ends, look_ends, part_ends, undone, unwound, value_ends}
 use Rattle.render_laying.specs.declared.around.Around.TheVariants.{Flow, Items}
 use Rattle.render_laying.specs.declared.around.ItemMark.{ItemMark}
 use Rattle.render_laying.proofs.StepLemmas.{then_same, then_then, turn_off, turn_on}
 use Rattle.render_walk.proofs.StepLemmas.{nothing_waits, one_more, one_waits}
 
+-- what waits in a box
+pub box_waits : {X H A : Type 0} (m : Marking H A) (w : Measure) (f : X → Waiting H A) (boxed x : X)
+    (whole o : Option (Laying H A)) → boxed ≡ x → whole ≡ option_and_then (unwound m w (f x ∷ [])) o
+    → whole ≡ option_and_then (unwound m w (f boxed ∷ [])) o
+box_waits m w f boxed x whole o is h = h ∙ ap (λ y. option_and_then (unwound m w (f y ∷ [])) o) (sym is)
+
+-- what waited in a box is done
+pub unboxed : {X H A : Type 0} (m : Marking H A) (w : Measure) (f : X → Waiting H A) (boxed x : X) (l : Laying H A)
+    (o : Option (Laying H A)) → x ≡ boxed → undone m w (f x) l ≡ o → undone m w (f boxed) l ≡ o
+unboxed m w f boxed x l o is h = ap (λ y. undone m w (f y) l) (sym is) ∙ h
+
 -- ---- parts
+
+-- a part ends, whose prefixes are those texts
+pub part_by : {H A : Type 0} (m : Marking H A) (outer : Sub H A) (first following one other : List ℕ)
+    (l : Laying H A) (o : Option (Laying H A)) → one ≡ first → other ≡ following
+    → part_ended m outer (chars one) (chars other) l ≡ o → part_ended m outer (chars first) (chars following) l ≡ o
+part_by m outer first following one other l o e f h =
+    ap (λ (bs : List ℕ). part_ended m outer (chars bs) (chars following) l) (sym e)
+    ∙ (ap (λ (bs : List ℕ). part_ended m outer (chars one) (chars bs) l) (sym f) ∙ h)
 
 pub part_opens : {H A : Type 0} (m : Marking H A) (w : Measure) (columns least : ℕ) (first following : List ℕ)
     (inside : Step H A) (old new : Laying H A) (outer : Sub H A) → part_begun m columns least old ≡ Some new

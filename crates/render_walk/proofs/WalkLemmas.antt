@@ -9,22 +9,24 @@ use Rattle.render_values.specs.declared.info.Head.{Head}
 use Rattle.text_block_renderer.specs.Parts.{Parts}
 use Rattle.render_walk.specs.Lay.{Content, content_of, laid, laid_parts, lay, on_page}
 use Rattle.render_laying.specs.Laying.{Laying, Step}
-use Rattle.render_walk.specs.Waiting.{Waiting, rest, undone, unwound}
-use Rattle.render_laying.proofs.StepLemmas.{then_some}
-use Rattle.render_walk.proofs.StepLemmas.{all_wait, one_more, unwound_on}
+use Rattle.render_walk.specs.Waiting.{Waiting, undone, unwound}
+use Rattle.render_laying.proofs.StepLemmas.{then_same, then_some}
+use Rattle.render_walk.proofs.StepLemmas.{all_wait, unwound_on}
 
 -- a value begins: what comes of what stands in it is next, and what stands behind it waits
-pub enters : {H A : Type 0} (m : Marking H A) (w : Measure) (before pushed : List (Waiting H A)) (head : Head)
-    (inner later vs : Values) (c : Content) (old : Laying H A) (o : Option (Laying H A)) → vs ≡ value head inner later
+pub enters : {H A : Type 0} (m : Marking H A) (w : Measure) (before behind pushed : List (Waiting H A))
+    (head : Head) (inner later vs : Values) (c : Content) (old : Laying H A) (o : Option (Laying H A))
+    → ((l : Laying H A) → unwound m w behind l ≡ lay m w later l) → vs ≡ value head inner later
     → c ≡ content_of w head inner → laid m head c (lay m w inner) old ≡ option_and_then (unwound m w pushed) o
-    → option_and_then (unwound m w (before ++ rest later ∷ pushed)) o
+    → option_and_then (unwound m w (before ++ (behind ++ pushed))) o
     ≡ option_and_then (unwound m w before) (lay m w vs old)
-enters m w before pushed head inner later vs c old o is known opens =
-    sym (all_wait m w before (rest later ∷ pushed) o)
+enters m w before behind pushed head inner later vs c old o waits is known opens =
+    sym (all_wait m w before (behind ++ pushed) o)
     ∙ ap (option_and_then (unwound m w before))
-    (sym (one_more m w (rest later) pushed o)
+    (sym (all_wait m w behind pushed o)
+    ∙ (then_same (unwound m w behind) (lay m w later) (option_and_then (unwound m w pushed) o) waits
     ∙ (ap (option_and_then (lay m w later)) (sym opens ∙ ap (λ x. laid m head x (lay m w inner) old) known)
-    ∙ ap (λ v. lay m w v old) (sym is)))
+    ∙ ap (λ v. lay m w v old) (sym is))))
 
 pub never_enters : {H A : Type 0} (m : Marking H A) (w : Measure) (before : List (Waiting H A)) (head : Head)
     (inner later vs : Values) (c : Content) (old : Laying H A) → vs ≡ value head inner later

@@ -1,6 +1,6 @@
 -- What contracts see of a page that is laid out.
-use Rattle.std.specs.Prelude.{◌≡◌, ℕ, ◌+◌, ◌*◌, ◌-◌, ◌≤◌, ◌++◌, All, Bool, false, if◌then◌else◌, List, [], ◌∷◌}
-use Rattle.std.specs.Prelude.{Option, None, Some}
+use Rattle.std.specs.Prelude.{◌≡◌, ℕ, ◌+◌, ◌*◌, ◌-◌, ◌≤◌, ◌++◌, All, Bool, true, false, if◌then◌else◌, List, []}
+use Rattle.std.specs.Prelude.{◌∷◌, Option, None, Some, nat_lt}
 use Rattle.std.specs.Prelude.{chars, length, map, string_bytes}
 use Rattle.std.specs.Option.{option_and_then}
 use Rattle.text_marks.specs.Marks.{Mark}
@@ -19,30 +19,55 @@ use Rattle.render_walk.specs.Waiting.{cell_ends, row_ends, table_ends, unwound, 
 use Rattle.render_laying.specs.Seen.{laying_of, made_of, place_of, slots_left, widths_seen}
 use Rattle.table_rows.specs.Tables.{rows_left, table_seen}
 use Rattle.render_laying.specs.declared.laying.Laying.{Laying as CodeLaying}
+use Rattle.render_walk.specs.declared.waiting.OpenCell.{OpenCell}
+use Rattle.render_walk.specs.declared.waiting.OpenItem.{OpenItem}
+use Rattle.render_walk.specs.declared.waiting.OpenPart.{OpenPart}
+use Rattle.render_walk.specs.declared.waiting.OpenTable.{OpenTable}
 use Rattle.render_walk.specs.declared.waiting.Waiting.{Waiting as CodeWaiting}
 use Rattle.render_walk.specs.declared.waiting.Waiting.TheVariants.{Rest, ValueEnds, LookEnds, PartEnds, ItemEnds}
 use Rattle.render_walk.specs.declared.waiting.Waiting.TheVariants.{CellEnds, ListEnds, RowEnds, TableEnds}
 
 -- ---- what waits
 
+abbrev pub open_part_of : {D T H A : Type 0} → (T → A) → (D → H) → OpenPart D T → Waiting H A
+open_part_of seen held part =
+    part_ends (sub_of seen held part.outer) (chars (string_bytes part.first)) (chars (string_bytes part.following))
+
+abbrev pub open_item_of : {D T H A : Type 0} → (T → A) → (D → H) → OpenItem D T → Waiting H A
+open_item_of seen held item =
+    item_ends (sub_of seen held item.outer) (chars (string_bytes item.first)) (chars (string_bytes item.following))
+    item.around
+
+abbrev pub open_table_of : {D T H A : Type 0} → (T → A) → (D → H) → OpenTable D T → Waiting H A
+open_table_of seen held table = table_ends table.fenced (place_of seen held table.place)
+
+abbrev pub open_cell_of : {D T H A : Type 0} → (T → A) → (D → H) → OpenCell D T → Waiting H A
+open_cell_of seen held cell =
+    cell_ends (sub_of seen held cell.outer) (widths_seen cell.rows.widths) (rows_left cell.rows.rows)
+    (slots_left cell.slots) (made_of seen held cell.made.items) cell.taken
+
 abbrev pub waiting_of : {D T H A : Type 0} → (T → A) → (D → H) → List RenderNode → CodeWaiting D T → Waiting H A
 waiting_of seen held nodes (Rest from to) = rest (values_of (segment nodes from to))
 waiting_of seen held nodes (ValueEnds at) = value_ends (info_at nodes at)
 waiting_of seen held nodes (LookEnds style) = look_ends style
-waiting_of seen held nodes (PartEnds outer first following) =
-    part_ends (sub_of seen held outer) (chars (string_bytes first)) (chars (string_bytes following))
-waiting_of seen held nodes (ItemEnds outer first following around) =
-    item_ends (sub_of seen held outer) (chars (string_bytes first)) (chars (string_bytes following)) around
+waiting_of seen held nodes (PartEnds part) = open_part_of seen held part.value
+waiting_of seen held nodes (ItemEnds item) = open_item_of seen held item.value
 waiting_of seen held nodes ListEnds = list_ends
-waiting_of seen held nodes (TableEnds place fenced) = table_ends fenced (place_of seen held place)
+waiting_of seen held nodes (TableEnds table) = open_table_of seen held table.value
 waiting_of seen held nodes RowEnds = row_ends
-waiting_of seen held nodes (CellEnds outer rows slots made taken) =
-    cell_ends (sub_of seen held outer) (widths_seen rows.widths) (rows_left rows.rows) (slots_left slots)
-    (made_of seen held made.items) taken
+waiting_of seen held nodes (CellEnds cell) = open_cell_of seen held cell.value
 
 abbrev pub all_waiting : {D T H A : Type 0} → (T → A) → (D → H) → List RenderNode → List (CodeWaiting D T)
     → List (Waiting H A)
 all_waiting seen held nodes items = map (waiting_of seen held nodes) items
+
+-- the values of nodes wait, unless there are none
+abbrev pub rest_where : {D T : Type 0} → Bool → (from to : ℕ) → List (CodeWaiting D T)
+rest_where true from to = Rest from to ∷ []
+rest_where false from to = []
+
+abbrev pub rest_of : {D T : Type 0} → (from to : ℕ) → List (CodeWaiting D T)
+rest_of from to = rest_where (nat_lt from to) from to
 
 abbrev pub maybe : {X : Type 0} → Option X → List X
 maybe None = []
@@ -57,16 +82,16 @@ pub record IsSound (nodes : List RenderNode) (sizes : List Extent) (w : Measure)
 -- What waits may be done: no call of a renderer outside was refused, and nodes stand in a row.
 abbrev pub IsReady : {D T : Type 0} → List RenderNode → List Extent → Measure → CodeWaiting D T → Type 0
 IsReady nodes sizes w (Rest from to) = IsSound nodes sizes w from to
-IsReady nodes sizes w (PartEnds outer first following) = has_failed outer ≡ false
-IsReady nodes sizes w (ItemEnds outer first following around) = has_failed outer ≡ false
-IsReady nodes sizes w (CellEnds outer rows slots made taken) = has_failed outer ≡ false
+IsReady nodes sizes w (PartEnds part) = has_failed part.value.outer ≡ false
+IsReady nodes sizes w (ItemEnds item) = has_failed item.value.outer ≡ false
+IsReady nodes sizes w (CellEnds cell) = has_failed cell.value.outer ≡ false
 IsReady nodes sizes w _ = Unit {0}
 
 abbrev pub WorksOutside : {D T : Type 0} → CodeWaiting D T → Type 0
 WorksOutside (Rest from to) = ⊥
-WorksOutside (PartEnds outer first following) = has_failed outer ≡ false
-WorksOutside (ItemEnds outer first following around) = has_failed outer ≡ false
-WorksOutside (CellEnds outer rows slots made taken) = has_failed outer ≡ false
+WorksOutside (PartEnds part) = has_failed part.value.outer ≡ false
+WorksOutside (ItemEnds item) = has_failed item.value.outer ≡ false
+WorksOutside (CellEnds cell) = has_failed cell.value.outer ≡ false
 WorksOutside _ = Unit {0}
 
 -- how much there is to do

@@ -16,7 +16,7 @@ ghost use Rattle.text_pieces.specs.declared.fault.BlockError.TheVariants as erro
 use crate::looking::open_look;
 use crate::slots::{push_empties, slot_width};
 use crate::values::push_some;
-use crate::waiting::Waiting;
+use crate::waiting::{OpenCell, Waiting};
 use block_renderer::{Renderer, SubRenderer};
 use html_lexemes::Text;
 use render_laying::{Laying, SlotsLeft, TablePlace, TableRows};
@@ -103,13 +103,17 @@ fn open_slot<D: TextDecorator + Drop>(
     }
     let width = slot_width(&rows.widths, laying.text.current().width(), slot);
     let outer = begin_cell(laying, width, fragments.as_slice())?;
-    Ok(Some(Waiting::CellEnds {
-        outer,
-        rows,
-        slots,
-        made,
-        taken: slot.rows,
-    }))
+    let cell = Box::new(
+        alloc,
+        OpenCell {
+            outer,
+            rows,
+            slots,
+            made,
+            taken: slot.rows,
+        },
+    )?;
+    Ok(Some(Waiting::CellEnds(cell)))
 }
 
 /// A cell begins behind the empty slots before it; none where it has no column.

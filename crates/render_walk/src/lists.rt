@@ -5,7 +5,7 @@ ghost use Rattle.render_walk.specs.Lay.{item_laid, listed, placed};
 ghost use Rattle.render_laying.specs.Seen.{IsWorking};
 ghost use Rattle.render_walk.specs.Seen.{NeverOpens, Opens, WorksOutside, maybe};
 
-use crate::waiting::Waiting;
+use crate::waiting::{OpenItem, Waiting};
 use render_laying::{Around, ItemMark, Laying, spaces};
 use std::alloc::Global;
 use text_marks::TextDecorator;
@@ -57,16 +57,21 @@ fn open_item<D: TextDecorator + Drop>(
     let first = laying.item_prefix(mark, columns)?;
     let following = spaces(alloc, columns)?;
     let outer = laying.begin_part(columns, least)?;
-    Ok(Waiting::ItemEnds {
-        outer,
-        first,
-        following,
-        around: Around::Items {
-            mark: mark.next(),
-            columns,
-            least,
+    let around = Around::Items {
+        mark: mark.next(),
+        columns,
+        least,
+    };
+    let item = Box::new(
+        alloc,
+        OpenItem {
+            outer,
+            first,
+            following,
+            around,
         },
-    })
+    )?;
+    Ok(Waiting::ItemEnds(item))
 }
 
 /// A value begins where it stands: in a list it is an item.

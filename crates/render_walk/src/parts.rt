@@ -9,7 +9,7 @@ ghost use Rattle.render_laying.specs.Laying.{behind_prefix};
 ghost use Rattle.render_laying.specs.Seen.{IsWorking};
 ghost use Rattle.render_walk.specs.Seen.{NeverOpens, Opens, WorksOutside};
 
-use crate::waiting::Waiting;
+use crate::waiting::{OpenPart, Waiting};
 use render_laying::{Laying, spaces};
 use std::alloc::Global;
 use tagged_lines::columns_of;
@@ -19,6 +19,7 @@ use text_pieces::BlockError;
 /// What follows is laid out in a part, whose lines are to stand behind prefixes.
 pub(crate) fn open_part<D: TextDecorator + Drop>(
     laying: &mut Laying<D>,
+    alloc: Global,
     columns: usize,
     least: usize,
     first: String,
@@ -37,16 +38,21 @@ pub(crate) fn open_part<D: TextDecorator + Drop>(
     ensures kinds { IfErr result (λ e. (e ≡ errors.TooNarrow) ⊎ (e ≡ errors.Memory)) }
 {
     let outer = laying.begin_part(columns, least)?;
-    Ok(Waiting::PartEnds {
-        outer,
-        first,
-        following,
-    })
+    let part = Box::new(
+        alloc,
+        OpenPart {
+            outer,
+            first,
+            following,
+        },
+    )?;
+    Ok(Waiting::PartEnds(part))
 }
 
 /// A heading stands behind its prefix.
 pub(crate) fn hold_heading<D: TextDecorator + Drop>(
     laying: &mut Laying<D>,
+    alloc: Global,
     level: u8,
     least: usize,
 ) -> Result<Waiting<D>, BlockError>
@@ -63,12 +69,13 @@ pub(crate) fn hold_heading<D: TextDecorator + Drop>(
     let first = laying.heading_prefix(level)?;
     let following = laying.heading_prefix(level)?;
     let columns = columns_of(first.as_str());
-    open_part(laying, columns, least, first, following)
+    open_part(laying, alloc, columns, least, first, following)
 }
 
 /// A quotation stands behind its prefix.
 pub(crate) fn hold_quote<D: TextDecorator + Drop>(
     laying: &mut Laying<D>,
+    alloc: Global,
     least: usize,
 ) -> Result<Waiting<D>, BlockError>
     requires { IsWorking D.Annotation.seen D.held laying.old }
@@ -84,7 +91,7 @@ pub(crate) fn hold_quote<D: TextDecorator + Drop>(
     let first = laying.quote_prefix()?;
     let following = laying.quote_prefix()?;
     let columns = columns_of(first.as_str());
-    open_part(laying, columns, least, first, following)
+    open_part(laying, alloc, columns, least, first, following)
 }
 
 /// A description stands behind two spaces.
@@ -105,5 +112,5 @@ pub(crate) fn hold_details<D: TextDecorator + Drop>(
 {
     let first = spaces(alloc, 2)?;
     let following = spaces(alloc, 2)?;
-    open_part(laying, 2, least, first, following)
+    open_part(laying, alloc, 2, least, first, following)
 }

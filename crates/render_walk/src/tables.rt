@@ -22,7 +22,7 @@ use crate::cells::open_among_cells;
 use crate::looking::open_look;
 use crate::slots::{push_rest, renderers_of, separated};
 use crate::values::push_some;
-use crate::waiting::Waiting;
+use crate::waiting::{OpenCell, OpenTable, Waiting};
 use block_renderer::{Renderer, SubRenderer};
 use column_shares::widths_across;
 use html_lexemes::Text;
@@ -149,23 +149,26 @@ pub(crate) fn hold_table<D: TextDecorator + Drop>(
             fragments: Vec::new(alloc),
         }),
     );
-    Ok(Some(Waiting::TableEnds { place, fenced }))
+    let waiting = Box::new(alloc, OpenTable { place, fenced })?;
+    Ok(Some(Waiting::TableEnds(waiting)))
 }
 
 /// A table ends.
 pub(crate) fn end_table<D: TextDecorator + Drop>(
     laying: &mut Laying<D>,
-    place: TablePlace<D>,
-    fenced: bool,
+    table: Box<OpenTable<D>>,
 ) -> Result<(), BlockError>
     requires { IsWorking D.Annotation.seen D.held laying.old }
     ensures done { OnOk result (Comes D.Annotation.seen D.held D.text D.gives D.marks D.after D.pops D.sub
-        (λ m. table_ended m fenced (place_of D.Annotation.seen D.held place)) laying.old laying.new) }
+        (λ m. table_ended m table.value.fenced (place_of D.Annotation.seen D.held table.value.place)) laying.old
+        laying.new) }
     ensures works { OnOk result (IsWorking D.Annotation.seen D.held laying.new) }
     ensures narrow { result ≡ Err errors.TooNarrow → Fails D.Annotation.seen D.held D.text D.gives D.marks D.after
-        D.pops D.sub (λ m. table_ended m fenced (place_of D.Annotation.seen D.held place)) laying.old }
+        D.pops D.sub (λ m. table_ended m table.value.fenced (place_of D.Annotation.seen D.held table.value.place))
+        laying.old }
     ensures kinds { IfErr result (λ e. (e ≡ errors.TooNarrow) ⊎ (e ≡ errors.Memory)) }
 {
+    let OpenTable { place, fenced } = Box::into_inner(table);
     laying.table = place;
     fence(laying, fenced)
 }
@@ -351,22 +354,27 @@ pub(crate) fn end_row<D: TextDecorator + Drop>(
 pub(crate) fn end_cell<D: TextDecorator + Drop>(
     laying: &mut Laying<D>,
     alloc: Global,
-    outer: SubRenderer<D>,
-    rows: TableRows,
-    slots: SlotsLeft,
-    made: Vec<(SubRenderer<D>, usize)>,
-    taken: usize,
+    cell: Box<OpenCell<D>>,
 ) -> Result<(), BlockError>
-    requires works { IsWorking D.Annotation.seen D.held laying.old × (has_failed outer ≡ false) }
+    requires works { IsWorking D.Annotation.seen D.held laying.old × (has_failed cell.value.outer ≡ false) }
     ensures done { OnOk result (Comes D.Annotation.seen D.held D.text D.gives D.marks D.after D.pops D.sub
-        (λ m. cell_ended (sub_of D.Annotation.seen D.held outer) (widths_seen rows.widths) (rows_left rows.rows)
-        (slots_left slots) (made_of D.Annotation.seen D.held made.items) taken) laying.old laying.new) }
+        (λ m. cell_ended (sub_of D.Annotation.seen D.held cell.value.outer) (widths_seen cell.value.rows.widths)
+        (rows_left cell.value.rows.rows) (slots_left cell.value.slots)
+        (made_of D.Annotation.seen D.held cell.value.made.items) cell.value.taken) laying.old laying.new) }
     ensures works { OnOk result (IsWorking D.Annotation.seen D.held laying.new) }
     ensures narrow { result ≡ Err errors.TooNarrow → Fails D.Annotation.seen D.held D.text D.gives D.marks D.after
-        D.pops D.sub (λ m. cell_ended (sub_of D.Annotation.seen D.held outer) (widths_seen rows.widths)
-        (rows_left rows.rows) (slots_left slots) (made_of D.Annotation.seen D.held made.items) taken) laying.old }
+        D.pops D.sub (λ m. cell_ended (sub_of D.Annotation.seen D.held cell.value.outer)
+        (widths_seen cell.value.rows.widths) (rows_left cell.value.rows.rows) (slots_left cell.value.slots)
+        (made_of D.Annotation.seen D.held cell.value.made.items) cell.value.taken) laying.old }
     ensures kinds { IfErr result (λ e. (e ≡ errors.TooNarrow) ⊎ (e ≡ errors.Memory)) }
 {
+    let OpenCell {
+        outer,
+        rows,
+        slots,
+        made,
+        taken,
+    } = Box::into_inner(cell);
     let mut rows = rows;
     let mut made = made;
     let part = laying.text.replace_current(outer);

@@ -41,8 +41,8 @@ fn hold<D: TextDecorator + Drop>(
 {
     let least = content.least;
     match info {
-        RenderInfo::Heading(level) => Ok((Some(hold_heading(laying, *level, least)?), true)),
-        RenderInfo::Quote => Ok((Some(hold_quote(laying, least)?), true)),
+        RenderInfo::Heading(level) => Ok((Some(hold_heading(laying, alloc, *level, least)?), true)),
+        RenderInfo::Quote => Ok((Some(hold_quote(laying, alloc, least)?), true)),
         RenderInfo::Details => Ok((Some(hold_details(laying, alloc, least)?), true)),
         RenderInfo::Bullets => {
             let list = hold_items(laying, ItemMark::Bullet, content.items, least)?;

@@ -1,6 +1,6 @@
 //! A render tree, laid out value by value.
-ghost use Rattle.std.specs.Prelude.{◌≡◌, ◌⊎◌, ◌+◌, ◌*◌, ◌-◌, ◌<◌, ◌≤◌, All, Err, IfErr, IfOk, List, None, OnOk};
-ghost use Rattle.std.specs.Prelude.{chars, false, length, if◌then◌else◌};
+ghost use Rattle.std.specs.Prelude.{◌≡◌, ◌⊎◌, ◌+◌, ◌*◌, ◌-◌, ◌<◌, ◌≤◌, ◌++◌, All, Err, IfErr, IfOk, List, None, OnOk};
+ghost use Rattle.std.specs.Prelude.{chars, false, length, string_bytes, if◌then◌else◌};
 ghost use Rattle.block_renderer.specs.Seen.{has_failed};
 ghost use Rattle.render_walk.specs.Seen.{weight};
 ghost use Rattle.render_walk.specs.Waiting.{segment};
@@ -17,7 +17,7 @@ ghost use Rattle.render_laying.specs.Begins.{ends};
 ghost use Rattle.render_laying.specs.Laying.{goes_on, in_turn, part_ended};
 ghost use Rattle.render_laying.specs.Seen.{Comes, Fails, IsWorking, laying_of};
 ghost use Rattle.render_walk.specs.Seen.{GoesOn, IsReady, IsSound, NeverGoes};
-ghost use Rattle.render_walk.specs.Seen.{content_seen, load, waiting_of};
+ghost use Rattle.render_walk.specs.Seen.{content_seen, load, rest_of, waiting_of};
 ghost use Rattle.render_walk.specs.Waiting.{info_at, undone};
 ghost use Rattle.column_shares.specs.Shares.{AreSized};
 ghost use Rattle.render_walk.specs.Lay.{content_of, table_of};
@@ -26,8 +26,7 @@ ghost use Rattle.table_rows.specs.Tables.{table_seen};
 use crate::content::Content;
 use crate::tables::{end_cell, end_row, end_table};
 use crate::values::open_value;
-use crate::waiting::Waiting;
-use block_renderer::SubRenderer;
+use crate::waiting::{OpenItem, OpenPart, Waiting};
 use render_laying::{Around, Laying, TablePlace};
 use render_sizes::{Extent, number, table_among};
 use render_values::{Head, RenderInfo, RenderNode, RenderTree};
@@ -126,25 +125,53 @@ fn end_at<D: TextDecorator + Drop>(
     }
 }
 
-// an item's part ends, and then the list around says this
-fn end_item<D: TextDecorator + Drop>(
+// a part ends
+fn end_part<D: TextDecorator + Drop>(
     laying: &mut Laying<D>,
-    outer: SubRenderer<D>,
-    first: &str,
-    following: &str,
-    around: Around,
+    part: Box<OpenPart<D>>,
 ) -> Result<(), BlockError>
-    requires works { IsWorking D.Annotation.seen D.held laying.old × (has_failed outer ≡ false) }
+    requires works { IsWorking D.Annotation.seen D.held laying.old × (has_failed part.value.outer ≡ false) }
     ensures done { OnOk result (Comes D.Annotation.seen D.held D.text D.gives D.marks D.after D.pops D.sub
-        (λ m. in_turn (part_ended m (sub_of D.Annotation.seen D.held outer) (chars first.now) (chars following.now))
-        (goes_on around)) laying.old laying.new) }
+        (λ m. part_ended m (sub_of D.Annotation.seen D.held part.value.outer) (chars (string_bytes part.value.first))
+        (chars (string_bytes part.value.following))) laying.old laying.new) }
     ensures works { OnOk result (IsWorking D.Annotation.seen D.held laying.new) }
     ensures narrow { result ≡ Err errors.TooNarrow → Fails D.Annotation.seen D.held D.text D.gives D.marks D.after
-        D.pops D.sub (λ m. in_turn (part_ended m (sub_of D.Annotation.seen D.held outer) (chars first.now)
-        (chars following.now)) (goes_on around)) laying.old }
+        D.pops D.sub (λ m. part_ended m (sub_of D.Annotation.seen D.held part.value.outer)
+        (chars (string_bytes part.value.first)) (chars (string_bytes part.value.following))) laying.old }
     ensures kinds { IfErr result (λ e. (e ≡ errors.TooNarrow) ⊎ (e ≡ errors.Memory)) }
 {
-    laying.end_part(outer, first, following)?;
+    let OpenPart {
+        outer,
+        first,
+        following,
+    } = Box::into_inner(part);
+    laying.end_part(outer, first.as_str(), following.as_str())
+}
+
+// an item's part ends, and then the list around says what it left
+fn end_item<D: TextDecorator + Drop>(
+    laying: &mut Laying<D>,
+    item: Box<OpenItem<D>>,
+) -> Result<(), BlockError>
+    requires works { IsWorking D.Annotation.seen D.held laying.old × (has_failed item.value.outer ≡ false) }
+    ensures done { OnOk result (Comes D.Annotation.seen D.held D.text D.gives D.marks D.after D.pops D.sub
+        (λ m. in_turn (part_ended m (sub_of D.Annotation.seen D.held item.value.outer)
+        (chars (string_bytes item.value.first)) (chars (string_bytes item.value.following)))
+        (goes_on item.value.around)) laying.old laying.new) }
+    ensures works { OnOk result (IsWorking D.Annotation.seen D.held laying.new) }
+    ensures narrow { result ≡ Err errors.TooNarrow → Fails D.Annotation.seen D.held D.text D.gives D.marks D.after
+        D.pops D.sub (λ m. in_turn (part_ended m (sub_of D.Annotation.seen D.held item.value.outer)
+        (chars (string_bytes item.value.first)) (chars (string_bytes item.value.following)))
+        (goes_on item.value.around)) laying.old }
+    ensures kinds { IfErr result (λ e. (e ≡ errors.TooNarrow) ⊎ (e ≡ errors.Memory)) }
+{
+    let OpenItem {
+        outer,
+        first,
+        following,
+        around,
+    } = Box::into_inner(item);
+    laying.end_part(outer, first.as_str(), following.as_str())?;
     laying.around = around;
     Ok(())
 }
@@ -184,46 +211,28 @@ fn leave<D: TextDecorator + Drop>(
             laying.end_look(style);
             Ok(place)
         }
-        Waiting::PartEnds {
-            outer,
-            first,
-            following,
-        } => {
-            laying.end_part(outer, first.as_str(), following.as_str())?;
+        Waiting::PartEnds(part) => {
+            end_part(laying, part)?;
             Ok(place)
         }
-        Waiting::ItemEnds {
-            outer,
-            first,
-            following,
-            around,
-        } => {
-            end_item(laying, outer, first.as_str(), following.as_str(), around)?;
+        Waiting::ItemEnds(item) => {
+            end_item(laying, item)?;
             Ok(place)
         }
         Waiting::ListEnds => {
             laying.around = Around::Flow;
             Ok(place)
         }
-        Waiting::TableEnds {
-            place: table,
-            fenced,
-        } => {
-            end_table(laying, table, fenced)?;
+        Waiting::TableEnds(table) => {
+            end_table(laying, table)?;
             Ok(place)
         }
         Waiting::RowEnds => {
             end_row(laying, alloc)?;
             Ok(place)
         }
-        Waiting::CellEnds {
-            outer,
-            rows,
-            slots,
-            made,
-            taken,
-        } => {
-            end_cell(laying, alloc, outer, rows, slots, made, taken)?;
+        Waiting::CellEnds(cell) => {
+            end_cell(laying, alloc, cell)?;
             Ok(place)
         }
     }
@@ -237,6 +246,21 @@ fn entrance(entered: bool, first: usize, behind: usize) -> usize
         return first;
     }
     behind
+}
+
+// values of nodes wait from here on, unless there are none
+fn push_nodes<D: TextDecorator + Drop>(
+    waiting: &mut Vec<Waiting<D>>,
+    from: usize,
+    to: usize,
+) -> Result<(), AllocError>
+    ensures { OnOk result (waiting.new.items ≡ waiting.old.items ++ rest_of from to) }
+{
+    if from < to {
+        waiting.push(Waiting::Rest { from, to })?;
+        return Ok(());
+    }
+    Ok(())
 }
 
 // the next value begins
@@ -268,10 +292,7 @@ fn enter<D: TextDecorator + Drop>(
     let extent = &sizes[place.at];
     let first = place.at + 1;
     let behind = first + node.below;
-    waiting.push(Waiting::Rest {
-        from: behind,
-        to: place.end,
-    })?;
+    push_nodes(waiting, behind, place.end)?;
     let inside = nodes_between(nodes, first, behind);
     let inner = extents_between(sizes, first, behind);
     let content = content_of(alloc, &node.head, extent.least, inside, inner)?;

@@ -4,10 +4,12 @@ use Rattle.std.proofs.lemmas.Result.{err_from_is_err_and}
 use Rattle.text_pieces.specs.declared.fault.BlockError.TheVariants.{TooNarrow}
 use Rattle.block_renderer.specs.Seen.{marking, sub_of}
 use Rattle.render_laying.specs.Seen.{laying_of, made_of, slots_left, widths_seen}
+use Rattle.render_walk.specs.Seen.{open_cell_of}
 use Rattle.render_walk.specs.Tables.{slot_width}
 use Rattle.table_rows.specs.Slots.{has_columns}
 use Rattle.table_rows.specs.Tables.{rows_left}
 use Rattle.table_rows.specs.declared.slot.Slot.{Slot}
+use Rattle.render_walk.proofs.OpenLemmas.{box_waits}
 use Rattle.render_walk.proofs.TableOpenLemmas.{cell_waits, slot_ended, slot_skipped, slot_taken}
 use Rattle.render_walk.proofs.cells.open_slot.Goals as goal
 
@@ -59,7 +61,9 @@ returns-clause-opened g c = λ tag p nodes w inside.
     let broad : has_columns c.index-slot.result.now ≡ true = search rules in
     let whole : c.width.result ≡ (sub_of g.D.Annotation.EqualCopy.seen g.D.TextDecorator.held
     c.args.laying.now.text.current).width = search rules in
-    slot_taken (marking g.D.TextDecorator.text tag g.D.TextDecorator.marks g.D.TextDecorator.after
+    box_waits _ w (open_cell_of g.D.Annotation.EqualCopy.seen g.D.TextDecorator.held) _ _ _ _
+    c.in_ok-cell.ensures.ok
+    (slot_taken (marking g.D.TextDecorator.text tag g.D.TextDecorator.marks g.D.TextDecorator.after
     g.D.TextDecorator.pops g.D.TextDecorator.sub) (widths_seen c.args.rows.widths) (rows_left c.args.rows.rows)
     c.args.rows.fragments.items c.as_slice.result.now (slots_left c.args.slots)
     (drop (c.args.slots.next + 1) c.args.slots.slots.items) c.index-slot.result.now c.slot_width-width.result
@@ -71,4 +75,4 @@ returns-clause-opened g c = λ tag p nodes w inside.
     ∙ ap (λ (n : ℕ). slot_width (widths_seen c.args.rows.widths) n c.index-slot.result.now) whole)
     (c.as_slice.ensures.value ∙ ap (λ (v : Vec (List ℕ) Global). v.items) c.replace-fragments.ensures.value)
     (c.in_ok-outer.ensures.done tag p)
-    ∙ cell_waits _ w inside _ _ _ _ _ _ _ _ c.in_ok-outer.ensures.outer
+    ∙ cell_waits _ w inside _ _ _ _ _ _ _ _ c.in_ok-outer.ensures.outer)

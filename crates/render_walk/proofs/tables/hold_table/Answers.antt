@@ -10,6 +10,8 @@ use Rattle.render_walk.proofs.TableStepLemmas.{width_capped}
 use Rattle.render_walk.specs.Tables.{rows_of, table_widths}
 use Rattle.table_grid.specs.declared.columns.Column.{Column}
 use Rattle.table_rows.specs.Tables.{table_seen}
+use Rattle.render_walk.specs.Seen.{open_table_of}
+use Rattle.render_walk.proofs.OpenLemmas.{box_waits}
 use Rattle.render_walk.proofs.StepLemmas.{nothing_waits}
 use Rattle.render_walk.proofs.TableOpenLemmas.{table_waits}
 use Rattle.render_walk.proofs.TableStepLemmas.{border_keeps, fence_keeps, never_bordered, never_fenced, never_starts}
@@ -107,7 +109,9 @@ returns-clause-opened g c = λ tag p nodes w inside.
     let short : c.width-width.result < 2 ^ 64 = search rules in
     let broad : c.width-width.result ≡ capped (sub_of g.D.Annotation.EqualCopy.seen g.D.TextDecorator.held
     c.args.laying.now.text.current).width = width_capped _ _ is short in
-    table_by (marking g.D.TextDecorator.text tag g.D.TextDecorator.marks g.D.TextDecorator.after
+    box_waits _ w (open_table_of g.D.Annotation.EqualCopy.seen g.D.TextDecorator.held) _ _ _ _
+    c.in_ok-waiting.ensures.ok
+    (table_by (marking g.D.TextDecorator.text tag g.D.TextDecorator.marks g.D.TextDecorator.after
     g.D.TextDecorator.pops g.D.TextDecorator.sub) (table_seen c.args.table) inside
     (laying_of g.D.Annotation.EqualCopy.seen g.D.TextDecorator.held c.args.laying.now) c.options-options.result
     c.width-width.result c.is_fenced-fenced.result (widths_seen c.in_ok-widths.widths) _ some asked broad
@@ -125,4 +129,4 @@ returns-clause-opened g c = λ tag p nodes w inside.
     ∙ (border_keeps _ c.options-options.result (widths_seen c.in_ok-widths.widths) _ _
     (c.in_ok-top_border.ensures.done tag p)
     ∙ (fence_keeps _ c.is_fenced-fenced.result _ _ (c.in_ok-fence.ensures.done tag p)
-    ∙ says_keeps _ _ _ _ (c.in_ok-start_table.ensures.done tag p))))
+    ∙ says_keeps _ _ _ _ (c.in_ok-start_table.ensures.done tag p)))))

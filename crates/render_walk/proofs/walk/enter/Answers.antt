@@ -1,4 +1,4 @@
-use Rattle.std.proofs.Common.{◌≡◌, ◌+◌, List, Err, ap, arith, refl, subst, sym, ◌∙◌}
+use Rattle.std.proofs.Common.{◌≡◌, ◌+◌, List, Err, ap, arith, subst, sym, ◌∙◌}
 use Rattle.std.proofs.lemmas.Result.{err_from_is_err_and}
 use Rattle.text_pieces.specs.declared.fault.BlockError.TheVariants.{TooNarrow}
 use Rattle.block_renderer.specs.Seen.{marking}
@@ -7,8 +7,9 @@ use Rattle.render_sizes.specs.declared.extent.Extent.{Extent}
 use Rattle.render_values.specs.Arena.{IsFlat, values_of}
 use Rattle.render_values.specs.declared.node.RenderNode.{RenderNode}
 use Rattle.render_laying.specs.Seen.{laying_of}
-use Rattle.render_walk.specs.Seen.{all_waiting, content_seen, waiting_of}
-use Rattle.render_walk.proofs.EnterLemmas.{entered, entered_load, entered_ready, goes_in, known_in, short_in, sound_in}
+use Rattle.render_walk.specs.Seen.{all_waiting, content_seen, rest_of, waiting_of}
+use Rattle.render_walk.proofs.EnterLemmas.{entered, entered_load, entered_ready, goes_in, known_in, rest_waits}
+use Rattle.render_walk.proofs.EnterLemmas.{short_in, sound_in}
 use Rattle.render_walk.proofs.SegmentLemmas.{first_node}
 use Rattle.render_walk.proofs.WalkLemmas.{never_enters}
 use Rattle.render_walk.proofs.walk.enter.Goals as goal
@@ -78,11 +79,15 @@ returns-clause-goes g c = λ tag p.
     entered (waiting_of g.D.Annotation.EqualCopy.seen g.D.TextDecorator.held c.args.nodes.now) (marking
     g.D.TextDecorator.text tag g.D.TextDecorator.marks g.D.TextDecorator.after g.D.TextDecorator.pops
     g.D.TextDecorator.sub) g.w
-    c.args.waiting.now.items c.push.new.self.items o.items c.open_value.new.waiting.items _
-    c.index-nodes-place.result.head _ _ _ _ (content_seen c.in_ok-content.content) c.in_ok-entered.entered
+    c.args.waiting.now.items c.push_nodes.new.waiting.items
+    (rest_of (c.args.place.at + 1 + c.index-nodes-place.result.below) c.args.place.end) o.items
+    c.open_value.new.waiting.items c.index-nodes-place.result.head _ _ _ _ (content_seen c.in_ok-content.content) c.in_ok-entered.entered
     (laying_of g.D.Annotation.EqualCopy.seen g.D.TextDecorator.held c.args.laying.now) (laying_of
-    g.D.Annotation.EqualCopy.seen g.D.TextDecorator.held c.open_value.new.laying) c.in_ok-push.ensures.items o.pushed
-    refl n.are
+    g.D.Annotation.EqualCopy.seen g.D.TextDecorator.held c.open_value.new.laying) c.in_ok-push_nodes.ensures o.pushed
+    (rest_waits g.D.Annotation.EqualCopy.seen g.D.TextDecorator.held c.args.nodes.now
+    (marking g.D.TextDecorator.text tag g.D.TextDecorator.marks g.D.TextDecorator.after
+    g.D.TextDecorator.pops g.D.TextDecorator.sub) g.w (c.args.place.at + 1 + c.index-nodes-place.result.below)
+    c.args.place.end) n.are
     (known_in g.w c.index-nodes-place.result.head (content_seen c.in_ok-content.content) _ _
     c.in_ok-content.ensures.seen c.nodes_between-inside.ensures)
     (o.opens tag p g.w)
@@ -97,8 +102,8 @@ returns-clause-ready g c = λ ready.
     c.index-nodes-place.result
     c.index-nodes-place.is c.requires.1.1.1.0 c.requires.1.1.1.1) in
     let o = c.in_ok-entered.ensures.opened c.args.nodes.now n.info in
-    entered_ready c.args.nodes.now c.args.sizes.now g.w c.args.waiting.now.items c.push.new.self.items o.items
-    c.open_value.new.waiting.items _ _ c.in_ok-push.ensures.items o.pushed o.works n.rest ready
+    entered_ready c.args.nodes.now c.args.sizes.now g.w c.args.waiting.now.items c.push_nodes.new.waiting.items o.items
+    c.open_value.new.waiting.items _ _ c.in_ok-push_nodes.ensures o.pushed o.works n.rest ready
 
 pub returns-clause-sound : goal.returns-clause-sound
 returns-clause-sound g c = sound_in c.args.nodes.now c.args.sizes.now g.w c.in_ok-entered.entered _ _ _
@@ -114,8 +119,8 @@ returns-clause-falls g c =
     let o = c.in_ok-entered.ensures.opened c.args.nodes.now n.info in
     omega (
       arith,
-      entered_load c.args.waiting.now.items c.push.new.self.items o.items c.open_value.new.waiting.items
-          (c.args.place.at + 1 + c.index-nodes-place.result.below) c.args.place.end c.in_ok-push.ensures.items o.pushed
+      entered_load c.args.waiting.now.items c.push_nodes.new.waiting.items o.items c.open_value.new.waiting.items
+          (c.args.place.at + 1 + c.index-nodes-place.result.below) c.args.place.end c.in_ok-push_nodes.ensures o.pushed
           o.works o.few,
       n.fits,
       short_in c.in_ok-entered.entered (c.args.place.at + 1) (c.args.place.at + 1 + c.index-nodes-place.result.below)
