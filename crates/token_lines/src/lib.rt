@@ -1,6 +1,7 @@
 //! What a tokenizer tells, as lines: what programs and tests compare.
 #![tactic(auto)]
 
+mod fields;
 mod listed;
 mod token_lines;
 

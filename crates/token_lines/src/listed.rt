@@ -1,5 +1,9 @@
-ghost use Rattle.std.specs.Prelude.{◌≡◌, Bool, refl};
+ghost use Rattle.std.specs.Prelude.{◌≡◌, ◌∷◌, [], ◌++◌, Bool, ℕ, List, IfErr, IfOk, OnOk, chars, refl, string_bytes};
+ghost use Rattle.html_lexemes.specs.declared.fault.ParseFault.TheVariants.{Memory};
+ghost use Rattle.html_lexemes.specs.declared.token.Token.{Token};
 ghost use Rattle.html_lexemes.specs.declared.token.TokenSinkResult.TheVariants.{Continue};
+ghost use Rattle.token_lines.specs.Heard.{lines_heard, listed_with, parts_heard};
+ghost use Rattle.token_lines.specs.TokenLines.{Part, lines_with};
 
 use crate::token_lines::TokenLines;
 use html_grammar::TokenSink;
@@ -29,7 +33,8 @@ pub struct Listed {
 impl Listed {
     /// No lines yet.
     pub fn new(alloc: Global, told: Told, is_foreign: bool) -> Listed
-        ensures { result.is_foreign ≡ is_foreign }
+        ensures foreign { result.is_foreign ≡ is_foreign }
+        ensures lines { (heard : List (Token × ℕ)) → listed_with result heard ≡ lines_heard told heard }
     {
         Listed {
             is_foreign,
@@ -38,8 +43,10 @@ impl Listed {
         }
     }
 
-    /// The lines.
-    pub fn into_text(self) -> Result<String, AllocError> {
+    /// The lines. The error is want of memory.
+    pub fn into_text(self) -> Result<String, AllocError>
+        ensures { IfOk result (λ lines. chars (string_bytes lines) ≡ listed_with self []) }
+    {
         let Listed { lines, .. } = self;
         lines.into_text()
     }
@@ -64,16 +71,21 @@ impl TokenSink for Listed {
 
     ghost hearing = { record { goes_on = λ _ _ _ _ _ h. h; asks = λ _ _ _ _ _. tt } };
 
-    fn process_token(
-        &mut self,
-        token: Token,
-        line: u64,
-    ) -> Result<TokenSinkResult<u32>, ParseFault> {
+    fn process_token(&mut self, token: Token, line: u64) -> Result<TokenSinkResult<u32>, ParseFault>
+        ensures state { IfOk result (λ _. self.new.is_foreign ≡ self.old.is_foreign) }
+        ensures reply { IfOk result (λ answer. answer ≡ Continue) }
+        ensures refused { IfErr result (λ e. e ≡ Memory) }
+        ensures lines { OnOk result ((rest : List (Token × ℕ)) →
+            listed_with self.new rest ≡ listed_with self.old ((token, line) ∷ rest)) }
+    {
         add(&mut self.lines, self.told, &token, line)?;
         Ok(TokenSinkResult::Continue)
     }
 
-    fn end(&mut self) -> Result<(), ParseFault> {
+    fn end(&mut self) -> Result<(), ParseFault>
+        ensures closed { IfOk result (λ _. self.new ≡ self.old) }
+        ensures refused { IfErr result (λ e. e ≡ Memory) }
+    {
         Ok(())
     }
 
@@ -83,7 +95,10 @@ impl TokenSink for Listed {
 }
 
 // adds the line of a token, or of an error, where there are lines of such
-fn add(lines: &mut TokenLines, told: Told, token: &Token, line: u64) -> Result<(), AllocError> {
+fn add(lines: &mut TokenLines, told: Told, token: &Token, line: u64) -> Result<(), AllocError>
+    ensures { OnOk result ((rest : List Part) →
+        lines_with lines.new rest ≡ lines_with lines.old (parts_heard told (token.now, line) ++ rest)) }
+{
     match token {
         Token::ParseError(_) if told == Told::Tokens => Ok(()),
         Token::ParseError(message) => lines.add_error(message.as_str(), line),

@@ -1,5 +1,10 @@
-use html_lexemes::{Attribute, Doctype, Tag, TagKind, Text, Token};
-use row_fields::{NO_TEXT, push_field, push_line};
+ghost use Rattle.std.specs.Prelude.{◌≡◌, ◌∷◌, [], ◌++◌, List, IfOk, OnOk, chars, string_bytes};
+ghost use Rattle.token_lines.specs.TokenLines.{Part, lines_of, lines_of_parts, lines_with, parts_of};
+ghost use Rattle.token_lines.specs.TokenLines.{error_line, shows, text_line};
+
+use crate::fields::{push_comment, push_doctype, push_error, push_null, push_tag};
+use html_lexemes::Token;
+use row_fields::push_line;
 use std::alloc::{AllocError, Global};
 
 /// A line for each token and each attribute. Neighbouring texts are one line; the end has none.
@@ -10,8 +15,10 @@ pub struct TokenLines {
     text: String,
 }
 
-/// The lines of some tokens.
-pub fn lines_of(alloc: Global, tokens: &[Token]) -> Result<String, AllocError> {
+/// The lines of some tokens. The error is want of memory.
+pub fn lines_of(alloc: Global, tokens: &[Token]) -> Result<String, AllocError>
+    ensures { IfOk result (λ lines. chars (string_bytes lines) ≡ lines_of tokens.now) }
+{
     let mut lines = TokenLines::new(alloc);
     for token in tokens {
         lines.add(token)?;
@@ -21,21 +28,26 @@ pub fn lines_of(alloc: Global, tokens: &[Token]) -> Result<String, AllocError> {
 
 impl TokenLines {
     /// No lines yet.
-    pub fn new(alloc: Global) -> TokenLines {
+    pub fn new(alloc: Global) -> TokenLines
+        ensures { (rest : List Part) → lines_with result rest ≡ lines_of_parts rest }
+    {
         TokenLines {
             lines: String::new(alloc),
             text: String::new(alloc),
         }
     }
 
-    /// Adds what a token has, but for an error.
-    pub fn add(&mut self, token: &Token) -> Result<(), AllocError> {
+    /// Adds what a token has, but for an error. The error is want of memory; then a beginning of it was added.
+    pub fn add(&mut self, token: &Token) -> Result<(), AllocError>
+        ensures { OnOk result ((rest : List Part) →
+            lines_with self.new rest ≡ lines_with self.old (parts_of token.now ++ rest)) }
+    {
         match token {
             Token::ParseError(_) | Token::EOFToken => Ok(()),
             Token::CharacterTokens(text) => self.text.push_str(text.as_str()),
             Token::NullCharacterToken => {
                 self.end_text()?;
-                self.lines.push_str("null\n")
+                push_null(&mut self.lines)
             }
             Token::TagToken(tag) => {
                 self.end_text()?;
@@ -43,7 +55,7 @@ impl TokenLines {
             }
             Token::CommentToken(comment) => {
                 self.end_text()?;
-                push_line(&mut self.lines, "comment", comment.as_str())
+                push_comment(&mut self.lines, comment)
             }
             Token::DoctypeToken(doctype) => {
                 self.end_text()?;
@@ -52,74 +64,35 @@ impl TokenLines {
         }
     }
 
-    /// Adds the line of an error, with the line of the page that it was told at.
-    pub fn add_error(&mut self, message: &str, line: u64) -> Result<(), AllocError> {
+    /// Adds the line of an error, with the line of the page that it was told at. The error is want of memory; then a
+    /// beginning of it was added.
+    pub fn add_error(&mut self, message: &str, line: u64) -> Result<(), AllocError>
+        ensures { OnOk result ((rest : List Part) → lines_with self.new rest
+            ≡ lines_with self.old (shows (error_line (chars message.now) line) ∷ rest)) }
+    {
         self.end_text()?;
-        write!(self.lines, "error\t{line}")?;
-        push_field(&mut self.lines, message)?;
-        self.lines.push('\n')
+        push_error(&mut self.lines, message, line)
     }
 
-    /// The lines.
-    pub fn into_text(mut self) -> Result<String, AllocError> {
+    /// The lines. The error is want of memory.
+    pub fn into_text(mut self) -> Result<String, AllocError>
+        ensures { IfOk result (λ lines. chars (string_bytes lines) ≡ lines_with self []) }
+    {
         self.end_text()?;
         let TokenLines { lines, text: _ } = self;
         Ok(lines)
     }
 
     // writes the line of the text, if there is one
-    fn end_text(&mut self) -> Result<(), AllocError> {
+    fn end_text(&mut self) -> Result<(), AllocError>
+        ensures lines { OnOk result (chars (string_bytes self.new.lines)
+            ≡ chars (string_bytes self.old.lines) ++ text_line (chars (string_bytes self.old.text))) }
+        ensures text { OnOk result (chars (string_bytes self.new.text) ≡ []) }
+    {
         if !self.text.is_empty() {
             push_line(&mut self.lines, "text", self.text.as_str())?;
             self.text.clear();
         }
         Ok(())
-    }
-}
-
-// adds a word where a flag is set, and else `-`
-fn push_flag(lines: &mut String, is_set: bool, word: &str) -> Result<(), AllocError> {
-    push_field(lines, if is_set { word } else { "-" })
-}
-
-fn push_tag(lines: &mut String, tag: &Tag) -> Result<(), AllocError> {
-    lines.push_str(match tag.kind {
-        TagKind::StartTag => "start",
-        TagKind::EndTag => "end",
-    })?;
-    push_field(lines, tag.name.as_str())?;
-    push_flag(lines, tag.self_closing, "self-closing")?;
-    push_flag(lines, tag.had_duplicate_attributes, "duplicates")?;
-    lines.push('\n')?;
-    for attribute in tag.attrs.as_slice() {
-        push_attribute(lines, attribute)?;
-    }
-    Ok(())
-}
-
-fn push_attribute(lines: &mut String, attribute: &Attribute) -> Result<(), AllocError> {
-    lines.push_str("attribute")?;
-    push_field(lines, attribute.name.local.as_str())?;
-    push_field(lines, attribute.value.as_str())?;
-    lines.push('\n')
-}
-
-fn push_doctype(lines: &mut String, doctype: &Doctype) -> Result<(), AllocError> {
-    lines.push_str("doctype")?;
-    push_if_given(lines, &doctype.name)?;
-    push_if_given(lines, &doctype.public_id)?;
-    push_if_given(lines, &doctype.system_id)?;
-    push_flag(lines, doctype.force_quirks, "quirks")?;
-    lines.push('\n')
-}
-
-// adds a text to a line, or what stands for none
-fn push_if_given(lines: &mut String, text: &Option<Text>) -> Result<(), AllocError> {
-    match text {
-        Some(text) => push_field(lines, text.as_str()),
-        None => {
-            lines.push('\t')?;
-            lines.push_str(NO_TEXT)
-        }
     }
 }
