@@ -1,0 +1,3 @@
+pub mod AddedLines
+pub mod ComingLemmas
+pub mod FuelLemmas

@@ -1,0 +1,2 @@
+pub mod ToCome
+pub mod TreeLines
