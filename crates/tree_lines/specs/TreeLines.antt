@@ -5,8 +5,8 @@
 --   comment TEXT
 --   instruction TARGET TEXT
 --   element NAMESPACE NAME
--- and below an element a level further: attribute NAME VALUE for each attribute; of a template `contents`, and below that
--- what they hold; then the children.
+-- Below an element, a level further, stands `attribute NAME VALUE` for each attribute, then of a template `contents`,
+-- and below that what these hold; then its children.
 use Rattle.std.specs.Prelude.{ℕ, zero, suc, ◌+◌, List, [], ◌∷◌, ◌++◌, Option, None, Some, codes, flat_map, replicate}
 use Rattle.html_forest.specs.Forest.{Element, Forest, Kind, children_at, comment, contents_of, doctype, document}
 use Rattle.html_forest.specs.Forest.{element, instruction, kind_at, nodes, text}
