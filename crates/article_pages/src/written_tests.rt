@@ -46,29 +46,72 @@ fn articles_are_written(rt: HostRuntime) -> Result<(), Fail> {
     Ok(())
 }
 
-// room for so many bytes
-const ROOM: usize = 100;
+// room for the longest page
+const ROOM: usize = 256;
 
-fn is_cut(
-    alloc: Global,
-    article: &Result<Article, ArticleError>,
-    page: &str,
-) -> Result<bool, Fail> {
+/// What came of a page with quotes that was written.
+#[derive(Clone, Copy)]
+struct Written {
+    fault: Option<SerializeFault>,
+    length: usize,
+    is_beginning: bool,
+}
+
+impl Written {
+    fn is_whole(&self) -> bool {
+        self.fault.is_none() && self.is_beginning && self.length == QUOTES.len()
+    }
+}
+
+// the article, written where there is room for so many bytes
+fn written_in(alloc: Global, article: &Article, room: usize) -> Written {
+    let mut bytes = [0u8; ROOM];
+    let mut writer = Device::new(Cursor::new(&mut bytes[..room.min(ROOM)]));
+    let fault = article.write_html(alloc, &mut writer).err();
+    let position = writer.into_inner().position();
+    let length = usize::try_from(position).unwrap_or(ROOM).min(ROOM);
+    Written {
+        fault,
+        length,
+        is_beginning: QUOTES.as_bytes().starts_with(&bytes[..length]),
+    }
+}
+
+// Whether each room that is too small is filled with a beginning: the writer takes a part of the write that it has too
+// little room for, and then nothing.
+fn is_cut_everywhere(alloc: Global, article: &Result<Article, ArticleError>) -> bool {
     let Ok(article) = article else {
-        return Ok(false);
+        return false;
     };
-    let mut writer = Device::new(Cursor::new([0u8; ROOM]));
-    let refused = matches!(
-        article.write_html(alloc, &mut writer),
-        Err(SerializeFault::Write)
-    );
-    let taken = writer.into_inner().into_inner();
-    Ok(refused && page.as_bytes().starts_with(&taken))
+    for room in 0..QUOTES.len() {
+        let cut = written_in(alloc, article, room);
+        let is_told = cut.fault == Some(SerializeFault::Write);
+        if !is_told || !cut.is_beginning || cut.length != room {
+            return false;
+        }
+    }
+    written_in(alloc, article, QUOTES.len()).is_whole()
 }
 
 #[test]
 fn a_writer_that_fails_has_a_beginning(rt: HostRuntime) -> Result<(), Fail> {
     let alloc = rt.alloc();
-    assert!(rt; is_cut(alloc, &with_quotes(alloc)?, QUOTES)?);
+    assert!(rt; is_cut_everywhere(alloc, &with_quotes(alloc)?));
     Ok(())
+}
+
+/// This one holds also where a request for memory is refused, each in turn: `rt try --test --fail-alloc N`.
+#[test]
+fn a_refused_growth_is_told(rt: HostRuntime) {
+    let alloc = rt.alloc();
+    let Ok(Ok(article)) = with_quotes(alloc) else {
+        return;
+    };
+    let first = written_in(alloc, &article, ROOM);
+    if first.is_whole() {
+        return;
+    }
+    assert!(rt; first.fault == Some(SerializeFault::Memory) && first.is_beginning);
+    // the article stands
+    assert!(rt; written_in(alloc, &article, ROOM).is_whole());
 }

@@ -351,3 +351,25 @@ fn a_fault_has_a_text(rt: HostRuntime) -> Result<(), Fail> {
     holds(&rt, text.as_str() == "a heading's level is not 1 to 6", 0);
     Ok(())
 }
+
+/// This one holds also where a request for memory is refused, each in turn: `rt try --test --fail-alloc N`. An article
+/// takes no memory of its own, so that what was built has its own answer.
+#[test]
+fn a_refused_growth_changes_no_answer(rt: HostRuntime) {
+    for (at, row) in ONE_FAULT.iter().take(14).enumerate() {
+        let fault = fault_of(rt.alloc(), row);
+        holds(&rt, is_answer(fault, row), at);
+    }
+    for (at, row) in ARTICLES.iter().take(11).enumerate() {
+        let fault = fault_of(rt.alloc(), row);
+        holds(&rt, is_answer(fault, row), at);
+    }
+}
+
+// whether it is the answer of the row, or the row could not be built
+fn is_answer(fault: Result<Option<ArticleError>, AllocError>, row: &Row) -> bool {
+    match fault {
+        Ok(fault) => fault == row.2,
+        Err(AllocError) => true,
+    }
+}

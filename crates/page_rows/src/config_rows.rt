@@ -1,5 +1,6 @@
 //! Configurations, and pages piece by piece, through the public calls.
 use crate::checks::{holds, is_answer};
+use crate::devices::Pieces;
 use crate::page_rows::plain;
 use html_lexemes::LocalName;
 use html2text::{
@@ -13,7 +14,7 @@ use std::test::Fail;
 
 const MARKED: &[u8] = b"<p>a <em>b</em> <a href=x>c</a></p>";
 
-// the text of a page that is parsed from a reader, rendered from its tree, and read at once
+// the text of a page that is parsed from a reader and rendered from its tree, and read by single bytes at once
 fn text_by<D: TextDecorator + Drop>(
     alloc: Global,
     config: Config<D>,
@@ -24,7 +25,11 @@ fn text_by<D: TextDecorator + Drop>(
     let dom = config.parse_html(alloc, &mut input)?;
     let tree = config.dom_to_render_tree(alloc, &dom)?;
     let text = config.render_to_string(alloc, tree, width)?;
-    let mut again = Device::new(page);
+    let mut again = Device::new(Pieces {
+        bytes: page,
+        most: 1,
+        reads: usize::MAX,
+    });
     if config.string_from_read(alloc, &mut again, width)? != text {
         return Err(Error::Fail);
     }
@@ -111,6 +116,10 @@ fn tables_rules_and_parsing_are_set(rt: HostRuntime) -> Result<(), Fail> {
     let table = ReferenceTable::new(alloc, &[("x;", "y")])?;
     let found = text_by(alloc, plain(alloc)?.table(table), b"&x;&lt;", 20);
     holds(&rt, is_answer(found, Ok("y&lt;\n")), "table");
+    let table = ReferenceTable::new(alloc, &[("not", "\u{ac}"), ("notin;", "\u{2209}")])?;
+    let page = b"<p>a &notit;&notin; b</p>".as_slice();
+    let found = text_by(alloc, plain(alloc)?.table(table), page, 20);
+    holds(&rt, is_answer(found, Ok("a \u{ac}it;\u{2209} b\n")), "names");
     let mut parsing = ParseOpts::default();
     parsing.tree_builder.scripting_enabled = false;
     let page = b"<noscript><p>a</noscript>".as_slice();
@@ -199,6 +208,35 @@ fn a_page_comes_piece_by_piece(rt: HostRuntime) -> Result<(), Fail> {
         end.err() == Some(Error::Fail),
         "the end behind a refusal",
     );
+    Ok(())
+}
+
+// whether a page that may have so many bytes takes just these of a text that comes by single bytes
+fn is_counted(alloc: Global, most: usize, text: &[u8]) -> Result<bool, Error> {
+    let mut page = Page::new(alloc, &plain(alloc)?.max_bytes(most))?;
+    let mut wanted = page.push(b"");
+    let mut left = most;
+    for byte in text {
+        wanted = match (wanted, left) {
+            (Ok(()), 0) => Err(Error::TooLong),
+            (Ok(()), _) => Ok(()),
+            (Err(_), _) => Err(Error::Fail),
+        };
+        left = left.saturating_sub(1);
+        if page.push(&[*byte]) != wanted {
+            return Ok(false);
+        }
+    }
+    let end = page.finish().err();
+    Ok(end == wanted.is_err().then_some(Error::Fail))
+}
+
+#[test]
+fn bytes_are_counted_piece_by_piece(rt: HostRuntime) -> Result<(), Fail> {
+    let alloc = rt.alloc();
+    for (most, text) in [(0, "".as_bytes()), (0, b"a"), (4, b"<p>a"), (4, b"<p>abc")] {
+        holds(&rt, is_counted(alloc, most, text)?, "so many bytes");
+    }
     Ok(())
 }
 

@@ -17,6 +17,8 @@ mod devices;
 #[cfg(test)]
 mod page_rows;
 #[cfg(test)]
+mod refused_rows;
+#[cfg(test)]
 mod response_rows;
 #[cfg(test)]
 mod word_rows;

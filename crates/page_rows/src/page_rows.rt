@@ -21,12 +21,14 @@ pub(crate) const FIRST_PAGE: &[u8] = b"<p>Hello, world.  Superlongwordreally</p>
 
 pub(crate) const FIRST_TEXT: &str = "Hello,\nworld.\nSuperlon\ngwordrea\nlly\n";
 
-static PAGES: [(usize, &[u8], Result<&str, Error>); 46] = [
+static PAGES: [(usize, &[u8], Result<&str, Error>); 48] = [
     (8, FIRST_PAGE, Ok(FIRST_TEXT)),
     (20, b"<p>caf\xC3\xA9</p>", Ok("caf\u{e9}\n")),
     (20, b"<p>a\xFFb</p>", Ok("a\u{fffd}b\n")),
     (20, b"<p>a\r\nb</p>", Ok("a b\n")),
     (20, b"<p>\xF0\x9F\x98</p>", Ok("\u{fffd}\n")),
+    (20, b"<p>\xF0\x9F\x98", Ok("\u{fffd}\n")),
+    (20, b"<p>\xFF\xFE", Ok("\u{fffd}\u{fffd}\n")),
     (20, b"<p>\xE0\x80</p>", Ok("\u{fffd}\u{fffd}\n")),
     (20, b"<p>\xED\xA0\x80</p>", Ok("\u{fffd}\u{fffd}\u{fffd}\n")),
     (20, b"\xEF\xBB\xBF<p>a</p>", Ok("a\n")),
@@ -110,20 +112,27 @@ fn name_of(bytes: &[u8]) -> &str {
     std::str::from_utf8(bytes).unwrap_or("bytes that are no text")
 }
 
+/// Pages that may have so many bytes, and their text.
+static LENGTHS: [(&[u8], usize, Result<&str, Error>); 6] = [
+    (b"<p>ab</p>", 8, Err(Error::TooLong)),
+    (b"<p>ab</p>", 9, Ok("ab\n")),
+    (b"<p>ab", 4, Err(Error::TooLong)),
+    (b"<p>ab", 5, Ok("ab\n")),
+    (b"", 0, Ok("")),
+    (b"<", 0, Err(Error::TooLong)),
+];
+
 #[test]
 fn a_page_is_as_long_as_allowed(rt: HostRuntime) -> Result<(), Fail> {
     let alloc = rt.alloc();
-    let rows: [(&[u8], usize, Result<&str, Error>); 4] = [
-        (b"<p>ab</p>", 8, Err(Error::TooLong)),
-        (b"<p>ab</p>", 9, Ok("ab\n")),
-        (b"", 0, Ok("")),
-        (b"<", 0, Err(Error::TooLong)),
-    ];
-    for (bytes, most, wanted) in rows {
-        let mut input = Device::new(bytes);
-        let config = plain(alloc)?.max_bytes(most);
-        let found = config.string_from_read(alloc, &mut input, 20);
-        holds(&rt, is_answer(found, wanted), name_of(bytes));
+    for (bytes, longest, wanted) in LENGTHS {
+        for most in [1, 8192] {
+            let reads = usize::MAX;
+            let mut input = Device::new(Pieces { bytes, most, reads });
+            let config = plain(alloc)?.max_bytes(longest);
+            let found = config.string_from_read(alloc, &mut input, 20);
+            holds(&rt, is_answer(found, wanted), name_of(bytes));
+        }
     }
     Ok(())
 }
@@ -157,41 +166,48 @@ fn a_page_is_written(rt: HostRuntime) -> Result<(), Fail> {
     Ok(())
 }
 
-// The reader fails at each read of the page, the one at its end among them.
+// The reader fails at each read of the page, the one at its end among them, up to a run in which it does not.
 #[test]
 fn a_reader_that_fails_leaves_nothing_written(rt: HostRuntime) -> Result<(), Fail> {
     let alloc = rt.alloc();
-    for reads in 0..5 {
+    for reads in 0..6 {
         let mut input = Device::new(Pieces {
             bytes: b"<p>a",
             most: 1,
             reads,
         });
         let mut output = Device::new(Taker::new(alloc));
-        let refused = run(alloc, &mut input, &mut output, plain(alloc)?, 20);
-        holds(&rt, refused == Err(Error::IoError), "a reader that fails");
-        let is_so = output.into_inner().taken.is_empty();
+        let answer = run(alloc, &mut input, &mut output, plain(alloc)?, 20);
+        let (wanted, text) = match reads {
+            5 => (Ok(()), b"a\n".as_slice()),
+            _ => (Err(Error::IoError), b"".as_slice()),
+        };
+        holds(&rt, answer == wanted, "a reader that fails");
+        let is_so = output.into_inner().taken.as_slice() == text;
         holds(&rt, is_so, "what is written then");
     }
     Ok(())
 }
 
+// The writer fails at each write, or takes none, up to a run in which it does not: no write is of less than a byte.
 #[test]
 fn a_writer_that_fails_has_a_beginning(rt: HostRuntime) -> Result<(), Fail> {
     let alloc = rt.alloc();
-    for case in 0..54 {
+    for case in 0..6 * (FIRST_TEXT.len() + 1) {
         let mut input = Device::new(FIRST_PAGE);
         let mut taker = Taker::new(alloc);
         taker.takes_none = case % 2 == 0;
         taker.most = [1, 2, 64][case / 2 % 3];
         taker.writes = case / 6;
         let mut output = Device::new(taker);
-        let refused = run(alloc, &mut input, &mut output, plain(alloc)?, 8);
-        holds(&rt, refused == Err(Error::IoError), "a writer that fails");
+        let answer = run(alloc, &mut input, &mut output, plain(alloc)?, 8);
         let taken = output.into_inner().taken;
         let is_beginning = FIRST_TEXT.as_bytes().starts_with(taken.as_slice());
-        holds(&rt, is_beginning, "what it has then");
-        holds(&rt, case < 6 || !taken.is_empty(), "its first write");
+        holds(&rt, is_beginning, "what a writer that fails has");
+        holds(&rt, taken.len() >= case / 6, "what it took before");
+        let is_whole = taken.len() == FIRST_TEXT.len();
+        let wanted = if is_whole { Ok(()) } else { Err(Error::IoError) };
+        holds(&rt, answer == wanted, "a writer that fails");
     }
     Ok(())
 }

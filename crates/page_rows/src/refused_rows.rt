@@ -1,0 +1,185 @@
+//! Rows that hold also where a request for memory is refused, each in turn: `rt try --test --fail-alloc N`. What stands
+//! behind a refusal is asked again, where it answers as if there had been none.
+use crate::checks::{holds, is_answer};
+use crate::page_rows::plain;
+use article_answers::LayArticle;
+use article_laying::ArticleLine;
+use article_values::{Article, ArticleError, Block, Inline};
+use html2text::{Config, Device, Error, Page, PlainDecorator, RcDom, ReferenceTable, TableError};
+use std::alloc::{AllocError, Global};
+use std::process::Abort;
+
+const NAMES: &str = "{\"&not\":{\"codepoints\":[172]},\"&notin;\":{\"codepoints\":[8713]}}";
+
+/// Whether marks are written, whether names of a table are read, the width, a page and its text.
+type Row = (bool, bool, usize, &'static [u8], &'static str);
+
+static ROWS: [Row; 4] = [
+    (
+        true,
+        false,
+        12,
+        b"<table><tr><td>1</td><td>2</td><td>3</td></tr></table>",
+        "─┬─┬─\n1│2│3\n─┴─┴─\n",
+    ),
+    (false, false, 20, b"<p>1<b>2<i>3</b>4</i>5</p>", "12345\n"),
+    (
+        true,
+        true,
+        20,
+        b"<p>a &notit;&notin; b</p>",
+        "a \u{ac}it;\u{2209} b\n",
+    ),
+    (true, false, 20, SPANNED, SPANNED_TEXT),
+];
+
+const SPANNED: &[u8] =
+    b"<table><tr><td rowspan=2>a</td><td>b</td></tr><tr><td>c</td></tr></table>";
+
+const SPANNED_TEXT: &str = "─┬─\na│b\n ├─\n │c\n─┴─\n";
+
+fn table_of(alloc: Global, row: &Row) -> Result<ReferenceTable, Error> {
+    if !row.1 {
+        return Ok(ReferenceTable::basic(alloc)?);
+    }
+    match ReferenceTable::from_json(alloc, NAMES) {
+        Ok(table) => Ok(table),
+        Err(TableError::Memory) => Err(Error::Memory),
+        Err(_) => Err(Error::Fail),
+    }
+}
+
+fn text_of_row(alloc: Global, row: &Row) -> Result<String, Error> {
+    let table = table_of(alloc, row)?;
+    let config = if row.0 {
+        Config::plain(alloc, table)?
+    } else {
+        Config::plain_no_decorate(alloc, table)
+    };
+    let mut input = Device::new(row.3);
+    config.string_from_read(alloc, &mut input, row.2)
+}
+
+// whether a page has its text, or is refused for want of memory
+fn is_answered(alloc: Global, row: &Row) -> bool {
+    match text_of_row(alloc, row) {
+        Ok(text) => text.as_str() == row.4,
+        Err(error) => error == Error::Memory,
+    }
+}
+
+#[test]
+fn pages_are_answered_or_refused(rt: HostRuntime) {
+    for row in &ROWS {
+        holds(&rt, is_answered(rt.alloc(), row), row.4);
+    }
+}
+
+/// Texts that are no tables, and what is told of them.
+static TABLES: [(&str, &str); 4] = [
+    ("{", "no JSON"),
+    ("[]", "no object"),
+    ("{\"amp\":{\"codepoints\":[38]}}", "amp"),
+    ("{\"&x\":{\"codepoints\":[]}}", "&x"),
+];
+
+#[test]
+fn tables_have_their_fault_or_are_refused(rt: HostRuntime) {
+    for (json, wanted) in TABLES {
+        let is_so = match ReferenceTable::from_json(rt.alloc(), json) {
+            Ok(_) => false,
+            Err(TableError::NotJson) => wanted == "no JSON",
+            Err(TableError::NotAnObject) => wanted == "no object",
+            Err(TableError::BadName(key)) => wanted == "amp" && key.as_str() == wanted,
+            Err(TableError::BadCodePoints(key)) => wanted == "&x" && key.as_str() == wanted,
+            Err(TableError::Memory) => true,
+        };
+        holds(&rt, is_so, json);
+    }
+}
+
+// the tree of a page that comes by single bytes; behind a refusal the page takes no more
+fn tree_of<R: Abort>(
+    rt: &R,
+    alloc: Global,
+    config: &Config<PlainDecorator>,
+) -> Result<RcDom, Error> {
+    let mut page = Page::new(alloc, config)?;
+    for byte in SPANNED {
+        if let Err(error) = page.push(&[*byte]) {
+            let later = page.push(b"");
+            holds(rt, later == Err(Error::Fail), "a piece behind a refusal");
+            let end = page.finish().err();
+            holds(rt, end == Some(Error::Fail), "the end behind a refusal");
+            return Err(error);
+        }
+    }
+    page.finish()
+}
+
+fn text_of(alloc: Global, config: &Config<PlainDecorator>, dom: &RcDom) -> Result<String, Error> {
+    let tree = config.dom_to_render_tree(alloc, dom)?;
+    config.render_to_string(alloc, tree, 20)
+}
+
+#[test]
+fn a_refused_page_goes_no_further(rt: HostRuntime) {
+    let alloc = rt.alloc();
+    let Ok(config) = plain(alloc) else {
+        return;
+    };
+    match tree_of(&rt, alloc, &config) {
+        Ok(dom) => {
+            let mut text = text_of(alloc, &config, &dom);
+            if text == Err(Error::Memory) {
+                text = text_of(alloc, &config, &dom);
+            }
+            holds(&rt, is_answer(text, Ok(SPANNED_TEXT)), "a tree that stands");
+        }
+        Err(error) => holds(&rt, error == Error::Memory, "a page that is refused"),
+    }
+}
+
+// a paragraph with a link
+fn linked(alloc: Global) -> Result<Result<Article, ArticleError>, AllocError> {
+    let mut inner = Vec::new(alloc);
+    inner.push(Inline::Text(String::from_str(alloc, "Hi")?))?;
+    let mut contents = Vec::new(alloc);
+    contents.push(Inline::Link(String::from_str(alloc, "x\"y")?, inner))?;
+    let mut blocks = Vec::new(alloc);
+    blocks.push(Block::Paragraph(contents))?;
+    Ok(Article::new(None, blocks))
+}
+
+// whether a line begins with that text, in the first paragraph or in none
+fn is_line(line: &ArticleLine, text: &str, paragraph: Option<usize>) -> bool {
+    match line.line.tagged_strings().next() {
+        Some(string) => string.s.as_str() == text && line.paragraph == paragraph,
+        None => text.is_empty() && line.paragraph == paragraph,
+    }
+}
+
+fn is_laid(lines: &[ArticleLine]) -> bool {
+    match lines {
+        [first, second, third] => {
+            is_line(first, "[Hi]", Some(0))
+                && is_line(second, "", None)
+                && is_line(third, "[1]: x\"y", None)
+        }
+        _ => false,
+    }
+}
+
+#[test]
+fn an_article_is_laid_out_or_refused(rt: HostRuntime) {
+    let alloc = rt.alloc();
+    let (Ok(Ok(article)), Ok(config)) = (linked(alloc), plain(alloc)) else {
+        return;
+    };
+    let mut lines = article.layout(alloc, &config, 20);
+    if matches!(lines, Err(Error::Memory)) {
+        lines = article.layout(alloc, &config, 20);
+    }
+    let is_so = matches!(lines, Ok(lines) if is_laid(&lines));
+    holds(&rt, is_so, "an article");
+}
