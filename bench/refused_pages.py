@@ -188,11 +188,17 @@ def written(maker, count):
     return b"".join(part if isinstance(part, bytes) else part.encode() for part in maker(count))
 
 
-class Runs:
-    """Runs of the program on a page, in a folder of their own."""
+def built_library(folder):
+    """Builds refuse.c into a folder."""
+    source, library = os.path.join(HERE, "refuse.c"), os.path.join(folder, "refuse.so")
+    subprocess.run(["cc", "-shared", "-fPIC", "-o", library, source, "-ldl"], check=True)
 
-    def __init__(self, room, words):
-        self.room, self.words = room, words
+
+class Runs:
+    """Runs of a program on a page, in a folder of their own."""
+
+    def __init__(self, room, words, page=os.devnull):
+        self.room, self.words, self.page = room, words, page
         self.out, self.told, self.counted = (os.path.join(room, name) for name in ("out", "told", "count"))
 
     def run(self, number):
@@ -200,7 +206,7 @@ class Runs:
         env = {"REFUSE": str(number), "REFUSE_COUNT": self.counted, "LD_PRELOAD": os.path.join(self.room, "refuse.so")}
         flags = os.O_WRONLY | os.O_CREAT | os.O_TRUNC
         files = [
-            (os.POSIX_SPAWN_OPEN, 0, os.path.join(self.room, "page"), os.O_RDONLY, 0),
+            (os.POSIX_SPAWN_OPEN, 0, self.page, os.O_RDONLY, 0),
             (os.POSIX_SPAWN_OPEN, 1, self.out, flags, 0o600),
             (os.POSIX_SPAWN_OPEN, 2, self.told, flags, 0o600),
         ]
@@ -223,7 +229,7 @@ def room_for(folder, program, page, words, width):
             file.write(content)
     os.symlink(os.path.join(folder, "refuse.so"), os.path.join(room, "refuse.so"))
     named = [os.path.join(room, word) if word in ("references.json", "page") else word for word in words]
-    return Runs(room, [program, "--width", str(width), *named])
+    return Runs(room, [program, "--width", str(width), *named], os.path.join(room, "page"))
 
 
 def kind_of(answer, whole):
@@ -272,8 +278,7 @@ def main():
     kinds = [kind for kind in PAGES if not wanted or any(word in kind[0] for word in wanted)]
     total, sums = 0, {}
     with tempfile.TemporaryDirectory() as folder:
-        library = os.path.join(folder, "refuse.so")
-        subprocess.run(["cc", "-shared", "-fPIC", "-o", library, os.path.join(HERE, "refuse.c"), "-ldl"], check=True)
+        built_library(folder)
         print("| page | words | bytes | lines | requests | 1 | 2 | 3 | answered | else |\n" + "|---" * 10 + "|")
         with concurrent.futures.ThreadPoolExecutor(2) as pool:
             for line, asked, kinds_of in pool.map(lambda kind: measure(folder, program, kind), kinds):

@@ -119,7 +119,11 @@ fn tables_rules_and_parsing_are_set(rt: HostRuntime) -> Result<(), Fail> {
     let table = ReferenceTable::new(alloc, &[("not", "\u{ac}"), ("notin;", "\u{2209}")])?;
     let page = b"<p>a &notit;&notin; b</p>".as_slice();
     let found = text_by(alloc, plain(alloc)?.table(table), page, 20);
-    holds(&rt, is_answer(found, Ok("a \u{ac}it;\u{2209} b\n")), "names");
+    holds(
+        &rt,
+        is_answer(found, Ok("a \u{ac}it;\u{2209} b\n")),
+        "names",
+    );
     let mut parsing = ParseOpts::default();
     parsing.tree_builder.scripting_enabled = false;
     let page = b"<noscript><p>a</noscript>".as_slice();
@@ -231,10 +235,12 @@ fn is_counted(alloc: Global, most: usize, text: &[u8]) -> Result<bool, Error> {
     Ok(end == wanted.is_err().then_some(Error::Fail))
 }
 
+static COUNTED: [(usize, &[u8]); 4] = [(0, b""), (0, b"a"), (4, b"<p>a"), (4, b"<p>abc")];
+
 #[test]
 fn bytes_are_counted_piece_by_piece(rt: HostRuntime) -> Result<(), Fail> {
     let alloc = rt.alloc();
-    for (most, text) in [(0, "".as_bytes()), (0, b"a"), (4, b"<p>a"), (4, b"<p>abc")] {
+    for (most, text) in COUNTED {
         holds(&rt, is_counted(alloc, most, text)?, "so many bytes");
     }
     Ok(())

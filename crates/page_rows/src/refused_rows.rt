@@ -33,8 +33,7 @@ static ROWS: [Row; 4] = [
     (true, false, 20, SPANNED, SPANNED_TEXT),
 ];
 
-const SPANNED: &[u8] =
-    b"<table><tr><td rowspan=2>a</td><td>b</td></tr><tr><td>c</td></tr></table>";
+const SPANNED: &[u8] = b"<table><tr><td rowspan=2>a</td><td>b</td></tr><tr><td>c</td></tr></table>";
 
 const SPANNED_TEXT: &str = "─┬─\na│b\n ├─\n │c\n─┴─\n";
 
