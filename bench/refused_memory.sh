@@ -1,7 +1,7 @@
 #!/usr/bin/env bash
 # Runs the built programs on the pages of their stored runs, html2text_program with a table of references in a file,
 # each request for memory refused in turn. A run must write the page's text, or write nothing, say that memory ran out,
-# and end with status 1 (the page), 2 (the words) or 3 (the table). Then it does so with three tests.
+# and end with status 1 (the page), 2 (the words) or 3 (the table). Then it does so with nine tests.
 set -eu
 here=$(cd "$(dirname "$0")" && pwd)
 room=$(mktemp -d)
@@ -32,13 +32,13 @@ try_program() {
 }
 try_program html2text_program
 try_program wrapped_page
-rows=$here/../crates/page_rows
-(cd "$rows" && rt test >/dev/null 2>&1)
-for test in page_rows::a_refused_growth_is_told word_rows::reads_lines_or_refuses \
-  decoder_rows::replaces_in_single_bytes_or_refuses; do
-  failed=0
-  for number in $(seq 1 250); do
-    (cd "$rows" && refused "$number" out/page_rows_tests "$test" >"$room/out" 2>&1) || failed=$((failed + 1))
-  done
-  echo "$test: $failed of 250 failed"
-done
+# the tests of a crate that hold either way
+try_tests() {
+  (cd "$here/../crates/$1" && rt test >/dev/null 2>&1)
+  python3 "$here/refused_tests.py" "$here/../crates/$1/out/$1_tests" "${@:2}" || true
+}
+try_tests page_rows page_rows::a_refused_growth_is_told word_rows::reads_lines_or_refuses \
+  decoder_rows::replaces_in_single_bytes_or_refuses refused_rows::pages_are_answered_or_refused \
+  refused_rows::tables_have_their_fault_or_are_refused refused_rows::a_refused_page_goes_no_further
+try_tests article_rows fault_tests::a_refused_growth_changes_no_answer
+try_tests article_pages written_tests::a_refused_growth_is_told layout_tests::an_article_is_laid_out_or_refused

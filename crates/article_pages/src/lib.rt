@@ -1,6 +1,9 @@
-//! Tests alone: what is written of articles, with the texts of an independent model, and a writer that fails.
+//! Tests alone: what is written of articles, with the texts of an independent model, a writer that fails, and memory
+//! that is refused.
 #![tactic(auto)]
 
+#[cfg(test)]
+mod layout_tests;
 #[cfg(test)]
 mod values;
 #[cfg(test)]

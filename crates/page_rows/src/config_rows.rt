@@ -218,7 +218,10 @@ fn a_page_comes_piece_by_piece(rt: HostRuntime) -> Result<(), Fail> {
 // whether a page that may have so many bytes takes just these of a text that comes by single bytes
 fn is_counted(alloc: Global, most: usize, text: &[u8]) -> Result<bool, Error> {
     let mut page = Page::new(alloc, &plain(alloc)?.max_bytes(most))?;
-    let mut wanted = page.push(b"");
+    if page.push(b"").is_err() {
+        return Ok(false);
+    }
+    let mut wanted = Ok(());
     let mut left = most;
     for byte in text {
         wanted = match (wanted, left) {

@@ -1,5 +1,5 @@
-//! Pages and command lines from outside, through the public calls of `html2text`. Beside tests it has one theorem, on whole
-//! runs of the decoder.
+//! Pages and command lines from outside, through the public calls of `html2text`. Beside tests it has one theorem, on
+//! whole runs of the decoder.
 #![tactic(auto)]
 
 mod decoded;

@@ -2,11 +2,8 @@
 //! behind a refusal is asked again, where it answers as if there had been none.
 use crate::checks::{holds, is_answer};
 use crate::page_rows::plain;
-use article_answers::LayArticle;
-use article_laying::ArticleLine;
-use article_values::{Article, ArticleError, Block, Inline};
 use html2text::{Config, Device, Error, Page, PlainDecorator, RcDom, ReferenceTable, TableError};
-use std::alloc::{AllocError, Global};
+use std::alloc::Global;
 use std::process::Abort;
 
 const NAMES: &str = "{\"&not\":{\"codepoints\":[172]},\"&notin;\":{\"codepoints\":[8713]}}";
@@ -137,48 +134,4 @@ fn a_refused_page_goes_no_further(rt: HostRuntime) {
         }
         Err(error) => holds(&rt, error == Error::Memory, "a page that is refused"),
     }
-}
-
-// a paragraph with a link
-fn linked(alloc: Global) -> Result<Result<Article, ArticleError>, AllocError> {
-    let mut inner = Vec::new(alloc);
-    inner.push(Inline::Text(String::from_str(alloc, "Hi")?))?;
-    let mut contents = Vec::new(alloc);
-    contents.push(Inline::Link(String::from_str(alloc, "x\"y")?, inner))?;
-    let mut blocks = Vec::new(alloc);
-    blocks.push(Block::Paragraph(contents))?;
-    Ok(Article::new(None, blocks))
-}
-
-// whether a line begins with that text, in the first paragraph or in none
-fn is_line(line: &ArticleLine, text: &str, paragraph: Option<usize>) -> bool {
-    match line.line.tagged_strings().next() {
-        Some(string) => string.s.as_str() == text && line.paragraph == paragraph,
-        None => text.is_empty() && line.paragraph == paragraph,
-    }
-}
-
-fn is_laid(lines: &[ArticleLine]) -> bool {
-    match lines {
-        [first, second, third] => {
-            is_line(first, "[Hi]", Some(0))
-                && is_line(second, "", None)
-                && is_line(third, "[1]: x\"y", None)
-        }
-        _ => false,
-    }
-}
-
-#[test]
-fn an_article_is_laid_out_or_refused(rt: HostRuntime) {
-    let alloc = rt.alloc();
-    let (Ok(Ok(article)), Ok(config)) = (linked(alloc), plain(alloc)) else {
-        return;
-    };
-    let mut lines = article.layout(alloc, &config, 20);
-    if matches!(lines, Err(Error::Memory)) {
-        lines = article.layout(alloc, &config, 20);
-    }
-    let is_so = matches!(lines, Ok(lines) if is_laid(&lines));
-    holds(&rt, is_so, "an article");
 }

@@ -1,0 +1,58 @@
+//! The lines of an article where memory is refused.
+use article_answers::LayArticle;
+use article_laying::ArticleLine;
+use article_values::{Article, ArticleError, Block, Inline};
+use html_lexemes::ReferenceTable;
+use page_config::{Config, Error};
+use std::alloc::{AllocError, Global};
+use text_decorators::PlainDecorator;
+
+// a paragraph with a link
+fn linked(alloc: Global) -> Result<Result<Article, ArticleError>, AllocError> {
+    let mut inner = Vec::new(alloc);
+    inner.push(Inline::Text(String::from_str(alloc, "Hi")?))?;
+    let mut contents = Vec::new(alloc);
+    contents.push(Inline::Link(String::from_str(alloc, "x\"y")?, inner))?;
+    let mut blocks = Vec::new(alloc);
+    blocks.push(Block::Paragraph(contents))?;
+    Ok(Article::new(None, blocks))
+}
+
+// whether a line begins with that text, in the first paragraph or in none
+fn is_line(line: &ArticleLine, text: &str, paragraph: Option<usize>) -> bool {
+    match line.line.tagged_strings().next() {
+        Some(string) => string.s.as_str() == text && line.paragraph == paragraph,
+        None => text.is_empty() && line.paragraph == paragraph,
+    }
+}
+
+fn is_laid(lines: &[ArticleLine]) -> bool {
+    match lines {
+        [first, second, third] => {
+            is_line(first, "[Hi]", Some(0))
+                && is_line(second, "", None)
+                && is_line(third, "[1]: x\"y", None)
+        }
+        _ => false,
+    }
+}
+
+fn plain(alloc: Global) -> Result<Config<PlainDecorator>, Error> {
+    Config::plain(alloc, ReferenceTable::basic(alloc)?)
+}
+
+/// This one holds also where a request for memory is refused, each in turn: `rt try --test --fail-alloc N`.
+#[test]
+fn an_article_is_laid_out_or_refused(rt: HostRuntime) {
+    let alloc = rt.alloc();
+    let (Ok(Ok(article)), Ok(config)) = (linked(alloc), plain(alloc)) else {
+        return;
+    };
+    let mut lines = article.layout(alloc, &config, 20);
+    if matches!(lines, Err(Error::Memory)) {
+        // the article stands
+        lines = article.layout(alloc, &config, 20);
+    }
+    let is_so = matches!(lines, Ok(lines) if is_laid(&lines));
+    assert!(rt; is_so);
+}
