@@ -1,5 +1,5 @@
-//! A small program over the library `html2text`: quotes the page on standard input as a mail reader does, each line of its
-//! text behind `> `.
+//! A small program over the library `html2text`: quotes the page on standard input as a mail reader does, each line of
+//! its text behind `> `.
 #![tactic(auto)]
 
 use html2text::{Config, Device, Error, PlainLine, ReferenceTable};

@@ -6,7 +6,8 @@ use Rattle.html_lexemes.specs.declared.states.RawKind.TheVariants.{Rcdata, Rawte
 use Rattle.html_lexemes.specs.declared.token.TagKind.{TagKind}
 use Rattle.html_lexemes.specs.declared.token.TagKind.TheVariants.{StartTag, EndTag}
 use Rattle.html_lexemes.specs.declared.token.TokenSinkResult.{TokenSinkResult}
-use Rattle.html_lexemes.specs.declared.token.TokenSinkResult.TheVariants.{Continue, EncodingIndicator, Plaintext, RawData, Script}
+use Rattle.html_lexemes.specs.declared.token.TokenSinkResult.TheVariants.{Continue, EncodingIndicator, Plaintext}
+use Rattle.html_lexemes.specs.declared.token.TokenSinkResult.TheVariants.{RawData, Script}
 use Rattle.html_grammar.specs.Items.{Item, characters, null_character, tag, comment, doctype, error, end_of_file}
 use Rattle.html_grammar.specs.Reading.{IsAnswered}
 

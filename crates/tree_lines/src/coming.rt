@@ -53,6 +53,7 @@ pub(crate) fn push_first<'a>(
     ensures { OnOk result (IsStep dom.now.forest first.entry
         (chars (string_bytes lines.old)) coming.old.items (chars (string_bytes lines.new)) coming.new.items) }
 {
+    // A tree's nodes are a forest.
     dom.document();
     lines_go_one_step_on();
     let node = first.node;

@@ -1,4 +1,5 @@
-use Rattle.std.proofs.Common.{◌≡◌, ℕ, ◌+◌, ◌++◌, List, [], ◌∷◌, Vec, Global, take, flat_map, string_bytes, sym, ap, ◌∙◌, take_all}
+use Rattle.std.proofs.Common.{◌≡◌, ℕ, ◌+◌, ◌++◌, List, [], ◌∷◌, Vec, Global, take, flat_map, string_bytes, sym, ap, ◌∙◌}
+use Rattle.std.proofs.Common.{take_all}
 use Rattle.std.specs.Str.{chars}
 use Rattle.std.proofs.lemmas.List.{take_more, flat_map_more}
 use Rattle.std.proofs.lemmas.Str.{IsUtf8-string_bytes}
