@@ -3,8 +3,6 @@
 #![tactic(auto)]
 
 #[cfg(test)]
-mod layout_tests;
-#[cfg(test)]
 mod values;
 #[cfg(test)]
 mod written_tests;
