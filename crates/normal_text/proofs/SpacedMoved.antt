@@ -113,10 +113,9 @@ first_laid width done space tag c cs fits =
     let ls = lettered (c ∷ cs) tag in
     let ms = marked (opens space) inside ls in
     let counted : columns ms ≡ letters_columns ls =
-    omega (arith, unit_columns None (lettered cs tag) l) in
-    (
+    omega (arith, unit_columns None (lettered cs tag) l) in (
       if_true (nat_le (letters_columns ls) width) _ _ (below (letters_columns ls) width fits)
-      ∙ if_true (nat_le (columns ms) width) _ _ (below (columns ms) width (omega (arith, counted, fits))),
+          ∙ if_true (nat_le (columns ms) width) _ _ (below (columns ms) width (omega (arith, counted, fits))),
       counted,
     )
 

@@ -19,7 +19,7 @@ returns-in_err-take_all-in-Some-clause-narrow g c = λ e width overflow read has
     has in (
       found.0,
       wide_within width (sources_of seen c.args.pieces.items) [] front (piece_sources seen c.in-Some.last)
-      (last_sources seen c.args.pieces.items c.pop.new.self.items c.in-Some.last c.in-Some.ensures.items) found.1,
+          (last_sources seen c.args.pieces.items c.pop.new.self.items c.in-Some.last c.in-Some.ensures.items) found.1,
     )
 
 pub returns-in_ok-take_all-in-Some-clause-ends : goal.returns-in_ok-take_all-in-Some-clause-ends
@@ -43,7 +43,7 @@ returns-in_ok-take_all-in-Some-clause-narrow g c = λ e width overflow read has.
     (c.in_ok-take_all-in-Some.ensures.read width overflow read has) in (
       found.0,
       wide_within width (sources_of seen c.args.pieces.items) front back []
-      (whole ∙ ap (λ xs. front ++ xs) (sym (append-nil back))) found.1,
+          (whole ∙ ap (λ xs. front ++ xs) (sym (append-nil back))) found.1,
     )
 
 pub returns-in-None-clause-ends : goal.returns-in-None-clause-ends
