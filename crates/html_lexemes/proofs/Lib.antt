@@ -2,6 +2,7 @@ pub mod ComparedLemmas
 pub mod JsonLemmas
 pub mod LongerNames
 pub mod LongestNames
+pub mod NameLemmas
 pub mod NameTests
 pub mod PairsRead
 pub mod Permutations

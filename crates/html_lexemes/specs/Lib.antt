@@ -4,6 +4,7 @@ pub mod Json
 pub mod KnownPart
 pub mod LineEnds
 pub mod Lookup
+pub mod Names
 pub mod Queue
 pub mod QueueAnswers
 pub mod QueueParts

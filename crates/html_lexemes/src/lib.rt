@@ -21,6 +21,7 @@ mod token;
 pub use attributes::Attributes;
 pub use device::{ByteReader, ByteWriter, Device, DeviceFault};
 pub use fault::ParseFault;
+pub use known_names::{KnownName, known_of};
 pub use names::{Attribute, LocalName, Namespace, QualName};
 pub use queue::{BufferQueue, SetResult};
 pub use table::{NamedReference, ReferenceTable};

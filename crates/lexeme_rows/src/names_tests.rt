@@ -2,8 +2,8 @@
 use crate::checks::{holds, told};
 use html_lexemes::states::{RawKind, ScriptEscapeKind, State};
 use html_lexemes::{
-    Attribute, Attributes, Doctype, ErrorMessage, LocalName, Namespace, ProcessResult, QualName,
-    Tag, TagKind, Text, Token, TokenSinkResult,
+    Attribute, Attributes, Doctype, ErrorMessage, KnownName, LocalName, Namespace, ProcessResult,
+    QualName, Tag, TagKind, Text, Token, TokenSinkResult,
 };
 use std::alloc::{AllocError, Global};
 use std::hash::{DefaultHasher, Hash, Hasher};
@@ -55,12 +55,17 @@ fn texts_are_compared_by_code_points(rt: HostRuntime) {
     }
 }
 
-// whether a text is a name's, and is given back
-fn is_given_back(alloc: Global) -> Result<bool, AllocError> {
-    let text = Text::from(String::from_str(alloc, "né")?);
+// whether a word is a name's text, and is given back
+fn is_given_back(alloc: Global, word: &str) -> Result<bool, AllocError> {
+    let text = Text::from(String::from_str(alloc, word)?);
     let name = LocalName::from(text.try_clone()?).try_clone()?;
-    let is_name = name.as_str() == "né" && name.into_text() == text;
-    Ok(is_name && text.into_string().as_str() == "né")
+    let is_name = name.as_str() == word && name == LocalName::from_str(alloc, word)?;
+    Ok(is_name && text.into_string().as_str() == word)
+}
+
+// whether a name is the known one that is expected
+fn is_known(alloc: Global, word: &str, expected: Option<KnownName>) -> Result<bool, AllocError> {
+    Ok(LocalName::from_str(alloc, word)?.known() == expected)
 }
 
 fn attribute(alloc: Global, local: &str, value: &str) -> Result<Attribute, AllocError> {
@@ -202,7 +207,15 @@ fn are_messages_lent(alloc: Global) -> Result<bool, AllocError> {
 #[test]
 fn values_are_compared_copied_and_given_back(rt: HostRuntime) {
     let alloc = rt.alloc();
-    told(&rt, is_given_back(alloc), "a text");
+    told(&rt, is_given_back(alloc, "né"), "a text");
+    told(&rt, is_given_back(alloc, "div"), "a known name");
+    told(
+        &rt,
+        is_known(alloc, "colgroup", Some(KnownName::Colgroup)),
+        "colgroup",
+    );
+    told(&rt, is_known(alloc, "colgrouq", None), "no known name");
+    told(&rt, is_known(alloc, "", None), "no name");
     told(&rt, are_attributes_apart(alloc), "two attributes");
     told(&rt, is_namespace_behind(alloc), "namespaces");
     told(&rt, are_names_apart(alloc), "names");
