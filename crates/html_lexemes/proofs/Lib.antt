@@ -1,3 +1,4 @@
+pub mod ByteRuns
 pub mod ComparedLemmas
 pub mod JsonLemmas
 pub mod LongerNames

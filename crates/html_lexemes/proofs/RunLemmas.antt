@@ -32,7 +32,7 @@ free_each set (c ∷ cs) h = rw h.0 (free_each set cs h.1)
 free_of : (set run : List ℕ) → IsUtf8 run → NoCharPasses (is_in set) run → IsTrue (is_free_of set (chars run))
 free_of set run u h = subst (λ cs. IsTrue (is_free_of set cs)) (chars_from_encodes h.0 run u h.1) (free_each set h.0 h.2)
 
-run_upto : (set bs run : List ℕ) (i : ℕ) → IsUtf8 bs → IsCharBoundary bs i → run ≡ take i bs → NoCharPasses (is_in set) (take i bs)
+pub run_upto : (set bs run : List ℕ) (i : ℕ) → IsUtf8 bs → IsCharBoundary bs i → run ≡ take i bs → NoCharPasses (is_in set) (take i bs)
     → ((c : ℕ) → slice_get (chars bs) 0 ≡ Some c → is_in set c ≡ false → i ≡ 0 → ⊥) → IsRunOutside set bs run
 run_upto set bs run i u cut e none first =
     let long : length run ≡ i = ap length e ∙ length-take-le i bs cut.0 in

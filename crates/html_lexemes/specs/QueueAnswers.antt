@@ -1,5 +1,5 @@
--- What taking a character of a set, or a run without one, answers.
-use Rattle.std.specs.Prelude.{◌≡◌, ℕ, ◌<◌, IsTrue, List, [], ◌∷◌, length, chars, string_bytes, Option, Some, None}
+-- What taking a character of a set, or a run without one, does and answers.
+use Rattle.std.specs.Prelude.{◌≡◌, ℕ, ◌<◌, IsTrue, List, [], ◌∷◌, ◌++◌, length, chars, string_bytes, Option, Some, None}
 use Rattle.html_lexemes.specs.declared.queue.SetResult.{SetResult}
 use Rattle.html_lexemes.specs.declared.queue.SetResult.TheVariants.{FromSet, NotFromSet}
 use Rattle.html_lexemes.specs.Queue.{Queue, Takes, is_in, is_free_of}
@@ -10,3 +10,10 @@ PopsExcept set old None new = (old.text ≡ []) × (new ≡ old)
 PopsExcept set old (Some (FromSet c)) new = Takes old (c ∷ []) new × IsTrue (is_in set c)
 PopsExcept set old (Some (NotFromSet run)) new =
     Takes old (chars (string_bytes run)) new × (0 < length (chars (string_bytes run))) × IsTrue (is_free_of set (chars (string_bytes run)))
+
+-- a run of characters outside the set was taken, and stands behind what the text was before
+pub record PopsRun (set : List ℕ) (old : Queue) (before : List ℕ) (new : Queue) (behind : List ℕ) : Type 0 where
+  pub cs : List ℕ
+  pub takes : Takes old cs new
+  pub appended : chars behind ≡ chars before ++ cs
+  pub free : IsTrue (is_free_of set cs)

@@ -12,6 +12,7 @@ pub mod laws;
 mod names;
 mod queue;
 mod rows;
+mod runs;
 pub mod states;
 mod table;
 mod table_error;

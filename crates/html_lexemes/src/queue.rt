@@ -2,8 +2,9 @@ ghost use Rattle.std.specs.Prelude.{◌≡◌, ◌<◌, ◌↔◌, [], ◌∷◌
 ghost use Rattle.std.specs.Char.{IsScalar};
 ghost use Rattle.std.specs.Str.{IsCharBoundary};
 ghost use Rattle.html_lexemes.specs.Queue.{Takes, Eats};
-ghost use Rattle.html_lexemes.specs.QueueParts.{IsRunOutside, Compares};
+ghost use Rattle.html_lexemes.specs.QueueParts.{Compares};
 
+use crate::runs::{count_of, run_outside};
 use std::alloc::{AllocError, Global};
 use std::marker::Model;
 use std::mem;
@@ -46,7 +47,7 @@ impl Model for BufferQueue {
 }
 
 impl BufferQueue {
-    ghost use Rattle.html_lexemes.specs.QueueAnswers.{PopsExcept};
+    ghost use Rattle.html_lexemes.specs.QueueAnswers.{PopsExcept, PopsRun};
 
     /// An empty queue, from which nothing was taken. It takes no memory.
     pub fn new(alloc: Global) -> BufferQueue
@@ -104,7 +105,7 @@ impl BufferQueue {
         let alloc = *self.text.allocator();
         let run = mem::replace(&mut self.text, String::new(alloc));
         self.start = 0;
-        let count = run.as_str().chars().count();
+        let count = count_of(run.as_str());
         self.taken = self.taken.saturating_add(count as u64);
         Some(run)
     }
@@ -163,9 +164,24 @@ impl BufferQueue {
         let run = run_outside(rest, set);
         let run = String::from_str(*self.text.allocator(), run)?;
         self.start += run.len();
-        let count = run.as_str().chars().count();
+        let count = count_of(run.as_str());
         self.taken = self.taken.saturating_add(count as u64);
         Ok(Some(SetResult::NotFromSet(run)))
+    }
+
+    /// Takes a run of characters from the front, none of which is in the set, and adds it behind a text. It may be
+    /// empty. The error is want of memory alone, and leaves the queue and the text as they were.
+    pub fn pop_run_into(&mut self, set: &[char], run: &mut String) -> Result<(), AllocError>
+        ensures ok { OnOk result (PopsRun set.now self.old (string_bytes run.old) self.new (string_bytes run.new)) }
+        ensures err { OnErr result ((self.new ≡ self.old) × (string_bytes run.new ≡ string_bytes run.old)) }
+    {
+        let (_, rest) = self.text.as_str().split_at(self.start);
+        let front = run_outside(rest, set);
+        run.push_str(front)?;
+        self.start += front.len();
+        let count = count_of(front);
+        self.taken = self.taken.saturating_add(count as u64);
+        Ok(())
     }
 
     /// Takes `text` where the queue begins with it, character by character alike as `eq` answers of a
@@ -209,14 +225,6 @@ fn let_go(text: &mut String, start: usize) -> usize
     }
     take_out_front(text, start);
     0
-}
-
-// the longest beginning of a text without a character of a set
-fn run_outside<'t>(text: &'t str, set: &[char]) -> &'t str
-    ensures { IsRunOutside set.now text.now result.now }
-{
-    let (run, _) = text.split_at(text.find(set).unwrap_or(text.len()));
-    run
 }
 
 // Where a comparison of a text with a pattern came to its end.

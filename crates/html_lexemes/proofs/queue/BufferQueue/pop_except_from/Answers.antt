@@ -1,6 +1,4 @@
 use Rattle.std.proofs.Common.{◌≡◌, ◌+◌, ◌<◌, ◌++◌, false, IsTrue, sym, ap, ◌∙◌, refl, subst, drop, chars, string_bytes, length, IsUtf8, slice_get}
-use Rattle.std.proofs.lemmas.Iterator.{YieldsList-from_chars}
-use Rattle.std.proofs.lemmas.Iterator.Consumers.{count_from_yields_List}
 use Rattle.std.proofs.lemmas.Str.{IsUtf8-string_bytes, IsUtf8-drop}
 use Rattle.html_lexemes.specs.Queue.{Queue, is_in, is_free_of}
 use Rattle.html_lexemes.proofs.QueueLemmas.{past_first, past_run, Takes-from, string_length}
@@ -36,9 +34,7 @@ returns-clause-ok c =
     let size : c.len.result ≡ length c.run_outside-run.result.now = c.len.ensures ∙ string_length c.in_ok-run.run' ∙ ap length taken in
     let past = past_run bs c.split_at.result.1.now c.run_outside-run.result.now start c.len.result is_text here c.run_outside-run.ensures.front c.run_outside-run.ensures.boundary size in
     let whole : chars run ++ chars (drop (start + c.len.result) bs) ≡ c.args.self.now.text = ap (λ l. chars l ++ chars (drop (start + c.len.result) bs)) taken ∙ past ∙ text in
-    let count : c.count-count.result ≡ length (chars run) =
-    count_from_yields_List _ _ c.count-count.ensures.ran (YieldsList-from_chars run (IsUtf8-string_bytes c.in_ok-run.run') (c.chars.ensures.rest ∙ c.as_str-2.ensures.value))
-    in (
+    let count = c.count_of-count.ensures ∙ ap (λ l. length (chars l)) c.as_str-2.ensures.value in (
       Takes-from _ _ _ _ _ _ whole (ap (λ (q : Queue). q.taken) c.self.view_is) count c.saturating_add-self-inside-2.ensures,
       subst (λ l. 0 < length (chars l)) (sym taken) (c.run_outside-run.ensures.some c.in-Some.first first outside),
       subst (λ l. IsTrue (is_free_of c.args.set.now (chars l))) (sym taken) c.run_outside-run.ensures.free,

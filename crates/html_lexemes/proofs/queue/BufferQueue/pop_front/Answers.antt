@@ -1,8 +1,6 @@
 use Rattle.std.proofs.Common.{◌≡◌, ◌++◌, [], sym, ap, ◌∙◌, drop, chars, string_bytes, length, append-nil}
 use Rattle.std.proofs.lemmas.Bool.{iff_false}
-use Rattle.std.proofs.lemmas.Iterator.{YieldsList-from_chars}
-use Rattle.std.proofs.lemmas.Iterator.Consumers.{count_from_yields_List}
-use Rattle.std.proofs.lemmas.Str.{IsUtf8-string_bytes, chars-nil}
+use Rattle.std.proofs.lemmas.Str.{chars-nil}
 use Rattle.html_lexemes.specs.Queue.{Queue}
 use Rattle.html_lexemes.proofs.QueueLemmas.{Takes-from, some_left}
 use Rattle.html_lexemes.proofs.queue.BufferQueue.pop_front.Goals as goal
@@ -14,9 +12,7 @@ returns c =
     let text : chars (string_bytes run) ≡ c.args.self.now.text = ap chars bytes ∙ ap (λ (q : Queue). q.text) c.self.view_is in
     let left : chars (string_bytes c.replace-run.new.dest) ≡ [] = ap (λ t. chars (string_bytes t)) c.replace-run.ensures.after ∙ ap chars c.new.ensures.bytes ∙ chars-nil in
     let whole : chars (string_bytes run) ++ chars (string_bytes c.replace-run.new.dest) ≡ c.args.self.now.text = ap (λ l. chars (string_bytes run) ++ l) left ∙ append-nil (chars (string_bytes run)) ∙ text in
-    let count : c.count-count.result ≡ length (chars (string_bytes run)) =
-    count_from_yields_List _ _ c.count-count.ensures.ran (YieldsList-from_chars (string_bytes run) (IsUtf8-string_bytes run) (c.chars.ensures.rest ∙ c.as_str.ensures.value))
-    in (
+    let count = c.count_of-count.ensures ∙ ap (λ l. length (chars l)) c.as_str.ensures.value in (
       Takes-from _ _ _ _ _ _ whole (ap (λ (q : Queue). q.taken) c.self.view_is) count c.saturating_add-self-inside.ensures,
       some_left (chars (string_bytes run)) (λ none. iff_false c.is_empty.ensures c.if-is_empty.false (sym text ∙ none)),
     )
