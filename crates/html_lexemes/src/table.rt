@@ -200,21 +200,35 @@ impl ReferenceTable {
         for c in text.chars() {
             length += c.len_utf8();
             let (front, _) = text.split_at(length);
-            if !self.has_name_beginning(front) {
+            let Some(named) = self.begun(front) else {
                 break;
-            }
-            longest = self.named(front).or(longest);
+            };
+            longest = named.or(longest);
         }
         longest
     }
 
-    // the name that a text is, and what it stands for
-    fn named<'t>(&'t self, name: &'t str) -> Option<NamedReference<'t>>
-        ensures { MatchOption result (finite.get self.now (chars name.now) ≡ None)
-            (λ r. (r.name.now ≡ name.now) × (finite.get self.now (chars name.now) ≡ Some (chars r.value.now))) }
+    // The name that a text is, where some name begins with it: else `None`.
+    fn begun<'t>(&'t self, text: &'t str) -> Option<Option<NamedReference<'t>>>
+        ensures { MatchOption result (HasNameBeginning self.now (chars text.now) → ⊥)
+            (λ named. MatchOption named (finite.get self.now (chars text.now) ≡ None)
+            (λ r. (r.name.now ≡ text.now) × (finite.get self.now (chars text.now) ≡ Some (chars r.value.now)))) }
     {
-        let value = self.value(name)?;
-        Some(NamedReference { name, value })
+        let references = self.references.as_slice();
+        let at = match place_of(references, text) {
+            Ok(found) => {
+                let value = references[found].value.as_str();
+                return Some(Some(NamedReference { name: text, value }));
+            }
+            Err(at) => at,
+        };
+        let Some(reference) = references.get(at) else {
+            return None;
+        };
+        if reference.name.as_str().starts_with(text) {
+            return Some(None);
+        }
+        None
     }
 }
 

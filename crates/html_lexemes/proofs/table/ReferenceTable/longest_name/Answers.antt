@@ -1,4 +1,4 @@
-use Rattle.std.proofs.Common.{◌≡◌, ◌+◌, None, true, false, take, chars, sym, ap, subst, ◌∙◌, arith}
+use Rattle.std.proofs.Common.{◌+◌, None, take, chars, sym, ap, subst, ◌∙◌, arith}
 use Rattle.std.proofs.lemmas.Str.{IsUtf8-nil, chars-nil}
 use Rattle.std.specs.Option.{option_or}
 use Rattle.html_lexemes.specs.Lookup.{HasNameBeginning}
@@ -34,20 +34,17 @@ loop-c-preserved c =
       read = step.read;
       found =
           subst (Longest c.args.self.now (chars (take (c.loop-c.length + c.len_utf8-length.result) c.args.text.now))) (sym c.or-longest.ensures)
-          (subst (λ read. Longest c.args.self.now read (option_or c.named.result c.loop-c.longest)) (sym step.text)
-          (grown_longest c.args.self.now (chars (take c.loop-c.length c.args.text.now)) c.in-Some.c c.named.result c.loop-c.longest
-          (named_text c.args.self.now c.split_at.result.0.now _ c.named.result (ap chars c.split_at.ensures.front ∙ step.text) c.named.ensures) c.loop-c.invariant.found));
+          (subst (λ read. Longest c.args.self.now read (option_or c.in-Some-begun.named c.loop-c.longest)) (sym step.text)
+          (grown_longest c.args.self.now (chars (take c.loop-c.length c.args.text.now)) c.in-Some.c c.in-Some-begun.named c.loop-c.longest
+          (named_text c.args.self.now c.split_at.result.0.now _ c.in-Some-begun.named (ap chars c.split_at.ensures.front ∙ step.text) c.in-Some-begun.ensures) c.loop-c.invariant.found));
       can_next = tt;
       is_finite = tt;
     }
 
-pub returns-then-not-has_name_beginning : goal.returns-then-not-has_name_beginning
-returns-then-not-has_name_beginning c =
+pub returns-in_default : goal.returns-in_default
+returns-in_default c =
     let step = read_on c.args.text.now c.loop-c.c-iterator.rest.now c.next.new.self.rest.now c.loop-c.length c.in-Some.c c.len_utf8-length.result
     c.utf8.text c.loop-c.invariant.fits c.loop-c.invariant.read c.loop-c.invariant.left c.in-Some.ensures.steps.0 c.len_utf8-length.ensures.value in
     stopped_longest c.args.self.now (chars (take c.loop-c.length c.args.text.now)) (chars c.next.new.self.rest.now) (chars c.args.text.now) c.in-Some.c c.loop-c.longest step.whole
-    (λ has.
-    let there : c.has_name_beginning.result ≡ true = c.has_name_beginning.ensures.1 (subst (HasNameBeginning c.args.self.now) (sym (ap chars c.split_at.ensures.front ∙ step.text)) has) in
-    let wrong : true ≡ false = sym there ∙ c.if-not-has_name_beginning.true in
-    cc)
+    (λ has. c.in_default.ensures (subst (HasNameBeginning c.args.self.now) (sym (ap chars c.split_at.ensures.front ∙ step.text)) has))
     c.loop-c.invariant.found
