@@ -1,3 +1,4 @@
+pub mod Attributes
 pub mod Counts
 pub mod Device
 pub mod Json

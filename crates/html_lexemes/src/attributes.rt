@@ -4,20 +4,38 @@ ghost use Rattle.std.specs.Cmp.Lexicographic.{pointwise, lists_per, lists_equiv}
 use crate::names::Attribute;
 use std::alloc::{AllocError, Global};
 use std::marker::Model;
+use std::mem;
+use std::rc::Rc;
 
-/// The attributes of a tag, in their order. Contracts see a list.
-#[derive(Drop)]
+/// The attributes of a tag, in their order. Contracts see a list. Copies of those that are shared take no memory.
 pub struct Attributes {
-    items: Vec<Attribute>,
+    items: Items,
+}
+
+impl Drop for Attributes {
+    // One call wherever attributes are dropped, shared or not.
+    fn drop(self) {
+        let Attributes { items } = self;
+        drop(items);
+    }
+}
+
+#[derive(Drop)]
+enum Items {
+    // of one list alone
+    Owned(Vec<Attribute>),
+    // the first of a vector, at most so many; other lists may have the vector too, which stays as it is
+    Shared(Rc<Vec<Attribute>>, usize),
 }
 
 impl Model for Attributes {
     ghost use Rattle.std.specs.Prelude.{List};
+    ghost use Rattle.html_lexemes.specs.Attributes.{listed};
     ghost use Rattle.html_lexemes.specs.declared.names.Attribute.{Attribute};
 
     ghost Value = { List Attribute };
 
-    ghost view = { λ a. a.items.items };
+    ghost view = { λ a. listed a.items };
 }
 
 impl Attributes {
@@ -26,7 +44,7 @@ impl Attributes {
         ensures { result ≡ [] }
     {
         Attributes {
-            items: Vec::new(alloc),
+            items: Items::Owned(Vec::new(alloc)),
         }
     }
 
@@ -34,15 +52,10 @@ impl Attributes {
     pub fn as_slice(&self) -> &[Attribute]
         ensures { result.now ≡ self.now }
     {
-        self.items.as_slice()
-    }
-
-    /// The attributes as a `Vec`. It takes no memory.
-    pub fn into_vec(self) -> Vec<Attribute>
-        ensures { result.items ≡ self }
-    {
-        let Attributes { items } = self;
-        items
+        match &self.items {
+            Items::Owned(items) => items.as_slice(),
+            Items::Shared(items, count) => first_of(items.as_slice(), *count),
+        }
     }
 
     /// Adds an attribute behind the others. The error is want of memory alone, and leaves the attributes as they
@@ -51,27 +64,83 @@ impl Attributes {
         ensures ok { OnOk result (self.new ≡ self.old ++ attribute ∷ []) }
         ensures err { OnErr result (self.new ≡ self.old) }
     {
-        self.items.push(attribute)?;
-        Ok(())
+        match &mut self.items {
+            Items::Owned(items) => {
+                items.push(attribute)?;
+                Ok(())
+            }
+            Items::Shared(items, count) => {
+                // others see the vector too
+                let mut copy = copied(*items.allocator(), first_of(items.as_slice(), *count))?;
+                copy.push(attribute)?;
+                self.items = Items::Owned(copy);
+                Ok(())
+            }
+        }
     }
 
     /// Keeps the first attributes, at most this many.
     pub fn truncate(&mut self, count: usize)
         ensures { self.new ≡ take count self.old }
     {
-        self.items.truncate(count);
+        match &mut self.items {
+            Items::Owned(items) => items.truncate(count),
+            Items::Shared(_, kept) => *kept = count.min(*kept),
+        }
+    }
+
+    /// Shares the attributes with the copies that are made of them from now on, which then take no memory, and no time in
+    /// step with the list. The error is want of memory alone; without attributes there is none.
+    pub fn share(&mut self) -> Result<(), AllocError>
+        ensures { self.new ≡ self.old }
+    {
+        let Items::Owned(items) = &mut self.items else {
+            return Ok(());
+        };
+        let (alloc, count) = (*items.allocator(), items.len());
+        if count == 0 {
+            return Ok(());
+        }
+        match Rc::new(alloc, mem::replace(items, Vec::new(alloc))) {
+            Ok(shared) => {
+                self.items = Items::Shared(shared, count);
+                Ok(())
+            }
+            Err(refused) => {
+                self.items = Items::Owned(refused.value);
+                Err(AllocError)
+            }
+        }
     }
 
     /// Equal attributes. The error is want of memory alone.
     pub fn try_clone(&self) -> Result<Attributes, AllocError>
         ensures { IfOk result (λ copy. copy ≡ self.now) }
     {
-        let mut items = Vec::with_capacity(*self.items.allocator(), self.items.len())?;
-        for attribute in &self.items {
-            items.push(attribute.try_clone()?)?;
-        }
+        let items = match &self.items {
+            Items::Owned(items) => Items::Owned(copied(*items.allocator(), items.as_slice())?),
+            Items::Shared(items, count) => Items::Shared(items.clone()?, *count),
+        };
         Ok(Attributes { items })
     }
+}
+
+// the first attributes, at most so many
+fn first_of(items: &[Attribute], count: usize) -> &[Attribute]
+    ensures { result.now ≡ take count items.now }
+{
+    &items[..count.min(items.len())]
+}
+
+// equal attributes
+fn copied(alloc: Global, items: &[Attribute]) -> Result<Vec<Attribute>, AllocError>
+    ensures { IfOk result (λ copy. copy.items ≡ items.now) }
+{
+    let mut copy = Vec::with_capacity(alloc, items.len())?;
+    for attribute in items {
+        copy.push(attribute.try_clone()?)?;
+    }
+    Ok(copy)
 }
 
 impl From<Vec<Attribute>> for Attributes {
@@ -79,7 +148,9 @@ impl From<Vec<Attribute>> for Attributes {
 
     /// The attributes of a `Vec`. It takes no memory.
     fn from(items: Vec<Attribute>) -> Attributes {
-        Attributes { items }
+        Attributes {
+            items: Items::Owned(items),
+        }
     }
 }
 
@@ -91,7 +162,7 @@ impl PartialEq for Attributes {
     ghost laws = { lists_per laws-law };
 
     fn eq(&self, other: &Attributes) -> bool {
-        self.items.as_slice() == other.items.as_slice()
+        self.as_slice() == other.as_slice()
     }
 }
 

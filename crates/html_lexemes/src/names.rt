@@ -18,9 +18,16 @@ use std::marker::Model;
 
 /// The local name of an element or an attribute (WHATWG DOM, 1.4). Contracts see the list of its code
 /// points; equality, order and hashing are those of that list.
-#[derive(Drop)]
 pub struct LocalName {
     name: Name,
+}
+
+impl Drop for LocalName {
+    // One call wherever a name is dropped, known or not.
+    fn drop(self) {
+        let LocalName { name } = self;
+        drop(name);
+    }
 }
 
 // A name that is known takes no memory; of another the text is held.

@@ -121,13 +121,29 @@ fn attributes(alloc: Global, pairs: &[(&str, &str)]) -> Result<Attributes, Alloc
     Ok(attributes)
 }
 
-// whether two attributes are a list, as a copy and as a vector
+// whether two attributes are a list, as a copy and of a vector
 fn are_a_list(alloc: Global) -> Result<bool, AllocError> {
     let first = attributes(alloc, &[("x", "1"), ("y", "")])?;
     let copy = first.try_clone()?;
     let is_copy = copy == first && copy.as_slice().len() == 2;
-    let items = copy.into_vec();
-    Ok(is_copy && items.len() == 2 && Attributes::from(items) == first)
+    let mut items = Vec::new(alloc);
+    for attribute in first.as_slice() {
+        items.push(attribute.try_clone()?)?;
+    }
+    Ok(is_copy && Attributes::from(items) == first)
+}
+
+// whether shared attributes stay as they are where a copy of them is changed
+fn are_shared(alloc: Global) -> Result<bool, AllocError> {
+    let mut first = attributes(alloc, &[("x", "1"), ("y", "")])?;
+    first.share()?;
+    let mut copy = first.try_clone()?;
+    let is_copy = copy == first;
+    copy.truncate(1);
+    copy.push(attribute(alloc, "z", "2")?)?;
+    let changed = attributes(alloc, &[("x", "1"), ("z", "2")])?;
+    let kept = attributes(alloc, &[("x", "1"), ("y", "")])?;
+    Ok(is_copy && copy == changed && first == kept)
 }
 
 // a start tag with these attributes
@@ -220,6 +236,7 @@ fn values_are_compared_copied_and_given_back(rt: HostRuntime) {
     told(&rt, is_namespace_behind(alloc), "namespaces");
     told(&rt, are_names_apart(alloc), "names");
     told(&rt, are_a_list(alloc), "a list of attributes");
+    told(&rt, are_shared(alloc), "shared attributes");
     told(&rt, are_tags_apart(alloc), "tags");
     told(&rt, is_doctype_copied(alloc), "a doctype");
     told(&rt, is_text_apart(alloc), "a text and a NUL");
