@@ -1,8 +1,8 @@
 -- A set keeps the names of attributes as more are added.
 use Rattle.std.proofs.Common.{◌≡◌, ℕ, ◌+◌, ◌<◌, Bool, true, false, ◌||◌, if◌then◌else◌, cond, List, [], ◌∷◌, ◌++◌}
-use Rattle.std.proofs.Common.{length, take, slice_index_or, refl, sym, ap, subst, ◌∙◌, append_assoc, append-nil}
+use Rattle.std.proofs.Common.{length, take, drop, slice_index_or, refl, sym, ap, subst, ◌∙◌, append_assoc, append-nil}
 use Rattle.std.proofs.Math.Bool.{or-false}
-use Rattle.std.proofs.lemmas.List.{take_more}
+use Rattle.std.proofs.lemmas.List.{take_more, drop_more}
 use Rattle.std.specs.Cmp.{both_ways}
 use Rattle.std.specs.HashSet.{HashSet, Updates}
 use Rattle.std.specs.List.{list_any}
@@ -97,3 +97,13 @@ pushed_on first more held rest next a old new pushing is named = record {
       (added_more first held a (has_name a.name held) pushing.behind);
   named = named;
 }
+
+-- so for the one at an index
+pub pushed_at : (first more held items next : List Attribute) (i : ℕ) (a : Attribute) (old new : NameSet) →
+    i < length items → a ≡ slice_index_or items i a → IsPushing first more held (drop i items) old →
+    next ≡ (if has_name a.name held then held else held ++ a ∷ []) → HasNames new next →
+    IsPushing first more next (drop (i + 1) items) new
+pushed_at first more held items next i a old new lt at pushing is named =
+    pushed_on first more held (drop (i + 1) items) next a old new
+    (subst (λ rest. IsPushing first more held rest old)
+    (drop_more items i a lt ∙ ap (λ v. v ∷ drop (i + 1) items) (sym at)) pushing) is named

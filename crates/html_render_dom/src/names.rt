@@ -63,21 +63,21 @@ fn push_missing(
     ensures known { IfOk result (λ set. HasNames set.value held.new) }
     ensures err { OnErr result ((some : List SeenAttribute) × (held.new ≡ held.old ++ some)) }
 {
-    for attribute in more.into_vec() {
+    for attribute in more.as_slice() {
         add_one(held, &mut known, attribute)?;
     }
     Ok(known)
 }
 
-// adds an attribute, unless its name is there
+// adds a copy of an attribute, unless its name is there
 fn add_one(
     held: &mut Attributes,
     known: &mut HashSet<QualName>,
-    attribute: Attribute,
+    attribute: &Attribute,
 ) -> Result<(), AllocError>
     requires { HasNames known.old held.old }
     ensures ok { OnOk result (held.new
-        ≡ (if has_name attribute.name held.old then held.old else held.old ++ attribute ∷ [])) }
+        ≡ (if has_name attribute.now.name held.old then held.old else held.old ++ attribute.now ∷ [])) }
     ensures known { OnOk result (HasNames known.new held.new) }
     ensures err { OnErr result (held.new ≡ held.old) }
 {
@@ -86,6 +86,6 @@ fn add_one(
         return Ok(());
     }
     known.insert(attribute.name.try_clone()?)?;
-    held.push(attribute)?;
+    held.push(attribute.try_clone()?)?;
     Ok(())
 }

@@ -1,6 +1,6 @@
-use Rattle.std.specs.Vec.Iter.{into_iter_items}
+use Rattle.std.proofs.Common.{drop}
 use Rattle.html_render_dom.proofs.NamesLemmas.{IsPushing}
 use Rattle.html_render_dom.proofs.names.push_missing.Given as goal
 
 abbrev pub invariant-loop-attribute : goal.invariant-loop-attribute
-invariant-loop-attribute l = IsPushing l.fn.held l.fn.more l.held (into_iter_items l.attribute-iterator) l.known.value
+invariant-loop-attribute l = IsPushing l.fn.held l.fn.more l.held (drop l.attribute-index l.attribute-items) l.known.value
