@@ -8,6 +8,7 @@ pub mod EscapeWordLemmas
 pub mod FirstLemmas
 pub mod GoingOpen
 pub mod HeldLemmas
+pub mod HeldRunLemmas
 pub mod MarkupHeld
 pub mod MarkupOpenEnds
 pub mod OpenLemmas

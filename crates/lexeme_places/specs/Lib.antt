@@ -1,6 +1,7 @@
 pub mod CommentEnds
 pub mod Firsts
 pub mod Goings
+pub mod HeldRuns
 pub mod MarkupSound
 pub mod OpenEnds
 pub mod Openings

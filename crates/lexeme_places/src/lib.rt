@@ -5,6 +5,7 @@ mod comment_turns;
 mod declarations;
 mod doctype_turns;
 mod first;
+mod held_runs;
 mod last;
 pub mod laws;
 mod markup_turns;
@@ -20,6 +21,7 @@ mod tag_turns;
 mod turn;
 
 pub use first::{First, first_of};
+pub use held_runs::held_stops;
 pub use last::lexeme_from;
 pub use markup_turns::markup_turn;
 pub use place::{Place, RawPlace, ReferencePlace, TagPlace};
