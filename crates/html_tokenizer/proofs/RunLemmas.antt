@@ -1,6 +1,7 @@
 -- A run of text is taken as its characters are, one by one.
 use Rattle.std.proofs.Common.{◌≡◌, ◌∙◌, ap, arith, refl, subst, sym, ℕ, ◌+◌, ◌-◌, ◌^◌, ◌<◌, min, suc}
-use Rattle.std.proofs.Common.{Option, Some, None, Bool, true, false, not, IsTrue, ◌==◌, ◌||◌, ◌&&◌, if◌then◌else◌}
+use Rattle.std.proofs.Common.{Option, Some, None, MatchOption}
+use Rattle.std.proofs.Common.{Bool, true, false, not, IsTrue, ◌==◌, ◌||◌, ◌&&◌, if◌then◌else◌}
 use Rattle.std.proofs.Common.{List, [], ◌∷◌, ◌++◌, append_assoc, length}
 use Rattle.std.proofs.lemmas.Bool.{and_from, and_parts}
 use Rattle.std.specs.List.{list_all}
@@ -19,8 +20,9 @@ use Rattle.html_tokenizer.proofs.PauseMarks.{HasTaken}
 use Rattle.html_tokenizer.proofs.ReadsLemmas.{leaves_of, reading_of, run_read, text_character}
 use Rattle.html_tokenizer.specs.Completes.{TakesEach, TakesSome}
 use Rattle.html_tokenizer.specs.Reads.{Leaves}
-use Rattle.html_tokenizer.specs.Runs.{TakesRun}
+use Rattle.html_tokenizer.specs.Runs.{TakesFront, TakesRun}
 use Rattle.html_tokenizer.specs.Stops.{stops}
+use Rattle.lexeme_places.specs.Goings.{IsGoing}
 use Rattle.lexeme_places.specs.Turns.{is_text}
 use Rattle.lexeme_places.specs.declared.place.Place.{Place}
 use Rattle.lexeme_places.specs.declared.place.Place.TheVariants.{Text}
@@ -87,9 +89,35 @@ free_lines text (c ∷ cs) rest h =
     ap (λ b. if b then returned else c ∷ left) (free_one text c parts.0).1
     ∙ ap (λ l. c ∷ l) (free_lines text cs rest parts.1)
 
+-- nor in any text without a CR
+pub lines_behind : (cs rest : List ℕ) → IsTrue (list_all (λ c. not (c == 13)) cs) →
+    lines_ended (cs ++ rest) ≡ cs ++ lines_ended rest
+lines_behind [] rest h = refl
+lines_behind (c ∷ cs) rest h =
+    let parts = and_parts (not (c == 13)) (list_all (λ d. not (d == 13)) cs) h in
+    let left = lines_ended (cs ++ rest) in
+    let returned = if begins_with_line_feed (cs ++ rest) then left else 10 ∷ left in
+    ap (λ b. if b then returned else c ∷ left) (not_so (c == 13) parts.0)
+    ∙ ap (λ l. c ∷ l) (lines_behind cs rest parts.1)
+  where
+    not_so : (b : Bool) → IsTrue (not b) → b ≡ false
+    not_so true e = absurd (let k : false ≡ true = e in cc)
+    not_so false e = refl
+
 -- ---- the text
 
 module _ {A H : Type 0} (table : References) (means : Meaning A H) where
+  -- what is held at a place, which stays, is read as if it stood in what follows
+  pub run_held : (mode now : Mode) (place at : Place) (held more cs left : List ℕ) (s t final : A) → now ≡ mode →
+      at ≡ place → more ≡ held ++ cs → t ≡ s → Leaves table means now at (more ++ left) t final →
+      Leaves table means mode place (held ++ (cs ++ left)) s final
+  run_held mode now place at held more cs left s t final m p e u l =
+      subst (λ x. Leaves table means mode place x s final) (append_assoc held cs left)
+      (subst (λ x. Leaves table means mode place (x ++ left) s final) e
+      (subst (λ x. Leaves table means mode place (more ++ left) x final) u
+      (subst (λ x. Leaves table means mode x (more ++ left) t final) p
+      (subst (λ x. Leaves table means x at (more ++ left) t final) m l))))
+
   -- what is told behind some characters in one piece, and what stands behind them, is read of both
   pub run_taken : (mode : Mode) (place : Place) (held cs rest : List ℕ) (s final : A) →
       ((state : A) (ds es : List ℕ) →
@@ -110,6 +138,15 @@ module _ {A H : Type 0} (table : References) (means : Meaning A H) where
       (reading_of table means mode place held rest (means.step behind (characters cs)) final e h
       (subst (λ x. Leaves table means mode place (held ++ rest) x final) (sym (joins s (c ∷ []) cs)) l)))
 
+-- what is held goes on with it
+pub going_held : (table : References) (mode now : Mode) (place at : Place) (held more cs : List ℕ) → now ≡ mode →
+    at ≡ place → more ≡ held ++ cs → IsGoing table mode.last_start_tag place (held ++ cs) →
+    IsGoing table now.last_start_tag at more
+going_held table mode now place at held more cs m p e h =
+    subst (λ (x : Mode). IsGoing table x.last_start_tag at more) (sym m)
+    (subst (λ x. IsGoing table mode.last_start_tag x more) (sym p)
+    (subst (IsGoing table mode.last_start_tag place) (sym e) h))
+
 -- ---- the queue
 
 counts_one : (t n m : ℕ) → min (min (t + 1) m + n) m ≡ min (t + suc n) m
@@ -128,9 +165,36 @@ each_of old c (d ∷ ds) new t =
     record { text = refl; taken = t.taken ∙ counts_on old.taken c (d ∷ ds) } in
     (next, (first, each_of next d ds new others))
 
-pub each_run : (old : Queue) (cs : List ℕ) (new : Queue) → 0 < length cs → Takes old cs new → TakesEach old cs new
-each_run old [] new h t = absurd (omega (arith, h))
-each_run old (c ∷ cs) new h t = each_of old c cs new t
+-- a run that is empty counts nothing
+counts_none : (t m : ℕ) → min (min (t + 0) m + 1) m ≡ min (t + 1) m
+counts_none t m = omega arith
+
+-- A run that may be empty, and what stands behind it, where the queue is not.
+behind_front : {A : Type 0} (completes now : List ℕ → A → Type 0) (old between new : Queue) (behind : Option ℕ)
+    (cs : List ℕ) → (old.text ≡ [] → ⊥) → Takes old cs between →
+    ((rest : List ℕ) (final : A) → now rest final → completes (cs ++ rest) final) →
+    MatchOption behind ((between.text ≡ []) × (new ≡ between)) (λ c. Takes between (c ∷ []) new) →
+    TakesRun completes now old behind new
+behind_front completes now old between new behind (c ∷ cs) some t reads m =
+    record { between = between; taken = c ∷ cs; takes = each_of old c cs between t; reads = reads; character = m }
+behind_front completes now old between new None [] some t reads m = absurd (some (t.text ∙ m.0))
+behind_front completes now old between new (Some c) [] some t reads m = record {
+  between = old;
+  taken = [];
+  takes = refl;
+  reads = reads;
+  character = record {
+    text = t.text ∙ m.text;
+    taken = m.taken ∙ (ap (λ n. counted n (c ∷ [])) t.taken ∙ counts_none old.taken (2 ^ 64 - 1));
+  };
+}
+
+pub front_run : {A : Type 0} {completes now : List ℕ → A → Type 0} {old between new : Queue} {behind : Option ℕ} →
+    (old.text ≡ [] → ⊥) → TakesFront completes now old between →
+    MatchOption behind ((between.text ≡ []) × (new ≡ between)) (λ c. Takes between (c ∷ []) new) →
+    TakesRun completes now old behind new
+front_run {completes = completes} {now = now} {old = old} {between = between} {new = new} {behind = behind} some f m =
+    behind_front completes now old between new behind f.taken some f.takes f.reads m
 
 -- what was taken stood in front
 each_text : (old : Queue) (cs : List ℕ) (new : Queue) → TakesEach old cs new → old.text ≡ cs ++ new.text

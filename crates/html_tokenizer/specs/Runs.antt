@@ -12,3 +12,10 @@ pub record TakesRun {A : Type 0} (completes now : List ℕ → A → Type 0) (ol
   pub takes : TakesEach old taken between
   pub reads : (rest : List ℕ) (final : A) → now rest final → completes (taken ++ rest) final
   pub character : MatchOption behind ((between.text ≡ []) × (new ≡ between)) (λ c. Takes between (c ∷ []) new)
+
+-- Some characters were taken from the front at once, perhaps none, and what completes the reading behind them completes
+-- it with them before it.
+pub record TakesFront {A : Type 0} (completes now : List ℕ → A → Type 0) (old new : Queue) : Type 0 where
+  pub taken : List ℕ
+  pub takes : Takes old taken new
+  pub reads : (rest : List ℕ) (final : A) → now rest final → completes (taken ++ rest) final

@@ -1,11 +1,15 @@
-ghost use Rattle.std.specs.Prelude.{◌≡◌, [], ◌∷◌, ◌++◌, ℕ, Bool, List, chars, string_bytes, IfOk, IsTrue, IfSome, OnOk, MatchBool, MatchOption, length, ◌==◌, ◌≢◌};
+ghost use Rattle.std.specs.Prelude.{◌≡◌, [], ◌∷◌, ◌++◌, ℕ, Bool, List, chars, string_bytes, length, ◌==◌, ◌≢◌};
+ghost use Rattle.std.specs.Prelude.{IfOk, IsTrue, IfSome, OnOk, Some, MatchBool, MatchOption};
 ghost use Rattle.lexeme_places.specs.declared.place.Place.TheVariants.{CdataSection as SectionPlace, MarkupDeclarationOpen as DeclarationPlace, RawText as RawPlaceOf, Text as TextPlace};
 ghost use Rattle.std.specs.Char.{IsScalar};
+ghost use Rattle.html_lexemes.specs.QueueAnswers.{PopsRun};
+ghost use Rattle.lexeme_places.specs.HeldRuns.{held_stops};
 ghost use Rattle.lexeme_places.specs.Sound.{IsSound};
 ghost use Rattle.lexeme_places.specs.SoundProp.{IsSound-prop};
 
 use html_lexemes::states::RawKind;
-use html_lexemes::{LocalName, ReferenceTable, TagKind};
+use html_lexemes::{BufferQueue, LocalName, ReferenceTable, TagKind};
+use lexeme_places::laws::held_run_goes_on;
 use lexeme_places::{
     Place, RawPlace, RawTurn, SectionTurn, TagPlace, Turn, markup_turn, raw_turn, section_turn,
 };
@@ -161,6 +165,21 @@ impl Pending {
                 Ok(Some(Advance::EndsBefore(last, take_out(&mut self.held))))
             }
         }
+    }
+
+    /// Takes the run in front of a queue, perhaps none, which is held at this place as it is. A refusal changes nothing.
+    pub(crate) fn hold_run(
+        &mut self,
+        stops: &[char],
+        queue: &mut BufferQueue,
+    ) -> Result<(), AllocError>
+        requires { held_stops self.old.place ≡ Some stops.now }
+        ensures place { self.new.place ≡ self.old.place }
+        ensures held { OnOk result (PopsRun stops.now queue.old (string_bytes self.old.held)
+            queue.new (string_bytes self.new.held)) }
+    {
+        held_run_goes_on();
+        queue.pop_run_into(stops, &mut self.held)
     }
 
     /// Takes a further character of the text of an element, some of which is held at this place; `last` is the last start

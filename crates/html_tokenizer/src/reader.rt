@@ -1,5 +1,8 @@
-ghost use Rattle.std.specs.Prelude.{◌≡◌, [], ◌∷◌, ◌++◌, ℕ, Bool, List, chars, string_bytes, IfErr, IfOk, IfSome, IsTrue, OnOk, Ok, None, false, true, fold, map, length, ◌==◌, ◌&&◌, ◌≢◌, if◌then◌else◌};
+ghost use Rattle.std.specs.Prelude.{◌≡◌, ◌≢◌, ◌==◌, ◌&&◌, if◌then◌else◌, ℕ, Bool, false, true, chars, string_bytes};
+ghost use Rattle.std.specs.Prelude.{List, [], ◌∷◌, ◌++◌, fold, map, length};
+ghost use Rattle.std.specs.Prelude.{IfErr, IfOk, IfSome, IsTrue, OnOk, Ok, None, Some};
 ghost use Rattle.std.specs.Char.{IsScalar};
+ghost use Rattle.html_lexemes.specs.QueueAnswers.{PopsRun};
 ghost use Rattle.html_lexemes.specs.References.{References};
 ghost use Rattle.html_lexemes.specs.declared.fault.ParseFault.TheVariants.{Memory};
 ghost use Rattle.html_grammar.specs.Items.{characters, end_of_file, null_character, tag as tag_item};
@@ -9,9 +12,11 @@ ghost use Rattle.html_grammar.specs.Modes.{mode_behind};
 ghost use Rattle.html_grammar.specs.PlainRead.{items_of};
 ghost use Rattle.html_grammar.specs.Reading.{IsClosed, Reading};
 ghost use Rattle.html_grammar.specs.Tags.{greater};
+ghost use Rattle.lexeme_places.specs.HeldRuns.{held_stops};
 ghost use Rattle.lexeme_places.specs.Places.{place_lexeme};
 ghost use Rattle.html_grammar.specs.declared.modes.TextKind.TheVariants.{Plain as PlainText};
 ghost use Rattle.lexeme_places.specs.PlaceKinds.{IsPlaceOf, IsWithinMarkup, is_of_text, is_open};
+ghost use Rattle.html_tokenizer.specs.Stops.{stops};
 ghost use Rattle.html_tokenizer.specs.Tells.{IsPauseOf};
 ghost use Rattle.lexeme_places.specs.declared.place.Place.{Place as SeenPlace};
 ghost use Rattle.lexeme_places.specs.declared.place.Place.TheVariants.{CdataSection as SectionPlace, MarkupDeclarationOpen as DeclarationPlace, Text as TextPlace};
@@ -21,11 +26,12 @@ use crate::errors::{
     MarkupStart, find_errors, find_errors_before, looks_at_text, may_follow_error, state_of,
 };
 use crate::pending::{Advance, Pending, RawAdvance};
+use crate::runs::stops_of;
 use html_grammar::lexemes::Lexeme;
 use html_grammar::plain::{last_behind, tell_lexemes, tell_tokens, text_behind};
 use html_grammar::{Mode, TextKind, TokenSink};
 use html_lexemes::states::State;
-use html_lexemes::{ParseFault, ReferenceTable, Tag, Text, Token, TokenSinkResult};
+use html_lexemes::{BufferQueue, ParseFault, ReferenceTable, Tag, Text, Token, TokenSinkResult};
 use lexeme_places::laws::{place_of_a_kind, tag_ends_with_its_mark};
 use lexeme_places::{First, Place, SectionTurn, first_of, lexeme_from};
 use parse_errors::ParseErrors;
@@ -224,15 +230,35 @@ impl Reader {
         self.pending.is_text() && self.errors.is_empty() && !looks_at_text(&self.errors)
     }
 
-    /// Takes a run of characters on one line, each of which is text by itself.
-    pub(crate) fn take_run(&mut self, text: &str) -> Result<(), ParseFault>
+    /// Takes the run of text in front of a queue, perhaps none, each character of which is text by itself.
+    pub(crate) fn take_run(&mut self, queue: &mut BufferQueue) -> Result<(), ParseFault>
         ensures memory { IfErr result (λ e. e ≡ Memory) }
-        ensures run { OnOk result (string_bytes self.new.run ≡ string_bytes self.old.run ++ text.now) }
+        ensures run { OnOk result (PopsRun (stops self.old.mode.text) queue.old (string_bytes self.old.run)
+            queue.new (string_bytes self.new.run)) }
         ensures mode { self.new.mode ≡ self.old.mode }
         ensures pending { self.new.pending ≡ self.old.pending }
     {
         self.line = self.next_line;
-        self.run.push_str(text)?;
+        queue.pop_run_into(stops_of(self.mode.text), &mut self.run)?;
+        Ok(())
+    }
+
+    /// Takes the run in front of a queue, perhaps none, which is held where it stands as it is.
+    pub(crate) fn hold_run(
+        &mut self,
+        stops: &[char],
+        queue: &mut BufferQueue,
+    ) -> Result<(), ParseFault>
+        requires { held_stops self.old.pending.place ≡ Some stops.now }
+        ensures memory { IfErr result (λ e. e ≡ Memory) }
+        ensures held { OnOk result (PopsRun stops.now queue.old (string_bytes self.old.pending.held)
+            queue.new (string_bytes self.new.pending.held)) }
+        ensures place { self.new.pending.place ≡ self.old.pending.place }
+        ensures mode { self.new.mode ≡ self.old.mode }
+        ensures run { self.new.run ≡ self.old.run }
+    {
+        self.line = self.next_line;
+        self.pending.hold_run(stops, queue)?;
         Ok(())
     }
 

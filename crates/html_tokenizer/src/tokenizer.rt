@@ -1,6 +1,6 @@
-ghost use Rattle.std.specs.Prelude.{◌≡◌, ◌++◌, ◌∷◌, ℕ, List, [], IfErr, IfOk, IfSome, OnOk, true, false, length, ◌<◌, Ok, Err, is_err, chars, IsTrue};
+ghost use Rattle.std.specs.Prelude.{◌≡◌, ◌++◌, ◌∷◌, ℕ, List, [], true, false, length, ◌<◌, Ok, Err, is_err};
+ghost use Rattle.std.specs.Prelude.{IfErr, IfOk, IfSome, OnOk, Some};
 ghost use Rattle.std.specs.Char.{IsScalar};
-ghost use Rattle.html_lexemes.specs.Queue.{is_free_of};
 ghost use Rattle.html_lexemes.specs.declared.fault.ParseFault.TheVariants.{Failed, Memory};
 ghost use Rattle.html_grammar.specs.FirstMode.{first_mode};
 ghost use Rattle.html_grammar.specs.Kinds.{IsReadyFor};
@@ -13,16 +13,17 @@ ghost use Rattle.html_tokenizer.specs.GoingProp.{HoldsUnless-prop};
 ghost use Rattle.html_tokenizer.specs.Holdings.{Holds, HoldsUnless};
 ghost use Rattle.html_tokenizer.specs.Tells.{Asks};
 ghost use Rattle.html_tokenizer.specs.declared.line_ends.LineEnds.TheVariants.{Within as WithinText};
+ghost use Rattle.lexeme_places.specs.HeldRuns.{held_stops};
 ghost use Rattle.lexeme_places.specs.declared.place.Place.TheVariants.{Text as TextPlace};
 
 use crate::line_ends::LineEnds;
 use crate::reader::{Pause, Reader};
 use crate::results::{TokenizerResult, result_of};
-use crate::runs::stops_of;
 use html_grammar::plain::text_of_state;
 use html_grammar::{Mode, TokenSink, TokenizerOpts};
-use html_lexemes::{BufferQueue, ParseFault, ReferenceTable, SetResult};
-use lexeme_places::laws::going_is_no_lexeme;
+use html_lexemes::{BufferQueue, ParseFault, ReferenceTable};
+use lexeme_places::held_stops;
+use lexeme_places::laws::{going_is_no_lexeme, held_run_goes_on};
 use std::alloc::Global;
 
 /// Reads the text of a page, in any pieces, and tells its tokens to a sink (WHATWG HTML, 13.2.5). What it tells is what
@@ -43,8 +44,7 @@ pub struct Tokenizer<Sink> {
 impl<Sink: TokenSink> Tokenizer<Sink> {
     ghost use Rattle.html_tokenizer.specs.Completes.{Answers, Completes, HasTold, IsEmptied, IsFit, IsUndecided, PausesBehind, TakesSome, has_failed, is_text_state, last_start_tag_of, nothing_pending, plain_mode, table_of, text_left};
     ghost use Rattle.html_tokenizer.specs.Inside as inside;
-    ghost use Rattle.html_tokenizer.specs.Runs.{TakesRun};
-    ghost use Rattle.html_tokenizer.specs.Stops.{stops};
+    ghost use Rattle.html_tokenizer.specs.Runs.{TakesFront, TakesRun};
 
     /// Before the first character of a page. The sink is in the state in which the page is to be told to it, and ready
     /// for the kind of text in which the page begins.
@@ -179,8 +179,8 @@ impl<Sink: TokenSink> Tokenizer<Sink> {
         Ok(TokenizerResult::Done)
     }
 
-    // Reads the run of text that stands in front, where one does, and takes the character behind it, which is to be read
-    // by itself.
+    // Reads the run that stands in front, of text or of what is held of a lexeme, where one does, and takes the character
+    // behind it, which is to be read by itself.
     fn next_behind_run(&mut self, queue: &mut BufferQueue) -> Result<Option<char>, ParseFault>
         requires fit { IsFitReader Sink.ready Sink.welcomes self.old.reader (Sink.state self.old.sink) }
         requires over { self.old.is_over ≡ true }
@@ -195,24 +195,29 @@ impl<Sink: TokenSink> Tokenizer<Sink> {
         ensures takes { IfOk result (λ c. TakesRun (inside.Completes Sink.state Sink.means self.old)
             (inside.Completes Sink.state Sink.means self.new) queue.old c queue.new) }
     {
-        if !self.reader.takes_runs() || !self.line_ends.is_within() {
+        if queue.is_empty() {
+            return Ok(None);
+        }
+        if !self.line_ends.is_within() {
             return Ok(queue.next());
         }
-        match queue.pop_except_from(stops_of(self.reader.mode.text))? {
-            None => Ok(None),
-            Some(SetResult::FromSet(c)) => Ok(Some(c)),
-            Some(SetResult::NotFromSet(run)) => {
-                self.take_run(run.as_str())?;
+        match held_stops(self.reader.pending.place()) {
+            Some(stops) => {
+                self.hold_run(stops, queue)?;
                 Ok(queue.next())
             }
+            None if self.reader.takes_runs() => {
+                self.take_run(queue)?;
+                Ok(queue.next())
+            }
+            None => Ok(queue.next()),
         }
     }
 
-    // takes further characters of the page, each of which is text by itself
-    fn take_run(&mut self, text: &str) -> Result<(), ParseFault>
+    // takes the characters in front, perhaps none, each of which is text by itself
+    fn take_run(&mut self, queue: &mut BufferQueue) -> Result<(), ParseFault>
         requires ends { self.old.line_ends ≡ WithinText }
         requires place { self.old.reader.pending.place ≡ TextPlace }
-        requires free { IsTrue (is_free_of (stops self.old.reader.mode.text) (chars text.now)) }
         requires over { self.old.is_over ≡ true }
         ensures memory { IfErr result (λ e. e ≡ Memory) }
         ensures over { self.new.is_over ≡ true }
@@ -220,11 +225,31 @@ impl<Sink: TokenSink> Tokenizer<Sink> {
         ensures sink { self.new.sink ≡ self.old.sink }
         ensures mode { self.new.reader.mode ≡ self.old.reader.mode }
         ensures pending { self.new.reader.pending ≡ self.old.reader.pending }
-        ensures reads { OnOk result ((rest : List ℕ) (final : Sink.Abstract) →
-            inside.Completes Sink.state Sink.means self.new rest final →
-            inside.Completes Sink.state Sink.means self.old (chars text.now ++ rest) final) }
+        ensures takes { OnOk result (TakesFront (inside.Completes Sink.state Sink.means self.old)
+            (inside.Completes Sink.state Sink.means self.new) queue.old queue.new) }
     {
-        self.reader.take_run(text)?;
+        self.reader.take_run(queue)?;
+        Ok(())
+    }
+
+    // takes the characters in front, perhaps none, that are held of the lexeme as they are
+    fn hold_run(&mut self, stops: &[char], queue: &mut BufferQueue) -> Result<(), ParseFault>
+        requires ends { self.old.line_ends ≡ WithinText }
+        requires stops { held_stops self.old.reader.pending.place ≡ Some stops.now }
+        requires over { self.old.is_over ≡ true }
+        requires holds { Holds self.old.table self.old.reader }
+        ensures memory { IfErr result (λ e. e ≡ Memory) }
+        ensures over { self.new.is_over ≡ true }
+        ensures table { self.new.table ≡ self.old.table }
+        ensures sink { self.new.sink ≡ self.old.sink }
+        ensures mode { self.new.reader.mode ≡ self.old.reader.mode }
+        ensures place { self.new.reader.pending.place ≡ self.old.reader.pending.place }
+        ensures holds { OnOk result (Holds self.new.table self.new.reader) }
+        ensures takes { OnOk result (TakesFront (inside.Completes Sink.state Sink.means self.old)
+            (inside.Completes Sink.state Sink.means self.new) queue.old queue.new) }
+    {
+        held_run_goes_on();
+        self.reader.hold_run(stops, queue)?;
         Ok(())
     }
 

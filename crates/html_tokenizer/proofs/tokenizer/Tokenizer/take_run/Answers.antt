@@ -1,5 +1,4 @@
 use Rattle.std.proofs.Common.{◌≡◌, ◌++◌, ap, sym, ◌∙◌, subst, string_bytes}
-use Rattle.std.proofs.lemmas.Str.{IsUtf8-string_bytes, chars-append}
 use Rattle.std.specs.Str.{chars}
 use Rattle.html_grammar.specs.Items.{characters}
 use Rattle.html_tokenizer.proofs.ReadsLemmas.{held_none, leaves_same}
@@ -8,8 +7,8 @@ use Rattle.html_tokenizer.specs.PageRest.{page_rest}
 use Rattle.html_tokenizer.specs.Reads.{Leaves}
 use Rattle.html_tokenizer.proofs.tokenizer.Tokenizer.take_run.Goals as goal
 
-pub returns-clause-reads : goal.returns-clause-reads
-returns-clause-reads g c = λ rest final l.
+pub returns-clause-takes : goal.returns-clause-takes
+returns-clause-takes g c =
     let means = g.Sink.TokenSink.means in
     let joins = g.met.Sink.TokenSink.lawful.joins in
     let state = g.Sink.TokenSink.state c.args.self.now.sink in
@@ -19,20 +18,23 @@ returns-clause-reads g c = λ rest final l.
     let run = chars (string_bytes r.run) in
     let held = chars (string_bytes r.pending.held) in
     let place = r.pending.place in
-    let cs = chars c.args.text.now in
-    let left = page_rest c.args.self.now.line_ends rest in
-    let pushed : chars (string_bytes now.run) ≡ run ++ cs =
-    ap chars c.in_ok-take_run.ensures.run
-    ∙ chars-append (string_bytes r.run) c.args.text.now (IsUtf8-string_bytes r.run) in
+    let pops = c.in_ok-take_run.ensures.run in
+    let cs = pops.cs in
     let behind_run = means.step (means.step state (characters run)) (characters cs) in
-    let told = ap (λ x. means.step state (characters x)) pushed ∙ sym (joins state run cs) in
-    let same : page_rest c.args.self.now.line_ends (cs ++ rest) ≡ cs ++ left =
-    subst (λ ends. page_rest ends (cs ++ rest) ≡ cs ++ page_rest ends rest) (sym c.requires.ends)
-    (free_lines r.mode.text cs rest c.requires.free) in
-    subst (λ x. Leaves table means r.mode place (held ++ x) (means.step state (characters run)) final) (sym same)
-    (run_taken table means r.mode place held cs left (means.step state (characters run)) final
-    joins g.met.Sink.TokenSink.lawful.skips
-    c.requires.place (held_none r.pending c.requires.place) (free_text r.mode.text cs c.requires.free)
-    (leaves_same table means r.mode now.mode r.pending now.pending left behind_run
-    (means.step state (characters (chars (string_bytes now.run)))) final
-    c.take_run.ensures.mode c.take_run.ensures.pending told l))
+    let told = ap (λ x. means.step state (characters x)) pops.appended ∙ sym (joins state run cs) in
+    record {
+      taken = cs;
+      takes = pops.takes;
+      reads = λ rest final l.
+          let left = page_rest c.args.self.now.line_ends rest in
+          let same : page_rest c.args.self.now.line_ends (cs ++ rest) ≡ cs ++ left =
+          subst (λ ends. page_rest ends (cs ++ rest) ≡ cs ++ page_rest ends rest) (sym c.requires.ends)
+          (free_lines r.mode.text cs rest pops.free) in
+          subst (λ x. Leaves table means r.mode place (held ++ x) (means.step state (characters run)) final) (sym same)
+          (run_taken table means r.mode place held cs left (means.step state (characters run)) final
+          joins g.met.Sink.TokenSink.lawful.skips
+          c.requires.place (held_none r.pending c.requires.place) (free_text r.mode.text cs pops.free)
+          (leaves_same table means r.mode now.mode r.pending now.pending left behind_run
+          (means.step state (characters (chars (string_bytes now.run)))) final
+          c.take_run.ensures.mode c.take_run.ensures.pending told l));
+    }
