@@ -167,7 +167,7 @@ impl Pending {
         }
     }
 
-    /// Takes the run in front of a queue, perhaps none, which is held at this place as it is. A refusal changes nothing.
+    /// Takes the run in front of a queue, perhaps none, that is held at this place as it is. A refusal changes nothing.
     pub(crate) fn hold_run(
         &mut self,
         stops: &[char],

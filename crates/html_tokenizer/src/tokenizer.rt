@@ -179,8 +179,8 @@ impl<Sink: TokenSink> Tokenizer<Sink> {
         Ok(TokenizerResult::Done)
     }
 
-    // Reads the run that stands in front, of text or of what is held of a lexeme, where one does, and takes the character
-    // behind it, which is to be read by itself.
+    // Reads the run that stands in front, of text or of what is held of a lexeme, where one does, and takes the
+    // character behind it, which is to be read by itself.
     fn next_behind_run(&mut self, queue: &mut BufferQueue) -> Result<Option<char>, ParseFault>
         requires fit { IsFitReader Sink.ready Sink.welcomes self.old.reader (Sink.state self.old.sink) }
         requires over { self.old.is_over ≡ true }
