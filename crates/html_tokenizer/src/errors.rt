@@ -6,6 +6,7 @@ ghost use Rattle.html_tokenizer.specs.Tells.{IsFirstAfterError};
 ghost use Rattle.parse_errors.specs.Found.{heeds};
 
 use html_grammar::TextKind;
+use html_grammar::lexemes::Lexeme;
 use html_grammar::slices::first_and_rest;
 use html_lexemes::states::State;
 use html_lexemes::{ReferenceTable, Token};
@@ -14,23 +15,32 @@ use parse_errors::ParseErrors;
 use std::alloc::AllocError;
 
 /// Finds the parse errors in a lexeme that is over: in what was held at its place. `line` is that on which a reference stands.
-/// What the grammar tells as an item, a `</>` and a reference without its semicolon, is not among them. The error is want of
-/// memory alone.
+/// What the grammar tells as an item, a `</>` and a reference without its semicolon, is not among them. Where `may_repeat` is
+/// false no two attributes of a tag have one name. The error is want of memory alone.
 pub(crate) fn find_errors(
     errors: &mut ParseErrors,
     table: &ReferenceTable,
     start: MarkupStart,
     place: Place,
     held: &str,
+    may_repeat: bool,
     line: u64,
 ) -> Result<(), AllocError> {
     match place {
         Place::CharacterReference(_) => errors.in_reference(table, held, line),
-        Place::Tag(kind, _) => errors.in_tag(table, kind, held, start.line),
+        Place::Tag(kind, _) => errors.in_tag(table, kind, held, may_repeat, start.line),
         Place::BogusComment => errors.in_bogus_comment(start.state, held, start.line),
         Place::Comment => errors.in_comment(held, start.line),
         Place::Doctype => errors.in_doctype(held, start.line),
         _ => Ok(()),
+    }
+}
+
+/// Whether two attributes of a lexeme that is a tag have one name.
+pub(crate) fn may_repeat(lexeme: &Lexeme<'_>) -> bool {
+    match lexeme {
+        Lexeme::Tagged(tag, _) => tag.had_duplicate_attributes,
+        _ => true,
     }
 }
 
@@ -63,7 +73,8 @@ pub(crate) fn find_last_errors(
         Place::MarkupDeclarationOpen => {
             errors.in_bogus_comment(State::MarkupDeclarationOpen, held, line)
         }
-        _ => find_errors(errors, table, start, place, held, line),
+        // what is cut off is no token that says whether its attributes repeat a name
+        _ => find_errors(errors, table, start, place, held, true, line),
     }
 }
 

@@ -23,7 +23,8 @@ ghost use Rattle.lexeme_places.specs.declared.place.Place.TheVariants.{CdataSect
 ghost use Rattle.parse_errors.specs.Found.{found_of, heeds};
 
 use crate::errors::{
-    MarkupStart, find_errors, find_errors_before, looks_at_text, may_follow_error, state_of,
+    MarkupStart, find_errors, find_errors_before, looks_at_text, may_follow_error, may_repeat,
+    state_of,
 };
 use crate::pending::{Advance, Pending, RawAdvance};
 use crate::runs::stops_of;
@@ -585,11 +586,21 @@ impl Reader {
     {
         place_of_a_kind();
         self.tell_run(sink)?;
-        let errors = &mut self.errors;
-        find_errors(errors, table, self.start, place, held.as_str(), self.line)?;
         let foreign = sink.adjusted_current_node_present_but_not_in_html_namespace();
         let alloc = *self.run.allocator();
-        match lexeme_from(alloc, table, foreign, &self.mode, place, held.as_str())? {
+        let lexeme = lexeme_from(alloc, table, foreign, &self.mode, place, held.as_str())?;
+        let repeats = may_repeat(&lexeme);
+        let errors = &mut self.errors;
+        find_errors(
+            errors,
+            table,
+            self.start,
+            place,
+            held.as_str(),
+            repeats,
+            self.line,
+        )?;
+        match lexeme {
             Lexeme::Nothing => Ok(None),
             Lexeme::Told(tokens, text, left) => {
                 self.tell_items(sink, tokens)?;

@@ -37,8 +37,8 @@ fn find(
     text: &str,
 ) -> Result<(), AllocError> {
     match lexeme {
-        Lexeme::StartTag => errors.in_tag(table, TagKind::StartTag, text, 1),
-        Lexeme::EndTag => errors.in_tag(table, TagKind::EndTag, text, 1),
+        Lexeme::StartTag => errors.in_tag(table, TagKind::StartTag, text, true, 1),
+        Lexeme::EndTag => errors.in_tag(table, TagKind::EndTag, text, true, 1),
         Lexeme::Comment => errors.in_comment(text, 1),
         Lexeme::Bogus => errors.in_bogus_comment(State::EndTagOpen, text, 1),
         Lexeme::Doctype => errors.in_doctype(text, 1),

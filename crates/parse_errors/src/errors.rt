@@ -74,6 +74,11 @@ impl ParseErrors {
         *self.found.allocator()
     }
 
+    // Whether some characters are told wherever they stand.
+    pub(crate) fn tells_characters(&self) -> bool {
+        self.exact
+    }
+
     // Whether a character is told wherever it stands.
     pub(crate) fn tells_character(&self, c: char) -> bool
         ensures { result ≡ (is_exact self.now && is_noncharacter c) }

@@ -11,6 +11,7 @@ mod errors;
 mod names;
 mod number;
 mod opening;
+mod plain_parts;
 mod reference;
 mod tag;
 mod text;

@@ -3,9 +3,12 @@ use std::alloc::{AllocError, Global};
 use std::collections::BTreeSet;
 use std::mem;
 
-/// The names of a tag's attributes, as far as they are read.
+/// The names of a tag's attributes, as far as they are read and may come twice.
 #[derive(Drop)]
 pub(crate) struct AttributeNames {
+    may_repeat: bool,
+    // there is an attribute
+    is_some: bool,
     // of those that are finished, each once
     finished: BTreeSet<Text>,
     // of the one that is read; empty before the first
@@ -13,20 +16,32 @@ pub(crate) struct AttributeNames {
 }
 
 impl AttributeNames {
-    pub(crate) fn new(alloc: Global) -> AttributeNames {
+    /// Before the first. Where none comes twice, none is kept.
+    pub(crate) fn new(alloc: Global, may_repeat: bool) -> AttributeNames {
         AttributeNames {
+            may_repeat,
+            is_some: false,
             finished: BTreeSet::new(alloc),
             name: String::new(alloc),
         }
     }
 
-    /// Whether no attribute is finished.
+    /// Whether there is no attribute.
     pub(crate) fn is_empty(&self) -> bool {
-        self.finished.is_empty()
+        !self.is_some
+    }
+
+    /// Passes over whole attributes, none of which has the name of another.
+    pub(crate) fn pass(&mut self) {
+        self.is_some = true;
     }
 
     /// Goes on with a name.
     pub(crate) fn push(&mut self, c: char) -> Result<(), AllocError> {
+        self.is_some = true;
+        if !self.may_repeat {
+            return Ok(());
+        }
         let character = if c == '\0' {
             '\u{fffd}'
         } else {

@@ -4,78 +4,102 @@ ghost use Rattle.parse_errors.specs.Found.{GoesOn, is_watching};
 use crate::ParseErrors;
 use crate::characters::{is_space, line_behind, state_at_end};
 use crate::names::AttributeNames;
+use crate::plain_parts::{Passing, behind_attribute, behind_run, first_and_rest};
 use html_lexemes::states::{AttrValueKind, State};
 use html_lexemes::{ReferenceTable, TagKind};
 use std::alloc::AllocError;
 
 impl ParseErrors {
-    /// Finds the errors of a tag: the text from its name on, up to and with its `>`, or up to the end of the page. The error
-    /// is want of memory alone.
+    /// Finds the errors of a tag: the text from its name on, up to and with its `>`, or up to the end of the page. Where
+    /// `may_repeat` is false no two of its attributes have one name. The error is want of memory alone.
     #[tactic(auto, using(crate::proofs::GoesOnLemmas::goes_on_twice))]
     pub fn in_tag(
         &mut self,
         table: &ReferenceTable,
         kind: TagKind,
         text: &str,
+        may_repeat: bool,
         mut line: u64,
     ) -> Result<(), AllocError>
         ensures found { GoesOn self.old self.new }
         ensures unwatched { OnOk result (is_watching self.new ≡ false) }
     {
         self.leave_name();
-        let mut names = AttributeNames::new(self.alloc());
+        let passing = self.passing(may_repeat);
+        let mut names = AttributeNames::new(self.alloc(), may_repeat);
         let mut state = State::TagName;
-        let mut behind_c = 0usize;
-        'characters: for c in text.chars() {
-            let at = behind_c;
-            behind_c = end_of(at, c);
-            if self.is_plain_in_tag(state, c) {
+        let mut rest = text;
+        'characters: loop {
+            let here = behind_run(passing, state, rest);
+            if let Some(behind) = behind_attribute(passing, state, here) {
+                names.pass();
+                state = State::AfterAttributeValueQuoted;
+                rest = behind;
                 continue;
             }
-            if matches!(state, State::AttributeName) && c.is_ascii_alphanumeric() {
-                names.push(c)?;
-                continue;
-            }
+            let Some((c, behind)) = first_and_rest(here) else {
+                return self.saw_end(state_at_end(state), line);
+            };
+            rest = behind;
             line = line_behind(line, c);
-            let reading = self.read(state, c, line)?;
-            if c == '&' && matches!(reading, State::AttributeValue(_)) {
-                self.in_value(table, text.get(at..).unwrap_or(""), line)?;
-            }
+            let reading = self.read_in_tag(table, state, c, here, line)?;
             let Some(next) = tag_state(reading, c) else {
                 let is_self_closing = matches!(reading, State::SelfClosingStartTag);
                 return self.at_tag_end(kind, &mut names, is_self_closing, line);
             };
-            if matches!(next, State::AttributeName) {
-                self.in_attribute_name(&mut names, reading, c, line)?;
-            }
+            self.in_attribute_name(&mut names, reading, next, c, line)?;
             state = next;
         }
-        self.saw_end(state_at_end(state), line)
     }
 
-    // Whether a character within a tag's name or a value is no error, and begins and ends nothing.
-    fn is_plain_in_tag(&self, state: State, c: char) -> bool {
-        match state {
-            State::TagName | State::AttributeValue(AttrValueKind::Unquoted) =>
-                c.is_ascii_alphanumeric(),
-            State::AttributeValue(_) => {
-                !matches!(c, '\0' | '\n' | '"' | '\'' | '&') && !self.tells_character(c)
-            }
-            _ => false,
+    // What of a tag is passed over. Every character may be an error where the wording is exact.
+    fn passing(&self, may_repeat: bool) -> Passing {
+        if self.tells_characters() {
+            Passing::Nothing
+        } else if may_repeat {
+            Passing::AllButNames
+        } else {
+            Passing::All
         }
     }
 
-    // Takes a character of an attribute's name that is read in a state; in all but one it is the first.
+    // Takes a character in a state; answers the state that reads it. `here` is the text from the character on.
+    #[tactic(auto, using(crate::proofs::GoesOnLemmas::goes_on_twice))]
+    fn read_in_tag(
+        &mut self,
+        table: &ReferenceTable,
+        state: State,
+        c: char,
+        here: &str,
+        line: u64,
+    ) -> Result<State, AllocError>
+        ensures found { GoesOn self.old self.new }
+        ensures unwatched { OnOk result (is_watching self.old ≡ false → is_watching self.new ≡ false) }
+    {
+        let reading = self.read(state, c, line)?;
+        if c == '&' && matches!(reading, State::AttributeValue(_)) {
+            self.in_value(table, here, line)?;
+            return Ok(reading);
+        }
+        Ok(reading)
+    }
+
+    // Takes a character that is read in a state, if it is of an attribute's name, as the next state says; in all states but
+    // one it is the first.
     fn in_attribute_name(
         &mut self,
         names: &mut AttributeNames,
         state: State,
+        next: State,
         c: char,
         line: u64,
     ) -> Result<(), AllocError>
         ensures found { GoesOn self.old self.new }
         ensures watched { is_watching self.new ≡ is_watching self.old }
     {
+        if !matches!(next, State::AttributeName) {
+            return Ok(());
+        }
         if !matches!(state, State::AttributeName) {
             self.finish_attribute(names, line)?;
         }
@@ -157,9 +181,4 @@ fn value_state(kind: AttrValueKind, c: char) -> Option<State> {
         AttrValueKind::DoubleQuoted if c == '"' => Some(State::AfterAttributeValueQuoted),
         _ => Some(State::AttributeValue(kind)),
     }
-}
-
-// where a character ends that begins at a byte
-fn end_of(at: usize, c: char) -> usize {
-    at.saturating_add(c.len_utf8())
 }

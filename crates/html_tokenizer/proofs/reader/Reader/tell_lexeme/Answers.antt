@@ -20,8 +20,8 @@ returns-in-Nothing-clause-reads g c = λ follow rest final over l.
     let r = c.args.self.now in
     let m = c.tell_run.new.self.mode in
     let s = g.S.TokenSink.means.step (g.S.TokenSink.state c.args.sink.now) (characters (chars (string_bytes r.run))) in
-    let e = found_from c.args.table.now c.adjusted_current_node_present_but_not_in_html_namespace-foreign.result (g.S.TokenSink.means.foreign s) r.mode m c.args.place (chars c.as_str-2.result.now) (chars (string_bytes c.args.held)) (lexeme_of m c.in_ok-lexeme_from.field-0) nothing
-    (c.adjusted_current_node_present_but_not_in_html_namespace-foreign.ensures ∙ ap g.S.TokenSink.means.foreign c.in_ok-tell_run.ensures.told) c.tell_run.ensures.mode (ap chars c.as_str-2.ensures.value) c.in_ok-lexeme_from.ensures.value (ap (lexeme_of m) c.in-Nothing.is) in
+    let e = found_from c.args.table.now c.adjusted_current_node_present_but_not_in_html_namespace-foreign.result (g.S.TokenSink.means.foreign s) r.mode m c.args.place (chars c.as_str.result.now) (chars (string_bytes c.args.held)) (lexeme_of m c.in_ok-lexeme.lexeme) nothing
+    (c.adjusted_current_node_present_but_not_in_html_namespace-foreign.ensures ∙ ap g.S.TokenSink.means.foreign c.in_ok-tell_run.ensures.told) c.tell_run.ensures.mode (ap chars c.as_str.ensures.value) c.in_ok-lexeme.ensures.value (ap (lexeme_of m) c.in-Nothing.is) in
     absurd (never_nothing c.args.table.now g.S.TokenSink.means r.mode c.args.place (chars (string_bytes c.args.held)) follow (g.S.TokenSink.means.foreign s) over e)
 
 pub tell_items-requires-clause-within : goal.tell_items-requires-clause-within
@@ -32,8 +32,8 @@ tell_items-requires-clause-within g c =
     let items = items_of c.in-Told.tokens.items in
     let behind : Mode = record m { text = c.in-Told.text } in
     let left = chars c.in-Told.left.now in
-    let e = found_from c.args.table.now c.adjusted_current_node_present_but_not_in_html_namespace-foreign.result (g.S.TokenSink.means.foreign s) r.mode m c.args.place (chars c.as_str-2.result.now) (chars (string_bytes c.args.held)) (lexeme_of m c.in_ok-lexeme_from.field-0) (told items behind left)
-    (c.adjusted_current_node_present_but_not_in_html_namespace-foreign.ensures ∙ ap g.S.TokenSink.means.foreign c.in_ok-tell_run.ensures.told) c.tell_run.ensures.mode (ap chars c.as_str-2.ensures.value) c.in_ok-lexeme_from.ensures.value (ap (lexeme_of m) c.in-Told.is) in
+    let e = found_from c.args.table.now c.adjusted_current_node_present_but_not_in_html_namespace-foreign.result (g.S.TokenSink.means.foreign s) r.mode m c.args.place (chars c.as_str.result.now) (chars (string_bytes c.args.held)) (lexeme_of m c.in_ok-lexeme.lexeme) (told items behind left)
+    (c.adjusted_current_node_present_but_not_in_html_namespace-foreign.ensures ∙ ap g.S.TokenSink.means.foreign c.in_ok-tell_run.ensures.told) c.tell_run.ensures.mode (ap chars c.as_str.ensures.value) c.in_ok-lexeme.ensures.value (ap (lexeme_of m) c.in-Told.is) in
     subst (λ (x : Mode). AreWithin x.text items) (sym c.tell_run.ensures.mode)
     (told_kind r.mode.text _ items behind left (c.place_of_a_kind.ensures c.args.table.now (g.S.TokenSink.means.foreign s) r.mode c.args.place (chars (string_bytes c.args.held)) c.requires.placed) e).0
 
@@ -45,8 +45,8 @@ tell_items-requires-clause-untagged g c =
     let items = items_of c.in-Told.tokens.items in
     let behind : Mode = record m { text = c.in-Told.text } in
     let left = chars c.in-Told.left.now in
-    let e = found_from c.args.table.now c.adjusted_current_node_present_but_not_in_html_namespace-foreign.result (g.S.TokenSink.means.foreign s) r.mode m c.args.place (chars c.as_str-2.result.now) (chars (string_bytes c.args.held)) (lexeme_of m c.in_ok-lexeme_from.field-0) (told items behind left)
-    (c.adjusted_current_node_present_but_not_in_html_namespace-foreign.ensures ∙ ap g.S.TokenSink.means.foreign c.in_ok-tell_run.ensures.told) c.tell_run.ensures.mode (ap chars c.as_str-2.ensures.value) c.in_ok-lexeme_from.ensures.value (ap (lexeme_of m) c.in-Told.is) in
+    let e = found_from c.args.table.now c.adjusted_current_node_present_but_not_in_html_namespace-foreign.result (g.S.TokenSink.means.foreign s) r.mode m c.args.place (chars c.as_str.result.now) (chars (string_bytes c.args.held)) (lexeme_of m c.in_ok-lexeme.lexeme) (told items behind left)
+    (c.adjusted_current_node_present_but_not_in_html_namespace-foreign.ensures ∙ ap g.S.TokenSink.means.foreign c.in_ok-tell_run.ensures.told) c.tell_run.ensures.mode (ap chars c.as_str.ensures.value) c.in_ok-lexeme.ensures.value (ap (lexeme_of m) c.in-Told.is) in
     are_unanswered r.mode.text items (told_kind r.mode.text _ items behind left (c.place_of_a_kind.ensures c.args.table.now (g.S.TokenSink.means.foreign s) r.mode c.args.place (chars (string_bytes c.args.held)) c.requires.placed) e).0
 
 pub returns-in-Told-clause-ready : goal.returns-in-Told-clause-ready
@@ -57,8 +57,8 @@ returns-in-Told-clause-ready g c =
     let items = items_of c.in-Told.tokens.items in
     let behind : Mode = record m { text = c.in-Told.text } in
     let left = chars c.in-Told.left.now in
-    let e = found_from c.args.table.now c.adjusted_current_node_present_but_not_in_html_namespace-foreign.result (g.S.TokenSink.means.foreign s) r.mode m c.args.place (chars c.as_str-2.result.now) (chars (string_bytes c.args.held)) (lexeme_of m c.in_ok-lexeme_from.field-0) (told items behind left)
-    (c.adjusted_current_node_present_but_not_in_html_namespace-foreign.ensures ∙ ap g.S.TokenSink.means.foreign c.in_ok-tell_run.ensures.told) c.tell_run.ensures.mode (ap chars c.as_str-2.ensures.value) c.in_ok-lexeme_from.ensures.value (ap (lexeme_of m) c.in-Told.is) in
+    let e = found_from c.args.table.now c.adjusted_current_node_present_but_not_in_html_namespace-foreign.result (g.S.TokenSink.means.foreign s) r.mode m c.args.place (chars c.as_str.result.now) (chars (string_bytes c.args.held)) (lexeme_of m c.in_ok-lexeme.lexeme) (told items behind left)
+    (c.adjusted_current_node_present_but_not_in_html_namespace-foreign.ensures ∙ ap g.S.TokenSink.means.foreign c.in_ok-tell_run.ensures.told) c.tell_run.ensures.mode (ap chars c.as_str.ensures.value) c.in_ok-lexeme.ensures.value (ap (lexeme_of m) c.in-Told.is) in
     let now = c.tell_items.new.self in
     let leads = (told_kind r.mode.text _ items behind left (c.place_of_a_kind.ensures c.args.table.now (g.S.TokenSink.means.foreign s) r.mode c.args.place (chars (string_bytes c.args.held)) c.requires.placed) e).1 in
     ready_of g.S.TokenSink.ready g.S.TokenSink.welcomes r.mode.text c.in-Told.text (g.S.TokenSink.state c.tell_items.new.sink) leads
@@ -71,8 +71,8 @@ tell_tag-requires-clause-kind g c =
     let means = g.S.TokenSink.means in
     let s = means.step (g.S.TokenSink.state c.args.sink.now) (characters (chars (string_bytes r.run))) in
     let left = chars c.in-Tagged.field-1.now in
-    let e = found_from c.args.table.now c.adjusted_current_node_present_but_not_in_html_namespace-foreign.result (g.S.TokenSink.means.foreign s) r.mode m c.args.place (chars c.as_str-2.result.now) (chars (string_bytes c.args.held)) (lexeme_of m c.in_ok-lexeme_from.field-0) (tagged c.in-Tagged.tag left)
-    (c.adjusted_current_node_present_but_not_in_html_namespace-foreign.ensures ∙ ap g.S.TokenSink.means.foreign c.in_ok-tell_run.ensures.told) c.tell_run.ensures.mode (ap chars c.as_str-2.ensures.value) c.in_ok-lexeme_from.ensures.value (ap (lexeme_of m) c.in-Tagged.is) in
+    let e = found_from c.args.table.now c.adjusted_current_node_present_but_not_in_html_namespace-foreign.result (g.S.TokenSink.means.foreign s) r.mode m c.args.place (chars c.as_str.result.now) (chars (string_bytes c.args.held)) (lexeme_of m c.in_ok-lexeme.lexeme) (tagged c.in-Tagged.tag left)
+    (c.adjusted_current_node_present_but_not_in_html_namespace-foreign.ensures ∙ ap g.S.TokenSink.means.foreign c.in_ok-tell_run.ensures.told) c.tell_run.ensures.mode (ap chars c.as_str.ensures.value) c.in_ok-lexeme.ensures.value (ap (lexeme_of m) c.in-Tagged.is) in
     subst (λ (x : Mode). IsOf x.text (tag c.in-Tagged.tag)) (sym (c.tell_errors.ensures.mode ∙ c.tell_run.ensures.mode))
     (tagged_kind r.mode.text _ c.in-Tagged.tag left (c.place_of_a_kind.ensures c.args.table.now (g.S.TokenSink.means.foreign s) r.mode c.args.place (chars (string_bytes c.args.held)) c.requires.placed) e)
 
@@ -91,8 +91,8 @@ returns-in-Told-clause-reads g c = λ follow rest final over l.
     let behind : Mode = record m { text = c.in-Told.text } in
     let after : Mode = record now.mode { text = c.in-Told.text } in
     let left = chars c.in-Told.left.now in
-    let e = found_from c.args.table.now c.adjusted_current_node_present_but_not_in_html_namespace-foreign.result (g.S.TokenSink.means.foreign s) r.mode m c.args.place (chars c.as_str-2.result.now) (chars (string_bytes c.args.held)) (lexeme_of m c.in_ok-lexeme_from.field-0) (told items behind left)
-    (c.adjusted_current_node_present_but_not_in_html_namespace-foreign.ensures ∙ ap g.S.TokenSink.means.foreign c.in_ok-tell_run.ensures.told) c.tell_run.ensures.mode (ap chars c.as_str-2.ensures.value) c.in_ok-lexeme_from.ensures.value (ap (lexeme_of m) c.in-Told.is) in
+    let e = found_from c.args.table.now c.adjusted_current_node_present_but_not_in_html_namespace-foreign.result (g.S.TokenSink.means.foreign s) r.mode m c.args.place (chars c.as_str.result.now) (chars (string_bytes c.args.held)) (lexeme_of m c.in_ok-lexeme.lexeme) (told items behind left)
+    (c.adjusted_current_node_present_but_not_in_html_namespace-foreign.ensures ∙ ap g.S.TokenSink.means.foreign c.in_ok-tell_run.ensures.told) c.tell_run.ensures.mode (ap chars c.as_str.ensures.value) c.in_ok-lexeme.ensures.value (ap (lexeme_of m) c.in-Told.is) in
     let moved = e ∙ ap (λ (x : Mode). told items (record x { text = c.in-Told.text }) left) (sym c.tell_items.ensures.mode) in
     let at = ap (λ (p : Pending). p.place) (c.tell_items.ensures.pending ∙ c.tell_run.ensures.pending) ∙ c.requires.place in
     told_over c.args.table.now g.S.TokenSink.means r.mode after c.args.place now.pending.place (chars (string_bytes c.args.held)) (chars (string_bytes now.pending.held)) follow rest left (chars (string_bytes c.push_str.new.self)) items s (g.S.TokenSink.state c.tell_items.new.sink) final
@@ -118,8 +118,8 @@ returns-clause-reads g c =
     let s = means.step (g.S.TokenSink.state c.args.sink.now) (characters (chars (string_bytes r.run))) in
     let s1 = g.S.TokenSink.state c.tell_run.new.sink in
     let left = chars c.in-Tagged.field-1.now in
-    let e = found_from c.args.table.now c.adjusted_current_node_present_but_not_in_html_namespace-foreign.result (g.S.TokenSink.means.foreign s) r.mode m c.args.place (chars c.as_str-2.result.now) (chars (string_bytes c.args.held)) (lexeme_of m c.in_ok-lexeme_from.field-0) (tagged c.in-Tagged.tag left)
-    (c.adjusted_current_node_present_but_not_in_html_namespace-foreign.ensures ∙ ap g.S.TokenSink.means.foreign c.in_ok-tell_run.ensures.told) c.tell_run.ensures.mode (ap chars c.as_str-2.ensures.value) c.in_ok-lexeme_from.ensures.value (ap (lexeme_of m) c.in-Tagged.is) in
+    let e = found_from c.args.table.now c.adjusted_current_node_present_but_not_in_html_namespace-foreign.result (g.S.TokenSink.means.foreign s) r.mode m c.args.place (chars c.as_str.result.now) (chars (string_bytes c.args.held)) (lexeme_of m c.in_ok-lexeme.lexeme) (tagged c.in-Tagged.tag left)
+    (c.adjusted_current_node_present_but_not_in_html_namespace-foreign.ensures ∙ ap g.S.TokenSink.means.foreign c.in_ok-tell_run.ensures.told) c.tell_run.ensures.mode (ap chars c.as_str.ensures.value) c.in_ok-lexeme.ensures.value (ap (lexeme_of m) c.in-Tagged.is) in
     let after = c.tell_tag.new.self in
     let kept = c.tell_tag.ensures.pending ∙ (c.tell_errors.ensures.pending ∙ c.tell_run.ensures.pending) in
     let at = ap (λ (p : Pending). p.place) kept ∙ c.requires.place in
