@@ -1,8 +1,7 @@
 -- Counts of names, one by one.
 use Rattle.std.proofs.Common.{◌≡◌, ℕ, Bool, ◌+◌, ◌-◌, ◌<◌, ◌≤◌, slice_index_or, slice_set, refl, ◌||◌, true, false}
-use Rattle.std.proofs.Common.{if◌then◌else◌, IsTrue, List, [], ◌∷◌, ◌++◌, length, drop, IsUtf8, chars, bytes_eq, sym}
-use Rattle.std.proofs.Common.{ap, ap₂, subst, ◌∙◌, arith, zero, suc, length-drop, ◌==◌, ◌&&◌, ◌*◌, ◌%◌, map}
-use Rattle.std.specs.Borrow.{Bor}
+use Rattle.std.proofs.Common.{if◌then◌else◌, List, [], ◌∷◌, ◌++◌, length, drop, bytes_eq, sym}
+use Rattle.std.proofs.Common.{None, ap, ap₂, subst, ◌∙◌, arith, zero, suc, length-drop, ◌==◌, ◌&&◌, ◌*◌, ◌%◌, map}
 use Rattle.std.proofs.lemmas.Bool.{and_parts, eqb-false, eqb-true, false≢true, lt-ltb, ltb-true, or_parts}
 use Rattle.std.proofs.lemmas.Str.Ascii.{lowercase-lowercase}
 use Rattle.std.specs.Bool.{nat_lt}
@@ -13,65 +12,33 @@ use Rattle.html_lexemes.specs.declared.names.Namespace.{Namespace}
 use Rattle.html_lexemes.specs.declared.names.Namespace.TheVariants.{Html, MathMl, Svg, Other}
 use Rattle.std.proofs.lemmas.Slice.Eq.{bytes_eq-Decides}
 use Rattle.name_sets.specs.Counts.{count_in, count_of, counted_names, counts_of, has_counts, has_foreign, has_one}
-use Rattle.name_sets.specs.Counts.{is_foreign_in, one_more, share_of, shared_count, words_before, zeros}
-use Rattle.name_sets.specs.Sets.{are_ascii, html_elements, is_ascii_word, is_element_of, is_one_of, words_in, words_of}
+use Rattle.name_sets.specs.Counts.{is_foreign_in, one_more, own_or_shared, share_of, shared_count, words_before, zeros}
+use Rattle.name_sets.specs.Sets.{html_elements, is_element_of, is_one_of, words_in}
 use Rattle.name_sets.specs.Wanted.{one}
-use Rattle.std.proofs.lemmas.Str.{chars-IsAscii}
-use Rattle.name_sets.proofs.SetLemmas.{ascii_word, same_word}
+use denote.Enum.Declared.{tag_of}
+use Rattle.known_names.specs.Known.{all_known, known_at, known_text}
+use Rattle.known_names.specs.contracts.known.KnownName.{the_type}
+use Rattle.known_names.specs.declared.known.KnownName.{KnownName}
+use Rattle.known_names.proofs.KnownLemmas.{at_number}
+use Rattle.known_names.proofs.NameLemmas.{none_of}
 
-first_before : (word : Bor (List ℕ)) (words : List (Bor (List ℕ))) (name : List ℕ) → IsUtf8 name →
-    IsTrue (are_ascii (words_of (word ∷ words))) →
-    words_before (words_of (word ∷ words)) (chars name)
-    ≡ (if bytes_eq name word.now then 0 else suc (words_before (words_of words) (chars name)))
-first_before word words name u h = ap (λ b. if b then 0 else suc (words_before (words_of words) (chars name)))
-    (sym (same_word name word.now u (and_parts (is_ascii_word word.now) (are_ascii (words_of words)) h).0))
+-- the count of a known name stands at its number, and a name that is not known shares one
+pub place_in_table : (places : List ℕ) (d : ℕ) (known : KnownName) →
+    places ≡ map (λ name. count_in Html (known_text name)) all_known →
+    slice_index_or places (tag_of the_type known) d ≡ count_in Html (known_text known)
+place_in_table places d known e = ap (λ l. slice_index_or l (tag_of the_type known) d) e
+    ∙ at_number (λ name. count_in Html (known_text name)) d known
 
-next_before : (words : List (Bor (List ℕ))) (i : ℕ) (d : Bor (List ℕ)) (name : List ℕ) → IsUtf8 name → i < length words
-    →
-    IsTrue (are_ascii (words_of (drop i words))) →
-    words_before (words_of (drop i words)) (chars name)
-    ≡ (if bytes_eq name (slice_index_or words i d).now then 0
-    else suc (words_before (words_of (drop (i + 1) words)) (chars name)))
-next_before words i d name u more h =
-    let split = drop_more words i d more in
-    ap (λ l. words_before (words_of l) (chars name)) split
-    ∙ first_before (slice_index_or words i d) (drop (i + 1) words) name u (subst (λ l. IsTrue (are_ascii (words_of l)))
-    split h)
+all_before : (words : List (List ℕ)) (name : List ℕ) → is_one_of words name ≡ false →
+    words_before words name ≡ length words
+all_before [] name none = refl
+all_before (word ∷ words) name none =
+    let parts = or_parts (bytes_eq name word) (is_one_of words name) none in
+    ap (λ b. if b then 0 else suc (words_before words name)) parts.0 ∙ ap (λ n. suc n) (all_before words name parts.1)
 
-pub found_before : (words : List (Bor (List ℕ))) (i k : ℕ) (d : Bor (List ℕ)) (name : List ℕ) → IsUtf8 name → i <
-    length words →
-    IsTrue (are_ascii (words_of (drop i words))) → true ≡ bytes_eq name (slice_index_or words i d).now →
-    words_before (words_of words) (chars name) ≡ k + words_before (words_of (drop i words)) (chars name) →
-    k ≡ words_before (words_of words) (chars name)
-found_before words i k d name u more h is whole =
-    let here : words_before (words_of (drop i words)) (chars name) ≡ 0 =
-    next_before words i d name u more h
-    ∙ ap (λ b. if b then 0 else suc (words_before (words_of (drop (i + 1) words)) (chars name))) (sym is) in
-    omega (arith, here, whole)
-
-pub not_before : (words : List (Bor (List ℕ))) (i k : ℕ) (d : Bor (List ℕ)) (name : List ℕ) → IsUtf8 name → i < length
-    words →
-    IsTrue (are_ascii (words_of (drop i words))) → false ≡ bytes_eq name (slice_index_or words i d).now →
-    words_before (words_of words) (chars name) ≡ k + words_before (words_of (drop i words)) (chars name) →
-    words_before (words_of words) (chars name) ≡ k + 1 + words_before (words_of (drop (i + 1) words)) (chars name)
-not_before words i k d name u more h isnt whole =
-    let here : words_before (words_of (drop i words)) (chars name)
-    ≡ suc (words_before (words_of (drop (i + 1) words)) (chars name)) =
-    next_before words i d name u more h
-    ∙ ap (λ b. if b then 0 else suc (words_before (words_of (drop (i + 1) words)) (chars name))) (sym isnt) in
-    omega (arith, here, whole)
-
-pub behind_all : (words : List (Bor (List ℕ))) (i k : ℕ) (name : List ℕ) → length words ≤ i →
-    words_before (words_of words) (chars name) ≡ k + words_before (words_of (drop i words)) (chars name) →
-    k ≡ words_before (words_of words) (chars name)
-behind_all words i k name h whole =
-    let here : words_before (words_of (drop i words)) (chars name) ≡ 0 =
-    ap (λ l. words_before (words_of l) (chars name)) (nil_from_length (drop i words) (omega (
-      arith,
-      length-drop i
-          words,
-    ))) in
-    omega (arith, here, whole)
+pub shares : (name : List ℕ) → known_at name ≡ None → shared_count name ≡ count_in Html name
+shares name none = ap (λ place. own_or_shared place name)
+    (sym (all_before counted_names name (none_of counted_names name refl none)))
 
 -- one more, as a place of the list that is set
 pub more_is_set : (k : ℕ) (cs : List ℕ) → one_more k cs ≡ slice_set cs k (slice_index_or cs k 0 + 1)
@@ -262,25 +229,19 @@ none_of_none [] = refl
 none_of_none (name ∷ names) = ap (λ b. b || has_one (html_elements []) names) (none_in name.ns name.local)
     ∙ none_of_none names
 
-pub fewer_left : (words : List (Bor (List ℕ))) (i : ℕ) (d : Bor (List ℕ)) (names : List QualName) → i < length words →
-    IsTrue (are_ascii (words_of (drop i words))) →
-    has_one (one (chars (slice_index_or words i d).now)) names ≡ false →
-    has_one (html_elements (words_of (drop i words))) names
-    ≡ has_one (html_elements (words_of (drop (i + 1) words))) names
-fewer_left words i d names more h none =
-    let split = drop_more words i d more in
-    let word = (slice_index_or words i d).now in
-    let ascii = ascii_word word (and_parts (is_ascii_word word) (are_ascii (words_of (drop (i + 1) words)))
-    (subst (λ l. IsTrue (are_ascii (words_of l))) split h)).0 in
-    ap (λ l. has_one (html_elements (words_of l)) names) split
-    ∙ one_fewer word (words_of (drop (i + 1) words)) names
-    (subst (λ w. has_one (one w) names ≡ false) (chars-IsAscii word ascii) none)
+pub fewer_left : (wanted : List KnownName) (i : ℕ) (d : KnownName) (names : List QualName) → i < length wanted →
+    has_one (one (known_text (slice_index_or wanted i d))) names ≡ false →
+    has_one (html_elements (map known_text (drop i wanted))) names
+    ≡ has_one (html_elements (map known_text (drop (i + 1) wanted))) names
+fewer_left wanted i d names more none =
+    ap (λ l. has_one (html_elements (map known_text l)) names) (drop_more wanted i d more)
+    ∙ one_fewer (known_text (slice_index_or wanted i d)) (map known_text (drop (i + 1) wanted)) names none
 
-pub none_left : (words : List (Bor (List ℕ))) (i : ℕ) (names : List QualName) → length words ≤ i →
-    has_one (html_elements (words_of (drop i words))) names ≡ false
-none_left words i names h =
-    ap (λ l. has_one (html_elements (words_of l)) names)
-    (nil_from_length (drop i words) (omega (arith, length-drop i words)))
+pub none_left : (wanted : List KnownName) (i : ℕ) (names : List QualName) → length wanted ≤ i →
+    has_one (html_elements (map known_text (drop i wanted))) names ≡ false
+none_left wanted i names h =
+    ap (λ l. has_one (html_elements (map known_text l)) names)
+    (nil_from_length (drop i wanted) (omega (arith, length-drop i wanted)))
     ∙ none_of_none names
 
 -- a word that has a count of its own
@@ -389,33 +350,26 @@ module _ (word : List ℕ) (words : List (List ℕ)) where
       (named_still name.ns name.local) (one_among names) is
 
 -- what is left of some words has counts as these have, and where one of its first is open, one of them is
-pub counts_left : (words : List (Bor (List ℕ))) (i : ℕ) (d : Bor (List ℕ)) → i < length words →
-    has_counts (html_elements (words_of (drop i words))) ≡ true →
-    has_counts (one (slice_index_or words i d).now) ≡ true
-    × (has_counts (html_elements (words_of (drop (i + 1) words))) ≡ true)
-counts_left words i d more h =
-    let word = (slice_index_or words i d).now in
-    let rest = words_of (drop (i + 1) words) in
+pub counts_left : (wanted : List KnownName) (i : ℕ) (d : KnownName) → i < length wanted →
+    has_counts (html_elements (map known_text (drop i wanted))) ≡ true →
+    has_counts (one (known_text (slice_index_or wanted i d))) ≡ true
+    × (has_counts (html_elements (map known_text (drop (i + 1) wanted))) ≡ true)
+counts_left wanted i d more h =
+    let word = known_text (slice_index_or wanted i d) in
+    let rest = map known_text (drop (i + 1) wanted) in
     let parts = and_parts (is_one_of counted_names word) (has_counts (html_elements rest))
-    (subst (λ l. has_counts (html_elements (words_of l)) ≡ true) (drop_more words i d more) h) in
+    (subst (λ l. has_counts (html_elements (map known_text l)) ≡ true) (drop_more wanted i d more) h) in
     (ap (λ b. b && true) parts.0, parts.1)
 
-pub one_left : (words : List (Bor (List ℕ))) (i : ℕ) (d : Bor (List ℕ)) (names : List QualName) → i < length words →
-    IsTrue (are_ascii (words_of (drop i words))) →
-    (has_counts (one (chars (slice_index_or words i d).now)) ≡ true →
-    has_one (one (chars (slice_index_or words i d).now)) names ≡ true) →
-    has_counts (html_elements (words_of (drop i words))) ≡ true →
-    has_one (html_elements (words_of (drop i words))) names ≡ true
-one_left words i d names more h is counts =
-    let split = drop_more words i d more in
-    let word = (slice_index_or words i d).now in
-    let ascii = ascii_word word (and_parts (is_ascii_word word) (are_ascii (words_of (drop (i + 1) words)))
-    (subst (λ l. IsTrue (are_ascii (words_of l))) split h)).0 in
-    let same = chars-IsAscii word ascii in
-    ap (λ l. has_one (html_elements (words_of l)) names) split
-    ∙ one_among word (words_of (drop (i + 1) words)) names
-    (subst (λ w. has_one (one w) names ≡ true) same
-    (is (subst (λ w. has_counts (one w) ≡ true) (sym same) (counts_left words i d more counts).0)))
+pub one_left : (wanted : List KnownName) (i : ℕ) (d : KnownName) (names : List QualName) → i < length wanted →
+    (has_counts (one (known_text (slice_index_or wanted i d))) ≡ true →
+    has_one (one (known_text (slice_index_or wanted i d))) names ≡ true) →
+    has_counts (html_elements (map known_text (drop i wanted))) ≡ true →
+    has_one (html_elements (map known_text (drop i wanted))) names ≡ true
+one_left wanted i d names more is counts =
+    ap (λ l. has_one (html_elements (map known_text l)) names) (drop_more wanted i d more)
+    ∙ one_among (known_text (slice_index_or wanted i d)) (map known_text (drop (i + 1) wanted)) names
+    (is (counts_left wanted i d more counts).0)
 
 -- where the count that a word shares is 0, no element of another namespace has it for its name in lower case
 same_share : (word name : List ℕ) → map to_ascii_lowercase name ≡ word → shared_count name ≡ shared_count word

@@ -1,25 +1,11 @@
 -- A name is looked for among words, one after the other.
-use Rattle.std.proofs.Common.{◌≡◌, ℕ, ◌+◌, ◌<◌, ◌≤◌, length-drop, slice_index_or, true, false, ◌||◌, IsTrue, List, []}
-use Rattle.std.proofs.Common.{◌∷◌, length, drop, IsUtf8, chars, bytes_eq, sym, ap, subst, ◌∙◌, arith, zero, suc}
+use Rattle.std.proofs.Common.{◌≡◌, ℕ, ◌+◌, ◌<◌, ◌≤◌, length-drop, slice_index_or, true, false, ◌||◌, IsTrue, List}
+use Rattle.std.proofs.Common.{◌∷◌, length, drop, IsUtf8, chars, bytes_eq, sym, ap, subst, ◌∙◌, arith}
 use Rattle.std.specs.Borrow.{Bor}
-use Rattle.std.specs.Bool.{nat_lt}
-use Rattle.std.specs.Str.{IsAscii}
-use Rattle.std.proofs.lemmas.Bool.{and_parts, ltb-true}
+use Rattle.std.proofs.lemmas.Bool.{and_parts}
 use Rattle.std.proofs.lemmas.List.{drop_more, nil_from_length}
-use Rattle.std.proofs.lemmas.Str.{chars-IsAscii, IsUtf8-from_ascii}
-use Rattle.html_lexemes.proofs.Utf8Order.{same_by_bytes}
+pub use Rattle.known_names.proofs.WordLemmas.{ascii_word, same_word}
 use Rattle.name_sets.specs.Sets.{are_ascii, is_ascii_word, is_one_of, words_of}
-
-pub ascii_word : (word : List ℕ) → is_ascii_word word ≡ true → IsAscii word
-ascii_word [] h i = omega arith
-ascii_word (b ∷ bs) h zero = ltb-true b 128 (and_parts (nat_lt b 128) (is_ascii_word bs) h).0
-ascii_word (b ∷ bs) h (suc i) = ascii_word bs (and_parts (nat_lt b 128) (is_ascii_word bs) h).1 i
-
-pub same_word : (name word : List ℕ) → IsUtf8 name → IsTrue (is_ascii_word word) → bytes_eq name word ≡ bytes_eq (chars
-    name) word
-same_word name word u h =
-    let ascii = ascii_word word h in
-    same_by_bytes name word u (IsUtf8-from_ascii word ascii) ∙ ap (bytes_eq (chars name)) (chars-IsAscii word ascii)
 
 -- what is found among words, by the first of them
 first_word : (word : Bor (List ℕ)) (words : List (Bor (List ℕ))) (name : List ℕ) → IsUtf8 name →

@@ -1,17 +1,10 @@
 -- Sets of names: of elements, by their namespaces, and of tags (WHATWG HTML, 13.2.4, 13.2.6 and 13.3). The numbers
 -- are sections of that standard.
-use Rattle.std.specs.Prelude.{ℕ, Bool, false, ◌||◌, List, [], ◌∷◌, bytes_eq, map}
-use Rattle.std.specs.Borrow.{Bor}
-use Rattle.std.specs.Bool.{nat_lt}
-use Rattle.std.specs.List.{list_all}
+use Rattle.std.specs.Prelude.{ℕ, Bool, List, [], ◌∷◌}
 use Rattle.html_lexemes.specs.declared.names.Namespace.{Namespace}
 use Rattle.html_lexemes.specs.declared.names.Namespace.TheVariants.{Html, MathMl, Svg, Other}
 use Rattle.html_lexemes.specs.declared.names.QualName.{QualName}
-
--- a name is one of these words
-abbrev pub is_one_of : List (List ℕ) → List ℕ → Bool
-is_one_of [] name = false
-is_one_of (word ∷ words) name = bytes_eq name word || is_one_of words name
+pub use Rattle.known_names.specs.Words.{are_ascii, is_ascii_word, is_one_of, words_of}
 
 -- a set of elements: their local names, by their namespace
 pub record Elements : Type 0 where
@@ -36,14 +29,3 @@ html_elements words = record { html = words; math_ml = []; svg = [] }
 -- an element is this one of HTML
 abbrev pub is_html : List ℕ → QualName → Bool
 is_html word name = is_element_of (html_elements (word ∷ [])) name
-
--- the words that a slice lends
-abbrev pub words_of : List (Bor (List ℕ)) → List (List ℕ)
-words_of words = map (λ word. word.now) words
-
--- each byte is an ASCII character
-abbrev pub is_ascii_word : List ℕ → Bool
-is_ascii_word word = list_all (λ byte. nat_lt byte 128) word
-
-abbrev pub are_ascii : List (List ℕ) → Bool
-are_ascii words = list_all is_ascii_word words

@@ -1,14 +1,14 @@
 //! How many elements of each name are open.
-ghost use Rattle.std.specs.Prelude.{◌≡◌, IsTrue, ℕ, ◌<◌, ◌++◌, true, false, List, [], ◌∷◌, bytes_eq, chars, length, slice_index_or};
+ghost use Rattle.std.specs.Prelude.{◌≡◌, ℕ, ◌<◌, ◌++◌, true, false, List, [], ◌∷◌, chars, length, map};
 ghost use Rattle.html_lexemes.specs.declared.names.QualName.{QualName as SeenQualName};
 ghost use Rattle.html_lexemes.specs.declared.names.Namespace.TheVariants.{Html};
-ghost use Rattle.name_sets.specs.Counts.{count_in, count_of, counted_names, counts_of, has_counts, has_foreign, has_one};
-ghost use Rattle.name_sets.specs.Counts.{shared_count, words_before};
-ghost use Rattle.name_sets.specs.Sets.{are_ascii, html_elements, words_of};
+ghost use Rattle.known_names.specs.Known.{all_known, known_text};
+ghost use Rattle.name_sets.specs.Counts.{count_in, count_of, counts_of, has_counts, has_foreign, has_one, shared_count};
+ghost use Rattle.name_sets.specs.Sets.{html_elements};
 ghost use Rattle.name_sets.specs.Wanted.{elements_of, one};
 
 use crate::wanted::ElementSet;
-use html_lexemes::{LocalName, Namespace, QualName};
+use html_lexemes::{KnownName, LocalName, Namespace, QualName};
 use std::marker::Model;
 
 /// How many elements are open, by name (WHATWG HTML, 13.2.4.2): with it a test of scope needs no walk where no element
@@ -65,48 +65,72 @@ impl OpenCounts {
             has_counts (elements_of wanted.entry) ≡ true → has_one (elements_of wanted.entry) names ≡ true }
     {
         match wanted {
-            ElementSet::Named(word) => self.has_no(word.as_str()),
-            ElementSet::Body => self.lacks(&["body"]),
-            ElementSet::Button => self.lacks(&["button"]),
-            ElementSet::Caption => self.lacks(&["caption"]),
-            ElementSet::ColumnGroup => self.lacks(&["colgroup"]),
-            ElementSet::Definition => self.lacks(&["dd", "dt"]),
-            ElementSet::Form => self.lacks(&["form"]),
-            ElementSet::Heading => self.lacks(&["h1", "h2", "h3", "h4", "h5", "h6"]),
-            ElementSet::Html => self.lacks(&["html"]),
-            ElementSet::ListItem => self.lacks(&["li"]),
-            ElementSet::NoBreak => self.lacks(&["nobr"]),
+            ElementSet::Named(word) => self.has_no(word),
+            ElementSet::Body => self.lacks(&[KnownName::Body]),
+            ElementSet::Button => self.lacks(&[KnownName::Button]),
+            ElementSet::Caption => self.lacks(&[KnownName::Caption]),
+            ElementSet::ColumnGroup => self.lacks(&[KnownName::Colgroup]),
+            ElementSet::Definition => self.lacks(&[KnownName::Dd, KnownName::Dt]),
+            ElementSet::Form => self.lacks(&[KnownName::Form]),
+            ElementSet::Heading => self.lacks(&[
+                KnownName::H1,
+                KnownName::H2,
+                KnownName::H3,
+                KnownName::H4,
+                KnownName::H5,
+                KnownName::H6,
+            ]),
+            ElementSet::Html => self.lacks(&[KnownName::Html]),
+            ElementSet::ListItem => self.lacks(&[KnownName::Li]),
+            ElementSet::NoBreak => self.lacks(&[KnownName::Nobr]),
             ElementSet::Nothing => self.lacks(&[]),
-            ElementSet::OptionGroup => self.lacks(&["optgroup"]),
-            ElementSet::OptionItem => self.lacks(&["option"]),
-            ElementSet::Paragraph => self.lacks(&["p"]),
-            ElementSet::Ruby => self.lacks(&["ruby"]),
-            ElementSet::RubyTextContainer => self.lacks(&["rtc"]),
-            ElementSet::Select => self.lacks(&["select"]),
-            ElementSet::Table => self.lacks(&["table"]),
+            ElementSet::OptionGroup => self.lacks(&[KnownName::Optgroup]),
+            ElementSet::OptionItem => self.lacks(&[KnownName::Option]),
+            ElementSet::Paragraph => self.lacks(&[KnownName::P]),
+            ElementSet::Ruby => self.lacks(&[KnownName::Ruby]),
+            ElementSet::RubyTextContainer => self.lacks(&[KnownName::Rtc]),
+            ElementSet::Select => self.lacks(&[KnownName::Select]),
+            ElementSet::Table => self.lacks(&[KnownName::Table]),
             ElementSet::TableBodyContext => {
-                self.lacks(&["tbody", "tfoot", "thead", "template", "html"])
+                self.lacks(&[
+                    KnownName::Tbody,
+                    KnownName::Tfoot,
+                    KnownName::Thead,
+                    KnownName::Template,
+                    KnownName::Html,
+                ])
             }
-            ElementSet::TableCell => self.lacks(&["td", "th"]),
-            ElementSet::TableContext => self.lacks(&["table", "template", "html"]),
-            ElementSet::TableRow => self.lacks(&["tr"]),
-            ElementSet::TableRowContext => self.lacks(&["tr", "template", "html"]),
-            ElementSet::TableSection => self.lacks(&["tbody", "tfoot", "thead"]),
-            ElementSet::Template => self.lacks(&["template"]),
+            ElementSet::TableCell => self.lacks(&[KnownName::Td, KnownName::Th]),
+            ElementSet::TableContext => self.lacks(&[
+                KnownName::Table,
+                KnownName::Template,
+                KnownName::Html,
+            ]),
+            ElementSet::TableRow => self.lacks(&[KnownName::Tr]),
+            ElementSet::TableRowContext => self.lacks(&[
+                KnownName::Tr,
+                KnownName::Template,
+                KnownName::Html,
+            ]),
+            ElementSet::TableSection => self.lacks(&[
+                KnownName::Tbody,
+                KnownName::Tfoot,
+                KnownName::Thead,
+            ]),
+            ElementSet::Template => self.lacks(&[KnownName::Template]),
         }
     }
 
-    // no element of HTML is open whose name is one of these words
-    fn lacks(&self, words: &[&str]) -> bool
-        requires { IsTrue (are_ascii (words_of words.now)) }
+    // no element of HTML is open whose name is one of these
+    fn lacks(&self, wanted: &[KnownName]) -> bool
         ensures none { (names : List SeenQualName) → self.now ≡ counts_of names → result ≡ true →
-            has_one (html_elements (words_of words.now)) names ≡ false }
+            has_one (html_elements (map known_text wanted.now)) names ≡ false }
         ensures some { (names : List SeenQualName) → self.now ≡ counts_of names → result ≡ false →
-            has_counts (html_elements (words_of words.now)) ≡ true →
-            has_one (html_elements (words_of words.now)) names ≡ true }
+            has_counts (html_elements (map known_text wanted.now)) ≡ true →
+            has_one (html_elements (map known_text wanted.now)) names ≡ true }
     {
-        for word in words {
-            if !self.has_no(word) {
+        for known in wanted {
+            if !self.has_no_known(*known) {
                 return false;
             }
         }
@@ -130,14 +154,24 @@ impl OpenCounts {
         self.counts[shared_place(name.as_str())] == 0
     }
 
-    // no element of HTML is open whose name is this word
-    fn has_no(&self, word: &str) -> bool
+    // no element of HTML is open that has this name
+    fn has_no(&self, name: &LocalName) -> bool
         ensures none { (names : List SeenQualName) → self.now ≡ counts_of names → result ≡ true →
-            has_one (one (chars word.now)) names ≡ false }
+            has_one (one name.now) names ≡ false }
         ensures some { (names : List SeenQualName) → self.now ≡ counts_of names → result ≡ false →
-            has_counts (one (chars word.now)) ≡ true → has_one (one (chars word.now)) names ≡ true }
+            has_counts (one name.now) ≡ true → has_one (one name.now) names ≡ true }
     {
-        self.counts[place_in_html(word)] == 0
+        self.counts[place_in_html(name)] == 0
+    }
+
+    // no element of HTML is open that has this known name
+    fn has_no_known(&self, known: KnownName) -> bool
+        ensures none { (names : List SeenQualName) → self.now ≡ counts_of names → result ≡ true →
+            has_one (one (known_text known)) names ≡ false }
+        ensures some { (names : List SeenQualName) → self.now ≡ counts_of names → result ≡ false →
+            has_counts (one (known_text known)) ≡ true → has_one (one (known_text known)) names ≡ true }
+    {
+        self.counts[place_of_known(&PLACES, known)] == 0
     }
 }
 
@@ -146,23 +180,29 @@ fn place_of(name: &QualName) -> usize
     ensures { result ≡ count_of name.now }
 {
     match name.ns {
-        Namespace::Html => place_in_html(name.local.as_str()),
+        Namespace::Html => place_in_html(&name.local),
         Namespace::MathMl | Namespace::Svg | Namespace::Other(_) => {
             shared_place(name.local.as_str())
         }
     }
 }
 
-// which count elements of HTML have whose name is this word
-fn place_in_html(word: &str) -> usize
-    ensures { result ≡ count_in Html (chars word.now) }
+// which count elements of HTML of this name have
+fn place_in_html(name: &LocalName) -> usize
+    ensures { result ≡ count_in Html name.now }
 {
-    let place = words_before(word);
-    if place < 60 {
-        place
-    } else {
-        shared_place(word)
+    match name.known() {
+        Some(known) => place_of_known(&PLACES, known),
+        None => shared_place(name.as_str()),
     }
+}
+
+// which count elements of HTML of a known name have, in a table of all
+fn place_of_known(places: &[u8; 142], known: KnownName) -> usize
+    requires { places.now ≡ map (λ name. count_in Html (known_text name)) all_known }
+    ensures { result ≡ count_in Html (known_text known) }
+{
+    usize::from(places[known as usize])
 }
 
 // which count a name has that has none of its own
@@ -176,105 +216,13 @@ fn shared_place(word: &str) -> usize
     60 + share as usize
 }
 
-// how many counted names stand before a word
-fn words_before(word: &str) -> usize
-    ensures { result ≡ words_before counted_names (chars word.now) }
-{
-    place_among(
-        word,
-        &[
-            "p",
-            "div",
-            "li",
-            "ul",
-            "a",
-            "button",
-            "table",
-            "td",
-            "th",
-            "tr",
-            "tbody",
-            "thead",
-            "tfoot",
-            "caption",
-            "template",
-            "select",
-            "form",
-            "body",
-            "html",
-            "dd",
-            "dt",
-            "dl",
-            "ol",
-            "h1",
-            "h2",
-            "h3",
-            "h4",
-            "h5",
-            "h6",
-            "nobr",
-            "ruby",
-            "option",
-            "optgroup",
-            "rtc",
-            "colgroup",
-            "section",
-            "article",
-            "header",
-            "footer",
-            "nav",
-            "main",
-            "aside",
-            "figure",
-            "figcaption",
-            "blockquote",
-            "pre",
-            "details",
-            "summary",
-            "fieldset",
-            "address",
-            "center",
-            "menu",
-            "hgroup",
-            "dialog",
-            "dir",
-            "listing",
-            "search",
-            "applet",
-            "marquee",
-            "object",
-        ],
-    )
-}
-
-// whether two texts are equal; most differ in length or in their first byte, which is seen at once
-fn are_equal(one: &str, other: &str) -> bool
-    ensures { result ≡ bytes_eq one.now other.now }
-{
-    one.len() == other.len() && first_byte(one) == first_byte(other) && one == other
-}
-
-// the first byte of a text, 0 where it has none
-fn first_byte(text: &str) -> u8
-    ensures { result ≡ slice_index_or text.now 0 0 }
-{
-    match text.as_bytes().first() {
-        Some(first) => *first,
-        None => 0,
-    }
-}
-
-// how many words stand before a word; all of them where it is none of them
-fn place_among(name: &str, words: &[&str]) -> usize
-    requires { IsTrue (are_ascii (words_of words.now)) }
-    ensures { result ≡ words_before (words_of words.now) (chars name.now) }
-{
-    let mut place = 0;
-    for word in words {
-        if are_equal(name, word) {
-            return place;
-        }
-        place += 1;
-    }
-    place
-}
+// the counts of the known names, by their numbers
+static PLACES: [u8; 142] = [
+    4, 114, 49, 101, 181, 57, 73, 36, 41, 158, 141, 92, 166, 60, 44, 17, 140, 5, 13, 50, 136, 180,
+    169, 60, 34, 134, 181, 19, 77, 46, 53, 54, 1, 21, 20, 100, 149, 48, 43, 42, 139, 38, 79, 16,
+    169, 145, 23, 24, 25, 26, 27, 28, 156, 37, 99, 52, 70, 103, 18, 165, 87, 96, 151, 127, 134, 77,
+    170, 2, 182, 55, 40, 65, 58, 68, 51, 65, 157, 155, 88, 93, 94, 98, 86, 71, 39, 29, 116, 99,
+    136, 59, 22, 32, 31, 0, 73, 179, 45, 108, 85, 178, 96, 122, 126, 33, 30, 175, 135, 56, 35, 15,
+    67, 87, 134, 160, 110, 83, 109, 124, 47, 138, 160, 6, 77, 10, 7, 14, 118, 12, 8, 11, 148, 9,
+    135, 60, 118, 177, 3, 173, 99, 67, 130, 87,
+];

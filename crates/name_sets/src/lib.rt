@@ -6,6 +6,7 @@ mod counts;
 mod element_sets;
 mod rows;
 mod sets;
+mod tables;
 mod tag_sets;
 mod wanted;
 

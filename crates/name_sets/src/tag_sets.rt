@@ -4,19 +4,14 @@ ghost use Rattle.name_sets.specs.Sets.{is_one_of};
 ghost use Rattle.name_sets.specs.TagSets.{break_outs, formatting, math_ml_glyphs, rawtext_contexts, rcdata_contexts};
 
 use crate::sets::is_one_of;
+use crate::tables::{FORMATTING, is_in};
 use html_lexemes::LocalName;
 
 /// An element with formatting (WHATWG HTML, 13.2.4.3).
 pub fn is_formatting_tag(name: &LocalName) -> bool
     ensures { result ≡ is_one_of formatting name.now }
 {
-    is_one_of(
-        name,
-        &[
-            "a", "b", "big", "code", "em", "font", "i", "nobr", "s", "small", "strike", "strong",
-            "tt", "u",
-        ],
-    )
+    is_in(name, &FORMATTING)
 }
 
 /// A start tag that breaks out of foreign content; `font` is one too, with `color`, `face` or `size` (WHATWG HTML,
