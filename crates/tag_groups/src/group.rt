@@ -4,7 +4,7 @@ ghost use Rattle.name_sets.specs.Sets.{is_one_of};
 ghost use Rattle.name_sets.specs.TagSets.{formatting};
 ghost use Rattle.tag_groups.specs.Groups.{is_formatting, tag_group};
 
-use crate::names::group_of;
+use crate::names::GROUPS;
 use html_lexemes::LocalName;
 
 /// Tags whose names every insertion mode treats alike, both as start tags and as end tags.
@@ -121,7 +121,10 @@ impl TagGroup {
     pub fn of(name: &LocalName) -> TagGroup
         ensures { result ≡ tag_group name.now }
     {
-        group_of(name.as_str())
+        match name.known() {
+            Some(known) => GROUPS[known as usize],
+            None => TagGroup::Other,
+        }
     }
 }
 
