@@ -18,7 +18,7 @@ left_text bs left n u le read e = subst IsUtf8 (sym e) (IsUtf8-drop bs n u (IsCh
 
 -- ---- the longest front of a class
 
-front_on : (p : ℕ → Bool) (c : ℕ) (cs : List ℕ) → p c ≡ true → front_while p (c ∷ cs) ≡ c ∷ front_while p cs
+pub front_on : (p : ℕ → Bool) (c : ℕ) (cs : List ℕ) → p c ≡ true → front_while p (c ∷ cs) ≡ c ∷ front_while p cs
 front_on p c cs e = rw e refl
 
 front_off : (p : ℕ → Bool) (c : ℕ) (cs : List ℕ) → p c ≡ false → front_while p (c ∷ cs) ≡ []

@@ -9,6 +9,10 @@ use Rattle.std.specs.Char.{IsScalar, to_ascii_lowercase}
 use Rattle.std.specs.Str.{all_scalars}
 use Rattle.std.specs.Str.Pattern.{FindsCharSuffix, HasSuffixMatch}
 use Rattle.html_grammar.specs.Characters.{name_of, shown}
+use Rattle.html_grammar.specs.Classes.{is_of}
+use Rattle.html_grammar.specs.Slices.{front_while, rest_while}
+use Rattle.html_grammar.specs.declared.slices.CharacterClass.TheVariants.{AttributeName, Lowered}
+use Rattle.html_grammar.proofs.SliceLemmas.{front_on, rest_off, rest_on}
 use Rattle.html_grammar.specs.Tags.{ends_with_slash}
 
 ends_in : (front : List ℕ) (c : ℕ) → ends_with_slash (front ++ c ∷ []) ≡ (c == 47)
@@ -72,6 +76,35 @@ named-more old new bs rest whole c d h e lower pushed =
       text = IsUtf8-past_char bs rest c h.text e;
       same = ap (λ l. l ++ name_of (chars rest)) longer ∙ append_assoc (chars (string_bytes old)) (d ∷ []) (name_of (chars rest)) ∙ ap (λ l. chars (string_bytes old) ++ l) (sym left) ∙ h.same;
     }
+
+lowered_step : (c : ℕ) (cs : List ℕ) (is_lowered : Bool) → is_of Lowered c ≡ is_lowered → (rest_while (is_of Lowered) cs ≡ [] → name_of cs ≡ cs) →
+    rest_while (is_of Lowered) (c ∷ cs) ≡ [] → name_of (c ∷ cs) ≡ c ∷ cs
+lowered_step c cs true e h none = ap (λ d. d ∷ name_of cs) (stays c e) ∙ ap (λ l. c ∷ l) (h (sym (rest_on (is_of Lowered) c cs e) ∙ none)) where
+  stays : (c : ℕ) → is_of Lowered c ≡ true → to_ascii_lowercase (shown c) ≡ c
+  stays c e = grind (arith, nat_tests, e)
+lowered_step c cs false e h none = let absurd_list : c ∷ cs ≡ [] = sym (rest_off (is_of Lowered) c cs e) ∙ none in cc
+
+-- a name is what is written where all of it is lowered
+pub lowered_name : (cs : List ℕ) → rest_while (is_of Lowered) cs ≡ [] → name_of cs ≡ cs
+lowered_name [] none = refl
+lowered_name (c ∷ cs) none = lowered_step c cs (is_of Lowered c) refl (lowered_name cs) none
+
+pub lowered_text : (cs bs : List ℕ) → chars bs ≡ rest_while (is_of Lowered) cs → (length bs == 0) ≡ true → name_of cs ≡ cs
+lowered_text cs bs left none = lowered_name cs (sym left ∙ ap chars (nil_from_length bs (eqb-true (length bs) 0 none)) ∙ chars-nil)
+
+-- a name goes on with its first character where this is of the class
+pub named-with_first : (made slice cs behind : List ℕ) (first : ℕ) → cs ≡ first ∷ behind → is_of AttributeName first ≡ true → slice ≡ front_while (is_of AttributeName) cs → made ≡ name_of slice
+    → made ≡ name_of (first ∷ front_while (is_of AttributeName) behind)
+named-with_first made slice cs behind first e passes front named =
+    named ∙ ap name_of (front ∙ ap (front_while (is_of AttributeName)) e ∙ front_on (is_of AttributeName) first behind passes)
+
+pub left-with_first : (rest cs behind : List ℕ) (first : ℕ) → cs ≡ first ∷ behind → is_of AttributeName first ≡ true → rest ≡ rest_while (is_of AttributeName) cs
+    → rest ≡ rest_while (is_of AttributeName) behind
+left-with_first rest cs behind first e passes left = left ∙ ap (rest_while (is_of AttributeName)) e ∙ rest_on (is_of AttributeName) first behind passes
+
+pub named-behind_first : (made slice behind : List ℕ) (first : ℕ) → slice ≡ front_while (is_of AttributeName) behind → made ≡ name_of (first ∷ slice)
+    → made ≡ name_of (first ∷ front_while (is_of AttributeName) behind)
+named-behind_first made slice behind first front named = named ∙ ap (λ l. name_of (first ∷ l)) front
 
 pub named-all : (name rest whole : List ℕ) → IsNamed name rest whole → length rest ≡ 0 → chars name ≡ whole
 named-all name rest whole h none =

@@ -10,7 +10,7 @@ ghost use Rattle.html_grammar.specs.References.{behind_number_sign, named, numbe
 ghost use Rattle.html_grammar.specs.Slices.{first_passes};
 
 use crate::characters::shown_character;
-use crate::slices::{CharacterClass, behind, first_and_rest, skip, split_while};
+use crate::slices::{CharacterClass, behind, first_and_rest, split_while};
 use html_lexemes::{ReferenceTable, Text};
 use std::alloc::{AllocError, Global};
 
@@ -96,10 +96,7 @@ pub fn value_of(alloc: Global, table: &ReferenceTable, text: &str) -> Result<Tex
 fn is_shown(text: &str) -> bool
     ensures { (table : References) → result ≡ true → value_of table (chars text.now) ≡ chars text.now }
 {
-    match first_and_rest(skip(text, CharacterClass::Shown)) {
-        Some(_) => false,
-        None => true,
-    }
+    !text.contains('&') && !text.contains('\0')
 }
 
 // the reference behind a character of an attribute's value, which is one behind `&` alone

@@ -24,10 +24,8 @@ pub enum CharacterClass {
     AttributeName,
     /// What a value without quotes goes on with: no space or `>`.
     Unquoted,
-    /// What stands before this character: each other one.
-    Before(char),
-    /// What stands in a value for itself: neither `&` nor NUL.
-    Shown,
+    /// What stands in a name for itself: neither a capital ASCII letter nor NUL.
+    Lowered,
     /// What a doctype's identifier goes on with, before this quote: neither the quote nor `>`.
     Identifier(char),
 }
@@ -48,8 +46,7 @@ impl CharacterClass {
             CharacterClass::TagName => !(is_space || c == '/' || c == '>'),
             CharacterClass::AttributeName => !(is_space || c == '/' || c == '>' || c == '='),
             CharacterClass::Unquoted => !(is_space || c == '>'),
-            CharacterClass::Before(mark) => c != mark,
-            CharacterClass::Shown => c != '&' && c != '\0',
+            CharacterClass::Lowered => !(c.is_ascii_uppercase() || c == '\0'),
             CharacterClass::Identifier(quote) => c != quote && c != '>',
         }
     }
@@ -139,9 +136,5 @@ pub fn cut_at_character<'t>(text: &'t str, mark: char) -> Option<(&'t str, &'t s
     ensures slice_utf8 { IfSome result (λ r. IsUtf8 r.0.now) }
     ensures rest_utf8 { IfSome result (λ r. IsUtf8 r.1.now) }
 {
-    let (slice, marked) = split_while(text, CharacterClass::Before(mark));
-    match first_and_rest(marked) {
-        Some((_, rest)) => Some((slice, rest)),
-        None => None,
-    }
+    text.split_once(mark)
 }

@@ -1,4 +1,4 @@
-ghost use Rattle.std.specs.Prelude.{◌≡◌, ℕ, List, ◌∷◌, ◌++◌, ◌||◌, ◌&&◌, take, chars, option_map, IfOk, IfSome, OnOk, string_bytes};
+ghost use Rattle.std.specs.Prelude.{◌≡◌, ℕ, List, ◌∷◌, ◌++◌, ◌||◌, ◌&&◌, true, take, chars, option_map, IfOk, IfSome, OnOk, string_bytes};
 ghost use Rattle.std.specs.Char.{to_ascii_lowercase};
 ghost use Rattle.std.specs.Str.{IsUtf8, bytes_eq};
 ghost use Rattle.std.specs.Bool.{nat_le};
@@ -9,9 +9,12 @@ ghost use Rattle.html_grammar.specs.Characters.{name_of, shown};
 ghost use Rattle.html_grammar.specs.Tags.{attribute_at, ends_with_slash, tag_at, value_behind, written_value};
 ghost use Rattle.html_grammar.specs.TagParts.{HasLaterNames, attribute_and_rest, is_named, with_new};
 ghost use Rattle.html_grammar.specs.Read.{cut_of, tag_and_rest};
+ghost use Rattle.html_grammar.specs.Classes.{is_of};
+ghost use Rattle.html_grammar.specs.Slices.{front_while, rest_while};
+ghost use Rattle.html_grammar.specs.declared.slices.CharacterClass.TheVariants.{AttributeName};
 
 use crate::references::value_of;
-use crate::slices::{CharacterClass, behind, cut_at_character, first_and_rest, skip, split_while};
+use crate::slices::{CharacterClass, behind, cut_at_character, first_and_rest, split_while};
 use html_lexemes::{
     Attribute, Attributes, LocalName, Namespace, QualName, ReferenceTable, Tag, TagKind, Text,
 };
@@ -33,7 +36,7 @@ pub fn tag_at<'t>(
     ensures utf8 { IfOk result (λ read. IfSome read (λ r. IsUtf8 r.1.now)) }
 {
     let (name, mut rest) = split_while(text, CharacterClass::TagName);
-    let name = LocalName::from(name_of(alloc, name)?);
+    let name = local_name(alloc, name)?;
     let mut attrs = Attributes::new(alloc);
     let mut later = BTreeSet::new(alloc);
     let mut had_duplicate_attributes = false;
@@ -52,7 +55,10 @@ pub fn tag_at<'t>(
             };
             return Ok(Some((tag, behind_c)));
         }
-        let Some((attribute, behind_attribute)) = attribute_at(alloc, table, c, behind_c)? else {
+        let Some((attribute, behind_attribute)) = attribute_at(
+            alloc, table, behind_gap, c, behind_c,
+        )?
+        else {
             return Ok(None);
         };
         rest = behind_attribute;
@@ -121,28 +127,50 @@ fn add_later(
     Ok(())
 }
 
-// the attribute that begins with a character and goes on with a text, and what follows it
+// the attribute that a text begins with, whose first character is given with what is behind it, and what follows it
 fn attribute_at<'t>(
     alloc: Global,
     table: &ReferenceTable,
-    first: char,
     text: &'t str,
+    first: char,
+    behind: &'t str,
 ) -> Result<Option<(Attribute, &'t str)>, AllocError>
-    ensures value { IfOk result (λ read. option_map attribute_and_rest read ≡ attribute_at table.now first (chars text.now)) }
+    requires { chars text.now ≡ first ∷ chars behind.now }
+    ensures value { IfOk result (λ read. option_map attribute_and_rest read
+        ≡ attribute_at table.now first (chars behind.now)) }
     ensures utf8 { IfOk result (λ read. IfSome read (λ r. IsUtf8 r.1.now)) }
 {
-    let (name, rest) = split_while(text, CharacterClass::AttributeName);
+    let (name, rest) = attribute_name(alloc, text, first, behind)?;
     let Some((value, rest)) = value_behind(rest) else {
         return Ok(None);
     };
     let attribute = Attribute {
-        name: QualName::new(
-            Namespace::Other(Text::from(String::new(alloc))),
-            LocalName::from(name_from(alloc, first, name)?),
-        ),
+        name: QualName::new(Namespace::Other(Text::from(String::new(alloc))), name),
         value: value_of(alloc, table, value)?,
     };
     Ok(Some((attribute, rest)))
+}
+
+// the name of such an attribute, to which its first character belongs whatever it is, and what follows the name
+fn attribute_name<'t>(
+    alloc: Global,
+    text: &'t str,
+    first: char,
+    behind: &'t str,
+) -> Result<(LocalName, &'t str), AllocError>
+    requires { chars text.now ≡ first ∷ chars behind.now }
+    ensures name { IfOk result (λ r. r.0
+        ≡ name_of (first ∷ front_while (is_of AttributeName) (chars behind.now))) }
+    ensures rest { IfOk result (λ r. chars r.1.now ≡ rest_while (is_of AttributeName) (chars behind.now)) }
+    ensures utf8 { IfOk result (λ r. IsUtf8 r.1.now) }
+{
+    if CharacterClass::AttributeName.has(first) {
+        let (name, rest) = split_while(text, CharacterClass::AttributeName);
+        return Ok((local_name(alloc, name)?, rest));
+    }
+    let (name, rest) = split_while(behind, CharacterClass::AttributeName);
+    let name = LocalName::from(name_from(alloc, first, name)?);
+    Ok((name, rest))
 }
 
 // the value behind an attribute's name as it is written, and what follows it
@@ -151,10 +179,12 @@ fn value_behind(text: &str) -> Option<(&str, &str)>
     ensures slice_utf8 { IfSome result (λ r. IsUtf8 r.0.now) }
     ensures rest_utf8 { IfSome result (λ r. IsUtf8 r.1.now) }
 {
-    match behind(skip(text, CharacterClass::Space), "=") {
-        Some(rest) => written_value(skip(rest, CharacterClass::Space)),
-        None => Some(("", text)),
-    }
+    let (_, behind_spaces) = split_while(text, CharacterClass::Space);
+    let Some(rest) = behind(behind_spaces, "=") else {
+        return Some(("", text));
+    };
+    let (_, value) = split_while(rest, CharacterClass::Space);
+    written_value(value)
 }
 
 // the value behind `=` as it is written, and what follows it
@@ -174,7 +204,35 @@ fn written_value(text: &str) -> Option<(&str, &str)>
 pub fn name_of(alloc: Global, text: &str) -> Result<Text, AllocError>
     ensures { IfOk result (λ name. name ≡ name_of (chars text.now)) }
 {
-    let mut name = String::new(alloc);
+    if is_lowered(text) {
+        return Text::from_str(alloc, text);
+    }
+    lowered(alloc, text)
+}
+
+// the same as a local name
+fn local_name(alloc: Global, text: &str) -> Result<LocalName, AllocError>
+    ensures { IfOk result (λ name. name ≡ name_of (chars text.now)) }
+{
+    if is_lowered(text) {
+        return LocalName::from_str(alloc, text);
+    }
+    Ok(LocalName::from(lowered(alloc, text)?))
+}
+
+// whether a name is what is written
+fn is_lowered(text: &str) -> bool
+    ensures { result ≡ true → name_of (chars text.now) ≡ chars text.now }
+{
+    let (_, others) = split_while(text, CharacterClass::Lowered);
+    others.is_empty()
+}
+
+// a name that is made anew
+fn lowered(alloc: Global, text: &str) -> Result<Text, AllocError>
+    ensures { IfOk result (λ name. name ≡ name_of (chars text.now)) }
+{
+    let mut name = String::with_capacity(alloc, text.len())?;
     push_name(&mut name, text)?;
     Ok(Text::from(name))
 }

@@ -1,6 +1,6 @@
-use Rattle.std.proofs.Common.{sym, ◌∙◌}
-use Rattle.html_grammar.proofs.CharacterCuts.{shown_value}
+use Rattle.html_grammar.proofs.CharacterCuts.{shown_tested}
 use Rattle.html_grammar.proofs.references.is_shown.Goals as goal
 
-pub returns-in-None : goal.returns-in-None
-returns-in-None c table told = shown_value table _ (sym c.skip.ensures ∙ c.in-None.ensures.value)
+pub returns-then-not-contains : goal.returns-then-not-contains
+returns-then-not-contains c table told =
+    shown_tested table c.args.text.now c.contains-then-not-contains.result c.utf8.text c.if-not-contains.ensures.cases c.contains-then-not-contains.ensures.cases told

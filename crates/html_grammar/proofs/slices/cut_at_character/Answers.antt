@@ -1,9 +1,11 @@
-use Rattle.std.proofs.Common.{chars}
-use Rattle.html_grammar.proofs.CharacterCuts.{cut_found, cut_missed}
+use Rattle.html_grammar.proofs.CharacterCuts.{split_cut, split_slice, split_rest}
 use Rattle.html_grammar.proofs.slices.cut_at_character.Goals as goal
 
-pub returns-in-Some-clause-value : goal.returns-in-Some-clause-value
-returns-in-Some-clause-value c = cut_found c.args.mark _ (chars c.args.text.now) _ _ _ c.split_while.ensures.front c.split_while.ensures.rest c.in-Some.ensures.value
+pub returns-clause-value : goal.returns-clause-value
+returns-clause-value c = split_cut c.args.mark c.args.text.now c.split_once.result c.utf8.text c.split_once.ensures.cases
 
-pub returns-in-None-clause-value : goal.returns-in-None-clause-value
-returns-in-None-clause-value c = cut_missed c.args.mark (chars c.args.text.now) _ c.split_while.ensures.rest c.in-None.ensures.value
+pub returns-clause-slice_utf8 : goal.returns-clause-slice_utf8
+returns-clause-slice_utf8 c = split_slice c.args.mark c.args.text.now c.split_once.result c.utf8.text c.split_once.ensures.cases
+
+pub returns-clause-rest_utf8 : goal.returns-clause-rest_utf8
+returns-clause-rest_utf8 c = split_rest c.args.mark c.args.text.now c.split_once.result c.utf8.text c.split_once.ensures.cases

@@ -1,5 +1,5 @@
 -- Each turn of the loop reads one attribute, or the end of the tag.
-use Rattle.std.proofs.Common.{chars, option_map, ◌||◌, ap, sym, ◌∙◌, rules}
+use Rattle.std.proofs.Common.{chars, option_map, ◌||◌, refl, ap, sym, ◌∙◌, rules}
 use Rattle.html_grammar.specs.TagParts.{attribute_and_rest}
 use Rattle.html_grammar.proofs.LaterNames.{none-later}
 use Rattle.html_grammar.proofs.TagLemmas.{left-start, left-ends, left-closes, left-cut_off, left-more, left-shorter}
@@ -9,7 +9,7 @@ pub attributes-init : goal.attributes-init
 attributes-init c = (
   c.split_while.ensures.rest_utf8,
   none-later _ _ c.new-later.ensures.empty c.new-attrs.ensures,
-  left-start c.args.table.now c.args.kind (chars c.args.text.now) _ _ _ _ _ c.split_while.ensures.front c.split_while.ensures.rest c.from-name.ensures c.in_ok-name_of.ensures c.new-attrs.ensures,
+  left-start c.args.table.now c.args.kind (chars c.args.text.now) _ _ _ _ _ c.split_while.ensures.front c.split_while.ensures.rest refl c.in_ok-name.ensures c.new-attrs.ensures,
 )
 
 pub returns-in_default-clause-value : goal.returns-in_default-clause-value
