@@ -6,8 +6,8 @@ ghost use Rattle.html_grammar.specs.Items.{characters, item_of};
 ghost use Rattle.html_grammar.specs.Lexemes.{begins_tag, behind_slash, cdata_lexeme, comment_lexeme, declaration, doctype_lexeme, ends_raw_text, has_end_tags, has_references, is_last, kind_behind, lexeme, markup, named_end_tag, ordinary_item, ordinary_lexeme, raw_lexeme, reference_lexeme, tag_lexeme, told};
 ghost use Rattle.html_grammar.specs.PlainRead.{items_of, lexeme_of};
 ghost use Rattle.html_grammar.specs.Slices.{after, begins, cut, cut_or_all, first_passes, front_while, rest_while};
-ghost use Rattle.html_grammar.specs.Tags.{ends_tag_name};
-ghost use Rattle.html_grammar.specs.Read.{cut_of, tag_and_rest};
+ghost use Rattle.html_grammar.specs.Tags.{ends_tag_name, tag_at};
+ghost use Rattle.html_grammar.specs.Read.{cut_of};
 ghost use Rattle.html_grammar.specs.References.{reference};
 ghost use Rattle.html_grammar.specs.Told.{HasRest};
 ghost use Rattle.html_grammar.specs.declared.modes.Mode.{Mode as SeenMode};
@@ -169,7 +169,7 @@ pub fn markup<'t>(
         return one_character(alloc, mode.text, '<', rest);
     };
     if c.is_ascii_alphabetic() {
-        return Ok(tag_or_nothing(tag_at(alloc, table, TagKind::StartTag, rest)?));
+        return tag_or_nothing(alloc, table, TagKind::StartTag, rest);
     }
     match c {
         '/' => end_tag(alloc, table, mode, behind_c),
@@ -179,15 +179,20 @@ pub fn markup<'t>(
     }
 }
 
-/// A tag that was read, or nothing where the end cuts it off.
-pub fn tag_or_nothing(read: Option<(Tag, &str)>) -> Lexeme<'_>
-    requires { IfSome read (λ r. IsUtf8 r.1.now) }
-    ensures value { (mode : SeenMode) → lexeme_of mode result ≡ tag_lexeme (option_map tag_and_rest read.entry) }
-    ensures utf8 { HasRest result }
+/// The tag whose name begins here, or nothing where the end cuts it off. The error is want of memory alone.
+pub fn tag_or_nothing<'t>(
+    alloc: Global,
+    table: &ReferenceTable,
+    kind: TagKind,
+    text: &'t str,
+) -> Result<Lexeme<'t>, AllocError>
+    ensures value { IfOk result (λ l. (mode : SeenMode) →
+        lexeme_of mode l ≡ tag_lexeme (tag_at table.now kind (chars text.now))) }
+    ensures utf8 { IfOk result HasRest }
 {
-    match read {
-        Some((tag, rest)) => Lexeme::Tagged(tag, rest),
-        None => Lexeme::Nothing,
+    match tag_at(alloc, table, kind, text)? {
+        Some((tag, rest)) => Ok(Lexeme::Tagged(tag, rest)),
+        None => Ok(Lexeme::Nothing),
     }
 }
 
@@ -205,7 +210,7 @@ pub fn end_tag<'t>(
         return one_character(alloc, mode.text, '<', "/");
     };
     if c.is_ascii_alphabetic() {
-        return Ok(tag_or_nothing(tag_at(alloc, table, TagKind::EndTag, rest)?));
+        return tag_or_nothing(alloc, table, TagKind::EndTag, rest);
     }
     if c == '>' {
         let message = ErrorMessage::Fixed("Bad character");
@@ -320,7 +325,7 @@ pub fn raw<'t>(
     ensures utf8 { IfOk result HasRest }
 {
     if let Some(name) = end_tag_name(alloc, kind, mode, c, rest)? {
-        return Ok(tag_or_nothing(tag_at(alloc, table, TagKind::EndTag, name)?));
+        return tag_or_nothing(alloc, table, TagKind::EndTag, name);
     }
     if may_be_reference(kind, c) {
         return reference_or_sign(alloc, table, mode, rest);

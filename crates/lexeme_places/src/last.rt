@@ -10,7 +10,6 @@ use html_grammar::lexemes::{
     Lexeme, comment, declaration, doctype, end_tag, lexeme_at, markup, reference_or_sign, section,
     tag_or_nothing,
 };
-use html_grammar::tags::tag_at;
 use html_grammar::{Mode, TextKind};
 use html_lexemes::states::RawKind;
 use html_lexemes::{LocalName, ReferenceTable};
@@ -33,7 +32,7 @@ pub fn lexeme_from<'t>(
         Place::CharacterReference(_) => reference_or_sign(alloc, table, mode, text),
         Place::TagOpen => markup(alloc, table, foreign, mode, text),
         Place::EndTagOpen => end_tag(alloc, table, mode, text),
-        Place::Tag(kind, _) => Ok(tag_or_nothing(tag_at(alloc, table, kind, text)?)),
+        Place::Tag(kind, _) => tag_or_nothing(alloc, table, kind, text),
         Place::MarkupDeclarationOpen => declaration(alloc, foreign, mode, text),
         Place::BogusComment => comment(alloc, mode, bogus_comment_slice(text)),
         Place::Comment => comment(alloc, mode, comment_slice(text)),

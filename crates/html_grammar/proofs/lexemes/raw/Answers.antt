@@ -1,7 +1,7 @@
 use Rattle.std.proofs.Common.{◌≡◌, ◌∷◌, [], chars, sym, ap, ap₂, ◌∙◌}
 use Rattle.std.specs.Prelude.{option_map}
 use Rattle.html_grammar.specs.Items.{characters}
-use Rattle.html_grammar.specs.Lexemes.{kind_behind, raw_lexeme, tag_lexeme, told}
+use Rattle.html_grammar.specs.Lexemes.{kind_behind, raw_lexeme, told}
 use Rattle.html_grammar.specs.PlainRead.{lexeme_of}
 use Rattle.html_grammar.specs.declared.modes.TextKind.TheVariants.{Raw}
 use Rattle.html_grammar.proofs.LexemeLemmas.{ok_weaker, raw_end, raw_character}
@@ -10,8 +10,11 @@ use Rattle.html_grammar.proofs.lexemes.raw.Goals as goal
 pub returns-in-Some-clause-value : goal.returns-in-Some-clause-value
 returns-in-Some-clause-value c =
     let m = c.args.mode.now in
-    c.tag_or_nothing.ensures.value m ∙ (ap tag_lexeme c.in_ok-tag_at.ensures.value
-    ∙ raw_end c.args.table.now c.args.kind m c.args.c (chars c.args.rest.now) (chars c.in-Some.name.now) (sym (ap (option_map (λ text. chars text.now)) c.in-Some.is) ∙ c.in_ok-name.ensures.value))
+    let cs = chars c.args.rest.now in
+    ok_weaker _ (λ l. lexeme_of m l ≡ raw_lexeme c.args.table.now c.args.kind m c.args.c cs)
+    (λ l h. h m ∙ raw_end c.args.table.now c.args.kind m c.args.c cs (chars c.in-Some.name.now)
+    (sym (ap (option_map (λ text. chars text.now)) c.in-Some.is) ∙ c.in_ok-name.ensures.value))
+    c.tag_or_nothing.result c.tag_or_nothing.ensures.value
 
 pub returns-clause-value : goal.returns-clause-value
 returns-clause-value c =
