@@ -100,10 +100,10 @@ pub(crate) fn tell_end<S: TreeSink>(page: &mut Parse<S>) -> Result<(), ParseFaul
     Ok(())
 }
 
-/// A tag, with the answer to it.
+/// A tag, with the answer to it. Its attributes are shared, since the tree gets copies of them.
 pub(crate) fn tell_tag<S: TreeSink>(
     page: &mut Parse<S>,
-    tag: Tag,
+    mut tag: Tag,
 ) -> Result<TokenSinkResult<S::Handle>, ParseFault>
     requires ready { Ready (state_of S.number S.forest S.quirks page.old) }
     ensures seen { OnOk result (state_of S.number S.forest S.quirks page.new ≡ step
@@ -112,8 +112,24 @@ pub(crate) fn tell_tag<S: TreeSink>(
         (tag_item tag)) }
     ensures memory { IfErr result (λ e. e ≡ Memory) }
 {
+    tag.attrs.share()?;
+    answer_tag(page, &tag)
+}
+
+// a tag, with the answer to it
+fn answer_tag<S: TreeSink>(
+    page: &mut Parse<S>,
+    tag: &Tag,
+) -> Result<TokenSinkResult<S::Handle>, ParseFault>
+    requires ready { Ready (state_of S.number S.forest S.quirks page.old) }
+    ensures seen { OnOk result (state_of S.number S.forest S.quirks page.new ≡ step
+        (state_of S.number S.forest S.quirks page.old) (tag_item tag.now)) }
+    ensures reply { IfOk result (λ answer. answer ≡ reply S.handle (state_of S.number S.forest S.quirks page.old)
+        (tag_item tag.now)) }
+    ensures memory { IfErr result (λ e. e ≡ Memory) }
+{
     page.kept.skip_lf = false;
-    take_tag(page, &tag)
+    take_tag(page, tag)
 }
 
 /// An item of a page, with the answer to it; and the line in which it stands.
