@@ -98,6 +98,16 @@ impl Pending {
         (place, take_out(&mut self.held))
     }
 
+    /// Takes a text whose room the next lexeme is held in.
+    pub(crate) fn give_back(&mut self, mut text: String)
+        requires at { self.old.place ≡ TextPlace }
+        ensures place { self.new.place ≡ TextPlace }
+        ensures held { chars (string_bytes self.new.held) ≡ [] }
+    {
+        text.clear();
+        self.held = text;
+    }
+
     /// Goes to a place behind an opening.
     pub(crate) fn open(&mut self, place: Place)
         requires at { self.old.place ≡ TextPlace }

@@ -460,11 +460,11 @@ impl Reader {
             Advance::Goes => Ok(None),
             Advance::Ends(place, held) => {
                 tag_ends_with_its_mark();
-                self.tell_lexeme(table, sink, place, held)
+                self.end_lexeme(table, sink, place, held)
             }
             Advance::EndsBefore(place, held) => {
                 find_errors_before(&mut self.errors, place, c, self.line)?;
-                self.tell_lexeme(table, sink, place, held)?;
+                self.end_lexeme(table, sink, place, held)?;
                 self.begin(sink, c)?;
                 Ok(None)
             }
@@ -557,8 +557,8 @@ impl Reader {
         Ok(())
     }
 
-    // tells a lexeme that is over: what was held at a place
-    fn tell_lexeme<S: TokenSink>(
+    // tells a lexeme that is over: what was held at a place, and is to be held in again
+    fn end_lexeme<S: TokenSink>(
         &mut self,
         table: &ReferenceTable,
         sink: &mut S,
@@ -584,22 +584,46 @@ impl Reader {
             Leaves table.now S.means self.old.mode place (chars (string_bytes held) ++ (follow ++ rest))
             (state_of S.means self.old (S.state sink.old)) final) }
     {
+        let pause = self.tell_lexeme(table, sink, place, held.as_str())?;
+        self.pending.give_back(held);
+        Ok(pause)
+    }
+
+    // tells a lexeme that is over: what was held at a place
+    fn tell_lexeme<S: TokenSink>(
+        &mut self,
+        table: &ReferenceTable,
+        sink: &mut S,
+        place: Place,
+        held: &str,
+    ) -> Result<Option<Pause<S::Handle>>, ParseFault>
+        requires ready { IsReadyFor S.ready S.welcomes self.old.mode.text (S.state sink.old) }
+        requires place { self.old.pending.place ≡ TextPlace }
+        requires placed { IsPlaceOf self.old.mode.text place }
+        ensures memory { IfErr result (λ e. e ≡ Memory) }
+        ensures ready { OnOk result (IsReadyFor S.ready S.welcomes self.new.mode.text (S.state sink.new)) }
+        ensures place { OnOk result (self.new.pending.place ≡ TextPlace) }
+        ensures asks { IfOk result (λ pause. Asks S.means pause (S.state sink.old) (S.state sink.new)) }
+        ensures untagged { IfOk result
+            (λ pause. IsUntagged (place_lexeme table.now
+            (S.means.foreign (state_of S.means self.old (S.state sink.old))) self.old.mode place
+            (chars held.now)) → pause ≡ None) }
+        ensures paused { IfOk result (λ pause. IfSome pause (λ _. HoldsNothing self.new)) }
+        ensures reads { OnOk result ((follow rest : List ℕ) (final : S.Abstract) →
+            IsOver table.now (S.means.foreign (state_of S.means self.old (S.state sink.old))) self.old.mode place
+            (chars held.now) follow →
+            Reads table.now S.means self.new (S.state sink.new) (follow ++ rest) final →
+            Leaves table.now S.means self.old.mode place (chars held.now ++ (follow ++ rest))
+            (state_of S.means self.old (S.state sink.old)) final) }
+    {
         place_of_a_kind();
         self.tell_run(sink)?;
         let foreign = sink.adjusted_current_node_present_but_not_in_html_namespace();
         let alloc = *self.run.allocator();
-        let lexeme = lexeme_from(alloc, table, foreign, &self.mode, place, held.as_str())?;
+        let lexeme = lexeme_from(alloc, table, foreign, &self.mode, place, held)?;
         let repeats = may_repeat(&lexeme);
         let errors = &mut self.errors;
-        find_errors(
-            errors,
-            table,
-            self.start,
-            place,
-            held.as_str(),
-            repeats,
-            self.line,
-        )?;
+        find_errors(errors, table, self.start, place, held, repeats, self.line)?;
         match lexeme {
             Lexeme::Nothing => Ok(None),
             Lexeme::Told(tokens, text, left) => {
