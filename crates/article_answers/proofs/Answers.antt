@@ -11,7 +11,7 @@ use Rattle.article_values.specs.Faults.{first_fault}
 use Rattle.escaped_texts.specs.Escaped.{KnowsEscapes}
 use Rattle.html_forest.specs.Forest.{Forest}
 use Rattle.html_forest.specs.declared.sink.QuirksMode.{QuirksMode}
-use Rattle.html_lexemes.specs.References.{References}
+use Rattle.reference_tables.specs.References.{References}
 use Rattle.html_tree_builder.specs.Defaults.{default_parse}
 use Rattle.std.specs.Prelude.{IsUtf8, chars}
 use Rattle.page_config.specs.PageAnswers.{HasAnswer, IsAnswerOf, PageAnswer, fail, lines, too_narrow}

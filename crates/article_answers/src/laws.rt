@@ -3,7 +3,7 @@ ghost use Rattle.std.specs.Prelude.{◌≡◌, ℕ, List, Option};
 ghost use Rattle.article_answers.specs.ArticleAnswers.{IsForArticles, IsWritten, article_answer};
 ghost use Rattle.article_values.specs.Articles.{Blocks};
 ghost use Rattle.escaped_texts.specs.Escaped.{KnowsEscapes};
-ghost use Rattle.html_lexemes.specs.References.{References};
+ghost use Rattle.reference_tables.specs.References.{References};
 ghost use Rattle.page_config.specs.PageAnswers.{HasAnswer, PageAnswer};
 ghost use Rattle.page_config.specs.PlainPages.{IsPlain};
 ghost use Rattle.page_config.specs.Settings.{PageSetting};

@@ -5,7 +5,7 @@ use Rattle.std.specs.Char.{IsScalar}
 use Rattle.std.proofs.lemmas.List.Elements.{All-cons, All-nil}
 use Rattle.std.proofs.lemmas.Str.{chars-IsAscii, chars-append}
 use Rattle.std.proofs.lemmas.Str.Ascii.{IsAscii-from_all}
-use Rattle.html_lexemes.proofs.TextFronts.{chars-encode}
+use Rattle.reference_tables.proofs.TextFronts.{chars-encode}
 use Rattle.html_lexemes.specs.declared.names.Attribute.{Attribute}
 use Rattle.html_lexemes.specs.declared.names.Namespace.TheVariants.{Other}
 use Rattle.html_lexemes.specs.declared.names.QualName.{QualName}

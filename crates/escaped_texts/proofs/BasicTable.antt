@@ -5,7 +5,7 @@ use Rattle.std.specs.Cmp.Lexicographic.{nat_list_cmp_total, slice_cmp}
 use Rattle.std.specs.FinMap as finite
 use Rattle.std.specs.Ordering.{is_eq, nat_cmp}
 use Rattle.std.specs.declared.cmp.Ordering.TheVariants.{Less, Equal, Greater}
-use Rattle.html_lexemes.specs.References.{Reference, basic, basic_references}
+use Rattle.reference_tables.specs.References.{Reference, basic, basic_references}
 use Rattle.escaped_texts.specs.Escaped.{KnowsEscapes}
 
 -- a semicolon stands before the last character

@@ -7,7 +7,7 @@ use Rattle.std.proofs.lemmas.Bool.{and_parts}
 use Rattle.std.proofs.lemmas.Bool.Decides.{nat_tests}
 use Rattle.std.specs.FinMap as finite
 use Rattle.std.specs.List.{list_all}
-use Rattle.html_lexemes.specs.References.{References, is_alphanumeric, is_name, is_value, without_semicolon}
+use Rattle.reference_tables.specs.References.{References, is_alphanumeric, is_name, is_value, without_semicolon}
 use Rattle.escaped_texts.proofs.BasicTable.{goes_on, goes_on_behind}
 use Rattle.escaped_texts.specs.Escaped.{KnowsEscapes}
 

@@ -8,7 +8,7 @@ use Rattle.std.specs.Option.{option_or}
 use Rattle.std.specs.Prelude.{option_map}
 use Rattle.html_grammar.specs.References.{Found, named, named_from, named_here, semicolon}
 use Rattle.html_grammar.specs.Slices.{begins}
-use Rattle.html_lexemes.specs.References.{References}
+use Rattle.reference_tables.specs.References.{References}
 use Rattle.html_serializer.specs.Escapes.{escaped_character}
 use Rattle.escaped_texts.specs.Escaped.{KnowsEscapes}
 

@@ -15,7 +15,7 @@ use Rattle.html_grammar.specs.Tags.{tag_at}
 use Rattle.html_grammar.specs.declared.modes.Mode.{Mode}
 use Rattle.html_grammar.specs.declared.modes.TextKind.{TextKind}
 use Rattle.html_grammar.specs.declared.modes.TextKind.TheVariants.{Ordinary, Plain, Raw}
-use Rattle.html_lexemes.specs.References.{References}
+use Rattle.reference_tables.specs.References.{References}
 use Rattle.html_lexemes.specs.declared.states.RawKind.TheVariants.{Rcdata, Rawtext, ScriptData, ScriptDataEscaped}
 use Rattle.html_lexemes.specs.declared.token.TagKind.TheVariants.{EndTag}
 use Rattle.html_serializer.specs.Escapes.{escaped, escaped_character}

@@ -7,7 +7,7 @@ use Rattle.html_forest.specs.Forest.{is_in}
 use Rattle.html_grammar.specs.References.{kept_in_value, named, reference_in_value, value_from, value_of}
 use Rattle.html_grammar.specs.References.{value_step}
 use Rattle.html_grammar.specs.Slices.{after, begins, cut, cut_here, longer}
-use Rattle.html_lexemes.specs.References.{References}
+use Rattle.reference_tables.specs.References.{References}
 use Rattle.html_serializer.specs.Escapes.{escaped, escaped_character}
 use Rattle.escaped_texts.specs.Escaped.{HasNoNul, KnowsEscapes}
 use Rattle.escaped_texts.proofs.NamedReferences.{Written, as_itself, by_name, found, written}

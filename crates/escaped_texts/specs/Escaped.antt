@@ -4,7 +4,7 @@ use Rattle.std.specs.FinMap as finite
 use Rattle.html_forest.specs.Forest.{is_in}
 use Rattle.html_grammar.specs.declared.modes.TextKind.{TextKind}
 use Rattle.html_grammar.specs.declared.modes.TextKind.TheVariants.{Ordinary, Raw}
-use Rattle.html_lexemes.specs.References.{References}
+use Rattle.reference_tables.specs.References.{References}
 use Rattle.html_lexemes.specs.declared.states.RawKind.TheVariants.{Rcdata}
 
 -- A table of references that knows those of escaped text, and no name with a semicolon before its end.

@@ -7,7 +7,7 @@ ghost use Rattle.html_grammar.specs.Reading.{Reading};
 ghost use Rattle.html_grammar.specs.References.{value_of};
 ghost use Rattle.html_grammar.specs.Tags.{written_value};
 ghost use Rattle.html_grammar.specs.declared.modes.Mode.{Mode as SeenMode};
-ghost use Rattle.html_lexemes.specs.References.{References, basic};
+ghost use Rattle.reference_tables.specs.References.{References, basic};
 ghost use Rattle.html_serializer.specs.Escapes.{escaped};
 
 use html_grammar::TokenSink;

@@ -1,6 +1,6 @@
 -- Words of the worked rows: the items that a page gives to a sink that always goes on, with neighbouring texts joined and errors left out.
 use Rattle.std.specs.Prelude.{ℕ, zero, suc, Bool, true, false, List, [], ◌∷◌, ◌++◌, codes, Option, Some, None}
-use Rattle.html_lexemes.specs.References.{Reference, References, references}
+use Rattle.reference_tables.specs.References.{Reference, References, references}
 use Rattle.html_lexemes.specs.declared.names.Attribute.{Attribute}
 use Rattle.html_lexemes.specs.declared.states.AttrValueKind.{AttrValueKind}
 use Rattle.html_lexemes.specs.declared.states.DoctypeIdKind.{DoctypeIdKind}

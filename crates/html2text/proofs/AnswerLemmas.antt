@@ -8,7 +8,7 @@ use Rattle.html2text.specs.Responses.{IsTableRefusal, page_bytes}
 use Rattle.html2text.specs.Written.{HasAskedText, IsOtherPage, IsTooNarrowPage, most_bytes}
 use Rattle.html2text.specs.declared.outcome.Outcome.{Outcome}
 use Rattle.html2text.specs.declared.outcome.Outcome.TheVariants as outcomes
-use Rattle.html_lexemes.specs.References.{References, basic}
+use Rattle.reference_tables.specs.References.{References, basic}
 use Rattle.named_files.specs.TableFiles.{IsNoTable}
 use Rattle.named_files.specs.declared.table_fault.TableFault.{TableFault}
 use Rattle.named_files.specs.declared.table_fault.TableFault.TheVariants as table_faults

@@ -12,7 +12,7 @@ use Rattle.command_words.specs.WordFaults.{Explains, IsHelp, IsRefusedWith, faul
 use Rattle.command_words.specs.declared.words.Request.{Request}
 use Rattle.command_words.specs.declared.words.WordFault.{WordFault}
 use Rattle.command_words.specs.declared.words.WordFault.TheVariants as faults
-use Rattle.html_lexemes.specs.KnownPart.{AppendsPart}
+use Rattle.byte_devices.specs.KnownPart.{AppendsPart}
 use Rattle.html2text.specs.Endings.{IsAnswered}
 use Rattle.html2text.specs.Responses.{Bytes, Files, IsAskedRefusal, IsAskedTableRefusal, IsOutcomeOf, IsRefusal}
 use Rattle.html2text.specs.Responses.{IsTableRefusal, WritesAnswer, WritesAnswerPart, WritesAsked, WritesAskedPart}

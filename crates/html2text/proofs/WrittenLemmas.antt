@@ -2,7 +2,7 @@
 use Rattle.std.proofs.Common.{ℕ, Bool, List, Vec, Global, map, Option, None, Some, IfSome, chars}
 use Rattle.std.specs.Io.KnownBytes.{Appends}
 use Rattle.block_renderer.specs.Seen.{tags_seen}
-use Rattle.html_lexemes.specs.KnownPart.{AppendsPart}
+use Rattle.byte_devices.specs.KnownPart.{AppendsPart}
 use Rattle.html2text.proofs.LinesTextLemmas.{chars-lines_bytes, lines_utf8}
 use Rattle.html2text.specs.LinesText.{lines_bytes}
 use Rattle.html2text.specs.Written.{Gains, GainsPart}

@@ -7,8 +7,8 @@ use Rattle.command_words.specs.Requests.{asked_of}
 use Rattle.command_words.specs.declared.words.Request.{Request}
 use Rattle.command_words.specs.declared.words.WordFault.{WordFault}
 use Rattle.command_words.specs.declared.words.WordFault.TheVariants as faults
-use Rattle.html_lexemes.specs.KnownPart.{AppendsPart}
-use Rattle.html_lexemes.specs.References.{References, basic}
+use Rattle.byte_devices.specs.KnownPart.{AppendsPart}
+use Rattle.reference_tables.specs.References.{References, basic}
 use Rattle.html2text.specs.LinesText.{newline}
 use Rattle.html2text.specs.Written.{IsOtherPage, IsTooNarrowPage, WritesPage, WritesPart, most_bytes}
 use Rattle.html2text.specs.declared.outcome.Outcome.{Outcome}

@@ -4,8 +4,8 @@ use Rattle.std.specs.Prelude.{chars, if◌then◌else◌, length, map, unwrap_or
 use Rattle.std.specs.Io.KnownBytes.{Appends}
 use Rattle.std.specs.Str.{IsUtf8}
 use Rattle.command_words.specs.CommandWords.{Asked}
-use Rattle.html_lexemes.specs.KnownPart.{AppendsPart}
-use Rattle.html_lexemes.specs.References.{References}
+use Rattle.byte_devices.specs.KnownPart.{AppendsPart}
+use Rattle.reference_tables.specs.References.{References}
 use Rattle.html_render_tree.specs.PlainText.{plain_closes, plain_marking}
 use Rattle.html_tree_builder.specs.Defaults.{default_parse}
 use Rattle.page_config.specs.PageAnswers.{HasAnswer, HasText, fail, too_narrow}

@@ -7,7 +7,7 @@ ghost use Rattle.command_words.specs.CommandWords.{words_behind_name};
 ghost use Rattle.command_words.specs.FaultTexts.{fault_text};
 ghost use Rattle.command_words.specs.Requests.{asked_of};
 ghost use Rattle.command_words.specs.WordFaults.{IsRefusedWith};
-ghost use Rattle.html_lexemes.specs.KnownPart.{AppendsPart};
+ghost use Rattle.byte_devices.specs.KnownPart.{AppendsPart};
 ghost use Rattle.html2text.specs.Endings.{IsAnswered};
 ghost use Rattle.html2text.specs.Responses.{Complains, IsAskedRefusal, IsAskedTableRefusal, IsOutcomeOf, IsRefusal};
 ghost use Rattle.html2text.specs.Responses.{IsTableOf, IsTableRefusal, WritesAnswer, WritesAnswerPart, WritesAsked};

@@ -1,7 +1,7 @@
 //! A page's text, written.
 ghost use Rattle.std.specs.Prelude.{◌≡◌, ◌+◌, ◌<◌, ◌≤◌, ◌⊎◌, true, false, length, Err, IfSome, OnErr, OnOk};
 ghost use Rattle.std.specs.Io.KnownBytes.{Appends, IsAtEnd};
-ghost use Rattle.html_lexemes.specs.KnownPart.{AppendsPart};
+ghost use Rattle.byte_devices.specs.KnownPart.{AppendsPart};
 ghost use Rattle.html2text.specs.Written.{Gains, GainsPart};
 ghost use Rattle.html2text.specs.LinesText.{line_bytes, lines_bytes};
 ghost use Rattle.page_config.specs.Errors.{IsAnswer};

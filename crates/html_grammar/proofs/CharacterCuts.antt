@@ -9,7 +9,7 @@ use Rattle.std.proofs.Math.Utf8.{scalar}
 use Rattle.std.specs.Str.{NoCharPasses, NonePass, all_scalars}
 use Rattle.std.specs.Str.Pattern.{FindsChar, HasMatch}
 use denote.Ref.{Bor}
-use Rattle.html_lexemes.specs.References.{References}
+use Rattle.reference_tables.specs.References.{References}
 use Rattle.html_grammar.specs.Read.{cut_of}
 use Rattle.html_grammar.specs.References.{value_of}
 use Rattle.html_grammar.specs.Slices.{after, cut, longer}

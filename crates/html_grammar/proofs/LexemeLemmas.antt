@@ -14,7 +14,7 @@ use Rattle.html_grammar.specs.References.{reference}
 use Rattle.html_grammar.specs.Characters.{is_letter, shown}
 use Rattle.html_grammar.specs.Items.{characters}
 use Rattle.html_grammar.specs.declared.modes.TextKind.TheVariants.{Raw}
-use Rattle.html_lexemes.specs.References.{References}
+use Rattle.reference_tables.specs.References.{References}
 use Rattle.html_lexemes.specs.declared.token.TagKind.TheVariants.{EndTag}
 use Rattle.html_lexemes.specs.declared.states.RawKind.{RawKind}
 use Rattle.html_grammar.specs.declared.modes.Mode.{Mode}

@@ -2,8 +2,8 @@
 use Rattle.std.proofs.Common.{◌≡◌, ℕ, ◌+◌, IsTrue, List, [], ◌∷◌, ◌++◌, length, Option, Some, None, MatchOption, is_some, option_map, refl, sym, ap, subst, ◌∙◌, arith, append_assoc, append-nil}
 use Rattle.std.specs.Option.{option_or}
 use Rattle.std.specs.FinMap as finite
-use Rattle.html_lexemes.specs.References.{References}
-use Rattle.html_lexemes.specs.Lookup.{BeginsWithNoName, IsLongestName}
+use Rattle.reference_tables.specs.References.{References}
+use Rattle.reference_tables.specs.Lookup.{BeginsWithNoName, IsLongestName}
 use Rattle.html_grammar.specs.References.{Found, named, named_from}
 use Rattle.html_grammar.proofs.NameLemmas.{named_as, NoneLonger}
 

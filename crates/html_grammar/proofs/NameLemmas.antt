@@ -10,8 +10,8 @@ use Rattle.std.specs.Option.{option_or}
 use Rattle.std.specs.Str.{NonePass}
 use Rattle.std.specs.Str.Pattern.{FindsChar}
 use Rattle.std.specs.FinMap as finite
-use Rattle.html_lexemes.specs.References.{References}
-use Rattle.html_lexemes.specs.Lookup.{BeginsWithNoName, IsLongestName}
+use Rattle.reference_tables.specs.References.{References}
+use Rattle.reference_tables.specs.Lookup.{BeginsWithNoName, IsLongestName}
 use Rattle.html_grammar.specs.References.{Found, named, named_from}
 use Rattle.html_grammar.specs.Slices.{after}
 use Rattle.html_grammar.proofs.SliceLemmas.{after_mark}

@@ -1,7 +1,7 @@
 -- A text has one reading.
 use Rattle.std.proofs.Common.{◌≡◌, ℕ, zero, suc, ◌<◌, Bool, List, length, refl, sym, ap, ◌∙◌, subst, arith}
 use Rattle.std.specs.List.{fold}
-use Rattle.html_lexemes.specs.References.{References}
+use Rattle.reference_tables.specs.References.{References}
 use Rattle.html_lexemes.specs.declared.token.Tag.{Tag}
 use Rattle.html_grammar.specs.Items.{Item, tag, end_of_file}
 use Rattle.html_grammar.specs.Lexemes.{Lexeme, lexeme, nothing, told, tagged}

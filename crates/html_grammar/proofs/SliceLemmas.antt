@@ -6,7 +6,7 @@ use Rattle.std.proofs.lemmas.Str.{chars-append, chars-nil, chars_past_char, enco
 use Rattle.std.specs.Char.{len_utf8, to_ascii_lowercase}
 use Rattle.std.specs.Str.{IsCharBoundary}
 use Rattle.std.specs.Str.Pattern.{FindsTextPrefix}
-use Rattle.html_lexemes.proofs.TextFronts.{read_on}
+use Rattle.reference_tables.proofs.TextFronts.{read_on}
 use Rattle.html_grammar.specs.Slices.{Cut, after, begins, begins_word, cut, front_while, rest_while}
 
 pub no_bytes : (bs : List ℕ) → length bs ≡ 0 → chars bs ≡ []

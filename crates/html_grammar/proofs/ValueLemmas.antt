@@ -6,7 +6,7 @@ use Rattle.std.proofs.lemmas.Str.{chars-append, IsUtf8-string_bytes}
 use Rattle.std.specs.Char.{IsScalar}
 use Rattle.std.specs.Option.{option_or}
 use Rattle.std.specs.FinMap as finite
-use Rattle.html_lexemes.specs.References.{References}
+use Rattle.reference_tables.specs.References.{References}
 use Rattle.html_grammar.proofs.MarkLemmas.{chars-encode}
 use Rattle.html_grammar.specs.Characters.{is_alphanumeric, is_digit, shown}
 use Rattle.html_grammar.specs.References.{Found, behind_number_sign, named, named_from, numeric, reference, reference_in_value, value_from, value_of}

@@ -1,7 +1,7 @@
 -- The value of an attribute is its characters and references in turn.
 use Rattle.std.proofs.Common.{◌≡◌, ℕ, zero, suc, ◌≤◌, Bool, true, false, cond, ◌==◌, List, [], ◌∷◌, ◌++◌, length, Option, Some, None, IfSome, refl, sym, ap, subst, ◌∙◌, arith}
 use Rattle.std.proofs.lemmas.Bool.{eqb-true, eq-eqb, false≢true}
-use Rattle.html_lexemes.specs.References.{References}
+use Rattle.reference_tables.specs.References.{References}
 use Rattle.html_grammar.specs.Characters.{shown}
 use Rattle.html_grammar.specs.References.{Found, reference_in_value, value_from, value_of, value_step}
 use Rattle.html_grammar.specs.TagLaws.{IsValue, ends, character, refers}

@@ -1,6 +1,6 @@
 -- The reading of a page: its lexemes in order, folded with a sink's step, whose answers choose how the text behind a tag is read.
 use Rattle.std.specs.Prelude.{◌≡◌, ℕ, List, [], ◌∷◌, ◌++◌, fold}
-use Rattle.html_lexemes.specs.References.{References}
+use Rattle.reference_tables.specs.References.{References}
 use Rattle.html_lexemes.specs.declared.token.TokenSinkResult.TheVariants.{Continue}
 use Rattle.html_grammar.specs.Items.{Item, characters, null_character, tag, comment, doctype, error, end_of_file}
 use Rattle.html_grammar.specs.Lexemes.{lexeme, nothing, told, tagged}

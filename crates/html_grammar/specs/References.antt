@@ -4,7 +4,7 @@ use Rattle.std.specs.Option.{option_or}
 use Rattle.std.specs.List.{list_any}
 use Rattle.std.specs.Char.{digit_value}
 use Rattle.std.specs.FinMap as finite
-use Rattle.html_lexemes.specs.References.{References}
+use Rattle.reference_tables.specs.References.{References}
 use Rattle.html_grammar.specs.Characters.{is_alphanumeric, is_between, is_digit, shown}
 use Rattle.html_grammar.specs.Slices.{begins, first_passes, front_while, rest_while}
 

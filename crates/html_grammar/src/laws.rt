@@ -1,6 +1,6 @@
 //! Laws of the reading of a page: each is the contract of a function that does nothing.
 ghost use Rattle.std.specs.Prelude.{◌≡◌, ℕ, Bool, List};
-ghost use Rattle.html_lexemes.specs.References.{References};
+ghost use Rattle.reference_tables.specs.References.{References};
 ghost use Rattle.html_grammar.specs.Kinds.{LexemeOf};
 ghost use Rattle.html_grammar.specs.Lexemes.{lexeme};
 ghost use Rattle.html_grammar.specs.Reading.{Reading};

@@ -1,7 +1,7 @@
 //! Laws of slices: each is the contract of a function that does nothing.
 ghost use Rattle.std.specs.Prelude.{◌≡◌, ℕ, List, ◌++◌, Option, MatchOption};
-ghost use Rattle.html_lexemes.specs.Lookup.{BeginsWithNoName, IsLongestName};
-ghost use Rattle.html_lexemes.specs.References.{References};
+ghost use Rattle.reference_tables.specs.Lookup.{BeginsWithNoName, IsLongestName};
+ghost use Rattle.reference_tables.specs.References.{References};
 ghost use Rattle.html_grammar.specs.References.{named};
 ghost use Rattle.html_grammar.specs.Slices.{Cut, HasNoMark, IsShortest, cut};
 

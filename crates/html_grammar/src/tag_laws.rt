@@ -1,6 +1,6 @@
 //! Laws of tags: each is the contract of a function that does nothing.
 ghost use Rattle.std.specs.Prelude.{◌≡◌, ℕ, List, [], Some};
-ghost use Rattle.html_lexemes.specs.References.{References};
+ghost use Rattle.reference_tables.specs.References.{References};
 ghost use Rattle.html_lexemes.specs.declared.names.Attribute.{Attribute};
 ghost use Rattle.html_lexemes.specs.declared.token.Tag.{Tag};
 ghost use Rattle.html_lexemes.specs.declared.token.TagKind.{TagKind};

@@ -4,7 +4,7 @@ use Rattle.std.proofs.Common.{refl, sym, ap, ◌∙◌, subst, arith, Result, Ok
 use Rattle.std.proofs.Common.{chars, is_some, length, option_map}
 use Rattle.std.specs.Str.{IsUtf8}
 use Rattle.std.proofs.lemmas.Bool.{cond-true, cond-false, eqb-true}
-use Rattle.html_lexemes.proofs.NameTests.{no_chars, some_chars}
+use Rattle.reference_tables.proofs.NameTests.{no_chars, some_chars}
 use Rattle.html_forest.specs.Changes.{changed, made, saying}
 use Rattle.html_forest.specs.Conditions.{CanPut}
 use Rattle.html_forest.specs.Forest.{Forest, Holds, children_at, kind_at, nodes, parent_of, text, text_of}

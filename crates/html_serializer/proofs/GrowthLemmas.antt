@@ -8,7 +8,7 @@ use Rattle.std.specs.Io.KnownBytes.{Appends}
 use Rattle.std.specs.Prelude.{Result, Ok, Err, IsErr, OnErr}
 use Rattle.std.specs.Str.{IsUtf8, chars}
 use Rattle.std.proofs.KnownBytes.{Appends-nil, Appends-trans}
-use Rattle.html_lexemes.specs.KnownPart.{AppendsPart}
+use Rattle.byte_devices.specs.KnownPart.{AppendsPart}
 use Rattle.html_serializer.specs.Writing.{Grows, GrowsPart}
 
 -- of the bytes a front was written and the rest is left; what had failed still has

@@ -2,7 +2,7 @@
 use Rattle.std.specs.Prelude.{◌≡◌, ℕ, Bool, true, false, List, [], ◌∷◌, ◌++◌, Option, None, Some, if◌then◌else◌}
 use Rattle.std.specs.Io.KnownBytes.{Appends}
 use Rattle.std.specs.Str.{IsUtf8, chars}
-use Rattle.html_lexemes.specs.KnownPart.{AppendsPart}
+use Rattle.byte_devices.specs.KnownPart.{AppendsPart}
 use Rattle.html_lexemes.specs.declared.names.QualName.{QualName}
 use Rattle.html_serializer.specs.Calls.{Call, Reply, doctype_of, done, finish, instruction_of, refused, remark, start}
 use Rattle.html_serializer.specs.Calls.{text_run}

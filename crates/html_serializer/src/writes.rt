@@ -1,7 +1,7 @@
 //! Writes of whole texts.
 ghost use Rattle.std.specs.Prelude.{◌≡◌, true, chars, OnErr, OnOk};
 ghost use Rattle.std.specs.Io.KnownBytes.{Appends};
-ghost use Rattle.html_lexemes.specs.KnownPart.{AppendsPart};
+ghost use Rattle.byte_devices.specs.KnownPart.{AppendsPart};
 ghost use Rattle.html_serializer.specs.Writing.{Grows, GrowsPart};
 
 use html_lexemes::{ByteWriter, DeviceFault};

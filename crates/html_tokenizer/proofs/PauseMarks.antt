@@ -2,7 +2,7 @@
 use Rattle.std.proofs.Common.{◌≡◌, ℕ, Bool, true, false, cond, ◌==◌, List, [], ◌∷◌, ◌++◌, append-nil, append_assoc, Option, Some, None, IfSome, refl, sym, ap, ◌∙◌, subst}
 use Rattle.html_lexemes.specs.LineEnds.{lines_ended}
 use Rattle.html_lexemes.specs.Queue.{Queue, Takes}
-use Rattle.html_lexemes.specs.References.{References}
+use Rattle.reference_tables.specs.References.{References}
 use Rattle.html_lexemes.specs.declared.token.Tag.{Tag}
 use Rattle.html_grammar.specs.Lexemes.{Lexeme, nothing, told, tagged}
 use Rattle.html_grammar.specs.Tags.{greater}

@@ -1,7 +1,7 @@
 -- What a turn says, once it is known which it is.
 use Rattle.std.proofs.Common.{◌≡◌, ℕ, Bool, List, [], Option, Some, None, MatchOption, IfSome, IsTrue, refl, sym, subst}
 use Rattle.std.specs.FinMap as finite
-use Rattle.html_lexemes.specs.References.{References}
+use Rattle.reference_tables.specs.References.{References}
 use Rattle.html_lexemes.specs.declared.states.RawKind.{RawKind}
 use Rattle.html_grammar.specs.declared.modes.Mode.{Mode}
 use Rattle.html_grammar.specs.declared.modes.TextKind.TheVariants.{Ordinary}

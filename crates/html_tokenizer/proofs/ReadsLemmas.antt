@@ -6,7 +6,7 @@ use Rattle.std.specs.Char.{IsScalar}
 use Rattle.std.specs.List.{fold, list_all}
 use Rattle.std.specs.Str.{chars}
 use Rattle.std.specs.String.{string_len}
-use Rattle.html_lexemes.specs.References.{References}
+use Rattle.reference_tables.specs.References.{References}
 use Rattle.html_lexemes.specs.declared.states.RawKind.{RawKind}
 use Rattle.html_lexemes.specs.declared.states.RawKind.TheVariants.{Rcdata, Rawtext, ScriptData, ScriptDataEscaped}
 use Rattle.html_lexemes.specs.declared.token.Tag.{Tag}

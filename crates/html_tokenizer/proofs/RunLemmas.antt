@@ -7,7 +7,7 @@ use Rattle.std.proofs.lemmas.Bool.{and_from, and_parts}
 use Rattle.std.specs.List.{list_all}
 use Rattle.html_lexemes.specs.LineEnds.{begins_with_line_feed, lines_ended}
 use Rattle.html_lexemes.specs.Queue.{Queue, Takes, counted, is_free_of, is_in}
-use Rattle.html_lexemes.specs.References.{References}
+use Rattle.reference_tables.specs.References.{References}
 use Rattle.html_lexemes.specs.declared.states.RawKind.TheVariants.{Rcdata, Rawtext, ScriptData, ScriptDataEscaped}
 use Rattle.html_grammar.specs.Items.{characters}
 use Rattle.html_grammar.specs.Lexemes.{told}

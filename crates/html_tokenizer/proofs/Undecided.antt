@@ -2,7 +2,7 @@
 use Rattle.std.proofs.Common.{◌≡◌, ℕ, Bool, true, false, not, ◌==◌, ◌||◌, if◌then◌else◌, List, [], ◌∷◌, ◌++◌, IsTrue, refl, ap, ◌∙◌, subst}
 use Rattle.std.proofs.lemmas.Bool.{and_parts}
 use Rattle.html_lexemes.specs.LineEnds.{begins_with_line_feed, lines_ended}
-use Rattle.html_lexemes.specs.References.{References}
+use Rattle.reference_tables.specs.References.{References}
 use Rattle.html_grammar.specs.declared.modes.Mode.{Mode}
 use Rattle.html_tokenizer.specs.Inside.{IsUndecidedAt}
 use Rattle.lexeme_places.specs.Goings.{IsGoing}

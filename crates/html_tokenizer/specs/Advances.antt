@@ -1,6 +1,6 @@
 -- What becomes of a further character of a lexeme that is not over.
 use Rattle.std.specs.Prelude.{◌≡◌, ℕ, Bool, List, [], ◌∷◌, ◌++◌, chars, string_bytes}
-use Rattle.html_lexemes.specs.References.{References}
+use Rattle.reference_tables.specs.References.{References}
 use Rattle.html_lexemes.specs.declared.states.RawKind.{RawKind}
 use Rattle.html_grammar.specs.declared.modes.Mode.{Mode}
 use Rattle.html_grammar.specs.declared.modes.TextKind.{TextKind}

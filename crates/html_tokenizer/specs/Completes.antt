@@ -2,7 +2,7 @@
 -- this crate unfolds them, so that how a tokenizer holds what it has read may change below them.
 use Rattle.std.specs.Prelude.{◌≡◌, ℕ, Bool, false, List, [], ◌∷◌, ◌++◌, Option}
 use Rattle.html_lexemes.specs.Queue.{Queue, Takes}
-use Rattle.html_lexemes.specs.References.{References}
+use Rattle.reference_tables.specs.References.{References}
 use Rattle.html_lexemes.specs.declared.token.TokenSinkResult.TheVariants.{Script as AskedScript, EncodingIndicator as AskedEncoding}
 use Rattle.html_grammar.specs.Items.{Item}
 use Rattle.html_grammar.specs.Meaning.{Meaning}

@@ -1,7 +1,7 @@
 -- What is held of a lexeme that goes on is a fact: it holds in one way.
 use Rattle.std.specs.Prelude.{ℕ, Bool, true, false, List, [], ◌∷◌, Option}
 use Rattle.std.proofs.Props.{props}
-use Rattle.html_lexemes.specs.References.{References}
+use Rattle.reference_tables.specs.References.{References}
 use Rattle.lexeme_places.specs.Goings.{IsGoing}
 use Rattle.html_tokenizer.specs.Holdings.{HoldsUnless, held_of}
 use Rattle.lexeme_places.specs.SoundProp.{IsSound-prop}

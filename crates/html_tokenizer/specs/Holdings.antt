@@ -1,6 +1,6 @@
 -- What a reader holds.
 use Rattle.std.specs.Prelude.{◌≡◌, Bool, true, false, List, ℕ, [], chars, string_bytes, IsTrue}
-use Rattle.html_lexemes.specs.References.{References}
+use Rattle.reference_tables.specs.References.{References}
 use Rattle.html_lexemes.specs.declared.states.RawKind.{RawKind}
 use Rattle.lexeme_places.specs.Goings.{IsGoing, is_raw_going}
 use Rattle.lexeme_places.specs.declared.place.Place.TheVariants.{RawText, Text}

@@ -1,6 +1,6 @@
 -- What the contracts of a tokenizer's own functions say of it.
 use Rattle.std.specs.Prelude.{◌≡◌, ℕ, Bool, ◌&&◌, ◌==◌, List, [], ◌++◌, length, IsTrue, string_bytes}
-use Rattle.html_lexemes.specs.References.{References}
+use Rattle.reference_tables.specs.References.{References}
 use Rattle.html_grammar.specs.Lexemes.{Lexeme}
 use Rattle.html_grammar.specs.Meaning.{Meaning}
 use Rattle.html_tokenizer.specs.Holdings.{HoldsNothing, held_of}

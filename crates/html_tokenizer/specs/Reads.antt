@@ -1,6 +1,6 @@
 -- What a text that goes on does to a sink, from what was read of it.
 use Rattle.std.specs.Prelude.{◌≡◌, ℕ, List, ◌++◌, chars, string_bytes, fold}
-use Rattle.html_lexemes.specs.References.{References}
+use Rattle.reference_tables.specs.References.{References}
 use Rattle.html_grammar.specs.Items.{characters, end_of_file, tag}
 use Rattle.html_grammar.specs.Lexemes.{Lexeme, nothing, told, tagged}
 use Rattle.html_grammar.specs.Meaning.{Meaning}

@@ -51,7 +51,7 @@ pub(crate) enum RawAdvance {
 
 impl Pending {
     ghost use Rattle.html_grammar.specs.declared.modes.Mode.{Mode as SeenMode};
-    ghost use Rattle.html_lexemes.specs.References.{References};
+    ghost use Rattle.reference_tables.specs.References.{References};
     ghost use Rattle.html_tokenizer.specs.Advances.{Advances, IsLeft, RawAdvances, StaysWithinKind};
     ghost use Rattle.lexeme_places.specs.PlaceKinds.{IsNoMarkup};
     ghost use Rattle.lexeme_places.specs.Goings.{is_raw_going};

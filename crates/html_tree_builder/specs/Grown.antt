@@ -5,7 +5,7 @@ use Rattle.html_forest.specs.declared.sink.QuirksMode.{QuirksMode}
 use Rattle.html_grammar.specs.FirstMode.{first_mode}
 use Rattle.html_grammar.specs.PageText.{page_text}
 use Rattle.html_grammar.specs.Reading.{Reading}
-use Rattle.html_lexemes.specs.References.{References}
+use Rattle.reference_tables.specs.References.{References}
 use Rattle.html_tree_builder.specs.declared.options.ParseOpts.{ParseOpts}
 use Rattle.tree_builder.specs.Begun.{begun}
 use Rattle.tree_rules.specs.Settling.{meaning}

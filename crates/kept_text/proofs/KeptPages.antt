@@ -6,7 +6,7 @@ use Rattle.html_grammar.specs.Items.{Item, tag}
 use Rattle.html_grammar.specs.Items as items
 use Rattle.html_grammar.specs.Reading.{Reading, ends, goes, tags}
 use Rattle.html_grammar.specs.declared.modes.Mode.{Mode}
-use Rattle.html_lexemes.specs.References.{References}
+use Rattle.reference_tables.specs.References.{References}
 use Rattle.tree_ranks.specs.Falls.{Falls}
 use Rattle.tree_rules.specs.Actions.{act_all}
 use Rattle.tree_rules.specs.Asking.{has_template}

@@ -1,6 +1,6 @@
 -- What a reading of a page tells, and that its text is kept.
 use Rattle.std.specs.Prelude.{◌≡◌, ℕ, ◌+◌, true, List, [], ◌∷◌, ◌++◌}
-use Rattle.html_lexemes.specs.References.{References}
+use Rattle.reference_tables.specs.References.{References}
 use Rattle.html_grammar.specs.Items.{Item, tag}
 use Rattle.html_grammar.specs.Meaning.{Meaning}
 use Rattle.html_grammar.specs.Reading.{Reading, ends, goes, tags}

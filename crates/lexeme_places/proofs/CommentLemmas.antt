@@ -7,7 +7,7 @@ use Rattle.std.specs.Option.{option_or}
 use Rattle.std.specs.Prelude.{if◌then◌else◌}
 use Rattle.std.specs.Str.{chars}
 use Rattle.std.specs.Str.Pattern.{FindsTextSuffix, HasSuffixMatch}
-use Rattle.html_lexemes.specs.References.{References}
+use Rattle.reference_tables.specs.References.{References}
 use Rattle.html_grammar.proofs.MarkLemmas.{arrow_codes, front_text, greater_codes}
 use Rattle.html_grammar.specs.Comments.{comment_mark, comment_slice, empty_comment, found_or_ended}
 use Rattle.html_grammar.specs.Lexemes.{comment_lexeme}

@@ -6,7 +6,7 @@ use Rattle.std.proofs.lemmas.Str.{chars_past_char}
 use Rattle.std.specs.Char.{to_ascii_lowercase}
 use Rattle.std.specs.Prelude.{if◌then◌else◌}
 use Rattle.std.specs.Str.{chars}
-use Rattle.html_lexemes.specs.References.{References}
+use Rattle.reference_tables.specs.References.{References}
 use Rattle.html_grammar.proofs.DoctypeLemmas.{no_chars}
 use Rattle.html_grammar.proofs.LexemeLemmas.{chosen_false, chosen_true, declared_comment, declared_doctype, declared_other, declared_section, section_found}
 use Rattle.html_grammar.specs.Lexemes.{cdata_lexeme, declaration}

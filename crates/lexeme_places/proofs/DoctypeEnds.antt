@@ -3,7 +3,7 @@ use Rattle.std.proofs.Common.{◌≡◌, ℕ, zero, suc, Bool, true, false, ◌&
 use Rattle.std.proofs.lemmas.Bool.{both_ways, eq-eqb, ne_eqb}
 use Rattle.std.specs.Char.{to_ascii_lowercase}
 use Rattle.std.specs.Prelude.{if◌then◌else◌}
-use Rattle.html_lexemes.specs.References.{References}
+use Rattle.reference_tables.specs.References.{References}
 use Rattle.html_lexemes.specs.declared.token.Doctype.{Doctype}
 use Rattle.html_grammar.specs.Characters.{is_space, name_of, shown_text}
 use Rattle.html_grammar.specs.Doctypes.{DoctypeEnd, behind_identifier, behind_keyword, behind_public, behind_spaces, behind_system, closed_public, closed_system, doctype_at, ends_here, ends_identifier, identifier, is_quote, named_doctype, public_at, skipped, system_at, system_or, with_public, with_quirks, with_system}

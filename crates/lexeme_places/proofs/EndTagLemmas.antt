@@ -6,8 +6,8 @@ use Rattle.std.specs.Char.{is_ascii_alphabetic, to_ascii_lowercase}
 use Rattle.std.specs.List.{list_all}
 use Rattle.std.specs.Prelude.{if◌then◌else◌}
 use Rattle.std.specs.Str.{bytes_eq, chars}
-use Rattle.html_lexemes.specs.References.{References, is_between}
-use Rattle.html_lexemes.specs.Texts.{same_texts}
+use Rattle.reference_tables.specs.References.{References, is_between}
+use Rattle.owned_texts.specs.Texts.{same_texts}
 use Rattle.html_lexemes.specs.declared.states.RawKind.{RawKind}
 use Rattle.html_lexemes.specs.declared.states.RawKind.TheVariants.{Rcdata, Rawtext, ScriptData, ScriptDataEscaped}
 use Rattle.html_lexemes.specs.declared.states.ScriptEscapeKind.TheVariants.{Escaped, DoubleEscaped}
@@ -20,7 +20,7 @@ use Rattle.html_grammar.specs.Tags.{ends_tag_name, tag_end, tag_of}
 use Rattle.html_grammar.specs.declared.modes.Mode.{Mode}
 use Rattle.html_grammar.proofs.LexemeLemmas.{chosen_true, mark_found, no_mark}
 use Rattle.html_grammar.proofs.SliceLemmas.{no_bytes}
-use Rattle.html_lexemes.proofs.NameTests.{some_chars}
+use Rattle.reference_tables.proofs.NameTests.{some_chars}
 use Rattle.lexeme_places.specs.RawHeld.{is_at}
 use Rattle.lexeme_places.specs.Goings.{has_end_tag, is_end_tag_front, is_name_of_letters, is_raw_going}
 use Rattle.lexeme_places.specs.RawSound.{is_end_tag_begun, is_raw_held, is_word_front}

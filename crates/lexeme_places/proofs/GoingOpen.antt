@@ -1,6 +1,6 @@
 -- What is held of a lexeme that goes on is no lexeme yet.
 use Rattle.std.proofs.Common.{ℕ, Bool, List}
-use Rattle.html_lexemes.specs.References.{References}
+use Rattle.reference_tables.specs.References.{References}
 use Rattle.html_grammar.specs.declared.modes.Mode.{Mode}
 use Rattle.lexeme_places.specs.Goings.{IsGoing}
 use Rattle.lexeme_places.specs.OpenEnds.{IsOpenEnded}

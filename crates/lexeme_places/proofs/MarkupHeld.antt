@@ -7,7 +7,7 @@ use Rattle.std.specs.Char.{IsScalar}
 use Rattle.std.specs.List.{list_all}
 use Rattle.std.specs.Prelude.{String, string_bytes, encode_utf8, codes}
 use Rattle.std.specs.Str.{chars}
-use Rattle.html_lexemes.specs.References.{References}
+use Rattle.reference_tables.specs.References.{References}
 use Rattle.html_grammar.proofs.MarkLemmas.{chars-encode}
 use Rattle.html_grammar.proofs.ValueLemmas.{pushed_text}
 use Rattle.html_grammar.specs.Comments.{bogus_comment_slice}

@@ -1,6 +1,6 @@
 -- Places in text of a kind.
 use Rattle.std.proofs.Common.{ℕ, Bool, List, codes}
-use Rattle.html_lexemes.specs.References.{References}
+use Rattle.reference_tables.specs.References.{References}
 use Rattle.html_lexemes.specs.declared.token.TagKind.{TagKind}
 use Rattle.html_lexemes.specs.declared.token.TagKind.TheVariants.{StartTag, EndTag}
 use Rattle.html_grammar.specs.Kinds.{HasMarkup, IsOfTag, LexemeOf}

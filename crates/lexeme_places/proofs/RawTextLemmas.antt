@@ -4,7 +4,7 @@ use Rattle.std.proofs.lemmas.Bool.{and_parts, and_left, not-true, or_parts}
 use Rattle.std.proofs.lemmas.Bool.Decides.{nat_tests}
 use Rattle.std.specs.Char.{to_ascii_lowercase}
 use Rattle.std.specs.List.{list_all}
-use Rattle.html_lexemes.specs.References.{References}
+use Rattle.reference_tables.specs.References.{References}
 use Rattle.html_lexemes.specs.declared.states.RawKind.{RawKind}
 use Rattle.html_lexemes.specs.declared.states.RawKind.TheVariants.{Rcdata, Rawtext, ScriptData, ScriptDataEscaped}
 use Rattle.html_lexemes.specs.declared.states.ScriptEscapeKind.{ScriptEscapeKind}

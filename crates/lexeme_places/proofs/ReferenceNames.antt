@@ -9,8 +9,8 @@ use Rattle.std.specs.Str.{bytes_eq, chars}
 use Rattle.std.proofs.lemmas.Slice.Eq.{bytes_eq-Decides}
 use Rattle.std.proofs.lemmas.Str.{encodes-chars}
 use Rattle.std.specs.FinMap as finite
-use Rattle.html_lexemes.specs.Lookup.{HasNameBeginning, HasLongerName}
-use Rattle.html_lexemes.specs.References.{References, is_name, without_semicolon, is_alphanumeric as is_name_letter}
+use Rattle.reference_tables.specs.Lookup.{HasNameBeginning, HasLongerName}
+use Rattle.reference_tables.specs.References.{References, is_name, without_semicolon, is_alphanumeric as is_name_letter}
 use Rattle.html_grammar.specs.Characters.{is_alphanumeric, is_between}
 use Rattle.html_grammar.specs.References.{Found, named, reference}
 use Rattle.html_grammar.specs.Slices.{begins}
@@ -111,7 +111,7 @@ there None h = cc
 there (Some a) h = (a, refl)
 
 abbrev pub AreNames : References → Type 0
-AreNames table = (name value : List ℕ) → finite.get table name ≡ Some value → IsTrue (is_name name) × (IsTrue (Rattle.html_lexemes.specs.References.is_value value))
+AreNames table = (name value : List ℕ) → finite.get table name ≡ Some value → IsTrue (is_name name) × (IsTrue (Rattle.reference_tables.specs.References.is_value value))
 
 settled_named : (table : References) (held follow : List ℕ) → ((rest : List ℕ) → begins (35 ∷ []) (held ++ (follow ++ rest)) ≡ false) → begins (35 ∷ []) held ≡ false
     → ((rest : List ℕ) → NoneOn table held (follow ++ rest)) → list_all is_plain held ≡ true → IsSettled table held follow

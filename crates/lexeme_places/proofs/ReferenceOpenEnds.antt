@@ -3,8 +3,8 @@ use Rattle.std.proofs.Common.{◌≡◌, ◌≢◌, ℕ, Bool, true, false, not,
 use Rattle.std.proofs.lemmas.Bool.{and_parts, eqb-true, ne_eqb}
 use Rattle.std.specs.List.{list_all, list_any}
 use Rattle.std.specs.FinMap as finite
-use Rattle.html_lexemes.specs.Lookup.{HasLongerName}
-use Rattle.html_lexemes.specs.References.{References}
+use Rattle.reference_tables.specs.Lookup.{HasLongerName}
+use Rattle.reference_tables.specs.References.{References}
 use Rattle.html_grammar.specs.Characters.{is_alphanumeric, is_digit}
 use Rattle.html_grammar.specs.Items.{Item}
 use Rattle.html_grammar.specs.Lexemes.{Lexeme, nothing, reference_lexeme, tagged, told}

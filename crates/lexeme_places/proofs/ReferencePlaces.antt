@@ -7,7 +7,7 @@ use Rattle.std.proofs.lemmas.List.{take-append-le, take_all}
 use Rattle.std.proofs.lemmas.Str.{chars-append, IsCharBoundary-from_take}
 use Rattle.std.specs.Char.{IsScalar, encode_utf8}
 use Rattle.std.specs.String.Boundary.{IsSplitPoint}
-use Rattle.html_lexemes.specs.References as lexemes
+use Rattle.reference_tables.specs.References as lexemes
 use Rattle.html_grammar.specs.Characters.{is_digit}
 use Rattle.html_grammar.specs.References.{Found, is_x, numbered, number_of, numeric, numeric_of, reference}
 use Rattle.html_grammar.specs.Slices.{first_passes, front_while, rest_while}

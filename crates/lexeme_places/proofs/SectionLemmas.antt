@@ -4,7 +4,7 @@ use Rattle.std.specs.Str.{bytes_eq, chars}
 use Rattle.std.proofs.lemmas.Bool.{false≢true, eqb-true, ne_eqb, and_parts}
 use Rattle.std.proofs.lemmas.Slice.Eq.{bytes_eq-Decides}
 use lib.Utf8.{encode}
-use Rattle.html_lexemes.proofs.Utf8Order.{same_by_bytes}
+use Rattle.owned_texts.proofs.Utf8Order.{same_by_bytes}
 use Rattle.html_grammar.specs.Lexemes.{cdata_lexeme, ordinary_item}
 use Rattle.html_grammar.specs.Slices.{Cut, after, cut, cut_here, cut_or_all, longer}
 use Rattle.html_grammar.specs.declared.modes.Mode.{Mode}

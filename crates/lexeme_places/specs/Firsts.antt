@@ -1,7 +1,7 @@
 -- What the first character of a lexeme is.
 use Rattle.std.specs.Prelude.{◌≡◌, ℕ, Bool, List, [], ◌∷◌, Option, IsTrue}
 use Rattle.std.specs.Char.{IsScalar}
-use Rattle.html_lexemes.specs.References.{References}
+use Rattle.reference_tables.specs.References.{References}
 use Rattle.html_grammar.specs.Items.{Item, characters, null_character}
 use Rattle.html_grammar.specs.Lexemes.{lexeme, told}
 use Rattle.html_grammar.specs.declared.modes.Mode.{Mode}

@@ -1,8 +1,8 @@
 -- What is held of a lexeme that goes on: more than what a place asks for, it may still become something else.
 use Rattle.std.specs.Prelude.{ℕ, Bool, true, false, ◌&&◌, nat_lt, List, [], ◌∷◌, length, drop, Option, Some, None, IsTrue}
 use Rattle.std.specs.List.{list_all}
-use Rattle.html_lexemes.specs.Lookup.{HasLongerName}
-use Rattle.html_lexemes.specs.References.{References, is_between}
+use Rattle.reference_tables.specs.Lookup.{HasLongerName}
+use Rattle.reference_tables.specs.References.{References, is_between}
 use Rattle.html_lexemes.specs.declared.states.RawKind.{RawKind}
 use Rattle.html_lexemes.specs.declared.states.RawKind.TheVariants.{Rcdata, Rawtext, ScriptData, ScriptDataEscaped}
 use Rattle.lexeme_places.specs.RawSound.{is_raw_held, is_word_front}

@@ -1,7 +1,7 @@
 -- What is held back is no lexeme yet: what follows decides which it is.
 use Rattle.std.specs.Prelude.{◌≡◌, ℕ, Bool, ◌==◌, ◌||◌, not, List, ◌++◌, IsTrue}
 use Rattle.std.specs.List.{list_all}
-use Rattle.html_lexemes.specs.References.{References}
+use Rattle.reference_tables.specs.References.{References}
 use Rattle.html_grammar.specs.Lexemes.{Lexeme}
 use Rattle.html_grammar.specs.declared.modes.Mode.{Mode}
 use Rattle.lexeme_places.specs.Places.{place_lexeme}

@@ -1,6 +1,6 @@
 -- What a text behind `<!` opens.
 use Rattle.std.specs.Prelude.{◌≡◌, ℕ, Bool, List, [], ◌∷◌, ◌++◌, IsTrue, Option}
-use Rattle.html_lexemes.specs.References.{References}
+use Rattle.reference_tables.specs.References.{References}
 use Rattle.html_grammar.specs.Comments.{bogus_comment_slice}
 use Rattle.html_grammar.specs.Lexemes.{comment_lexeme, declaration}
 use Rattle.html_grammar.specs.declared.modes.Mode.{Mode}

@@ -1,6 +1,6 @@
 -- What stands at a place: the lexeme of the characters held back and those that follow, by the grammar.
 use Rattle.std.specs.Prelude.{ℕ, Bool, List, codes}
-use Rattle.html_lexemes.specs.References.{References}
+use Rattle.reference_tables.specs.References.{References}
 use Rattle.html_grammar.specs.Comments.{bogus_comment_slice, comment_slice}
 use Rattle.html_grammar.specs.Doctypes.{doctype_at}
 use Rattle.html_grammar.specs.Lexemes.{Lexeme, behind_slash, cdata_lexeme, comment_lexeme, declaration, doctype_lexeme, in_kind, lexeme, markup, reference_lexeme, tag_lexeme}

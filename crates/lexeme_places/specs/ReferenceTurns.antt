@@ -1,6 +1,6 @@
 -- What a further character does to what is held of a character reference.
 use Rattle.std.specs.Prelude.{ℕ, Bool, ◌==◌, if◌then◌else◌, List, [], ◌∷◌, ◌++◌}
-use Rattle.html_lexemes.specs.References.{References}
+use Rattle.reference_tables.specs.References.{References}
 use Rattle.html_grammar.specs.Characters.{is_digit}
 use Rattle.html_grammar.specs.References.{is_x, semicolon}
 use Rattle.html_grammar.specs.declared.modes.Mode.{Mode}

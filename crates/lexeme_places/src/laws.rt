@@ -2,7 +2,7 @@
 ghost use Rattle.std.specs.Prelude.{◌≡◌, ◌++◌, ◌∷◌, ◌==◌, ℕ, Bool, not, List, Option, Some, IsTrue};
 ghost use Rattle.std.specs.List.{list_all};
 ghost use Rattle.html_lexemes.specs.Queue.{is_free_of};
-ghost use Rattle.html_lexemes.specs.References.{References};
+ghost use Rattle.reference_tables.specs.References.{References};
 ghost use Rattle.html_lexemes.specs.declared.token.Tag.{Tag};
 ghost use Rattle.html_grammar.specs.Kinds.{LexemeOf};
 ghost use Rattle.html_grammar.specs.Lexemes.{tagged};

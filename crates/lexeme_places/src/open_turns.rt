@@ -1,5 +1,5 @@
 ghost use Rattle.std.specs.Prelude.{◌≡◌, Bool, [], chars, string_bytes, IfOk, IsTrue};
-ghost use Rattle.html_lexemes.specs.References.{References};
+ghost use Rattle.reference_tables.specs.References.{References};
 ghost use Rattle.html_grammar.specs.declared.modes.Mode.{Mode as SeenMode};
 ghost use Rattle.lexeme_places.specs.MarkupSound.{is_begun_declaration};
 ghost use Rattle.lexeme_places.specs.Turns.{Turns};

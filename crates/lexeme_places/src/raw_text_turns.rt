@@ -1,6 +1,6 @@
 ghost use Rattle.std.specs.Prelude.{ℕ, ◌≡◌, Bool, ◌&&◌, nat_lt, ◌∷◌, [], length, drop, chars, string_bytes, IfOk, OnOk, IsTrue};
 ghost use Rattle.std.specs.List.{list_all};
-ghost use Rattle.html_lexemes.specs.References.{References};
+ghost use Rattle.reference_tables.specs.References.{References};
 ghost use Rattle.html_grammar.specs.Characters.{is_letter, name_of};
 ghost use Rattle.html_grammar.specs.Lexemes.{has_end_tags, is_last};
 ghost use Rattle.html_grammar.specs.declared.modes.Mode.{Mode as SeenMode};

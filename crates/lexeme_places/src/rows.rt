@@ -1,6 +1,6 @@
 //! What is held at places, computed on worked rows.
 ghost use Rattle.std.specs.Prelude.{◌≡◌, [], ◌∷◌, ℕ, List, true, false, codes, Some, None};
-ghost use Rattle.html_lexemes.specs.References.{References};
+ghost use Rattle.reference_tables.specs.References.{References};
 ghost use Rattle.html_lexemes.specs.declared.states.RawKind.TheVariants.{Rcdata, Rawtext, ScriptData, ScriptDataEscaped};
 ghost use Rattle.html_lexemes.specs.declared.states.ScriptEscapeKind.TheVariants.{Escaped, DoubleEscaped};
 ghost use Rattle.html_grammar.specs.Items.{comment};

@@ -1,6 +1,6 @@
 ghost use Rattle.std.specs.Prelude.{ℕ, ◌≡◌, Bool, IsTrue, chars};
 ghost use Rattle.std.specs.Char.{to_ascii_lowercase};
-ghost use Rattle.html_lexemes.specs.References.{References};
+ghost use Rattle.reference_tables.specs.References.{References};
 ghost use Rattle.html_grammar.specs.declared.modes.Mode.{Mode as SeenMode};
 ghost use Rattle.lexeme_places.specs.RawHeld.{held_behind, is_at, other_part};
 ghost use Rattle.lexeme_places.specs.RawSound.{is_raw_held, word_of};

@@ -1,5 +1,5 @@
 ghost use Rattle.std.specs.Prelude.{◌≡◌, ℕ, ◌∷◌, List, MatchOption, Some};
-ghost use Rattle.html_lexemes.specs.References.{References};
+ghost use Rattle.reference_tables.specs.References.{References};
 ghost use Rattle.lexeme_places.specs.TagPlaces.{rest_in};
 ghost use Rattle.lexeme_places.specs.declared.place.TagPlace.TheVariants.{AttributeValue};
 

@@ -1,5 +1,5 @@
 -- What contracts see of a file that was opened.
-use Rattle.html_lexemes.specs.declared.device.Device.{Device}
+use Rattle.byte_devices.specs.declared.device.Device.{Device}
 use Rattle.named_files.specs.declared.files.OpenedFile.{OpenedFile}
 
 abbrev pub device_of : {T : Type 0} → OpenedFile T → Device T

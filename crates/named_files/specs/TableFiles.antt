@@ -1,10 +1,10 @@
 -- Tables of references in files.
 use Rattle.std.specs.Prelude.{◌≡◌, ℕ, List, Ok, codes}
 use Rattle.std.specs.Str.{IsUtf8}
-use Rattle.html_lexemes.specs.Json.{table_of_json}
-use Rattle.html_lexemes.specs.References.{References}
-use Rattle.html_lexemes.specs.declared.table_error.TableError.{TableError}
-use Rattle.html_lexemes.specs.declared.table_error.TableError.TheVariants as errors
+use Rattle.reference_tables.specs.Json.{table_of_json}
+use Rattle.reference_tables.specs.References.{References}
+use Rattle.reference_tables.specs.declared.table_error.TableError.{TableError}
+use Rattle.reference_tables.specs.declared.table_error.TableError.TheVariants as errors
 use Rattle.named_files.specs.declared.table_fault.TableFault.{TableFault}
 use Rattle.named_files.specs.declared.table_fault.TableFault.TheVariants as faults
 

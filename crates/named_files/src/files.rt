@@ -35,7 +35,7 @@ impl<T> OpenedFile<T> {
 
 impl<T: Read> ByteReader for OpenedFile<T> {
     ghost use Rattle.named_files.specs.OpenedFiles.{device_of};
-    ghost use Rattle.html_lexemes.specs.Device.{count_of, is_failed};
+    ghost use Rattle.byte_devices.specs.Device.{count_of, is_failed};
 
     ghost has_failed = { λ file. is_failed (device_of file) };
 

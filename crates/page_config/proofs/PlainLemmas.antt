@@ -2,7 +2,7 @@
 use Rattle.std.proofs.Common.{ℕ, false, List, Option, None, Some}
 use Rattle.std.proofs.Common.{IfOk, IfSome, Global, String, chars, refl, string_bytes}
 use Rattle.std.specs.Prelude.{Err, Ok, Result}
-use Rattle.html_lexemes.specs.References.{References}
+use Rattle.reference_tables.specs.References.{References}
 use Rattle.html_render_tree.specs.PlainText.{plain_closes}
 use Rattle.page_config.specs.PageAnswers.{Answers, IsTold, PageAnswer}
 use Rattle.page_config.specs.PlainPages.{HasPlainAnswer, HasPlainText, IsPlain}

@@ -3,7 +3,7 @@ use Rattle.std.proofs.Common.{◌≡◌, ◌≢◌, ◌⊎◌, inl, inr, refl, �
 use Rattle.std.proofs.Common.{Option, None, Some}
 use Rattle.html_forest.specs.Forest.{Forest}
 use Rattle.html_forest.specs.declared.sink.QuirksMode.{QuirksMode}
-use Rattle.html_lexemes.specs.References.{References}
+use Rattle.reference_tables.specs.References.{References}
 use Rattle.html_render_tree.specs.PageLines.{IsClosed, Setting, laid_page, noted, with_notes}
 use Rattle.html_tree_builder.specs.declared.options.ParseOpts.{ParseOpts}
 use Rattle.page_config.specs.PageAnswers.{HasSomeAnswer, IsAlwaysClosed, IsAnswerOf, PageAnswer, fail, lines}

@@ -1,6 +1,6 @@
 -- Pages as plain text: what the configurations of plain text say, and what is answered by them.
 use Rattle.std.specs.Prelude.{◌≡◌, ℕ, true, List, map}
-use Rattle.html_lexemes.specs.References.{References}
+use Rattle.reference_tables.specs.References.{References}
 use Rattle.html_render_tree.specs.PlainText.{plain_closes, plain_marking}
 use Rattle.html_tree_builder.specs.Defaults.{default_parse}
 use Rattle.page_config.specs.PageAnswers.{HasAnswer, HasText, PageAnswer}

@@ -1,6 +1,6 @@
 -- What contracts see of a `Config`.
 use Rattle.std.specs.Prelude.{ℕ, Bool, false, List, []}
-use Rattle.html_lexemes.specs.References.{References}
+use Rattle.reference_tables.specs.References.{References}
 use Rattle.html_render_tree.specs.PageLines.{Setting}
 use Rattle.html_render_tree.specs.Settings.{rules_of, setting_of}
 use Rattle.html_tree_builder.specs.Defaults.{default_parse}

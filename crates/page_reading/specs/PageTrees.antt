@@ -3,7 +3,7 @@ use Rattle.std.specs.Prelude.{ℕ, List}
 use Rattle.html_forest.specs.Forest.{Forest, page_alone}
 use Rattle.html_forest.specs.declared.sink.QuirksMode.{QuirksMode}
 use Rattle.html_forest.specs.declared.sink.QuirksMode.TheVariants.{NoQuirks}
-use Rattle.html_lexemes.specs.References.{References}
+use Rattle.reference_tables.specs.References.{References}
 use Rattle.html_render_dom.specs.Numbers.{handle_of}
 use Rattle.html_tree_builder.specs.Grown.{Beginning, IsTreeOfPage, beginning}
 use Rattle.html_tree_builder.specs.declared.options.ParseOpts.{ParseOpts}

@@ -2,7 +2,7 @@
 ghost use Rattle.std.specs.Prelude.{◌≡◌, ℕ, List};
 ghost use Rattle.html_forest.specs.Forest.{Forest};
 ghost use Rattle.html_forest.specs.declared.sink.QuirksMode.{QuirksMode as Quirks};
-ghost use Rattle.html_lexemes.specs.References.{References};
+ghost use Rattle.reference_tables.specs.References.{References};
 ghost use Rattle.html_tree_builder.specs.Grown.{Beginning, IsTreeOfPage};
 ghost use Rattle.html_tree_builder.specs.declared.options.ParseOpts.{ParseOpts as Options};
 ghost use Rattle.page_reading.specs.PageTrees.{IsTreeOfBytes};

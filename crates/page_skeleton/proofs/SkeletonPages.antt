@@ -5,7 +5,7 @@ use Rattle.html_grammar.specs.Items.{Item, tag}
 use Rattle.html_grammar.specs.Items as items
 use Rattle.html_grammar.specs.Reading.{Reading, ends, goes, tags}
 use Rattle.html_grammar.specs.declared.modes.Mode.{Mode}
-use Rattle.html_lexemes.specs.References.{References}
+use Rattle.reference_tables.specs.References.{References}
 use Rattle.html_lexemes.specs.declared.token.Tag.{Tag}
 use Rattle.html_lexemes.specs.declared.token.TagKind.{TagKind}
 use Rattle.html_lexemes.specs.declared.token.TagKind.TheVariants.{EndTag, StartTag}

@@ -5,7 +5,7 @@ use Rattle.std.proofs.lemmas.Bool.{cases_lt}
 use Rattle.html_forest.specs.Forest.{Forest}
 use Rattle.html_forest.specs.declared.sink.QuirksMode.{QuirksMode}
 use Rattle.html_grammar.specs.PageText.{page_text}
-use Rattle.html_lexemes.specs.References.{References}
+use Rattle.reference_tables.specs.References.{References}
 use Rattle.html_render_dom.specs.Numbers.{handle_of}
 use Rattle.html_render_tree.specs.PageLines.{IsRendered, IsTooNarrow}
 use Rattle.html_render_tree.specs.PlainText.{plain_closes, plain_marking}

@@ -7,7 +7,7 @@ use Rattle.std.specs.Option.{option_or}
 use Rattle.std.specs.Prelude.{option_map}
 use Rattle.escaped_texts.specs.Escaped.{KnowsEscapes}
 use Rattle.html_grammar.specs.References.{Found, named, named_from, named_here, reference, semicolon}
-use Rattle.html_lexemes.specs.References.{References, basic_references}
+use Rattle.reference_tables.specs.References.{References, basic_references}
 
 -- what holds of each basic reference, its name and its character
 pub each_reference : (P : List ℕ → ℕ → Type 0) → P (codes "amp;") 38 → P (codes "lt;") 60 → P (codes "gt;") 62 →

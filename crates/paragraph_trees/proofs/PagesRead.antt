@@ -6,7 +6,7 @@ use Rattle.html_grammar.specs.Lexemes.{lexeme}
 use Rattle.html_grammar.specs.Meaning.{Meaning}
 use Rattle.html_grammar.specs.Modes.{mode_behind}
 use Rattle.html_grammar.specs.Reading.{Reading, ends, tags}
-use Rattle.html_lexemes.specs.References.{References}
+use Rattle.reference_tables.specs.References.{References}
 use Rattle.html_lexemes.specs.declared.token.Tag.{Tag}
 use Rattle.html_lexemes.specs.declared.token.TagKind.TheVariants.{EndTag, StartTag}
 use Rattle.html_lexemes.specs.declared.token.TokenSinkResult.TheVariants.{Continue}

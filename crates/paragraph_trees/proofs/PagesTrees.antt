@@ -9,7 +9,7 @@ use Rattle.html_grammar.proofs.Readings.{one}
 use Rattle.html_grammar.specs.Items.{end_of_file}
 use Rattle.html_grammar.specs.PageText.{page_text}
 use Rattle.html_grammar.specs.Reading.{Reading}
-use Rattle.html_lexemes.specs.References.{References}
+use Rattle.reference_tables.specs.References.{References}
 use Rattle.html_tree_builder.specs.Defaults.{default_parse}
 use Rattle.html_tree_builder.specs.Grown.{IsTreeOfPage, beginning}
 use Rattle.rebuilt_documents.specs.Contents.{Content, IsBlocks, no_more, none, nothing, of_text, text, tokens}

@@ -10,7 +10,7 @@ use Rattle.html_grammar.specs.Reading.{Reading, goes}
 use Rattle.html_grammar.specs.References.{reference}
 use Rattle.html_grammar.specs.declared.modes.Mode.{Mode}
 use Rattle.html_grammar.specs.declared.modes.TextKind.TheVariants.{Ordinary}
-use Rattle.html_lexemes.specs.References.{References}
+use Rattle.reference_tables.specs.References.{References}
 use Rattle.paragraph_trees.proofs.NamedCharacters.{reference_read}
 use Rattle.paragraph_trees.specs.ParagraphPage.{IsCharacter, IsText}
 

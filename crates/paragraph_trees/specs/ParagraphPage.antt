@@ -1,7 +1,7 @@
 -- Pages that are lists of paragraphs with nothing between them (WHATWG HTML, 13.1, of which this is a small part). A
 -- page is a text, a list of code points.
 use Rattle.std.specs.Prelude.{◌≡◌, ◌≢◌, ℕ, List, [], ◌∷◌, ◌++◌, ◌⊎◌, codes, Contains}
-use Rattle.html_lexemes.specs.References.{basic_references}
+use Rattle.reference_tables.specs.References.{basic_references}
 
 -- A reference: `&` and a name of the basic table, which stands for its character.
 abbrev pub IsReference : List ℕ → ℕ → Type 0

@@ -5,7 +5,7 @@ use Rattle.html_forest.specs.Forest.{Forest, page_alone}
 use Rattle.html_forest.specs.declared.sink.QuirksMode.{QuirksMode}
 use Rattle.html_forest.specs.declared.sink.QuirksMode.TheVariants.{NoQuirks}
 use Rattle.html_grammar.specs.PageText.{page_text}
-use Rattle.html_lexemes.specs.References.{References}
+use Rattle.reference_tables.specs.References.{References}
 use Rattle.html_tree_builder.specs.Defaults.{default_parse}
 use Rattle.html_tree_builder.specs.Grown.{IsTreeOfPage, beginning}
 use Rattle.rebuilt_documents.specs.Contents.{Content, none, say, span}

@@ -1,6 +1,6 @@
 -- Controls and noncharacters (WHATWG Infra, 4.6), NUL and ASCII white space aside.
 use Rattle.std.specs.Prelude.{ℕ, Bool, ◌==◌, ◌||◌, nat_le, ◌%◌}
-use Rattle.html_lexemes.specs.References.{is_between}
+use Rattle.reference_tables.specs.References.{is_between}
 
 -- TAB, LF, FF and CR are no such controls
 abbrev pub is_control : ℕ → Bool

@@ -8,7 +8,7 @@ ghost use Rattle.escaped_texts.specs.Escaped.{KnowsEscapes};
 ghost use Rattle.html_forest.specs.Forest.{Forest, page_alone};
 ghost use Rattle.html_forest.specs.declared.sink.QuirksMode.{QuirksMode as Quirks};
 ghost use Rattle.html_forest.specs.declared.sink.QuirksMode.TheVariants.{NoQuirks};
-ghost use Rattle.html_lexemes.specs.References.{References};
+ghost use Rattle.reference_tables.specs.References.{References};
 ghost use Rattle.html_serializer.specs.Walks.{walk_text};
 ghost use Rattle.html_serializer.specs.declared.options.TraversalScope.TheVariants.{ChildrenOnly};
 ghost use Rattle.html_tree_builder.specs.Defaults.{default_parse};

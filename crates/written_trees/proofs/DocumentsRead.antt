@@ -6,7 +6,7 @@ use Rattle.html_grammar.specs.Items.{Item, characters, end_of_file, tag}
 use Rattle.html_grammar.specs.Meaning.{Meaning}
 use Rattle.html_grammar.specs.Modes.{mode_behind}
 use Rattle.html_grammar.specs.Reading.{IsLawful, Reading, ends}
-use Rattle.html_lexemes.specs.References.{References}
+use Rattle.reference_tables.specs.References.{References}
 use Rattle.written_trees.proofs.ReadBack.{items_read}
 use Rattle.html_grammar.specs.Tags.{first_of_each}
 use Rattle.html_lexemes.specs.declared.names.Attribute.{Attribute}

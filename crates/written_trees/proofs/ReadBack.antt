@@ -14,7 +14,7 @@ use Rattle.html_grammar.specs.Reading.{IsLawful, Reading, goes, tags}
 use Rattle.html_grammar.specs.Slices.{first_passes, rest_while}
 use Rattle.html_grammar.specs.Tags.{first_of_each, tag_at}
 use Rattle.html_grammar.specs.declared.modes.Mode.{Mode}
-use Rattle.html_lexemes.specs.References.{References}
+use Rattle.reference_tables.specs.References.{References}
 use Rattle.html_lexemes.specs.declared.names.Attribute.{Attribute}
 use Rattle.html_lexemes.specs.declared.token.TagKind.TheVariants.{EndTag, StartTag}
 use Rattle.html_serializer.specs.Escapes.{attributes_text, end_text, start_text}

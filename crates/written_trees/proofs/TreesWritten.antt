@@ -6,7 +6,7 @@ use Rattle.html_forest.specs.Forest.{page_alone}
 use Rattle.html_grammar.proofs.Readings.{one}
 use Rattle.html_grammar.specs.Items.{Item, characters, comment, doctype, end_of_file, error, null_character, tag}
 use Rattle.html_grammar.specs.Reading.{IsLawful, Reading}
-use Rattle.html_lexemes.specs.References.{References}
+use Rattle.reference_tables.specs.References.{References}
 use Rattle.html_lexemes.specs.declared.states.RawKind.TheVariants.{Rcdata}
 use Rattle.html_lexemes.specs.declared.token.TokenSinkResult.TheVariants.{Continue, RawData}
 use Rattle.kept_text.specs.KeptText.{IsAtBeginning}

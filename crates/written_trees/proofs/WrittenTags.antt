@@ -20,7 +20,7 @@ use Rattle.html_grammar.specs.TagLaws.{AreWritten, IsAttributeSlice, IsValue, Is
 use Rattle.html_grammar.specs.TagLaws.{has, quoted}
 use Rattle.html_grammar.specs.Tags.{attribute, ends_attribute_name, ends_tag_name, first_of_each, greater}
 use Rattle.html_grammar.specs.Tags.{is_gap, tag_at, tag_of}
-use Rattle.html_lexemes.specs.References.{References}
+use Rattle.reference_tables.specs.References.{References}
 use Rattle.html_lexemes.specs.declared.names.Attribute.{Attribute}
 use Rattle.html_lexemes.specs.declared.names.Namespace.TheVariants.{Other}
 use Rattle.html_lexemes.specs.declared.token.Tag.{Tag}

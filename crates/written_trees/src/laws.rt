@@ -8,7 +8,7 @@ ghost use Rattle.html_grammar.specs.Items.{Item};
 ghost use Rattle.html_grammar.specs.PageText.{page_text};
 ghost use Rattle.html_grammar.specs.Reading.{Reading};
 ghost use Rattle.html_grammar.specs.declared.modes.Mode.{Mode as SeenMode};
-ghost use Rattle.html_lexemes.specs.References.{References};
+ghost use Rattle.reference_tables.specs.References.{References};
 ghost use Rattle.html_serializer.specs.Walks.{calls_of, walk_text};
 ghost use Rattle.html_serializer.specs.declared.options.TraversalScope.{TraversalScope as Scope};
 ghost use Rattle.html_serializer.specs.declared.options.TraversalScope.TheVariants.{ChildrenOnly};

@@ -4,7 +4,7 @@ use Rattle.std.proofs.lemmas.Bool.{eqb-true}
 use Rattle.std.proofs.lemmas.Iterator.{YieldsList-from_chars}
 use Rattle.std.proofs.lemmas.Iterator.Search.{all_from_yields_List}
 use Rattle.std.specs.List.{list_all}
-use Rattle.html_lexemes.specs.References.{is_between}
+use Rattle.reference_tables.specs.References.{is_between}
 use Rattle.lexeme_places.proofs.EndTagLemmas.{no_name, some_name}
 use Rattle.lexeme_places.proofs.first.is_name_of_letters.Goals as goal
 

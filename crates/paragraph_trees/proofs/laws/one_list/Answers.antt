@@ -1,4 +1,4 @@
-use Rattle.html_lexemes.specs.References.{basic}
+use Rattle.reference_tables.specs.References.{basic}
 use Rattle.paragraph_trees.proofs.OneList.{one_page}
 use Rattle.paragraph_trees.proofs.laws.one_list.Goals as goal
 

@@ -1,7 +1,7 @@
 use Rattle.std.proofs.Common.{ap, sym, subst, ◌∙◌, map, ◌<◌, ℕ, List, length}
 use Rattle.std.proofs.lemmas.Bool.{eqb-true}
 use Rattle.std.proofs.lemmas.List.{map-append}
-use Rattle.html_lexemes.proofs.NameTests.{no_chars, some_chars}
+use Rattle.reference_tables.proofs.NameTests.{no_chars, some_chars}
 use Rattle.html_grammar.specs.Items.{item_of}
 use Rattle.token_sinks.proofs.KeptLemmas.{nothing_kept, text_kept}
 use Rattle.token_sinks.proofs.kept_tokens.keep_text.Goals as goal

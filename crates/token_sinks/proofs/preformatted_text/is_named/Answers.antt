@@ -1,6 +1,6 @@
 use Rattle.std.proofs.Common.{ap, ◌∙◌, chars, ℕ, List}
 use Rattle.std.specs.Str.{bytes_eq}
-use Rattle.html_lexemes.proofs.Utf8Order.{same_by_bytes}
+use Rattle.owned_texts.proofs.Utf8Order.{same_by_bytes}
 use Rattle.token_sinks.proofs.preformatted_text.is_named.Goals as goal
 
 pub returns : goal.returns

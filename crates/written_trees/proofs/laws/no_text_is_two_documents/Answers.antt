@@ -3,7 +3,7 @@ use Rattle.html_forest.specs.Forest.{page_alone}
 use Rattle.html_forest.specs.declared.sink.QuirksMode.TheVariants.{NoQuirks}
 use Rattle.html_grammar.proofs.Readings.{some}
 use Rattle.html_grammar.specs.Reading.{Reading}
-use Rattle.html_lexemes.specs.References.{basic}
+use Rattle.reference_tables.specs.References.{basic}
 use Rattle.tree_builder.specs.Begun.{begun}
 use Rattle.tree_rules.specs.Defaults.{default_options}
 use Rattle.tree_rules.specs.Settling.{meaning}

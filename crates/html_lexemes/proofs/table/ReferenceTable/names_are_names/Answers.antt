@@ -1,5 +1,0 @@
-use Rattle.html_lexemes.proofs.SoundReferences.{found_sound}
-use Rattle.html_lexemes.proofs.table.ReferenceTable.names_are_names.Goals as goal
-
-pub returns : goal.returns
-returns c = found_sound c.self.inside.references.items c.args.self.now c.self.view_is c.self.invariant.order c.self.invariant.sound

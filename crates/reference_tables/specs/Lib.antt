@@ -1,0 +1,5 @@
+pub mod Json
+pub mod Lookup
+pub mod References
+pub mod Shown
+pub mod Table
