@@ -8,10 +8,12 @@ here=$(cd "$(dirname "$0")" && pwd)
 piece=${1:-64}
 folder=${BENCH:-${TMPDIR:-/tmp}/count_tokens_bench}
 crate=$folder/crates/count_tokens
+below="known_names owned_texts byte_devices reference_tables"
+below="$below html_lexemes parse_errors html_grammar lexeme_places html_tokenizer"
 mkdir -p "$crate/src" "$crate/proofs/count"
-copy_crates "$here" "$folder" html_lexemes parse_errors html_grammar lexeme_places html_tokenizer
+copy_crates "$here" "$folder" $below
 {
-  grep -E "^(html_(lexemes|grammar|tokenizer)|parse_errors|lexeme_places):" "$here/../crates.txt"
+  for name in $below; do grep "^$name:" "$here/../crates.txt"; done
   echo 'count_tokens: html_lexemes parse_errors html_grammar lexeme_places html_tokenizer thiserror'
 } >"$folder/crates.txt"
 cp "$here/count_tokens/main.rt.txt" "$crate/src/main.rt"
