@@ -114,3 +114,9 @@ begun_each (c ∷ cs) =
 -- a text has as many characters as bytes that begin one
 pub begun : (bs : List ℕ) → IsUtf8 bs → count_by begins_character bs ≡ length (chars bs)
 begun bs u = ap (count_by begins_character) (sym (encodes-chars bs u)) ∙ begun_each (chars bs)
+
+-- where none are left, all were counted
+pub counted_all : (rest : List ℕ) (count : ℕ) → eqb (length rest) 0 ≡ true
+    → count ≡ count + count_by begins_character rest
+counted_all rest count none =
+    grind (arith, ap (count_by begins_character) (nil_from_length rest (eqb-true (length rest) 0 none)))

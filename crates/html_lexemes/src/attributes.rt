@@ -66,6 +66,10 @@ impl Attributes {
     {
         match &mut self.items {
             Items::Owned(items) => {
+                if items.is_empty() {
+                    // most tags have one attribute, and its list may be shared by many elements
+                    items.reserve_exact(1)?;
+                }
                 items.push(attribute)?;
                 Ok(())
             }

@@ -1,31 +1,34 @@
 // Runs of a text without a character of a set, and how many characters a text has, both found by its bytes.
-ghost use Rattle.std.specs.Prelude.{◌≡◌, ◌<◌, ◌≤◌, ℕ, length, slice_index, IsTrue, IfSome, chars, true, false};
+ghost use Rattle.std.specs.Prelude.{◌≡◌, ◌<◌, ◌≤◌, ℕ, length, replicate, slice_index, IsTrue, chars, true, false};
+ghost use Rattle.std.specs.List.{count_by};
 ghost use Rattle.html_lexemes.specs.QueueParts.{IsRunOutside, Marks, is_marked, begins_character};
 
 /// The longest beginning of a text without a character of a set.
 pub(crate) fn run_outside<'t>(text: &'t str, set: &[char]) -> &'t str
     ensures { IsRunOutside set.now text.now result.now }
 {
-    let length = match marked_bytes(set) {
-        Some(marks) => length_before(text.as_bytes(), &marks),
-        None => text.find(set).unwrap_or(text.len()),
+    let mut marks = [false; 256];
+    let length = if mark_all(set, &mut marks) {
+        length_before(text.as_bytes(), &marks)
+    } else {
+        text.find(set).unwrap_or(text.len())
     };
     let (run, _) = text.split_at(length);
     run
 }
 
-// The bytes that are characters of a set, where all of the set are ASCII: else `None`.
-fn marked_bytes(set: &[char]) -> Option<[bool; 256]>
-    ensures { IfSome result (λ marks. Marks set.now marks) }
+// Marks the bytes that are characters of a set, where all of the set are ASCII; whether they are.
+fn mark_all(set: &[char], marks: &mut [bool; 256]) -> bool
+    requires { marks.old ≡ replicate 256 false }
+    ensures { IsTrue result → Marks set.now marks.new }
 {
-    let mut marks = [false; 256];
     'characters: for c in set {
         if !c.is_ascii() {
-            return None;
+            return false;
         }
         marks[*c as usize] = true;
     }
-    Some(marks)
+    true
 }
 
 // how many bytes stand before the first that is marked
@@ -45,9 +48,24 @@ fn length_before(bytes: &[u8], marks: &[bool; 256]) -> usize
 pub(crate) fn count_of(text: &str) -> usize
     ensures { result ≡ length (chars text.now) }
 {
+    let mut rest = text.as_bytes();
     let mut count = 0;
-    'bytes: for byte in text.as_bytes() {
-        count += usize::from(begins_character(*byte));
+    while !rest.is_empty() {
+        let (part, behind) = rest.split_at(rest.len().min(255));
+        count += usize::from(count_of_part(part));
+        rest = behind;
+    }
+    count
+}
+
+// How many of a few bytes begin a character. A sum that fits a byte is made of many bytes at a time.
+fn count_of_part(bytes: &[u8]) -> u8
+    requires { length bytes.now ≤ 255 }
+    ensures { result ≡ count_by begins_character bytes.now }
+{
+    let mut count = 0;
+    'bytes: for byte in bytes {
+        count += u8::from(begins_character(*byte));
     }
     count
 }

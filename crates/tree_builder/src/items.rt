@@ -21,13 +21,14 @@ pub(crate) fn tell_characters<S: TreeSink>(
         (state_of S.number S.forest S.quirks page.old) (characters text)) }
     ensures memory { IfErr result (λ e. e ≡ Memory) }
 {
-    let text = text.as_str();
-    let Some((first, rest)) = first_and_rest(text) else {
+    let Some((first, rest)) = first_and_rest(text.as_str()) else {
         return Ok(());
     };
     let is_left_out = page.kept.skip_lf && first == '\n';
     page.kept.skip_lf = false;
     if is_left_out {
+        let alloc = *page.kept.template_modes.allocator();
+        let rest = Text::from_str(alloc, rest)?;
         return take_text(page, rest);
     }
     take_text(page, text)

@@ -21,8 +21,54 @@ use page_rules::takes_text_here;
 use tree_actions::Parse;
 use tree_texts::{TextClass, runs_of_text};
 
-/// Characters of text, where no line feed is left out.
-pub fn take_text<S: TreeSink>(page: &mut Parse<S>, text: &str) -> Result<(), ParseFault>
+/// Characters of text, where no line feed is left out. Where the mode treats all of them alike they become a node's
+/// text, or a part of one, as they are.
+pub fn take_text<S: TreeSink>(page: &mut Parse<S>, text: Text) -> Result<(), ParseFault>
+    requires calm { IsCalm (state_of S.number S.forest S.quirks page.old) }
+    ensures seen { OnOk result (state_of S.number S.forest S.quirks page.new ≡ took text
+        (state_of S.number S.forest S.quirks page.old)) }
+    ensures calm { OnOk result (IsCalm (state_of S.number S.forest S.quirks page.new)) }
+    ensures memory { IfErr result (λ e. e ≡ Memory) }
+{
+    if is_without_characters(text.as_str()) {
+        return Ok(());
+    }
+    let is_space = first_is_white_space(text.as_str());
+    hand_on(page, is_space)?;
+    take_settled(page, text, is_space)?;
+    Ok(())
+}
+
+// Characters of text, at least one, where the mode takes the first.
+fn take_settled<S: TreeSink>(
+    page: &mut Parse<S>,
+    text: Text,
+    is_space: bool,
+) -> Result<(), ParseFault>
+    requires calm { IsCalm (state_of S.number S.forest S.quirks page.old) }
+    requires settled { IsSettled is_space (state_of S.number S.forest S.quirks page.old) }
+    requires first { first_passes (is_alike is_space) text ≡ true }
+    ensures seen { OnOk result (state_of S.number S.forest S.quirks page.new ≡ took text
+        (state_of S.number S.forest S.quirks page.old)) }
+    ensures calm { OnOk result (IsCalm (state_of S.number S.forest S.quirks page.new)) }
+    ensures memory { IfErr result (λ e. e ≡ Memory) }
+{
+    runs_of_text();
+    if !takes_text_here(page) {
+        say_told(page, text)?;
+        return Ok(());
+    }
+    let class = text_class(page, is_space);
+    if is_same_class(text_class(page, !is_space), class) {
+        say_as(page, class, text)?;
+        return Ok(());
+    }
+    take_runs(page, text.as_str())?;
+    Ok(())
+}
+
+// characters of text, run by run
+fn take_runs<S: TreeSink>(page: &mut Parse<S>, text: &str) -> Result<(), ParseFault>
     requires calm { IsCalm (state_of S.number S.forest S.quirks page.old) }
     ensures seen { OnOk result (state_of S.number S.forest S.quirks page.new ≡ took (chars text.now)
         (state_of S.number S.forest S.quirks page.old)) }
@@ -70,17 +116,18 @@ fn take_front<'a, S: TreeSink>(
     ensures memory { IfErr result (λ e. e ≡ Memory) }
 {
     runs_of_text();
+    let alloc = *page.kept.template_modes.allocator();
     if !takes_text_here(page) {
-        say_told(page, text)?;
+        say_told(page, Text::from_str(alloc, text)?)?;
         return Ok("");
     }
     let class = text_class(page, is_space);
     if is_same_class(text_class(page, !is_space), class) {
-        say_as(page, class, text)?;
+        say_as(page, class, Text::from_str(alloc, text)?)?;
         return Ok("");
     }
     let (run, behind) = split_alike(text, is_space);
-    say_as(page, class, run)?;
+    say_as(page, class, Text::from_str(alloc, run)?)?;
     Ok(behind)
 }
 
@@ -129,16 +176,16 @@ fn is_handed_on<S: TreeSink>(page: &Parse<S>, is_space: bool) -> bool
 }
 
 // characters are inserted; others than white space refuse framesets
-fn say_told<S: TreeSink>(page: &mut Parse<S>, run: &str) -> Result<(), ParseFault>
+fn say_told<S: TreeSink>(page: &mut Parse<S>, run: Text) -> Result<(), ParseFault>
     requires ready { Ready (state_of S.number S.forest S.quirks page.old) }
-    ensures seen { OnOk result (state_of S.number S.forest S.quirks page.new ≡ told (chars run.now)
+    ensures seen { OnOk result (state_of S.number S.forest S.quirks page.new ≡ told run
         (state_of S.number S.forest S.quirks page.old)) }
     ensures ready { OnOk result (Ready (state_of S.number S.forest S.quirks page.new)) }
     ensures memory { IfErr result (λ e. e ≡ Memory) }
 {
-    let alloc = *page.kept.template_modes.allocator();
-    page.say(Text::from_str(alloc, run)?)?;
-    if are_white_space(run) {
+    let is_space = are_white_space(run.as_str());
+    page.say(run)?;
+    if is_space {
         return Ok(());
     }
     page.refuse_frameset();
@@ -146,13 +193,13 @@ fn say_told<S: TreeSink>(page: &mut Parse<S>, run: &str) -> Result<(), ParseFaul
 }
 
 // a run by the mode
-fn say_as<S: TreeSink>(page: &mut Parse<S>, class: TextClass, run: &str) -> Result<(), ParseFault>
+fn say_as<S: TreeSink>(page: &mut Parse<S>, class: TextClass, run: Text) -> Result<(), ParseFault>
     requires calm { IsCalm (state_of S.number S.forest S.quirks page.old) }
     requires mode { AreByMode (state_of S.number S.forest S.quirks page.old) }
-    requires all { AreOfClass class (chars run.now) (state_of S.number S.forest S.quirks page.old) }
-    requires some { chars run.now ≡ [] → ⊥ }
+    requires all { AreOfClass class run (state_of S.number S.forest S.quirks page.old) }
+    requires some { run ≡ [] → ⊥ }
     requires apart { class ≡ HandedOn → ⊥ }
-    ensures seen { OnOk result (state_of S.number S.forest S.quirks page.new ≡ took (chars run.now)
+    ensures seen { OnOk result (state_of S.number S.forest S.quirks page.new ≡ took run
         (state_of S.number S.forest S.quirks page.old)) }
     ensures calm { OnOk result (IsCalm (state_of S.number S.forest S.quirks page.new)) }
     ensures memory { IfErr result (λ e. e ≡ Memory) }
@@ -166,8 +213,7 @@ fn say_as<S: TreeSink>(page: &mut Parse<S>, class: TextClass, run: &str) -> Resu
             return Ok(());
         }
         TextClass::Inserted => {
-            let alloc = *page.kept.template_modes.allocator();
-            page.say(Text::from_str(alloc, run)?)?;
+            page.say(run)?;
             return Ok(());
         }
         TextClass::InBody => {
@@ -176,7 +222,7 @@ fn say_as<S: TreeSink>(page: &mut Parse<S>, class: TextClass, run: &str) -> Resu
             return Ok(());
         }
         TextClass::Kept => {
-            page.keep_pending(run)?;
+            page.keep_pending(run.as_str())?;
             return Ok(());
         }
     }

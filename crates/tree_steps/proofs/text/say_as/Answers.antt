@@ -1,4 +1,5 @@
-use Rattle.std.proofs.Common.{chars}
+use Rattle.std.proofs.Common.{◌∙◌, ap, chars, fold, refl}
+use Rattle.tree_rules.specs.Actions.{act, keep_pending}
 use Rattle.tree_actions.specs.Parsed.{parsed}
 use Rattle.tree_rules.specs.State.{State}
 use Rattle.tree_steps.proofs.TextLemmas.{as_dropped, as_in_body, as_inserted, as_kept, flag_kept, flag_reconstructed}
@@ -8,7 +9,7 @@ use Rattle.tree_steps.proofs.text.say_as.Goals as goal
 pub returns-in-Dropped-clause-seen : goal.returns-in-Dropped-clause-seen
 returns-in-Dropped-clause-seen g c =
     let tree = g.S.TreeSink in
-    let cs = chars c.args.run.now in
+    let cs = c.args.run in
     let page = c.args.page.now in
     let old : State = parsed tree.number tree.forest tree.quirks page.kept page.tree.held page.tree.sink in
     as_dropped c.runs_of_text.ensures c.args.class cs old c.in-Dropped.is c.requires.calm c.requires.mode
@@ -17,33 +18,33 @@ returns-in-Dropped-clause-seen g c =
 pub returns-in-Inserted-clause-seen : goal.returns-in-Inserted-clause-seen
 returns-in-Inserted-clause-seen g c =
     let tree = g.S.TreeSink in
-    let cs = chars c.args.run.now in
+    let cs = c.args.run in
     let page = c.args.page.now in
     let old : State = parsed tree.number tree.forest tree.quirks page.kept page.tree.held page.tree.sink in
     let made = c.say.new.self in
     let new : State = parsed tree.number tree.forest tree.quirks made.kept made.tree.held made.tree.sink in
-    as_inserted c.runs_of_text.ensures c.args.class c.in_ok-from_str-in-Inserted.field-0 cs old new c.in-Inserted.is
+    as_inserted c.runs_of_text.ensures c.args.class cs cs old new c.in-Inserted.is
     c.requires.calm c.requires.mode
-    c.requires.all c.in_ok-from_str-in-Inserted.ensures c.in_ok-say-in-Inserted.ensures.seen
+    c.requires.all refl c.in_ok-say-in-Inserted.ensures.seen
 
 pub returns-in-Inserted-clause-calm : goal.returns-in-Inserted-clause-calm
 returns-in-Inserted-clause-calm g c =
     let tree = g.S.TreeSink in
-    let cs = chars c.args.run.now in
+    let cs = c.args.run in
     let page = c.args.page.now in
     let old : State = parsed tree.number tree.forest tree.quirks page.kept page.tree.held page.tree.sink in
     let made = c.say.new.self in
     let new : State = parsed tree.number tree.forest tree.quirks made.kept made.tree.held made.tree.sink in
     record {
       ready = c.in_ok-say-in-Inserted.ensures.ready;
-      flag = flag_said c.in_ok-from_str-in-Inserted.field-0 old new c.in_ok-say-in-Inserted.ensures.seen
+      flag = flag_said c.args.run old new c.in_ok-say-in-Inserted.ensures.seen
           c.requires.calm.flag;
     }
 
 pub returns-in-InBody-clause-seen : goal.returns-in-InBody-clause-seen
 returns-in-InBody-clause-seen g c =
     let tree = g.S.TreeSink in
-    let cs = chars c.args.run.now in
+    let cs = c.args.run in
     let page = c.args.page.now in
     let old : State = parsed tree.number tree.forest tree.quirks page.kept page.tree.held page.tree.sink in
     let kept = c.reconstruct.new.self in
@@ -57,7 +58,7 @@ returns-in-InBody-clause-seen g c =
 pub returns-in-InBody-clause-calm : goal.returns-in-InBody-clause-calm
 returns-in-InBody-clause-calm g c =
     let tree = g.S.TreeSink in
-    let cs = chars c.args.run.now in
+    let cs = c.args.run in
     let page = c.args.page.now in
     let old : State = parsed tree.number tree.forest tree.quirks page.kept page.tree.held page.tree.sink in
     let kept = c.reconstruct.new.self in
@@ -73,23 +74,24 @@ returns-in-InBody-clause-calm g c =
 pub returns-in-Kept-clause-seen : goal.returns-in-Kept-clause-seen
 returns-in-Kept-clause-seen g c =
     let tree = g.S.TreeSink in
-    let cs = chars c.args.run.now in
+    let cs = c.args.run in
     let page = c.args.page.now in
     let old : State = parsed tree.number tree.forest tree.quirks page.kept page.tree.held page.tree.sink in
     let made = c.keep_pending.new.self in
     let new : State = parsed tree.number tree.forest tree.quirks made.kept made.tree.held made.tree.sink in
     as_kept c.runs_of_text.ensures c.args.class cs old new c.in-Kept.is c.requires.calm c.requires.mode
-    c.requires.all c.in_ok-keep_pending-in-Kept.ensures.seen
+    c.requires.all
+    (c.in_ok-keep_pending-in-Kept.ensures.seen ∙ ap (fold (λ s k. act (keep_pending k) s) old) c.as_str.ensures)
 
 pub returns-in-Kept-clause-calm : goal.returns-in-Kept-clause-calm
 returns-in-Kept-clause-calm g c =
     let tree = g.S.TreeSink in
-    let cs = chars c.args.run.now in
+    let cs = c.args.run in
     let page = c.args.page.now in
     let old : State = parsed tree.number tree.forest tree.quirks page.kept page.tree.held page.tree.sink in
     let made = c.keep_pending.new.self in
     let new : State = parsed tree.number tree.forest tree.quirks made.kept made.tree.held made.tree.sink in
     record {
       ready = c.in_ok-keep_pending-in-Kept.ensures.ready;
-      flag = flag_kept cs old new c.in_ok-keep_pending-in-Kept.ensures.seen c.requires.calm.flag;
+      flag = flag_kept (chars c.as_str.result.now) old new c.in_ok-keep_pending-in-Kept.ensures.seen c.requires.calm.flag;
     }

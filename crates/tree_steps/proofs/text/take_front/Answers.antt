@@ -1,7 +1,8 @@
-use Rattle.std.proofs.Common.{chars}
+use Rattle.std.proofs.Common.{chars, ap, ◌∙◌, subst, sym}
 use Rattle.tree_actions.specs.Parsed.{parsed}
 use Rattle.tree_rules.specs.State.{State}
 use Rattle.tree_steps.specs.Runs.{is_alike}
+use Rattle.tree_texts.specs.TextRuns.{told, took}
 use Rattle.tree_steps.proofs.TextLemmas.{as_foreign, behind_less, front_all, none_left, none_less, took_front}
 use Rattle.tree_steps.proofs.text.take_front.Goals as goal
 
@@ -14,7 +15,8 @@ returns-then-not-takes_text_here-clause-seen g c =
     let made = c.say_told.new.page in
     let new : State = parsed tree.number tree.forest tree.quirks made.kept made.tree.held made.tree.sink in
     none_left cs old new (as_foreign c.runs_of_text.ensures cs old new c.takes_text_here.result c.requires.calm
-    c.takes_text_here.ensures.text c.if-not-takes_text_here.true c.in_ok-say_told.ensures.seen)
+    c.takes_text_here.ensures.text c.if-not-takes_text_here.true
+    (c.in_ok-say_told.ensures.seen ∙ ap (λ l. told l old) c.in_ok-from_str.ensures))
 
 pub returns-then-not-takes_text_here-clause-less : goal.returns-then-not-takes_text_here-clause-less
 returns-then-not-takes_text_here-clause-less g c =
@@ -28,7 +30,7 @@ returns-then-is_same_class-clause-seen g c =
     let old : State = parsed tree.number tree.forest tree.quirks page.kept page.tree.held page.tree.sink in
     let made = c.say_as.new.page in
     let new : State = parsed tree.number tree.forest tree.quirks made.kept made.tree.held made.tree.sink in
-    none_left cs old new c.in_ok-say_as.ensures.seen
+    none_left cs old new (c.in_ok-say_as.ensures.seen ∙ ap (λ l. took l old) c.in_ok-from_str-2.ensures)
 
 pub returns-then-is_same_class-clause-less : goal.returns-then-is_same_class-clause-less
 returns-then-is_same_class-clause-less g c =
@@ -40,8 +42,8 @@ say_as-requires-2-clause-all g c =
     let cs = chars c.args.text.now in
     let page = c.args.page.now in
     let old : State = parsed tree.number tree.forest tree.quirks page.kept page.tree.held page.tree.sink in
-    front_all c.text_class-class.result c.args.is_space cs (chars c.split_alike.result.0.now) old
-    c.split_alike.ensures.front c.text_class-class.ensures
+    front_all c.text_class-class.result c.args.is_space cs c.in_ok-from_str-3.field-0 old
+    (c.in_ok-from_str-3.ensures ∙ c.split_alike.ensures.front) c.text_class-class.ensures
 
 pub returns-clause-seen : goal.returns-clause-seen
 returns-clause-seen g c =
@@ -51,8 +53,9 @@ returns-clause-seen g c =
     let old : State = parsed tree.number tree.forest tree.quirks page.kept page.tree.held page.tree.sink in
     let made = c.say_as-2.new.page in
     let new : State = parsed tree.number tree.forest tree.quirks made.kept made.tree.held made.tree.sink in
-    took_front (is_alike c.args.is_space) cs (chars c.split_alike.result.0.now) (chars c.split_alike.result.1.now) old
-    new c.split_alike.ensures.front c.split_alike.ensures.rest c.in_ok-say_as-2.ensures.seen
+    took_front (is_alike c.args.is_space) cs c.in_ok-from_str-3.field-0 (chars c.split_alike.result.1.now) old
+    new (c.in_ok-from_str-3.ensures ∙ c.split_alike.ensures.front) c.split_alike.ensures.rest
+    c.in_ok-say_as-2.ensures.seen
 
 pub returns-clause-less : goal.returns-clause-less
 returns-clause-less g c =

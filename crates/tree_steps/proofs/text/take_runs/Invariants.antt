@@ -3,7 +3,7 @@ use denote.Shadow.{shadow}
 use denote.Text.{Utf8}
 use Rattle.tree_actions.specs.Parsed.{parsed}
 use Rattle.tree_texts.specs.TextRuns.{IsCalm, took}
-use Rattle.tree_steps.proofs.text.take_text.Given as goal
+use Rattle.tree_steps.proofs.text.take_runs.Given as goal
 
 abbrev pub invariant-runs : goal.invariant-runs
 invariant-runs g l =
