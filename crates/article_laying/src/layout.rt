@@ -23,10 +23,10 @@ use crate::options::{LineOptions, Room};
 use crate::paragraphs::Behind;
 use article_layout::{exchange, paragraphs_are_never_refused, visible_characters_once};
 use article_values::Block;
-use normal_text::{fewest_lines, normal_lines_are_fullest};
 use std::alloc::{AllocError, Global};
 use tagged_lines::TaggedLine;
 use text_pieces::BlockError;
+use wrapping_laws::{fewest_lines, normal_lines_are_fullest};
 
 /// A line of an article that is laid out.
 #[derive(Drop)]

@@ -14,7 +14,7 @@ ghost use Rattle.block_layout.specs.Laid.{Laid, flush, nothing_laid};
 ghost use Rattle.normal_text.specs.Letters.{codes_of};
 ghost use Rattle.text_borders.specs.Across.{CellLine, Hanging};
 
-use normal_text::{normal_lines_keep_markers, normal_lines_show_each_character};
+use wrapping_laws::{normal_lines_keep_markers, normal_lines_show_each_character};
 
 /// Two articles that differ in one text, where each of the two texts has a visible character, and that are both laid
 /// out: all lines that aren't of its paragraph are equal, in order, and so are the footnotes.

@@ -8,7 +8,7 @@ use Rattle.tagged_lines.specs.Columns.{columns_of, columns_of-one, width_of}
 use Rattle.tagged_lines.specs.Tagged.{line_items, IsJoined}
 use Rattle.tagged_lines.specs.declared.tagged_line.TaggedLine.{TaggedLine}
 use Rattle.text_pieces.specs.Sources.{is_filled}
-use Rattle.normal_text.specs.SpacedWords.{IsVisible, EndsVisibly, IsEnded}
+use Rattle.spaced_words.specs.SpacedWords.{IsVisible, EndsVisibly, IsEnded}
 use Rattle.normal_text.specs.Units.{Letter, piece, lettered, letters_columns, has_columns, is_break_point, space_of}
 use Rattle.normal_text.specs.Units.{first_of, units}
 use Rattle.normal_text.specs.Layout.{marks_items}

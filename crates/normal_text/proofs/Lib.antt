@@ -4,12 +4,10 @@ pub mod NormalItems
 pub mod NormalReading
 pub mod NormalRuns
 pub mod NormalWords
-pub mod SpacedLemmas
 pub mod SpacedLaying
-pub mod SpacedEnds
 pub mod SpacedMoved
 pub mod EndedText
-pub mod LayoutFewest
+pub mod LayoutWidths
 pub mod LayoutFilling
 pub mod LayoutFullest
 pub mod LayoutSplits
@@ -22,9 +20,3 @@ pub mod WordLemmas
 pub mod MarkedLemmas
 pub mod PieceLemmas
 pub mod ShownLemmas
-pub mod LetterLemmas
-pub mod MarkedWidth
-pub mod MarkedKept
-pub mod MarkedShown
-pub mod NotesAside
-pub mod MarkersAside

@@ -12,7 +12,7 @@ use Rattle.normal_text.specs.Filling.{read_letters, nothing_read, lines_read, la
 use Rattle.normal_text.specs.NormalStates.{HasRead, HasWider, AllHaveRoom, HoldsLines, Moves, lay_read}
 use Rattle.normal_text.specs.declared.normal.NormalText.{NormalText}
 use Rattle.normal_text.proofs.NormalReading.{laid_lines}
-use Rattle.normal_text.proofs.LayoutFewest.{no_layout_of_wider, lines_keep_the_width}
+use Rattle.normal_text.proofs.LayoutWidths.{no_layout_of_wider, lines_keep_the_width}
 use Rattle.std.proofs.lemmas.List.Elements.{All-map}
 use Rattle.normal_text.proofs.LayoutFilling.{filled_is_fullest, letters_there}
 use Rattle.normal_text.proofs.UnitsLetters.{unit_letters_fit, units_have_letters}

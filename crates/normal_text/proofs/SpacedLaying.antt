@@ -10,7 +10,7 @@ use Rattle.std.proofs.lemmas.List.Sums.{fold-append, sum_by-cons}
 use Rattle.std.proofs.lemmas.Str.{chars_past_char}
 use Rattle.tagged_lines.specs.Columns.{text_columns, width_of, columns_of-one}
 use Rattle.tagged_lines.specs.Tagged.{character, line_items, line_columns, tagged, IsJoined}
-use Rattle.normal_text.specs.SpacedWords.{IsVisible, IsWord, spaced, closed, HasWords}
+use Rattle.spaced_words.specs.SpacedWords.{IsVisible, IsWord, spaced, closed, HasWords}
 use Rattle.normal_text.specs.Units.{Letter, piece, lettered, letters_columns}
 use Rattle.normal_text.specs.Layout.{Mark, opens, inside, marked, columns, following_items}
 use Rattle.normal_text.specs.Greedy.{Filled, filled, add_unit}

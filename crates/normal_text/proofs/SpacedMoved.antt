@@ -9,8 +9,8 @@ use Rattle.std.proofs.lemmas.List.Sums.{fold-append}
 use Rattle.std.proofs.lemmas.Str.{chars-nil, chars_past_char}
 use Rattle.tagged_lines.specs.Columns.{text_columns}
 use Rattle.tagged_lines.specs.Tagged.{line_items, tagged, IsJoined}
-use Rattle.normal_text.specs.SpacedWords.{IsWord, spaced, closed, IsWordsAndSpace, IsLineAndSpace}
-use Rattle.normal_text.specs.SpacedWords.{EndsInSpace}
+use Rattle.spaced_words.specs.SpacedWords.{IsWord, spaced, closed, IsWordsAndSpace, IsLineAndSpace}
+use Rattle.spaced_words.specs.SpacedWords.{EndsInSpace}
 use Rattle.normal_text.specs.Units.{Letter, piece, lettered, letters_columns}
 use Rattle.normal_text.specs.Layout.{Mark, opens, inside, marked, columns, marks_items}
 use Rattle.normal_text.specs.Greedy.{Filled, filled, add_unit}

@@ -6,6 +6,4 @@ pub mod MarkedStates
 pub mod MarkedTags
 pub mod NormalStates
 pub mod Riders
-pub mod RowWords
-pub mod SpacedWords
 pub mod Units

@@ -10,7 +10,7 @@ use Rattle.text_pieces.specs.Cuts.{IsBehind}
 use Rattle.text_pieces.specs.Sources.{is_filled}
 use Rattle.normal_text.specs.Layout.{Mark, opens, inside, marked, columns, marks_items, gap}
 use Rattle.normal_text.specs.Greedy.{Filled, filled, all_lines, add_unit, add_units, add_marks, add_mark}
-use Rattle.normal_text.specs.SpacedWords.{IsWord, spaced, IsWordsAndSpace, IsLineAndSpace}
+use Rattle.spaced_words.specs.SpacedWords.{IsWord, spaced, IsWordsAndSpace, IsLineAndSpace}
 use Rattle.normal_text.specs.Filling.{Reading, reading, read_letters, nothing_read}
 use Rattle.tagged_lines.specs.declared.tagged_line.TaggedLine.{TaggedLine}
 use Rattle.normal_text.specs.declared.filling.Filling.{Filling}

@@ -3,10 +3,10 @@ ghost use Rattle.std.specs.Prelude.{chars, string_bytes, IfOk, IfErr, OnOk, List
 ghost use Rattle.std.specs.Option.{option_map};
 ghost use Rattle.tagged_lines.specs.Columns.{text_columns};
 ghost use Rattle.tagged_lines.specs.Tagged.{line_items, element_items, line_columns, tagged, IsJoined};
-ghost use Rattle.normal_text.specs.SpacedWords.{EndsInSpace};
+ghost use Rattle.spaced_words.specs.SpacedWords.{EndsInSpace};
 ghost use Rattle.normal_text.specs.NormalStates.{space_behind, space_columns};
 
-use crate::spaced_words::without_last;
+use spaced_words::without_last;
 use std::alloc::{AllocError, Global};
 use tagged_lines::{Columns, EqualCopy, TaggedLine, TaggedLineElement, UnicodeColumns};
 use text_pieces::BlockError;

@@ -7,7 +7,7 @@ ghost use Rattle.tagged_lines.specs.Tagged.{line_items, line_columns, IsJoined};
 ghost use Rattle.normal_text.specs.Units.{is_break_point};
 
 use crate::filling::Filling;
-use crate::spaced_words::{
+use spaced_words::{
     ended, is_visible_ascii, line_before_space, words_before_space, words_in_front,
 };
 use std::alloc::{AllocError, Global};

@@ -11,7 +11,6 @@ pub use block_renderer::{
 pub use footnote_lines::footnotes_keep_the_width;
 pub use laws::{parts_keep_the_width, parts_with_room_never_refuse};
 pub use layout_laws::{calls_keep_the_width, cells_hang_until_a_row, overflow_never_refuses};
-pub use normal_text::{markers_change_no_line, normal_lines_show_each_character};
 pub use renderer_laws::{
     a_prefix_and_its_room_are_the_width, renderers_keep_the_width, renderers_with_room_never_refuse,
 };
@@ -37,3 +36,4 @@ pub use text_wrapping::{
     preserved_lines_keep_the_width, preserved_lines_show_each_character, text_may_be_cut_anywhere,
     wide_text_never_fits,
 };
+pub use wrapping_laws::{markers_change_no_line, normal_lines_show_each_character};

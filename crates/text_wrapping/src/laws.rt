@@ -12,10 +12,10 @@ ghost use Rattle.text_wrapping.specs.LawWords.{line_ends, IsWithin};
 ghost use Rattle.text_pieces.specs.declared.white_space.WhiteSpace.{WhiteSpace as SeenMode};
 ghost use Rattle.text_wrapping.specs.NormalBlocks.{normal_block};
 
-use normal_text::{normal_lines_are_fullest, normal_lines_keep_the_width, wide_text_never_fits};
 use preserved_text::preserved_lines_keep_the_width;
 use tagged_lines::EqualCopy;
 use text_pieces::WhiteSpace;
+use wrapping_laws::{normal_lines_are_fullest, normal_lines_keep_the_width, wide_text_never_fits};
 
 /// A block of normal text goes on behind what it holds; an empty block is one without text.
 pub fn normal_text_is_kept<T: EqualCopy>()

@@ -1,5 +1,0 @@
-use Rattle.normal_text.proofs.MarkedKept.{markers_kept}
-use Rattle.normal_text.proofs.laws.normal_lines_keep_markers.Goals as goal
-
-pub returns : goal.returns
-returns g c = λ width source. markers_kept width source

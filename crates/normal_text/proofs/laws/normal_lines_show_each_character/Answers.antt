@@ -1,5 +1,0 @@
-use Rattle.normal_text.proofs.MarkedShown.{characters_shown}
-use Rattle.normal_text.proofs.laws.normal_lines_show_each_character.Goals as goal
-
-pub returns : goal.returns
-returns g c = λ width source. characters_shown width source
