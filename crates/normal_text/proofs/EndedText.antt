@@ -1,5 +1,5 @@
 -- A space behind a text that ends in visible ASCII changes none of its lines; and lines that end with a text.
-use Rattle.std.proofs.Common.{◌≡◌, ◌≢◌, ℕ, ◌+◌, ◌<◌, Bool, true, false, List, [], ◌∷◌, ◌++◌, length, map, inl, inr}
+use Rattle.std.proofs.Common.{◌≡◌, ◌≢◌, ℕ, ◌<◌, Bool, true, false, List, [], ◌∷◌, ◌++◌, length, map, inl, inr}
 use Rattle.std.proofs.Common.{sym, ap, ◌∙◌, refl, subst, append_assoc, append-nil, arith}
 use Rattle.std.specs.Prelude.{Result, Ok, Err, IfOk, Option, Some, is_some, All, IsTrue, if◌then◌else◌}
 use Rattle.std.proofs.lemmas.List.{length-append, map-append}

@@ -1,5 +1,5 @@
 -- A letter wider than the width has no layout; the columns of a line, which no layout without overflow passes.
-use Rattle.std.proofs.Common.{◌≡◌, ℕ, ◌+◌, ◌<◌, ◌≤◌, ◌⊎◌, inr, false, List, [], ◌∷◌, ◌++◌}
+use Rattle.std.proofs.Common.{◌≡◌, ℕ, ◌+◌, ◌<◌, ◌≤◌, inr, false, List, [], ◌∷◌, ◌++◌}
 use Rattle.std.proofs.Common.{All, refl, sym, ap, subst, ◌∙◌, arith, ⊎_elim, Some, None, unwrap_or}
 use Rattle.std.specs.List.{AllByRecursion}
 use Rattle.std.proofs.lemmas.List.Elements.{All-from_recursion, recursion_from_All}

@@ -1,5 +1,5 @@
 -- Words that are moved onto a line in the text that they came in, and the end of a text that is moved.
-use Rattle.std.proofs.Common.{◌≡◌, ℕ, ◌+◌, ◌≤◌, Bool, true, ◌||◌, nat_le, List, [], ◌∷◌, ◌++◌, length, fold}
+use Rattle.std.proofs.Common.{◌≡◌, ℕ, ◌≤◌, Bool, true, ◌||◌, nat_le, List, [], ◌∷◌, ◌++◌, length, fold}
 use Rattle.std.proofs.Common.{sym, ap, ◌∙◌, refl, subst, append_assoc, append-nil, chars, IsUtf8, encode_utf8, arith}
 use Rattle.std.specs.Prelude.{Option, None, Some, IsNone, IsTrue, All}
 use Rattle.std.specs.Option.{option_map}

@@ -1,5 +1,5 @@
 -- Words of visible ASCII that stand behind single spaces.
-use Rattle.std.specs.Prelude.{◌≡◌, ◌≢◌, ℕ, suc, ◌+◌, ◌≤◌, List, [], ◌∷◌, ◌++◌, length, All, chars, ◌⊎◌}
+use Rattle.std.specs.Prelude.{◌≡◌, ◌≢◌, ℕ, suc, ◌≤◌, List, [], ◌∷◌, ◌++◌, length, All, chars, ◌⊎◌}
 use Rattle.text_pieces.specs.Cuts.{IsBehind}
 use Rattle.tagged_lines.specs.Columns.{text_columns}
 

@@ -1,5 +1,5 @@
 -- Markers change no line: line by line, the characters are those of the text without its markers.
-use Rattle.std.proofs.Common.{◌≡◌, ◌⊎◌, ℕ, ◌+◌, ◌≤◌, Bool, true, false, not, ◌&&◌, ◌||◌, nat_le, nat_lt, List, [], ◌∷◌}
+use Rattle.std.proofs.Common.{◌≡◌, ◌⊎◌, ℕ, ◌≤◌, Bool, true, false, not, ◌&&◌, ◌||◌, nat_le, nat_lt, List, [], ◌∷◌}
 use Rattle.std.proofs.Common.{◌++◌, map, filter, is_some, cond, sym, ap, subst, ◌∙◌, refl, append-nil, append_assoc}
 use Rattle.std.proofs.Common.{None, inl, inr, arith}
 use Rattle.std.specs.Prelude.{Option, All, IsTrue, fold, if◌then◌else◌}
