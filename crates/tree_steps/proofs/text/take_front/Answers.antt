@@ -1,4 +1,4 @@
-use Rattle.std.proofs.Common.{chars, ap, ◌∙◌, subst, sym}
+use Rattle.std.proofs.Common.{chars, ap, ◌∙◌}
 use Rattle.tree_actions.specs.Parsed.{parsed}
 use Rattle.tree_rules.specs.State.{State}
 use Rattle.tree_steps.specs.Runs.{is_alike}
