@@ -5,7 +5,7 @@ use Rattle.std.specs.Char.{is_whitespace}
 use Rattle.std.specs.List.{list_all}
 use Rattle.article_layout.specs.Layouts.{Options, all_shallow, has_none, mark_of}
 use Rattle.article_values.specs.Articles.{Inlines, Style, bold, code, emphasis, italic, line_break, link, no_inlines}
-use Rattle.article_values.specs.Articles.{span, words}
+use Rattle.article_values.specs.Articles.{span, strong, words}
 use Rattle.article_values.specs.Faults.{fault_of_inlines}
 use Rattle.article_conversion.specs.ArticleValues.{link_before, marked, style_info, values_of_inlines}
 use Rattle.article_conversion.proofs.MarkStyles.{marks_are_seen, style_by, style_seen, unset_by}
@@ -52,6 +52,7 @@ empty_style bold alone = refl
 empty_style italic alone = refl
 empty_style emphasis alone = refl
 empty_style code alone = refl
+empty_style strong alone = refl
 
 and_true : (b : Bool) → b ≡ (b && true)
 and_true true = refl
@@ -103,6 +104,8 @@ marked_by emphasis [] kids inside rest = refl
 marked_by emphasis (c ∷ cs) kids inside rest = refl
 marked_by code [] kids inside rest = refl
 marked_by code (c ∷ cs) kids inside rest = refl
+marked_by strong [] kids inside rest = refl
+marked_by strong (c ∷ cs) kids inside rest = refl
 
 abbrev href : List ℕ → List Attribute
 href target = in_no_namespace (codes "href") target ∷ []
@@ -145,6 +148,9 @@ module _ (o : Options) (s : Styles) (seen : (name : List ℕ) → s name ≡ sty
   span_values code kids rest =
       ap (by_style Flow (kind_of (codes "code") []) kids (values s Flow kids) (values s Flow rest)) (marks_at code)
       ∙ marked_by code (mark_of o code) kids (values s Flow kids) (values s Flow rest)
+  span_values strong kids rest =
+      ap (by_style Flow (kind_of (codes "strong") []) kids (values s Flow kids) (values s Flow rest)) (marks_at strong)
+      ∙ marked_by strong (mark_of o strong) kids (values s Flow kids) (values s Flow rest)
 
   break_values : (rest : Trees) →
       values s Flow (node (kind_of (codes "br") []) of_trees.none rest)

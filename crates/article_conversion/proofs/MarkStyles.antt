@@ -2,7 +2,7 @@
 use Rattle.std.proofs.Common.{◌≡◌, ℕ, Bool, true, false, List, [], ◌∷◌, refl, ap, ◌∙◌, if◌then◌else◌}
 use Rattle.std.specs.Prelude.{Some}
 use Rattle.article_layout.specs.Layouts.{style_mark}
-use Rattle.article_values.specs.Articles.{Style, bold, code, emphasis, italic}
+use Rattle.article_values.specs.Articles.{Style, bold, code, emphasis, italic, strong}
 use Rattle.article_conversion.specs.ArticleValues.{AreRulesOf}
 use Rattle.paragraph_lines.proofs.QuietRules.{part_by, parts_by, same_seen, seen_at}
 use Rattle.render_conversion.specs.Decorating.{SeenRule, decorating_rules}
@@ -51,4 +51,5 @@ marks_are_seen true bold = refl
 marks_are_seen true italic = refl
 marks_are_seen true emphasis = refl
 marks_are_seen true code = refl
+marks_are_seen true strong = refl
 marks_are_seen false style = refl

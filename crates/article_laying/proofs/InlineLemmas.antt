@@ -28,6 +28,7 @@ is_one = ind-Inline IsOne (λ x y is. λ rest. subst (λ view. has_none (view re
     by (Inline-F.Italic contents) rest = refl
     by (Inline-F.Emphasis contents) rest = refl
     by (Inline-F.Code contents) rest = refl
+    by (Inline-F.Strong contents) rest = refl
     by (Inline-F.Link target contents) rest = refl
 
 pub empty_holds_none : (inlines : List Inline) → (length inlines == 0) ≡ has_none (inlines_view inlines)

@@ -81,6 +81,9 @@ fn say_inline(
         Inline::Code(contents) => {
             say_span(alloc, room, block, targets, "`", contents.as_slice(), tag)
         }
+        Inline::Strong(contents) => {
+            say_span(alloc, room, block, targets, "**", contents.as_slice(), tag)
+        }
         Inline::Link(target, contents) => {
             say_link(
                 alloc,
@@ -242,6 +245,7 @@ fn is_shallow(options: LineOptions, inline: &Inline) -> bool
         Inline::Italic(contents) => holds_none(contents.as_slice()),
         Inline::Emphasis(contents) => holds_none(contents.as_slice()) && !options.decorates,
         Inline::Code(contents) => holds_none(contents.as_slice()) && !options.decorates,
+        Inline::Strong(contents) => holds_none(contents.as_slice()) && !options.decorates,
         Inline::Link(_, contents) => holds_none(contents.as_slice()),
     }
 }

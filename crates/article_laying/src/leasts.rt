@@ -42,6 +42,7 @@ fn least_of_inline(options: LineOptions, inline: &Inline) -> usize
         Inline::Italic(contents) => least_of_span(options, "", contents.as_slice()),
         Inline::Emphasis(contents) => least_of_span(options, "*", contents.as_slice()),
         Inline::Code(contents) => least_of_span(options, "`", contents.as_slice()),
+        Inline::Strong(contents) => least_of_span(options, "**", contents.as_slice()),
         Inline::Link(_, contents) => least_of_link(options, contents.as_slice()),
     }
 }

@@ -3,7 +3,7 @@ use Rattle.std.specs.Prelude.{ℕ, Bool, List, [], ◌∷◌, if◌then◌else�
 use Rattle.article_layout.specs.Layouts.{Options, all_shallow, mark_of}
 use Rattle.article_values.specs.Articles.{Blocks, Inlines, Items, Style, bold, bullets, code, division, emphasis}
 use Rattle.article_values.specs.Articles.{heading, italic, item, line_break, link, no_blocks, no_inlines, no_items}
-use Rattle.article_values.specs.Articles.{numbers, paragraph, span, words}
+use Rattle.article_values.specs.Articles.{numbers, paragraph, span, strong, words}
 use Rattle.render_values.specs.Plain.{container, plain_head}
 use Rattle.render_values.specs.Values.{Values, joined, none, value}
 use Rattle.render_values.specs.declared.info.RenderInfo.{RenderInfo}
@@ -23,6 +23,7 @@ style_info bold = infos.Strong
 style_info italic = infos.Emphasis
 style_info emphasis = infos.Emphasis
 style_info code = infos.Code
+style_info strong = infos.Strong
 
 -- a link that shows nothing has no value
 abbrev pub link_before : (shallow : Bool) → List ℕ → (inside rest : Values) → Values

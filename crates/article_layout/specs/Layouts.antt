@@ -47,6 +47,7 @@ style_mark bold = codes "**"
 style_mark italic = []
 style_mark emphasis = codes "*"
 style_mark code = codes "`"
+style_mark strong = codes "**"
 
 abbrev pub mark_of : Options → Style → List ℕ
 mark_of o style = if o.decorates then style_mark style else []

@@ -113,6 +113,7 @@ impl Values {
             "italic" => Inline::Italic(self.inlines_at(below)?),
             "emphasis" => Inline::Emphasis(self.inlines_at(below)?),
             "code" => Inline::Code(self.inlines_at(below)?),
+            "strong" => Inline::Strong(self.inlines_at(below)?),
             "link" => Inline::Link(line.text(self.alloc)?, self.inlines_at(below)?),
             _ => return Ok(None),
         }))

@@ -14,10 +14,10 @@ use Rattle.article_values.specs.declared.error.ArticleError.TheVariants.{EmptyTe
 use Rattle.article_values.specs.declared.values.Inline.{Inline}
 use Rattle.article_values.specs.declared.values.Inline.TheFolds.{fold-roll-Inline}
 use Rattle.article_values.specs.declared.values.Inline.TheOpen.{Inline-F}
-use Rattle.article_values.specs.declared.values.Inline.TheVariants.{rolls-Bold, rolls-Code, rolls-Emphasis, rolls-Italic, rolls-Link}
+use Rattle.article_values.specs.declared.values.Inline.TheVariants.{rolls-Bold, rolls-Code, rolls-Emphasis, rolls-Italic, rolls-Link, rolls-Strong}
 use Rattle.article_values.specs.declared.values.Inline.TheViews as views
 use Rattle.article_values.specs.Views.{inline_step}
-use Rattle.article_values.specs.Articles.{bold, code, emphasis, italic}
+use Rattle.article_values.specs.Articles.{bold, code, emphasis, italic, strong}
 use Rattle.std.proofs.Common.{Vec, Global, String, string_bytes}
 
 pub span_case : (v : Inline) (d : ℕ) (l b : Bool) (contents slice : List Inline) (style : Style)
@@ -118,6 +118,10 @@ module _ (contents : Vec Inline Global) (r : Inlines) where
   pub seen_code : inline_view (views.Code contents) r ≡ span code (inlines_view contents.items) r
   seen_code = ap (λ v. inline_view v r) (sym (rolls-Code contents))
       ∙ ap (λ f. f r) (fold-roll-Inline (Inlines → Inlines) inline_step (Inline-F.Code contents))
+
+  pub seen_strong : inline_view (views.Strong contents) r ≡ span strong (inlines_view contents.items) r
+  seen_strong = ap (λ v. inline_view v r) (sym (rolls-Strong contents))
+      ∙ ap (λ f. f r) (fold-roll-Inline (Inlines → Inlines) inline_step (Inline-F.Strong contents))
 
   pub seen_link : (target : String Global) → inline_view (views.Link target contents) r
       ≡ link (chars (string_bytes target)) (inlines_view contents.items) r

@@ -1,6 +1,6 @@
 -- What contracts see of each variant of an inline and of a block.
 use Rattle.std.proofs.Common.{◌≡◌, ℕ, ℤ, List, [], ◌∷◌, map, refl, sym, ap, ◌∙◌, chars, string_bytes, Vec, String, Global}
-use Rattle.article_values.specs.Articles.{Blocks, Inlines, bold, bullets, code, division, emphasis, heading, italic, line_break, link, no_items, numbers, paragraph, span, words}
+use Rattle.article_values.specs.Articles.{Blocks, Inlines, bold, bullets, code, division, emphasis, heading, italic, line_break, link, no_items, numbers, paragraph, span, strong, words}
 use Rattle.article_values.specs.Views.{block_step, block_view, blocks_view, held, in_turn, inline_step, inline_view, inlines_view, item_before, items_view}
 use Rattle.article_values.specs.declared.values.Block.{Block}
 use Rattle.article_values.specs.declared.values.Block.TheFolds.{fold-roll-Block}
@@ -10,7 +10,7 @@ use Rattle.article_values.specs.declared.values.Block.TheVariants as block_varia
 use Rattle.article_values.specs.declared.values.Block.TheViews as block_views
 use Rattle.article_values.specs.declared.values.Inline.TheFolds.{fold-roll-Inline}
 use Rattle.article_values.specs.declared.values.Inline.TheOpen.{Inline-F}
-use Rattle.article_values.specs.declared.values.Inline.TheVariants.{rolls-Bold, rolls-Break, rolls-Code, rolls-Emphasis, rolls-Italic, rolls-Link, rolls-Text}
+use Rattle.article_values.specs.declared.values.Inline.TheVariants.{rolls-Bold, rolls-Break, rolls-Code, rolls-Emphasis, rolls-Italic, rolls-Link, rolls-Strong, rolls-Text}
 use Rattle.article_values.specs.declared.values.Inline.TheVariants as variants
 use Rattle.article_values.specs.declared.values.Inline.TheViews as views
 
@@ -39,6 +39,10 @@ module _ (contents : Vec _ Global) (r : Inlines) where
   pub seen_code : inline_view (views.Code contents) r ≡ span code (inlines_view contents.items) r
   seen_code = ap (λ v. inline_view v r) (sym (rolls-Code contents))
       ∙ ap (λ f. f r) (fold-roll-Inline (Inlines → Inlines) inline_step (Inline-F.Code contents))
+
+  pub seen_strong : inline_view (views.Strong contents) r ≡ span strong (inlines_view contents.items) r
+  seen_strong = ap (λ v. inline_view v r) (sym (rolls-Strong contents))
+      ∙ ap (λ f. f r) (fold-roll-Inline (Inlines → Inlines) inline_step (Inline-F.Strong contents))
 
   pub seen_link : (target : String Global) → inline_view (views.Link target contents) r
       ≡ link (chars (string_bytes target)) (inlines_view contents.items) r

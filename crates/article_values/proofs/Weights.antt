@@ -10,7 +10,7 @@ use Rattle.article_values.specs.declared.values.Block.TheViews as block_views
 use Rattle.article_values.specs.declared.values.Inline.{Inline}
 use Rattle.article_values.specs.declared.values.Inline.TheFolds.{fold-roll-Inline}
 use Rattle.article_values.specs.declared.values.Inline.TheOpen.{Inline-F}
-use Rattle.article_values.specs.declared.values.Inline.TheVariants.{rolls-Bold, rolls-Break, rolls-Code, rolls-Emphasis, rolls-Italic, rolls-Link}
+use Rattle.article_values.specs.declared.values.Inline.TheVariants.{rolls-Bold, rolls-Break, rolls-Code, rolls-Emphasis, rolls-Italic, rolls-Link, rolls-Strong}
 use Rattle.article_values.specs.declared.values.Inline.TheVariants as variants
 use Rattle.article_values.specs.declared.values.Inline.TheViews as views
 use Rattle.article_values.specs.Sizes.{inline_size, inline_size_step, inlines_size}
@@ -56,6 +56,9 @@ module _ (contents : Vec Inline Global) where
 
   pub size_of_code : inline_size (views.Code contents) ≡ suc (inlines_size contents.items)
   size_of_code = ap inline_size (sym (rolls-Code contents)) ∙ fold-roll-Inline ℕ inline_size_step (Inline-F.Code contents)
+
+  pub size_of_strong : inline_size (views.Strong contents) ≡ suc (inlines_size contents.items)
+  size_of_strong = ap inline_size (sym (rolls-Strong contents)) ∙ fold-roll-Inline ℕ inline_size_step (Inline-F.Strong contents)
 
   pub size_of_link : (target : String Global) →
       inline_size (views.Link target contents) ≡ suc (inlines_size contents.items)

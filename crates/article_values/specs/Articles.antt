@@ -7,6 +7,7 @@ pub data Style : Type 0 where
   italic : Style
   emphasis : Style
   code : Style
+  strong : Style
 
 -- What stands in a paragraph: texts, line breaks, and contents shown in a style or leading to a target. Texts and
 -- targets are their characters.

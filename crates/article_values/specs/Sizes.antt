@@ -17,6 +17,7 @@ inline_size_step (Inline-F.Bold contents) = suc (total contents.items)
 inline_size_step (Inline-F.Italic contents) = suc (total contents.items)
 inline_size_step (Inline-F.Emphasis contents) = suc (total contents.items)
 inline_size_step (Inline-F.Code contents) = suc (total contents.items)
+inline_size_step (Inline-F.Strong contents) = suc (total contents.items)
 inline_size_step (Inline-F.Link target contents) = suc (total contents.items)
 
 -- how many inlines stand in one, itself among them

@@ -2,7 +2,7 @@
 use Rattle.std.specs.Prelude.{ℕ, ℤ, List, [], ◌∷◌, map, chars, string_bytes, Vec, String, Option, option_map}
 use Rattle.std.specs.Global.{Global}
 use Rattle.std.specs.Int.{cast_signed, cast_unsigned, w64}
-use Rattle.article_values.specs.Articles.{Blocks, Inlines, Items, bold, bullets, code, division, emphasis, heading, italic, item, line_break, link, no_blocks, no_inlines, no_items, numbers, paragraph, span, words}
+use Rattle.article_values.specs.Articles.{Blocks, Inlines, Items, bold, bullets, code, division, emphasis, heading, italic, item, line_break, link, no_blocks, no_inlines, no_items, numbers, paragraph, span, strong, words}
 use Rattle.article_values.specs.declared.values.Inline.{Inline, fold-Inline}
 use Rattle.article_values.specs.declared.values.Inline.TheOpen.{Inline-F}
 use Rattle.article_values.specs.declared.values.Block.{Block, fold-Block}
@@ -20,6 +20,7 @@ inline_step (Inline-F.Bold contents) = span bold (in_turn no_inlines contents.it
 inline_step (Inline-F.Italic contents) = span italic (in_turn no_inlines contents.items)
 inline_step (Inline-F.Emphasis contents) = span emphasis (in_turn no_inlines contents.items)
 inline_step (Inline-F.Code contents) = span code (in_turn no_inlines contents.items)
+inline_step (Inline-F.Strong contents) = span strong (in_turn no_inlines contents.items)
 inline_step (Inline-F.Link target contents) =
     link (chars (string_bytes target)) (in_turn no_inlines contents.items)
 

@@ -112,6 +112,7 @@ fn check_inline(
         Inline::Italic(contents) => check_span(contents.as_slice(), depth, in_link),
         Inline::Emphasis(contents) => check_span(contents.as_slice(), depth, in_link),
         Inline::Code(contents) => check_span(contents.as_slice(), depth, in_link),
+        Inline::Strong(contents) => check_span(contents.as_slice(), depth, in_link),
         Inline::Link(target, contents) => check_link(
             target.as_str(),
             contents.as_slice(),

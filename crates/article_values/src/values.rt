@@ -19,6 +19,8 @@ pub enum Inline {
     Emphasis(Vec<Inline>),
     /// Contents that are code.
     Code(Vec<Inline>),
+    /// Strong contents.
+    Strong(Vec<Inline>),
     /// A link: its target, and the contents that lead there. No link stands in another.
     Link(String, Vec<Inline>),
 }
@@ -35,6 +37,7 @@ impl Inline {
             Inline::Italic(contents) => Some(contents),
             Inline::Emphasis(contents) => Some(contents),
             Inline::Code(contents) => Some(contents),
+            Inline::Strong(contents) => Some(contents),
             Inline::Link(_, contents) => Some(contents),
         }
     }

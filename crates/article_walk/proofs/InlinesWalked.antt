@@ -7,7 +7,7 @@ use Rattle.article_layout.specs.Calls.{run}
 use Rattle.article_layout.specs.Layouts.{Options, Part, Tag, all_shallow, mark_of, number_mark, parts_of, says}
 use Rattle.article_layout.specs.Layouts.{targets_in, unless_shallow, within}
 use Rattle.article_values.specs.Articles.{Inlines, Style, bold, code, emphasis, italic, line_break, link, no_inlines}
-use Rattle.article_values.specs.Articles.{span, words}
+use Rattle.article_values.specs.Articles.{span, strong, words}
 use Rattle.block_layout.specs.Laid.{Laid, break_line}
 use Rattle.block_layout.specs.declared.measure.Measure.{Measure}
 use Rattle.render_laying.specs.Begins.{begins, ends, following, leading, style_begins, style_ends}
@@ -54,12 +54,14 @@ start_of bold = strong_start
 start_of italic = emphasis_start
 start_of emphasis = emphasis_start
 start_of code = code_start
+start_of strong = strong_start
 
 abbrev end_of : Style → Mark
 end_of bold = strong_end
 end_of italic = emphasis_end
 end_of emphasis = emphasis_end
 end_of code = code_end
+end_of strong = strong_end
 
 module _ (given : RenderOptions) (decorates : Bool) (min_wrap : ℕ) (held : Unit {0}) where
   abbrev at : Place → List (List ℕ) → Tag → Laid Tag → Layings
@@ -162,6 +164,7 @@ module _ (given : RenderOptions) (decorates : Bool) (min_wrap : ℕ) (held : Uni
   styled_walked italic inside rest p ts d b = ap (option_and_then (walk rest)) (around_it (walk inside) _ _)
   styled_walked emphasis inside rest p ts d b = ap (option_and_then (walk rest)) (around_it (walk inside) _ _)
   styled_walked code inside rest p ts d b = ap (option_and_then (walk rest)) (around_it (walk inside) _ _)
+  styled_walked strong inside rest p ts d b = ap (option_and_then (walk rest)) (around_it (walk inside) _ _)
 
   span_begun : (style : Style) (p : Place) (ts : List (List ℕ)) (d : Tag) (b : Laid Tag) → b.awaits ≡ false →
       laying_of.says plain_marking (starts_mark (start_of style)) (at p ts d b)
@@ -170,6 +173,7 @@ module _ (given : RenderOptions) (decorates : Bool) (min_wrap : ℕ) (held : Uni
   span_begun italic p ts d b quiet = mark_begun given decorates min_wrap held emphasis_start refl p ts d b quiet
   span_begun emphasis p ts d b quiet = mark_begun given decorates min_wrap held emphasis_start refl p ts d b quiet
   span_begun code p ts d b quiet = mark_begun given decorates min_wrap held code_start refl p ts d b quiet
+  span_begun strong p ts d b quiet = mark_begun given decorates min_wrap held strong_start refl p ts d b quiet
 
   span_ended : (style : Style) (p : Place) (ts : List (List ℕ)) (d : Tag) (b : Laid Tag) → b.awaits ≡ false →
       laying_of.says plain_marking (ends_mark (end_of style)) (at p ts (within d) b)
@@ -178,6 +182,7 @@ module _ (given : RenderOptions) (decorates : Bool) (min_wrap : ℕ) (held : Uni
   span_ended italic p ts d b quiet = mark_ended given decorates min_wrap held emphasis_end refl p ts d b quiet
   span_ended emphasis p ts d b quiet = mark_ended given decorates min_wrap held emphasis_end refl p ts d b quiet
   span_ended code p ts d b quiet = mark_ended given decorates min_wrap held code_end refl p ts d b quiet
+  span_ended strong p ts d b quiet = mark_ended given decorates min_wrap held strong_end refl p ts d b quiet
 
   -- what stands in a span, its marks beside it
   abbrev marked_run : Measure → Tag → List ℕ → List Part → Laid Tag → Option (Laid Tag)

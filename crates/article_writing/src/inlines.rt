@@ -79,6 +79,15 @@ fn tell_inline<S: Serializer>(
                 Inner::Inlines(contents.as_slice()),
             )
         }
+        Inline::Strong(contents) => {
+            tell_element(
+                alloc,
+                serializer,
+                "strong",
+                &[],
+                Inner::Inlines(contents.as_slice()),
+            )
+        }
         Inline::Link(target, contents) => {
             tell_link(alloc, serializer, target.as_str(), contents.as_slice())
         }

@@ -102,6 +102,7 @@ style_marks bold = refl
 style_marks italic = refl
 style_marks emphasis = refl
 style_marks code = refl
+style_marks strong = refl
 
 inlines_are : (d : ℕ) (linked behind : Bool) (is : Inlines) → fault_of_inlines d linked behind is ≡ None →
     IsInlines linked behind (content_of_inlines is)

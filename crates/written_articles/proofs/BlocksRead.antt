@@ -8,7 +8,7 @@ use Rattle.std.specs.Int.Signed.{mag}
 use Rattle.std.specs.Str.Parse.{digits_value}
 use Rattle.article_values.specs.Articles.{Blocks, Inlines, Items, Style, bold, bullets, code, division, emphasis}
 use Rattle.article_values.specs.Articles.{heading, italic, item, line_break, link, no_blocks, no_inlines, no_items}
-use Rattle.article_values.specs.Articles.{numbers, paragraph, words}
+use Rattle.article_values.specs.Articles.{numbers, paragraph, strong, words}
 use Rattle.article_values.specs.Articles as articles
 use Rattle.article_values.specs.Faults.{fault_of_blocks, fault_of_inlines, fault_of_items, fault_of_title, first_fault}
 use Rattle.html_forest.specs.Forest.{is_in}
@@ -32,6 +32,7 @@ inline_by name attributes contents rest = if is_one_of (codes "br" ∷ []) name 
     else if is_one_of (codes "i" ∷ []) name then articles.span italic contents rest
     else if is_one_of (codes "em" ∷ []) name then articles.span emphasis contents rest
     else if is_one_of (codes "code" ∷ []) name then articles.span code contents rest
+    else if is_one_of (codes "strong" ∷ []) name then articles.span strong contents rest
     else link (value_in attributes) contents rest
 
 abbrev inlines_in : Content → Inlines
@@ -45,6 +46,7 @@ style_read bold contents rest = refl
 style_read italic contents rest = refl
 style_read emphasis contents rest = refl
 style_read code contents rest = refl
+style_read strong contents rest = refl
 
 inlines_read : (d : ℕ) (linked behind : Bool) (is : Inlines) → fault_of_inlines d linked behind is ≡ None →
     inlines_in (content_of_inlines is) ≡ is

@@ -5,7 +5,7 @@ use Rattle.std.specs.Fmt.{signed_decimal}
 use Rattle.std.specs.Int.Signed.{mag}
 use Rattle.article_values.specs.Articles.{Blocks, Inlines, Items, Style, bold, bullets, code, division, emphasis}
 use Rattle.article_values.specs.Articles.{heading, italic, item, line_break, link, no_blocks, no_inlines, no_items}
-use Rattle.article_values.specs.Articles.{numbers, paragraph, words}
+use Rattle.article_values.specs.Articles.{numbers, paragraph, strong, words}
 use Rattle.article_values.specs.Articles as articles
 use Rattle.rebuilt_documents.specs.Contents.{Content, in_no_namespace, none, say, span}
 use Rattle.html_forest.specs.Forest.{Forest}
@@ -17,6 +17,7 @@ style_name bold = codes "b"
 style_name italic = codes "i"
 style_name emphasis = codes "em"
 style_name code = codes "code"
+style_name strong = codes "strong"
 
 abbrev pub content_of_inlines : Inlines → Content
 content_of_inlines no_inlines = none

@@ -72,6 +72,9 @@ named_em = (is_element (codes "em") refl refl refl refl refl refl refl, refl)
 named_code : IsHolder (codes "code")
 named_code = (is_element (codes "code") refl refl refl refl refl refl refl, refl)
 
+named_strong : IsHolder (codes "strong")
+named_strong = (is_element (codes "strong") refl refl refl refl refl refl refl, refl)
+
 named_p : IsHolder (codes "p")
 named_p = (is_element (codes "p") refl refl refl refl refl refl refl, refl)
 
@@ -122,7 +125,7 @@ for_one P (word ∷ words) name all is = either (bytes_eq name word) (is_one_of 
     (λ e. for_one P words name all.1 e)
 
 mark_named : (name : List ℕ) → is_one_of marks name ≡ true → IsHolder name
-mark_named name is = for_one IsHolder marks name (named_b, (named_i, (named_em, (named_code, tt)))) is
+mark_named name is = for_one IsHolder marks name (named_b, (named_i, (named_em, (named_code, (named_strong, tt))))) is
 
 text_named : (name : List ℕ) → is_one_of texts_of_blocks name ≡ true → IsHolder name
 text_named name is = for_one IsHolder texts_of_blocks name

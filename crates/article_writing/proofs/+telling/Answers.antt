@@ -19,6 +19,7 @@ use Rattle.article_writing.proofs.Telling.{element_told, handed_on, left_err, le
 use Rattle.article_writing.proofs.Telling.{then_told}
 use Rattle.article_writing.proofs.Texts.{number_chars, text_calls}
 use Rattle.article_values.proofs.VariantViews.{seen_bold, seen_break, seen_bullets, seen_code, seen_division}
+use Rattle.article_values.proofs.VariantViews.{seen_strong}
 use Rattle.article_values.proofs.VariantViews.{seen_emphasis, seen_italic, seen_numbers, seen_paragraph, seen_text}
 use Rattle.article_writing.proofs.+telling.Goals as goal
 
@@ -286,6 +287,15 @@ inlines::tell_inline-returns-in-Code g t c =
     (content_of_inlines (inline_view c.args.inline.now rest)) refl refl
     (ap (λ xs. content_of_inlines (inlines_view xs)) c.as_slice-in-Code.ensures.value)
     (ap (λ v. content_of_inlines (inline_view v rest)) c.in-Code.is ∙ ap content_of_inlines (seen_code c.in-Code.contents rest)) c.tell_element-in-Code.ensures
+
+pub inlines::tell_inline-returns-in-Strong : goal.inlines::tell_inline-returns-in-Strong
+unfolding chars
+inlines::tell_inline-returns-in-Strong g t c =
+    λ rest. element_told g.S.Serializer.means _ _ c.tell_element-in-Strong.result (codes "strong") (codes "strong") [] []
+    (content_of_inlines (inlines_view c.as_slice-in-Strong.result.now)) (content_of_inlines (inlines_view c.in-Strong.contents.items)) (content_of_inlines rest)
+    (content_of_inlines (inline_view c.args.inline.now rest)) refl refl
+    (ap (λ xs. content_of_inlines (inlines_view xs)) c.as_slice-in-Strong.ensures.value)
+    (ap (λ v. content_of_inlines (inline_view v rest)) c.in-Strong.is ∙ ap content_of_inlines (seen_strong c.in-Strong.contents rest)) c.tell_element-in-Strong.ensures
 
 pub inlines::tell_link-returns : goal.inlines::tell_link-returns
 unfolding chars

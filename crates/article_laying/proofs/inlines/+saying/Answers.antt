@@ -8,9 +8,9 @@ use Rattle.article_laying.specs.Settings.{options_of}
 use Rattle.article_laying.specs.Walks.{adds, said, spanned}
 use Rattle.article_layout.specs.Calls.{measure}
 use Rattle.article_layout.specs.Layouts.{within}
-use Rattle.article_values.specs.Articles.{bold, code, emphasis, italic}
+use Rattle.article_values.specs.Articles.{bold, code, emphasis, italic, strong}
 use Rattle.article_values.specs.Views.{inline_view, inlines_view}
-use Rattle.article_values.proofs.VariantViews.{seen_bold, seen_code, seen_emphasis, seen_italic, seen_text}
+use Rattle.article_values.proofs.VariantViews.{seen_bold, seen_code, seen_emphasis, seen_italic, seen_strong, seen_text}
 use Rattle.text_pieces.specs.declared.fault.BlockError.TheVariants.{TooNarrow}
 use Rattle.article_laying.proofs.SayingSteps.{link_by, span_by, target_noted}
 use Rattle.article_laying.proofs.inlines.+saying.Goals as goal
@@ -100,6 +100,24 @@ say_inline-returns-in-Code-clause-narrow t c = λ e. λ rest.
     ∙ ap (option_and_then (said (options_of c.args.room.options) (measure (options_of c.args.room.options) c.args.room.width) (tag_of c.args.tag.now) rest))
     (ap (λ xs. spanned (options_of c.args.room.options) (measure (options_of c.args.room.options) c.args.room.width) (tag_of c.args.tag.now) code (said (options_of c.args.room.options) (measure (options_of c.args.room.options) c.args.room.width) (within (tag_of c.args.tag.now)) (inlines_view xs)) (said_of c.args.block.now c.args.targets.now))
     (sym c.as_slice-in-Code.ensures.value) ∙ c.say_span-in-Code.ensures.narrow e code refl)
+
+pub say_inline-returns-in-Strong-clause-done : goal.say_inline-returns-in-Strong-clause-done
+unfolding chars
+say_inline-returns-in-Strong-clause-done t c = on_ok_weaker c.say_span-in-Strong.result (λ h. λ rest.
+    ap (λ v. said (options_of c.args.room.options) (measure (options_of c.args.room.options) c.args.room.width) (tag_of c.args.tag.now) (inline_view v rest) (said_of c.args.block.now c.args.targets.now)) c.in-Strong.is
+    ∙ ap (λ is. said (options_of c.args.room.options) (measure (options_of c.args.room.options) c.args.room.width) (tag_of c.args.tag.now) is (said_of c.args.block.now c.args.targets.now)) (seen_strong c.in-Strong.contents rest)
+    ∙ ap (option_and_then (said (options_of c.args.room.options) (measure (options_of c.args.room.options) c.args.room.width) (tag_of c.args.tag.now) rest))
+    (ap (λ xs. spanned (options_of c.args.room.options) (measure (options_of c.args.room.options) c.args.room.width) (tag_of c.args.tag.now) strong (said (options_of c.args.room.options) (measure (options_of c.args.room.options) c.args.room.width) (within (tag_of c.args.tag.now)) (inlines_view xs)) (said_of c.args.block.now c.args.targets.now))
+    (sym c.as_slice-in-Strong.ensures.value) ∙ h strong refl)) c.say_span-in-Strong.ensures.done
+
+pub say_inline-returns-in-Strong-clause-narrow : goal.say_inline-returns-in-Strong-clause-narrow
+unfolding chars
+say_inline-returns-in-Strong-clause-narrow t c = λ e. λ rest.
+    ap (λ v. said (options_of c.args.room.options) (measure (options_of c.args.room.options) c.args.room.width) (tag_of c.args.tag.now) (inline_view v rest) (said_of c.args.block.now c.args.targets.now)) c.in-Strong.is
+    ∙ ap (λ is. said (options_of c.args.room.options) (measure (options_of c.args.room.options) c.args.room.width) (tag_of c.args.tag.now) is (said_of c.args.block.now c.args.targets.now)) (seen_strong c.in-Strong.contents rest)
+    ∙ ap (option_and_then (said (options_of c.args.room.options) (measure (options_of c.args.room.options) c.args.room.width) (tag_of c.args.tag.now) rest))
+    (ap (λ xs. spanned (options_of c.args.room.options) (measure (options_of c.args.room.options) c.args.room.width) (tag_of c.args.tag.now) strong (said (options_of c.args.room.options) (measure (options_of c.args.room.options) c.args.room.width) (within (tag_of c.args.tag.now)) (inlines_view xs)) (said_of c.args.block.now c.args.targets.now))
+    (sym c.as_slice-in-Strong.ensures.value) ∙ c.say_span-in-Strong.ensures.narrow e strong refl)
 
 pub say_span-returns-in_err-say-clause-narrow : goal.say_span-returns-in_err-say-clause-narrow
 say_span-returns-in_err-say-clause-narrow t c = λ e. λ style f.

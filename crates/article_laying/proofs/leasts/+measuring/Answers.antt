@@ -2,9 +2,9 @@ use Rattle.std.proofs.Common.{ap, ◌∙◌, max}
 use Rattle.std.specs.Str.{chars}
 use Rattle.article_laying.specs.Settings.{options_of}
 use Rattle.article_layout.specs.Layouts.{least_in, least_text, mark_of}
-use Rattle.article_values.specs.Articles.{bold, code, emphasis, italic}
+use Rattle.article_values.specs.Articles.{bold, code, emphasis, italic, strong}
 use Rattle.article_values.specs.Views.{inline_view, inlines_view}
-use Rattle.article_values.proofs.VariantViews.{seen_bold, seen_code, seen_emphasis, seen_italic}
+use Rattle.article_values.proofs.VariantViews.{seen_bold, seen_code, seen_emphasis, seen_italic, seen_strong}
 use Rattle.article_laying.proofs.InlineLemmas.{max_three}
 use Rattle.article_laying.proofs.leasts.+measuring.Goals as goal
 
@@ -55,3 +55,15 @@ least_of_inline-returns-in-Code t c =
     (c.least_of_span-in-Code.ensures ∙ ap (λ xs. max (least_text (options_of c.args.options)
     (mark_of (options_of c.args.options) code)) (least_in (options_of c.args.options) (inlines_view xs)))
     c.as_slice-in-Code.ensures.value)
+
+pub least_of_inline-returns-in-Strong : goal.least_of_inline-returns-in-Strong
+unfolding chars
+least_of_inline-returns-in-Strong t c =
+    λ rest. ap (λ v. least_in (options_of c.args.options) (inline_view v rest)) c.in-Strong.is
+    ∙ ap (least_in (options_of c.args.options)) (seen_strong c.in-Strong.contents rest)
+    ∙ max_three (least_text (options_of c.args.options) (mark_of (options_of c.args.options) strong))
+    (least_in (options_of c.args.options) (inlines_view c.in-Strong.contents.items))
+    (least_in (options_of c.args.options) rest) c.least_of_span-in-Strong.result
+    (c.least_of_span-in-Strong.ensures ∙ ap (λ xs. max (least_text (options_of c.args.options)
+    (mark_of (options_of c.args.options) strong)) (least_in (options_of c.args.options) (inlines_view xs)))
+    c.as_slice-in-Strong.ensures.value)

@@ -1,10 +1,10 @@
 use Rattle.std.proofs.Common.{refl, ap, ◌∙◌, chars, string_bytes, Err}
 use Rattle.std.proofs.lemmas.List.{at_drop_all}
 use Rattle.std.proofs.lemmas.Result.{err_from_is_err_and}
-use Rattle.article_values.specs.Articles.{bold, code, emphasis, italic}
+use Rattle.article_values.specs.Articles.{bold, code, emphasis, italic, strong}
 use Rattle.article_values.specs.Outcomes.{fault_met}
 use Rattle.article_values.specs.Views.{inline_view}
-use Rattle.article_values.proofs.Turns.{ends, goes_on, link_case, seen_bold, seen_code, seen_emphasis, seen_italic, seen_link, span_case, stops}
+use Rattle.article_values.proofs.Turns.{ends, goes_on, link_case, seen_bold, seen_code, seen_emphasis, seen_italic, seen_link, seen_strong, span_case, stops}
 use Rattle.article_values.proofs.inline_checks.+inlines.Goals as goal
 
 pub check_inline-returns-in-Bold : goal.check_inline-returns-in-Bold
@@ -33,6 +33,13 @@ check_inline-returns-in-Code t c = λ rest. span_case c.args.inline.now c.args.d
     (fault_met c.check_span-in-Code.result) rest
     (λ r. ap (λ v. inline_view v r) c.in-Code.is ∙ seen_code c.in-Code.contents r)
     c.as_slice-in-Code.ensures.value c.check_span-in-Code.ensures
+
+pub check_inline-returns-in-Strong : goal.check_inline-returns-in-Strong
+check_inline-returns-in-Strong t c = λ rest. span_case c.args.inline.now c.args.depth c.args.in_link
+    c.args.behind_text c.in-Strong.contents.items c.as_slice-in-Strong.result.now strong
+    (fault_met c.check_span-in-Strong.result) rest
+    (λ r. ap (λ v. inline_view v r) c.in-Strong.is ∙ seen_strong c.in-Strong.contents r)
+    c.as_slice-in-Strong.ensures.value c.check_span-in-Strong.ensures
 
 pub check_inline-returns-in-Link : goal.check_inline-returns-in-Link
 check_inline-returns-in-Link t c = λ rest. link_case c.args.inline.now c.args.depth c.args.in_link
