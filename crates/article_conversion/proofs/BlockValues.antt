@@ -6,7 +6,7 @@ use Rattle.std.specs.Int.Signed.{mag}
 use Rattle.std.specs.Option.{option_or}
 use Rattle.article_layout.specs.Layouts.{Options}
 use Rattle.article_values.specs.Articles.{Blocks, Items, bullets, division, heading, item, no_blocks, no_items, numbers}
-use Rattle.article_values.specs.Articles.{paragraph}
+use Rattle.article_values.specs.Articles.{paragraph, quote}
 use Rattle.article_values.specs.Faults.{fault_of_blocks, fault_of_inlines, fault_of_items, fault_of_title, first_fault}
 use Rattle.article_values.specs.Faults.{fault_where, has_item, is_level, is_too_deep}
 use Rattle.article_values.specs.declared.error.ArticleError.{ArticleError}
@@ -75,6 +75,13 @@ module _ (o : Options) (s : Styles) (seen : (name : List ℕ) → s name ≡ sty
       ap (by_style Flow (kind_of (codes "div") []) kids (values s Flow kids) (values s Flow rest))
       (unset (codes "div") refl)
       ∙ ap (held_in infos.Division (values s Flow rest)) (joined_none (values s Flow kids))
+
+  quote_value : (kids rest : Trees) → values s Flow (node (kind_of (codes "blockquote") []) kids rest)
+      ≡ value (plain_head infos.Quote) (values s Flow kids) (values s Flow rest)
+  quote_value kids rest =
+      ap (by_style Flow (kind_of (codes "blockquote") []) kids (values s Flow kids) (values s Flow rest))
+      (unset (codes "blockquote") refl)
+      ∙ ap (held_in infos.Quote (values s Flow rest)) (joined_none (values s Flow kids))
 
   item_value : (kids rest : Trees) → values s InList (node (kind_of (codes "li") []) kids rest)
       ≡ value (plain_head infos.Container) (values s Flow kids) (values s InList rest)
@@ -157,6 +164,12 @@ module _ (o : Options) (s : Styles) (seen : (name : List ℕ) → s name ≡ sty
         division_value (trees_of_content (content_of_blocks its_blocks)) later
         ∙ ap (held_in infos.Division (values s Flow later)) (blocks_valued (suc d) its_blocks b.0 fit.0)
         ∙ ap (value (plain_head infos.Division) (values_of_blocks o its_blocks)) (blocks_valued d rest b.1 fit.1)
+    blocks_valued d (quote its_blocks rest) h fit =
+        let b = held_passed d (fault_of_blocks (suc d) its_blocks) (fault_of_blocks d rest) h in
+        let later = trees_of_content (content_of_blocks rest) in
+        quote_value (trees_of_content (content_of_blocks its_blocks)) later
+        ∙ ap (held_in infos.Quote (values s Flow later)) (blocks_valued (suc d) its_blocks b.0 fit.0)
+        ∙ ap (value (plain_head infos.Quote) (values_of_blocks o its_blocks)) (blocks_valued d rest b.1 fit.1)
     blocks_valued d (bullets its_items rest) h fit =
         let within = fault_of_items (suc d) its_items in
         let b = list_passed d its_items within (fault_of_blocks d rest) h in

@@ -9,7 +9,7 @@ use Rattle.article_layout.specs.Layouts.{room_of_numbers, targets_in, targets_of
 use Rattle.article_laying.specs.Walks.{At, behind_item, behind_paragraph, heading_lines, heading_prefix, laid}
 use Rattle.article_laying.specs.Walks.{laid_items}
 use Rattle.article_values.specs.Articles.{Blocks, Inlines, Items, bullets, division, heading, item, no_blocks, no_items}
-use Rattle.article_values.specs.Articles.{numbers, paragraph}
+use Rattle.article_values.specs.Articles.{numbers, paragraph, quote}
 use Rattle.render_laying.specs.Items.{spaces}
 use Rattle.render_sizes.specs.Extents.{capped}
 

@@ -4,10 +4,10 @@ use Rattle.std.specs.Prelude.{ℕ, ℤ, suc, ◌+◌, Bool, List, [], ◌∷◌,
 use Rattle.std.specs.Prelude.{Some, if◌then◌else◌}
 use Rattle.std.specs.Option.{option_map, option_and_then}
 use Rattle.article_layout.specs.Layouts.{Line, Options, Tag, all_shallow, how_many, item_prefix, least_in}
-use Rattle.article_layout.specs.Layouts.{least_of_items, mark_of, next_number, notes, number_mark, paragraph_lines}
-use Rattle.article_layout.specs.Layouts.{parted, prefixed, room, room_of_numbers, targets_in, to_room, within}
+use Rattle.article_layout.specs.Layouts.{least_of, least_of_items, mark_of, next_number, notes, number_mark, paragraph_lines}
+use Rattle.article_layout.specs.Layouts.{parted, prefixed, quote_prefix, room, room_of_numbers, targets_in, to_room, within}
 use Rattle.article_values.specs.Articles.{Blocks, Inlines, Items, Style, bullets, division, heading, item, line_break}
-use Rattle.article_values.specs.Articles.{link, no_blocks, no_inlines, no_items, numbers, paragraph, span, words}
+use Rattle.article_values.specs.Articles.{link, no_blocks, no_inlines, no_items, numbers, paragraph, quote, span, words}
 use Rattle.block_layout.specs.Laid.{Laid, add_text, break_line}
 use Rattle.block_layout.specs.declared.measure.Measure.{Measure}
 use Rattle.render_laying.specs.Items.{spaces}
@@ -103,12 +103,24 @@ abbrev pub with_item : Options → (width columns least : ℕ) → Option ℤ �
 with_item o width columns least at inside s = option_map (behind_item o width columns at s)
     (option_and_then (λ within. inside within (record s { lines = [] })) (room width columns least))
 
+-- a quote's lines behind its prefix
+abbrev pub behind_quote : Options → ℕ → At → At → At
+behind_quote o width s inner = record inner {
+  lines = parted o width s.lines ++ prefixed o width quote_prefix quote_prefix inner.lines;
+}
+
+abbrev pub with_quote : Options → (width least : ℕ) → (ℕ → At → Option At) → At → Option At
+with_quote o width least inside s = option_map (behind_quote o width s)
+    (option_and_then (λ within. inside within (record s { lines = [] })) (room width 2 least))
+
 abbrev mutual
   pub laid : Options → ℕ → Blocks → At → Option At
   laid o width no_blocks s = Some s
   laid o width (paragraph is rest) s = option_and_then (laid o width rest) (with_paragraph o width is s)
   laid o width (heading level is rest) s = option_and_then (laid o width rest) (with_heading o width level is s)
   laid o width (division kids rest) s = option_and_then (laid o width rest) (laid o width kids s)
+  laid o width (quote kids rest) s = option_and_then (laid o width rest)
+      (with_quote o width (capped (least_of o kids + 2)) (λ within inner. laid o within kids inner) s)
   laid o width (bullets items rest) s = option_and_then (laid o width rest)
       (laid_items o width 2 (capped (least_of_items o items + 2)) None items (parted_at o width s))
   laid o width (numbers first items rest) s = option_and_then (laid o width rest)

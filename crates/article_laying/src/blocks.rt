@@ -4,14 +4,14 @@
 ghost use Rattle.std.specs.Prelude.{◌≡◌, ◌+◌, Some, None, Err, OnOk};
 ghost use Rattle.article_laying.specs.Seen.{at_of};
 ghost use Rattle.article_laying.specs.Settings.{options_of};
-ghost use Rattle.article_laying.specs.Walks.{laid, laid_items, parted_at, with_heading, with_item, with_paragraph};
-ghost use Rattle.article_layout.specs.Layouts.{least_of_items};
+ghost use Rattle.article_laying.specs.Walks.{laid, laid_items, parted_at, with_heading, with_item, with_paragraph, with_quote};
+ghost use Rattle.article_layout.specs.Layouts.{least_of, least_of_items};
 ghost use Rattle.article_values.specs.Articles.{Blocks as SeenBlocks};
 ghost use Rattle.article_values.specs.Views.{block_view, blocks_view, inlines_view, items_view};
 ghost use Rattle.render_sizes.specs.Extents.{capped};
 ghost use Rattle.text_pieces.specs.declared.fault.BlockError.TheVariants as errors;
 
-use crate::leasts::{heading_columns, least_in, least_of_items};
+use crate::leasts::{heading_columns, least_in, least_of, least_of_items};
 use crate::line_list::LineList;
 use crate::options::Room;
 use crate::paragraphs::{Behind, paragraph_lines};
@@ -65,6 +65,7 @@ fn lay_block(
             lay_heading(alloc, room, *level, contents.as_slice(), lines, behind)
         }
         Block::Division(blocks) => lay_blocks(alloc, room, blocks.as_slice(), lines, behind),
+        Block::Quote(blocks) => lay_quote(alloc, room, blocks.as_slice(), lines, behind),
         Block::Bullets(items) => { lay_list(alloc, room, None, 2, items.as_slice(), lines, behind) }
         Block::Numbers(first, items) => {
             let columns = room_of_numbers(alloc, *first, items.len())?;
@@ -123,6 +124,34 @@ fn lay_heading(
     let own = paragraph_lines(alloc, within, contents, behind)?;
     let prefix = heading_prefix(alloc, level)?;
     lines.append_behind(alloc, room, prefix.as_str(), prefix.as_str(), own)?;
+    Ok(())
+}
+
+/// Lays out a quote, behind an empty line where a line has content: its lines behind a prefix.
+#[cycle(laying)]
+fn lay_quote(
+    alloc: Global,
+    room: Room,
+    blocks: &[Block],
+    lines: &mut LineList,
+    behind: &mut Behind,
+) -> Result<(), BlockError>
+    ensures done { OnOk result (with_quote (options_of room.options) room.width
+        (capped (least_of (options_of room.options) (blocks_view blocks.now) + 2))
+        (λ within. laid (options_of room.options) within (blocks_view blocks.now)) (at_of lines.old behind.old)
+        ≡ Some (at_of lines.new behind.new)) }
+    ensures narrow { result ≡ Err errors.TooNarrow → with_quote (options_of room.options) room.width
+        (capped (least_of (options_of room.options) (blocks_view blocks.now) + 2))
+        (λ within. laid (options_of room.options) within (blocks_view blocks.now)) (at_of lines.old behind.old)
+        ≡ None }
+    ensures failed { result ≡ Err errors.Failed → ⊥ }
+{
+    lines.part(alloc, room)?;
+    let least = least_of(alloc, room.options, blocks)?.saturating_add(2);
+    let within = room.behind(2, least)?;
+    let mut own = LineList::new(alloc);
+    lay_blocks(alloc, within, blocks, &mut own, behind)?;
+    lines.append_behind(alloc, room, "> ", "> ", own.into_lines())?;
     Ok(())
 }
 

@@ -94,6 +94,7 @@ fn least_of_block(alloc: Global, options: LineOptions, block: &Block) -> Result<
             Ok(least_in(options, contents.as_slice()).saturating_add(heading_columns(*level)))
         }
         Block::Division(blocks) => least_of(alloc, options, blocks.as_slice()),
+        Block::Quote(blocks) => Ok(least_of(alloc, options, blocks.as_slice())?.saturating_add(2)),
         Block::Bullets(items) => {
             Ok(least_of_items(alloc, options, items.as_slice())?.saturating_add(2))
         }

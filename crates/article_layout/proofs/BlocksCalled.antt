@@ -10,7 +10,7 @@ use Rattle.block_layout.specs.Laid.{without_running}
 use Rattle.block_layout.specs.Laid.{has_content as cells_have_content}
 use Rattle.block_layout.specs.declared.measure.Measure.{Measure}
 use Rattle.article_values.specs.Articles.{Blocks, Inlines, Items, bullets, division, heading, item, no_blocks, no_items}
-use Rattle.article_values.specs.Articles.{numbers, paragraph}
+use Rattle.article_values.specs.Articles.{numbers, paragraph, quote}
 use Rattle.article_layout.specs.BlockCalls.{append, awaits_behind, run_blocks, run_items}
 use Rattle.article_layout.specs.Calls.{block_with, cell_of, measure, run, run_whole}
 use Rattle.render_sizes.specs.Extents.{capped}

@@ -10,7 +10,7 @@ use Rattle.text_pieces.specs.Items.{has_text}
 use Rattle.text_pieces.specs.Sources.{Source, is_filled}
 use Rattle.article_layout.specs.Showing.{has_visible}
 use Rattle.article_values.specs.Articles.{Blocks, Items, bullets, division, heading, item, no_blocks, no_items, numbers}
-use Rattle.article_values.specs.Articles.{paragraph}
+use Rattle.article_values.specs.Articles.{paragraph, quote}
 use Rattle.article_layout.specs.Exchanges.{Alike, Differ, DifferItems, behind_bullets, behind_division, behind_heading}
 use Rattle.article_layout.specs.Exchanges.{behind_item, behind_numbers, behind_paragraph, in_bullets, in_division}
 use Rattle.article_layout.specs.Exchanges.{in_item, in_numbers, others, this_heading, this_paragraph}

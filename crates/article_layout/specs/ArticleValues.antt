@@ -3,7 +3,7 @@ use Rattle.std.specs.Prelude.{ℕ, Bool, List, [], ◌∷◌, if◌then◌else�
 use Rattle.article_layout.specs.Layouts.{Options, all_shallow, mark_of}
 use Rattle.article_values.specs.Articles.{Blocks, Inlines, Items, Style, bold, bullets, code, division, emphasis}
 use Rattle.article_values.specs.Articles.{heading, italic, item, line_break, link, no_blocks, no_inlines, no_items}
-use Rattle.article_values.specs.Articles.{numbers, paragraph, span, strong, words}
+use Rattle.article_values.specs.Articles.{numbers, paragraph, quote, span, strong, words}
 use Rattle.render_values.specs.Plain.{container, plain_head}
 use Rattle.render_values.specs.Values.{Values, joined, none, value}
 use Rattle.render_values.specs.declared.info.RenderInfo.{RenderInfo}
@@ -48,6 +48,8 @@ abbrev mutual
       value (plain_head (infos.Heading level)) (values_of_inlines o is) (values_of_blocks o rest)
   values_of_blocks o (division kids rest) =
       value (plain_head infos.Division) (values_of_blocks o kids) (values_of_blocks o rest)
+  values_of_blocks o (quote kids rest) =
+      value (plain_head infos.Quote) (values_of_blocks o kids) (values_of_blocks o rest)
   values_of_blocks o (bullets items rest) =
       value (plain_head infos.Bullets) (values_of_items o items) (values_of_blocks o rest)
   values_of_blocks o (numbers first items rest) =

@@ -9,10 +9,10 @@ use Rattle.text_decorators.specs.Texts.{footnote_text}
 use Rattle.render_laying.specs.Items.{spaces}
 use Rattle.render_sizes.specs.Extents.{capped}
 use Rattle.article_values.specs.Articles.{Blocks, Items, bullets, division, heading, item, no_blocks, no_items, numbers}
-use Rattle.article_values.specs.Articles.{paragraph}
+use Rattle.article_values.specs.Articles.{paragraph, quote}
 use Rattle.article_layout.specs.Calls.{measure, run, run_whole}
 use Rattle.article_layout.specs.Layouts.{Options, Tag, how_many, outermost, item_prefix, least_in, least_of_items}
-use Rattle.article_layout.specs.Layouts.{next_number, parts_of, room, room_of_numbers, targets_in, targets_of}
+use Rattle.article_layout.specs.Layouts.{least_of, next_number, parts_of, quote_prefix, room, room_of_numbers, targets_in, targets_of}
 use Rattle.article_layout.specs.Layouts.{targets_of_items, to_room}
 
 -- the lines of another block behind prefixes
@@ -36,6 +36,12 @@ abbrev mutual
       option_and_then (run_blocks o width (n + length (targets_of o kids)) rest)
       (option_and_then (flush (measure o width) outermost)
       (option_and_then (run_blocks o width n kids) (flush (measure o width) outermost b)))
+  run_blocks o width n (quote kids rest) b = option_and_then (λ within. option_and_then (λ sub. option_and_then
+      (λ b. run_blocks o width (n + length (targets_of o kids)) rest
+      (end_block (append o width within quote_prefix quote_prefix sub b)))
+      (start_block (measure o width) outermost b))
+      (option_and_then (flush (measure o within) outermost) (run_blocks o within n kids nothing_laid)))
+      (room width 2 (capped (least_of o kids + 2)))
   run_blocks o width n (bullets items rest) b =
       option_and_then (run_blocks o width (n + length (targets_of_items o items)) rest)
       (option_and_then (run_items o width n 2 (capped (least_of_items o items + 2)) None items)
@@ -61,6 +67,7 @@ awaits_behind no_blocks b = b
 awaits_behind (paragraph is rest) b = awaits_behind rest true
 awaits_behind (heading level is rest) b = awaits_behind rest true
 awaits_behind (division kids rest) b = awaits_behind rest (awaits_behind kids b)
+awaits_behind (quote kids rest) b = awaits_behind rest true
 awaits_behind (bullets items rest) b = awaits_behind rest false
 awaits_behind (numbers first items rest) b = awaits_behind rest false
 

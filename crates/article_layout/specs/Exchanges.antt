@@ -3,7 +3,7 @@ use Rattle.std.specs.Prelude.{◌≡◌, ℕ, ℤ, suc, ◌+◌, ◌==◌, Bool,
 use Rattle.std.specs.Prelude.{None, Some}
 use Rattle.std.specs.Char.{is_whitespace}
 use Rattle.article_values.specs.Articles.{Blocks, Inlines, Items, Style, bullets, division, heading, item, line_break}
-use Rattle.article_values.specs.Articles.{link, numbers, paragraph, span, words}
+use Rattle.article_values.specs.Articles.{link, numbers, paragraph, quote, span, words}
 use Rattle.article_layout.specs.Layouts.{Line, count, count_items, has_content}
 use Rattle.article_layout.specs.Showing.{is_visible}
 
@@ -38,6 +38,9 @@ mutual
     in_division : (k : ℕ) (a b rest : Blocks) → Differ n k a b → Differ n k (division a rest) (division b rest)
     behind_division : (k : ℕ) (kids a b : Blocks) → Differ n (k + count kids) a b →
         Differ n k (division kids a) (division kids b)
+    in_quote : (k : ℕ) (a b rest : Blocks) → Differ n k a b → Differ n k (quote a rest) (quote b rest)
+    behind_quote : (k : ℕ) (kids a b : Blocks) → Differ n (k + count kids) a b →
+        Differ n k (quote kids a) (quote kids b)
     in_bullets : (k : ℕ) (a b : Items) (rest : Blocks) → DifferItems n k a b →
         Differ n k (bullets a rest) (bullets b rest)
     behind_bullets : (k : ℕ) (items : Items) (a b : Blocks) → Differ n (k + count_items items) a b →

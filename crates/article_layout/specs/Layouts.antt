@@ -86,6 +86,7 @@ abbrev mutual
   targets_of o (paragraph is rest) = targets_in o is ++ targets_of o rest
   targets_of o (heading level is rest) = targets_in o is ++ targets_of o rest
   targets_of o (division kids rest) = targets_of o kids ++ targets_of o rest
+  targets_of o (quote kids rest) = targets_of o kids ++ targets_of o rest
   targets_of o (bullets items rest) = targets_of_items o items ++ targets_of o rest
   targets_of o (numbers first items rest) = targets_of_items o items ++ targets_of o rest
 
@@ -100,6 +101,7 @@ abbrev mutual
   count (paragraph is rest) = suc (count rest)
   count (heading level is rest) = suc (count rest)
   count (division kids rest) = count kids + count rest
+  count (quote kids rest) = count kids + count rest
   count (bullets items rest) = count_items items + count rest
   count (numbers first items rest) = count_items items + count rest
 
@@ -211,6 +213,10 @@ least_in o (line_break rest) = max 1 (least_in o rest)
 least_in o (span style kids rest) = max (least_text o (mark_of o style)) (max (least_in o kids) (least_in o rest))
 least_in o (link target kids rest) = max (if all_shallow o kids then 0 else least_in o kids) (least_in o rest)
 
+-- what stands before each line of a quote
+abbrev pub quote_prefix : List ℕ
+quote_prefix = codes "> "
+
 -- what stands before an item: a bullet or a number
 abbrev pub item_prefix : Option ℤ → List ℕ
 item_prefix None = codes "* "
@@ -231,6 +237,7 @@ abbrev mutual
   least_of o (paragraph is rest) = max (least_in o is) (least_of o rest)
   least_of o (heading level is rest) = max (capped (least_in o is + (level + 1))) (least_of o rest)
   least_of o (division kids rest) = max (least_of o kids) (least_of o rest)
+  least_of o (quote kids rest) = max (capped (least_of o kids + 2)) (least_of o rest)
   least_of o (bullets items rest) = max (capped (least_of_items o items + 2)) (least_of o rest)
   least_of o (numbers first items rest) =
       max (capped (least_of_items o items + room_of_numbers first (how_many items))) (least_of o rest)
@@ -285,6 +292,10 @@ abbrev mutual
       (room width (level + 1) (capped (least_in o is + (level + 1)))))
   lay o width k n (division kids rest) lines =
       option_and_then (lay o width (k + count kids) (n + length (targets_of o kids)) rest) (lay o width k n kids lines)
+  lay o width k n (quote kids rest) lines =
+      option_and_then (λ new. lay o width (k + count kids) (n + length (targets_of o kids)) rest
+      (parted o width lines ++ prefixed o width quote_prefix quote_prefix new))
+      (option_and_then (λ within. lay o within k n kids []) (room width 2 (capped (least_of o kids + 2))))
   lay o width k n (bullets items rest) lines =
       option_and_then (lay o width (k + count_items items) (n + length (targets_of_items o items)) rest)
       (lay_items o width k n 2 (capped (least_of_items o items + 2)) None items (parted o width lines))

@@ -97,6 +97,7 @@ impl Values {
             "paragraph" => Block::Paragraph(self.inlines_at(below)?),
             "heading" => Block::Heading(line.heading_level()?, self.inlines_at(below)?),
             "division" => Block::Division(self.blocks_at(below)?),
+            "quote" => Block::Quote(self.blocks_at(below)?),
             "bullets" => Block::Bullets(self.items_at(below)?),
             "numbers" => Block::Numbers(line.first_number()?, self.items_at(below)?),
             _ => return Err(Error::Case("an unknown word")),

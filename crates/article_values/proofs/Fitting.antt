@@ -1,7 +1,7 @@
 -- No fault of a value is want of memory.
 use Rattle.std.proofs.Common.{◌≡◌, ℕ, suc, not, Bool, true, false, Option, None, Some}
 use Rattle.std.specs.Option.{option_or}
-use Rattle.article_values.specs.Articles.{Blocks, Inlines, Items, bullets, division, heading, item, line_break, link, no_blocks, no_inlines, no_items, numbers, paragraph, span, words}
+use Rattle.article_values.specs.Articles.{Blocks, Inlines, Items, bullets, division, heading, item, line_break, link, no_blocks, no_inlines, no_items, numbers, paragraph, quote, span, words}
 use Rattle.article_values.specs.Faults.{fault_of_blocks, fault_of_inlines, fault_of_items, fault_where, has_forbidden, has_item, is_filled, is_level, is_too_deep}
 use Rattle.article_values.specs.declared.error.ArticleError.{ArticleError}
 use Rattle.article_values.specs.declared.error.ArticleError.TheVariants.{BadLevel, EmptyList, EmptyText, ForbiddenCharacter, LinkInLink, Memory, NeighbourTexts, TooDeep}
@@ -47,6 +47,8 @@ mutual
       fits_where (not (is_level level)) BadLevel _ (λ e. cc)
       (deep depth _ (fits_or _ _ (inlines_fit (suc depth) false false contents) (blocks_fit depth rest)))
   blocks_fit depth (division its_blocks rest) =
+      deep depth _ (fits_or _ _ (blocks_fit (suc depth) its_blocks) (blocks_fit depth rest))
+  blocks_fit depth (quote its_blocks rest) =
       deep depth _ (fits_or _ _ (blocks_fit (suc depth) its_blocks) (blocks_fit depth rest))
   blocks_fit depth (bullets its_items rest) =
       fits_where (not (has_item its_items)) EmptyList _ (λ e. cc)

@@ -8,7 +8,7 @@ use Rattle.article_values.specs.Sizes.{block_size, block_size_step, blocks_size,
 use Rattle.article_values.specs.declared.values.Block.{Block}
 use Rattle.article_values.specs.declared.values.Block.TheFolds.{fold-roll-Block}
 use Rattle.article_values.specs.declared.values.Block.TheOpen.{Block-F}
-use Rattle.article_values.specs.declared.values.Block.TheVariants.{rolls-Bullets, rolls-Division, rolls-Heading, rolls-Numbers, rolls-Paragraph}
+use Rattle.article_values.specs.declared.values.Block.TheVariants.{rolls-Bullets, rolls-Division, rolls-Heading, rolls-Numbers, rolls-Paragraph, rolls-Quote}
 use Rattle.article_values.specs.declared.values.Block.TheVariants as variants
 use Rattle.article_values.specs.declared.values.Block.TheViews as block_views
 use Rattle.article_values.specs.declared.values.Inline.{Inline}
@@ -83,6 +83,11 @@ pub size_of_division : (blocks : Vec Block Global) →
     block_size (block_views.Division blocks) ≡ suc (blocks_size blocks.items)
 size_of_division blocks = ap block_size (sym (rolls-Division blocks))
     ∙ fold-roll-Block ℕ block_size_step (Block-F.Division blocks)
+
+pub size_of_quote : (blocks : Vec Block Global) →
+    block_size (block_views.Quote blocks) ≡ suc (blocks_size blocks.items)
+size_of_quote blocks = ap block_size (sym (rolls-Quote blocks))
+    ∙ fold-roll-Block ℕ block_size_step (Block-F.Quote blocks)
 
 each_item : {V : Type 0} (seen : Vec Block Global → V) (sizes_of : V → List ℕ) →
     ((blocks : Vec Block Global) → sizes_of (seen blocks) ≡ map block_size blocks.items) →

@@ -1,11 +1,11 @@
 -- What contracts see of each variant of an inline and of a block.
 use Rattle.std.proofs.Common.{◌≡◌, ℕ, ℤ, List, [], ◌∷◌, map, refl, sym, ap, ◌∙◌, chars, string_bytes, Vec, String, Global}
-use Rattle.article_values.specs.Articles.{Blocks, Inlines, bold, bullets, code, division, emphasis, heading, italic, line_break, link, no_items, numbers, paragraph, span, strong, words}
+use Rattle.article_values.specs.Articles.{Blocks, Inlines, bold, bullets, code, division, emphasis, heading, italic, line_break, link, no_items, numbers, paragraph, quote, span, strong, words}
 use Rattle.article_values.specs.Views.{block_step, block_view, blocks_view, held, in_turn, inline_step, inline_view, inlines_view, item_before, items_view}
 use Rattle.article_values.specs.declared.values.Block.{Block}
 use Rattle.article_values.specs.declared.values.Block.TheFolds.{fold-roll-Block}
 use Rattle.article_values.specs.declared.values.Block.TheOpen.{Block-F}
-use Rattle.article_values.specs.declared.values.Block.TheVariants.{rolls-Bullets, rolls-Division, rolls-Heading, rolls-Numbers, rolls-Paragraph}
+use Rattle.article_values.specs.declared.values.Block.TheVariants.{rolls-Bullets, rolls-Division, rolls-Heading, rolls-Numbers, rolls-Paragraph, rolls-Quote}
 use Rattle.article_values.specs.declared.values.Block.TheVariants as block_variants
 use Rattle.article_values.specs.declared.values.Block.TheViews as block_views
 use Rattle.article_values.specs.declared.values.Inline.TheFolds.{fold-roll-Inline}
@@ -63,6 +63,11 @@ pub seen_division : (blocks : Vec Block Global) (r : Blocks) →
     block_view (block_views.Division blocks) r ≡ division (blocks_view blocks.items) r
 seen_division blocks r = ap (λ v. block_view v r) (sym (rolls-Division blocks))
     ∙ ap (λ f. f r) (fold-roll-Block (Blocks → Blocks) block_step (Block-F.Division blocks))
+
+pub seen_quote : (blocks : Vec Block Global) (r : Blocks) →
+    block_view (block_views.Quote blocks) r ≡ quote (blocks_view blocks.items) r
+seen_quote blocks r = ap (λ v. block_view v r) (sym (rolls-Quote blocks))
+    ∙ ap (λ f. f r) (fold-roll-Block (Blocks → Blocks) block_step (Block-F.Quote blocks))
 
 -- each item's blocks are seen one by one, or all at once
 fused : {V : Type 0} (g : Vec Block Global → V) (items_of : V → List (Blocks → Blocks)) →

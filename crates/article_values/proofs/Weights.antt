@@ -4,7 +4,7 @@ use Rattle.article_values.specs.Sizes.{total}
 use Rattle.article_values.specs.declared.values.Block.{Block, fold-Block}
 use Rattle.article_values.specs.declared.values.Block.TheFolds.{fold-roll-Block}
 use Rattle.article_values.specs.declared.values.Block.TheOpen.{Block-F}
-use Rattle.article_values.specs.declared.values.Block.TheVariants.{rolls-Bullets, rolls-Division, rolls-Heading, rolls-Numbers, rolls-Paragraph}
+use Rattle.article_values.specs.declared.values.Block.TheVariants.{rolls-Bullets, rolls-Division, rolls-Heading, rolls-Numbers, rolls-Paragraph, rolls-Quote}
 use Rattle.article_values.specs.declared.values.Block.TheVariants as block_variants
 use Rattle.article_values.specs.declared.values.Block.TheViews as block_views
 use Rattle.article_values.specs.declared.values.Inline.{Inline}
@@ -20,6 +20,7 @@ abbrev pub weight_step : Block-F ℕ → ℕ
 weight_step (Block-F.Paragraph inlines) = suc (inlines_size inlines.items)
 weight_step (Block-F.Heading level inlines) = suc (inlines_size inlines.items)
 weight_step (Block-F.Division blocks) = suc (total blocks.items)
+weight_step (Block-F.Quote blocks) = suc (total blocks.items)
 weight_step (Block-F.Bullets items) = suc (total (map (λ blocks. suc (total blocks.items)) items.items))
 weight_step (Block-F.Numbers first items) = suc (total (map (λ blocks. suc (total blocks.items)) items.items))
 
@@ -77,6 +78,11 @@ pub weight_of_division : (blocks : Vec Block Global) →
     weight (block_views.Division blocks) ≡ suc (blocks_weight blocks.items)
 weight_of_division blocks = ap weight (sym (rolls-Division blocks))
     ∙ fold-roll-Block ℕ weight_step (Block-F.Division blocks)
+
+pub weight_of_quote : (blocks : Vec Block Global) →
+    weight (block_views.Quote blocks) ≡ suc (blocks_weight blocks.items)
+weight_of_quote blocks = ap weight (sym (rolls-Quote blocks))
+    ∙ fold-roll-Block ℕ weight_step (Block-F.Quote blocks)
 
 fused : {V : Type 0} (g : Vec Block Global → V) (items_of : V → List ℕ) →
     ((v : Vec Block Global) → items_of (g v) ≡ map weight v.items) → (items : List (Vec Block Global)) →

@@ -19,12 +19,14 @@ pub data Inlines : Type 0 where
   link : List ℕ → Inlines → Inlines → Inlines
 
 mutual
-  -- paragraphs, headings of a level, divisions, and lists of items, with bullets or with numbers from a first one on
+  -- paragraphs, headings of a level, divisions, quotes, and lists of items, with bullets or with numbers from a first
+  -- one on
   pub data Blocks : Type 0 where
     no_blocks : Blocks
     paragraph : Inlines → Blocks → Blocks
     heading : ℕ → Inlines → Blocks → Blocks
     division : Blocks → Blocks → Blocks
+    quote : Blocks → Blocks → Blocks
     bullets : Items → Blocks → Blocks
     numbers : ℤ → Items → Blocks → Blocks
 

@@ -3,7 +3,7 @@
 use Rattle.std.specs.Prelude.{ℕ, suc, nat_le, nat_lt, ◌==◌, ◌||◌, ◌&&◌, not, Bool, true, false, List, [], ◌∷◌, Option, None, Some}
 use Rattle.std.specs.List.{list_any}
 use Rattle.std.specs.Option.{option_or}
-use Rattle.article_values.specs.Articles.{Blocks, Inlines, Items, bullets, division, heading, item, line_break, link, no_blocks, no_inlines, no_items, numbers, paragraph, span, words}
+use Rattle.article_values.specs.Articles.{Blocks, Inlines, Items, bullets, division, heading, item, line_break, link, no_blocks, no_inlines, no_items, numbers, paragraph, quote, span, words}
 use Rattle.article_values.specs.declared.error.ArticleError.{ArticleError}
 use Rattle.article_values.specs.declared.error.ArticleError.TheVariants.{BadLevel, EmptyList, EmptyText, ForbiddenCharacter, LinkInLink, NeighbourTexts, TooDeep}
 
@@ -71,6 +71,10 @@ abbrev mutual
       (option_or (fault_of_inlines (suc depth) false false contents)
       (fault_of_blocks depth rest)))
   fault_of_blocks depth (division its_blocks rest) =
+      fault_where (is_too_deep depth) TooDeep
+      (option_or (fault_of_blocks (suc depth) its_blocks)
+      (fault_of_blocks depth rest))
+  fault_of_blocks depth (quote its_blocks rest) =
       fault_where (is_too_deep depth) TooDeep
       (option_or (fault_of_blocks (suc depth) its_blocks)
       (fault_of_blocks depth rest))

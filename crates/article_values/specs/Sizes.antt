@@ -31,6 +31,7 @@ abbrev pub block_size_step : Block-F ℕ → ℕ
 block_size_step (Block-F.Paragraph inlines) = 1
 block_size_step (Block-F.Heading level inlines) = 1
 block_size_step (Block-F.Division blocks) = suc (total blocks.items)
+block_size_step (Block-F.Quote blocks) = suc (total blocks.items)
 block_size_step (Block-F.Bullets items) = suc (total (map (λ blocks. suc (total blocks.items)) items.items))
 block_size_step (Block-F.Numbers first items) = suc (total (map (λ blocks. suc (total blocks.items)) items.items))
 

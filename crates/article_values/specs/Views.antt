@@ -2,7 +2,7 @@
 use Rattle.std.specs.Prelude.{ℕ, ℤ, List, [], ◌∷◌, map, chars, string_bytes, Vec, String, Option, option_map}
 use Rattle.std.specs.Global.{Global}
 use Rattle.std.specs.Int.{cast_signed, cast_unsigned, w64}
-use Rattle.article_values.specs.Articles.{Blocks, Inlines, Items, bold, bullets, code, division, emphasis, heading, italic, item, line_break, link, no_blocks, no_inlines, no_items, numbers, paragraph, span, strong, words}
+use Rattle.article_values.specs.Articles.{Blocks, Inlines, Items, bold, bullets, code, division, emphasis, heading, italic, item, line_break, link, no_blocks, no_inlines, no_items, numbers, paragraph, quote, span, strong, words}
 use Rattle.article_values.specs.declared.values.Inline.{Inline, fold-Inline}
 use Rattle.article_values.specs.declared.values.Inline.TheOpen.{Inline-F}
 use Rattle.article_values.specs.declared.values.Block.{Block, fold-Block}
@@ -41,6 +41,7 @@ abbrev pub block_step : Block-F (Blocks → Blocks) → Blocks → Blocks
 block_step (Block-F.Paragraph inlines) = paragraph (inlines_view inlines.items)
 block_step (Block-F.Heading level inlines) = heading level (inlines_view inlines.items)
 block_step (Block-F.Division blocks) = division (in_turn no_blocks blocks.items)
+block_step (Block-F.Quote blocks) = quote (in_turn no_blocks blocks.items)
 block_step (Block-F.Bullets items) = bullets (in_turn no_items (map (λ blocks. item_before blocks.items) items.items))
 block_step (Block-F.Numbers first items) =
     numbers (held first) (in_turn no_items (map (λ blocks. item_before blocks.items) items.items))

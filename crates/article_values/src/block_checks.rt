@@ -1,7 +1,7 @@
 //! The first fault of blocks, found as that of inlines is.
 ghost use Rattle.std.specs.Prelude.{◌≡◌, ◌≤◌, ◌+◌, not, suc, None};
 ghost use Rattle.std.specs.Option.{option_or};
-ghost use Rattle.article_values.specs.Articles.{Blocks, Items, bullets, division, heading, numbers, paragraph};
+ghost use Rattle.article_values.specs.Articles.{Blocks, Items, bullets, division, heading, numbers, paragraph, quote};
 ghost use Rattle.article_values.specs.Faults.{fault_of_inlines, fault_of_blocks, fault_of_items, has_item, fault_where, is_level, is_too_deep};
 ghost use Rattle.article_values.specs.Outcomes.{fault_met};
 ghost use Rattle.article_values.specs.Views.{block_view, blocks_view, inlines_view, items_view};
@@ -67,6 +67,10 @@ fn check_block(block: &Block, depth: usize) -> Result<(), ArticleError>
             check_text_block(contents.as_slice(), depth)
         }
         Block::Division(blocks) => {
+            check_depth(depth)?;
+            check_blocks(blocks.as_slice(), depth + 1)
+        }
+        Block::Quote(blocks) => {
             check_depth(depth)?;
             check_blocks(blocks.as_slice(), depth + 1)
         }

@@ -69,7 +69,7 @@ impl Drop for Inline {
     }
 }
 
-/// A block of an article, or of a division or an item.
+/// A block of an article, or of a division, a quote or an item.
 pub enum Block {
     /// A paragraph. It may be empty.
     Paragraph(Vec<Inline>),
@@ -77,6 +77,8 @@ pub enum Block {
     Heading(u8, Vec<Inline>),
     /// Blocks that belong together. There may be none.
     Division(Vec<Block>),
+    /// Blocks that are quoted. There may be none.
+    Quote(Vec<Block>),
     /// A list with bullets: the blocks of each item, one item at the least. An item may be empty.
     Bullets(Vec<Vec<Block>>),
     /// A list with numbers: the number of the first item, and the items as in [`Bullets`](Block::Bullets).
@@ -100,6 +102,7 @@ impl Block {
                 waiting.pop()
             }
             Block::Division(blocks) => next_of_blocks(blocks, waiting),
+            Block::Quote(blocks) => next_of_blocks(blocks, waiting),
             Block::Bullets(items) => next_of_items(items, waiting),
             Block::Numbers(_, items) => next_of_items(items, waiting),
         }
@@ -113,6 +116,10 @@ impl Drop for Block {
             Block::Paragraph(_) => return,
             Block::Heading(_, _) => return,
             Block::Division(mut blocks) => {
+                let last = blocks.pop();
+                (blocks, last)
+            }
+            Block::Quote(mut blocks) => {
                 let last = blocks.pop();
                 (blocks, last)
             }

@@ -9,7 +9,7 @@ use Rattle.article_layout.specs.Layouts.{Options, Tag, how_many, item_prefix, le
 use Rattle.article_layout.specs.Layouts.{outermost, parts_of, room_of_numbers, targets_in, targets_of, targets_of_items}
 use Rattle.article_layout.specs.Layouts.{to_room}
 use Rattle.article_values.specs.Articles.{Blocks, Inlines, Items, bullets, division, heading, item, no_blocks, no_items}
-use Rattle.article_values.specs.Articles.{numbers, paragraph}
+use Rattle.article_values.specs.Articles.{numbers, paragraph, quote}
 use Rattle.block_layout.specs.Laid.{Laid, end_block, flush, nothing_laid, start_block}
 use Rattle.block_layout.specs.declared.measure.Measure.{Measure}
 use Rattle.render_laying.specs.Begins.{begins, ends, following, leading, style_begins, style_ends}

@@ -2,7 +2,7 @@
 use Rattle.std.specs.Prelude.{◌≡◌, ℕ, Bool, false, List, [], ◌∷◌, fold, refl}
 use Rattle.article_layout.specs.Layouts.{Options, Tag}
 use Rattle.article_values.specs.Articles.{Blocks, Inlines, Items, bullets, division, heading, item, line_break, link}
-use Rattle.article_values.specs.Articles.{no_blocks, no_inlines, no_items, numbers, paragraph, span, words}
+use Rattle.article_values.specs.Articles.{no_blocks, no_inlines, no_items, numbers, paragraph, quote, span, words}
 use Rattle.block_layout.specs.Laid.{Laid}
 use Rattle.render_laying.specs.Laying.{Laying, outside}
 use Rattle.render_laying.specs.declared.around.Around.TheVariants.{Flow}
@@ -80,6 +80,7 @@ abbrev mutual
   AreFilledBlocks (paragraph is rest) = AreFilled is × AreFilledBlocks rest
   AreFilledBlocks (heading level is rest) = AreFilled is × AreFilledBlocks rest
   AreFilledBlocks (division kids rest) = AreFilledBlocks kids × AreFilledBlocks rest
+  AreFilledBlocks (quote kids rest) = AreFilledBlocks kids × AreFilledBlocks rest
   AreFilledBlocks (bullets items rest) = AreFilledItems items × AreFilledBlocks rest
   AreFilledBlocks (numbers first items rest) = AreFilledItems items × AreFilledBlocks rest
 

@@ -62,6 +62,15 @@ fn tell_block<S: Serializer>(
                 Inner::Blocks(blocks.as_slice()),
             )
         }
+        Block::Quote(blocks) => {
+            tell_element(
+                alloc,
+                serializer,
+                "blockquote",
+                &[],
+                Inner::Blocks(blocks.as_slice()),
+            )
+        }
         Block::Bullets(items) => {
             tell_element(alloc, serializer, "ul", &[], Inner::Items(items.as_slice()))
         }

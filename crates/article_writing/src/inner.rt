@@ -7,7 +7,7 @@ use article_values::{Block, Inline};
 pub(crate) enum Inner<'a> {
     /// Inlines: in a paragraph, a heading, a mark or a link.
     Inlines(&'a [Inline]),
-    /// Blocks: in the body, a division or an item.
+    /// Blocks: in the body, a division, a quote or an item.
     Blocks(&'a [Block]),
     /// The items of a list.
     Items(&'a [Vec<Block>]),

@@ -126,6 +126,11 @@ blocks_none of_list _ (kinds.division kids rest inner further) more h = (
   blocks_none false kids inner (end_of (codes "div") ∷ tokens_and rest more)
       (refl, blocks_none false rest further more h),
 )
+blocks_none of_list _ (kinds.quote kids rest inner further) more h = (
+  refl,
+  blocks_none false kids inner (end_of (codes "blockquote") ∷ tokens_and rest more)
+      (refl, blocks_none false rest further more h),
+)
 blocks_none of_list _ (kinds.bullets kids rest inner further) more h = (
   refl,
   blocks_none true kids inner (end_of (codes "ul") ∷ tokens_and rest more)

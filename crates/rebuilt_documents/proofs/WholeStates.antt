@@ -14,6 +14,7 @@ use Rattle.rebuilt_documents.specs.Parts.{AllUnder, BlocksRebuild, HoldBlocks, H
 use Rattle.rebuilt_documents.specs.Parts.{holders_of_blocks}
 use Rattle.rebuilt_documents.specs.Planted.{planted}
 use Rattle.rebuilt_documents.proofs.BlockNames.{IsOuterName, ol_list, outer, outer_body, outer_div, outer_html}
+use Rattle.rebuilt_documents.proofs.BlockNames.{outer_quote}
 use Rattle.rebuilt_documents.proofs.BlockNames.{outer_li}
 use Rattle.rebuilt_documents.proofs.BlockNames.{outer_ol, outer_ul, ul_list}
 use Rattle.rebuilt_documents.proofs.BlockSteps.{AreOuter}
@@ -96,7 +97,7 @@ inlines_whole s p rest word linked behind_text content is stack named plain unde
 
 outer_word : (word : List ℕ) → is_one_of holders_of_blocks word ≡ true → IsOuterName word
 outer_word word is = for_one IsOuterName holders_of_blocks word
-    (outer_html, (outer_body, (outer_div, (outer_ul, (outer_ol, (outer_li, tt)))))) is
+    (outer_html, (outer_body, (outer_div, (outer_quote, (outer_ul, (outer_ol, (outer_li, tt))))))) is
 
 all_outer : (f : Forest) (ns : List ℕ) → AllUnder (nodes f) ns → HoldBlocks f ns → AreOuter f ns
 all_outer f [] under hold = tt

@@ -8,7 +8,7 @@ use Rattle.std.specs.List.{list_any}
 use Rattle.std.specs.Option.{option_or}
 use Rattle.article_values.specs.Articles.{Blocks, Inlines, Items, Style, bold, bullets, code, division, emphasis}
 use Rattle.article_values.specs.Articles.{heading, italic, item, line_break, link, no_blocks, no_inlines, no_items}
-use Rattle.article_values.specs.Articles.{numbers, paragraph, words}
+use Rattle.article_values.specs.Articles.{numbers, paragraph, quote, strong, words}
 use Rattle.article_values.specs.Articles as articles
 use Rattle.article_values.specs.Faults.{fault_of_blocks, fault_of_inlines, fault_of_items, fault_of_title, fault_where}
 use Rattle.article_values.specs.Faults.{first_fault, has_forbidden, has_item, is_forbidden, is_level}
@@ -160,6 +160,10 @@ mutual
       let b = held_passed d (fault_of_blocks (suc d) its_blocks) (fault_of_blocks d rest) h in
       kinds.division (content_of_blocks its_blocks) (content_of_blocks rest) (blocks_are (suc d) its_blocks b.0)
       (blocks_are d rest b.1)
+  blocks_are d (quote its_blocks rest) h =
+      let b = held_passed d (fault_of_blocks (suc d) its_blocks) (fault_of_blocks d rest) h in
+      kinds.quote (content_of_blocks its_blocks) (content_of_blocks rest) (blocks_are (suc d) its_blocks b.0)
+      (blocks_are d rest b.1)
   blocks_are d (bullets its_items rest) h =
       let b = list_passed d its_items (fault_of_items (suc d) its_items) (fault_of_blocks d rest) h in
       kinds.bullets (content_of_items its_items) (content_of_blocks rest) (items_are (suc d) its_items b.0)
@@ -255,6 +259,9 @@ module _ (c : ℕ) (forbidden : is_forbidden c ≡ true) where
         let b = heading_passed d level (fault_of_inlines (suc d) false false contents) (fault_of_blocks d rest) h in
         (tt, (inlines_without (suc d) false false contents b.1.0, blocks_without d rest b.1.1))
     blocks_without d (division its_blocks rest) h =
+        let b = held_passed d (fault_of_blocks (suc d) its_blocks) (fault_of_blocks d rest) h in
+        (tt, (blocks_without (suc d) its_blocks b.0, blocks_without d rest b.1))
+    blocks_without d (quote its_blocks rest) h =
         let b = held_passed d (fault_of_blocks (suc d) its_blocks) (fault_of_blocks d rest) h in
         (tt, (blocks_without (suc d) its_blocks b.0, blocks_without d rest b.1))
     blocks_without d (bullets its_items rest) h =

@@ -8,7 +8,7 @@ use Rattle.std.specs.Int.Signed.{mag}
 use Rattle.std.specs.Str.Parse.{digits_value}
 use Rattle.article_values.specs.Articles.{Blocks, Inlines, Items, Style, bold, bullets, code, division, emphasis}
 use Rattle.article_values.specs.Articles.{heading, italic, item, line_break, link, no_blocks, no_inlines, no_items}
-use Rattle.article_values.specs.Articles.{numbers, paragraph, strong, words}
+use Rattle.article_values.specs.Articles.{numbers, paragraph, quote, strong, words}
 use Rattle.article_values.specs.Articles as articles
 use Rattle.article_values.specs.Faults.{fault_of_blocks, fault_of_inlines, fault_of_items, fault_of_title, first_fault}
 use Rattle.html_forest.specs.Forest.{is_in}
@@ -106,6 +106,7 @@ abbrev block_by : List ℕ → List Attribute → Inlines → Blocks → Items �
 block_by name attributes contents its_blocks its_items rest =
     if is_one_of (codes "p" ∷ []) name then paragraph contents rest
     else if is_one_of (codes "div" ∷ []) name then division its_blocks rest
+    else if is_one_of (codes "blockquote" ∷ []) name then quote its_blocks rest
     else if is_one_of (codes "ul" ∷ []) name then bullets its_items rest
     else if is_one_of (codes "ol" ∷ []) name then numbers (number_in (value_in attributes)) its_items rest
     else heading (level_in name) contents rest
@@ -142,6 +143,10 @@ mutual
       let b = held_passed d (fault_of_blocks (suc d) its_blocks) (fault_of_blocks d rest) h in
       ap (λ x. division x (blocks_in (content_of_blocks rest))) (blocks_read (suc d) its_blocks b.0 fit.0)
       ∙ ap (division its_blocks) (blocks_read d rest b.1 fit.1)
+  blocks_read d (quote its_blocks rest) h fit =
+      let b = held_passed d (fault_of_blocks (suc d) its_blocks) (fault_of_blocks d rest) h in
+      ap (λ x. quote x (blocks_in (content_of_blocks rest))) (blocks_read (suc d) its_blocks b.0 fit.0)
+      ∙ ap (quote its_blocks) (blocks_read d rest b.1 fit.1)
   blocks_read d (bullets its_items rest) h fit =
       let b = list_passed d its_items (fault_of_items (suc d) its_items) (fault_of_blocks d rest) h in
       ap (λ x. bullets x (blocks_in (content_of_blocks rest))) (items_read (suc d) its_items b.0 fit.0)

@@ -5,7 +5,7 @@ use Rattle.std.specs.Fmt.{signed_decimal}
 use Rattle.std.specs.Int.Signed.{mag}
 use Rattle.article_values.specs.Articles.{Blocks, Inlines, Items, Style, bold, bullets, code, division, emphasis}
 use Rattle.article_values.specs.Articles.{heading, italic, item, line_break, link, no_blocks, no_inlines, no_items}
-use Rattle.article_values.specs.Articles.{numbers, paragraph, strong, words}
+use Rattle.article_values.specs.Articles.{numbers, paragraph, quote, strong, words}
 use Rattle.article_values.specs.Articles as articles
 use Rattle.rebuilt_documents.specs.Contents.{Content, in_no_namespace, none, say, span}
 use Rattle.html_forest.specs.Forest.{Forest}
@@ -43,6 +43,8 @@ abbrev mutual
       span (heading_name level) [] (content_of_inlines contents) (content_of_blocks rest)
   content_of_blocks (division its_blocks rest) =
       span (codes "div") [] (content_of_blocks its_blocks) (content_of_blocks rest)
+  content_of_blocks (quote its_blocks rest) =
+      span (codes "blockquote") [] (content_of_blocks its_blocks) (content_of_blocks rest)
   content_of_blocks (bullets its_items rest) =
       span (codes "ul") [] (content_of_items its_items) (content_of_blocks rest)
   content_of_blocks (numbers first its_items rest) =
@@ -70,6 +72,7 @@ abbrev mutual
   NumbersFit (paragraph contents rest) = NumbersFit rest
   NumbersFit (heading level contents rest) = NumbersFit rest
   NumbersFit (division its_blocks rest) = NumbersFit its_blocks × NumbersFit rest
+  NumbersFit (quote its_blocks rest) = NumbersFit its_blocks × NumbersFit rest
   NumbersFit (bullets its_items rest) = ItemsFit its_items × NumbersFit rest
   NumbersFit (numbers first its_items rest) = (mag first < 2 ^ 63) × (ItemsFit its_items × NumbersFit rest)
 

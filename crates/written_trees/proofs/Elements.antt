@@ -99,6 +99,9 @@ named_h6 = (is_element (codes "h6") refl refl refl refl refl refl refl, refl)
 named_div : IsHolder (codes "div")
 named_div = (is_element (codes "div") refl refl refl refl refl refl refl, refl)
 
+named_quote : IsHolder (codes "blockquote")
+named_quote = (is_element (codes "blockquote") refl refl refl refl refl refl refl, refl)
+
 named_ul : IsHolder (codes "ul")
 named_ul = (is_element (codes "ul") refl refl refl refl refl refl refl, refl)
 
@@ -156,6 +159,8 @@ blocks_named of_list _ (kinds.of_text name kids rest is inner further) =
     ((text_named name is).0, (inlines_named false false kids inner, blocks_named false rest further))
 blocks_named of_list _ (kinds.division kids rest inner further) =
     (named_div.0, (blocks_named false kids inner, blocks_named false rest further))
+blocks_named of_list _ (kinds.quote kids rest inner further) =
+    (named_quote.0, (blocks_named false kids inner, blocks_named false rest further))
 blocks_named of_list _ (kinds.bullets kids rest inner further) =
     (named_ul.0, (blocks_named true kids inner, blocks_named false rest further))
 blocks_named of_list _ (kinds.numbers attributes kids rest one_start inner further) =
@@ -229,6 +234,10 @@ blocks_readable of_list _ (kinds.of_text name kids rest is inner further) h = (
 )
 blocks_readable of_list _ (kinds.division kids rest inner further) h = (
   plain_element (codes "div") kids refl,
+  (blocks_readable false kids inner h.1.0, blocks_readable false rest further h.1.1),
+)
+blocks_readable of_list _ (kinds.quote kids rest inner further) h = (
+  plain_element (codes "blockquote") kids refl,
   (blocks_readable false kids inner h.1.0, blocks_readable false rest further h.1.1),
 )
 blocks_readable of_list _ (kinds.bullets kids rest inner further) h = (

@@ -118,6 +118,9 @@ blocks_none of_list _ (kinds.of_text name kids rest is inner further) h =
 blocks_none of_list _ (kinds.division kids rest inner further) h =
     element_none (codes "div") [] kids rest refl refl (blocks_none false kids inner h.1.0)
     (blocks_none false rest further h.1.1)
+blocks_none of_list _ (kinds.quote kids rest inner further) h =
+    element_none (codes "blockquote") [] kids rest refl refl (blocks_none false kids inner h.1.0)
+    (blocks_none false rest further h.1.1)
 blocks_none of_list _ (kinds.bullets kids rest inner further) h =
     element_none (codes "ul") [] kids rest refl refl (blocks_none true kids inner h.1.0)
     (blocks_none false rest further h.1.1)

@@ -19,7 +19,7 @@ use Rattle.article_writing.proofs.Telling.{element_told, handed_on, left_err, le
 use Rattle.article_writing.proofs.Telling.{then_told}
 use Rattle.article_writing.proofs.Texts.{number_chars, text_calls}
 use Rattle.article_values.proofs.VariantViews.{seen_bold, seen_break, seen_bullets, seen_code, seen_division}
-use Rattle.article_values.proofs.VariantViews.{seen_strong}
+use Rattle.article_values.proofs.VariantViews.{seen_quote, seen_strong}
 use Rattle.article_values.proofs.VariantViews.{seen_emphasis, seen_italic, seen_numbers, seen_paragraph, seen_text}
 use Rattle.article_writing.proofs.+telling.Goals as goal
 
@@ -98,6 +98,15 @@ blocks::tell_block-returns-in-Division g t c =
     (content_of_blocks (block_view c.args.block.now rest)) refl refl
     (ap (λ xs. content_of_blocks (blocks_view xs)) c.as_slice-in-Division.ensures.value)
     (ap (λ v. content_of_blocks (block_view v rest)) c.in-Division.is ∙ ap content_of_blocks (seen_division c.in-Division.blocks rest)) c.tell_element-in-Division.ensures
+
+pub blocks::tell_block-returns-in-Quote : goal.blocks::tell_block-returns-in-Quote
+unfolding chars
+blocks::tell_block-returns-in-Quote g t c =
+    λ rest. element_told g.S.Serializer.means _ _ c.tell_element-in-Quote.result (codes "blockquote") (codes "blockquote") [] []
+    (content_of_blocks (blocks_view c.as_slice-in-Quote.result.now)) (content_of_blocks (blocks_view c.in-Quote.blocks.items)) (content_of_blocks rest)
+    (content_of_blocks (block_view c.args.block.now rest)) refl refl
+    (ap (λ xs. content_of_blocks (blocks_view xs)) c.as_slice-in-Quote.ensures.value)
+    (ap (λ v. content_of_blocks (block_view v rest)) c.in-Quote.is ∙ ap content_of_blocks (seen_quote c.in-Quote.blocks rest)) c.tell_element-in-Quote.ensures
 
 pub blocks::tell_block-returns-in-Bullets : goal.blocks::tell_block-returns-in-Bullets
 unfolding chars
