@@ -15,8 +15,8 @@ use Rattle.article_layout.specs.BlockCalls.{append, awaits_behind, run_blocks, r
 use Rattle.article_layout.specs.Calls.{block_with, cell_of, measure, run, run_whole}
 use Rattle.render_sizes.specs.Extents.{capped}
 use Rattle.article_layout.specs.Layouts.{Line, Options, Tag, behind, count, count_items, empty_line, has_content}
-use Rattle.article_layout.specs.Layouts.{how_many, item_prefix, lay, lay_items, least_in, least_of_items, next_number}
-use Rattle.article_layout.specs.Layouts.{paragraph_lines, parted, parts_of, prefixed, room, room_of_numbers, targets_in}
+use Rattle.article_layout.specs.Layouts.{how_many, item_prefix, lay, lay_items, least_in, least_of, least_of_items, next_number}
+use Rattle.article_layout.specs.Layouts.{paragraph_lines, parted, parts_of, prefixed, quote_prefix, room, room_of_numbers, targets_in}
 use Rattle.article_layout.specs.Layouts.{targets_of, targets_of_items, to_room, outermost, within}
 use Rattle.render_laying.specs.Items.{spaces}
 use Rattle.article_layout.proofs.Called.{KeepsMarkers, paragraph_called}
@@ -128,6 +128,12 @@ module _ (kept : KeepsMarkers) (o : Options) where
     ended_nowhere : (x : Option (Laid Tag)) → x ≡ None → end x ≡ None
     ended_nowhere x e = ap end e
 
+    both_nowhere : (subs : ℕ → Option (Laid Tag)) (x : Option ℕ) →
+        option_and_then (λ within. option_and_then (λ (sub : Laid Tag). let none : Option (Laid Tag) = None in none)
+        (subs within)) x ≡ None
+    both_nowhere subs None = refl
+    both_nowhere subs (Some within) = nowhere (subs within)
+
     -- a block whose running text can't be laid out
     refused : (n : ℕ) (a : Blocks) (b : Laid Tag) → flush m outermost b ≡ None → end (run_blocks o width n a b) ≡ None
     refused n no_blocks b e = e
@@ -142,19 +148,17 @@ module _ (kept : KeepsMarkers) (o : Options) where
         (end_block (append o width within prefix prefix sub b))) (option_map (laid_parted m outermost) x)) (subs within))
         (room width (level + 1) (capped (least_in o is + (level + 1)))))) e
         ∙ ended_nowhere _ (both_nowhere subs (room width (level + 1) (capped (least_in o is + (level + 1)))))
-      where
-        both_nowhere : (subs : ℕ → Option (Laid Tag)) (x : Option ℕ) →
-            option_and_then (λ within. option_and_then (λ (sub : Laid Tag). let none : Option (Laid Tag) = None in none)
-            (subs within)) x ≡ None
-        both_nowhere subs None = refl
-        both_nowhere subs (Some within) = by (subs within) where
-          by : (x : Option (Laid Tag)) →
-              option_and_then (λ (sub : Laid Tag). let none : Option (Laid Tag) = None in none) x ≡ None
-          by None = refl
-          by (Some sub) = refl
     refused n (division kids rest) b e =
         ap (λ x. end (option_and_then (run_blocks o width (n + length (targets_of o kids)) rest)
         (end (option_and_then (run_blocks o width n kids) x)))) e
+    refused n (quote kids rest) b e =
+        let subs : ℕ → Option (Laid Tag) = λ within. option_and_then (flush (measure o within) outermost)
+        (run_blocks o within n kids (laid [] false)) in
+        ap (λ x. end (option_and_then (λ within. option_and_then (λ sub. option_and_then
+        (λ b. run_blocks o width (n + length (targets_of o kids)) rest
+        (end_block (append o width within quote_prefix quote_prefix sub b)))
+        (option_map (laid_parted m outermost) x)) (subs within)) (room width 2 (capped (least_of o kids + 2))))) e
+        ∙ ended_nowhere _ (both_nowhere subs (room width 2 (capped (least_of o kids + 2))))
     refused n (bullets items rest) b e =
         ap (λ x. end (option_and_then (run_blocks o width (n + length (targets_of_items o items)) rest)
         (option_and_then (run_items o width n 2 (capped (least_of_items o items + 2)) None items)
@@ -181,6 +185,12 @@ module _ (kept : KeepsMarkers) (o : Options) where
     goes_on n (division kids rest) b lines awaits e =
         ap (λ x. end (option_and_then (run_blocks o width (n + length (targets_of o kids)) rest)
         (end (option_and_then (run_blocks o width n kids) x)))) e
+    goes_on n (quote kids rest) b lines awaits e =
+        ap (λ x. end (option_and_then (λ within. option_and_then (λ sub. option_and_then
+        (λ b. run_blocks o width (n + length (targets_of o kids)) rest
+        (end_block (append o width within quote_prefix quote_prefix sub b))) (option_map (laid_parted m outermost) x))
+        (option_and_then (flush (measure o within) outermost) (run_blocks o within n kids (laid [] false))))
+        (room width 2 (capped (least_of o kids + 2))))) e
     goes_on n (bullets items rest) b lines awaits e =
         ap (λ x. end (option_and_then (run_blocks o width (n + length (targets_of_items o items)) rest)
         (option_and_then (run_items o width n 2 (capped (least_of_items o items + 2)) None items)
@@ -267,6 +277,47 @@ module _ (kept : KeepsMarkers) (o : Options) where
           (appended width within prefix prefix new (parted o width lines) false)
           ∙ h (parted o width lines ++ prefixed o width prefix prefix new)
 
+  quote_laid : (width k n : ℕ) (kids rest : Blocks) (lines : List Line) (awaits : Bool) (space : Option ℕ) →
+      ((within : ℕ) → IsLaid within k n kids [] false) →
+      ((before : List Line) → IsLaid width (k + count kids) (n + length (targets_of o kids)) rest before true) →
+      option_and_then (flush (measure o width) outermost)
+      (option_and_then (λ within. option_and_then (λ sub. option_and_then
+      (λ b. run_blocks o width (n + length (targets_of o kids)) rest
+      (end_block (append o width within quote_prefix quote_prefix sub b)))
+      (start_block (measure o width) outermost (laid lines awaits)))
+      (option_and_then (flush (measure o within) outermost) (run_blocks o within n kids (laid [] false)))) space)
+      ≡ option_map (λ all. laid all (awaits_behind rest true))
+      (option_and_then (λ new. lay o width (k + count kids) (n + length (targets_of o kids)) rest
+      (parted o width lines ++ prefixed o width quote_prefix quote_prefix new))
+      (option_and_then (λ within. lay o within k n kids []) space))
+  quote_laid width k n kids rest lines awaits None h g = refl
+  quote_laid width k n kids rest lines awaits (Some within) h g =
+      ap (λ sub. option_and_then (flush (measure o width) outermost) (option_and_then (λ sub. option_and_then
+      (λ b. run_blocks o width (n + length (targets_of o kids)) rest
+      (end_block (append o width within quote_prefix quote_prefix sub b)))
+      (start_block (measure o width) outermost (laid lines awaits))) sub)) (h within)
+      ∙ by (lay o within k n kids [])
+    where
+      by : (new : Option (List Line)) →
+          option_and_then (flush (measure o width) outermost) (option_and_then (λ sub. option_and_then
+          (λ b. run_blocks o width (n + length (targets_of o kids)) rest
+          (end_block (append o width within quote_prefix quote_prefix sub b)))
+          (start_block (measure o width) outermost (laid lines awaits)))
+          (option_map (λ all. laid all (awaits_behind kids false)) new))
+          ≡ option_map (λ all. laid all (awaits_behind rest true))
+          (option_and_then (λ new. lay o width (k + count kids) (n + length (targets_of o kids)) rest
+          (parted o width lines ++ prefixed o width quote_prefix quote_prefix new)) new)
+      by None = refl
+      by (Some new) =
+          ap (λ b. option_and_then (flush (measure o width) outermost) (option_and_then
+          (λ b. run_blocks o width (n + length (targets_of o kids)) rest (end_block
+          (add_block (measure o within) (measure o width) outermost quote_prefix quote_prefix (map cell_of new) b))) b))
+          (started_is width lines awaits)
+          ∙ ap (λ b. option_and_then (flush (measure o width) outermost)
+          (run_blocks o width (n + length (targets_of o kids)) rest (end_block b)))
+          (appended width within quote_prefix quote_prefix new (parted o width lines) false)
+          ∙ g (parted o width lines ++ prefixed o width quote_prefix quote_prefix new)
+
   item_laid : (width k n columns least : ℕ) (at : Option ℤ) (kids : Blocks) (rest : Items) (lines : List Line)
       (space : Option ℕ) → ((within : ℕ) → IsLaid within k n kids [] false) →
       ((before : List Line) → run_items o width (n + length (targets_of o kids)) columns least (next_number at) rest
@@ -324,6 +375,10 @@ module _ (kept : KeepsMarkers) (o : Options) where
         (lay o width k n kids lines) (blocks_called width k n kids lines awaits)
         (λ before. blocks_called width (k + count kids) (n + length (targets_of o kids)) rest before
         (awaits_behind kids awaits))
+    blocks_called width k n (quote kids rest) lines awaits =
+        quote_laid width k n kids rest lines awaits (room width 2 (capped (least_of o kids + 2)))
+        (λ within. blocks_called within k n kids [] false)
+        (λ before. blocks_called width (k + count kids) (n + length (targets_of o kids)) rest before true)
     blocks_called width k n (bullets items rest) lines awaits = let least = capped (least_of_items o items + 2) in
         ap (λ x. option_and_then (flush (measure o width) outermost)
         (option_and_then (run_blocks o width (n + length (targets_of_items o items)) rest)

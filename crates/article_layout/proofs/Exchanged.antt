@@ -13,11 +13,11 @@ use Rattle.article_values.specs.Articles.{Blocks, Items, bullets, division, head
 use Rattle.article_values.specs.Articles.{paragraph, quote}
 use Rattle.article_layout.specs.Exchanges.{Alike, Differ, DifferItems, behind_bullets, behind_division, behind_heading}
 use Rattle.article_layout.specs.Exchanges.{behind_item, behind_numbers, behind_paragraph, in_bullets, in_division}
-use Rattle.article_layout.specs.Exchanges.{in_item, in_numbers, others, this_heading, this_paragraph}
+use Rattle.article_layout.specs.Exchanges.{behind_quote, in_item, in_numbers, in_quote, others, this_heading, this_paragraph}
 use Rattle.render_sizes.specs.Extents.{capped}
 use Rattle.article_layout.specs.Layouts.{Line, Options, count, count_items, how_many, if_fits, item_prefix, layout, lay}
-use Rattle.article_layout.specs.Layouts.{lay_items, least_in, least_of_items, next_number, paragraph_lines, parted}
-use Rattle.article_layout.specs.Layouts.{prefixed, room, room_of_numbers, targets_in, targets_of, targets_of_items}
+use Rattle.article_layout.specs.Layouts.{lay_items, least_in, least_of, least_of_items, next_number, paragraph_lines, parted}
+use Rattle.article_layout.specs.Layouts.{prefixed, quote_prefix, room, room_of_numbers, targets_in, targets_of, targets_of_items}
 use Rattle.article_layout.specs.Layouts.{to_room, Tag, within}
 use Rattle.render_laying.specs.Items.{spaces}
 use Rattle.article_layout.proofs.Alikes.{alike_both, alike_changed, alike_others, alike_parted, alike_prefixed}
@@ -75,6 +75,18 @@ module _ (o : Options) (number : ℕ) where
         option_and_then_some _ (lay o w k n kids ms) y q (λ v e' f'.
         same_lay w (k + count kids) (n + length (targets_of o kids)) rest u v x y f f'
         (same_lay w k n kids ls ms u v e e' a)))
+    same_lay w k n (quote kids rest) ls ms x y p q a =
+        let lines : Option (List Line) = option_and_then (λ within. lay o within k n kids [])
+        (room w 2 (capped (least_of o kids + 2))) in
+        option_and_then_some _ lines x p (λ new e f.
+        option_and_then_some _ lines y q (λ new' e' f'.
+        same_lay w (k + count kids) (n + length (targets_of o kids)) rest
+        (parted o w ls ++ prefixed o w quote_prefix quote_prefix new)
+        (parted o w ms ++ prefixed o w quote_prefix quote_prefix new') x y f f'
+        (alike_both number (parted o w ls) (parted o w ms) (prefixed o w quote_prefix quote_prefix new)
+        (prefixed o w quote_prefix quote_prefix new') (alike_parted number o w ls ms a)
+        (alike_prefixed number o w quote_prefix quote_prefix new new'
+        (alike_equal new new' (same_some lines new new' e e'))))))
     same_lay w k n (bullets items rest) ls ms x y p q a = let least = capped (least_of_items o items + 2) in
         option_and_then_some _ (lay_items o w k n 2 least None items (parted o w ls)) x p (λ u e f.
         option_and_then_some _ (lay_items o w k n 2 least None items (parted o w ms)) y q (λ v e' f'.
@@ -119,6 +131,8 @@ mutual
   same_count n _ _ _ (behind_heading k level is a b d) = ap (λ c. suc c) (same_count n (suc k) a b d)
   same_count n _ _ _ (in_division k a b rest d) = ap (λ c. c + count rest) (same_count n k a b d)
   same_count n _ _ _ (behind_division k kids a b d) = ap (λ c. count kids + c) (same_count n (k + count kids) a b d)
+  same_count n _ _ _ (in_quote k a b rest d) = ap (λ c. c + count rest) (same_count n k a b d)
+  same_count n _ _ _ (behind_quote k kids a b d) = ap (λ c. count kids + c) (same_count n (k + count kids) a b d)
   same_count n _ _ _ (in_bullets k a b rest d) = ap (λ c. c + count rest) (same_count_items n k a b d)
   same_count n _ _ _ (behind_bullets k items a b d) =
       ap (λ c. count_items items + c) (same_count n (k + count_items items) a b d)
@@ -145,6 +159,9 @@ module _ (o : Options) where
         ap (λ l. targets_in o is ++ l) (same_links n (suc k) a b d)
     same_links n _ _ _ (in_division k a b rest d) = ap (λ l. l ++ targets_of o rest) (same_links n k a b d)
     same_links n _ _ _ (behind_division k kids a b d) =
+        ap (λ l. targets_of o kids ++ l) (same_links n (k + count kids) a b d)
+    same_links n _ _ _ (in_quote k a b rest d) = ap (λ l. l ++ targets_of o rest) (same_links n k a b d)
+    same_links n _ _ _ (behind_quote k kids a b d) =
         ap (λ l. targets_of o kids ++ l) (same_links n (k + count kids) a b d)
     same_links n _ _ _ (in_bullets k a b rest d) = ap (λ l. l ++ targets_of o rest) (same_links_items n k a b d)
     same_links n _ _ _ (behind_bullets k items a b d) =
@@ -225,6 +242,36 @@ module _ (o : Options) where
           option_and_then_some _ (lay o w k n kids ms) y q (λ v e' f'.
           differ_lay w (k + count kids) (n + length (targets_of o kids)) a b u v x y d f f'
           (same_lay o number w k n kids ls ms u v e e' al)))
+      differ_lay w _ n _ _ ls ms x y (in_quote k a b rest d) p q al =
+          let room_a : Option ℕ = room w 2 (capped (least_of o a + 2)) in
+          let room_b : Option ℕ = room w 2 (capped (least_of o b + 2)) in
+          option_and_then_some _ (option_and_then (λ within. lay o within k n a []) room_a) x p (λ new e f.
+          option_and_then_some _ (option_and_then (λ within. lay o within k n b []) room_b) y q (λ new' e' f'.
+          option_and_then_some _ room_a new e (λ r g h.
+          option_and_then_some _ room_b new' e' (λ s g' h'.
+          behind_changed w (k + count a) (k + count b) (n + length (targets_of o a)) (n + length (targets_of o b)) rest
+          (parted o w ls ++ prefixed o w quote_prefix quote_prefix new)
+          (parted o w ms ++ prefixed o w quote_prefix quote_prefix new') x y
+          (ap (λ c. k + c) (same_count number k a b d)) (ap (λ t. n + length t) (same_links number k a b d)) f f'
+          (alike_both number (parted o w ls) (parted o w ms) (prefixed o w quote_prefix quote_prefix new)
+          (prefixed o w quote_prefix quote_prefix new') (alike_parted number o w ls ms al)
+          (alike_prefixed number o w quote_prefix quote_prefix new new'
+          (differ_lay r k n a b [] [] new new' d h
+          (subst (λ t. lay o t k n b [] ≡ Some new')
+          (sym (same_room w 2 (capped (least_of o a + 2)) (capped (least_of o b + 2)) r s g g')) h')
+          (alike_same number []))))))))
+      differ_lay w _ n _ _ ls ms x y (behind_quote k kids a b d) p q al =
+          let lines : Option (List Line) = option_and_then (λ within. lay o within k n kids [])
+          (room w 2 (capped (least_of o kids + 2))) in
+          option_and_then_some _ lines x p (λ new e f.
+          option_and_then_some _ lines y q (λ new' e' f'.
+          differ_lay w (k + count kids) (n + length (targets_of o kids)) a b
+          (parted o w ls ++ prefixed o w quote_prefix quote_prefix new)
+          (parted o w ms ++ prefixed o w quote_prefix quote_prefix new') x y d f f'
+          (alike_both number (parted o w ls) (parted o w ms) (prefixed o w quote_prefix quote_prefix new)
+          (prefixed o w quote_prefix quote_prefix new') (alike_parted number o w ls ms al)
+          (alike_prefixed number o w quote_prefix quote_prefix new new'
+          (alike_equal o number new new' (same_some lines new new' e e'))))))
       differ_lay w _ n _ _ ls ms x y (in_bullets k a b rest d) p q al =
           let la = capped (least_of_items o a + 2) in
           let lb = capped (least_of_items o b + 2) in

@@ -57,5 +57,6 @@ module _ (o : Options) (width : ℕ) (room : 2 ≤ wrap_at o width) where
   never_refused k n no_blocks lines h = (lines, refl)
   never_refused k n (heading level is rest) lines h = absurd h
   never_refused k n (division kids rest) lines h = absurd h
+  never_refused k n (quote kids rest) lines h = absurd h
   never_refused k n (bullets items rest) lines h = absurd h
   never_refused k n (numbers first items rest) lines h = absurd h
