@@ -11,9 +11,9 @@ use Rattle.render_sizes.specs.Extents.{capped}
 use Rattle.article_values.specs.Articles.{Blocks, Items, bullets, division, heading, item, no_blocks, no_items, numbers}
 use Rattle.article_values.specs.Articles.{paragraph, quote}
 use Rattle.article_layout.specs.Calls.{measure, run, run_whole}
-use Rattle.article_layout.specs.Layouts.{Options, Tag, how_many, outermost, item_prefix, least_in, least_of_items}
-use Rattle.article_layout.specs.Layouts.{least_of, next_number, parts_of, quote_prefix, room, room_of_numbers, targets_in, targets_of}
-use Rattle.article_layout.specs.Layouts.{targets_of_items, to_room}
+use Rattle.article_layout.specs.Layouts.{Options, Tag, how_many, outermost, item_prefix, least_in, least_of}
+use Rattle.article_layout.specs.Layouts.{least_of_items, next_number, parts_of, quote_prefix, room, room_of_numbers}
+use Rattle.article_layout.specs.Layouts.{targets_in, targets_of, targets_of_items, to_room}
 
 -- the lines of another block behind prefixes
 abbrev pub append : Options → (width within : ℕ) → List ℕ → List ℕ → Laid Tag → Laid Tag → Laid Tag

@@ -18,7 +18,7 @@ use Rattle.render_sizes.specs.Extents.{capped}
 use Rattle.render_sizes.specs.TextSizes.{text_size}
 use Rattle.article_values.specs.Articles.{Blocks, Inlines, Items, Style, bold, bullets, code, division, emphasis}
 use Rattle.article_values.specs.Articles.{heading, italic, item, line_break, link, no_blocks, no_items, no_inlines}
-use Rattle.article_values.specs.Articles.{numbers, paragraph, span, words}
+use Rattle.article_values.specs.Articles.{numbers, paragraph, quote, span, strong, words}
 
 -- the options that matter here
 pub record Options : Type 0 where
