@@ -5,9 +5,9 @@ use Rattle.std.specs.Option.{option_and_then, option_map}
 use Rattle.article_layout.specs.ArticleValues.{values_of_blocks, values_of_inlines, values_of_items}
 use Rattle.article_layout.specs.BlockCalls.{run_blocks, run_items}
 use Rattle.article_layout.specs.Calls.{run}
-use Rattle.article_layout.specs.Layouts.{Options, Tag, how_many, item_prefix, least_in, least_of_items, next_number}
-use Rattle.article_layout.specs.Layouts.{outermost, parts_of, room_of_numbers, targets_in, targets_of, targets_of_items}
-use Rattle.article_layout.specs.Layouts.{to_room}
+use Rattle.article_layout.specs.Layouts.{Options, Tag, how_many, item_prefix, least_in, least_of, least_of_items}
+use Rattle.article_layout.specs.Layouts.{next_number, outermost, parts_of, quote_prefix, room_of_numbers, targets_in}
+use Rattle.article_layout.specs.Layouts.{targets_of, targets_of_items, to_room}
 use Rattle.article_values.specs.Articles.{Blocks, Inlines, Items, bullets, division, heading, item, no_blocks, no_items}
 use Rattle.article_values.specs.Articles.{numbers, paragraph, quote}
 use Rattle.block_layout.specs.Laid.{Laid, end_block, flush, nothing_laid, start_block}
@@ -29,16 +29,16 @@ use Rattle.render_walk.specs.Lay.{behind_mark, content_of, holds, lay, listed, s
 use Rattle.renderer_calls.specs.Calls.{ends_block, ends_line, starts_block}
 use Rattle.renderer_calls.specs.declared.options.RenderOptions.{RenderOptions}
 use Rattle.text_block_renderer.specs.PlainText.{plain_marking}
-use Rattle.text_marks.specs.Marks.{header}
+use Rattle.text_marks.specs.Marks.{header, quote as quote_mark}
 use Rattle.article_walk.specs.Measures.{plain_measure}
 use Rattle.article_walk.specs.Pages.{AreFilled, AreFilledBlocks, AreFilledItems, Place}
 use Rattle.article_walk.proofs.InlinesWalked.{are_walked, around_it, counted, next, unstyled}
-use Rattle.article_walk.proofs.Leasts.{bullet_columns, least_of_inlines, least_of_item_values, number_of_items}
-use Rattle.article_walk.proofs.Leasts.{numbers_columns}
+use Rattle.article_walk.proofs.Leasts.{bullet_columns, least_of_inlines, least_of_item_values, least_of_values}
+use Rattle.article_walk.proofs.Leasts.{number_of_items, numbers_columns}
 use Rattle.article_walk.proofs.PagesLaid.{Layings, ended, flushed, part_at, started}
 use Rattle.article_walk.proofs.PartsWalked.{article, at, behind_is, in_list, ms, put, put_then, start_last, start_quiet}
 use Rattle.article_walk.proofs.PartsWalked.{start_rests, then_walk}
-use Rattle.article_walk.proofs.Prefixes.{both, heading_columns_are, item_columns_are}
+use Rattle.article_walk.proofs.Prefixes.{both, heading_columns_are, item_columns_are, quote_columns_are}
 use Rattle.article_walk.proofs.SaidTexts.{nothing_more}
 
 -- what stands before an item of that number, or of none
@@ -102,6 +102,15 @@ module _ (given : RenderOptions) (decorates : Bool) (min_wrap : ℕ) (held : Uni
   unfolding begins ends holds leading following style_begins
   heading_value level inside rest p ts b = ap (option_and_then (walk rest))
       (around_it (behind_mark plain_marking (header level) (least (infos.Heading level) inside) (walk inside)) _ _)
+
+  quote_value : (inside rest : Values) (p : Place) (ts : List (List ℕ)) (b : Laid Tag) →
+      walk (value (plain_head infos.Quote) inside rest) (here p ts b)
+      ≡ option_and_then (walk rest) (option_and_then (laying_of.says plain_marking ends_block) (option_and_then
+      (behind_mark plain_marking quote_mark (least infos.Quote inside) (walk inside))
+      (laying_of.says plain_marking starts_block (here p ts b))))
+  unfolding begins ends holds leading following style_begins
+  quote_value inside rest p ts b = ap (option_and_then (walk rest))
+      (around_it (behind_mark plain_marking quote_mark (least infos.Quote inside) (walk inside)) _ _)
 
   bullets_value : (inside rest : Values) (p : Place) (ts : List (List ℕ)) (b : Laid Tag) →
       walk (value (plain_head infos.Bullets) inside rest) (here p ts b)
@@ -217,6 +226,20 @@ module _ (given : RenderOptions) (decorates : Bool) (min_wrap : ℕ) (held : Uni
       (values_of_inlines o is)) p ts
       all b go same
 
+  -- ---- quotes
+
+  quoted_is : (asked : ℕ) (inside : Values) (p : Place) (ts all : List (List ℕ)) (b : Laid Tag)
+      (go : ℕ → Option (Laid Tag)) → least infos.Quote inside ≡ asked →
+      ((within : ℕ) → walk inside (here (part_at within p) ts nothing_laid)
+      ≡ option_map (here (part_at within p) all) (go within)) →
+      behind_mark plain_marking quote_mark (least infos.Quote inside) (walk inside) (here p ts b)
+      ≡ option_map (here p all) (part p 2 asked quote_prefix quote_prefix go b)
+  unfolding mark_of
+  quoted_is asked inside p ts all b go asks same =
+      both (λ c k. behind_prefix plain_marking c quote_prefix quote_prefix k (walk inside) (here p ts b))
+      quote_columns_are asks
+      ∙ behind_is given decorates min_wrap held Flow 2 asked quote_prefix quote_prefix (walk inside) p ts all b go same
+
   ends_is : (p : Place) (ts : List (List ℕ)) (x : Option (Laid Tag)) →
       option_and_then (laying_of.says plain_marking ends_block) (option_map (here p ts) x)
       ≡ option_map (λ b. here p ts (end_block b)) x
@@ -317,6 +340,34 @@ module _ (given : RenderOptions) (decorates : Bool) (min_wrap : ℕ) (held : Uni
       ∙ rest_walked rest walked p ts (targets_of o kids) n count (λ b. b)
       (option_and_then (flush (w p) outermost) filled)
 
+  quote_walked : (kids rest : Blocks) → AreWalked kids → AreWalked rest → AreWalked (quote kids rest)
+  quote_walked kids rest in_kids walked p ts n count b =
+      let inside : Values = values_of_blocks o kids in
+      let others : Values = values_of_blocks o rest in
+      let targets : List (List ℕ) = targets_of o kids in
+      let behind : List (List ℕ) = ts ++ targets in
+      let begun : Option (Laid Tag) = start_block (w p) outermost b in
+      let asked : ℕ = capped (least_of o kids + 2) in
+      let go = λ (within : ℕ). run_blocks o within n kids nothing_laid in
+      let asks : least infos.Quote inside ≡ asked =
+      ap capped (both (λ k n. k + n) (least_of_values o kids) quote_columns_are) in
+      quote_value inside others p ts b
+      ∙ ap (λ x. option_and_then (walk others) (option_and_then (laying_of.says plain_marking ends_block)
+      (option_and_then (behind_mark plain_marking quote_mark (least infos.Quote inside) (walk inside)) x)))
+      (started given decorates min_wrap held p ts b)
+      ∙ ap (λ x. option_and_then (walk others) (option_and_then (laying_of.says plain_marking ends_block) x))
+      (then_walk (behind_mark plain_marking quote_mark (least infos.Quote inside) (walk inside))
+      (part p 2 asked quote_prefix quote_prefix go) (here p ts) (here p behind) begun
+      (λ b. quoted_is asked inside p ts behind b go asks
+      (λ within. in_kids (part_at within p) ts n count nothing_laid)))
+      ∙ ap (option_and_then (walk others))
+      (ends_is p behind (option_and_then (part p 2 asked quote_prefix quote_prefix go) begun))
+      ∙ rest_walked rest walked p ts targets n count end_block
+      (option_and_then (part p 2 asked quote_prefix quote_prefix go) begun)
+      ∙ ap (option_map (here p (ts ++ (targets ++ targets_of o rest))))
+      (start_last given decorates min_wrap held p 2 asked quote_prefix quote_prefix go
+      (λ b. run_blocks o p.width (n + length targets) rest (end_block b)) begun (start_rests (w p) b))
+
   -- of a list that begins with that number, or none, in so many columns
   abbrev InList : Option ℤ → (columns least : ℕ) → Items → Type 0
   InList number columns least items = (p : Place) (ts : List (List ℕ)) (n : ℕ) → length ts ≡ n → (b : Laid Tag) →
@@ -410,6 +461,8 @@ module _ (given : RenderOptions) (decorates : Bool) (min_wrap : ℕ) (held : Uni
         heading_walked level is rest filled.0 (blocks_walked rest filled.1) p ts n count b
     blocks_walked (division kids rest) filled p ts n count b =
         division_walked kids rest (blocks_walked kids filled.0) (blocks_walked rest filled.1) p ts n count b
+    blocks_walked (quote kids rest) filled p ts n count b =
+        quote_walked kids rest (blocks_walked kids filled.0) (blocks_walked rest filled.1) p ts n count b
     blocks_walked (bullets items rest) filled p ts n count b =
         bullets_walked items rest (items_walked items filled.0 None 2 (capped (least_of_items o items + 2)))
         (blocks_walked rest filled.1) p ts n count b

@@ -14,7 +14,7 @@ use Rattle.render_values.specs.Plain.{plain_head}
 use Rattle.render_values.specs.Values.{Values, joined, none, value}
 use Rattle.tagged_lines.specs.Columns.{text_columns}
 use Rattle.article_walk.specs.Measures.{plain_measure}
-use Rattle.article_walk.proofs.Prefixes.{both, heading_columns_are, item_columns_are}
+use Rattle.article_walk.proofs.Prefixes.{both, heading_columns_are, item_columns_are, quote_columns_are}
 
 pub number_of_items : (o : Options) (items : Items) → number (values_of_items o items) ≡ how_many items
 number_of_items o no_items = refl
@@ -100,6 +100,9 @@ module _ (o : Options) where
         both (λ n r. max (capped n) r) (both (λ k n. k + n) (least_of_inlines is) (heading_columns_are level))
         (least_of_values rest)
     least_of_values (division kids rest) = both max (least_of_values kids) (least_of_values rest)
+    least_of_values (quote kids rest) =
+        both (λ n r. max (capped n) r) (both (λ k n. k + n) (least_of_values kids) quote_columns_are)
+        (least_of_values rest)
     least_of_values (bullets items rest) =
         both (λ n r. max (capped n) r) (both (λ k n. k + n) (least_of_item_values items) bullet_columns)
         (least_of_values rest)

@@ -7,7 +7,7 @@ use Rattle.std.specs.Prelude.{◌==◌, unwrap_or}
 use Rattle.std.proofs.lemmas.Bool.Decides.{nat_tests}
 use Rattle.std.proofs.lemmas.List.{length-replicate}
 use Rattle.std.proofs.lemmas.List.Sums.{sum_by-append, sum_by-cons}
-use Rattle.article_layout.specs.Layouts.{item_prefix}
+use Rattle.article_layout.specs.Layouts.{item_prefix, quote_prefix}
 use Rattle.tagged_lines.specs.Columns.{columns_of-one, text_columns, width_of}
 
 pub both : {A B C : Type 0} (f : A → B → C) {a c : A} {b d : B} → a ≡ c → b ≡ d → f a b ≡ f c d
@@ -80,3 +80,6 @@ heading_columns_are level =
     plain_both (replicate level 0x23) (codes " ") (plain_repeated 0x23 level (omega arith) (omega arith)) plain_space
     ∙ length-append (replicate level 0x23) (codes " ")
     ∙ ap (λ n. n + 1) (length-replicate level 0x23)
+
+pub quote_columns_are : text_columns quote_prefix ≡ 2
+quote_columns_are = plain_first 0x3E (codes " ") (omega arith) (omega arith) plain_space
