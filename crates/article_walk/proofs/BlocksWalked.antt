@@ -207,7 +207,7 @@ module _ (given : RenderOptions) (decorates : Bool) (min_wrap : ℕ) (held : Uni
       ∙ ap (option_and_then (goes_on Flow)) walked
       ∙ flow_again behind columns asked p all x
 
-  -- ---- headings
+  -- ---- headings and quotes
 
   headed_is : (level asked : ℕ) (is : Inlines) (p : Place) (ts all : List (List ℕ)) (b : Laid Tag)
       (go : ℕ → Option (Laid Tag)) → least (infos.Heading level) (values_of_inlines o is) ≡ asked →
@@ -225,8 +225,6 @@ module _ (given : RenderOptions) (decorates : Bool) (min_wrap : ℕ) (held : Uni
       ∙ behind_is given decorates min_wrap held Flow (level + 1) asked prefix prefix (walk
       (values_of_inlines o is)) p ts
       all b go same
-
-  -- ---- quotes
 
   quoted_is : (asked : ℕ) (inside : Values) (p : Place) (ts all : List (List ℕ)) (b : Laid Tag)
       (go : ℕ → Option (Laid Tag)) → least infos.Quote inside ≡ asked →
