@@ -47,8 +47,8 @@ pub fn values_of_a_paragraph_are_its_calls()
 {}
 
 /// The values of an article's blocks, none of whose texts is empty, are laid out in a renderer of plain text as the
-/// layout's calls of blocks: headings and items in renderers of their own, in the room that their prefixes leave, and
-/// nowhere where the calls come to nothing. The targets of their links stand behind those before them.
+/// layout's calls of blocks: headings, quotes and items in renderers of their own, in the room that their prefixes
+/// leave, and nowhere where the calls come to nothing. The targets of their links stand behind those before them.
 pub fn values_of_blocks_are_their_calls()
     ensures { (given : RenderOptions) (decorates : Bool) (min_wrap : ℕ) (held : Unit {0}) (place : Place)
         (targets : List (List ℕ)) (block : Laid Tag) (blocks : Blocks) → AreFilledBlocks blocks
