@@ -1,0 +1,5 @@
+use Rattle.plain_articles.proofs.SameLayouts as same
+use Rattle.plain_articles.proofs.laws.lines_stay.Goals as goal
+
+pub returns : goal.returns
+returns c = same.lines_stay
