@@ -4,9 +4,11 @@ use Rattle.std.proofs.Common.{append_assoc, append-nil, arith}
 use Rattle.std.specs.Option.{option_and_then, option_map}
 use Rattle.std.proofs.lemmas.List.{length-append}
 use Rattle.article_layout.specs.Layouts.{Line, Options, count, count_items, how_many, item_prefix, lay, lay_items}
-use Rattle.article_layout.specs.Layouts.{least_of_items, next_number, paragraph_lines, parted, prefixed, room}
-use Rattle.article_layout.specs.Layouts.{room_of_numbers, targets_in, targets_of, targets_of_items, to_room}
-use Rattle.article_laying.specs.Walks.{At, behind_item, behind_paragraph, heading_lines, heading_prefix, laid}
+use Rattle.article_layout.specs.Layouts.{least_of, least_of_items, next_number, paragraph_lines, parted, prefixed}
+use Rattle.article_layout.specs.Layouts.{quote_prefix, room, room_of_numbers, targets_in, targets_of, targets_of_items}
+use Rattle.article_layout.specs.Layouts.{to_room}
+use Rattle.article_laying.specs.Walks.{At, behind_item, behind_paragraph, behind_quote, heading_lines}
+use Rattle.article_laying.specs.Walks.{heading_prefix, laid}
 use Rattle.article_laying.specs.Walks.{laid_items}
 use Rattle.article_values.specs.Articles.{Blocks, Inlines, Items, bullets, division, heading, item, no_blocks, no_items}
 use Rattle.article_values.specs.Articles.{numbers, paragraph, quote}
@@ -131,6 +133,35 @@ module _ (o : Options) where
       (append_assoc ts (targets_of o kids) (targets_of o rest))
       (length-append ts (targets_of o kids)) (omega arith))
 
+  -- a quote, in the room that it has
+  quote_laid_in : (kids rest : Blocks) → Is rest → (width k : ℕ) (ts : List (List ℕ)) (lines : List Line)
+      (new : Option (List Line)) →
+      option_and_then (laid o width rest) (option_map (behind_quote o width (at k ts lines))
+      (behind (k + count kids) (ts ++ targets_of o kids) new))
+      ≡ behind (k + (count kids + count rest)) (ts ++ (targets_of o kids ++ targets_of o rest))
+      (option_and_then (λ new. lay o width (k + count kids) (length ts + length (targets_of o kids)) rest
+      (parted o width lines ++ prefixed o width quote_prefix quote_prefix new)) new)
+  quote_laid_in kids rest same width k ts lines None = refl
+  quote_laid_in kids rest same width k ts lines (Some new) =
+      further rest same width (k + count kids) ts (ts ++ targets_of o kids)
+      (ts ++ (targets_of o kids ++ targets_of o rest)) (k + (count kids + count rest))
+      (length ts + length (targets_of o kids))
+      (parted o width lines ++ prefixed o width quote_prefix quote_prefix new)
+      (append_assoc ts (targets_of o kids) (targets_of o rest)) (length-append ts (targets_of o kids)) (omega arith)
+
+  quote_is : (kids rest : Blocks) → Is kids → Is rest → (width k : ℕ) (ts : List (List ℕ)) (lines : List Line)
+      (room : Option ℕ) →
+      option_and_then (laid o width rest) (option_map (behind_quote o width (at k ts lines))
+      (option_and_then (λ within. laid o within kids (at k ts [])) room))
+      ≡ behind (k + (count kids + count rest)) (ts ++ (targets_of o kids ++ targets_of o rest))
+      (option_and_then (λ new. lay o width (k + count kids) (length ts + length (targets_of o kids)) rest
+      (parted o width lines ++ prefixed o width quote_prefix quote_prefix new))
+      (option_and_then (λ within. lay o within k (length ts) kids []) room))
+  quote_is kids rest inside on width k ts lines None = refl
+  quote_is kids rest inside on width k ts lines (Some within) =
+      ap (λ new. option_and_then (laid o width rest) (option_map (behind_quote o width (at k ts lines)) new))
+      (inside within k ts []) ∙ quote_laid_in kids rest on width k ts lines (lay o within k (length ts) kids [])
+
   mutual
     pub laid_is : (blocks : Blocks) → Is blocks
     laid_is no_blocks width k ts lines =
@@ -145,6 +176,8 @@ module _ (o : Options) where
         (heading_lines o width level is (at k ts lines))
     laid_is (division kids rest) width k ts lines =
         division_is kids rest (laid_is kids) (laid_is rest) width k ts lines
+    laid_is (quote kids rest) width k ts lines =
+        quote_is kids rest (laid_is kids) (laid_is rest) width k ts lines (room width 2 (capped (least_of o kids + 2)))
     laid_is (bullets items rest) width k ts lines = list_is items rest (items_are items) (laid_is rest) width 2
         (capped (least_of_items o items + 2)) None k ts lines
     laid_is (numbers first items rest) width k ts lines =

@@ -14,6 +14,9 @@ decreases-lay_blocks l = 4 * blocks_weight l.blocks.now + 1
 abbrev pub decreases-lay_block : goal.decreases-lay_block
 decreases-lay_block l = 4 * weight l.block.now
 
+abbrev pub decreases-lay_quote : goal.decreases-lay_quote
+decreases-lay_quote l = 4 * blocks_weight l.blocks.now + 2
+
 abbrev pub decreases-lay_list : goal.decreases-lay_list
 decreases-lay_list l = 4 * items_weight l.items.now + 1
 
