@@ -4,5 +4,6 @@ pub mod InlineLemmas
 pub mod LaidLines
 pub mod ListLemmas
 pub mod ParagraphLines
+pub mod QuoteSteps
 pub mod SaidRuns
 pub mod SayingSteps

@@ -1,16 +1,20 @@
-use Rattle.std.proofs.Common.{rules, ◌≡◌, ◌≤◌, ◌+◌, suc, None, Some, sym, ap, ◌∙◌, arith}
+use Rattle.std.proofs.Common.{rules, ◌≡◌, ◌≤◌, ◌+◌, suc, [], ◌++◌, map, None, Some, sym, ap, ◌∙◌, arith}
 use Rattle.std.specs.Option.{option_and_then}
+use Rattle.std.specs.Str.{chars}
 use Rattle.std.proofs.lemmas.Result.{on_ok_weaker}
-use Rattle.article_laying.specs.Seen.{at_of}
+use Rattle.article_laying.specs.Lines.{line_of}
+use Rattle.article_laying.specs.Seen.{at_of, lines_of}
 use Rattle.article_laying.specs.Settings.{options_of}
 use Rattle.article_laying.specs.Walks.{laid, laid_items, parted_at}
-use Rattle.article_layout.specs.Layouts.{how_many, least_of_items, room_of_numbers}
-use Rattle.article_values.specs.Views.{block_view, held, items_view}
+use Rattle.article_layout.specs.Layouts.{how_many, least_of, least_of_items, parted, prefixed, quote_prefix}
+use Rattle.article_layout.specs.Layouts.{room, room_of_numbers}
+use Rattle.article_values.specs.Views.{block_view, blocks_view, held, items_view}
 use Rattle.article_values.proofs.VariantViews.{seen_bullets, seen_numbers}
 use Rattle.article_values.proofs.Weights.{blocks_weight, items_weight, one_of, weight, weight_of_bullets}
 use Rattle.article_values.proofs.Weights.{weight_of_numbers}
 use Rattle.render_sizes.specs.Extents.{capped}
 use Rattle.article_laying.proofs.ListLemmas.{items_counted}
+use Rattle.article_laying.proofs.QuoteSteps.{quoted}
 use Rattle.article_laying.proofs.blocks.+laying.Goals as goal
 
 pub lay_blocks-lay_block-requires : goal.lay_blocks-lay_block-requires
@@ -100,3 +104,23 @@ lay_block-returns-in_ok-columns-in-Numbers-clause-narrow t c =
     ∙ ap (λ xs. laid_items (options_of c.args.room.options) c.args.room.width c.in_ok-columns-in-Numbers.columns (capped (least_of_items (options_of c.args.room.options) (items_view xs)
     + c.in_ok-columns-in-Numbers.columns)) (Some (held c.in-Numbers.first)) (items_view xs)
     (parted_at (options_of c.args.room.options) c.args.room.width (at_of c.args.lines.now c.args.behind.now))) (sym c.as_slice-in-Numbers.ensures.value) ∙ c.lay_list-in-Numbers.ensures.narrow e)
+
+pub lay_quote-returns-clause-done : goal.lay_quote-returns-clause-done
+unfolding chars
+lay_quote-returns-clause-done t c =
+    let o = options_of c.args.room.options in
+    let w = c.args.room.width in
+    let seen = blocks_view c.args.blocks.now in
+    let s = at_of c.args.lines.now c.args.behind.now in
+    let inner = at_of c.lay_blocks.new.lines c.lay_blocks.new.behind in
+    let room_of = c.in_ok-within.within in
+    let least : c.saturating_add-least.result ≡ capped (least_of o seen + 2) = search (rules) in
+    quoted o w (capped (least_of o seen + 2)) room_of.width (λ within. laid o within seen) s inner
+    (lines_of c.append_behind.new.self)
+    (ap (room w 2) (sym least) ∙ c.in_ok-within.ensures.room)
+    (ap (λ opts. laid (options_of opts) room_of.width seen (record s { lines = [] })) (sym c.in_ok-within.ensures.options)
+    ∙ ap (λ ls. laid (options_of room_of.options) room_of.width seen (record s { lines = ls })) (sym c.new-own.ensures)
+    ∙ c.in_ok-lay_blocks.ensures.done)
+    (c.in_ok-append_behind.ensures
+    ∙ ap (λ ls. ls ++ prefixed o w quote_prefix quote_prefix (map line_of c.into_lines.result.items)) c.in_ok-part.ensures
+    ∙ ap (λ ls. parted o w (lines_of c.args.lines.now) ++ prefixed o w quote_prefix quote_prefix ls) c.into_lines.ensures)
