@@ -87,7 +87,7 @@ inline_name : (kind : Inline) (linked : Bool) (name : List ℕ) (attributes : Li
     IsInline kind linked name attributes kids → NoReturn name
 inline_name kinds.line_break linked name attributes kids h = ap (is_in 13) h.0
 inline_name kinds.mark linked name attributes kids h =
-    for_one NoReturn marks name (refl, (refl, (refl, (refl, tt)))) h.0
+    for_one NoReturn marks name (refl, (refl, (refl, (refl, (refl, tt))))) h.0
 inline_name kinds.link linked name attributes kids h = ap (is_in 13) h.0
 
 inline_attributes : (kind : Inline) (linked : Bool) (name : List ℕ) (attributes : List Attribute) (kids : Content) →
