@@ -38,6 +38,7 @@ fit = ind-Block Fits (λ x y is. λ rest h. subst (λ view. NumbersFit (view res
     by (Block-F.Paragraph inlines) rest h = h
     by (Block-F.Heading level inlines) rest h = h
     by (Block-F.Division blocks) rest h = (all_fit blocks.items, h)
+    by (Block-F.Quote blocks) rest h = (all_fit blocks.items, h)
     by (Block-F.Bullets items) rest h = (items_fit _ _ (λ v. v.items) (λ v. refl) items.items, h)
     by (Block-F.Numbers first items) rest h = (held_fits first, (items_fit _ _ (λ v. v.items) (λ v. refl) items.items, h))
 
