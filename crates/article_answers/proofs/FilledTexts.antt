@@ -2,7 +2,7 @@
 use Rattle.std.proofs.Common.{◌≡◌, ℕ, suc, Bool, true, false, not, List, [], ◌∷◌, Option, None}
 use Rattle.std.specs.Option.{option_or}
 use Rattle.article_values.specs.Articles.{Blocks, Inlines, Items, bullets, division, heading, item, line_break, link}
-use Rattle.article_values.specs.Articles.{no_blocks, no_inlines, no_items, numbers, paragraph, span, words}
+use Rattle.article_values.specs.Articles.{no_blocks, no_inlines, no_items, numbers, paragraph, quote, span, words}
 use Rattle.article_values.specs.Faults.{fault_of_blocks, fault_of_inlines, fault_of_items, fault_of_title, fault_where}
 use Rattle.article_values.specs.Faults.{first_fault}
 use Rattle.article_values.specs.Faults.{has_forbidden, has_item, is_level, is_too_deep}
@@ -52,6 +52,11 @@ mutual
       (passed (is_too_deep d) TooDeep (option_or within (fault_of_blocks d rest)) a.1).1 in
       (inlines_filled (suc d) false false is e.0, blocks_filled d rest e.1)
   blocks_filled d (division kids rest) h =
+      let within = fault_of_blocks (suc d) kids in
+      let e = both_none within (fault_of_blocks d rest)
+      (passed (is_too_deep d) TooDeep (option_or within (fault_of_blocks d rest)) h).1 in
+      (blocks_filled (suc d) kids e.0, blocks_filled d rest e.1)
+  blocks_filled d (quote kids rest) h =
       let within = fault_of_blocks (suc d) kids in
       let e = both_none within (fault_of_blocks d rest)
       (passed (is_too_deep d) TooDeep (option_or within (fault_of_blocks d rest)) h).1 in
