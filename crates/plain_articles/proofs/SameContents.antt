@@ -36,7 +36,8 @@ content_stays (plain.span style kids rest) =
     (name_stays style)
     ∙ in_element (plain_name style) [] _ _ _ _ (content_stays kids) (content_stays rest)
 content_stays (link target kids rest) =
-    in_element (codes "a") (in_no_namespace (codes "href") target ∷ []) _ _ _ _ (content_stays kids) (content_stays rest)
+    in_element (codes "a") (in_no_namespace (codes "href") target ∷ []) _ _ _ _ (content_stays kids)
+    (content_stays rest)
 
 mutual
   pub contents_stay : (blocks : PlainBlocks) → content_of_blocks (wide_blocks blocks) ≡ content_of_plain_blocks blocks

@@ -242,7 +242,8 @@ module _ (o : Options) where
     lay_stays width k n (division kids rest) lines =
         rest_stays width k n rest (λ k n lines. lay_stays width k n rest lines)
         (wide.count (wide_blocks kids)) (count kids) (wide.targets_of o (wide_blocks kids)) (targets_of o kids)
-        (wide.lay o width k n (wide_blocks kids) lines) (lay o width k n kids lines) (count_stays kids) (links_stay kids)
+        (wide.lay o width k n (wide_blocks kids) lines) (lay o width k n kids lines) (count_stays kids)
+        (links_stay kids)
         (lay_stays width k n kids lines)
     lay_stays width k n (bullets items rest) lines =
         rest_stays width k n rest (λ k n lines. lay_stays width k n rest lines)
@@ -281,7 +282,8 @@ module _ (o : Options) where
     lay_items_stay width k n columns least at (item kids rest) lines =
         let put : List Line → List Line =
         λ new. lines ++ prefixed o width (to_room columns (item_prefix at)) (spaces columns) new in
-        let laid : Option (List Line) = option_and_then (λ within. lay o within k n kids []) (room width columns least) in
+        let laid : Option (List Line) = option_and_then (λ within. lay o within k n kids [])
+        (room width columns least) in
         ap (option_and_then (λ new. wide.lay_items o width (k + wide.count (wide_blocks kids))
         (n + length (wide.targets_of o (wide_blocks kids))) columns least (next_number at) (wide_items rest) (put new)))
         (then_same _ _ (λ within. lay_stays within k n kids []) (room width columns least))
@@ -298,7 +300,8 @@ module _ (o : Options) where
       if o.footnotes && is_filled targets then parted o width lines ++ notes o width targets else lines
 
   layout_stays : (width : ℕ) (blocks : PlainBlocks) →
-      option_map (with_notes width (wide.targets_of o (wide_blocks blocks))) (wide.lay o width 0 0 (wide_blocks blocks) [])
+      option_map (with_notes width (wide.targets_of o (wide_blocks blocks)))
+      (wide.lay o width 0 0 (wide_blocks blocks) [])
       ≡ option_map (with_notes width (targets_of o blocks)) (lay o width 0 0 blocks [])
   layout_stays width blocks =
       ap (λ t. option_map (with_notes width t) (wide.lay o width 0 0 (wide_blocks blocks) [])) (links_stay blocks)
