@@ -79,6 +79,7 @@ fn all_off() -> RenderOptions {
         fence_tables: false,
         wrap_links: false,
         include_link_footnotes: false,
+        shared_footnotes: false,
         use_unicode_strikeout: false,
         img_mode: ImageRenderMode::IgnoreEmpty,
     }

@@ -13,6 +13,7 @@ default_options = record {
   fence_tables = false;
   wrap_links = true;
   include_link_footnotes = false;
+  shared_footnotes = false;
   use_unicode_strikeout = true;
   img_mode = IgnoreEmpty;
 }

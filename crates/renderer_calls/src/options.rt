@@ -19,6 +19,8 @@ pub struct RenderOptions {
     pub wrap_links: bool,
     /// Whether the targets of links stand behind the text.
     pub include_link_footnotes: bool,
+    /// Whether links to equal targets share one number and one footnote, where targets stand behind the text.
+    pub shared_footnotes: bool,
     /// Whether U+0336 strikes out each character of struck text.
     pub use_unicode_strikeout: bool,
     /// How an image with an empty title is rendered.
@@ -56,6 +58,7 @@ impl Default for RenderOptions {
             fence_tables: false,
             wrap_links: true,
             include_link_footnotes: false,
+            shared_footnotes: false,
             use_unicode_strikeout: true,
             img_mode: ImageRenderMode::IgnoreEmpty,
         }
