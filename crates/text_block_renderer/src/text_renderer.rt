@@ -7,6 +7,7 @@ ghost use Rattle.text_block_renderer.specs.contracts.text_renderer.TextRenderer.
 ghost use Rattle.block_renderer.specs.contracts.sub_renderer.SubRenderer.{the_row as sub_row};
 
 use block_renderer::{Renderer, SubRenderer};
+use link_targets::LinkTargets;
 use std::alloc::{AllocError, Global};
 use std::mem;
 use text_decorators::TextDecorator;
@@ -19,7 +20,7 @@ pub struct TextRenderer<D: TextDecorator> {
     /// Those below the current one, the whole page's first.
     below: Vec<SubRenderer<D>>,
     current: SubRenderer<D>,
-    links: Vec<String>,
+    links: LinkTargets,
     failed: bool,
 }
 
@@ -30,7 +31,7 @@ impl<D: TextDecorator + Drop> TextRenderer<D> {
     ghost use Rattle.text_block_renderer.specs.Parts.{begin_part_link, finish_part_link, add_part_number};
     ghost use Rattle.text_block_renderer.specs.SeenParts.{parts_of, page_has_failed, current_has_failed};
     ghost use Rattle.text_block_renderer.specs.SeenParts.{with_current_renderer, PartsCome, PartsFail};
-    ghost use Rattle.text_pieces.specs.Sources.{names};
+    ghost use Rattle.link_targets.specs.Links.{is_shared, targets_of};
 
     /// A renderer of a page, of which no part has begun.
     pub fn new(alloc: Global, sub: SubRenderer<D>) -> TextRenderer<D>
@@ -38,10 +39,11 @@ impl<D: TextDecorator + Drop> TextRenderer<D> {
         ensures works { page_has_failed result ≡ false }
         ensures current { current_has_failed result ≡ has_failed sub }
     {
+        let shared = sub.options.shared_footnotes;
         TextRenderer {
             below: Vec::new(alloc),
             current: sub,
-            links: Vec::new(alloc),
+            links: LinkTargets::new(alloc, shared),
             failed: false,
         }
     }
@@ -137,11 +139,12 @@ impl<D: TextDecorator + Drop> TextRenderer<D> {
         mem::replace(&mut self.current, below)
     }
 
-    /// The renderer of the whole page, and the targets of its links in order. No part may stand.
-    pub fn into_inner(self) -> (SubRenderer<D>, Vec<String>)
+    /// The renderer of the whole page, and the targets of its links. No part may stand.
+    pub fn into_inner(self) -> (SubRenderer<D>, LinkTargets)
         requires { depth_of (parts_of D.Annotation.seen D.held self) ≡ 1 }
         ensures sub { sub_of D.Annotation.seen D.held result.0 ≡ (parts_of D.Annotation.seen D.held self).current }
-        ensures links { names result.1.items ≡ (parts_of D.Annotation.seen D.held self).targets }
+        ensures links { targets_of result.1 ≡ (parts_of D.Annotation.seen D.held self).targets }
+        ensures shared { is_shared result.1 ≡ (parts_of D.Annotation.seen D.held self).shared }
         ensures failed { has_failed result.0 ≡ current_has_failed self }
     {
         let TextRenderer { current, links, .. } = self;
@@ -185,13 +188,12 @@ impl<D: TextDecorator + Drop> TextRenderer<D> {
             ≡ (parts_of D.Annotation.seen D.held self.old).below }
     {
         self.current.start_link(target)?;
-        let name = String::from_str(*self.links.allocator(), target)?;
-        self.links.push(name)?;
+        self.links.push(target)?;
         Ok(())
     }
 
-    /// A link ends; behind it stands its number in brackets, where the targets of links stand behind the page. Refused
-    /// as `start_link`.
+    /// A link ends; behind it stands its footnote's number in brackets, where the targets of links stand behind the page.
+    /// Refused as `start_link`.
     pub fn end_link(&mut self) -> Result<(), BlockError>
         ensures refused { is_err result ≡ page_has_failed self.new }
         ensures failed { page_has_failed self.old ≡ true → result ≡ Err errors.Failed }
@@ -230,7 +232,7 @@ impl<D: TextDecorator + Drop> TextRenderer<D> {
         self.add_number()
     }
 
-    /// The number of the last link, where the targets of links stand behind the page.
+    /// The number of the last link's footnote, where the targets of links stand behind the page.
     fn add_number(&mut self) -> Result<(), BlockError>
         ensures kinds { current_has_failed self.old ≡ false
             → IfErr result (λ e. (e ≡ errors.TooNarrow) ⊎ (e ≡ errors.Memory)) }
@@ -245,7 +247,7 @@ impl<D: TextDecorator + Drop> TextRenderer<D> {
         if !self.current.options.include_link_footnotes {
             return Ok(());
         }
-        let mark = footnote_mark(*self.links.allocator(), self.links.len())?;
+        let mark = footnote_mark(*self.below.allocator(), self.links.last_number())?;
         self.current.add_inline_text(mark.as_str())
     }
 }

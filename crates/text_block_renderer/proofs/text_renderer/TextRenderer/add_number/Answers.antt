@@ -1,5 +1,4 @@
-use Rattle.std.proofs.Common.{Some, None, chars, string_bytes, ap, ◌∙◌, arith}
-use Rattle.std.proofs.lemmas.List.{length-map}
+use Rattle.std.proofs.Common.{Some, None, chars, ap, ◌∙◌}
 use Rattle.std.proofs.lemmas.Result.{on_ok_weaker}
 use Rattle.block_renderer.specs.Seen.{sub_of, marking}
 use Rattle.text_block_renderer.specs.SeenParts.{parts_of}
@@ -12,13 +11,8 @@ returns-clause-done g c =
     let d = g.D.TextDecorator in
     on_ok_weaker c.add_inline_text.result (λ h. λ tag p.
     number_added (marking d.text tag d.marks d.after d.pops d.sub)
-    (parts_of seen d.held c.args.self.now) c.len.result (chars c.as_str.result.now) (Some (sub_of seen d.held c.add_inline_text.new.self)) c.if-not-self.false
-    (omega (
-      arith,
-      c.len.ensures,
-      c.args.self.now.links.ok.0,
-      length-map c.args.self.now.links.items (λ name. chars (string_bytes name)),
-    ))
+    (parts_of seen d.held c.args.self.now) c.last_number.result (chars c.as_str.result.now) (Some (sub_of seen d.held c.add_inline_text.new.self)) c.if-not-self.false
+    c.last_number.ensures
     (ap chars c.as_str.ensures.value ∙ c.in_ok-mark.ensures) (h tag p))
     c.add_inline_text.ensures.outcome.done
 
@@ -27,12 +21,7 @@ returns-clause-narrow g c = λ e. λ tag p.
     let seen = g.D.Annotation.EqualCopy.seen in
     let d = g.D.TextDecorator in
     number_added (marking d.text tag d.marks d.after d.pops d.sub)
-    (parts_of seen d.held c.args.self.now) c.len.result (chars c.as_str.result.now) None c.if-not-self.false
-    (omega (
-      arith,
-      c.len.ensures,
-      c.args.self.now.links.ok.0,
-      length-map c.args.self.now.links.items (λ name. chars (string_bytes name)),
-    ))
+    (parts_of seen d.held c.args.self.now) c.last_number.result (chars c.as_str.result.now) None c.if-not-self.false
+    c.last_number.ensures
     (ap chars c.as_str.ensures.value ∙ c.in_ok-mark.ensures)
     (c.add_inline_text.ensures.outcome.narrow e tag p)
