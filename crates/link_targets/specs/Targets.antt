@@ -1,6 +1,7 @@
 -- The targets of links, in order: which of them have a footnote, and the number behind a link.
-use Rattle.std.specs.Prelude.{ℕ, ◌+◌, Bool, List, [], ◌∷◌, ◌++◌, Option, None, Some, fold, length, nat_eq, pointwise}
+use Rattle.std.specs.Prelude.{ℕ, ◌+◌, Bool, List, [], ◌∷◌, ◌++◌, Option, None, Some, fold, length, nat_eq}
 use Rattle.std.specs.Prelude.{if◌then◌else◌}
+use Rattle.std.specs.Cmp.Lexicographic.{pointwise}
 use Rattle.std.specs.List.{last_or, list_any, position_or_len}
 
 -- equal code point by code point
