@@ -4,6 +4,7 @@ use Rattle.std.specs.Prelude.{None, Some, if◌then◌else◌}
 use Rattle.std.specs.Option.{option_and_then, option_map}
 use Rattle.block_layout.specs.Laid.{Laid, add_block, add_text_lines, end_block, flush, nothing_laid, start_block}
 use Rattle.footnote_lines.specs.Footnotes.{footnote_lines}
+use Rattle.link_targets.specs.Targets.{noted_targets}
 use Rattle.tagged_lines.specs.Tagged.{tagged}
 use Rattle.text_decorators.specs.Texts.{footnote_text}
 use Rattle.render_laying.specs.Items.{spaces}
@@ -20,45 +21,46 @@ abbrev pub append : Options → (width within : ℕ) → List ℕ → List ℕ �
 append o width within first following sub b =
     add_block (measure o within) (measure o width) outermost first following sub.lines b
 
+-- behind links to these targets
 abbrev mutual
-  pub run_blocks : Options → (width links : ℕ) → Blocks → Laid Tag → Option (Laid Tag)
-  run_blocks o width n no_blocks b = Some b
-  run_blocks o width n (paragraph is rest) b =
-      option_and_then (λ b. run_blocks o width (n + length (targets_in o is)) rest (end_block b))
-      (option_and_then (run (measure o width) (parts_of o outermost n is)) (start_block (measure o width) outermost b))
-  run_blocks o width n (heading level is rest) b = let prefix = replicate level 0x23 ++ codes " " in
+  pub run_blocks : Options → ℕ → List (List ℕ) → Blocks → Laid Tag → Option (Laid Tag)
+  run_blocks o width ts no_blocks b = Some b
+  run_blocks o width ts (paragraph is rest) b =
+      option_and_then (λ b. run_blocks o width (ts ++ targets_in o is) rest (end_block b))
+      (option_and_then (run (measure o width) (parts_of o outermost ts is)) (start_block (measure o width) outermost b))
+  run_blocks o width ts (heading level is rest) b = let prefix = replicate level 0x23 ++ codes " " in
       option_and_then (λ within. option_and_then (λ sub. option_and_then
-      (λ b. run_blocks o width (n + length (targets_in o is)) rest (end_block (append o width within prefix prefix sub b)))
+      (λ b. run_blocks o width (ts ++ targets_in o is) rest (end_block (append o width within prefix prefix sub b)))
       (start_block (measure o width) outermost b))
-      (run_whole (measure o within) (parts_of o outermost n is) nothing_laid))
+      (run_whole (measure o within) (parts_of o outermost ts is) nothing_laid))
       (room width (level + 1) (capped (least_in o is + (level + 1))))
-  run_blocks o width n (division kids rest) b =
-      option_and_then (run_blocks o width (n + length (targets_of o kids)) rest)
+  run_blocks o width ts (division kids rest) b =
+      option_and_then (run_blocks o width (ts ++ targets_of o kids) rest)
       (option_and_then (flush (measure o width) outermost)
-      (option_and_then (run_blocks o width n kids) (flush (measure o width) outermost b)))
-  run_blocks o width n (quote kids rest) b = option_and_then (λ within. option_and_then (λ sub. option_and_then
-      (λ b. run_blocks o width (n + length (targets_of o kids)) rest
+      (option_and_then (run_blocks o width ts kids) (flush (measure o width) outermost b)))
+  run_blocks o width ts (quote kids rest) b = option_and_then (λ within. option_and_then (λ sub. option_and_then
+      (λ b. run_blocks o width (ts ++ targets_of o kids) rest
       (end_block (append o width within quote_prefix quote_prefix sub b)))
       (start_block (measure o width) outermost b))
-      (option_and_then (flush (measure o within) outermost) (run_blocks o within n kids nothing_laid)))
+      (option_and_then (flush (measure o within) outermost) (run_blocks o within ts kids nothing_laid)))
       (room width 2 (capped (least_of o kids + 2)))
-  run_blocks o width n (bullets items rest) b =
-      option_and_then (run_blocks o width (n + length (targets_of_items o items)) rest)
-      (option_and_then (run_items o width n 2 (capped (least_of_items o items + 2)) None items)
+  run_blocks o width ts (bullets items rest) b =
+      option_and_then (run_blocks o width (ts ++ targets_of_items o items) rest)
+      (option_and_then (run_items o width ts 2 (capped (least_of_items o items + 2)) None items)
       (start_block (measure o width) outermost b))
-  run_blocks o width n (numbers first items rest) b = let columns = room_of_numbers first (how_many items) in
-      option_and_then (run_blocks o width (n + length (targets_of_items o items)) rest)
-      (option_and_then (run_items o width n columns (capped (least_of_items o items + columns)) (Some first) items)
+  run_blocks o width ts (numbers first items rest) b = let columns = room_of_numbers first (how_many items) in
+      option_and_then (run_blocks o width (ts ++ targets_of_items o items) rest)
+      (option_and_then (run_items o width ts columns (capped (least_of_items o items + columns)) (Some first) items)
       (start_block (measure o width) outermost b))
 
-  pub run_items : Options → (width links columns least : ℕ) → Option ℤ → Items → Laid Tag → Option (Laid Tag)
-  run_items o width n columns least at no_items b = Some b
-  run_items o width n columns least at (item kids rest) b =
+  pub run_items : Options → ℕ → List (List ℕ) → (columns least : ℕ) → Option ℤ → Items → Laid Tag → Option (Laid Tag)
+  run_items o width ts columns least at no_items b = Some b
+  run_items o width ts columns least at (item kids rest) b =
       option_and_then (λ within. option_and_then (λ sub. option_and_then
-      (λ b. run_items o width (n + length (targets_of o kids)) columns least (next_number at) rest
+      (λ b. run_items o width (ts ++ targets_of o kids) columns least (next_number at) rest
       (append o width within (to_room columns (item_prefix at)) (spaces columns) sub b))
       (flush (measure o width) outermost b))
-      (option_and_then (flush (measure o within) outermost) (run_blocks o within n kids nothing_laid)))
+      (option_and_then (flush (measure o within) outermost) (run_blocks o within ts kids nothing_laid)))
       (room width columns least)
 
 -- whether the next text would start a block
@@ -88,4 +90,4 @@ run_notes o width (target ∷ targets) b = option_map (add_notes o width 1 (targ
 
 -- those that stand there
 abbrev pub noted : Options → List (List ℕ) → List (List ℕ)
-noted o targets = if o.footnotes then targets else []
+noted o targets = if o.footnotes then noted_targets o.shares_footnotes targets else []

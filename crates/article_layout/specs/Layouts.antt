@@ -7,6 +7,7 @@ use Rattle.std.specs.Fmt.{decimal, signed_decimal}
 use Rattle.std.specs.List.{list_all, list_any}
 use Rattle.std.specs.Option.{option_map, option_and_then}
 use Rattle.footnote_lines.specs.Footnotes.{footnote_lines}
+use Rattle.link_targets.specs.Targets.{last_number, noted_targets}
 use Rattle.normal_text.specs.Riders.{has_wide_text, normal_lines}
 use Rattle.tagged_lines.specs.Tagged.{Item, tagged}
 use Rattle.text_decorators.specs.Texts.{footnote_text}
@@ -26,6 +27,7 @@ pub record Options : Type 0 where
   pub pads : Bool
   pub decorates : Bool
   pub footnotes : Bool
+  pub shares_footnotes : Bool
   pub wraps_links : Bool
   pub min_wrap_width : ℕ
 
@@ -116,21 +118,24 @@ pub data Part : Type 0 where
   says : List ℕ → Tag → Part
   breaks : Tag → Part
 
-abbrev pub number_mark : Options → ℕ → List ℕ
-number_mark o n = if o.footnotes then codes "[" ++ decimal n ++ codes "]" else []
+-- the number of the last link's footnote, where there are footnotes
+abbrev pub number_mark : Options → List (List ℕ) → List ℕ
+number_mark o ts =
+    if o.footnotes then codes "[" ++ decimal (last_number o.shares_footnotes ts) ++ codes "]" else []
 
--- within so many annotations, behind so many links
-abbrev pub parts_of : Options → Tag → ℕ → Inlines → List Part
-parts_of o d n no_inlines = []
-parts_of o d n (words cs rest) = says cs d ∷ parts_of o d n rest
-parts_of o d n (line_break rest) = breaks d ∷ parts_of o d n rest
-parts_of o d n (span style kids rest) = says (mark_of o style) (within d)
-    ∷ (parts_of o (within d) n kids ++ says (mark_of o style) (within d)
-    ∷ parts_of o d (n + length (targets_in o kids)) rest)
-parts_of o d n (link target kids rest) = let behind = n + suc (length (targets_in o kids)) in
+-- within so many annotations, behind links to these targets
+abbrev pub parts_of : Options → Tag → List (List ℕ) → Inlines → List Part
+parts_of o d ts no_inlines = []
+parts_of o d ts (words cs rest) = says cs d ∷ parts_of o d ts rest
+parts_of o d ts (line_break rest) = breaks d ∷ parts_of o d ts rest
+parts_of o d ts (span style kids rest) = says (mark_of o style) (within d)
+    ∷ (parts_of o (within d) ts kids ++ says (mark_of o style) (within d)
+    ∷ parts_of o d (ts ++ targets_in o kids) rest)
+parts_of o d ts (link target kids rest) = let behind = ts ++ target ∷ targets_in o kids in
     unless_shallow (all_shallow o kids) (says (codes "[") (within d)
-    ∷ (parts_of o (within d) (suc n) kids ++ says (codes "]") (within d) ∷ says (number_mark o behind) d ∷ []))
-    ++ parts_of o d (if all_shallow o kids then n else behind) rest
+    ∷ (parts_of o (within d) (ts ++ target ∷ []) kids
+    ++ says (codes "]") (within d) ∷ says (number_mark o behind) d ∷ []))
+    ++ parts_of o d (if all_shallow o kids then ts else behind) rest
 
 -- what is said between two breaks, or up to the end: the annotations under which it begins, by an empty text too, and
 -- those under which it ends
@@ -197,8 +202,9 @@ abbrev pub if_fits : {A : Type 0} → Bool → A → Option A
 if_fits true a = Some a
 if_fits false a = None
 
-abbrev pub paragraph_lines : Options → (width number links : ℕ) → Inlines → Option (List Line)
-paragraph_lines o width k n is = let ss = stretches None [] (parts_of o outermost n is) in
+-- behind links to these targets
+abbrev pub paragraph_lines : Options → (width number : ℕ) → List (List ℕ) → Inlines → Option (List Line)
+paragraph_lines o width k ts is = let ss = stretches None [] (parts_of o outermost ts is) in
     if_fits (all_fit o width ss) (lines_of_stretches o width k ss)
 
 -- ---- sizes: the least width that a part asks for
@@ -278,46 +284,46 @@ to_room n cs = cs ++ spaces (n - length cs)
 abbrev pub next_number : Option ℤ → Option ℤ
 next_number at = option_map (λ z. number_after z 1) at
 
--- the lines behind those of a part, from a paragraph of a number on, behind so many links
+-- the lines behind those of a part, from a paragraph of a number on, behind links to these targets
 abbrev mutual
-  pub lay : Options → (width number links : ℕ) → Blocks → List Line → Option (List Line)
-  lay o width k n no_blocks lines = Some lines
-  lay o width k n (paragraph is rest) lines =
-      option_and_then (λ new. lay o width (suc k) (n + length (targets_in o is)) rest (parted o width lines ++ new))
-      (paragraph_lines o width k n is)
-  lay o width k n (heading level is rest) lines = let prefix = replicate level 0x23 ++ codes " " in
-      option_and_then (λ new. lay o width (suc k) (n + length (targets_in o is)) rest
+  pub lay : Options → (width number : ℕ) → List (List ℕ) → Blocks → List Line → Option (List Line)
+  lay o width k ts no_blocks lines = Some lines
+  lay o width k ts (paragraph is rest) lines =
+      option_and_then (λ new. lay o width (suc k) (ts ++ targets_in o is) rest (parted o width lines ++ new))
+      (paragraph_lines o width k ts is)
+  lay o width k ts (heading level is rest) lines = let prefix = replicate level 0x23 ++ codes " " in
+      option_and_then (λ new. lay o width (suc k) (ts ++ targets_in o is) rest
       (parted o width lines ++ prefixed o width prefix prefix new))
-      (option_and_then (λ within. paragraph_lines o within k n is)
+      (option_and_then (λ within. paragraph_lines o within k ts is)
       (room width (level + 1) (capped (least_in o is + (level + 1)))))
-  lay o width k n (division kids rest) lines =
-      option_and_then (lay o width (k + count kids) (n + length (targets_of o kids)) rest) (lay o width k n kids lines)
-  lay o width k n (quote kids rest) lines =
-      option_and_then (λ new. lay o width (k + count kids) (n + length (targets_of o kids)) rest
+  lay o width k ts (division kids rest) lines =
+      option_and_then (lay o width (k + count kids) (ts ++ targets_of o kids) rest) (lay o width k ts kids lines)
+  lay o width k ts (quote kids rest) lines =
+      option_and_then (λ new. lay o width (k + count kids) (ts ++ targets_of o kids) rest
       (parted o width lines ++ prefixed o width quote_prefix quote_prefix new))
-      (option_and_then (λ within. lay o within k n kids []) (room width 2 (capped (least_of o kids + 2))))
-  lay o width k n (bullets items rest) lines =
-      option_and_then (lay o width (k + count_items items) (n + length (targets_of_items o items)) rest)
-      (lay_items o width k n 2 (capped (least_of_items o items + 2)) None items (parted o width lines))
-  lay o width k n (numbers first items rest) lines = let columns = room_of_numbers first (how_many items) in
-      option_and_then (lay o width (k + count_items items) (n + length (targets_of_items o items)) rest)
-      (lay_items o width k n columns (capped (least_of_items o items + columns)) (Some first) items (parted o width lines))
+      (option_and_then (λ within. lay o within k ts kids []) (room width 2 (capped (least_of o kids + 2))))
+  lay o width k ts (bullets items rest) lines =
+      option_and_then (lay o width (k + count_items items) (ts ++ targets_of_items o items) rest)
+      (lay_items o width k ts 2 (capped (least_of_items o items + 2)) None items (parted o width lines))
+  lay o width k ts (numbers first items rest) lines = let columns = room_of_numbers first (how_many items) in
+      option_and_then (lay o width (k + count_items items) (ts ++ targets_of_items o items) rest)
+      (lay_items o width k ts columns (capped (least_of_items o items + columns)) (Some first) items (parted o width lines))
 
-  pub lay_items : Options → (width number links columns least : ℕ) → Option ℤ → Items → List Line →
+  pub lay_items : Options → (width number : ℕ) → List (List ℕ) → (columns least : ℕ) → Option ℤ → Items → List Line →
       Option (List Line)
-  lay_items o width k n columns least at no_items lines = Some lines
-  lay_items o width k n columns least at (item kids rest) lines =
-      option_and_then (λ new. lay_items o width (k + count kids) (n + length (targets_of o kids)) columns least
+  lay_items o width k ts columns least at no_items lines = Some lines
+  lay_items o width k ts columns least at (item kids rest) lines =
+      option_and_then (λ new. lay_items o width (k + count kids) (ts ++ targets_of o kids) columns least
       (next_number at) rest
       (lines ++ prefixed o width (to_room columns (item_prefix at)) (spaces columns) new))
-      (option_and_then (λ within. lay o within k n kids []) (room width columns least))
+      (option_and_then (λ within. lay o within k ts kids []) (room width columns least))
 
 -- the whole article: `footnotes` are the lines of targets
 abbrev pub layout : Options → (List (List ℕ) → List Line) → ℕ → Blocks → Option (List Line)
 layout o footnotes width blocks =
     option_map (λ lines. (if o.footnotes && is_filled (targets_of o blocks)
-    then parted o width lines ++ footnotes (targets_of o blocks) else lines))
-    (lay o width 0 0 blocks [])
+    then parted o width lines ++ footnotes (noted_targets o.shares_footnotes (targets_of o blocks)) else lines))
+    (lay o width 0 [] blocks [])
 
 -- ---- the targets behind the last block
 

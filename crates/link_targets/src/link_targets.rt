@@ -1,5 +1,5 @@
 //! The targets of links in order, with the numbers of their footnotes.
-ghost use Rattle.std.specs.Prelude.{◌≡◌, true};
+ghost use Rattle.std.specs.Prelude.{◌≡◌, ◌≤◌, length, take};
 ghost use Rattle.text_pieces.specs.Sources.{names};
 ghost use Rattle.link_targets.specs.Seen.{AreNumbered};
 
@@ -13,26 +13,27 @@ use std::collections::HashMap;
 pub struct LinkTargets {
     /// One for each link.
     targets: Vec<String>,
-    /// Whether links to equal targets share a footnote.
-    shared: bool,
-    /// The number of each target's footnote, where they are shared.
+    /// So many of them, the first ones, are numbered as those whose links share footnotes: none before a number is asked
+    /// for.
+    numbered: usize,
+    /// The number of each of these.
     numbers: HashMap<String, usize>,
-    ghost numbered: { shared ≡ true → AreNumbered (names targets.items) numbers },
+    ghost some: { numbered ≤ length targets.items },
+    ghost sound: { AreNumbered (take numbered (names targets.items)) numbers },
 }
 
 impl LinkTargets {
     ghost use Rattle.std.specs.Prelude.{◌++◌, ◌∷◌, [], IfOk, OnErr, OnOk, chars};
-    ghost use Rattle.link_targets.specs.Links.{is_shared, targets_of};
+    ghost use Rattle.link_targets.specs.Links.{targets_of};
     ghost use Rattle.link_targets.specs.Targets.{last_number, noted_targets};
 
     /// No link so far. It takes no memory.
-    pub fn new(alloc: Global, shared: bool) -> LinkTargets
-        ensures none { targets_of result ≡ [] }
-        ensures shared { is_shared result ≡ shared }
+    pub fn new(alloc: Global) -> LinkTargets
+        ensures { targets_of result ≡ [] }
     {
         LinkTargets {
             targets: Vec::new(alloc),
-            shared,
+            numbered: 0,
             numbers: HashMap::new(alloc),
         }
     }
@@ -41,43 +42,54 @@ impl LinkTargets {
     pub fn push(&mut self, target: &str) -> Result<(), AllocError>
         ensures pushed { OnOk result (targets_of self.new ≡ targets_of self.old ++ chars target.now ∷ []) }
         ensures err { OnErr result (targets_of self.new ≡ targets_of self.old) }
-        ensures shared { is_shared self.new ≡ is_shared self.old }
     {
         let text = String::from_str(*self.targets.allocator(), target)?;
-        self.targets.reserve(1)?;
-        if self.shared {
-            note(&mut self.numbers, &text)?;
-        }
         self.targets.push(text)?;
         Ok(())
     }
 
-    /// The number of the last link's footnote, from 1 on; 0 before the first link.
-    pub fn last_number(&self) -> usize
-        ensures { result ≡ last_number (is_shared self.now) (targets_of self.now) }
+    /// The number of the last link's footnote, from 1 on, where links to equal targets share a footnote or each link has
+    /// its own; 0 before the first link. The error is want of memory.
+    pub fn last_number(&mut self, shared: bool) -> Result<usize, AllocError>
+        ensures number { IfOk result (λ number. number ≡ last_number shared (targets_of self.old)) }
+        ensures stay { targets_of self.new ≡ targets_of self.old }
     {
-        if !self.shared {
-            return self.targets.len();
+        if !shared {
+            return Ok(self.targets.len());
         }
+        self.number_all()?;
         match self.targets.last() {
-            Some(target) => self.numbers.get(target).copied().unwrap_or(0),
-            None => 0,
+            Some(target) => Ok(self.numbers.get(target).copied().unwrap_or(0)),
+            None => Ok(0),
         }
     }
 
-    /// The targets that have footnotes, in the order of their numbers. The error is want of memory.
-    pub fn into_noted(self) -> Result<Vec<String>, AllocError>
-        ensures { IfOk result (λ noted. names noted.items ≡ noted_targets (is_shared self) (targets_of self)) }
+    /// The targets that have footnotes, in the order of their numbers, where links to equal targets share a footnote or
+    /// each link has its own. The error is want of memory.
+    pub fn into_noted(self, shared: bool) -> Result<Vec<String>, AllocError>
+        ensures { IfOk result (λ noted. names noted.items ≡ noted_targets shared (targets_of self)) }
     {
-        let LinkTargets {
-            targets,
-            shared,
-            numbers,
-        } = self;
+        let mut links = self;
         if shared {
-            each_once(targets, numbers)
-        } else {
-            Ok(targets)
+            links.number_all()?;
+            let LinkTargets {
+                targets, numbers, ..
+            } = links;
+            return each_once(targets, numbers);
         }
+        let LinkTargets { targets, .. } = links;
+        Ok(targets)
+    }
+
+    /// Numbers the targets that have no number yet: each once, however often numbers are asked for.
+    fn number_all(&mut self) -> Result<(), AllocError>
+        ensures numbered { OnOk result (AreNumbered (targets_of self.new) self.new.numbers) }
+        ensures stay { targets_of self.new ≡ targets_of self.old }
+    {
+        'more: while self.numbered < self.targets.len() {
+            note(&mut self.numbers, &self.targets[self.numbered])?;
+            self.numbered += 1;
+        }
+        Ok(())
     }
 }

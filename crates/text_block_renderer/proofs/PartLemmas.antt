@@ -19,13 +19,10 @@ last_of (z ∷ front) x y = last_of front x z
 pub parts_split : {H A : Type 0} (s t : Sub H A) (p q : Parts H A) → with_part s p ≡ with_part t q → (s ≡ t) × (p ≡ q)
 parts_split {H} {A} s t p q e = (
   ap (λ (r : Parts H A). r.current) e,
-  ap (λ below. record { below = below; current = p.current; targets = p.targets; shared = p.shared }) below_is
-      ∙ ap (λ current. record { below = q.below; current = current; targets = p.targets; shared = p.shared })
-      current_is
-      ∙ ap (λ targets. record { below = q.below; current = q.current; targets = targets; shared = p.shared })
-      (ap (λ (r : Parts H A). r.targets) e)
-      ∙ ap (λ shared. record { below = q.below; current = q.current; targets = q.targets; shared = shared })
-      (ap (λ (r : Parts H A). r.shared) e),
+  ap (λ below. record { below = below; current = p.current; targets = p.targets }) below_is
+      ∙ ap (λ current. record { below = q.below; current = current; targets = p.targets }) current_is
+      ∙ ap (λ targets. record { below = q.below; current = q.current; targets = targets })
+      (ap (λ (r : Parts H A). r.targets) e),
 )
   where
     below_is : p.below ≡ q.below
@@ -38,10 +35,10 @@ parts_split {H} {A} s t p q e = (
 
 -- the number of the last link is added
 pub number_added : {H A : Type 0} (m : Marking H A) (p : Parts H A) (n : ℕ) (cs : List ℕ) (o : Option (Sub H A))
-    → p.current.options.include_link_footnotes ≡ true → n ≡ last_number p.shared p.targets → cs ≡ footnote_mark n
+    → p.current.options.include_link_footnotes ≡ true → n ≡ last_number p.current.options.shared_footnotes p.targets → cs ≡ footnote_mark n
     → add_inline m cs p.current ≡ o → add_part_number m p ≡ option_map (with_current p) o
 number_added m p n cs o asked number mark added =
-    ap (λ t. option_map (with_current p) (if t then add_inline m (footnote_mark (last_number p.shared p.targets)) p.current
+    ap (λ t. option_map (with_current p) (if t then add_inline m (footnote_mark (last_number p.current.options.shared_footnotes p.targets)) p.current
     else Some p.current)) asked
     ∙ ap (λ k. option_map (with_current p) (add_inline m (footnote_mark k) p.current)) (sym number)
     ∙ ap (λ ds. option_map (with_current p) (add_inline m ds p.current)) (sym mark)

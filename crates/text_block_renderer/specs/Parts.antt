@@ -1,5 +1,5 @@
 -- Renderers of the parts of a page, one within the other.
-use Rattle.std.specs.Prelude.{ℕ, ◌+◌, Bool, List, [], ◌∷◌, ◌++◌, Option, Some, length, codes, if◌then◌else◌}
+use Rattle.std.specs.Prelude.{ℕ, ◌+◌, List, [], ◌∷◌, ◌++◌, Option, Some, length, codes, if◌then◌else◌}
 use Rattle.std.specs.Fmt.{decimal}
 use Rattle.std.specs.Option.{option_map, option_and_then}
 use Rattle.text_marks.specs.Marks.{link_start, link_end}
@@ -7,15 +7,14 @@ use Rattle.link_targets.specs.Targets.{last_number}
 use Rattle.renderer_calls.specs.Renderers.{Marking, Sub, add_inline, begin_link, finish_link}
 
 -- The renderers below the current one, the whole page's first; the current one, to which text goes; the targets of the
--- links so far, and whether links to equal targets share a footnote.
+-- links so far.
 pub record Parts (H A : Type 0) : Type 0 where
   pub below : List (Sub H A)
   pub current : Sub H A
   pub targets : List (List ℕ)
-  pub shared : Bool
 
 abbrev pub whole_page : {H A : Type 0} → Sub H A → Parts H A
-whole_page s = record { below = []; current = s; targets = []; shared = s.options.shared_footnotes }
+whole_page s = record { below = []; current = s; targets = [] }
 
 abbrev pub depth_of : {H A : Type 0} → Parts H A → ℕ
 depth_of p = length p.below + 1
@@ -41,7 +40,8 @@ abbrev pub numbered : {H A : Type 0} → Marking H A → ℕ → Sub H A → Opt
 numbered m n s = if s.options.include_link_footnotes then add_inline m (footnote_mark n) s else Some s
 
 abbrev pub add_part_number : {H A : Type 0} → Marking H A → Parts H A → Option (Parts H A)
-add_part_number m p = option_map (with_current p) (numbered m (last_number p.shared p.targets) p.current)
+add_part_number m p = option_map (with_current p)
+    (numbered m (last_number p.current.options.shared_footnotes p.targets) p.current)
 
 -- behind a link stands its number, where the targets of links stand behind the page
 abbrev pub finish_part_link : {H A : Type 0} → Marking H A → Parts H A → Option (Parts H A)

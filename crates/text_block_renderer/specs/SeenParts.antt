@@ -1,7 +1,7 @@
 -- What contracts see of a renderer of a page.
 use Rattle.std.specs.Prelude.{◌≡◌, ℕ, Bool, List, Option, None, Some, map}
 use Rattle.text_marks.specs.Marks.{Mark}
-use Rattle.link_targets.specs.Links.{is_shared, targets_of}
+use Rattle.link_targets.specs.Links.{targets_of}
 use Rattle.renderer_calls.specs.Renderers.{Marking}
 use Rattle.text_block_renderer.specs.Parts.{Parts}
 use Rattle.block_renderer.specs.Seen.{sub_of, marking, IsTagging}
@@ -13,7 +13,6 @@ parts_of seen held t = record {
   below = map (sub_of seen held) t.below.items;
   current = sub_of seen held t.current;
   targets = targets_of t.links;
-  shared = is_shared t.links;
 }
 
 abbrev pub page_has_failed : {D T : Type 0} → TextRenderer D T → Bool

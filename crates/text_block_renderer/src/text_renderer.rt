@@ -31,7 +31,7 @@ impl<D: TextDecorator + Drop> TextRenderer<D> {
     ghost use Rattle.text_block_renderer.specs.Parts.{begin_part_link, finish_part_link, add_part_number};
     ghost use Rattle.text_block_renderer.specs.SeenParts.{parts_of, page_has_failed, current_has_failed};
     ghost use Rattle.text_block_renderer.specs.SeenParts.{with_current_renderer, PartsCome, PartsFail};
-    ghost use Rattle.link_targets.specs.Links.{is_shared, targets_of};
+    ghost use Rattle.link_targets.specs.Links.{targets_of};
 
     /// A renderer of a page, of which no part has begun.
     pub fn new(alloc: Global, sub: SubRenderer<D>) -> TextRenderer<D>
@@ -39,11 +39,10 @@ impl<D: TextDecorator + Drop> TextRenderer<D> {
         ensures works { page_has_failed result ≡ false }
         ensures current { current_has_failed result ≡ has_failed sub }
     {
-        let shared = sub.options.shared_footnotes;
         TextRenderer {
             below: Vec::new(alloc),
             current: sub,
-            links: LinkTargets::new(alloc, shared),
+            links: LinkTargets::new(alloc),
             failed: false,
         }
     }
@@ -144,7 +143,6 @@ impl<D: TextDecorator + Drop> TextRenderer<D> {
         requires { depth_of (parts_of D.Annotation.seen D.held self) ≡ 1 }
         ensures sub { sub_of D.Annotation.seen D.held result.0 ≡ (parts_of D.Annotation.seen D.held self).current }
         ensures links { targets_of result.1 ≡ (parts_of D.Annotation.seen D.held self).targets }
-        ensures shared { is_shared result.1 ≡ (parts_of D.Annotation.seen D.held self).shared }
         ensures failed { has_failed result.0 ≡ current_has_failed self }
     {
         let TextRenderer { current, links, .. } = self;
@@ -247,7 +245,8 @@ impl<D: TextDecorator + Drop> TextRenderer<D> {
         if !self.current.options.include_link_footnotes {
             return Ok(());
         }
-        let mark = footnote_mark(*self.below.allocator(), self.links.last_number())?;
+        let number = self.links.last_number(self.current.options.shared_footnotes)?;
+        let mark = footnote_mark(*self.below.allocator(), number)?;
         self.current.add_inline_text(mark.as_str())
     }
 }
