@@ -110,6 +110,7 @@ fn line_options(config: &Config<PlainDecorator>) -> LineOptions
         pads: options.pad_block_width,
         decorates: config.decorates(),
         footnotes: options.include_link_footnotes,
+        shares_footnotes: options.shared_footnotes,
         wraps_links: options.wrap_links,
         min_wrap_width: config.narrowest_wrap(),
     }

@@ -1,5 +1,5 @@
 -- What contracts see of an article's lines, while they are laid out and when they are told.
-use Rattle.std.specs.Prelude.{ℕ, List, Option, Some, String, Vec, filter, map, not}
+use Rattle.std.specs.Prelude.{ℕ, List, Option, Some, Vec, filter, map, not}
 use Rattle.article_laying.specs.declared.layout.ArticleLine.{ArticleLine}
 use Rattle.article_laying.specs.declared.line_list.LineList.{LineList}
 use Rattle.article_laying.specs.declared.paragraphs.Behind.{Behind}
@@ -9,18 +9,19 @@ use Rattle.article_layout.specs.Exchanges.{is_number}
 use Rattle.article_layout.specs.Layouts.{Line, Tag}
 use Rattle.block_layout.specs.Seen.{laid_of}
 use Rattle.block_layout.specs.declared.block.BlockLayout.{BlockLayout}
+use Rattle.link_targets.specs.Links.{all_targets}
+use Rattle.link_targets.specs.declared.link_targets.LinkTargets.{LinkTargets}
 use Rattle.std.specs.Global.{Global}
 use Rattle.tagged_lines.specs.Tagged.{Item, line_items}
 use Rattle.text_borders.specs.Across.{CellLine}
 use Rattle.text_borders.specs.Lines.{line_shown}
-use Rattle.text_pieces.specs.Sources.{names}
 
 abbrev pub lines_of : LineList → List Line
 lines_of lines = map line_of lines.lines.items
 
 -- a paragraph's block of lines, with the targets so far
-abbrev pub said_of : BlockLayout (Vec (Unit {0}) Global) → Vec (String Global) Global → Said
-said_of block targets = record { laid = laid_of tag_of block; targets = names targets.items }
+abbrev pub said_of : BlockLayout (Vec (Unit {0}) Global) → LinkTargets → Said
+said_of block targets = record { laid = laid_of tag_of block; targets = all_targets targets }
 
 -- a line of a block as one of a paragraph
 abbrev pub of_paragraph : ℕ → CellLine Tag → Line
@@ -31,7 +32,7 @@ abbrev pub at_of : LineList → Behind → At
 at_of lines behind = record {
   lines = lines_of lines;
   paragraphs = behind.paragraphs;
-  targets = names behind.targets.items;
+  targets = all_targets behind.targets;
 }
 
 -- a line that is told

@@ -8,6 +8,7 @@ options_of o = record {
   pads = o.pads;
   decorates = o.decorates;
   footnotes = o.footnotes;
+  shares_footnotes = o.shares_footnotes;
   wraps_links = o.wraps_links;
   min_wrap_width = o.min_wrap_width;
 }

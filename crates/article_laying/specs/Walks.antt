@@ -1,6 +1,6 @@
 -- What a walk over an article makes of what it laid out before: the targets of links so far and the paragraphs so far
 -- are kept beside the lines, where the layout counts them.
-use Rattle.std.specs.Prelude.{ℕ, ℤ, suc, ◌+◌, Bool, List, [], ◌∷◌, ◌++◌, ◌&&◌, length, replicate, codes, Option, None}
+use Rattle.std.specs.Prelude.{ℕ, ℤ, suc, ◌+◌, Bool, List, [], ◌∷◌, ◌++◌, ◌&&◌, replicate, codes, Option, None}
 use Rattle.std.specs.Prelude.{Some, if◌then◌else◌}
 use Rattle.std.specs.Option.{option_map, option_and_then}
 use Rattle.article_layout.specs.Layouts.{Line, Options, Tag, all_shallow, how_many, item_prefix, least_in}
@@ -10,6 +10,7 @@ use Rattle.article_values.specs.Articles.{Blocks, Inlines, Items, Style, bullets
 use Rattle.article_values.specs.Articles.{link, no_blocks, no_inlines, no_items, numbers, paragraph, quote, span, words}
 use Rattle.block_layout.specs.Laid.{Laid, add_text, break_line}
 use Rattle.block_layout.specs.declared.measure.Measure.{Measure}
+use Rattle.link_targets.specs.Targets.{noted_targets}
 use Rattle.render_laying.specs.Items.{spaces}
 use Rattle.render_sizes.specs.Extents.{capped}
 use Rattle.text_pieces.specs.Sources.{is_filled}
@@ -39,7 +40,7 @@ spanned o m tag style inside s = option_and_then (adds m (mark_of o style) (with
     (option_and_then inside (adds m (mark_of o style) (within tag) s))
 
 abbrev pub numbered : Options → Measure → Tag → Said → Option Said
-numbered o m tag s = adds m (number_mark o (length s.targets)) tag s
+numbered o m tag s = adds m (number_mark o s.targets) tag s
 
 abbrev pub shown_link : Options → Measure → Tag → List ℕ → (Said → Option Said) → Said → Option Said
 shown_link o m tag target inside s = option_and_then (numbered o m tag)
@@ -77,7 +78,7 @@ behind_paragraph o is s lines = record {
 }
 
 abbrev pub own_lines : Options → ℕ → Inlines → At → Option (List Line)
-own_lines o width is s = paragraph_lines o width s.paragraphs (length s.targets) is
+own_lines o width is s = paragraph_lines o width s.paragraphs s.targets is
 
 abbrev pub with_paragraph : Options → ℕ → Inlines → At → Option At
 with_paragraph o width is s =
@@ -139,4 +140,5 @@ abbrev mutual
 -- the targets are a block of their own, where there are any
 abbrev pub with_notes : Options → ℕ → List (List ℕ) → List Line → List Line
 with_notes o width targets lines =
-    if o.footnotes && is_filled targets then parted o width lines ++ notes o width targets else lines
+    if o.footnotes && is_filled targets
+    then parted o width lines ++ notes o width (noted_targets o.shares_footnotes targets) else lines

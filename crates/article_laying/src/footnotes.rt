@@ -6,6 +6,7 @@ ghost use Rattle.article_laying.specs.Settings.{options_of};
 ghost use Rattle.article_laying.specs.Walks.{with_notes};
 ghost use Rattle.article_layout.specs.Layouts.{note_line, notes};
 ghost use Rattle.footnote_lines.specs.Footnotes.{footnote_lines};
+ghost use Rattle.link_targets.specs.Links.{all_targets};
 ghost use Rattle.tagged_lines.specs.Tagged.{line_items, tagged};
 ghost use Rattle.text_decorators.specs.Texts.{footnote_text};
 ghost use Rattle.text_pieces.specs.Sources.{names};
@@ -13,25 +14,31 @@ ghost use Rattle.text_pieces.specs.Sources.{names};
 use crate::line_list::{Line, LineList, fill};
 use crate::options::Room;
 use footnote_lines::footnote_lines;
+use link_targets::{LinkTargets, links_share_footnotes};
 use std::alloc::{AllocError, Global};
 use tagged_lines::TaggedLine;
 use text_pieces::has_text;
 
-/// Adds the targets as a block of their own, where they stand behind the article and there are any.
+/// Adds the targets that have footnotes as a block of their own, where they stand behind the article and there are any.
 pub(crate) fn add_footnotes(
     alloc: Global,
     room: Room,
-    targets: &[String],
+    targets: LinkTargets,
     lines: &mut LineList,
 ) -> Result<(), AllocError>
     ensures { OnOk result (lines_of lines.new
-        ≡ with_notes (options_of room.options) room.width (names targets.now) (lines_of lines.old)) }
+        ≡ with_notes (options_of room.options) room.width (all_targets targets) (lines_of lines.old)) }
 {
-    if !room.options.footnotes || targets.is_empty() {
+    links_share_footnotes();
+    if !room.options.footnotes {
+        return Ok(());
+    }
+    let noted = targets.into_noted(room.options.shares_footnotes)?;
+    if noted.is_empty() {
         return Ok(());
     }
     lines.part(alloc, room)?;
-    add_notes(alloc, room, targets, lines)
+    add_notes(alloc, room, noted.as_slice(), lines)
 }
 
 /// Adds the targets, numbered from 1 on.

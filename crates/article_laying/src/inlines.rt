@@ -12,13 +12,13 @@ ghost use Rattle.article_layout.specs.Layouts.{all_shallow, has_none, style_mark
 ghost use Rattle.article_values.specs.Articles.{Inlines as SeenInlines, Style};
 ghost use Rattle.article_values.specs.Views.{inline_view, inlines_view};
 ghost use Rattle.std.specs.Fmt.{decimal};
-ghost use Rattle.std.specs.Global.{Global as SeenGlobal};
-ghost use Rattle.std.specs.Prelude.{String as SeenString, Vec as SeenVec};
+ghost use Rattle.link_targets.specs.declared.link_targets.LinkTargets.{LinkTargets as SeenLinkTargets};
 ghost use Rattle.text_pieces.specs.declared.fault.BlockError.TheVariants as errors;
 
 use crate::options::{LineOptions, Room};
 use article_values::Inline;
 use block_layout::BlockLayout;
+use link_targets::LinkTargets;
 use render_values::is_white_space;
 use std::alloc::{AllocError, Global};
 use tagged_lines::EqualCopy;
@@ -30,7 +30,7 @@ pub(crate) fn say_inlines(
     alloc: Global,
     room: Room,
     block: &mut BlockLayout<Vec<()>>,
-    targets: &mut Vec<String>,
+    targets: &mut LinkTargets,
     inlines: &[Inline],
     tag: &Vec<()>,
 ) -> Result<(), BlockError>
@@ -53,7 +53,7 @@ fn say_inline(
     alloc: Global,
     room: Room,
     block: &mut BlockLayout<Vec<()>>,
-    targets: &mut Vec<String>,
+    targets: &mut LinkTargets,
     inline: &Inline,
     tag: &Vec<()>,
 ) -> Result<(), BlockError>
@@ -105,10 +105,10 @@ fn say(
     text: &str,
     tag: &Vec<()>,
 ) -> Result<(), BlockError>
-    ensures done { (targets : SeenVec (SeenString SeenGlobal) SeenGlobal) → OnOk result
+    ensures done { (targets : SeenLinkTargets) → OnOk result
         (adds (measure (options_of room.options) room.width) (chars text.now) (tag_of tag.now)
         (said_of block.old targets) ≡ Some (said_of block.new targets)) }
-    ensures narrow { (targets : SeenVec (SeenString SeenGlobal) SeenGlobal) → result ≡ Err errors.TooNarrow
+    ensures narrow { (targets : SeenLinkTargets) → result ≡ Err errors.TooNarrow
         → adds (measure (options_of room.options) room.width) (chars text.now) (tag_of tag.now)
         (said_of block.old targets) ≡ None }
     ensures failed { result ≡ Err errors.Failed → ⊥ }
@@ -131,7 +131,7 @@ fn say_span(
     alloc: Global,
     room: Room,
     block: &mut BlockLayout<Vec<()>>,
-    targets: &mut Vec<String>,
+    targets: &mut LinkTargets,
     mark: &str,
     contents: &[Inline],
     tag: &Vec<()>,
@@ -161,14 +161,14 @@ pub(crate) fn shown_mark(options: LineOptions, mark: &str) -> &str
     if options.decorates { mark } else { "" }
 }
 
-/// Says a link, unless it shows nothing: its contents in brackets, and its number where targets stand behind the
-/// article.
+/// Says a link, unless it shows nothing: its contents in brackets, and its footnote's number where targets stand behind
+/// the article.
 #[cycle(saying)]
 fn say_link(
     alloc: Global,
     room: Room,
     block: &mut BlockLayout<Vec<()>>,
-    targets: &mut Vec<String>,
+    targets: &mut LinkTargets,
     target: &str,
     contents: &[Inline],
     tag: &Vec<()>,
@@ -187,7 +187,7 @@ fn say_link(
     if all_shallow(room.options, contents) {
         return Ok(());
     }
-    targets.push(String::from_str(alloc, target)?)?;
+    targets.push(target)?;
     let inner = within(alloc, tag)?;
     say(room, block, "[", &inner)?;
     say_inlines(alloc, room, block, targets, contents, &inner)?;
@@ -195,24 +195,25 @@ fn say_link(
     say_number(alloc, room, block, targets, tag)
 }
 
-/// Says the number of the last link, where targets stand behind the article.
+/// Says the number of the last link's footnote, where targets stand behind the article.
 fn say_number(
     alloc: Global,
     room: Room,
     block: &mut BlockLayout<Vec<()>>,
-    targets: &Vec<String>,
+    targets: &mut LinkTargets,
     tag: &Vec<()>,
 ) -> Result<(), BlockError>
     ensures done { OnOk result (numbered (options_of room.options) (measure (options_of room.options) room.width)
-        (tag_of tag.now) (said_of block.old targets.now) ≡ Some (said_of block.new targets.now)) }
+        (tag_of tag.now) (said_of block.old targets.old) ≡ Some (said_of block.new targets.new)) }
     ensures narrow { result ≡ Err errors.TooNarrow → numbered (options_of room.options)
-        (measure (options_of room.options) room.width) (tag_of tag.now) (said_of block.old targets.now) ≡ None }
+        (measure (options_of room.options) room.width) (tag_of tag.now) (said_of block.old targets.old) ≡ None }
     ensures failed { result ≡ Err errors.Failed → ⊥ }
 {
     if !room.options.footnotes {
         return say(room, block, "", tag);
     }
-    let mark = number_mark(alloc, targets.len())?;
+    let number = targets.last_number(room.options.shares_footnotes)?;
+    let mark = number_mark(alloc, number)?;
     say(room, block, mark.as_str(), tag)
 }
 

@@ -23,6 +23,7 @@ use crate::options::{LineOptions, Room};
 use crate::paragraphs::Behind;
 use article_layout::{exchange, paragraphs_are_never_refused, visible_characters_once};
 use article_values::Block;
+use link_targets::LinkTargets;
 use std::alloc::{AllocError, Global};
 use tagged_lines::TaggedLine;
 use text_pieces::BlockError;
@@ -96,10 +97,10 @@ fn laid_article(
     let mut lines = LineList::new(alloc);
     let mut behind = Behind {
         paragraphs: 0,
-        targets: Vec::new(alloc),
+        targets: LinkTargets::new(alloc),
     };
     lay_blocks(alloc, room, blocks, &mut lines, &mut behind)?;
-    add_footnotes(alloc, room, behind.targets.as_slice(), &mut lines)?;
+    add_footnotes(alloc, room, behind.targets, &mut lines)?;
     let lines = told(alloc, lines.into_lines())?;
     Ok(lines)
 }

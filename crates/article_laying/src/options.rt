@@ -19,6 +19,8 @@ pub struct LineOptions {
     pub decorates: bool,
     /// Whether the targets of links stand behind the article, and a number behind each link.
     pub footnotes: bool,
+    /// Whether links to equal targets share one number and one footnote.
+    pub shares_footnotes: bool,
     /// Whether these targets are cut at the width.
     pub wraps_links: bool,
     /// So narrow, in columns, may text be wrapped.

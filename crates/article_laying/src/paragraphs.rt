@@ -1,12 +1,12 @@
 //! The lines of a paragraph.
-ghost use Rattle.std.specs.Prelude.{◌≡◌, ◌++◌, map, suc, length, Some, None, Err, IfOk, OnOk};
+ghost use Rattle.std.specs.Prelude.{◌≡◌, ◌++◌, map, suc, Some, None, Err, IfOk, OnOk};
 ghost use Rattle.article_laying.specs.Lines.{line_of, tag_of};
 ghost use Rattle.article_laying.specs.Seen.{of_paragraph};
 ghost use Rattle.article_laying.specs.Settings.{options_of};
 ghost use Rattle.article_layout.specs.Layouts.{paragraph_lines, targets_in};
 ghost use Rattle.article_values.specs.Views.{inlines_view};
+ghost use Rattle.link_targets.specs.Links.{all_targets};
 ghost use Rattle.text_cells.specs.Cells.{laid_line_of};
-ghost use Rattle.text_pieces.specs.Sources.{names};
 ghost use Rattle.text_pieces.specs.declared.fault.BlockError.TheVariants as errors;
 
 use crate::inlines::say_inlines;
@@ -15,6 +15,7 @@ use crate::options::Room;
 use article_layout::calls_of_a_paragraph;
 use article_values::Inline;
 use block_layout::{BlockLayout, LaidLine};
+use link_targets::LinkTargets;
 use std::alloc::{AllocError, Global};
 use text_pieces::BlockError;
 
@@ -24,7 +25,7 @@ pub(crate) struct Behind {
     /// How many paragraphs and headings.
     pub(crate) paragraphs: usize,
     /// The targets of links, in order.
-    pub(crate) targets: Vec<String>,
+    pub(crate) targets: LinkTargets,
 }
 
 /// Lines as those of a paragraph.
@@ -57,12 +58,12 @@ pub(crate) fn paragraph_lines(
     behind: &mut Behind,
 ) -> Result<Vec<Line>, BlockError>
     ensures lines { IfOk result (λ lines. paragraph_lines (options_of room.options) room.width behind.old.paragraphs
-        (length (names behind.old.targets.items)) (inlines_view contents.now) ≡ Some (map line_of lines.items)) }
+        (all_targets behind.old.targets) (inlines_view contents.now) ≡ Some (map line_of lines.items)) }
     ensures narrow { result ≡ Err errors.TooNarrow → paragraph_lines (options_of room.options) room.width
-        behind.old.paragraphs (length (names behind.old.targets.items)) (inlines_view contents.now) ≡ None }
+        behind.old.paragraphs (all_targets behind.old.targets) (inlines_view contents.now) ≡ None }
     ensures paragraphs { OnOk result (behind.new.paragraphs ≡ suc behind.old.paragraphs) }
-    ensures targets { OnOk result (names behind.new.targets.items
-        ≡ names behind.old.targets.items ++ targets_in (options_of room.options) (inlines_view contents.now)) }
+    ensures targets { OnOk result (all_targets behind.new.targets
+        ≡ all_targets behind.old.targets ++ targets_in (options_of room.options) (inlines_view contents.now)) }
     ensures failed { result ≡ Err errors.Failed → ⊥ }
 {
     calls_of_a_paragraph();

@@ -1,5 +1,5 @@
 -- An article's blocks as calls of blocks of lines, by the words of block_layout.
-use Rattle.std.specs.Prelude.{ℕ, ℤ, suc, ◌+◌, Bool, true, false, List, [], ◌∷◌, ◌++◌, length, replicate, codes, Option}
+use Rattle.std.specs.Prelude.{ℕ, ℤ, suc, ◌+◌, Bool, true, false, List, [], ◌∷◌, ◌++◌, replicate, codes, Option}
 use Rattle.std.specs.Prelude.{None, Some, if◌then◌else◌}
 use Rattle.std.specs.Option.{option_and_then, option_map}
 use Rattle.block_layout.specs.Laid.{Laid, add_block, add_text_lines, end_block, flush, nothing_laid, start_block}

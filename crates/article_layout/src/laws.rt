@@ -42,7 +42,7 @@ pub fn paragraphs_are_never_refused()
 /// The calls of a paragraph's texts and breaks, on a block of lines whose text has ended, lay just its lines behind
 /// those of the block; and they are refused just where it has none.
 pub fn calls_of_a_paragraph()
-    ensures { (o : Options) (width number links : ℕ) (is : Inlines) (before : List (CellLine Tag))
+    ensures { (o : Options) (width number : ℕ) (links : List (List ℕ)) (is : Inlines) (before : List (CellLine Tag))
         (hanging : List (Hanging Tag)) → run_whole (measure o width) (parts_of o outermost links is)
         (block_with before None hanging)
         ≡ option_map (λ lines. block_with (before ++ map cell_of lines) None hanging)
@@ -55,8 +55,8 @@ pub fn calls_of_a_paragraph()
 /// those of its targets, and are refused just where it has none.
 pub fn calls_of_an_article()
     ensures { (o : Options) (width : ℕ) (a : Blocks) → option_map (λ (b : Laid Tag). b.lines)
-        (option_and_then (flush (measure o width) outermost) (run_blocks o width 0 a nothing_laid))
-        ≡ option_map (map cell_of) (lay o width 0 0 a []) }
+        (option_and_then (flush (measure o width) outermost) (run_blocks o width [] a nothing_laid))
+        ≡ option_map (map cell_of) (lay o width 0 [] a []) }
 {
     normal_lines_keep_markers::<Vec<()>>();
 }
@@ -66,7 +66,7 @@ pub fn calls_of_an_article()
 pub fn calls_of_a_whole_article()
     ensures { (o : Options) (width : ℕ) (a : Blocks) → option_map (λ (b : Laid Tag). b.lines)
         (option_and_then (flush (measure o width) outermost) (option_and_then (run_notes o width
-        (noted o (targets_of o a))) (run_blocks o width 0 a nothing_laid)))
+        (noted o (targets_of o a))) (run_blocks o width [] a nothing_laid)))
         ≡ option_map (map cell_of) (layout o (notes o width) width a) }
 {
     normal_lines_keep_markers::<Vec<()>>();

@@ -19,6 +19,7 @@ options_of given decorates min_wrap = record {
   pads = given.pad_block_width;
   decorates = decorates;
   footnotes = given.include_link_footnotes;
+  shares_footnotes = given.shared_footnotes;
   wraps_links = given.wrap_links;
   min_wrap_width = min_wrap;
 }

@@ -43,7 +43,7 @@ pub fn values_of_a_paragraph_are_its_calls()
         → block.awaits ≡ false → let o = options_of given decorates min_wrap in
         lay plain_marking (plain_measure o) (values_of_inlines o inlines) (laying_at given held place targets tag block)
         ≡ option_map (laying_at given held place (targets ++ targets_in o inlines) tag)
-        (run (measure o place.width) (parts_of o tag (length targets) inlines) block) }
+        (run (measure o place.width) (parts_of o tag targets inlines) block) }
 {}
 
 /// The values of an article's blocks, none of whose texts is empty, are laid out in a renderer of plain text as the
@@ -56,7 +56,7 @@ pub fn values_of_blocks_are_their_calls()
         lay plain_marking (plain_measure o) (values_of_blocks o blocks)
         (laying_at given held place targets outermost block)
         ≡ option_map (laying_at given held place (targets ++ targets_of o blocks) outermost)
-        (run_blocks o place.width (length targets) blocks block) }
+        (run_blocks o place.width targets blocks block) }
 {}
 
 /// All values of an article's page, none of whose texts is empty, are laid out on a page of plain text that holds
@@ -67,5 +67,5 @@ pub fn values_of_a_page_are_its_calls()
         → AreFilledBlocks blocks → let o = options_of given decorates min_wrap in
         laid_parts plain_marking (plain_measure o) (page_values o blocks) (whole given held width)
         ≡ option_map (parts_at given held (page_of width) (targets_of o blocks) outermost)
-        (run_blocks o width 0 blocks nothing_laid) }
+        (run_blocks o width [] blocks nothing_laid) }
 {}

@@ -4,5 +4,5 @@ use Rattle.text_pieces.specs.Sources.{names}
 use Rattle.link_targets.specs.declared.link_targets.LinkTargets.{LinkTargets}
 
 -- the targets of the links so far, in order
-abbrev pub targets_of : LinkTargets → List (List ℕ)
-targets_of links = names links.targets.items
+abbrev pub all_targets : LinkTargets → List (List ℕ)
+all_targets links = names links.targets.items

@@ -24,12 +24,12 @@ pub struct LinkTargets {
 
 impl LinkTargets {
     ghost use Rattle.std.specs.Prelude.{◌++◌, ◌∷◌, [], IfOk, OnErr, OnOk, chars};
-    ghost use Rattle.link_targets.specs.Links.{targets_of};
+    ghost use Rattle.link_targets.specs.Links.{all_targets};
     ghost use Rattle.link_targets.specs.Targets.{last_number, noted_targets};
 
     /// No link so far. It takes no memory.
     pub fn new(alloc: Global) -> LinkTargets
-        ensures { targets_of result ≡ [] }
+        ensures { all_targets result ≡ [] }
     {
         LinkTargets {
             targets: Vec::new(alloc),
@@ -40,8 +40,8 @@ impl LinkTargets {
 
     /// A link to the target begins. The error is want of memory, and then there is no link more.
     pub fn push(&mut self, target: &str) -> Result<(), AllocError>
-        ensures pushed { OnOk result (targets_of self.new ≡ targets_of self.old ++ chars target.now ∷ []) }
-        ensures err { OnErr result (targets_of self.new ≡ targets_of self.old) }
+        ensures pushed { OnOk result (all_targets self.new ≡ all_targets self.old ++ chars target.now ∷ []) }
+        ensures err { OnErr result (all_targets self.new ≡ all_targets self.old) }
     {
         let text = String::from_str(*self.targets.allocator(), target)?;
         self.targets.push(text)?;
@@ -51,8 +51,8 @@ impl LinkTargets {
     /// The number of the last link's footnote, from 1 on, where links to equal targets share a footnote or each link has
     /// its own; 0 before the first link. The error is want of memory.
     pub fn last_number(&mut self, shared: bool) -> Result<usize, AllocError>
-        ensures number { IfOk result (λ number. number ≡ last_number shared (targets_of self.old)) }
-        ensures stay { targets_of self.new ≡ targets_of self.old }
+        ensures number { IfOk result (λ number. number ≡ last_number shared (all_targets self.old)) }
+        ensures stay { all_targets self.new ≡ all_targets self.old }
     {
         if !shared {
             return Ok(self.targets.len());
@@ -67,7 +67,7 @@ impl LinkTargets {
     /// The targets that have footnotes, in the order of their numbers, where links to equal targets share a footnote or
     /// each link has its own. The error is want of memory.
     pub fn into_noted(self, shared: bool) -> Result<Vec<String>, AllocError>
-        ensures { IfOk result (λ noted. names noted.items ≡ noted_targets shared (targets_of self)) }
+        ensures { IfOk result (λ noted. names noted.items ≡ noted_targets shared (all_targets self)) }
     {
         let mut links = self;
         if shared {
@@ -83,8 +83,8 @@ impl LinkTargets {
 
     /// Numbers the targets that have no number yet: each once, however often numbers are asked for.
     fn number_all(&mut self) -> Result<(), AllocError>
-        ensures numbered { OnOk result (AreNumbered (targets_of self.new) self.new.numbers) }
-        ensures stay { targets_of self.new ≡ targets_of self.old }
+        ensures numbered { OnOk result (AreNumbered (all_targets self.new) self.new.numbers) }
+        ensures stay { all_targets self.new ≡ all_targets self.old }
     {
         'more: while self.numbered < self.targets.len() {
             note(&mut self.numbers, &self.targets[self.numbered])?;

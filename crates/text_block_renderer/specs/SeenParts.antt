@@ -1,7 +1,7 @@
 -- What contracts see of a renderer of a page.
 use Rattle.std.specs.Prelude.{◌≡◌, ℕ, Bool, List, Option, None, Some, map}
 use Rattle.text_marks.specs.Marks.{Mark}
-use Rattle.link_targets.specs.Links.{targets_of}
+use Rattle.link_targets.specs.Links.{all_targets}
 use Rattle.renderer_calls.specs.Renderers.{Marking}
 use Rattle.text_block_renderer.specs.Parts.{Parts}
 use Rattle.block_renderer.specs.Seen.{sub_of, marking, IsTagging}
@@ -12,7 +12,7 @@ abbrev pub parts_of : {D T H A : Type 0} → (T → A) → (D → H) → TextRen
 parts_of seen held t = record {
   below = map (sub_of seen held) t.below.items;
   current = sub_of seen held t.current;
-  targets = targets_of t.links;
+  targets = all_targets t.links;
 }
 
 abbrev pub page_has_failed : {D T : Type 0} → TextRenderer D T → Bool

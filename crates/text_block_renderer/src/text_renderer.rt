@@ -31,7 +31,7 @@ impl<D: TextDecorator + Drop> TextRenderer<D> {
     ghost use Rattle.text_block_renderer.specs.Parts.{begin_part_link, finish_part_link, add_part_number};
     ghost use Rattle.text_block_renderer.specs.SeenParts.{parts_of, page_has_failed, current_has_failed};
     ghost use Rattle.text_block_renderer.specs.SeenParts.{with_current_renderer, PartsCome, PartsFail};
-    ghost use Rattle.link_targets.specs.Links.{targets_of};
+    ghost use Rattle.link_targets.specs.Links.{all_targets};
 
     /// A renderer of a page, of which no part has begun.
     pub fn new(alloc: Global, sub: SubRenderer<D>) -> TextRenderer<D>
@@ -142,7 +142,7 @@ impl<D: TextDecorator + Drop> TextRenderer<D> {
     pub fn into_inner(self) -> (SubRenderer<D>, LinkTargets)
         requires { depth_of (parts_of D.Annotation.seen D.held self) ≡ 1 }
         ensures sub { sub_of D.Annotation.seen D.held result.0 ≡ (parts_of D.Annotation.seen D.held self).current }
-        ensures links { targets_of result.1 ≡ (parts_of D.Annotation.seen D.held self).targets }
+        ensures links { all_targets result.1 ≡ (parts_of D.Annotation.seen D.held self).targets }
         ensures failed { has_failed result.0 ≡ current_has_failed self }
     {
         let TextRenderer { current, links, .. } = self;
