@@ -10,6 +10,7 @@ pub quoted : (o : Options) (w least within : ℕ) (inside : ℕ → At → Optio
     lines ≡ parted o w s.lines ++ prefixed o w quote_prefix quote_prefix inner.lines →
     with_quote o w least inside s ≡ Some (record inner { lines = lines })
 quoted o w least within inside s inner lines fits laid put =
-    ap (λ x. option_map (behind_quote o w s) (option_and_then (λ within. inside within (record s { lines = [] })) x)) fits
+    ap (λ x. option_map (behind_quote o w s)
+    (option_and_then (λ within. inside within (record s { lines = [] })) x)) fits
     ∙ ap (option_map (behind_quote o w s)) laid
     ∙ ap (λ ls. let at : Option At = Some (record inner { lines = ls }) in at) (sym put)

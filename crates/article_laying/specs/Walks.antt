@@ -4,8 +4,9 @@ use Rattle.std.specs.Prelude.{ℕ, ℤ, suc, ◌+◌, Bool, List, [], ◌∷◌,
 use Rattle.std.specs.Prelude.{Some, if◌then◌else◌}
 use Rattle.std.specs.Option.{option_map, option_and_then}
 use Rattle.article_layout.specs.Layouts.{Line, Options, Tag, all_shallow, how_many, item_prefix, least_in}
-use Rattle.article_layout.specs.Layouts.{least_of, least_of_items, mark_of, next_number, notes, number_mark, paragraph_lines}
-use Rattle.article_layout.specs.Layouts.{parted, prefixed, quote_prefix, room, room_of_numbers, targets_in, to_room, within}
+use Rattle.article_layout.specs.Layouts.{least_of, least_of_items, mark_of, next_number, notes, number_mark}
+use Rattle.article_layout.specs.Layouts.{paragraph_lines, parted, prefixed, quote_prefix, room, room_of_numbers}
+use Rattle.article_layout.specs.Layouts.{targets_in, to_room, within}
 use Rattle.article_values.specs.Articles.{Blocks, Inlines, Items, Style, bullets, division, heading, item, line_break}
 use Rattle.article_values.specs.Articles.{link, no_blocks, no_inlines, no_items, numbers, paragraph, quote, span, words}
 use Rattle.block_layout.specs.Laid.{Laid, add_text, break_line}

@@ -4,7 +4,8 @@
 ghost use Rattle.std.specs.Prelude.{◌≡◌, ◌+◌, Some, None, Err, OnOk};
 ghost use Rattle.article_laying.specs.Seen.{at_of};
 ghost use Rattle.article_laying.specs.Settings.{options_of};
-ghost use Rattle.article_laying.specs.Walks.{laid, laid_items, parted_at, with_heading, with_item, with_paragraph, with_quote};
+ghost use Rattle.article_laying.specs.Walks.{laid, laid_items, parted_at, with_heading, with_item};
+ghost use Rattle.article_laying.specs.Walks.{with_paragraph, with_quote};
 ghost use Rattle.article_layout.specs.Layouts.{least_of, least_of_items};
 ghost use Rattle.article_values.specs.Articles.{Blocks as SeenBlocks};
 ghost use Rattle.article_values.specs.Views.{block_view, blocks_view, inlines_view, items_view};

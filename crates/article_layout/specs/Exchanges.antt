@@ -13,10 +13,12 @@ HasVisible cs = (front : List ℕ) × (c : ℕ) × (back : List ℕ) × (cs ≡ 
     × (is_visible c ≡ true))
 
 pub data DifferInline : Inlines → Inlines → Type 0 where
-  this_text : (cs ds : List ℕ) (rest : Inlines) → HasVisible cs → HasVisible ds → DifferInline (words cs rest) (words ds rest)
+  this_text : (cs ds : List ℕ) (rest : Inlines) → HasVisible cs → HasVisible ds →
+      DifferInline (words cs rest) (words ds rest)
   behind_text : (cs : List ℕ) (a b : Inlines) → DifferInline a b → DifferInline (words cs a) (words cs b)
   behind_break : (a b : Inlines) → DifferInline a b → DifferInline (line_break a) (line_break b)
-  in_span : (style : Style) (a b rest : Inlines) → DifferInline a b → DifferInline (span style a rest) (span style b rest)
+  in_span : (style : Style) (a b rest : Inlines) → DifferInline a b →
+      DifferInline (span style a rest) (span style b rest)
   behind_span : (style : Style) (kids a b : Inlines) → DifferInline a b →
       DifferInline (span style kids a) (span style kids b)
   in_link : (target : List ℕ) (a b rest : Inlines) → DifferInline a b →

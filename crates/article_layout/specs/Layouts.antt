@@ -307,7 +307,8 @@ abbrev mutual
       (lay_items o width k ts 2 (capped (least_of_items o items + 2)) None items (parted o width lines))
   lay o width k ts (numbers first items rest) lines = let columns = room_of_numbers first (how_many items) in
       option_and_then (lay o width (k + count_items items) (ts ++ targets_of_items o items) rest)
-      (lay_items o width k ts columns (capped (least_of_items o items + columns)) (Some first) items (parted o width lines))
+      (lay_items o width k ts columns (capped (least_of_items o items + columns)) (Some first) items
+      (parted o width lines))
 
   pub lay_items : Options → (width number : ℕ) → List (List ℕ) → (columns least : ℕ) → Option ℤ → Items → List Line →
       Option (List Line)

@@ -1,5 +1,5 @@
 //! The layout of articles, by recursion on the value, and its laws: what a change of one text changes, that visible
-//! characters are shown once, and which articles always have lines. No code lays out an article yet.
+//! characters are shown once, and which articles always have lines.
 #![tactic(auto)]
 
 mod laws;

@@ -16,11 +16,12 @@ ghost use Rattle.renderer_calls.specs.declared.options.RenderOptions.{RenderOpti
 ghost use Rattle.tagged_lines.specs.Columns.{text_columns};
 ghost use Rattle.text_block_renderer.specs.PlainText.{plain_marking};
 ghost use Rattle.text_decorators.specs.Texts.{plain_text};
-ghost use Rattle.text_marks.specs.Marks.{header, unordered_item};
+ghost use Rattle.text_marks.specs.Marks.{header, quote, unordered_item};
 
 /// At least, an article's values ask for as many columns as the layout says that the article asks for, behind the
 /// marks of plain text: of blocks, of a list's items and of what a paragraph says. The mark of a heading has its level
-/// and one more in columns, a bullet two, and the numbers of a list as many as the layout leaves them.
+/// and one more in columns, those of a quote and of a bullet have two, and the numbers of a list as many as the layout
+/// leaves them.
 pub fn values_ask_for_what_the_article_asks()
     ensures blocks { (o : Options) (blocks : Blocks)
         → (extent (plain_measure o) (values_of_blocks o blocks)).least ≡ least_of o blocks }
@@ -29,6 +30,7 @@ pub fn values_ask_for_what_the_article_asks()
     ensures inlines { (o : Options) (inlines : Inlines)
         → (extent (plain_measure o) (values_of_inlines o inlines)).least ≡ least_in o inlines }
     ensures headings { (level : ℕ) → text_columns (plain_text (header level)) ≡ level + 1 }
+    ensures quotes { text_columns (plain_text quote) ≡ 2 }
     ensures bullets { text_columns (plain_text unordered_item) ≡ 2 }
     ensures numbers { (o : Options) (first : ℤ) (items : ℕ)
         → (plain_measure o).prefixes.numbers first items ≡ room_of_numbers first items }

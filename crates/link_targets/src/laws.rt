@@ -4,8 +4,8 @@ ghost use Rattle.std.specs.List.{IsDistinct};
 ghost use Rattle.text_pieces.specs.Sources.{is_filled};
 ghost use Rattle.link_targets.specs.Targets.{distinct, has_text, is_same_text, last_number, number_among};
 
-/// Where links to equal targets share a footnote: each target has one, and no two of them are equal; the number behind a
-/// link is that of its target's footnote, and it is so whatever links follow.
+/// Where links to equal targets share a footnote: each target has one, and no two of them are equal; the number behind
+/// a link is that of its target's footnote, and it is so whatever links follow.
 pub fn links_share_footnotes()
     ensures all { (targets : List (List ℕ)) (target : List ℕ)
         → has_text (distinct targets) target ≡ has_text targets target }

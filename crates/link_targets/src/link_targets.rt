@@ -13,8 +13,8 @@ use std::collections::HashMap;
 pub struct LinkTargets {
     /// One for each link.
     targets: Vec<String>,
-    /// So many of them, the first ones, are numbered as those whose links share footnotes: none before a number is asked
-    /// for.
+    /// So many of them, the first ones, are numbered as those whose links share footnotes: none before a number is
+    /// asked for.
     numbered: usize,
     /// The number of each of these.
     numbers: HashMap<String, usize>,
@@ -48,8 +48,8 @@ impl LinkTargets {
         Ok(())
     }
 
-    /// The number of the last link's footnote, from 1 on, where links to equal targets share a footnote or each link has
-    /// its own; 0 before the first link. The error is want of memory.
+    /// The number of the last link's footnote, from 1 on, where links to equal targets share a footnote or each link
+    /// has its own; 0 before the first link. The error is want of memory.
     pub fn last_number(&mut self, shared: bool) -> Result<usize, AllocError>
         ensures number { IfOk result (λ number. number ≡ last_number shared (all_targets self.old)) }
         ensures stay { all_targets self.new ≡ all_targets self.old }

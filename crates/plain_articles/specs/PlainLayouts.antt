@@ -1,11 +1,13 @@
--- The lines of such an article: what depends on its value, over the words of lines and parts that all articles share.
+-- The lines of such an article, each link of which has a footnote of its own: what depends on the article's value, over
+-- the words of lines and parts that all articles share.
 use Rattle.std.specs.Prelude.{ℕ, ℤ, suc, ◌+◌, nat_lt, max, Bool, true, false, not, ◌&&◌, List, [], ◌∷◌, ◌++◌, length}
 use Rattle.std.specs.Prelude.{replicate, codes, Option, None, Some, if◌then◌else◌}
 use Rattle.std.specs.Char.{is_whitespace}
+use Rattle.std.specs.Fmt.{decimal}
 use Rattle.std.specs.List.{list_all}
 use Rattle.std.specs.Option.{option_map, option_and_then}
 use Rattle.article_layout.specs.Layouts.{Line, Options, Part, Tag, all_fit, breaks, if_fits, item_prefix, least_text}
-use Rattle.article_layout.specs.Layouts.{lines_of_stretches, next_number, notes, number_mark, outermost, parted}
+use Rattle.article_layout.specs.Layouts.{lines_of_stretches, next_number, notes, outermost, parted}
 use Rattle.article_layout.specs.Layouts.{prefixed, room, room_of_numbers, says, stretches, to_room, unless_shallow}
 use Rattle.article_layout.specs.Layouts.{within}
 use Rattle.plain_articles.specs.PlainArticles.{PlainBlocks, PlainInlines, PlainItems, PlainStyle, bold, bullets, code}
@@ -74,6 +76,10 @@ abbrev mutual
   pub count_items : PlainItems → ℕ
   count_items no_items = 0
   count_items (item kids rest) = count kids + count_items rest
+
+-- the number behind a link, where there are footnotes
+abbrev pub number_mark : Options → ℕ → List ℕ
+number_mark o n = if o.footnotes then codes "[" ++ decimal n ++ codes "]" else []
 
 -- what a paragraph says and where its lines are broken, behind so many links
 abbrev pub parts_of : Options → Tag → ℕ → PlainInlines → List Part

@@ -1,5 +1,5 @@
 //! Laws of articles without quotes and strong text: each is the contract of a function that does nothing.
-ghost use Rattle.std.specs.Prelude.{◌≡◌, ℕ, List, Option};
+ghost use Rattle.std.specs.Prelude.{◌≡◌, ℕ, List, Option, false};
 ghost use Rattle.article_layout.specs.Layouts.{Options, article_lines};
 ghost use Rattle.plain_articles.specs.PlainArticles.{PlainBlocks, wide_blocks};
 ghost use Rattle.plain_articles.specs.PlainContents.{plain_text};
@@ -12,8 +12,9 @@ pub fn written_text_stays()
         ≡ plain_text title blocks }
 {}
 
-/// Its lines are those that the definition which knows neither gives, and it has none just where that gives none.
+/// Its lines, where no links share a footnote, are those that the definition which knows neither quotes nor strong text
+/// nor shared footnotes gives, and it has none just where that gives none.
 pub fn lines_stay()
-    ensures { (o : Options) (width : ℕ) (blocks : PlainBlocks) → article_lines o width (wide_blocks blocks)
-        ≡ plain_lines o width blocks }
+    ensures { (o : Options) (width : ℕ) (blocks : PlainBlocks) → o.shares_footnotes ≡ false
+        → article_lines o width (wide_blocks blocks) ≡ plain_lines o width blocks }
 {}

@@ -190,8 +190,8 @@ impl<D: TextDecorator + Drop> TextRenderer<D> {
         Ok(())
     }
 
-    /// A link ends; behind it stands its footnote's number in brackets, where the targets of links stand behind the page.
-    /// Refused as `start_link`.
+    /// A link ends; behind it stands its footnote's number in brackets, where the targets of links stand behind the
+    /// page. Refused as `start_link`.
     pub fn end_link(&mut self) -> Result<(), BlockError>
         ensures refused { is_err result ≡ page_has_failed self.new }
         ensures failed { page_has_failed self.old ≡ true → result ≡ Err errors.Failed }
