@@ -31,13 +31,13 @@ module _ (given : RenderOptions) (decorates : Bool) (min_wrap : ℕ) (held : Uni
       laid_parts plain_marking (plain_measure (o given decorates min_wrap held))
       (page_values (o given decorates min_wrap held) blocks) (whole given held width)
       ≡ option_map (parts_at given held (page_of width) (targets_of (o given decorates min_wrap held) blocks) [])
-      (run_blocks (o given decorates min_wrap held) width 0 blocks nothing_laid)
+      (run_blocks (o given decorates min_wrap held) width [] blocks nothing_laid)
   page_walked width blocks filled =
       let p : Place = page_of width in
       let values : Values = values_of_blocks (o given decorates min_wrap held) blocks in
       let targets : List (List ℕ) = targets_of (o given decorates min_wrap held) blocks in
       ap (option_map (λ (l : Layings). l.parts)) (container_is (container (container values)) p [] nothing_laid
       ∙ container_is (container values) p [] nothing_laid ∙ container_is values p [] nothing_laid
-      ∙ blocks_walked given decorates min_wrap held blocks filled p [] 0 refl nothing_laid)
+      ∙ blocks_walked given decorates min_wrap held blocks filled p [] nothing_laid)
       ∙ twice (λ (l : Layings). l.parts) (at p targets) (parts_at given held p targets [])
-      (run_blocks (o given decorates min_wrap held) width 0 blocks nothing_laid) (λ b. refl)
+      (run_blocks (o given decorates min_wrap held) width [] blocks nothing_laid) (λ b. refl)

@@ -1,5 +1,5 @@
 -- What the walk of a render tree makes of the values of an article's blocks: the calls of its blocks.
-use Rattle.std.proofs.Common.{◌≡◌, ℕ, ℤ, ◌+◌, ◌-◌, max, Bool, false, List, ◌++◌, length, replicate, codes, Option, None}
+use Rattle.std.proofs.Common.{◌≡◌, ℕ, ℤ, ◌+◌, ◌-◌, max, Bool, false, List, ◌++◌, replicate, codes, Option, None}
 use Rattle.std.proofs.Common.{Some, refl, sym, ap, ◌∙◌, append_assoc, append-nil}
 use Rattle.std.specs.Option.{option_and_then, option_map}
 use Rattle.article_layout.specs.ArticleValues.{values_of_blocks, values_of_inlines, values_of_items}
@@ -32,7 +32,7 @@ use Rattle.text_block_renderer.specs.PlainText.{plain_marking}
 use Rattle.text_marks.specs.Marks.{header, quote as quote_mark}
 use Rattle.article_walk.specs.Measures.{plain_measure}
 use Rattle.article_walk.specs.Pages.{AreFilled, AreFilledBlocks, AreFilledItems, Place}
-use Rattle.article_walk.proofs.InlinesWalked.{are_walked, around_it, counted, next, unstyled}
+use Rattle.article_walk.proofs.InlinesWalked.{are_walked, around_it, next, unstyled}
 use Rattle.article_walk.proofs.Leasts.{bullet_columns, least_of_inlines, least_of_item_values, least_of_values}
 use Rattle.article_walk.proofs.Leasts.{number_of_items, numbers_columns}
 use Rattle.article_walk.proofs.PagesLaid.{Layings, ended, flushed, part_at, started}
@@ -247,32 +247,32 @@ module _ (given : RenderOptions) (decorates : Bool) (min_wrap : ℕ) (held : Uni
   -- ---- blocks
 
   abbrev AreWalked : Blocks → Type 0
-  AreWalked blocks = (p : Place) (ts : List (List ℕ)) (n : ℕ) → length ts ≡ n → (b : Laid Tag) →
+  AreWalked blocks = (p : Place) (ts : List (List ℕ)) (b : Laid Tag) →
       walk (values_of_blocks o blocks) (here p ts b)
-      ≡ option_map (here p (ts ++ targets_of o blocks)) (run_blocks o p.width n blocks b)
+      ≡ option_map (here p (ts ++ targets_of o blocks)) (run_blocks o p.width ts blocks b)
 
   -- what follows a block
-  rest_walked : (rest : Blocks) → AreWalked rest → (p : Place) (ts more : List (List ℕ)) (n : ℕ) → length ts ≡ n →
+  rest_walked : (rest : Blocks) → AreWalked rest → (p : Place) (ts more : List (List ℕ))
       (change : Laid Tag → Laid Tag) (x : Option (Laid Tag)) →
       option_and_then (walk (values_of_blocks o rest)) (option_map (λ b. here p (ts ++ more) (change b)) x)
       ≡ option_map (here p (ts ++ (more ++ targets_of o rest)))
-      (option_and_then (λ b. run_blocks o p.width (n + length more) rest (change b)) x)
-  rest_walked rest walked p ts more n count change x =
-      then_walk (walk (values_of_blocks o rest)) (λ b. run_blocks o p.width (n + length more) rest (change b))
+      (option_and_then (λ b. run_blocks o p.width (ts ++ more) rest (change b)) x)
+  rest_walked rest walked p ts more change x =
+      then_walk (walk (values_of_blocks o rest)) (λ b. run_blocks o p.width (ts ++ more) rest (change b))
       (λ b. here p (ts ++ more) (change b)) (here p ((ts ++ more) ++ targets_of o rest)) x
-      (λ b. walked p (ts ++ more) (n + length more) (counted given decorates min_wrap held ts more n count) (change b))
+      (λ b. walked p (ts ++ more) (change b))
       ∙ ap (λ all. option_map (here p all)
-      (option_and_then (λ b. run_blocks o p.width (n + length more) rest (change b)) x))
+      (option_and_then (λ b. run_blocks o p.width (ts ++ more) rest (change b)) x))
       (append_assoc ts more (targets_of o rest))
 
-  inside_walked : (is : Inlines) → AreFilled is → (p : Place) (ts : List (List ℕ)) (n : ℕ) → length ts ≡ n →
+  inside_walked : (is : Inlines) → AreFilled is → (p : Place) (ts : List (List ℕ)) →
       (b : Laid Tag) → b.awaits ≡ false → walk (values_of_inlines o is) (here p ts b)
-      ≡ option_map (here p (ts ++ targets_in o is)) (run (w p) (parts_of o outermost n is) b)
-  inside_walked is filled p ts n count b quiet =
-      are_walked given decorates min_wrap held is filled p ts n count outermost b quiet
+      ≡ option_map (here p (ts ++ targets_in o is)) (run (w p) (parts_of o outermost ts is) b)
+  inside_walked is filled p ts b quiet =
+      are_walked given decorates min_wrap held is filled p ts outermost b quiet
 
   paragraph_walked : (is : Inlines) (rest : Blocks) → AreFilled is → AreWalked rest → AreWalked (paragraph is rest)
-  paragraph_walked is rest filled walked p ts n count b =
+  paragraph_walked is rest filled walked p ts b =
       let inside : Values = values_of_inlines o is in
       let others : Values = values_of_blocks o rest in
       let behind : List (List ℕ) = ts ++ targets_in o is in
@@ -281,16 +281,16 @@ module _ (given : RenderOptions) (decorates : Bool) (min_wrap : ℕ) (held : Uni
       ∙ ap (λ x. option_and_then (walk others) (option_and_then (laying_of.says plain_marking ends_block)
       (option_and_then (walk inside) x))) (started given decorates min_wrap held p ts b)
       ∙ ap (λ x. option_and_then (walk others) (option_and_then (laying_of.says plain_marking ends_block) x))
-      (next (walk inside) (run (w p) (parts_of o outermost n is)) (here p ts) (here p behind) begun
-      (start_quiet (w p) b) (λ b quiet. inside_walked is filled p ts n count b quiet))
+      (next (walk inside) (run (w p) (parts_of o outermost ts is)) (here p ts) (here p behind) begun
+      (start_quiet (w p) b) (λ b quiet. inside_walked is filled p ts b quiet))
       ∙ ap (option_and_then (walk others))
-      (ends_is p behind (option_and_then (run (w p) (parts_of o outermost n is)) begun))
-      ∙ rest_walked rest walked p ts (targets_in o is) n count end_block
-      (option_and_then (run (w p) (parts_of o outermost n is)) begun)
+      (ends_is p behind (option_and_then (run (w p) (parts_of o outermost ts is)) begun))
+      ∙ rest_walked rest walked p ts (targets_in o is) end_block
+      (option_and_then (run (w p) (parts_of o outermost ts is)) begun)
 
   heading_walked : (level : ℕ) (is : Inlines) (rest : Blocks) → AreFilled is → AreWalked rest →
       AreWalked (heading level is rest)
-  heading_walked level is rest filled walked p ts n count b =
+  heading_walked level is rest filled walked p ts b =
       let inside : Values = values_of_inlines o is in
       let others : Values = values_of_blocks o rest in
       let targets : List (List ℕ) = targets_in o is in
@@ -298,7 +298,7 @@ module _ (given : RenderOptions) (decorates : Bool) (min_wrap : ℕ) (held : Uni
       let begun : Option (Laid Tag) = start_block (w p) outermost b in
       let asked : ℕ = capped (least_in o is + (level + 1)) in
       let prefix : List ℕ = replicate level 0x23 ++ codes " " in
-      let go = λ (within : ℕ). run (w (part_at within p)) (parts_of o outermost n is) nothing_laid in
+      let go = λ (within : ℕ). run (w (part_at within p)) (parts_of o outermost ts is) nothing_laid in
       let asks : least (infos.Heading level) inside ≡ asked =
       ap capped (both (λ k n. k + n) (least_of_inlines o is) (heading_columns_are level)) in
       heading_value level inside others p ts b
@@ -310,43 +310,43 @@ module _ (given : RenderOptions) (decorates : Bool) (min_wrap : ℕ) (held : Uni
       (then_walk (behind_mark plain_marking (header level) (least (infos.Heading level) inside) (walk inside))
       (part p (level + 1) asked prefix prefix go) (here p ts) (here p behind) begun
       (λ b. headed_is level asked is p ts behind b go asks
-      (λ within. inside_walked is filled (part_at within p) ts n count nothing_laid refl)))
+      (λ within. inside_walked is filled (part_at within p) ts nothing_laid refl)))
       ∙ ap (option_and_then (walk others))
       (ends_is p behind (option_and_then (part p (level + 1) asked prefix prefix go) begun))
-      ∙ rest_walked rest walked p ts targets n count end_block
+      ∙ rest_walked rest walked p ts targets end_block
       (option_and_then (part p (level + 1) asked prefix prefix go) begun)
       ∙ ap (option_map (here p (ts ++ (targets ++ targets_of o rest))))
       (start_last given decorates min_wrap held p (level + 1) asked prefix prefix go
-      (λ b. run_blocks o p.width (n + length targets) rest (end_block b)) begun (start_rests (w p) b))
+      (λ b. run_blocks o p.width (ts ++ targets) rest (end_block b)) begun (start_rests (w p) b))
 
   division_walked : (kids rest : Blocks) → AreWalked kids → AreWalked rest → AreWalked (division kids rest)
-  division_walked kids rest in_kids walked p ts n count b =
+  division_walked kids rest in_kids walked p ts b =
       let inside : Values = values_of_blocks o kids in
       let others : Values = values_of_blocks o rest in
       let behind : List (List ℕ) = ts ++ targets_of o kids in
       let begun : Option (Laid Tag) = flush (w p) outermost b in
-      let filled : Option (Laid Tag) = option_and_then (run_blocks o p.width n kids) begun in
+      let filled : Option (Laid Tag) = option_and_then (run_blocks o p.width ts kids) begun in
       division_value inside others p ts b
       ∙ ap (λ x. option_and_then (walk others) (option_and_then (laying_of.says plain_marking ends_line)
       (option_and_then (walk inside) x))) (flushed given decorates min_wrap held p ts b)
       ∙ ap (λ x. option_and_then (walk others) (option_and_then (laying_of.says plain_marking ends_line) x))
-      (then_walk (walk inside) (run_blocks o p.width n kids) (here p ts) (here p behind) begun
-      (λ b. in_kids p ts n count b))
+      (then_walk (walk inside) (run_blocks o p.width ts kids) (here p ts) (here p behind) begun
+      (λ b. in_kids p ts b))
       ∙ ap (option_and_then (walk others))
       (then_walk (laying_of.says plain_marking ends_line) (flush (w p) outermost) (here p behind) (here p behind) filled
       (λ b. flushed given decorates min_wrap held p behind b))
-      ∙ rest_walked rest walked p ts (targets_of o kids) n count (λ b. b)
+      ∙ rest_walked rest walked p ts (targets_of o kids) (λ b. b)
       (option_and_then (flush (w p) outermost) filled)
 
   quote_walked : (kids rest : Blocks) → AreWalked kids → AreWalked rest → AreWalked (quote kids rest)
-  quote_walked kids rest in_kids walked p ts n count b =
+  quote_walked kids rest in_kids walked p ts b =
       let inside : Values = values_of_blocks o kids in
       let others : Values = values_of_blocks o rest in
       let targets : List (List ℕ) = targets_of o kids in
       let behind : List (List ℕ) = ts ++ targets in
       let begun : Option (Laid Tag) = start_block (w p) outermost b in
       let asked : ℕ = capped (least_of o kids + 2) in
-      let go = λ (within : ℕ). run_blocks o within n kids nothing_laid in
+      let go = λ (within : ℕ). run_blocks o within ts kids nothing_laid in
       let asks : least infos.Quote inside ≡ asked =
       ap capped (both (λ k n. k + n) (least_of_values o kids) quote_columns_are) in
       quote_value inside others p ts b
@@ -357,40 +357,40 @@ module _ (given : RenderOptions) (decorates : Bool) (min_wrap : ℕ) (held : Uni
       (then_walk (behind_mark plain_marking quote_mark (least infos.Quote inside) (walk inside))
       (part p 2 asked quote_prefix quote_prefix go) (here p ts) (here p behind) begun
       (λ b. quoted_is asked inside p ts behind b go asks
-      (λ within. in_kids (part_at within p) ts n count nothing_laid)))
+      (λ within. in_kids (part_at within p) ts nothing_laid)))
       ∙ ap (option_and_then (walk others))
       (ends_is p behind (option_and_then (part p 2 asked quote_prefix quote_prefix go) begun))
-      ∙ rest_walked rest walked p ts targets n count end_block
+      ∙ rest_walked rest walked p ts targets end_block
       (option_and_then (part p 2 asked quote_prefix quote_prefix go) begun)
       ∙ ap (option_map (here p (ts ++ (targets ++ targets_of o rest))))
       (start_last given decorates min_wrap held p 2 asked quote_prefix quote_prefix go
-      (λ b. run_blocks o p.width (n + length targets) rest (end_block b)) begun (start_rests (w p) b))
+      (λ b. run_blocks o p.width (ts ++ targets) rest (end_block b)) begun (start_rests (w p) b))
 
   -- of a list that begins with that number, or none, in so many columns
   abbrev InList : Option ℤ → (columns least : ℕ) → Items → Type 0
-  InList number columns least items = (p : Place) (ts : List (List ℕ)) (n : ℕ) → length ts ≡ n → (b : Laid Tag) →
+  InList number columns least items = (p : Place) (ts : List (List ℕ)) (b : Laid Tag) →
       walk (values_of_items o items) (items_at number columns least p ts b)
       ≡ option_map (items_at (number_behind items number) columns least p (ts ++ targets_of_items o items))
-      (run_items o p.width n columns least number items b)
+      (run_items o p.width ts columns least number items b)
 
   item_walked : (number : Option ℤ) (columns least : ℕ) (kids : Blocks) (rest : Items) → AreWalked kids →
       InList (next_number number) columns least rest → InList number columns least (item kids rest)
-  item_walked number columns least kids rest in_kids walked p ts n count b =
+  item_walked number columns least kids rest in_kids walked p ts b =
       let inside : Values = values_of_blocks o kids in
       let others : Values = values_of_items o rest in
       let targets : List (List ℕ) = targets_of o kids in
       let more : List (List ℕ) = targets_of_items o rest in
       let behind : List (List ℕ) = ts ++ targets in
       let last : Option ℤ = number_behind rest (next_number number) in
-      let go = λ (within : ℕ). run_blocks o within n kids nothing_laid in
+      let go = λ (within : ℕ). run_blocks o within ts kids nothing_laid in
       let first : List ℕ = to_room columns (item_prefix number) in
       let laid : Option (Laid Tag) = part p columns least first (spaces columns) go b in
-      let onwards = run_items o p.width (n + length targets) columns least (next_number number) rest in
+      let onwards = run_items o p.width (ts ++ targets) columns least (next_number number) rest in
       item_value number columns least inside others p ts behind b go
-      (λ within. in_kids (part_at within p) ts n count nothing_laid)
+      (λ within. in_kids (part_at within p) ts nothing_laid)
       ∙ then_walk (walk others) onwards (items_at (next_number number) columns least p behind)
       (items_at last columns least p (behind ++ more)) laid
-      (λ b. walked p behind (n + length targets) (counted given decorates min_wrap held ts targets n count) b)
+      (λ b. walked p behind b)
       ∙ ap (λ all. option_map (items_at last columns least p all) (option_and_then onwards laid))
       (append_assoc ts targets more)
       ∙ ap (option_map (items_at last columns least p (ts ++ (targets ++ more))))
@@ -398,13 +398,13 @@ module _ (given : RenderOptions) (decorates : Bool) (min_wrap : ℕ) (held : Uni
 
   bullets_walked : (items : Items) (rest : Blocks) → InList None 2 (capped (least_of_items o items + 2)) items →
       AreWalked rest → AreWalked (bullets items rest)
-  bullets_walked items rest in_items walked p ts n count b =
+  bullets_walked items rest in_items walked p ts b =
       let inside : Values = values_of_items o items in
       let others : Values = values_of_blocks o rest in
       let behind : List (List ℕ) = ts ++ targets_of_items o items in
       let begun : Option (Laid Tag) = start_block (w p) outermost b in
       let asked : ℕ = capped (least_of_items o items + 2) in
-      let runs = run_items o p.width n 2 asked None items in
+      let runs = run_items o p.width ts 2 asked None items in
       let asks : least infos.Bullets inside ≡ asked =
       ap capped (both (λ k n. k + n) (least_of_item_values o items) bullet_columns) in
       bullets_value inside others p ts b
@@ -416,21 +416,21 @@ module _ (given : RenderOptions) (decorates : Bool) (min_wrap : ℕ) (held : Uni
       (here p ts)
       (here p behind) begun
       (λ b. listed_is None (number_behind items None) (number inside) (least infos.Bullets inside) 2 asked inside p ts
-      behind b (runs b) (bullets_room (number inside) (here p ts b)) asks (in_items p ts n count b)))
-      ∙ rest_walked rest walked p ts (targets_of_items o items) n count (λ b. b) (option_and_then runs begun)
+      behind b (runs b) (bullets_room (number inside) (here p ts b)) asks (in_items p ts b)))
+      ∙ rest_walked rest walked p ts (targets_of_items o items) (λ b. b) (option_and_then runs begun)
 
   numbers_walked : (first : ℤ) (items : Items) (rest : Blocks) →
       InList (Some first) (room_of_numbers first (how_many items))
       (capped (least_of_items o items + room_of_numbers first (how_many items))) items →
       AreWalked rest → AreWalked (numbers first items rest)
-  numbers_walked first items rest in_items walked p ts n count b =
+  numbers_walked first items rest in_items walked p ts b =
       let inside : Values = values_of_items o items in
       let others : Values = values_of_blocks o rest in
       let behind : List (List ℕ) = ts ++ targets_of_items o items in
       let begun : Option (Laid Tag) = start_block (w p) outermost b in
       let columns : ℕ = room_of_numbers first (how_many items) in
       let asked : ℕ = capped (least_of_items o items + columns) in
-      let runs = run_items o p.width n columns asked (Some first) items in
+      let runs = run_items o p.width ts columns asked (Some first) items in
       let room : room_of_numbers first (number inside) ≡ columns = ap (room_of_numbers first)
       (number_of_items o items) in
       let asks : least (infos.Numbers first) inside ≡ asked =
@@ -446,35 +446,35 @@ module _ (given : RenderOptions) (decorates : Bool) (min_wrap : ℕ) (held : Uni
       (λ b. listed_is (Some first) (number_behind items (Some first)) (number inside) (least
       (infos.Numbers first) inside)
       columns asked inside p ts behind b (runs b) (numbers_room first (number inside) (here p ts b) ∙ room) asks
-      (in_items p ts n count b)))
-      ∙ rest_walked rest walked p ts (targets_of_items o items) n count (λ b. b) (option_and_then runs begun)
+      (in_items p ts b)))
+      ∙ rest_walked rest walked p ts (targets_of_items o items) (λ b. b) (option_and_then runs begun)
 
   mutual
     pub blocks_walked : (blocks : Blocks) → AreFilledBlocks blocks → AreWalked blocks
-    blocks_walked no_blocks filled p ts n count b =
+    blocks_walked no_blocks filled p ts b =
         ap (λ all. let some : Option Layings = Some (here p all b) in some) (sym (append-nil ts))
-    blocks_walked (paragraph is rest) filled p ts n count b =
-        paragraph_walked is rest filled.0 (blocks_walked rest filled.1) p ts n count b
-    blocks_walked (heading level is rest) filled p ts n count b =
-        heading_walked level is rest filled.0 (blocks_walked rest filled.1) p ts n count b
-    blocks_walked (division kids rest) filled p ts n count b =
-        division_walked kids rest (blocks_walked kids filled.0) (blocks_walked rest filled.1) p ts n count b
-    blocks_walked (quote kids rest) filled p ts n count b =
-        quote_walked kids rest (blocks_walked kids filled.0) (blocks_walked rest filled.1) p ts n count b
-    blocks_walked (bullets items rest) filled p ts n count b =
+    blocks_walked (paragraph is rest) filled p ts b =
+        paragraph_walked is rest filled.0 (blocks_walked rest filled.1) p ts b
+    blocks_walked (heading level is rest) filled p ts b =
+        heading_walked level is rest filled.0 (blocks_walked rest filled.1) p ts b
+    blocks_walked (division kids rest) filled p ts b =
+        division_walked kids rest (blocks_walked kids filled.0) (blocks_walked rest filled.1) p ts b
+    blocks_walked (quote kids rest) filled p ts b =
+        quote_walked kids rest (blocks_walked kids filled.0) (blocks_walked rest filled.1) p ts b
+    blocks_walked (bullets items rest) filled p ts b =
         bullets_walked items rest (items_walked items filled.0 None 2 (capped (least_of_items o items + 2)))
-        (blocks_walked rest filled.1) p ts n count b
-    blocks_walked (numbers first items rest) filled p ts n count b =
+        (blocks_walked rest filled.1) p ts b
+    blocks_walked (numbers first items rest) filled p ts b =
         numbers_walked first items rest (items_walked items filled.0 (Some first)
         (room_of_numbers first (how_many items))
         (capped (least_of_items o items + room_of_numbers first (how_many items))))
-        (blocks_walked rest filled.1) p ts n count b
+        (blocks_walked rest filled.1) p ts b
 
     pub items_walked : (items : Items) → AreFilledItems items → (number : Option ℤ) (columns least : ℕ) →
         InList number columns least items
-    items_walked no_items filled number columns least p ts n count b =
+    items_walked no_items filled number columns least p ts b =
         ap (λ all. let some : Option Layings = Some (items_at number columns least p all b) in some) (sym
         (append-nil ts))
-    items_walked (item kids rest) filled number columns least p ts n count b =
+    items_walked (item kids rest) filled number columns least p ts b =
         item_walked number columns least kids rest (blocks_walked kids filled.0)
-        (items_walked rest filled.1 (next_number number) columns least) p ts n count b
+        (items_walked rest filled.1 (next_number number) columns least) p ts b

@@ -1,6 +1,6 @@
 -- What the walk of a render tree makes of the values of what a paragraph holds: the calls of its parts.
-use Rattle.std.proofs.Common.{◌≡◌, ℕ, suc, ◌+◌, Bool, true, false, List, [], ◌∷◌, ◌++◌, length, codes, Option, None}
-use Rattle.std.proofs.Common.{Some, if◌then◌else◌, refl, sym, ap, ◌∙◌, append_assoc, append-nil, length-append, arith}
+use Rattle.std.proofs.Common.{◌≡◌, ℕ, Bool, true, false, List, [], ◌∷◌, ◌++◌, codes, Option, None}
+use Rattle.std.proofs.Common.{Some, if◌then◌else◌, refl, sym, ap, ◌∙◌, append_assoc, append-nil}
 use Rattle.std.specs.Option.{option_and_then, option_map}
 use Rattle.article_layout.specs.ArticleValues.{link_before, marked, style_info, text_before, values_of_inlines}
 use Rattle.article_layout.specs.Calls.{run}
@@ -135,23 +135,23 @@ module _ (given : RenderOptions) (decorates : Bool) (min_wrap : ℕ) (held : Uni
   -- ---- inlines
 
   abbrev IsWalked : Inlines → Type 0
-  IsWalked is = (p : Place) (ts : List (List ℕ)) (n : ℕ) → length ts ≡ n → (d : Tag) (b : Laid Tag) →
+  IsWalked is = (p : Place) (ts : List (List ℕ)) (d : Tag) (b : Laid Tag) →
       b.awaits ≡ false → walk (values_of_inlines article is) (at p ts d b)
-      ≡ option_map (at p (ts ++ targets_in article is) d) (run (ms p) (parts_of article d n is) b)
+      ≡ option_map (at p (ts ++ targets_in article is) d) (run (ms p) (parts_of article d ts is) b)
 
   words_walked : (c : ℕ) (cs : List ℕ) (rest : Inlines) → IsWalked rest → IsWalked (words (c ∷ cs) rest)
-  words_walked c cs rest then_rest p ts n count d b quiet =
+  words_walked c cs rest then_rest p ts d b quiet =
       text_walked c cs (values_of_inlines article rest) p ts d b quiet
-      ∙ next (walk (values_of_inlines article rest)) (run (ms p) (parts_of article d n rest)) (at p ts d)
+      ∙ next (walk (values_of_inlines article rest)) (run (ms p) (parts_of article d ts rest)) (at p ts d)
       (at p (ts ++ targets_in article rest) d) (say (ms p) d (c ∷ cs) b) (say_quiet (ms p) d (c ∷ cs) b quiet)
-      (λ b quiet. then_rest p ts n count d b quiet)
+      (λ b quiet. then_rest p ts d b quiet)
 
   broken_walked : (rest : Inlines) → IsWalked rest → IsWalked (line_break rest)
-  broken_walked rest then_rest p ts n count d b quiet =
+  broken_walked rest then_rest p ts d b quiet =
       break_walked (values_of_inlines article rest) p ts d b
-      ∙ next (walk (values_of_inlines article rest)) (run (ms p) (parts_of article d n rest)) (at p ts d)
+      ∙ next (walk (values_of_inlines article rest)) (run (ms p) (parts_of article d ts rest)) (at p ts d)
       (at p (ts ++ targets_in article rest) d) (break_line (ms p) d b) (break_quiet (ms p) d b quiet)
-      (λ b quiet. then_rest p ts n count d b quiet)
+      (λ b quiet. then_rest p ts d b quiet)
 
   -- ---- spans
 
@@ -198,21 +198,21 @@ module _ (given : RenderOptions) (decorates : Bool) (min_wrap : ℕ) (held : Uni
       kept None = refl
       kept (Some l) = refl
 
-  marked_walked : (mark : List ℕ) (kids : Inlines) → IsWalked kids → (p : Place) (ts : List (List ℕ)) (n : ℕ) →
-      length ts ≡ n → (d : Tag) (b : Laid Tag) → b.awaits ≡ false →
+  marked_walked : (mark : List ℕ) (kids : Inlines) → IsWalked kids → (p : Place) (ts : List (List ℕ))
+      (d : Tag) (b : Laid Tag) → b.awaits ≡ false →
       walk (marked mark (values_of_inlines article kids)) (at p ts d b)
-      ≡ option_map (at p (ts ++ targets_in article kids) d) (marked_run (ms p) d mark (parts_of article d n kids) b)
-  marked_walked mark kids in_kids p ts n count d b quiet =
+      ≡ option_map (at p (ts ++ targets_in article kids) d) (marked_run (ms p) d mark (parts_of article d ts kids) b)
+  marked_walked mark kids in_kids p ts d b quiet =
       let w = ms p in
       let inside = values_of_inlines article kids in
-      let parts = parts_of article d n kids in
+      let parts = parts_of article d ts kids in
       let behind = ts ++ targets_in article kids in
       before_walked mark (joined inside (text_before mark none)) p ts d b quiet
       ∙ next (walk (joined inside (text_before mark none)))
       (λ b. option_and_then (said_mark w d mark) (run w parts b)) (at p ts d) (at p behind d)
       (said_mark w d mark b) (mark_quiet w d mark b quiet)
       (λ b quiet. walk_joined inside (text_before mark none) (at p ts d b)
-      ∙ ap (option_and_then (walk (text_before mark none))) (in_kids p ts n count d b quiet)
+      ∙ ap (option_and_then (walk (text_before mark none))) (in_kids p ts d b quiet)
       ∙ next (walk (text_before mark none)) (said_mark w d mark) (at p behind d) (at p behind d) (run w parts b)
       (run_quiet w parts b quiet) (λ b quiet. mark_behind mark p behind d b quiet))
       ∙ ap (option_map (at p behind d)) (sym (chained (said_mark w d mark) (run w parts) (said_mark w d mark b)))
@@ -253,20 +253,17 @@ module _ (given : RenderOptions) (decorates : Bool) (min_wrap : ℕ) (held : Uni
       (λ b quiet. run_quiet w parts b quiet))
       (λ b quiet. mark_quiet w d mark b quiet)
 
-  pub counted : (ts more : List (List ℕ)) (n : ℕ) → length ts ≡ n → length (ts ++ more) ≡ n + length more
-  counted ts more n count = length-append ts more ∙ ap (λ k. k + length more) count
-
   span_walked : (style : Style) (kids rest : Inlines) → IsWalked kids → IsWalked rest → IsWalked (span style kids rest)
-  span_walked style kids rest in_kids then_rest p ts n count d b quiet =
+  span_walked style kids rest in_kids then_rest p ts d b quiet =
       let w : Measure = ms p in
       let e : Tag = within d in
       let mark : List ℕ = mark_of article style in
       let inside : Values = marked mark (values_of_inlines article kids) in
       let others : Values = values_of_inlines article rest in
-      let parts : List Part = parts_of article e n kids in
+      let parts : List Part = parts_of article e ts kids in
       let targets : List (List ℕ) = targets_in article kids in
       let behind : List (List ℕ) = ts ++ targets in
-      let following : List Part = parts_of article d (n + length targets) rest in
+      let following : List Part = parts_of article d behind rest in
       let begun : Option (Laid Tag) = say w e [] b in
       let begun_quiet : IsQuiet begun = say_quiet w e [] b quiet in
       let filled : Option (Laid Tag) = option_and_then (marked_run w e mark parts) begun in
@@ -282,13 +279,13 @@ module _ (given : RenderOptions) (decorates : Bool) (min_wrap : ℕ) (held : Uni
       ∙ ap (λ x. option_and_then (walk others) (option_and_then (laying_of.says plain_marking (ends_mark
       (end_of style))) x))
       (next (walk inside) (marked_run w e mark parts) (at p ts e) (at p behind e) begun begun_quiet
-      (λ b quiet. marked_walked mark kids in_kids p ts n count e b quiet))
+      (λ b quiet. marked_walked mark kids in_kids p ts e b quiet))
       ∙ ap (option_and_then (walk others))
       (next (laying_of.says plain_marking (ends_mark (end_of style))) (say w e []) (at p behind e) (at p behind d)
       filled filled_quiet (λ b quiet. span_ended style p behind d b quiet))
       ∙ next (walk others) (run w following) (at p behind d) (at p
       (behind ++ targets_in article rest) d) ended ended_quiet
-      (λ b quiet. then_rest p behind (n + length targets) (counted ts targets n count) d b quiet)
+      (λ b quiet. then_rest p behind d b quiet)
       ∙ ap (λ all. option_map (at p all d) (option_and_then (run w following) ended))
       (append_assoc ts targets (targets_in article rest))
       ∙ ap (option_map (at p (ts ++ (targets ++ targets_in article rest)) d)) (span_run w e mark parts following b)
@@ -335,33 +332,30 @@ module _ (given : RenderOptions) (decorates : Bool) (min_wrap : ℕ) (held : Uni
           ∙ sym (run_both w inside (says (codes "]") (within d) ∷ says mark d ∷ rest) b)
 
   shown_walked : (target : List ℕ) (kids rest : Inlines) → IsWalked kids → IsWalked rest → (p : Place)
-      (ts : List (List ℕ)) (n : ℕ) → length ts ≡ n → (d : Tag) (b : Laid Tag) → b.awaits ≡ false →
+      (ts : List (List ℕ)) (d : Tag) (b : Laid Tag) → b.awaits ≡ false →
       walk (value (plain_head (infos.Link target)) (values_of_inlines article kids) (values_of_inlines article rest))
       (at p ts d b)
       ≡ option_map (at p (ts ++ target ∷ (targets_in article kids ++ targets_in article rest)) d)
-      (run (ms p) (says (codes "[") (within d) ∷ (parts_of article (within d) (suc n) kids
-      ++ says (codes "]") (within d) ∷ says (number_mark article (n + suc (length (targets_in article kids)))) d
-      ∷ parts_of article d (n + suc (length (targets_in article kids))) rest)) b)
-  shown_walked target kids rest in_kids then_rest p ts n count d b quiet =
+      (run (ms p) (says (codes "[") (within d) ∷ (parts_of article (within d) (ts ++ target ∷ []) kids
+      ++ says (codes "]") (within d) ∷ says (number_mark article ((ts ++ target ∷ []) ++ targets_in article kids)) d
+      ∷ parts_of article d ((ts ++ target ∷ []) ++ targets_in article kids) rest)) b)
+  shown_walked target kids rest in_kids then_rest p ts d b quiet =
       let w : Measure = ms p in
       let e : Tag = within d in
       let inside : Values = values_of_inlines article kids in
       let others : Values = values_of_inlines article rest in
-      let parts : List Part = parts_of article e (suc n) kids in
+      let here : List (List ℕ) = ts ++ target ∷ [] in
+      let parts : List Part = parts_of article e here kids in
       let targets : List (List ℕ) = targets_in article kids in
       let more : List (List ℕ) = targets_in article rest in
-      let here : List (List ℕ) = ts ++ target ∷ [] in
       let behind : List (List ℕ) = here ++ targets in
-      let number : ℕ = n + suc (length targets) in
-      let following : List Part = parts_of article d number rest in
-      let here_count : length here ≡ suc n = omega (arith, length-append ts (target ∷ []), count) in
-      let behind_count : length behind ≡ number = omega (arith, length-append here targets, here_count) in
+      let following : List Part = parts_of article d behind rest in
       let begun : Option (Laid Tag) = say w e (codes "[") b in
       let begun_quiet : IsQuiet begun = say_quiet w e (codes "[") b quiet in
       let filled : Option (Laid Tag) = option_and_then (run w parts) begun in
       let filled_quiet : IsQuiet filled =
       then_quiet (run w parts) begun begun_quiet (λ b quiet. run_quiet w parts b quiet) in
-      let mark : List ℕ = number_mark article number in
+      let mark : List ℕ = number_mark article behind in
       let ended : Option (Laid Tag) = option_and_then (closed w d mark) filled in
       let ended_quiet : IsQuiet ended =
       then_quiet (closed w d mark) filled filled_quiet (λ b quiet. closed_quiet w d mark b quiet) in
@@ -371,45 +365,49 @@ module _ (given : RenderOptions) (decorates : Bool) (min_wrap : ℕ) (held : Uni
       (link_begun given decorates min_wrap held target p ts d b quiet)
       ∙ ap (λ x. option_and_then (walk others) (option_and_then (ends_link plain_marking) x))
       (next (walk inside) (run w parts) (at p here e) (at p behind e) begun begun_quiet
-      (λ b quiet. in_kids p here (suc n) here_count e b quiet))
+      (λ b quiet. in_kids p here e b quiet))
       ∙ ap (option_and_then (walk others))
       (next (ends_link plain_marking) (closed w d mark) (at p behind e) (at p behind d) filled filled_quiet
-      (λ b quiet. link_ended given decorates min_wrap held p behind d b quiet
-      ∙ ap (λ k. option_map (at p behind d) (closed w d (number_mark article k) b)) behind_count))
+      (λ b quiet. link_ended given decorates min_wrap held p behind d b quiet))
       ∙ next (walk others) (run w following) (at p behind d) (at p (behind ++ more) d) ended ended_quiet
-      (λ b quiet. then_rest p behind number behind_count d b quiet)
+      (λ b quiet. then_rest p behind d b quiet)
       ∙ ap (λ all. option_map (at p all d) (option_and_then (run w following) ended))
       (append_assoc here targets more ∙ append_assoc ts (target ∷ []) (targets ++ more))
       ∙ ap (option_map (at p (ts ++ target ∷ (targets ++ more)) d)) (link_run w d mark parts following b)
 
   link_by : (shallow : Bool) (target : List ℕ) (kids rest : Inlines) → IsWalked kids → IsWalked rest → (p : Place)
-      (ts : List (List ℕ)) (n : ℕ) → length ts ≡ n → (d : Tag) (b : Laid Tag) → b.awaits ≡ false →
+      (ts : List (List ℕ)) (d : Tag) (b : Laid Tag) → b.awaits ≡ false →
       walk (link_before shallow target (values_of_inlines article kids) (values_of_inlines article rest)) (at p ts d b)
       ≡ option_map (at p (ts ++ (unless_shallow shallow
       (target ∷ targets_in article kids) ++ targets_in article rest)) d)
       (run (ms p) (unless_shallow shallow (says (codes "[") (within d)
-      ∷ (parts_of article (within d) (suc n) kids ++ says (codes "]") (within d)
-      ∷ says (number_mark article (n + suc (length (targets_in article kids)))) d ∷ []))
-      ++ parts_of article d (if shallow then n else n + suc (length (targets_in article kids))) rest) b)
-  link_by true target kids rest in_kids then_rest p ts n count d b quiet = then_rest p ts n count d b quiet
-  link_by false target kids rest in_kids then_rest p ts n count d b quiet =
-      let behind : ℕ = n + suc (length (targets_in article kids)) in
-      let end : List Part = says (codes "]") (within d) ∷ says (number_mark article behind) d ∷ [] in
-      shown_walked target kids rest in_kids then_rest p ts n count d b quiet
-      ∙ ap (λ parts. option_map (at p (ts ++ target ∷ (targets_in article kids ++ targets_in article rest)) d)
-      (run (ms p) (says (codes "[") (within d) ∷ parts) b))
-      (sym (append_assoc (parts_of article (within d) (suc n) kids) end (parts_of article d behind rest)))
+      ∷ (parts_of article (within d) (ts ++ target ∷ []) kids ++ says (codes "]") (within d)
+      ∷ says (number_mark article (ts ++ target ∷ targets_in article kids)) d ∷ []))
+      ++ parts_of article d (if shallow then ts else ts ++ target ∷ targets_in article kids) rest) b)
+  link_by true target kids rest in_kids then_rest p ts d b quiet = then_rest p ts d b quiet
+  link_by false target kids rest in_kids then_rest p ts d b quiet =
+      let inside : List Part = parts_of article (within d) (ts ++ target ∷ []) kids in
+      let end : List (List ℕ) → List Part = λ behind. says (codes "]") (within d)
+      ∷ says (number_mark article behind) d ∷ [] in
+      let walked : List Part → Option Layings =
+      λ parts. option_map (at p (ts ++ target ∷ (targets_in article kids ++ targets_in article rest)) d)
+      (run (ms p) (says (codes "[") (within d) ∷ parts) b) in
+      shown_walked target kids rest in_kids then_rest p ts d b quiet
+      ∙ ap (λ behind. walked (inside ++ (end behind ++ parts_of article d behind rest)))
+      (append_assoc ts (target ∷ []) (targets_in article kids))
+      ∙ ap walked (sym (append_assoc inside (end (ts ++ target ∷ targets_in article kids))
+      (parts_of article d (ts ++ target ∷ targets_in article kids) rest)))
 
   pub are_walked : (is : Inlines) → AreFilled is → IsWalked is
-  are_walked no_inlines filled p ts n count d b quiet =
+  are_walked no_inlines filled p ts d b quiet =
       ap (λ all. let some : Option Layings = Some (at p all d b) in some) (sym (append-nil ts))
-  are_walked (words [] rest) filled p ts n count d b quiet = absurd filled
-  are_walked (words (c ∷ cs) rest) filled p ts n count d b quiet =
-      words_walked c cs rest (are_walked rest filled) p ts n count d b quiet
-  are_walked (line_break rest) filled p ts n count d b quiet =
-      broken_walked rest (are_walked rest filled) p ts n count d b quiet
-  are_walked (span style kids rest) filled p ts n count d b quiet =
-      span_walked style kids rest (are_walked kids filled.0) (are_walked rest filled.1) p ts n count d b quiet
-  are_walked (link target kids rest) filled p ts n count d b quiet =
+  are_walked (words [] rest) filled p ts d b quiet = absurd filled
+  are_walked (words (c ∷ cs) rest) filled p ts d b quiet =
+      words_walked c cs rest (are_walked rest filled) p ts d b quiet
+  are_walked (line_break rest) filled p ts d b quiet =
+      broken_walked rest (are_walked rest filled) p ts d b quiet
+  are_walked (span style kids rest) filled p ts d b quiet =
+      span_walked style kids rest (are_walked kids filled.0) (are_walked rest filled.1) p ts d b quiet
+  are_walked (link target kids rest) filled p ts d b quiet =
       link_by (all_shallow article kids) target kids rest (are_walked kids filled.0) (are_walked rest filled.1)
-      p ts n count d b quiet
+      p ts d b quiet

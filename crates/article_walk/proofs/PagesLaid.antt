@@ -1,6 +1,6 @@
 -- A page's renderer by the block of lines that it holds, and what calls of the renderer do to that block.
 use Rattle.std.proofs.Common.{◌≡◌, ℕ, Bool, true, false, not, ◌&&◌, List, [], ◌∷◌, ◌++◌, Option, None, Some}
-use Rattle.std.proofs.Common.{if◌then◌else◌, refl, sym, ap, ◌∙◌, codes, fold, length}
+use Rattle.std.proofs.Common.{if◌then◌else◌, refl, sym, ap, ◌∙◌, codes, fold}
 use Rattle.std.specs.List.{list_all}
 use Rattle.std.specs.Char.{is_whitespace}
 use Rattle.std.specs.Option.{option_and_then, option_map}
@@ -8,6 +8,7 @@ use Rattle.article_layout.specs.Calls.{measure}
 use Rattle.article_layout.specs.Layouts.{Options, Tag, number_mark, outermost, within}
 use Rattle.block_layout.specs.Laid.{Laid, add_text, break_line, end_block, flush, start_block}
 use Rattle.block_layout.specs.declared.measure.Measure.{Measure}
+use Rattle.link_targets.specs.Targets.{last_number}
 use Rattle.render_laying.specs.Laying.{Laying, begins_link, ends_link, in_current, in_parts, says}
 use Rattle.renderer_calls.specs.Calls.{adds_text, breaks_line, ends_block, ends_line, ends_mark, starts_block}
 use Rattle.renderer_calls.specs.Calls.{starts_mark}
@@ -166,14 +167,14 @@ module _ (given : RenderOptions) (decorates : Bool) (min_wrap : ℕ) (held : Uni
       option_map (in_parts (laying p ts (within d) b)) (option_and_then (add_part_number plain_marking)
       (option_map (with_current (part_behind p ts (within d) b)) (option_map popped (option_map (sub_at p
       (within d)) x))))
-      ≡ option_map (laying p ts d) (option_and_then (say (m p) d (number_mark o (length ts))) x)
+      ≡ option_map (laying p ts d) (option_and_then (say (m p) d (number_mark o ts)) x)
   number_by p ts d b None quiet same = refl
   number_by p ts d b (Some c) quiet same =
       ap (λ e. option_map (in_parts (laying p ts (within d) b)) (add_part_number plain_marking (part_behind p ts e c)))
       (last_off d)
       ∙ ap (λ s. option_map (in_parts (laying p ts (within d) b)) (option_map (with_current (part_behind p ts d c)) s))
-      (numbered_by given.include_link_footnotes (length ts) p d c quiet same)
-      ∙ three (say (m p) d (number_mark o (length ts)) c)
+      (numbered_by given.include_link_footnotes (last_number given.shared_footnotes ts) p d c quiet same)
+      ∙ three (say (m p) d (number_mark o ts) c)
     where
       three : (x : Option (Laid Tag)) → option_map (in_parts (laying p ts (within d) b))
           (option_map (with_current (part_behind p ts d c)) (option_map (sub_at p d) x)) ≡ option_map (laying p ts d) x
@@ -183,7 +184,7 @@ module _ (given : RenderOptions) (decorates : Bool) (min_wrap : ℕ) (held : Uni
   pub link_ended : (p : Place) (ts : List (List ℕ)) (d : Tag) (b : Laid Tag) → b.awaits ≡ false →
       ends_link plain_marking (laying p ts (within d) b)
       ≡ option_map (laying p ts d)
-      (option_and_then (say (m p) d (number_mark o (length ts))) (say (m p) (within d) (codes "]") b))
+      (option_and_then (say (m p) d (number_mark o ts)) (say (m p) (within d) (codes "]") b))
   unfolding ends_link
   link_ended p ts d b quiet =
       ap (λ s. option_map (in_parts (laying p ts (within d) b)) (option_and_then (add_part_number plain_marking)

@@ -1,5 +1,5 @@
 //! Laws of the values of articles: each is the contract of a function that does nothing.
-ghost use Rattle.std.specs.Prelude.{◌≡◌, ◌+◌, ◌++◌, ℕ, ℤ, Bool, false, List, length, option_map};
+ghost use Rattle.std.specs.Prelude.{◌≡◌, ◌+◌, ◌++◌, ℕ, ℤ, Bool, false, List, [], option_map};
 ghost use Rattle.article_layout.specs.ArticleValues.{page_values, values_of_blocks, values_of_inlines, values_of_items};
 ghost use Rattle.article_layout.specs.BlockCalls.{run_blocks};
 ghost use Rattle.article_layout.specs.Calls.{measure, run};
