@@ -34,8 +34,8 @@ abbrev pub with_numbers : App
 with_numbers = with_rule (with_rule without_rules (number_rule (codes "width"))) (number_rule (codes "max-bytes"))
 
 abbrev pub with_flags : App
-with_flags = with_rule (with_rule (with_rule with_numbers (flag_rule (codes "rich"))) (flag_rule (codes "no-decorate")))
-    (flag_rule (codes "footnotes"))
+with_flags = with_rule (with_rule (with_rule (with_rule with_numbers (flag_rule (codes "rich")))
+    (flag_rule (codes "no-decorate"))) (flag_rule (codes "footnotes"))) (flag_rule (codes "shared-footnotes"))
 
 abbrev pub program : App
 program = with_rule (with_rule with_flags (text_rule (codes "references"))) file_rule

@@ -1,6 +1,7 @@
 -- The command line, and what its words ask for. A word is its bytes.
 --
---   html2text [--width N] [--rich] [--no-decorate] [--footnotes] [--references FILE] [--max-bytes N] [--] [FILE]
+--   html2text [--width N] [--rich] [--no-decorate] [--footnotes] [--shared-footnotes] [--references FILE]
+--       [--max-bytes N] [--] [FILE]
 use Rattle.std.specs.Prelude.{◌≡◌, ℕ, ◌+◌, ◌^◌, ◌<◌, zero, suc, Bool, true, false, not, pos, All, List, []}
 use Rattle.std.specs.Prelude.{◌∷◌, ◌++◌, ◌⊎◌, flat_map, Option, Some, None, ⊤, codes, slice_get}
 use Rattle.std.specs.Str.{chars}
@@ -16,6 +17,7 @@ pub data Flag : Type 0 where
   rich : Flag
   no_decorate : Flag
   footnotes : Flag
+  shared_footnotes : Flag
 
 abbrev pub valued_word : Valued → List ℕ
 valued_word width = codes "--width"
@@ -26,6 +28,7 @@ abbrev pub flag_word : Flag → List ℕ
 flag_word rich = codes "--rich"
 flag_word no_decorate = codes "--no-decorate"
 flag_word footnotes = codes "--footnotes"
+flag_word shared_footnotes = codes "--shared-footnotes"
 
 -- a part of a line: an option with its value, in two words or in one; an option without a value; the name of a file
 pub data Item : Type 0 where
@@ -80,6 +83,7 @@ abbrev pub use_in : Flag → Item → ℕ
 use_in rich (flag rich) = 1
 use_in no_decorate (flag no_decorate) = 1
 use_in footnotes (flag footnotes) = 1
+use_in shared_footnotes (flag shared_footnotes) = 1
 use_in _ _ = 0
 
 abbrev pub uses_in : Flag → List Item → ℕ
@@ -129,12 +133,14 @@ IsGiven (suc zero) given = given ≡ true
 IsGiven (suc (suc more)) given = ⊥
 
 -- What words ask for: the columns of a line of the page's text; rich text; marks of emphasis; the targets of links
--- behind the page; the file of a table of references; the most bytes of a page; the file of the page.
+-- behind the page, and each once there; the file of a table of references; the most bytes of a page; the file of the
+-- page.
 pub record Asked : Type 0 where
   pub width : ℕ
   pub rich : Bool
   pub decorate : Bool
   pub footnotes : Bool
+  pub shared_footnotes : Bool
   pub references : Option (List ℕ)
   pub max_bytes : Option ℕ
   pub file : Option (List ℕ)
@@ -146,6 +152,7 @@ pub record IsLine (items : List Item) (ending : Ending) (asked : Asked) : Type 0
   pub rich : IsGiven (uses_in rich items) asked.rich
   pub decorate : IsGiven (uses_in no_decorate items) (not asked.decorate)
   pub footnotes : IsGiven (uses_in footnotes items) asked.footnotes
+  pub shared_footnotes : IsGiven (uses_in shared_footnotes items) asked.shared_footnotes
   pub references : GivesText (values_in references items) asked.references
   pub max_bytes : GivesNumber (values_in max_bytes items) asked.max_bytes
   pub file : GivesText (files_in items ending) asked.file

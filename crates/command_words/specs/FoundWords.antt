@@ -23,6 +23,7 @@ pub record IsFound (found : Found) (asked : Asked) : Type 0 where
   pub rich : TellsFlag (one_text found (codes "rich")) asked.rich
   pub decorate : TellsFlag (one_text found (codes "no-decorate")) (not asked.decorate)
   pub footnotes : TellsFlag (one_text found (codes "footnotes")) asked.footnotes
+  pub shared_footnotes : TellsFlag (one_text found (codes "shared-footnotes")) asked.shared_footnotes
   pub references : asked.references ≡ first_value found (codes "references")
   pub max_bytes : TellsNumber (one_text found (codes "max-bytes")) asked.max_bytes
   pub file : asked.file ≡ first_value found (codes "file")

@@ -10,6 +10,7 @@ asked_of r = record {
   rich = r.rich;
   decorate = r.decorate;
   footnotes = r.footnotes;
+  shared_footnotes = r.shared_footnotes;
   references = option_map string_bytes r.references;
   max_bytes = r.max_bytes;
   file = option_map string_bytes r.file;

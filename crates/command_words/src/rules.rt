@@ -96,6 +96,11 @@ pub(crate) fn command<'a>(alloc: Global) -> Result<Command<'a>, AllocError>
             "footnotes",
             "The targets of links behind the page, numbered",
         ))?
+        .arg(flag(
+            alloc,
+            "shared-footnotes",
+            "Each target once behind the page, with one number",
+        ))?
         .arg(text(
             alloc,
             "references",

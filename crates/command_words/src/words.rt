@@ -27,6 +27,8 @@ pub struct Request {
     pub decorate: bool,
     /// The targets of links behind the page, also where the text is one that goes without them.
     pub footnotes: bool,
+    /// One number and one footnote for links to equal targets, where targets stand behind the page.
+    pub shared_footnotes: bool,
     /// The file of a table of references; else the basic ones are known.
     pub references: Option<String>,
     /// The most bytes that the page may have; else any number.
@@ -129,6 +131,7 @@ fn request_in(alloc: Global, matches: &ArgMatches) -> Result<Request, AllocError
         rich: matches.get_flag("rich"),
         decorate: !matches.get_flag("no-decorate"),
         footnotes: matches.get_flag("footnotes"),
+        shared_footnotes: matches.get_flag("shared-footnotes"),
         references: text_in(alloc, matches, "references")?,
         max_bytes: number_in(matches, "max-bytes"),
         file: text_in(alloc, matches, "file")?,

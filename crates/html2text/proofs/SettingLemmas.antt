@@ -9,9 +9,10 @@ use Rattle.html_render_tree.specs.PlainText.{plain_closes}
 use Rattle.html_render_tree.specs.RichText.{rich_closes}
 use Rattle.page_config.specs.PageAnswers.{Answers, IsTold, PageAnswer, fail, too_narrow}
 use Rattle.page_config.specs.PlainPages.{IsPlain}
-use Rattle.page_config.specs.Settings.{PageSetting, by_default}
+use Rattle.page_config.specs.Settings.{PageSetting, by_default, rendered_with}
 use Rattle.render_conversion.specs.Decorating.{decorating_rules}
 use Rattle.renderer_calls.specs.Defaults.{default_options}
+use Rattle.renderer_calls.specs.declared.options.RenderOptions.{RenderOptions}
 use Rattle.text_decorators.specs.Annotations.{RichTag, rich_tag}
 use Rattle.text_decorators.specs.Laws.{rich_mark_tag, rich_tag_fits}
 use Rattle.text_decorators.specs.Texts.{IsRich, is_colour, plain_text, rich_text}
@@ -25,45 +26,64 @@ plain_marks : (rich decorate : Bool) → rich ≡ false → (not rich && decorat
 plain_marks true decorate e = cc
 plain_marks false decorate e = refl
 
--- as pages are where nothing else is said, with the targets of links or without
-abbrev pub bare : References → Bool → PageSetting (Unit {0})
-bare names footnotes = record (by_default names tt) {
+-- as pages are where nothing else is said, with the targets of links or without, each once or not
+abbrev pub bare : References → Asked → PageSetting (Unit {0})
+bare names asked = record (by_default names tt) {
   rendering = record (by_default names tt).rendering {
-    options = record default_options { include_link_footnotes = footnotes };
+    options = record default_options {
+      include_link_footnotes = asked.footnotes;
+      shared_footnotes = asked.shared_footnotes;
+    };
   };
 }
 
-bare_is : (asked : Asked) (names : References) → is_decorated asked ≡ false → IsSetting asked names (bare names asked.footnotes)
+-- with these targets, each once or not
+abbrev pub targets_by : Asked → (marked : Bool) → RenderOptions
+targets_by asked marked = record default_options {
+  include_link_footnotes = marked || asked.footnotes;
+  shared_footnotes = asked.shared_footnotes;
+}
+
+bare_is : (asked : Asked) (names : References) → is_decorated asked ≡ false → IsSetting asked names (bare names asked)
 bare_is asked names none = record {
   table = refl;
   parsing = refl;
   rules = ap (λ marked. if marked then decorating_rules else []) (sym none);
-  options = ap (λ marked. record default_options { include_link_footnotes = marked || asked.footnotes }) (sym none);
+  options = ap (targets_by asked) (sym none);
   min_wrap = refl;
 }
 
 pub rich_setting : (asked : Asked) (names : References) (c : PageSetting (Unit {0})) → asked.rich ≡ true
-    → c ≡ bare names asked.footnotes → IsSetting asked names c
+    → c ≡ bare names asked → IsSetting asked names c
 rich_setting asked names c rich is =
     subst (IsSetting asked names) (sym is) (bare_is asked names (no_marks asked.rich asked.decorate rich))
 
 pub plain_setting : (asked : Asked) (names : References) (c : PageSetting (Unit {0})) → asked.rich ≡ false
-    → asked.decorate ≡ false → c ≡ bare names asked.footnotes → IsSetting asked names c
+    → asked.decorate ≡ false → c ≡ bare names asked → IsSetting asked names c
 plain_setting asked names c rich decorate is = subst (IsSetting asked names) (sym is)
     (bare_is asked names (plain_marks asked.rich asked.decorate rich ∙ decorate))
 
-pub decorated_setting : (asked : Asked) (names : References) (c : PageSetting (Unit {0})) → asked.rich ≡ false
-    → asked.decorate ≡ true → IsPlain names c → IsSetting asked names c
-decorated_setting asked names c rich decorate plain =
+-- the same with each target once, where that is asked for
+abbrev pub sharing : Asked → PageSetting (Unit {0}) → PageSetting (Unit {0})
+sharing asked c = rendered_with c (record c.rendering.options { shared_footnotes = asked.shared_footnotes })
+
+sharing_is : (asked : Asked) (names : References) (c : PageSetting (Unit {0})) → asked.rich ≡ false
+    → asked.decorate ≡ true → IsPlain names c → IsSetting asked names (sharing asked c)
+sharing_is asked names c rich decorate plain =
     let marked : true ≡ is_decorated asked = sym (plain_marks asked.rich asked.decorate rich ∙ decorate) in
     record {
       table = plain.table;
       parsing = plain.parsing;
       rules = plain.rules ∙ ap (λ marked. if marked then decorating_rules else []) marked;
-      options = plain.options
-          ∙ ap (λ marked. record default_options { include_link_footnotes = marked || asked.footnotes }) marked;
+      options = ap (λ (o : RenderOptions). record o { shared_footnotes = asked.shared_footnotes }) plain.options
+          ∙ ap (targets_by asked) marked;
       min_wrap = plain.min_wrap;
     }
+
+pub decorated_setting : (asked : Asked) (names : References) (c base : PageSetting (Unit {0})) → asked.rich ≡ false
+    → asked.decorate ≡ true → IsPlain names base → c ≡ sharing asked base → IsSetting asked names c
+decorated_setting asked names c base rich decorate plain is =
+    subst (IsSetting asked names) (sym is) (sharing_is asked names base rich decorate plain)
 
 -- ---- what they give
 

@@ -36,13 +36,16 @@ abbrev pub asked_rules : Asked → List SeenRule
 asked_rules asked = if is_decorated asked then decorating_rules else []
 
 -- what a page is read and rendered by for what is asked, with these references: as pages are where nothing else is
--- said, with or without these marks; with targets of links behind a page with marks, and where they are asked for
+-- said, with or without these marks; with targets of links behind a page with marks, and where they are asked for; and
+-- each of these targets once, where that is asked for
 pub record IsSetting (asked : Asked) (names : References) (c : PageSetting (Unit {0})) : Type 0 where
   pub table : c.table ≡ names
   pub parsing : c.parsing ≡ default_parse
   pub rules : map seen_rule c.rules ≡ asked_rules asked
-  pub options : c.rendering.options
-      ≡ record default_options { include_link_footnotes = is_decorated asked || asked.footnotes }
+  pub options : c.rendering.options ≡ record default_options {
+    include_link_footnotes = is_decorated asked || asked.footnotes;
+    shared_footnotes = asked.shared_footnotes;
+  }
   pub min_wrap : c.rendering.min_wrap ≡ 3
 
 -- by the decorator of rich text, or else by that of plain text

@@ -51,6 +51,7 @@ fn write_rich<R: ByteReader, W: ByteWriter>(
 {
     let config = Config::rich(alloc, table)
         .link_footnotes(request.footnotes)
+        .shared_footnotes(request.shared_footnotes)
         .max_bytes(request.max_bytes.unwrap_or(usize::MAX));
     write_by(alloc, input, output, config, request.width)
 }
@@ -70,7 +71,9 @@ fn write_decorated<R: ByteReader, W: ByteWriter>(
         (R.has_failed input.new) (W.has_failed output.new) (W.was_flushed output.new) (R.count input.old)
         (R.count input.new) (W.contents output.old) (W.contents output.new) (output.new ≡ output.old) result }
 {
-    let config = Config::plain(alloc, table)?.max_bytes(request.max_bytes.unwrap_or(usize::MAX));
+    let config = Config::plain(alloc, table)?
+        .shared_footnotes(request.shared_footnotes)
+        .max_bytes(request.max_bytes.unwrap_or(usize::MAX));
     write_by(alloc, input, output, config, request.width)
 }
 
@@ -91,6 +94,7 @@ fn write_plain<R: ByteReader, W: ByteWriter>(
 {
     let config = Config::plain_no_decorate(alloc, table)
         .link_footnotes(request.footnotes)
+        .shared_footnotes(request.shared_footnotes)
         .max_bytes(request.max_bytes.unwrap_or(usize::MAX));
     write_by(alloc, input, output, config, request.width)
 }

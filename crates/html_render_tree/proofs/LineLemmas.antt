@@ -5,6 +5,7 @@ use Rattle.std.specs.Prelude.{if◌then◌else◌}
 use Rattle.std.proofs.lemmas.List.{map-append}
 use Rattle.std.specs.Option.{option_and_then}
 use Rattle.block_renderer.specs.Footnotes.{add_footnotes}
+use Rattle.link_targets.specs.Targets.{noted_targets}
 use Rattle.renderer_calls.specs.Renderers.{Marking, Sub, with_block_started}
 use Rattle.tagged_lines.specs.Tagged.{Item}
 use Rattle.tagged_lines.specs.declared.tagged_line.TaggedLine.{TaggedLine}
@@ -54,11 +55,13 @@ pub never_noted_as : {T H A : Type 0} (m : Marking H A) (seen : T → A)
 never_noted_as m seen closes targets others s r e f h =
     subst (λ t. NeverNoted m seen closes t r) e (subst (λ x. NeverNoted m seen closes targets x) f h)
 
+abbrev noted_by : {H A : Type 0} → Sub H A → List (List ℕ) → List (List ℕ)
+noted_by s links =
+    if s.options.include_link_footnotes then noted_targets s.options.shared_footnotes links else []
+
 pub noted_as : {H A : Type 0} (p : Parts H A) (s : Sub H A) (links targets : List (List ℕ)) → s ≡ p.current
-    → links ≡ p.targets → targets ≡ (if s.options.include_link_footnotes then links else []) → targets ≡ noted p
-noted_as {H} {A} p s links targets e f h =
-    h ∙ (ap (λ (x : Sub H A). if x.options.include_link_footnotes then links else []) e
-    ∙ ap (λ (l : List (List ℕ)). if p.current.options.include_link_footnotes then l else []) f)
+    → links ≡ p.targets → targets ≡ noted_by s links → targets ≡ noted p
+noted_as p s links targets e f h = h ∙ (ap (λ x. noted_by x links) e ∙ ap (noted_by p.current) f)
 
 pub if_ok_by : {X E : Type 0} (P Q : X → Type 0) (r : Result X E) → ((x : X) → P x → Q x) → IfOk r P → IfOk r Q
 if_ok_by P Q (Ok x) f h = f x h

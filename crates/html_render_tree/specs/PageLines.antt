@@ -2,6 +2,7 @@
 use Rattle.std.specs.Prelude.{◌≡◌, ◌⊎◌, ℕ, List, [], ◌∷◌, Option, None, Some, if◌then◌else◌, map}
 use Rattle.std.specs.Option.{option_and_then, option_map}
 use Rattle.block_renderer.specs.Footnotes.{add_footnotes}
+use Rattle.link_targets.specs.Targets.{noted_targets}
 use Rattle.renderer_calls.specs.Renderers.{Marking, Sub, lines_of_sub, new_sub, with_block_started, with_held}
 use Rattle.renderer_calls.specs.declared.options.RenderOptions.{RenderOptions}
 use Rattle.renderer_calls.specs.Texts.{text_of_lines}
@@ -26,9 +27,10 @@ abbrev pub laid_page : {H A : Type 0} → Marking H A → Setting H → ℕ → 
 laid_page m c width values = laid_parts m (measure_of c.min_wrap (prefix_columns (m.mark_text c.held))) values
     (whole_page (new_sub width c.options c.held []))
 
--- the targets that stand behind the page
+-- the targets that stand behind the page: each once, where links to equal targets share a footnote
 abbrev pub noted : {H A : Type 0} → Parts H A → List (List ℕ)
-noted p = if p.current.options.include_link_footnotes then p.targets else []
+noted p = if p.current.options.include_link_footnotes
+    then noted_targets p.current.options.shared_footnotes p.targets else []
 
 -- Lines behind a page are a block of their own.
 abbrev pub with_notes : {H A : Type 0} → List (List (Item A)) → Sub H A → Option (Sub H A)

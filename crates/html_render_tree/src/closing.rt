@@ -2,6 +2,8 @@
 ghost use Rattle.std.specs.Prelude.{◌≡◌, [], Err, IfOk, None, OnOk, if◌then◌else◌, map};
 ghost use Rattle.block_renderer.specs.Seen.{Comes, Fails, IsTagging, marking, sub_of, tags_seen};
 ghost use Rattle.html_render_tree.specs.PageLines.{IsNoted, IsShown, NeverNoted, noted, with_notes};
+ghost use Rattle.link_targets.specs.Links.{all_targets};
+ghost use Rattle.link_targets.specs.Targets.{noted_targets};
 ghost use Rattle.renderer_calls.specs.Renderers.{lines_of_sub};
 ghost use Rattle.tagged_lines.specs.Tagged.{line_items};
 ghost use Rattle.text_pieces.specs.Sources.{names};
@@ -11,6 +13,7 @@ ghost use Rattle.text_borders.specs.Lines.{line_shown, render_line_of};
 ghost use Rattle.text_pieces.specs.declared.fault.BlockError.TheVariants as errors;
 
 use block_renderer::{RenderLine, Renderer, SubRenderer};
+use link_targets::LinkTargets;
 use std::alloc::{AllocError, Global};
 use tagged_lines::TaggedLine;
 use text_block_renderer::TextRenderer;
@@ -67,14 +70,20 @@ fn with_targets<D: TextDecorator + Drop>(
     Ok(sub)
 }
 
-// the targets that stand behind the page, where they do
-fn told_targets(alloc: Global, include: bool, links: Vec<String>) -> Vec<String>
-    ensures { names result.items ≡ (if include then names links.items else []) }
+// the targets that have footnotes behind the page, where they stand there
+fn told_targets(
+    alloc: Global,
+    include: bool,
+    shared: bool,
+    links: LinkTargets,
+) -> Result<Vec<String>, AllocError>
+    ensures { IfOk result (λ told. names told.items
+        ≡ (if include then noted_targets shared (all_targets links) else [])) }
 {
     if include {
-        return links;
+        return links.into_noted(shared);
     }
-    Vec::new(alloc)
+    Ok(Vec::new(alloc))
 }
 
 /// The page's own renderer behind its last value, closed.
@@ -92,7 +101,13 @@ pub(crate) fn closed_page<D: TextDecorator + Drop>(
         (noted (parts_of D.Annotation.seen D.held text)) (parts_of D.Annotation.seen D.held text).current }
 {
     let (sub, links) = text.into_inner();
-    let targets = told_targets(alloc, sub.options.include_link_footnotes, links);
+    let options = sub.options;
+    let targets = told_targets(
+        alloc,
+        options.include_link_footnotes,
+        options.shared_footnotes,
+        links,
+    )?;
     with_targets(sub, targets)
 }
 

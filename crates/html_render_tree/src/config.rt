@@ -81,6 +81,18 @@ impl<D: TextDecorator + Drop> RenderConfig<D> {
         config
     }
 
+    /// Whether links to equal targets, equal as texts, share one number and one footnote, where the targets of links
+    /// stand behind the page. They are numbered from 1 on in the order of their first links.
+    pub fn shared_footnotes(self, shared: bool) -> RenderConfig<D>
+        ensures setting { setting_of D.held D.sub result ≡ with_options (setting_of D.held D.sub self)
+            (record (setting_of D.held D.sub self).options { shared_footnotes = shared }) }
+        ensures rules { rules_of result ≡ rules_of self }
+    {
+        let mut config = self;
+        config.options.shared_footnotes = shared;
+        config
+    }
+
     /// Every line of a block is filled with spaces to the block's width.
     pub fn pad_block_width(self) -> RenderConfig<D>
         ensures setting { setting_of D.held D.sub result ≡ with_options (setting_of D.held D.sub self)

@@ -93,6 +93,19 @@ impl<D: TextDecorator + Drop> Config<D> {
         }
     }
 
+    /// Whether links to equal targets, equal as texts, share one number and one footnote, where the targets of links
+    /// stand behind the page. They are numbered from 1 on in the order of their first links.
+    pub fn shared_footnotes(self, shared: bool) -> Config<D>
+        ensures setting { page_setting D.held D.sub result ≡ rendered_with (page_setting D.held D.sub self)
+            (record (page_setting D.held D.sub self).rendering.options { shared_footnotes = shared }) }
+        ensures bytes { max_bytes_of result ≡ max_bytes_of self }
+    {
+        Config {
+            rendering: self.rendering.shared_footnotes(shared),
+            ..self
+        }
+    }
+
     /// Every line of a block is filled with spaces to the block's width.
     pub fn pad_block_width(self) -> Config<D>
         ensures setting { page_setting D.held D.sub result ≡ rendered_with (page_setting D.held D.sub self)

@@ -1,20 +1,18 @@
-use Rattle.std.proofs.Common.{◌∙◌, sym, subst}
+use Rattle.std.proofs.Common.{◌∙◌}
 use Rattle.command_words.specs.Requests.{asked_of}
 use Rattle.html2text.proofs.EndingLemmas.{ends_as}
 use Rattle.html2text.proofs.SettingLemmas.{decorated_setting, plain_has, plain_narrow, plain_nothing}
 use Rattle.html2text.proofs.showing.write_decorated.Goals as goal
 use Rattle.html2text.specs.Written.{IsSetting}
-use Rattle.page_config.specs.PlainPages.{IsPlain}
 use Rattle.page_config.specs.Settings.{bare_setting}
 
 pub returns : goal.returns
 returns g c =
     let asked = asked_of c.args.request.now in
     let setting = bare_setting c.max_bytes-config.result in
-    let plain : IsPlain c.args.table setting =
-    subst (IsPlain c.args.table) (sym c.max_bytes-config.ensures.setting) c.in_ok-plain.ensures.plain in
     let is : IsSetting asked c.args.table setting =
-    decorated_setting asked c.args.table setting c.requires.rich c.requires.decorated plain in
+    decorated_setting asked c.args.table setting _ c.requires.rich c.requires.decorated c.in_ok-plain.ensures.plain
+    (c.max_bytes-config.ensures.setting ∙ c.shared_footnotes.ensures.setting) in
     ends_as _ _ _ _ _ _ _ _ _ _ _ _ _ _ _ _ _ c.write_by.result
     (λ page told. plain_has asked c.args.table setting is c.requires.rich page told)
     (λ page. plain_narrow asked c.args.table setting is c.requires.rich page)

@@ -9,7 +9,7 @@ returns-clause-noted g c = if_ok_by _ _ c.with_targets.result (λ s h. λ tag p.
     g.D.TextDecorator.pops g.D.TextDecorator.sub) g.D.Annotation.EqualCopy.seen g.D.TextDecorator.closes _ _ _ _ _
     (noted_as (parts_of g.D.Annotation.EqualCopy.seen g.D.TextDecorator.held c.args.text) (sub_of
     g.D.Annotation.EqualCopy.seen g.D.TextDecorator.held c.into_inner-sub.result.0) _ _ c.into_inner-sub.ensures.sub
-    c.into_inner-sub.ensures.links c.told_targets-targets.ensures) c.into_inner-sub.ensures.sub (h tag p))
+    c.into_inner-sub.ensures.links c.in_ok-targets.ensures) c.into_inner-sub.ensures.sub (h tag p))
     c.with_targets.ensures.noted
 
 pub returns-clause-narrow : goal.returns-clause-narrow
@@ -18,5 +18,5 @@ returns-clause-narrow g c = λ e. λ tag p.
     g.D.TextDecorator.pops g.D.TextDecorator.sub) g.D.Annotation.EqualCopy.seen g.D.TextDecorator.closes _ _ _ _
     (noted_as (parts_of g.D.Annotation.EqualCopy.seen g.D.TextDecorator.held c.args.text) (sub_of
     g.D.Annotation.EqualCopy.seen g.D.TextDecorator.held c.into_inner-sub.result.0) _ _ c.into_inner-sub.ensures.sub
-    c.into_inner-sub.ensures.links c.told_targets-targets.ensures) c.into_inner-sub.ensures.sub
+    c.into_inner-sub.ensures.links c.in_ok-targets.ensures) c.into_inner-sub.ensures.sub
     (c.with_targets.ensures.narrow e tag p)
