@@ -31,6 +31,8 @@ pub(crate) enum PageOption {
     EmptyImgMode(EmptyImage),
     /// Whether the targets of links stand behind the page.
     LinkFootnotes(bool),
+    /// Whether links to equal targets share a footnote.
+    SharedFootnotes(bool),
 }
 
 impl PageOption {
@@ -51,6 +53,7 @@ impl PageOption {
             PageOption::NoTableBorders => config.no_table_borders(),
             PageOption::EmptyImgMode(image) => config.empty_img_mode(image.render_mode()),
             PageOption::LinkFootnotes(include) => config.link_footnotes(include),
+            PageOption::SharedFootnotes(shared) => config.shared_footnotes(shared),
         }
     }
 }
@@ -134,6 +137,7 @@ fn option_with(name: &str, value: &str) -> Result<PageOption, Error> {
         "raw_mode" => Ok(PageOption::RawMode(truth_of(value)?)),
         "empty_img_mode" => Ok(PageOption::EmptyImgMode(empty_image_of(value)?)),
         "link_footnotes" => Ok(PageOption::LinkFootnotes(truth_of(value)?)),
+        "shared_footnotes" => Ok(PageOption::SharedFootnotes(truth_of(value)?)),
         _ => Err(Error::Case("an unknown option with a value")),
     }
 }
