@@ -1,0 +1,4 @@
+pub mod LastLemmas
+pub mod NumberLemmas
+pub mod OnceLemmas
+pub mod TextLemmas
