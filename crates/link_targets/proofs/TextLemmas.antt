@@ -56,7 +56,7 @@ pub has_again : (texts : List (List ℕ)) (text t : List ℕ) → has_text texts
     has_text (texts ++ text ∷ []) t ≡ has_text texts t
 has_again texts text t has = has_push texts text t ∙ sym (had texts text t has (is_same_text t text) refl)
 
-has_with_at : (texts : List (List ℕ)) (text t : List ℕ) (b : Bool) → has_text texts text ≡ b →
+pub has_with_at : (texts : List (List ℕ)) (text t : List ℕ) (b : Bool) → has_text texts text ≡ b →
     has_text (cond b texts (texts ++ text ∷ [])) t ≡ (has_text texts t || is_same_text t text)
 has_with_at texts text t true e = had texts text t e (is_same_text t text) refl
 has_with_at texts text t false e = has_push texts text t

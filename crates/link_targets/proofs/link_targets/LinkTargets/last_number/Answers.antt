@@ -1,7 +1,7 @@
 use Rattle.std.proofs.Common.{ap, sym, ◌∙◌, unwrap_or, length, slice_get, true, ◌-◌}
 use Rattle.link_targets.specs.Links.{all_targets}
 use Rattle.link_targets.specs.Targets.{last_number}
-use Rattle.link_targets.proofs.LastLemmas.{last_numbered, none_numbered}
+use Rattle.link_targets.proofs.LastLemmas.{last_numbered}
 use Rattle.link_targets.proofs.link_targets.LinkTargets.last_number.Goals as goal
 
 pub returns-in-Some-clause-number : goal.returns-in-Some-clause-number
