@@ -16,7 +16,8 @@ use Rattle.clap.specs.declared.builder.value_parser.ValueParser.TheVariants as v
 use Rattle.clap.specs.declared.parser.matches.ValueSource.TheVariants.{DefaultValue}
 use Rattle.clap.proofs.FaultLemmas.{leaf_fault}
 use Rattle.command_words.specs.CommandRules.{program}
-use Rattle.command_words.specs.CommandWords.{footnotes, max_bytes, no_decorate, references, rich, width}
+use Rattle.command_words.specs.CommandWords.{footnotes, max_bytes, no_decorate, references, rich, shared_footnotes}
+use Rattle.command_words.specs.CommandWords.{width}
 use Rattle.command_words.proofs.FaultKinds.{or_else_none}
 use Rattle.command_words.proofs.LineWalks.{end_of, fault_over, rows_over, stands}
 use Rattle.command_words.proofs.OptionNames.{Name, filed, flagged, id_of, no_override, shape, valued}
@@ -43,7 +44,7 @@ no_default_fault (a ∷ rest) rows pass =
 
 program_defaults : DefaultsPass shape.rules
 unfolding shape
-program_defaults = (refl, (refl, (refl, (refl, (refl, (refl, (refl, (refl, tt))))))))
+program_defaults = (refl, (refl, (refl, (refl, (refl, (refl, (refl, (refl, (refl, tt)))))))))
 
 program_checks : (rows : List Row) → check_fault shape rows false ≡ []
 unfolding shape
@@ -175,6 +176,7 @@ program_default (valued max_bytes) = refl
 program_default (flagged rich) = refl
 program_default (flagged no_decorate) = refl
 program_default (flagged footnotes) = refl
+program_default (flagged shared_footnotes) = refl
 program_default filed = refl
 
 -- what is found of a name: its row, or that of its default

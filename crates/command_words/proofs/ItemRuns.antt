@@ -4,7 +4,7 @@ use Rattle.std.specs.Str.{bytes_eq}
 use Rattle.clap.specs.Walk.{Row, Text, has_row, settled_rows}
 use Rattle.clap.specs.Faults.{settle_fault}
 use Rattle.command_words.specs.CommandWords.{Ending, Flag, Item, Valued, bare, dashes, file, footnotes, max_bytes}
-use Rattle.command_words.specs.CommandWords.{named, no_decorate, references, rich, width}
+use Rattle.command_words.specs.CommandWords.{named, no_decorate, references, rich, shared_footnotes, width}
 use Rattle.command_words.proofs.FaultKinds.{IsRefusal, refusal_as}
 use Rattle.command_words.proofs.ItemUses.{Takes, held_with, id_in, item_fault, pend, row_in, settle_is, settled_is}
 use Rattle.command_words.proofs.ItemUses.{taken, taken_passes, takes, untaken, used_is, value_fault}
@@ -88,3 +88,4 @@ pub flag_no_file : (option : Flag) → bytes_eq (id_of (flagged option)) file_id
 flag_no_file rich = refl
 flag_no_file no_decorate = refl
 flag_no_file footnotes = refl
+flag_no_file shared_footnotes = refl

@@ -12,7 +12,7 @@ use Rattle.clap.specs.declared.builder.value_parser.ValueParser.TheVariants as v
 use Rattle.clap.specs.declared.parser.matches.ValueSource.TheVariants.{CommandLine}
 use Rattle.clap.specs.declared.error.kind.ErrorKind.TheVariants.{ArgumentConflict, DisplayHelp, InvalidValue}
 use Rattle.command_words.specs.CommandWords.{Item, Valued, apart, file, flag, footnotes, joined, max_bytes, no_decorate}
-use Rattle.command_words.specs.CommandWords.{references, rich, width}
+use Rattle.command_words.specs.CommandWords.{references, rich, shared_footnotes, width}
 use Rattle.command_words.proofs.FaultKinds.{IsRefusal, refusal}
 use Rattle.command_words.proofs.OptionNames.{Name, by_id, filed, flagged, id_of, rule_at, shape, valued}
 use Rattle.command_words.proofs.RowLemmas.{fresh_row, fresh_without}
@@ -78,6 +78,7 @@ use_is rows (joined max_bytes value) = refl
 use_is rows (flag rich) = refl
 use_is rows (flag no_decorate) = refl
 use_is rows (flag footnotes) = refl
+use_is rows (flag shared_footnotes) = refl
 use_is rows (file name) = refl
 
 -- an option without its value
@@ -104,6 +105,7 @@ used_with (joined max_bytes value) rows = refl
 used_with (flag rich) rows = refl
 used_with (flag no_decorate) rows = refl
 used_with (flag footnotes) rows = refl
+used_with (flag shared_footnotes) rows = refl
 used_with (file name) rows = refl
 
 pub used_is : (item : Item) (rows : List Row) → has_row (id_in item) rows ≡ false

@@ -10,7 +10,7 @@ use Rattle.clap.specs.Kinds.{values_kinds}
 use Rattle.command_words.specs.CommandWords.{Asked, Ending, Flag, GivesNumber, GivesText, GivesWidth, IsGiven, IsLine}
 use Rattle.command_words.specs.CommandWords.{IsWritten, Item, Valued, apart, bare, dashes, files_in, file, flag}
 use Rattle.command_words.specs.CommandWords.{footnotes, joined, max_bytes, named, no_decorate, references, rich}
-use Rattle.command_words.specs.CommandWords.{uses_in, values_in, width}
+use Rattle.command_words.specs.CommandWords.{shared_footnotes, uses_in, values_in, width}
 use Rattle.command_words.proofs.ItemRuns.{Runs, behind}
 use Rattle.command_words.proofs.ItemUses.{id_in, name_of, numbers, parser_at, row_in, value_fault, value_of}
 use Rattle.command_words.proofs.NameUses.{files_all, same_parser, uses_all, uses_at, values_all}
@@ -127,6 +127,7 @@ runs_ask items ending written runs = record {
     rich = plain.0;
     decorate = not unmarked.0;
     footnotes = notes.0;
+    shared_footnotes = shared.0;
     references =
         table.0;
     max_bytes = most.0;
@@ -138,6 +139,7 @@ runs_ask items ending written runs = record {
     rich = plain.1;
     decorate = subst (IsGiven (uses_in no_decorate items)) (sym (not_twice unmarked.0)) unmarked.1;
     footnotes = notes.1;
+    shared_footnotes = shared.1;
     references = table.1;
     max_bytes = most.1;
     file = page.1;
@@ -175,6 +177,9 @@ runs_ask items ending written runs = record {
 
     notes : (b : Bool) × IsGiven (uses_in footnotes items) b
     notes = given_flag footnotes
+
+    shared : (b : Bool) × IsGiven (uses_in shared_footnotes items) b
+    shared = given_flag shared_footnotes
 
 -- ---- the items of a line run
 
@@ -215,6 +220,8 @@ all_single items ending asked line (flagged no_decorate) =
     subst (λ n. n ≤ 1) (uses_all no_decorate items ending) (flag_single _ _ line.decorate)
 all_single items ending asked line (flagged footnotes) =
     subst (λ n. n ≤ 1) (uses_all footnotes items ending) (flag_single _ _ line.footnotes)
+all_single items ending asked line (flagged shared_footnotes) =
+    subst (λ n. n ≤ 1) (uses_all shared_footnotes items ending) (flag_single _ _ line.shared_footnotes)
 all_single items ending asked line filed = single_uses _ _ (files_all items ending) (text_single _ _ line.file)
 
 abbrev Good : List Text → Type 0

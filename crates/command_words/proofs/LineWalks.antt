@@ -13,8 +13,8 @@ use Rattle.clap.specs.declared.error.kind.ErrorKind.{ErrorKind}
 use Rattle.clap.specs.declared.error.kind.ErrorKind.TheVariants.{DisplayHelp}
 use Rattle.command_words.specs.CommandWords.{Ending, Flag, IsHelpWord, IsPlain, IsWritten, Item, Valued, apart, bare}
 use Rattle.command_words.specs.CommandWords.{dashes, file, flag, flag_word, footnotes, joined, max_bytes, named}
-use Rattle.command_words.specs.CommandWords.{no_decorate, references, rich, valued_word, width, words_of}
-use Rattle.command_words.specs.CommandWords.{words_of_ending}
+use Rattle.command_words.specs.CommandWords.{no_decorate, references, rich, shared_footnotes, valued_word, width}
+use Rattle.command_words.specs.CommandWords.{words_of, words_of_ending}
 use Rattle.command_words.proofs.FaultKinds.{IsRefusal, first_refuses, or_else_past}
 use Rattle.command_words.proofs.ItemUses.{held, held_with, id_in, item_fault, pend, row_in, taken_passes, use_is}
 use Rattle.command_words.proofs.ItemUses.{used_by, used_is, value_fault}
@@ -110,11 +110,13 @@ pub flag_other : (option : Flag) → bytes_eq (flag_word option) two_hyphens ≡
 flag_other rich = refl
 flag_other no_decorate = refl
 flag_other footnotes = refl
+flag_other shared_footnotes = refl
 
 pub flag_long : (option : Flag) → long_of (flag_word option) ≡ Some (id_of (flagged option), None)
 flag_long rich = refl
 flag_long no_decorate = refl
 flag_long footnotes = refl
+flag_long shared_footnotes = refl
 
 abbrev pub settling : List Row → Option Item → Kinds
 settling rows p = settle_fault shape.rules false (held_with rows p)

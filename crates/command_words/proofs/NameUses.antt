@@ -12,7 +12,8 @@ use Rattle.clap.specs.declared.builder.value_parser.ValueParser.{ValueParser}
 use Rattle.clap.specs.declared.builder.value_parser.ValueParser.TheVariants as vp
 use Rattle.command_words.specs.CommandWords.{Ending, Flag, Item, Valued, apart, bare, dashes, file, file_behind}
 use Rattle.command_words.specs.CommandWords.{file_in, files_in, flag, footnotes, joined, max_bytes, named, no_decorate}
-use Rattle.command_words.specs.CommandWords.{references, rich, use_in, uses_in, value_in, values_in, width}
+use Rattle.command_words.specs.CommandWords.{references, rich, shared_footnotes, use_in, uses_in, value_in}
+use Rattle.command_words.specs.CommandWords.{values_in, width}
 use Rattle.command_words.proofs.ItemRuns.{behind}
 use Rattle.command_words.proofs.ItemUses.{id_in, name_of, numbers, parser_at, row_in, value_of}
 use Rattle.command_words.proofs.FoundRows.{first_some, row_at}
@@ -30,46 +31,50 @@ values_at name items = map value_of (uses_at name items)
 each_item : (P : Item → Type 0) → ((v : Text) → P (apart width v)) → ((v : Text) → P (apart references v))
     → ((v : Text) → P (apart max_bytes v)) → ((v : Text) → P (joined width v))
     → ((v : Text) → P (joined references v)) → ((v : Text) → P (joined max_bytes v)) → P (flag rich)
-    → P (flag no_decorate) → P (flag footnotes) → ((v : Text) → P (file v)) → (item : Item) → P item
-each_item P a b c d e f g h i j (apart width v) = a v
-each_item P a b c d e f g h i j (apart references v) = b v
-each_item P a b c d e f g h i j (apart max_bytes v) = c v
-each_item P a b c d e f g h i j (joined width v) = d v
-each_item P a b c d e f g h i j (joined references v) = e v
-each_item P a b c d e f g h i j (joined max_bytes v) = f v
-each_item P a b c d e f g h i j (flag rich) = g
-each_item P a b c d e f g h i j (flag no_decorate) = h
-each_item P a b c d e f g h i j (flag footnotes) = i
-each_item P a b c d e f g h i j (file v) = j v
+    → P (flag no_decorate) → P (flag footnotes) → P (flag shared_footnotes) → ((v : Text) → P (file v))
+    → (item : Item) → P item
+each_item P a b c d e f g h i j k (apart width v) = a v
+each_item P a b c d e f g h i j k (apart references v) = b v
+each_item P a b c d e f g h i j k (apart max_bytes v) = c v
+each_item P a b c d e f g h i j k (joined width v) = d v
+each_item P a b c d e f g h i j k (joined references v) = e v
+each_item P a b c d e f g h i j k (joined max_bytes v) = f v
+each_item P a b c d e f g h i j k (flag rich) = g
+each_item P a b c d e f g h i j k (flag no_decorate) = h
+each_item P a b c d e f g h i j k (flag footnotes) = i
+each_item P a b c d e f g h i j k (flag shared_footnotes) = j
+each_item P a b c d e f g h i j k (file v) = k v
 
 abbrev OneValue : Valued → Item → Type 0
 OneValue option item = value_in option item ≡ values_at (valued option) (item ∷ [])
 
 value_one : (option : Valued) (item : Item) → OneValue option item
 value_one width = each_item (OneValue width) (λ v. refl) (λ v. refl) (λ v. refl) (λ v. refl) (λ v. refl) (λ v. refl)
-    refl refl refl (λ v. refl)
+    refl refl refl refl (λ v. refl)
 value_one references = each_item (OneValue references) (λ v. refl) (λ v. refl) (λ v. refl) (λ v. refl) (λ v. refl)
-    (λ v. refl) refl refl refl (λ v. refl)
+    (λ v. refl) refl refl refl refl (λ v. refl)
 value_one max_bytes = each_item (OneValue max_bytes) (λ v. refl) (λ v. refl) (λ v. refl) (λ v. refl) (λ v. refl)
-    (λ v. refl) refl refl refl (λ v. refl)
+    (λ v. refl) refl refl refl refl (λ v. refl)
 
 abbrev OneUse : Flag → Item → Type 0
 OneUse option item = use_in option item ≡ length (uses_at (flagged option) (item ∷ []))
 
 use_one : (option : Flag) (item : Item) → OneUse option item
 use_one rich = each_item (OneUse rich) (λ v. refl) (λ v. refl) (λ v. refl) (λ v. refl) (λ v. refl) (λ v. refl) refl refl
-    refl (λ v. refl)
+    refl refl (λ v. refl)
 use_one no_decorate = each_item (OneUse no_decorate) (λ v. refl) (λ v. refl) (λ v. refl) (λ v. refl) (λ v. refl)
-    (λ v. refl) refl refl refl (λ v. refl)
+    (λ v. refl) refl refl refl refl (λ v. refl)
 use_one footnotes = each_item (OneUse footnotes) (λ v. refl) (λ v. refl) (λ v. refl) (λ v. refl) (λ v. refl) (λ v. refl)
-    refl refl refl (λ v. refl)
+    refl refl refl refl (λ v. refl)
+use_one shared_footnotes = each_item (OneUse shared_footnotes) (λ v. refl) (λ v. refl) (λ v. refl) (λ v. refl)
+    (λ v. refl) (λ v. refl) refl refl refl refl (λ v. refl)
 
 abbrev OneFile : Item → Type 0
 OneFile item = file_in item ≡ values_at filed (item ∷ [])
 
 file_one : (item : Item) → OneFile item
 file_one = each_item OneFile (λ v. refl) (λ v. refl) (λ v. refl) (λ v. refl) (λ v. refl) (λ v. refl) refl refl refl
-    (λ v. refl)
+    refl (λ v. refl)
 
 -- ---- all items
 
@@ -128,6 +133,7 @@ no_use_behind option dashes = refl
 no_use_behind rich (named name) = refl
 no_use_behind no_decorate (named name) = refl
 no_use_behind footnotes (named name) = refl
+no_use_behind shared_footnotes (named name) = refl
 
 uses-append : (option : Flag) (xs ys : List Item) → uses_in option (xs ++ ys) ≡ uses_in option xs + uses_in option ys
 uses-append option [] ys = omega arith
@@ -156,8 +162,8 @@ files_all items ending =
 parser_by : Text → ValueParser
 parser_by id =
     cond (bytes_eq id (codes "width") || bytes_eq id (codes "max-bytes")) numbers
-    (cond (bytes_eq id (codes "rich") || (bytes_eq id (codes "no-decorate") || bytes_eq id (codes "footnotes"))) vp.Bool
-    vp.String)
+    (cond (bytes_eq id (codes "rich") || (bytes_eq id (codes "no-decorate")
+    || (bytes_eq id (codes "footnotes") || bytes_eq id (codes "shared-footnotes")))) vp.Bool vp.String)
 
 parser_is : (name : Name) → parser_at name ≡ parser_by (id_of name)
 unfolding parser_by
@@ -167,6 +173,7 @@ parser_is (valued max_bytes) = refl
 parser_is (flagged rich) = refl
 parser_is (flagged no_decorate) = refl
 parser_is (flagged footnotes) = refl
+parser_is (flagged shared_footnotes) = refl
 parser_is filed = refl
 
 pub same_parser : (name : Name) (item : Item) → bytes_eq (id_in item) (id_of name) ≡ true
@@ -217,7 +224,8 @@ value_found name (item ∷ rest) = go (bytes_eq (id_in item) (id_of name)) (valu
 -- ---- the value of a flag
 
 is_flag_id : Text → Bool
-is_flag_id id = bytes_eq id (codes "rich") || (bytes_eq id (codes "no-decorate") || bytes_eq id (codes "footnotes"))
+is_flag_id id = bytes_eq id (codes "rich") || (bytes_eq id (codes "no-decorate")
+    || (bytes_eq id (codes "footnotes") || bytes_eq id (codes "shared-footnotes")))
 
 abbrev IsTrueFlag : Item → Type 0
 IsTrueFlag item = is_flag_id (id_in item) ≡ true → value_of item ≡ codes "true"
@@ -225,13 +233,14 @@ IsTrueFlag item = is_flag_id (id_in item) ≡ true → value_of item ≡ codes "
 true_flag : (item : Item) → IsTrueFlag item
 unfolding is_flag_id
 true_flag = each_item IsTrueFlag (λ v e. cc) (λ v e. cc) (λ v e. cc) (λ v e. cc) (λ v e. cc) (λ v e. cc) (λ e. refl)
-    (λ e. refl) (λ e. refl) (λ v e. cc)
+    (λ e. refl) (λ e. refl) (λ e. refl) (λ v e. cc)
 
 flag_ids : (option : Flag) → is_flag_id (id_of (flagged option)) ≡ true
 unfolding is_flag_id
 flag_ids rich = refl
 flag_ids no_decorate = refl
 flag_ids footnotes = refl
+flag_ids shared_footnotes = refl
 
 pub flag_value : (option : Flag) (item : Item) → bytes_eq (id_in item) (id_of (flagged option)) ≡ true
     → value_of item ≡ codes "true"

@@ -5,7 +5,7 @@ use Rattle.std.specs.Option.{option_and_then}
 use Rattle.clap.specs.Walk.{Text}
 use Rattle.command_words.specs.CommandWords.{Asked, Asks, Flag, GivesNumber, GivesText, GivesWidth, IsGiven, Item}
 use Rattle.command_words.specs.CommandWords.{Valued, files_in, footnotes, max_bytes, no_decorate, references, rich}
-use Rattle.command_words.specs.CommandWords.{uses_in, values_in, width}
+use Rattle.command_words.specs.CommandWords.{shared_footnotes, uses_in, values_in, width}
 use Rattle.command_words.proofs.FoundRows.{row_at}
 use Rattle.command_words.proofs.ItemRuns.{behind}
 use Rattle.command_words.proofs.ItemUses.{value_of}
@@ -63,6 +63,8 @@ one_asked words one other asks too = λ i. record {
   decorate = not_same one.decorate other.decorate
       (flag_same no_decorate (not one.decorate) (not other.decorate) asks.asks.decorate too.asks.decorate) i;
   footnotes = flag_same footnotes one.footnotes other.footnotes asks.asks.footnotes too.asks.footnotes i;
+  shared_footnotes = flag_same shared_footnotes one.shared_footnotes other.shared_footnotes
+      asks.asks.shared_footnotes too.asks.shared_footnotes i;
   references = table i;
   max_bytes = most i;
   file = page i;

@@ -1,4 +1,4 @@
--- The seven names that a line may use, and what clap looks up of this program's command.
+-- The eight names that a line may use, and what clap looks up of this program's command.
 use Rattle.std.proofs.Common.{◌≡◌, ◌==◌, ℕ, Bool, true, false, Some, None, refl, codes}
 use Rattle.std.specs.Prelude.{if◌then◌else◌}
 use Rattle.std.specs.Str.{bytes_eq}
@@ -7,7 +7,8 @@ use Rattle.clap.specs.Walk.{most_values, takes_several, takes_values}
 use Rattle.clap.specs.Simple.{Shape, built, filled, help_rule, is_simple, with_index}
 use Rattle.clap.specs.Faults.{is_simple_and_free}
 use Rattle.command_words.specs.CommandRules.{file_rule, flag_rule, number_rule, program, text_rule}
-use Rattle.command_words.specs.CommandWords.{Flag, Valued, footnotes, max_bytes, no_decorate, references, rich, width}
+use Rattle.command_words.specs.CommandWords.{Flag, Valued, footnotes, max_bytes, no_decorate, references, rich}
+use Rattle.command_words.specs.CommandWords.{shared_footnotes, width}
 
 pub data Name : Type 0 where
   valued : Valued → Name
@@ -21,6 +22,7 @@ id_of (valued max_bytes) = codes "max-bytes"
 id_of (flagged rich) = codes "rich"
 id_of (flagged no_decorate) = codes "no-decorate"
 id_of (flagged footnotes) = codes "footnotes"
+id_of (flagged shared_footnotes) = codes "shared-footnotes"
 id_of filed = codes "file"
 
 -- what a parse reads of the command, and of the argument with the name
@@ -34,6 +36,7 @@ rule_at (valued max_bytes) = filled (number_rule (codes "max-bytes"))
 rule_at (flagged rich) = filled (flag_rule (codes "rich"))
 rule_at (flagged no_decorate) = filled (flag_rule (codes "no-decorate"))
 rule_at (flagged footnotes) = filled (flag_rule (codes "footnotes"))
+rule_at (flagged shared_footnotes) = filled (flag_rule (codes "shared-footnotes"))
 rule_at filed = with_index 1 (filled file_rule)
 
 unfoldable pub help_at : Rule
@@ -49,6 +52,7 @@ by_id (valued max_bytes) = refl
 by_id (flagged rich) = refl
 by_id (flagged no_decorate) = refl
 by_id (flagged footnotes) = refl
+by_id (flagged shared_footnotes) = refl
 by_id filed = refl
 
 pub by_option : (option : Valued) → arg_by_long shape.rules (id_of (valued option)) ≡ Some (rule_at (valued option))
@@ -62,6 +66,7 @@ unfolding shape rule_at
 by_flag rich = refl
 by_flag no_decorate = refl
 by_flag footnotes = refl
+by_flag shared_footnotes = refl
 
 pub by_help : arg_by_long shape.rules (codes "help") ≡ Some help_at
 unfolding shape help_at
@@ -108,6 +113,7 @@ unfolding rule_at
 flag_takes rich = refl
 flag_takes no_decorate = refl
 flag_takes footnotes = refl
+flag_takes shared_footnotes = refl
 
 pub help_takes : takes_values help_at ≡ false
 unfolding help_at
@@ -121,6 +127,7 @@ id_is (valued max_bytes) = refl
 id_is (flagged rich) = refl
 id_is (flagged no_decorate) = refl
 id_is (flagged footnotes) = refl
+id_is (flagged shared_footnotes) = refl
 id_is filed = refl
 
 pub file_takes_one : takes_several (rule_at filed) ≡ false

@@ -12,7 +12,7 @@ use Rattle.clap.proofs.WalkLemmas.{first_value-rows, one_text-rows}
 use Rattle.command_words.specs.CommandRules.{program}
 use Rattle.command_words.specs.CommandWords.{Asked, Ending, Flag, GivesNumber, GivesText, GivesWidth, IsGiven, IsLine}
 use Rattle.command_words.specs.CommandWords.{Item, Valued, files_in, footnotes, max_bytes, no_decorate, references}
-use Rattle.command_words.specs.CommandWords.{rich, uses_in, values_in, width}
+use Rattle.command_words.specs.CommandWords.{rich, shared_footnotes, uses_in, values_in, width}
 use Rattle.command_words.specs.FoundWords.{IsFound, TellsFlag, TellsNumber, TellsWidth}
 use Rattle.command_words.proofs.FoundRows.{all_rows, first_some, found_at, row_at, row_without}
 use Rattle.command_words.proofs.ItemRuns.{behind}
@@ -58,7 +58,7 @@ file_found found words all finds =
     first_value-rows found (id_of filed) ∙ ap (option_and_then first_text)
     (row_found found words all finds filed ∙ first_some_none _) ∙ value_found filed all
 
--- ---- each of the seven
+-- ---- each of the eight
 
 abbrev number_text : List Text → Option Text
 number_text values = option_map_or (λ v. Some (without_minus v)) (first_of_all values) None
@@ -115,6 +115,8 @@ found_is_asked found words items ending read asked finds line tells = λ i. reco
   decorate = not_same read.decorate asked.decorate
       (flag_is no_decorate (not read.decorate) (not asked.decorate) tells.decorate line.decorate) i;
   footnotes = flag_is footnotes read.footnotes asked.footnotes tells.footnotes line.footnotes i;
+  shared_footnotes = flag_is shared_footnotes read.shared_footnotes asked.shared_footnotes tells.shared_footnotes
+      line.shared_footnotes i;
   references = table i;
   max_bytes = most i;
   file = page i;

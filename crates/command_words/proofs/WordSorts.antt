@@ -11,7 +11,7 @@ use Rattle.clap.specs.Lexer.{long_of}
 use Rattle.clap.specs.Walk.{Row, Text, Waiting, arg_by_long}
 use Rattle.clap.specs.declared.error.kind.ErrorKind.TheVariants.{DisplayHelp, TooManyValues, UnknownArgument}
 use Rattle.command_words.specs.CommandWords.{Flag, IsHelpWord, IsPlain, Valued, flag_word, footnotes, max_bytes}
-use Rattle.command_words.specs.CommandWords.{no_decorate, references, rich, valued_word, width}
+use Rattle.command_words.specs.CommandWords.{no_decorate, references, rich, shared_footnotes, valued_word, width}
 use Rattle.command_words.proofs.FaultKinds.{IsRefusal}
 use Rattle.command_words.proofs.ItemUses.{held}
 use Rattle.command_words.proofs.OptionNames.{by_flag, by_help, flag_takes, flagged, help_at, help_takes, id_of, rule_at}
@@ -97,9 +97,10 @@ known name =
     (λ b. either name (codes "rich") (flag_name rich)
     (λ c. either name (codes "no-decorate") (flag_name no_decorate)
     (λ d. either name (codes "footnotes") (flag_name footnotes)
-    (λ e. either name (codes "references") (option_name references)
-    (λ f. either name (codes "help") help_name
-    (λ g. no_name (simp (a, b, c, d, e, f, g)))))))))
+    (λ e. either name (codes "shared-footnotes") (flag_name shared_footnotes)
+    (λ f. either name (codes "references") (option_name references)
+    (λ g. either name (codes "help") help_name
+    (λ h. no_name (simp (a, b, c, d, e, f, g, h))))))))))
 
 -- ---- long options
 
@@ -107,6 +108,7 @@ spelt_flag : (option : Flag) → 45 ∷ 45 ∷ id_of (flagged option) ≡ flag_w
 spelt_flag rich = refl
 spelt_flag no_decorate = refl
 spelt_flag footnotes = refl
+spelt_flag shared_footnotes = refl
 
 spelt_option : (option : Valued) → 45 ∷ 45 ∷ id_of (valued option) ≡ valued_word option
 spelt_option width = refl

@@ -10,6 +10,7 @@ returns c =
     let three = added _ _ _ _ _ c.in_ok-arg-3.ensures c.flag.ensures.local c.flag.ensures.rule two in
     let four = added _ _ _ _ _ c.in_ok-arg-4.ensures c.flag-2.ensures.local c.flag-2.ensures.rule three in
     let five = added _ _ _ _ _ c.in_ok-arg-5.ensures c.flag-3.ensures.local c.flag-3.ensures.rule four in
-    let six = added _ _ _ _ _ c.in_ok-arg-6.ensures c.text.ensures.local c.text.ensures.rule five in
-    IfOk-weaker c.arg-7.result _ _ (λ command adds. added _ command _ _ _ adds c.file.ensures.local c.file.ensures.rule
-    six) c.arg-7.ensures
+    let six = added _ _ _ _ _ c.in_ok-arg-6.ensures c.flag-4.ensures.local c.flag-4.ensures.rule five in
+    let seven = added _ _ _ _ _ c.in_ok-arg-7.ensures c.text.ensures.local c.text.ensures.rule six in
+    IfOk-weaker c.arg-8.result _ _ (λ command adds. added _ command _ _ _ adds c.file.ensures.local c.file.ensures.rule
+    seven) c.arg-8.ensures
