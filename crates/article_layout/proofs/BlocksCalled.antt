@@ -1,5 +1,5 @@
 -- The calls of an article's blocks lay just its lines.
-use Rattle.std.proofs.Common.{◌≡◌, ℕ, ℤ, suc, ◌+◌, Bool, true, false, ◌||◌, List, [], ◌∷◌, ◌++◌, length, map, replicate}
+use Rattle.std.proofs.Common.{◌≡◌, ℕ, ℤ, suc, ◌+◌, Bool, true, false, ◌||◌, List, [], ◌∷◌, ◌++◌, map, replicate}
 use Rattle.std.proofs.Common.{codes, Option, None, Some, if◌then◌else◌, fold, refl, sym, ap, ◌∙◌, append_assoc}
 use Rattle.std.proofs.Common.{append-nil}
 use Rattle.std.specs.Option.{option_and_then, option_map}
@@ -135,279 +135,289 @@ module _ (kept : KeepsMarkers) (o : Options) where
     both_nowhere subs (Some within) = nowhere (subs within)
 
     -- a block whose running text can't be laid out
-    refused : (n : ℕ) (a : Blocks) (b : Laid Tag) → flush m outermost b ≡ None → end (run_blocks o width n a b) ≡ None
-    refused n no_blocks b e = e
-    refused n (paragraph is rest) b e =
-        ap (λ x. end (option_and_then (λ b. run_blocks o width (n + length (targets_in o is)) rest (end_block b))
-        (option_and_then (run m (parts_of o outermost n is)) (option_map (laid_parted m outermost) x)))) e
-    refused n (heading level is rest) b e = let prefix : List ℕ = replicate level 0x23 ++ codes " " in
-        let subs : ℕ → Option (Laid Tag) = λ within. run_whole (measure o within) (parts_of o outermost n is)
+    refused : (ts : List (List ℕ)) (a : Blocks) (b : Laid Tag) → flush m outermost b ≡ None →
+        end (run_blocks o width ts a b) ≡ None
+    refused ts no_blocks b e = e
+    refused ts (paragraph is rest) b e =
+        ap (λ x. end (option_and_then (λ b. run_blocks o width (ts ++ targets_in o is) rest (end_block b))
+        (option_and_then (run m (parts_of o outermost ts is)) (option_map (laid_parted m outermost) x)))) e
+    refused ts (heading level is rest) b e = let prefix : List ℕ = replicate level 0x23 ++ codes " " in
+        let subs : ℕ → Option (Laid Tag) = λ within. run_whole (measure o within) (parts_of o outermost ts is)
         (block_with [] None []) in
         ap (λ x. end (option_and_then (λ within. option_and_then (λ sub. option_and_then
-        (λ b. run_blocks o width (n + length (targets_in o is)) rest
+        (λ b. run_blocks o width (ts ++ targets_in o is) rest
         (end_block (append o width within prefix prefix sub b))) (option_map (laid_parted m outermost) x)) (subs within))
         (room width (level + 1) (capped (least_in o is + (level + 1)))))) e
         ∙ ended_nowhere _ (both_nowhere subs (room width (level + 1) (capped (least_in o is + (level + 1)))))
-    refused n (division kids rest) b e =
-        ap (λ x. end (option_and_then (run_blocks o width (n + length (targets_of o kids)) rest)
-        (end (option_and_then (run_blocks o width n kids) x)))) e
-    refused n (quote kids rest) b e =
+    refused ts (division kids rest) b e =
+        ap (λ x. end (option_and_then (run_blocks o width (ts ++ targets_of o kids) rest)
+        (end (option_and_then (run_blocks o width ts kids) x)))) e
+    refused ts (quote kids rest) b e =
         let subs : ℕ → Option (Laid Tag) = λ within. option_and_then (flush (measure o within) outermost)
-        (run_blocks o within n kids (laid [] false)) in
+        (run_blocks o within ts kids (laid [] false)) in
         ap (λ x. end (option_and_then (λ within. option_and_then (λ sub. option_and_then
-        (λ b. run_blocks o width (n + length (targets_of o kids)) rest
+        (λ b. run_blocks o width (ts ++ targets_of o kids) rest
         (end_block (append o width within quote_prefix quote_prefix sub b)))
         (option_map (laid_parted m outermost) x)) (subs within)) (room width 2 (capped (least_of o kids + 2))))) e
         ∙ ended_nowhere _ (both_nowhere subs (room width 2 (capped (least_of o kids + 2))))
-    refused n (bullets items rest) b e =
-        ap (λ x. end (option_and_then (run_blocks o width (n + length (targets_of_items o items)) rest)
-        (option_and_then (run_items o width n 2 (capped (least_of_items o items + 2)) None items)
+    refused ts (bullets items rest) b e =
+        ap (λ x. end (option_and_then (run_blocks o width (ts ++ targets_of_items o items) rest)
+        (option_and_then (run_items o width ts 2 (capped (least_of_items o items + 2)) None items)
         (option_map (laid_parted m outermost) x)))) e
-    refused n (numbers first items rest) b e = let columns = room_of_numbers first (how_many items) in
-        ap (λ x. end (option_and_then (run_blocks o width (n + length (targets_of_items o items)) rest)
-        (option_and_then (run_items o width n columns (capped (least_of_items o items + columns)) (Some first) items)
+    refused ts (numbers first items rest) b e = let columns = room_of_numbers first (how_many items) in
+        ap (λ x. end (option_and_then (run_blocks o width (ts ++ targets_of_items o items) rest)
+        (option_and_then (run_items o width ts columns (capped (least_of_items o items + columns)) (Some first) items)
         (option_map (laid_parted m outermost) x)))) e
 
     -- a block whose running text is laid out goes on as the one with its lines
-    goes_on : (n : ℕ) (a : Blocks) (b : Laid Tag) (lines : List Line) (awaits : Bool) →
+    goes_on : (ts : List (List ℕ)) (a : Blocks) (b : Laid Tag) (lines : List Line) (awaits : Bool) →
         flush m outermost b ≡ Some (laid lines awaits) →
-        end (run_blocks o width n a b) ≡ end (run_blocks o width n a (laid lines awaits))
-    goes_on n no_blocks b lines awaits e = e
-    goes_on n (paragraph is rest) b lines awaits e =
-        ap (λ x. end (option_and_then (λ b. run_blocks o width (n + length (targets_in o is)) rest (end_block b))
-        (option_and_then (run m (parts_of o outermost n is)) (option_map (laid_parted m outermost) x)))) e
-    goes_on n (heading level is rest) b lines awaits e = let prefix : List ℕ = replicate level 0x23 ++ codes " " in
+        end (run_blocks o width ts a b) ≡ end (run_blocks o width ts a (laid lines awaits))
+    goes_on ts no_blocks b lines awaits e = e
+    goes_on ts (paragraph is rest) b lines awaits e =
+        ap (λ x. end (option_and_then (λ b. run_blocks o width (ts ++ targets_in o is) rest (end_block b))
+        (option_and_then (run m (parts_of o outermost ts is)) (option_map (laid_parted m outermost) x)))) e
+    goes_on ts (heading level is rest) b lines awaits e = let prefix : List ℕ = replicate level 0x23 ++ codes " " in
         ap (λ x. end (option_and_then (λ within. option_and_then (λ sub. option_and_then
-        (λ b. run_blocks o width (n + length (targets_in o is)) rest
+        (λ b. run_blocks o width (ts ++ targets_in o is) rest
         (end_block (append o width within prefix prefix sub b))) (option_map (laid_parted m outermost) x))
-        (run_whole (measure o within) (parts_of o outermost n is) (block_with [] None [])))
+        (run_whole (measure o within) (parts_of o outermost ts is) (block_with [] None [])))
         (room width (level + 1) (capped (least_in o is + (level + 1)))))) e
-    goes_on n (division kids rest) b lines awaits e =
-        ap (λ x. end (option_and_then (run_blocks o width (n + length (targets_of o kids)) rest)
-        (end (option_and_then (run_blocks o width n kids) x)))) e
-    goes_on n (quote kids rest) b lines awaits e =
+    goes_on ts (division kids rest) b lines awaits e =
+        ap (λ x. end (option_and_then (run_blocks o width (ts ++ targets_of o kids) rest)
+        (end (option_and_then (run_blocks o width ts kids) x)))) e
+    goes_on ts (quote kids rest) b lines awaits e =
         ap (λ x. end (option_and_then (λ within. option_and_then (λ sub. option_and_then
-        (λ b. run_blocks o width (n + length (targets_of o kids)) rest
+        (λ b. run_blocks o width (ts ++ targets_of o kids) rest
         (end_block (append o width within quote_prefix quote_prefix sub b))) (option_map (laid_parted m outermost) x))
-        (option_and_then (flush (measure o within) outermost) (run_blocks o within n kids (laid [] false))))
+        (option_and_then (flush (measure o within) outermost) (run_blocks o within ts kids (laid [] false))))
         (room width 2 (capped (least_of o kids + 2))))) e
-    goes_on n (bullets items rest) b lines awaits e =
-        ap (λ x. end (option_and_then (run_blocks o width (n + length (targets_of_items o items)) rest)
-        (option_and_then (run_items o width n 2 (capped (least_of_items o items + 2)) None items)
+    goes_on ts (bullets items rest) b lines awaits e =
+        ap (λ x. end (option_and_then (run_blocks o width (ts ++ targets_of_items o items) rest)
+        (option_and_then (run_items o width ts 2 (capped (least_of_items o items + 2)) None items)
         (option_map (laid_parted m outermost) x)))) e
-    goes_on n (numbers first items rest) b lines awaits e = let columns = room_of_numbers first (how_many items) in
-        ap (λ x. end (option_and_then (run_blocks o width (n + length (targets_of_items o items)) rest)
-        (option_and_then (run_items o width n columns (capped (least_of_items o items + columns)) (Some first) items)
+    goes_on ts (numbers first items rest) b lines awaits e = let columns = room_of_numbers first (how_many items) in
+        ap (λ x. end (option_and_then (run_blocks o width (ts ++ targets_of_items o items) rest)
+        (option_and_then (run_items o width ts columns (capped (least_of_items o items + columns)) (Some first) items)
         (option_map (laid_parted m outermost) x)))) e
 
   -- ---- all blocks
 
-  abbrev IsLaid : (width k n : ℕ) → Blocks → List Line → Bool → Type 0
-  IsLaid width k n a lines awaits =
-      option_and_then (flush (measure o width) outermost) (run_blocks o width n a (laid lines awaits))
-      ≡ option_map (λ all. laid all (awaits_behind a awaits)) (lay o width k n a lines)
+  abbrev IsLaid : (width k : ℕ) (ts : List (List ℕ)) → Blocks → List Line → Bool → Type 0
+  IsLaid width k ts a lines awaits =
+      option_and_then (flush (measure o width) outermost) (run_blocks o width ts a (laid lines awaits))
+      ≡ option_map (λ all. laid all (awaits_behind a awaits)) (lay o width k ts a lines)
 
   -- what stands behind a paragraph
-  rest_laid : (width k n : ℕ) (rest : Blocks) (before : List Line) (ran : Option (Laid Tag)) (new : Option (List Line)) →
+  rest_laid : (width k : ℕ) (ts : List (List ℕ)) (rest : Blocks) (before : List Line) (ran : Option (Laid Tag))
+      (new : Option (List Line)) →
       option_and_then (flush (measure o width) outermost) ran
       ≡ option_map (λ lines. block_with (map cell_of before ++ map cell_of lines) None []) new →
-      ((lines : List Line) → IsLaid width k n rest (before ++ lines) true) →
+      ((lines : List Line) → IsLaid width k ts rest (before ++ lines) true) →
       option_and_then (flush (measure o width) outermost)
-      (option_and_then (λ b. run_blocks o width n rest (end_block b)) ran)
+      (option_and_then (λ b. run_blocks o width ts rest (end_block b)) ran)
       ≡ option_map (λ all. laid all (awaits_behind rest true))
-      (option_and_then (λ lines. lay o width k n rest (before ++ lines)) new)
-  rest_laid width k n rest before None None e h = refl
-  rest_laid width k n rest before None (Some lines) e h = cc
-  rest_laid width k n rest before (Some b) None e h =
-      refused width n rest (end_block b) (flush_awaited (measure o width) outermost b ∙ ap (option_map end_block) e)
-  rest_laid width k n rest before (Some b) (Some lines) e h =
-      goes_on width n rest (end_block b) (before ++ lines) true
+      (option_and_then (λ lines. lay o width k ts rest (before ++ lines)) new)
+  rest_laid width k ts rest before None None e h = refl
+  rest_laid width k ts rest before None (Some lines) e h = cc
+  rest_laid width k ts rest before (Some b) None e h =
+      refused width ts rest (end_block b) (flush_awaited (measure o width) outermost b ∙ ap (option_map end_block) e)
+  rest_laid width k ts rest before (Some b) (Some lines) e h =
+      goes_on width ts rest (end_block b) (before ++ lines) true
       (flush_awaited (measure o width) outermost b ∙ ap (option_map end_block) e
       ∙ ap Some (behind_lines before lines true))
       ∙ h lines
 
   -- what stands behind a block that was laid
-  then_laid : (width k n : ℕ) (rest : Blocks) (awaits : Bool) (x : Option (Laid Tag)) (y : Option (List Line)) →
-      x ≡ option_map (λ lines. laid lines awaits) y → ((lines : List Line) → IsLaid width k n rest lines awaits) →
-      option_and_then (flush (measure o width) outermost) (option_and_then (run_blocks o width n rest) x)
-      ≡ option_map (λ all. laid all (awaits_behind rest awaits)) (option_and_then (lay o width k n rest) y)
-  then_laid width k n rest awaits x None e h =
-      ap (λ x. option_and_then (flush (measure o width) outermost) (option_and_then (run_blocks o width n rest) x)) e
-  then_laid width k n rest awaits x (Some lines) e h =
-      ap (λ x. option_and_then (flush (measure o width) outermost) (option_and_then (run_blocks o width n rest) x)) e ∙ h lines
+  then_laid : (width k : ℕ) (ts : List (List ℕ)) (rest : Blocks) (awaits : Bool) (x : Option (Laid Tag))
+      (y : Option (List Line)) →
+      x ≡ option_map (λ lines. laid lines awaits) y → ((lines : List Line) → IsLaid width k ts rest lines awaits) →
+      option_and_then (flush (measure o width) outermost) (option_and_then (run_blocks o width ts rest) x)
+      ≡ option_map (λ all. laid all (awaits_behind rest awaits)) (option_and_then (lay o width k ts rest) y)
+  then_laid width k ts rest awaits x None e h =
+      ap (λ x. option_and_then (flush (measure o width) outermost) (option_and_then (run_blocks o width ts rest) x)) e
+  then_laid width k ts rest awaits x (Some lines) e h =
+      ap (λ x. option_and_then (flush (measure o width) outermost) (option_and_then (run_blocks o width ts rest) x)) e
+      ∙ h lines
 
-  heading_laid : (width k n level : ℕ) (is : Inlines) (rest : Blocks) (lines : List Line) (awaits : Bool)
-      (space : Option ℕ) → ((before : List Line) → IsLaid width (suc k) (n + length (targets_in o is)) rest before true) →
+  heading_laid : (width k : ℕ) (ts : List (List ℕ)) (level : ℕ) (is : Inlines) (rest : Blocks) (lines : List Line)
+      (awaits : Bool) (space : Option ℕ) →
+      ((before : List Line) → IsLaid width (suc k) (ts ++ targets_in o is) rest before true) →
       let prefix = replicate level 0x23 ++ codes " " in
       option_and_then (flush (measure o width) outermost)
       (option_and_then (λ within. option_and_then (λ sub. option_and_then
-      (λ b. run_blocks o width (n + length (targets_in o is)) rest (end_block (append o width within prefix prefix sub b)))
+      (λ b. run_blocks o width (ts ++ targets_in o is) rest (end_block (append o width within prefix prefix sub b)))
       (start_block (measure o width) outermost (laid lines awaits)))
-      (run_whole (measure o within) (parts_of o outermost n is) (block_with [] None []))) space)
+      (run_whole (measure o within) (parts_of o outermost ts is) (block_with [] None []))) space)
       ≡ option_map (λ all. laid all (awaits_behind rest true))
-      (option_and_then (λ new. lay o width (suc k) (n + length (targets_in o is)) rest
+      (option_and_then (λ new. lay o width (suc k) (ts ++ targets_in o is) rest
       (parted o width lines ++ prefixed o width prefix prefix new))
-      (option_and_then (λ within. paragraph_lines o within k n is) space))
-  heading_laid width k n level is rest lines awaits None h = refl
-  heading_laid width k n level is rest lines awaits (Some within) h =
+      (option_and_then (λ within. paragraph_lines o within k ts is) space))
+  heading_laid width k ts level is rest lines awaits None h = refl
+  heading_laid width k ts level is rest lines awaits (Some within) h =
       let prefix : List ℕ = replicate level 0x23 ++ codes " " in
-      by (paragraph_lines o within k n is)
+      by (paragraph_lines o within k ts is)
       (ap (λ sub. option_and_then (flush (measure o width) outermost) (option_and_then (λ sub. option_and_then
-      (λ b. run_blocks o width (n + length (targets_in o is)) rest (end_block (append o width within prefix prefix sub b)))
-      (start_block (measure o width) outermost (laid lines awaits))) sub)) (paragraph_called kept o within k [] n is []))
+      (λ b. run_blocks o width (ts ++ targets_in o is) rest (end_block (append o width within prefix prefix sub b)))
+      (start_block (measure o width) outermost (laid lines awaits))) sub))
+      (paragraph_called kept o within k [] ts is []))
     where
       by : (new : Option (List Line)) → {x : Option (Laid Tag)} → x
           ≡ option_and_then (flush (measure o width) outermost) (option_and_then (λ sub. option_and_then
-          (λ b. run_blocks o width (n + length (targets_in o is)) rest
+          (λ b. run_blocks o width (ts ++ targets_in o is) rest
           (end_block (append o width within (replicate level 0x23 ++ codes " ") (replicate level 0x23 ++ codes " ") sub b)))
           (start_block (measure o width) outermost (laid lines awaits)))
           (option_map (λ ls. block_with (map cell_of ls) None []) new)) → x
           ≡ option_map (λ all. laid all (awaits_behind rest true))
-          (option_and_then (λ new. lay o width (suc k) (n + length (targets_in o is)) rest
+          (option_and_then (λ new. lay o width (suc k) (ts ++ targets_in o is) rest
           (parted o width lines ++ prefixed o width (replicate level 0x23 ++ codes " ") (replicate level 0x23 ++ codes " ") new))
           new)
       by None e = e
       by (Some new) e = let prefix : List ℕ = replicate level 0x23 ++ codes " " in
           e ∙ ap (λ b. option_and_then (flush (measure o width) outermost) (option_and_then
-          (λ b. run_blocks o width (n + length (targets_in o is)) rest
+          (λ b. run_blocks o width (ts ++ targets_in o is) rest
           (end_block (add_block (measure o within) (measure o width) outermost prefix prefix (map cell_of new) b))) b))
           (started_is width lines awaits)
           ∙ ap (λ b. option_and_then (flush (measure o width) outermost)
-          (run_blocks o width (n + length (targets_in o is)) rest (end_block b)))
+          (run_blocks o width (ts ++ targets_in o is) rest (end_block b)))
           (appended width within prefix prefix new (parted o width lines) false)
           ∙ h (parted o width lines ++ prefixed o width prefix prefix new)
 
-  quote_laid : (width k n : ℕ) (kids rest : Blocks) (lines : List Line) (awaits : Bool) (space : Option ℕ) →
-      ((within : ℕ) → IsLaid within k n kids [] false) →
-      ((before : List Line) → IsLaid width (k + count kids) (n + length (targets_of o kids)) rest before true) →
+  quote_laid : (width k : ℕ) (ts : List (List ℕ)) (kids rest : Blocks) (lines : List Line) (awaits : Bool)
+      (space : Option ℕ) →
+      ((within : ℕ) → IsLaid within k ts kids [] false) →
+      ((before : List Line) → IsLaid width (k + count kids) (ts ++ targets_of o kids) rest before true) →
       option_and_then (flush (measure o width) outermost)
       (option_and_then (λ within. option_and_then (λ sub. option_and_then
-      (λ b. run_blocks o width (n + length (targets_of o kids)) rest
+      (λ b. run_blocks o width (ts ++ targets_of o kids) rest
       (end_block (append o width within quote_prefix quote_prefix sub b)))
       (start_block (measure o width) outermost (laid lines awaits)))
-      (option_and_then (flush (measure o within) outermost) (run_blocks o within n kids (laid [] false)))) space)
+      (option_and_then (flush (measure o within) outermost) (run_blocks o within ts kids (laid [] false)))) space)
       ≡ option_map (λ all. laid all (awaits_behind rest true))
-      (option_and_then (λ new. lay o width (k + count kids) (n + length (targets_of o kids)) rest
+      (option_and_then (λ new. lay o width (k + count kids) (ts ++ targets_of o kids) rest
       (parted o width lines ++ prefixed o width quote_prefix quote_prefix new))
-      (option_and_then (λ within. lay o within k n kids []) space))
-  quote_laid width k n kids rest lines awaits None h g = refl
-  quote_laid width k n kids rest lines awaits (Some within) h g =
+      (option_and_then (λ within. lay o within k ts kids []) space))
+  quote_laid width k ts kids rest lines awaits None h g = refl
+  quote_laid width k ts kids rest lines awaits (Some within) h g =
       ap (λ sub. option_and_then (flush (measure o width) outermost) (option_and_then (λ sub. option_and_then
-      (λ b. run_blocks o width (n + length (targets_of o kids)) rest
+      (λ b. run_blocks o width (ts ++ targets_of o kids) rest
       (end_block (append o width within quote_prefix quote_prefix sub b)))
       (start_block (measure o width) outermost (laid lines awaits))) sub)) (h within)
-      ∙ by (lay o within k n kids [])
+      ∙ by (lay o within k ts kids [])
     where
       by : (new : Option (List Line)) →
           option_and_then (flush (measure o width) outermost) (option_and_then (λ sub. option_and_then
-          (λ b. run_blocks o width (n + length (targets_of o kids)) rest
+          (λ b. run_blocks o width (ts ++ targets_of o kids) rest
           (end_block (append o width within quote_prefix quote_prefix sub b)))
           (start_block (measure o width) outermost (laid lines awaits)))
           (option_map (λ all. laid all (awaits_behind kids false)) new))
           ≡ option_map (λ all. laid all (awaits_behind rest true))
-          (option_and_then (λ new. lay o width (k + count kids) (n + length (targets_of o kids)) rest
+          (option_and_then (λ new. lay o width (k + count kids) (ts ++ targets_of o kids) rest
           (parted o width lines ++ prefixed o width quote_prefix quote_prefix new)) new)
       by None = refl
       by (Some new) =
           ap (λ b. option_and_then (flush (measure o width) outermost) (option_and_then
-          (λ b. run_blocks o width (n + length (targets_of o kids)) rest (end_block
+          (λ b. run_blocks o width (ts ++ targets_of o kids) rest (end_block
           (add_block (measure o within) (measure o width) outermost quote_prefix quote_prefix (map cell_of new) b))) b))
           (started_is width lines awaits)
           ∙ ap (λ b. option_and_then (flush (measure o width) outermost)
-          (run_blocks o width (n + length (targets_of o kids)) rest (end_block b)))
+          (run_blocks o width (ts ++ targets_of o kids) rest (end_block b)))
           (appended width within quote_prefix quote_prefix new (parted o width lines) false)
           ∙ g (parted o width lines ++ prefixed o width quote_prefix quote_prefix new)
 
-  item_laid : (width k n columns least : ℕ) (at : Option ℤ) (kids : Blocks) (rest : Items) (lines : List Line)
-      (space : Option ℕ) → ((within : ℕ) → IsLaid within k n kids [] false) →
-      ((before : List Line) → run_items o width (n + length (targets_of o kids)) columns least (next_number at) rest
+  item_laid : (width k : ℕ) (ts : List (List ℕ)) (columns least : ℕ) (at : Option ℤ) (kids : Blocks) (rest : Items)
+      (lines : List Line) (space : Option ℕ) → ((within : ℕ) → IsLaid within k ts kids [] false) →
+      ((before : List Line) → run_items o width (ts ++ targets_of o kids) columns least (next_number at) rest
       (laid before false) ≡ option_map (λ all. laid all false)
-      (lay_items o width (k + count kids) (n + length (targets_of o kids)) columns least (next_number at) rest before)) →
+      (lay_items o width (k + count kids) (ts ++ targets_of o kids) columns least (next_number at) rest before)) →
       option_and_then (λ within. option_and_then (λ sub. option_and_then
-      (λ b. run_items o width (n + length (targets_of o kids)) columns least (next_number at) rest
+      (λ b. run_items o width (ts ++ targets_of o kids) columns least (next_number at) rest
       (append o width within (to_room columns (item_prefix at)) (spaces columns) sub b))
       (flush (measure o width) outermost (laid lines false)))
-      (option_and_then (flush (measure o within) outermost) (run_blocks o within n kids (laid [] false)))) space
+      (option_and_then (flush (measure o within) outermost) (run_blocks o within ts kids (laid [] false)))) space
       ≡ option_map (λ all. laid all false) (option_and_then (λ new. lay_items o width (k + count kids)
-      (n + length (targets_of o kids)) columns least (next_number at) rest
+      (ts ++ targets_of o kids) columns least (next_number at) rest
       (lines ++ prefixed o width (to_room columns (item_prefix at)) (spaces columns) new))
-      (option_and_then (λ within. lay o within k n kids []) space))
-  item_laid width k n columns least at kids rest lines None h g = refl
-  item_laid width k n columns least at kids rest lines (Some within) h g =
+      (option_and_then (λ within. lay o within k ts kids []) space))
+  item_laid width k ts columns least at kids rest lines None h g = refl
+  item_laid width k ts columns least at kids rest lines (Some within) h g =
       let first : List ℕ = to_room columns (item_prefix at) in
       ap (λ sub. option_and_then (λ sub. option_and_then
-      (λ b. run_items o width (n + length (targets_of o kids)) columns least (next_number at) rest
+      (λ b. run_items o width (ts ++ targets_of o kids) columns least (next_number at) rest
       (append o width within first (spaces columns) sub b))
       (flush (measure o width) outermost (laid lines false))) sub) (h within)
-      ∙ by (lay o within k n kids [])
+      ∙ by (lay o within k ts kids [])
     where
       by : (new : Option (List Line)) → option_and_then (λ sub. option_and_then
-          (λ b. run_items o width (n + length (targets_of o kids)) columns least (next_number at) rest
+          (λ b. run_items o width (ts ++ targets_of o kids) columns least (next_number at) rest
           (append o width within (to_room columns (item_prefix at)) (spaces columns) sub b))
           (flush (measure o width) outermost (laid lines false))) (option_map (λ all. laid all (awaits_behind kids false)) new)
           ≡ option_map (λ all. laid all false) (option_and_then (λ new. lay_items o width (k + count kids)
-          (n + length (targets_of o kids)) columns least (next_number at) rest
+          (ts ++ targets_of o kids) columns least (next_number at) rest
           (lines ++ prefixed o width (to_room columns (item_prefix at)) (spaces columns) new)) new)
       by None = refl
       by (Some new) =
-          ap (run_items o width (n + length (targets_of o kids)) columns least (next_number at) rest)
+          ap (run_items o width (ts ++ targets_of o kids) columns least (next_number at) rest)
           (appended width within (to_room columns (item_prefix at)) (spaces columns) new lines false)
           ∙ g (lines ++ prefixed o width (to_room columns (item_prefix at)) (spaces columns) new)
 
   mutual
-    pub blocks_called : (width k n : ℕ) (a : Blocks) (lines : List Line) (awaits : Bool) → IsLaid width k n a lines awaits
-    blocks_called width k n no_blocks lines awaits = refl
-    blocks_called width k n (paragraph is rest) lines awaits =
+    pub blocks_called : (width k : ℕ) (ts : List (List ℕ)) (a : Blocks) (lines : List Line) (awaits : Bool) →
+        IsLaid width k ts a lines awaits
+    blocks_called width k ts no_blocks lines awaits = refl
+    blocks_called width k ts (paragraph is rest) lines awaits =
         let before : List Line = parted o width lines in
         ap (λ x. option_and_then (flush (measure o width) outermost)
-        (option_and_then (λ b. run_blocks o width (n + length (targets_in o is)) rest (end_block b))
-        (option_and_then (run (measure o width) (parts_of o outermost n is)) x))) (started_is width lines awaits)
-        ∙ rest_laid width (suc k) (n + length (targets_in o is)) rest before
-        (run (measure o width) (parts_of o outermost n is) (laid before false)) (paragraph_lines o width k n is)
-        (paragraph_called kept o width k [] n is (map cell_of before))
-        (λ new. blocks_called width (suc k) (n + length (targets_in o is)) rest (before ++ new) true)
-    blocks_called width k n (heading level is rest) lines awaits =
-        heading_laid width k n level is rest lines awaits (room width (level + 1) (capped (least_in o is + (level + 1))))
-        (λ before. blocks_called width (suc k) (n + length (targets_in o is)) rest before true)
-    blocks_called width k n (division kids rest) lines awaits =
-        then_laid width (k + count kids) (n + length (targets_of o kids)) rest (awaits_behind kids awaits)
-        (option_and_then (flush (measure o width) outermost) (run_blocks o width n kids (laid lines awaits)))
-        (lay o width k n kids lines) (blocks_called width k n kids lines awaits)
-        (λ before. blocks_called width (k + count kids) (n + length (targets_of o kids)) rest before
+        (option_and_then (λ b. run_blocks o width (ts ++ targets_in o is) rest (end_block b))
+        (option_and_then (run (measure o width) (parts_of o outermost ts is)) x))) (started_is width lines awaits)
+        ∙ rest_laid width (suc k) (ts ++ targets_in o is) rest before
+        (run (measure o width) (parts_of o outermost ts is) (laid before false)) (paragraph_lines o width k ts is)
+        (paragraph_called kept o width k [] ts is (map cell_of before))
+        (λ new. blocks_called width (suc k) (ts ++ targets_in o is) rest (before ++ new) true)
+    blocks_called width k ts (heading level is rest) lines awaits =
+        heading_laid width k ts level is rest lines awaits
+        (room width (level + 1) (capped (least_in o is + (level + 1))))
+        (λ before. blocks_called width (suc k) (ts ++ targets_in o is) rest before true)
+    blocks_called width k ts (division kids rest) lines awaits =
+        then_laid width (k + count kids) (ts ++ targets_of o kids) rest (awaits_behind kids awaits)
+        (option_and_then (flush (measure o width) outermost) (run_blocks o width ts kids (laid lines awaits)))
+        (lay o width k ts kids lines) (blocks_called width k ts kids lines awaits)
+        (λ before. blocks_called width (k + count kids) (ts ++ targets_of o kids) rest before
         (awaits_behind kids awaits))
-    blocks_called width k n (quote kids rest) lines awaits =
-        quote_laid width k n kids rest lines awaits (room width 2 (capped (least_of o kids + 2)))
-        (λ within. blocks_called within k n kids [] false)
-        (λ before. blocks_called width (k + count kids) (n + length (targets_of o kids)) rest before true)
-    blocks_called width k n (bullets items rest) lines awaits = let least = capped (least_of_items o items + 2) in
+    blocks_called width k ts (quote kids rest) lines awaits =
+        quote_laid width k ts kids rest lines awaits (room width 2 (capped (least_of o kids + 2)))
+        (λ within. blocks_called within k ts kids [] false)
+        (λ before. blocks_called width (k + count kids) (ts ++ targets_of o kids) rest before true)
+    blocks_called width k ts (bullets items rest) lines awaits = let least = capped (least_of_items o items + 2) in
         ap (λ x. option_and_then (flush (measure o width) outermost)
-        (option_and_then (run_blocks o width (n + length (targets_of_items o items)) rest)
-        (option_and_then (run_items o width n 2 least None items) x))) (started_is width lines awaits)
-        ∙ then_laid width (k + count_items items) (n + length (targets_of_items o items)) rest false
-        (run_items o width n 2 least None items (laid (parted o width lines) false))
-        (lay_items o width k n 2 least None items (parted o width lines))
-        (items_called width k n 2 least None items (parted o width lines))
-        (λ before. blocks_called width (k + count_items items) (n + length (targets_of_items o items)) rest before false)
-    blocks_called width k n (numbers first items rest) lines awaits =
+        (option_and_then (run_blocks o width (ts ++ targets_of_items o items) rest)
+        (option_and_then (run_items o width ts 2 least None items) x))) (started_is width lines awaits)
+        ∙ then_laid width (k + count_items items) (ts ++ targets_of_items o items) rest false
+        (run_items o width ts 2 least None items (laid (parted o width lines) false))
+        (lay_items o width k ts 2 least None items (parted o width lines))
+        (items_called width k ts 2 least None items (parted o width lines))
+        (λ before. blocks_called width (k + count_items items) (ts ++ targets_of_items o items) rest before false)
+    blocks_called width k ts (numbers first items rest) lines awaits =
         let columns = room_of_numbers first (how_many items) in
         let least = capped (least_of_items o items + columns) in
         ap (λ x. option_and_then (flush (measure o width) outermost)
-        (option_and_then (run_blocks o width (n + length (targets_of_items o items)) rest)
-        (option_and_then (run_items o width n columns least (Some first) items) x))) (started_is width lines awaits)
-        ∙ then_laid width (k + count_items items) (n + length (targets_of_items o items)) rest false
-        (run_items o width n columns least (Some first) items (laid (parted o width lines) false))
-        (lay_items o width k n columns least (Some first) items (parted o width lines))
-        (items_called width k n columns least (Some first) items (parted o width lines))
-        (λ before. blocks_called width (k + count_items items) (n + length (targets_of_items o items)) rest before false)
+        (option_and_then (run_blocks o width (ts ++ targets_of_items o items) rest)
+        (option_and_then (run_items o width ts columns least (Some first) items) x))) (started_is width lines awaits)
+        ∙ then_laid width (k + count_items items) (ts ++ targets_of_items o items) rest false
+        (run_items o width ts columns least (Some first) items (laid (parted o width lines) false))
+        (lay_items o width k ts columns least (Some first) items (parted o width lines))
+        (items_called width k ts columns least (Some first) items (parted o width lines))
+        (λ before. blocks_called width (k + count_items items) (ts ++ targets_of_items o items) rest before false)
 
-    items_called : (width k n columns least : ℕ) (at : Option ℤ) (a : Items) (lines : List Line) →
-        run_items o width n columns least at a (laid lines false)
-        ≡ option_map (λ all. laid all false) (lay_items o width k n columns least at a lines)
-    items_called width k n columns least at no_items lines = refl
-    items_called width k n columns least at (item kids rest) lines =
-        item_laid width k n columns least at kids rest lines (room width columns least)
-        (λ within. blocks_called within k n kids [] false)
-        (λ before. items_called width (k + count kids) (n + length (targets_of o kids)) columns least (next_number at) rest
+    items_called : (width k : ℕ) (ts : List (List ℕ)) (columns least : ℕ) (at : Option ℤ) (a : Items)
+        (lines : List Line) →
+        run_items o width ts columns least at a (laid lines false)
+        ≡ option_map (λ all. laid all false) (lay_items o width k ts columns least at a lines)
+    items_called width k ts columns least at no_items lines = refl
+    items_called width k ts columns least at (item kids rest) lines =
+        item_laid width k ts columns least at kids rest lines (room width columns least)
+        (λ within. blocks_called within k ts kids [] false)
+        (λ before. items_called width (k + count kids) (ts ++ targets_of o kids) columns least (next_number at) rest
         before)
 
   lines_alone : (awaits : Bool) (x : Option (List Line)) →
@@ -416,8 +426,8 @@ module _ (kept : KeepsMarkers) (o : Options) where
   lines_alone awaits (Some lines) = refl
 
   pub lines_called : (width : ℕ) (a : Blocks) → option_map (λ (b : Laid Tag). b.lines)
-      (option_and_then (flush (measure o width) outermost) (run_blocks o width 0 a (laid [] false)))
-      ≡ option_map (map cell_of) (lay o width 0 0 a [])
+      (option_and_then (flush (measure o width) outermost) (run_blocks o width [] a (laid [] false)))
+      ≡ option_map (map cell_of) (lay o width 0 [] a [])
   lines_called width a =
-      ap (option_map (λ (b : Laid Tag). b.lines)) (blocks_called width 0 0 a [] false)
-      ∙ lines_alone (awaits_behind a false) (lay o width 0 0 a [])
+      ap (option_map (λ (b : Laid Tag). b.lines)) (blocks_called width 0 [] a [] false)
+      ∙ lines_alone (awaits_behind a false) (lay o width 0 [] a [])

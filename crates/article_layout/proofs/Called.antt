@@ -366,9 +366,9 @@ module _ (kept : KeepsMarkers) (o : Options) (width k : ℕ) (hanging : List (Ha
   mapped_back true lines before = refl
   mapped_back false lines before = refl
 
-  pub paragraph_called : (n : ℕ) (is : Inlines) (before : List (CellLine Tag)) →
-      run_whole m (parts_of o outermost n is) (at before None)
-      ≡ option_map (λ lines. at (before ++ map cell_of lines) None) (paragraph_lines o width k n is)
-  paragraph_called n is before = let ss : List Stretch = stretches None [] (parts_of o outermost n is) in
-      calls_lay (parts_of o outermost n is) before
+  pub paragraph_called : (ts : List (List ℕ)) (is : Inlines) (before : List (CellLine Tag)) →
+      run_whole m (parts_of o outermost ts is) (at before None)
+      ≡ option_map (λ lines. at (before ++ map cell_of lines) None) (paragraph_lines o width k ts is)
+  paragraph_called ts is before = let ss : List Stretch = stretches None [] (parts_of o outermost ts is) in
+      calls_lay (parts_of o outermost ts is) before
       ∙ mapped_back (all_fit o width ss) (lines_of_stretches o width k ss) before

@@ -25,8 +25,8 @@ mapped f x y h = ap (option_map f) h
 pub always_lines : (o : Options) (width : ℕ) (a : Blocks) → 2 ≤ wrap_at o width → AreParagraphs a →
     (lines : List Line) × (article_lines o width a ≡ Some lines)
 always_lines o width a room h =
-    let all = never_refused o width room 0 0 a [] h in
-    let laid = mapped _ (lay o width 0 0 a []) all.0 all.1 in (
+    let all = never_refused o width room 0 [] a [] h in
+    let laid = mapped _ (lay o width 0 [] a []) all.0 all.1 in (
       _,
       ap (λ b. if b then layout o (notes o width) width a else None)
           (some_column width (unwrap_or o.wrap_width width) room) ∙ laid,

@@ -1,6 +1,6 @@
 -- Paragraphs alone are never refused where two columns are to be had.
-use Rattle.std.proofs.Common.{◌≡◌, ℕ, suc, ◌≤◌, ◌+◌, Bool, true, false, not, ◌&&◌, ◌||◌, nat_lt, List, [], ◌∷◌, ◌++◌}
-use Rattle.std.proofs.Common.{length, Option, None, Some, refl, ap, ◌∙◌, arith}
+use Rattle.std.proofs.Common.{◌≡◌, ℕ, suc, ◌≤◌, Bool, true, false, not, ◌&&◌, ◌||◌, nat_lt, List, [], ◌∷◌, ◌++◌}
+use Rattle.std.proofs.Common.{Option, None, Some, refl, ap, ◌∙◌, arith}
 use Rattle.std.proofs.lemmas.Bool.Decides.{nat_tests}
 use Rattle.std.specs.Option.{option_and_then}
 use Rattle.std.specs.Prelude.{unwrap_or, IfSome}
@@ -40,23 +40,23 @@ module _ (o : Options) (width : ℕ) (room : 2 ≤ wrap_at o width) where
   all [] = refl
   all (s ∷ ss) = ap (λ b. not b && all_fit o width ss) (no_wide (wrap_at o width) s.source room) ∙ all ss
 
-  laid : (k n : ℕ) (is : Inlines) → paragraph_lines o width k n is
-      ≡ Some (lines_of_stretches o width k (stretches None [] (parts_of o outermost n is)))
-  laid k n is = let ss : List Stretch = stretches None [] (parts_of o outermost n is) in
+  laid : (k : ℕ) (ts : List (List ℕ)) (is : Inlines) → paragraph_lines o width k ts is
+      ≡ Some (lines_of_stretches o width k (stretches None [] (parts_of o outermost ts is)))
+  laid k ts is = let ss : List Stretch = stretches None [] (parts_of o outermost ts is) in
       ap (λ b. if_fits b (lines_of_stretches o width k ss)) (all ss)
 
-  pub never_refused : (k n : ℕ) (a : Blocks) (lines : List Line) → AreParagraphs a →
-      (all : List Line) × (lay o width k n a lines ≡ Some all)
-  never_refused k n (paragraph is rest) lines h =
-      let new : List Line = lines_of_stretches o width k (stretches None [] (parts_of o outermost n is)) in
-      let later = never_refused (suc k) (n + length (targets_in o is)) rest (parted o width lines ++ new) h in (
+  pub never_refused : (k : ℕ) (ts : List (List ℕ)) (a : Blocks) (lines : List Line) → AreParagraphs a →
+      (all : List Line) × (lay o width k ts a lines ≡ Some all)
+  never_refused k ts (paragraph is rest) lines h =
+      let new : List Line = lines_of_stretches o width k (stretches None [] (parts_of o outermost ts is)) in
+      let later = never_refused (suc k) (ts ++ targets_in o is) rest (parted o width lines ++ new) h in (
         later.0,
-        ap (option_and_then (λ new. lay o width (suc k) (n + length (targets_in o is)) rest
-            (parted o width lines ++ new))) (laid k n is) ∙ later.1,
+        ap (option_and_then (λ new. lay o width (suc k) (ts ++ targets_in o is) rest
+            (parted o width lines ++ new))) (laid k ts is) ∙ later.1,
       )
-  never_refused k n no_blocks lines h = (lines, refl)
-  never_refused k n (heading level is rest) lines h = absurd h
-  never_refused k n (division kids rest) lines h = absurd h
-  never_refused k n (quote kids rest) lines h = absurd h
-  never_refused k n (bullets items rest) lines h = absurd h
-  never_refused k n (numbers first items rest) lines h = absurd h
+  never_refused k ts no_blocks lines h = (lines, refl)
+  never_refused k ts (heading level is rest) lines h = absurd h
+  never_refused k ts (division kids rest) lines h = absurd h
+  never_refused k ts (quote kids rest) lines h = absurd h
+  never_refused k ts (bullets items rest) lines h = absurd h
+  never_refused k ts (numbers first items rest) lines h = absurd h

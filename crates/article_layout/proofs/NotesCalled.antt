@@ -1,6 +1,6 @@
 -- The calls of an article's blocks and of its targets lay just its lines.
 use Rattle.std.proofs.Common.{◌≡◌, ℕ, suc, Bool, true, false, ◌&&◌, List, [], ◌∷◌, ◌++◌, map, Option, None, Some}
-use Rattle.std.proofs.Common.{if◌then◌else◌, refl, sym, ap, ◌∙◌, append_assoc, append-nil}
+use Rattle.std.proofs.Common.{if◌then◌else◌, fold, refl, sym, ap, ◌∙◌, append_assoc, append-nil}
 use Rattle.std.specs.Option.{option_and_then, option_map}
 use Rattle.std.proofs.lemmas.Option.{none-some, same_Some}
 use Rattle.block_layout.specs.Laid.{Laid, add_text_lines, flush, nothing_laid, parted as laid_parted, start_block}
@@ -11,12 +11,31 @@ use Rattle.article_layout.specs.Calls.{cell_of, measure}
 use Rattle.article_layout.specs.Layouts.{Line, Options, Tag, lay, layout, note_line, notes, notes_from, outermost}
 use Rattle.article_layout.specs.Layouts.{parted, targets_of}
 use Rattle.footnote_lines.specs.Footnotes.{footnote_lines}
+use Rattle.link_targets.specs.Targets.{has_text, noted_targets, with_text}
 use Rattle.tagged_lines.specs.Tagged.{Item, tagged}
 use Rattle.text_borders.specs.Across.{CellLine}
 use Rattle.text_decorators.specs.Texts.{footnote_text}
 use Rattle.text_pieces.specs.Sources.{is_filled}
 use Rattle.article_layout.proofs.BlocksCalled.{behind_lines, blocks_called, laid, started_is}
 use Rattle.article_layout.proofs.Called.{KeepsMarkers}
+
+-- ---- where there are targets, some have footnotes
+
+one_stays : (t : List ℕ) (done targets : List (List ℕ)) → is_filled (fold with_text (t ∷ done) targets) ≡ true
+one_stays t done [] = refl
+one_stays t done (u ∷ targets) =
+    by (has_text (t ∷ done) u) (one_stays t done targets) (one_stays t (done ++ u ∷ []) targets)
+  where
+    by : (b : Bool) → is_filled (fold with_text (t ∷ done) targets) ≡ true →
+        is_filled (fold with_text (t ∷ (done ++ u ∷ [])) targets) ≡ true →
+        is_filled (fold with_text (if b then t ∷ done else t ∷ (done ++ u ∷ [])) targets) ≡ true
+    by true h e = h
+    by false h e = e
+
+some_stand : (shared : Bool) (targets : List (List ℕ)) → is_filled (noted_targets shared targets) ≡ is_filled targets
+some_stand false targets = refl
+some_stand true [] = refl
+some_stand true (t ∷ targets) = one_stays t [] targets
 
 module _ (kept : KeepsMarkers) (o : Options) (width : ℕ) where
   abbrev m : Measure
@@ -102,17 +121,20 @@ module _ (kept : KeepsMarkers) (o : Options) (width : ℕ) where
       cells (ended (option_and_then (run_notes o width []) x)) ≡ option_map (map cell_of) (option_map (λ ls. ls) y)
   none_called awaits x y e = ap (λ x. cells (ended x)) (same_option x) ∙ ap cells e ∙ only_lines awaits y
 
-  called : (targets : List (List ℕ)) (stand : Bool) (awaits : Bool) (x : Option (Laid Tag)) (y : Option (List Line)) →
-      ended x ≡ option_map (λ ls. at ls awaits) y →
-      cells (ended (option_and_then (run_notes o width (if stand then targets else [])) x))
-      ≡ option_map (map cell_of) (option_map (λ lines. if stand && is_filled targets
-      then parted o width lines ++ notes o width targets else lines) y)
-  called targets false awaits x y e = none_called awaits x y e
-  called [] true awaits x y e = none_called awaits x y e
-  called (target ∷ targets) true awaits x y e = some_called target targets awaits x y e
+  called : (all stand : List (List ℕ)) (footnotes awaits : Bool) (x : Option (Laid Tag)) (y : Option (List Line)) →
+      is_filled stand ≡ is_filled all → ended x ≡ option_map (λ ls. at ls awaits) y →
+      cells (ended (option_and_then (run_notes o width (if footnotes then stand else [])) x))
+      ≡ option_map (map cell_of) (option_map (λ lines. if footnotes && is_filled all
+      then parted o width lines ++ notes o width stand else lines) y)
+  called all stand false awaits x y h e = none_called awaits x y e
+  called [] [] true awaits x y h e = none_called awaits x y e
+  called [] (target ∷ targets) true awaits x y h e = absurd (let wrong : true ≡ false = h in cc)
+  called (one ∷ more) [] true awaits x y h e = absurd (let wrong : false ≡ true = h in cc)
+  called (one ∷ more) (target ∷ targets) true awaits x y h e = some_called target targets awaits x y e
 
   pub whole_called : (a : Blocks) → option_map (λ (b : Laid Tag). b.lines) (option_and_then (flush m outermost)
-      (option_and_then (run_notes o width (noted o (targets_of o a))) (run_blocks o width 0 a nothing_laid)))
+      (option_and_then (run_notes o width (noted o (targets_of o a))) (run_blocks o width [] a nothing_laid)))
       ≡ option_map (map cell_of) (layout o (notes o width) width a)
-  whole_called a = called (targets_of o a) o.footnotes (awaits_behind a false) (run_blocks o width 0 a nothing_laid)
-      (lay o width 0 0 a []) (blocks_called kept o width 0 0 a [] false)
+  whole_called a = called (targets_of o a) (noted_targets o.shares_footnotes (targets_of o a)) o.footnotes
+      (awaits_behind a false) (run_blocks o width [] a nothing_laid) (lay o width 0 [] a [])
+      (some_stand o.shares_footnotes (targets_of o a)) (blocks_called kept o width 0 [] a [] false)

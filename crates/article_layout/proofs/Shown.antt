@@ -1,5 +1,5 @@
 -- A paragraph with a visible character has a line with content, and its links don't depend on the text.
-use Rattle.std.proofs.Common.{◌≡◌, ℕ, suc, ◌+◌, ◌==◌, Bool, true, false, not, ◌&&◌, ◌||◌, List, [], ◌∷◌, ◌++◌, length}
+use Rattle.std.proofs.Common.{◌≡◌, ℕ, ◌==◌, Bool, true, false, not, ◌&&◌, ◌||◌, List, [], ◌∷◌, ◌++◌}
 use Rattle.std.proofs.Common.{map, codes, Option, None, Some, if◌then◌else◌, refl, sym, ap, subst, ◌∙◌}
 use Rattle.std.proofs.lemmas.Bool.{eq-eqb}
 use Rattle.std.proofs.lemmas.List.Elements.{filter-append}
@@ -153,31 +153,34 @@ module _ (o : Options) where
   link_shown false p ks qs more h k = any_first (p ∷ (ks ++ qs)) more
       (or_right (part_shows p) (list_any part_shows (ks ++ qs)) (any_first ks qs k))
 
-  parts_shown : (d : Tag) (n : ℕ) (a : Inlines) → HasShown a → list_any part_shows (parts_of o d n a) ≡ true
-  parts_shown d n _ (here cs rest h) =
-      or_left (has_visible (sourced cs d d)) (list_any part_shows (parts_of o d n rest)) (seen_text cs d h)
-  parts_shown d n _ (past_text cs a h) =
-      or_right (has_visible (sourced cs d d)) (list_any part_shows (parts_of o d n a)) (parts_shown d n a h)
-  parts_shown d n _ (past_break a h) = parts_shown d n a h
-  parts_shown d n _ (within_span style a rest h) = let mark : Part = says (mark_of o style) (within d) in
-      let more : List Part = mark ∷ parts_of o d (n + length (targets_in o a)) rest in
-      or_right (part_shows mark) (list_any part_shows (parts_of o (within d) n a ++ more))
-      (any_first (parts_of o (within d) n a) more (parts_shown (within d) n a h))
-  parts_shown d n _ (past_span style kids a h) = let mark : Part = says (mark_of o style) (within d) in
-      let more : List Part = parts_of o d (n + length (targets_in o kids)) a in
-      or_right (part_shows mark) (list_any part_shows (parts_of o (within d) n kids ++ mark ∷ more))
-      (any_later (parts_of o (within d) n kids) (mark ∷ more)
+  parts_shown : (d : Tag) (ts : List (List ℕ)) (a : Inlines) → HasShown a →
+      list_any part_shows (parts_of o d ts a) ≡ true
+  parts_shown d ts _ (here cs rest h) =
+      or_left (has_visible (sourced cs d d)) (list_any part_shows (parts_of o d ts rest)) (seen_text cs d h)
+  parts_shown d ts _ (past_text cs a h) =
+      or_right (has_visible (sourced cs d d)) (list_any part_shows (parts_of o d ts a)) (parts_shown d ts a h)
+  parts_shown d ts _ (past_break a h) = parts_shown d ts a h
+  parts_shown d ts _ (within_span style a rest h) = let mark : Part = says (mark_of o style) (within d) in
+      let more : List Part = mark ∷ parts_of o d (ts ++ targets_in o a) rest in
+      or_right (part_shows mark) (list_any part_shows (parts_of o (within d) ts a ++ more))
+      (any_first (parts_of o (within d) ts a) more (parts_shown (within d) ts a h))
+  parts_shown d ts _ (past_span style kids a h) = let mark : Part = says (mark_of o style) (within d) in
+      let more : List Part = parts_of o d (ts ++ targets_in o kids) a in
+      or_right (part_shows mark) (list_any part_shows (parts_of o (within d) ts kids ++ mark ∷ more))
+      (any_later (parts_of o (within d) ts kids) (mark ∷ more)
       (or_right (part_shows mark) (list_any part_shows more)
-      (parts_shown d (n + length (targets_in o kids)) a h)))
-  parts_shown d n _ (within_link target a rest h) = let behind = n + suc (length (targets_in o a)) in
-      link_shown (all_shallow o a) (says (codes "[") (within d)) (parts_of o (within d) (suc n) a)
+      (parts_shown d (ts ++ targets_in o kids) a h)))
+  parts_shown d ts _ (within_link target a rest h) = let behind = ts ++ target ∷ targets_in o a in
+      link_shown (all_shallow o a) (says (codes "[") (within d)) (parts_of o (within d) (ts ++ target ∷ []) a)
       (says (codes "]") (within d) ∷ says (number_mark o behind) d ∷ [])
-      (parts_of o d (if all_shallow o a then n else behind) rest) (not_shallow a h) (parts_shown (within d) (suc n) a h)
-  parts_shown d n _ (past_link target kids a h) = let behind = n + suc (length (targets_in o kids)) in
+      (parts_of o d (if all_shallow o a then ts else behind) rest) (not_shallow a h)
+      (parts_shown (within d) (ts ++ target ∷ []) a h)
+  parts_shown d ts _ (past_link target kids a h) = let behind = ts ++ target ∷ targets_in o kids in
       any_later (unless_shallow (all_shallow o kids) (says (codes "[") (within d)
-      ∷ (parts_of o (within d) (suc n) kids ++ says (codes "]") (within d) ∷ says (number_mark o behind) d ∷ [])))
-      (parts_of o d (if all_shallow o kids then n else behind) a)
-      (parts_shown d (if all_shallow o kids then n else behind) a h)
+      ∷ (parts_of o (within d) (ts ++ target ∷ []) kids
+      ++ says (codes "]") (within d) ∷ says (number_mark o behind) d ∷ [])))
+      (parts_of o d (if all_shallow o kids then ts else behind) a)
+      (parts_shown d (if all_shallow o kids then ts else behind) a h)
 
   break_shown : (b rest rest' : Bool) → (b || rest) ≡ true → (rest ≡ true → rest' ≡ true) → (b || rest') ≡ true
   break_shown true rest rest' h k = refl
@@ -290,12 +293,13 @@ module _ (o : Options) where
       fits_is true x y e = same_Some x y e
       fits_is false x y e = absurd (none-some y e)
 
-      pub paragraph_is : (n : ℕ) (a : Inlines) (lines : List Line) → HasShown a →
-          paragraph_lines o width k n a ≡ Some lines → IsParagraph k lines
-      paragraph_is n a lines h e =
-          let ss : List Stretch = stretches None [] (parts_of o outermost n a) in
+      pub paragraph_is : (ts : List (List ℕ)) (a : Inlines) (lines : List Line) → HasShown a →
+          paragraph_lines o width k ts a ≡ Some lines → IsParagraph k lines
+      paragraph_is ts a lines h e =
+          let ss : List Stretch = stretches None [] (parts_of o outermost ts a) in
           subst (IsParagraph k) (fits_is (all_fit o width ss) (lines_of_stretches o width k ss) lines e)
           (record {
             all = numbered ss;
-            shows = lines_shown ss (stretches_plain None [] (parts_of o outermost n a) refl) (stretch_shown None [] (parts_of o outermost n a) (parts_shown outermost n a h));
+            shows = lines_shown ss (stretches_plain None [] (parts_of o outermost ts a) refl)
+                (stretch_shown None [] (parts_of o outermost ts a) (parts_shown outermost ts a h));
           })

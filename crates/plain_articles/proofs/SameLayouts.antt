@@ -1,21 +1,24 @@
 -- The lines of articles without quotes and strong text.
-use Rattle.std.proofs.Common.{◌≡◌, ℕ, ℤ, suc, ◌+◌, nat_lt, max, Bool, not, ◌&&◌, List, [], ◌∷◌, ◌++◌}
-use Rattle.std.proofs.Common.{length, replicate, codes, Option, None, Some, if◌then◌else◌, refl, ap, ◌∙◌}
+use Rattle.std.proofs.Common.{◌≡◌, ℕ, ℤ, suc, ◌+◌, nat_lt, max, Bool, true, false, not, ◌&&◌, List, [], ◌∷◌, ◌++◌}
+use Rattle.std.proofs.Common.{length, length-append, replicate, codes, Option, None, Some, if◌then◌else◌, refl, ap, ◌∙◌}
+use Rattle.std.proofs.Common.{arith}
 use Rattle.std.specs.Char.{is_whitespace}
+use Rattle.std.specs.Fmt.{decimal}
 use Rattle.std.specs.List.{list_all}
 use Rattle.std.specs.Option.{option_map, option_and_then}
 use Rattle.article_layout.specs.Layouts.{Line, Options, Part, Stretch, Tag, all_fit, breaks, if_fits, item_prefix}
-use Rattle.article_layout.specs.Layouts.{least_text, lines_of_stretches, mark_of, next_number, notes, number_mark}
+use Rattle.article_layout.specs.Layouts.{least_text, lines_of_stretches, mark_of, next_number, notes}
 use Rattle.article_layout.specs.Layouts.{outermost, parted, prefixed, room, room_of_numbers, says, stretches, to_room}
 use Rattle.article_layout.specs.Layouts.{unless_shallow, within}
 use Rattle.article_layout.specs.Layouts as wide
+use Rattle.link_targets.specs.Targets.{last_number, noted_targets}
 use Rattle.plain_articles.specs.PlainArticles.{PlainBlocks, PlainInlines, PlainItems, PlainStyle, bold, bullets, code}
 use Rattle.plain_articles.specs.PlainArticles.{division, emphasis, heading, italic, item, line_break, link, no_blocks}
 use Rattle.plain_articles.specs.PlainArticles.{no_inlines, no_items, numbers, paragraph, span, wide_blocks}
 use Rattle.plain_articles.specs.PlainArticles.{wide_inlines, wide_items, wide_style, words}
 use Rattle.plain_articles.specs.PlainLayouts.{all_shallow, count, count_items, has_none, how_many, lay, lay_items}
-use Rattle.plain_articles.specs.PlainLayouts.{least_in, least_of, least_of_items, mark_in, paragraph_lines, parts_of}
-use Rattle.plain_articles.specs.PlainLayouts.{plain_lines, targets_in, targets_of, targets_of_items}
+use Rattle.plain_articles.specs.PlainLayouts.{least_in, least_of, least_of_items, mark_in, number_mark, paragraph_lines}
+use Rattle.plain_articles.specs.PlainLayouts.{parts_of, plain_lines, targets_in, targets_of, targets_of_items}
 use Rattle.render_laying.specs.Items.{spaces}
 use Rattle.render_sizes.specs.Extents.{capped}
 use Rattle.text_pieces.specs.Sources.{is_filled}
@@ -84,49 +87,27 @@ module _ (o : Options) where
       ∙ ap (λ ts. unless_shallow (all_shallow o kids) (target ∷ ts) ++ later) (targets_stay kids)
       ∙ ap (λ ts. unless_shallow (all_shallow o kids) (target ∷ targets_in o kids) ++ ts) (targets_stay rest)
 
-  -- a link's parts, by the targets in it, whether it shows nothing, and the parts of what it holds
-  abbrev link_parts : Tag → ℕ → List (List ℕ) → Bool → List Part → List Part
-  link_parts d n targets shallow inside = unless_shallow shallow (says (codes "[") (within d)
-      ∷ (inside ++ says (codes "]") (within d) ∷ says (number_mark o (n + suc (length targets))) d ∷ []))
+  -- behind more targets, which both count
+  longer : (ts us vs : List (List ℕ)) (n : ℕ) → length ts ≡ n → us ≡ vs → length (ts ++ us) ≡ n + length vs
+  longer ts us vs n many e =
+      length-append ts us ∙ ap (λ k. k + length us) many ∙ ap (λ us. n + length us) e
 
-  abbrev behind_link : ℕ → List (List ℕ) → Bool → ℕ
-  behind_link n targets shallow = if shallow then n else n + suc (length targets)
+  one_longer : (ts : List (List ℕ)) (target : List ℕ) (n : ℕ) → length ts ≡ n → length (ts ++ target ∷ []) ≡ suc n
+  one_longer ts target n many = longer ts (target ∷ []) (target ∷ []) n many refl ∙ omega arith
 
-  parts_stay : (d : Tag) (n : ℕ) (is : PlainInlines) → wide.parts_of o d n (wide_inlines is) ≡ parts_of o d n is
-  parts_stay d n no_inlines = refl
-  parts_stay d n (words cs rest) = ap (λ ps. says cs d ∷ ps) (parts_stay d n rest)
-  parts_stay d n (line_break rest) = ap (λ ps. breaks d ∷ ps) (parts_stay d n rest)
-  parts_stay d n (span style kids rest) =
-      let inside : List Part = wide.parts_of o (within d) n (wide_inlines kids) in
-      let later : List (List ℕ) → List Part = λ ts. wide.parts_of o d (n + length ts) (wide_inlines rest) in
-      let mark : List ℕ = mark_in o style in
-      ap (λ m. says m (within d) ∷ (inside ++ says m (within d) ∷ later (wide.targets_in o (wide_inlines kids))))
-      (mark_stays style)
-      ∙ ap (λ ps. says mark (within d) ∷ (ps ++ says mark (within d) ∷ later (wide.targets_in o (wide_inlines kids))))
-      (parts_stay (within d) n kids)
-      ∙ ap (λ ts. says mark (within d) ∷ (parts_of o (within d) n kids ++ says mark (within d) ∷ later ts))
-      (targets_stay kids)
-      ∙ ap (λ ps. says mark (within d) ∷ (parts_of o (within d) n kids ++ says mark (within d) ∷ ps))
-      (parts_stay d (n + length (targets_in o kids)) rest)
-  parts_stay d n (link target kids rest) =
-      let inside : List Part = wide.parts_of o (within d) (suc n) (wide_inlines kids) in
-      let shallow : Bool = wide.all_shallow o (wide_inlines kids) in
-      let later : ℕ → List Part = λ k. wide.parts_of o d k (wide_inlines rest) in
-      ap (λ ts. link_parts d n ts shallow inside ++ later (behind_link n ts shallow)) (targets_stay kids)
-      ∙ ap (λ b. link_parts d n (targets_in o kids) b inside ++ later (behind_link n (targets_in o kids) b))
-      (shallow_stays kids)
-      ∙ ap (λ ps. link_parts d n (targets_in o kids) (all_shallow o kids) ps
-      ++ later (behind_link n (targets_in o kids) (all_shallow o kids))) (parts_stay (within d) (suc n) kids)
-      ∙ ap (λ ps. link_parts d n (targets_in o kids) (all_shallow o kids) (parts_of o (within d) (suc n) kids) ++ ps)
-      (parts_stay d (behind_link n (targets_in o kids) (all_shallow o kids)) rest)
+  -- a link's parts, by the number behind it, whether it shows nothing, and the parts of what it holds
+  abbrev link_parts : Tag → List ℕ → Bool → List Part → List Part
+  link_parts d mark shallow inside = unless_shallow shallow (says (codes "[") (within d)
+      ∷ (inside ++ says (codes "]") (within d) ∷ says mark d ∷ []))
+
+  behind_link : (shallow : Bool) (ts us : List (List ℕ)) (n m : ℕ) → length ts ≡ n → length us ≡ m →
+      length (if shallow then ts else us) ≡ (if shallow then n else m)
+  behind_link true ts us n m many more = many
+  behind_link false ts us n m many more = more
 
   abbrev lines_of : (width number : ℕ) → List Part → Option (List Line)
   lines_of width k parts = let ss : List Stretch = stretches None [] parts in
       if_fits (all_fit o width ss) (lines_of_stretches o width k ss)
-
-  paragraph_stays : (width k n : ℕ) (is : PlainInlines) →
-      wide.paragraph_lines o width k n (wide_inlines is) ≡ paragraph_lines o width k n is
-  paragraph_stays width k n is = ap (lines_of width k) (parts_stay outermost n is)
 
   least_stays : (is : PlainInlines) → wide.least_in o (wide_inlines is) ≡ least_in o is
   least_stays no_inlines = refl
@@ -194,121 +175,163 @@ module _ (o : Options) where
     item_room_stays (item kids rest) = ap (λ n. max n (wide.least_of_items o (wide_items rest))) (room_stays kids)
         ∙ ap (λ n. max (least_of o kids) n) (item_room_stays rest)
 
-  -- what stands behind a part that was laid, by how many paragraphs and links it has
-  rest_stays : (width k n : ℕ) (rest : PlainBlocks) →
-      ((k n : ℕ) (lines : List Line) → wide.lay o width k n (wide_blocks rest) lines ≡ lay o width k n rest lines) →
-      (c c' : ℕ) (t t' : List (List ℕ)) (x x' : Option (List Line)) → c ≡ c' → t ≡ t' → x ≡ x' →
-      option_and_then (wide.lay o width (k + c) (n + length t) (wide_blocks rest)) x
-      ≡ option_and_then (lay o width (k + c') (n + length t') rest) x'
-  rest_stays width k n rest same c c' t t' x x' e f g =
-      ap (option_and_then (wide.lay o width (k + c) (n + length t) (wide_blocks rest))) g
-      ∙ ap (λ c. option_and_then (wide.lay o width (k + c) (n + length t) (wide_blocks rest)) x') e
-      ∙ ap (λ t. option_and_then (wide.lay o width (k + c') (n + length t) (wide_blocks rest)) x') f
-      ∙ then_same _ _ (same (k + c') (n + length t')) x'
+  module _ (unshared : o.shares_footnotes ≡ false) where
+    mark_counts : (ts : List (List ℕ)) (n : ℕ) → length ts ≡ n → wide.number_mark o ts ≡ number_mark o n
+    mark_counts ts n many =
+        ap (λ b. if o.footnotes then codes "[" ++ decimal (last_number b ts) ++ codes "]" else []) unshared
+        ∙ ap (number_mark o) many
 
-  -- and behind a paragraph
-  further_stays : (width k n : ℕ) (rest : PlainBlocks) →
-      ((k n : ℕ) (lines : List Line) → wide.lay o width k n (wide_blocks rest) lines ≡ lay o width k n rest lines) →
-      (put : List Line → List Line) (t t' : List (List ℕ)) (x x' : Option (List Line)) → t ≡ t' → x ≡ x' →
-      option_and_then (λ new. wide.lay o width (suc k) (n + length t) (wide_blocks rest) (put new)) x
-      ≡ option_and_then (λ new. lay o width (suc k) (n + length t') rest (put new)) x'
-  further_stays width k n rest same put t t' x x' f g =
-      ap (option_and_then (λ new. wide.lay o width (suc k) (n + length t) (wide_blocks rest) (put new))) g
-      ∙ ap (λ t. option_and_then (λ new. wide.lay o width (suc k) (n + length t) (wide_blocks rest) (put new)) x') f
-      ∙ then_same _ _ (λ new. same (suc k) (n + length t') (put new)) x'
+    parts_stay : (d : Tag) (ts : List (List ℕ)) (n : ℕ) (is : PlainInlines) → length ts ≡ n →
+        wide.parts_of o d ts (wide_inlines is) ≡ parts_of o d n is
+    parts_stay d ts n no_inlines many = refl
+    parts_stay d ts n (words cs rest) many = ap (λ ps. says cs d ∷ ps) (parts_stay d ts n rest many)
+    parts_stay d ts n (line_break rest) many = ap (λ ps. breaks d ∷ ps) (parts_stay d ts n rest many)
+    parts_stay d ts n (span style kids rest) many =
+        let us : List (List ℕ) = ts ++ wide.targets_in o (wide_inlines kids) in
+        let inside : List Part = wide.parts_of o (within d) ts (wide_inlines kids) in
+        let later : List Part = wide.parts_of o d us (wide_inlines rest) in
+        let mark : List ℕ = mark_in o style in
+        ap (λ m. says m (within d) ∷ (inside ++ says m (within d) ∷ later)) (mark_stays style)
+        ∙ ap (λ ps. says mark (within d) ∷ (ps ++ says mark (within d) ∷ later)) (parts_stay (within d) ts n kids many)
+        ∙ ap (λ ps. says mark (within d) ∷ (parts_of o (within d) n kids ++ says mark (within d) ∷ ps))
+        (parts_stay d us (n + length (targets_in o kids)) rest
+        (longer ts (wide.targets_in o (wide_inlines kids)) (targets_in o kids) n many (targets_stay kids)))
+    parts_stay d ts n (link target kids rest) many =
+        let us : List (List ℕ) = ts ++ target ∷ wide.targets_in o (wide_inlines kids) in
+        let m : ℕ = n + suc (length (targets_in o kids)) in
+        let more : length us ≡ m = longer ts (target ∷ wide.targets_in o (wide_inlines kids))
+        (target ∷ targets_in o kids) n many (ap (λ ts. target ∷ ts) (targets_stay kids)) in
+        let inside : List Part = wide.parts_of o (within d) (ts ++ target ∷ []) (wide_inlines kids) in
+        let later : List (List ℕ) → List Part = λ ts. wide.parts_of o d ts (wide_inlines rest) in
+        ap (λ b. link_parts d (wide.number_mark o us) b inside ++ later (if b then ts else us)) (shallow_stays kids)
+        ∙ ap (λ mark. link_parts d mark (all_shallow o kids) inside ++ later (if all_shallow o kids then ts else us))
+        (mark_counts us m more)
+        ∙ ap (λ ps. link_parts d (number_mark o m) (all_shallow o kids) ps
+        ++ later (if all_shallow o kids then ts else us))
+        (parts_stay (within d) (ts ++ target ∷ []) (suc n) kids (one_longer ts target n many))
+        ∙ ap (λ ps. link_parts d (number_mark o m) (all_shallow o kids) (parts_of o (within d) (suc n) kids) ++ ps)
+        (parts_stay d (if all_shallow o kids then ts else us) (if all_shallow o kids then n else m) rest
+        (behind_link (all_shallow o kids) ts us n m many more))
 
-  mutual
-    lay_stays : (width k n : ℕ) (blocks : PlainBlocks) (lines : List Line) →
-        wide.lay o width k n (wide_blocks blocks) lines ≡ lay o width k n blocks lines
-    lay_stays width k n no_blocks lines = refl
-    lay_stays width k n (paragraph is rest) lines =
-        further_stays width k n rest (λ k n lines. lay_stays width k n rest lines) (λ new. parted o width lines ++ new)
-        (wide.targets_in o (wide_inlines is)) (targets_in o is)
-        (wide.paragraph_lines o width k n (wide_inlines is)) (paragraph_lines o width k n is) (targets_stay is)
-        (paragraph_stays width k n is)
-    lay_stays width k n (heading level is rest) lines =
-        let prefix : List ℕ = replicate level 0x23 ++ codes " " in
-        further_stays width k n rest (λ k n lines. lay_stays width k n rest lines)
-        (λ new. parted o width lines ++ prefixed o width prefix prefix new)
-        (wide.targets_in o (wide_inlines is)) (targets_in o is)
-        (option_and_then (λ within. wide.paragraph_lines o within k n (wide_inlines is))
-        (room width (level + 1) (capped (wide.least_in o (wide_inlines is) + (level + 1)))))
-        (option_and_then (λ within. paragraph_lines o within k n is)
-        (room width (level + 1) (capped (least_in o is + (level + 1))))) (targets_stay is)
-        (ap (λ l. option_and_then (λ within. wide.paragraph_lines o within k n (wide_inlines is))
-        (room width (level + 1) (capped (l + (level + 1))))) (least_stays is)
-        ∙ then_same _ _ (λ within. paragraph_stays within k n is)
-        (room width (level + 1) (capped (least_in o is + (level + 1)))))
-    lay_stays width k n (division kids rest) lines =
-        rest_stays width k n rest (λ k n lines. lay_stays width k n rest lines)
-        (wide.count (wide_blocks kids)) (count kids) (wide.targets_of o (wide_blocks kids)) (targets_of o kids)
-        (wide.lay o width k n (wide_blocks kids) lines) (lay o width k n kids lines) (count_stays kids)
-        (links_stay kids)
-        (lay_stays width k n kids lines)
-    lay_stays width k n (bullets items rest) lines =
-        rest_stays width k n rest (λ k n lines. lay_stays width k n rest lines)
-        (wide.count_items (wide_items items)) (count_items items) (wide.targets_of_items o (wide_items items))
-        (targets_of_items o items)
-        (wide.lay_items o width k n 2 (capped (wide.least_of_items o (wide_items items) + 2)) None (wide_items items)
-        (parted o width lines))
-        (lay_items o width k n 2 (capped (least_of_items o items + 2)) None items (parted o width lines))
-        (item_count_stays items) (item_links_stay items)
-        (ap (λ l. wide.lay_items o width k n 2 (capped (l + 2)) None (wide_items items) (parted o width lines))
-        (item_room_stays items)
-        ∙ lay_items_stay width k n 2 (capped (least_of_items o items + 2)) None items (parted o width lines))
-    lay_stays width k n (numbers first items rest) lines =
-        let columns : ℕ = room_of_numbers first (how_many items) in
-        let least : ℕ = capped (least_of_items o items + columns) in
-        rest_stays width k n rest (λ k n lines. lay_stays width k n rest lines)
-        (wide.count_items (wide_items items)) (count_items items) (wide.targets_of_items o (wide_items items))
-        (targets_of_items o items)
-        (wide.lay_items o width k n (room_of_numbers first (wide.how_many (wide_items items)))
-        (least_of_numbers first (wide.least_of_items o (wide_items items)) (wide.how_many (wide_items items)))
-        (Some first) (wide_items items) (parted o width lines))
-        (lay_items o width k n columns least (Some first) items (parted o width lines))
-        (item_count_stays items) (item_links_stay items)
-        (ap (λ l. wide.lay_items o width k n (room_of_numbers first (wide.how_many (wide_items items)))
-        (least_of_numbers first l (wide.how_many (wide_items items))) (Some first) (wide_items items)
-        (parted o width lines)) (item_room_stays items)
-        ∙ ap (λ m. wide.lay_items o width k n (room_of_numbers first m)
-        (least_of_numbers first (least_of_items o items) m) (Some first) (wide_items items) (parted o width lines))
-        (number_stays items)
-        ∙ lay_items_stay width k n columns least (Some first) items (parted o width lines))
+    paragraph_stays : (width k : ℕ) (ts : List (List ℕ)) (n : ℕ) (is : PlainInlines) → length ts ≡ n →
+        wide.paragraph_lines o width k ts (wide_inlines is) ≡ paragraph_lines o width k n is
+    paragraph_stays width k ts n is many = ap (lines_of width k) (parts_stay outermost ts n is many)
 
-    lay_items_stay : (width k n columns least : ℕ) (at : Option ℤ) (items : PlainItems) (lines : List Line) →
-        wide.lay_items o width k n columns least at (wide_items items) lines
-        ≡ lay_items o width k n columns least at items lines
-    lay_items_stay width k n columns least at no_items lines = refl
-    lay_items_stay width k n columns least at (item kids rest) lines =
-        let put : List Line → List Line =
-        λ new. lines ++ prefixed o width (to_room columns (item_prefix at)) (spaces columns) new in
-        let laid : Option (List Line) = option_and_then (λ within. lay o within k n kids [])
-        (room width columns least) in
-        ap (option_and_then (λ new. wide.lay_items o width (k + wide.count (wide_blocks kids))
-        (n + length (wide.targets_of o (wide_blocks kids))) columns least (next_number at) (wide_items rest) (put new)))
-        (then_same _ _ (λ within. lay_stays within k n kids []) (room width columns least))
-        ∙ ap (λ c. option_and_then (λ new. wide.lay_items o width (k + c)
-        (n + length (wide.targets_of o (wide_blocks kids))) columns least (next_number at) (wide_items rest) (put new))
-        laid) (count_stays kids)
-        ∙ ap (λ t. option_and_then (λ new. wide.lay_items o width (k + count kids) (n + length t) columns least
-        (next_number at) (wide_items rest) (put new)) laid) (links_stay kids)
-        ∙ then_same _ _ (λ new. lay_items_stay width (k + count kids) (n + length (targets_of o kids)) columns least
-        (next_number at) rest (put new)) laid
+    -- what stands behind a part that was laid, by how many paragraphs and links it has
+    abbrev Stays : ℕ → PlainBlocks → Type 0
+    Stays width rest = (k : ℕ) (ts : List (List ℕ)) (n : ℕ) (lines : List Line) → length ts ≡ n →
+        wide.lay o width k ts (wide_blocks rest) lines ≡ lay o width k n rest lines
 
-  abbrev with_notes : ℕ → List (List ℕ) → List Line → List Line
-  with_notes width targets lines =
-      if o.footnotes && is_filled targets then parted o width lines ++ notes o width targets else lines
+    rest_stays : (width k : ℕ) (ts : List (List ℕ)) (n : ℕ) (rest : PlainBlocks) → Stays width rest → (c c' : ℕ)
+        (t t' : List (List ℕ)) (x x' : Option (List Line)) → length ts ≡ n → c ≡ c' → t ≡ t' → x ≡ x' →
+        option_and_then (wide.lay o width (k + c) (ts ++ t) (wide_blocks rest)) x
+        ≡ option_and_then (lay o width (k + c') (n + length t') rest) x'
+    rest_stays width k ts n rest same c c' t t' x x' many e f g =
+        ap (option_and_then (wide.lay o width (k + c) (ts ++ t) (wide_blocks rest))) g
+        ∙ ap (λ c. option_and_then (wide.lay o width (k + c) (ts ++ t) (wide_blocks rest)) x') e
+        ∙ then_same _ _ (λ lines. same (k + c') (ts ++ t) (n + length t') lines (longer ts t t' n many f)) x'
 
-  layout_stays : (width : ℕ) (blocks : PlainBlocks) →
-      option_map (with_notes width (wide.targets_of o (wide_blocks blocks)))
-      (wide.lay o width 0 0 (wide_blocks blocks) [])
-      ≡ option_map (with_notes width (targets_of o blocks)) (lay o width 0 0 blocks [])
-  layout_stays width blocks =
-      ap (λ t. option_map (with_notes width t) (wide.lay o width 0 0 (wide_blocks blocks) [])) (links_stay blocks)
-      ∙ ap (option_map (with_notes width (targets_of o blocks))) (lay_stays width 0 0 blocks [])
+    -- and behind a paragraph
+    further_stays : (width k : ℕ) (ts : List (List ℕ)) (n : ℕ) (rest : PlainBlocks) → Stays width rest →
+        (put : List Line → List Line) (t t' : List (List ℕ)) (x x' : Option (List Line)) → length ts ≡ n → t ≡ t' →
+        x ≡ x' → option_and_then (λ new. wide.lay o width (suc k) (ts ++ t) (wide_blocks rest) (put new)) x
+        ≡ option_and_then (λ new. lay o width (suc k) (n + length t') rest (put new)) x'
+    further_stays width k ts n rest same put t t' x x' many f g =
+        ap (option_and_then (λ new. wide.lay o width (suc k) (ts ++ t) (wide_blocks rest) (put new))) g
+        ∙ then_same _ _ (λ new. same (suc k) (ts ++ t) (n + length t') (put new) (longer ts t t' n many f)) x'
 
-  pub lines_stay : (width : ℕ) (blocks : PlainBlocks) →
-      wide.article_lines o width (wide_blocks blocks) ≡ plain_lines o width blocks
-  lines_stay width blocks =
-      ap (λ (x : Option (List Line)). let none : Option (List Line) = None in if nat_lt 0 width then x else none)
-      (layout_stays width blocks)
+    mutual
+      lay_stays : (width : ℕ) (blocks : PlainBlocks) → Stays width blocks
+      lay_stays width no_blocks k ts n lines many = refl
+      lay_stays width (paragraph is rest) k ts n lines many =
+          further_stays width k ts n rest (lay_stays width rest) (λ new. parted o width lines ++ new)
+          (wide.targets_in o (wide_inlines is)) (targets_in o is)
+          (wide.paragraph_lines o width k ts (wide_inlines is)) (paragraph_lines o width k n is) many (targets_stay is)
+          (paragraph_stays width k ts n is many)
+      lay_stays width (heading level is rest) k ts n lines many =
+          let prefix : List ℕ = replicate level 0x23 ++ codes " " in
+          further_stays width k ts n rest (lay_stays width rest)
+          (λ new. parted o width lines ++ prefixed o width prefix prefix new)
+          (wide.targets_in o (wide_inlines is)) (targets_in o is)
+          (option_and_then (λ within. wide.paragraph_lines o within k ts (wide_inlines is))
+          (room width (level + 1) (capped (wide.least_in o (wide_inlines is) + (level + 1)))))
+          (option_and_then (λ within. paragraph_lines o within k n is)
+          (room width (level + 1) (capped (least_in o is + (level + 1))))) many (targets_stay is)
+          (ap (λ l. option_and_then (λ within. wide.paragraph_lines o within k ts (wide_inlines is))
+          (room width (level + 1) (capped (l + (level + 1))))) (least_stays is)
+          ∙ then_same _ _ (λ within. paragraph_stays within k ts n is many)
+          (room width (level + 1) (capped (least_in o is + (level + 1)))))
+      lay_stays width (division kids rest) k ts n lines many =
+          rest_stays width k ts n rest (lay_stays width rest)
+          (wide.count (wide_blocks kids)) (count kids) (wide.targets_of o (wide_blocks kids)) (targets_of o kids)
+          (wide.lay o width k ts (wide_blocks kids) lines) (lay o width k n kids lines) many (count_stays kids)
+          (links_stay kids) (lay_stays width kids k ts n lines many)
+      lay_stays width (bullets items rest) k ts n lines many =
+          rest_stays width k ts n rest (lay_stays width rest)
+          (wide.count_items (wide_items items)) (count_items items) (wide.targets_of_items o (wide_items items))
+          (targets_of_items o items)
+          (wide.lay_items o width k ts 2 (capped (wide.least_of_items o (wide_items items) + 2)) None (wide_items items)
+          (parted o width lines))
+          (lay_items o width k n 2 (capped (least_of_items o items + 2)) None items (parted o width lines))
+          many (item_count_stays items) (item_links_stay items)
+          (ap (λ l. wide.lay_items o width k ts 2 (capped (l + 2)) None (wide_items items) (parted o width lines))
+          (item_room_stays items)
+          ∙ lay_items_stay width k ts n 2 (capped (least_of_items o items + 2)) None items (parted o width lines) many)
+      lay_stays width (numbers first items rest) k ts n lines many =
+          let columns : ℕ = room_of_numbers first (how_many items) in
+          let least : ℕ = capped (least_of_items o items + columns) in
+          rest_stays width k ts n rest (lay_stays width rest)
+          (wide.count_items (wide_items items)) (count_items items) (wide.targets_of_items o (wide_items items))
+          (targets_of_items o items)
+          (wide.lay_items o width k ts (room_of_numbers first (wide.how_many (wide_items items)))
+          (least_of_numbers first (wide.least_of_items o (wide_items items)) (wide.how_many (wide_items items)))
+          (Some first) (wide_items items) (parted o width lines))
+          (lay_items o width k n columns least (Some first) items (parted o width lines))
+          many (item_count_stays items) (item_links_stay items)
+          (ap (λ l. wide.lay_items o width k ts (room_of_numbers first (wide.how_many (wide_items items)))
+          (least_of_numbers first l (wide.how_many (wide_items items))) (Some first) (wide_items items)
+          (parted o width lines)) (item_room_stays items)
+          ∙ ap (λ m. wide.lay_items o width k ts (room_of_numbers first m)
+          (least_of_numbers first (least_of_items o items) m) (Some first) (wide_items items) (parted o width lines))
+          (number_stays items)
+          ∙ lay_items_stay width k ts n columns least (Some first) items (parted o width lines) many)
+
+      lay_items_stay : (width k : ℕ) (ts : List (List ℕ)) (n columns least : ℕ) (at : Option ℤ) (items : PlainItems)
+          (lines : List Line) → length ts ≡ n → wide.lay_items o width k ts columns least at (wide_items items) lines
+          ≡ lay_items o width k n columns least at items lines
+      lay_items_stay width k ts n columns least at no_items lines many = refl
+      lay_items_stay width k ts n columns least at (item kids rest) lines many =
+          let put : List Line → List Line =
+          λ new. lines ++ prefixed o width (to_room columns (item_prefix at)) (spaces columns) new in
+          let laid : Option (List Line) = option_and_then (λ within. lay o within k n kids [])
+          (room width columns least) in
+          let us : List (List ℕ) = ts ++ wide.targets_of o (wide_blocks kids) in
+          ap (option_and_then (λ new. wide.lay_items o width (k + wide.count (wide_blocks kids)) us columns least
+          (next_number at) (wide_items rest) (put new)))
+          (then_same _ _ (λ within. lay_stays within kids k ts n [] many) (room width columns least))
+          ∙ ap (λ c. option_and_then (λ new. wide.lay_items o width (k + c) us columns least (next_number at)
+          (wide_items rest) (put new)) laid) (count_stays kids)
+          ∙ then_same _ _ (λ new. lay_items_stay width (k + count kids) us (n + length (targets_of o kids)) columns
+          least (next_number at) rest (put new)
+          (longer ts (wide.targets_of o (wide_blocks kids)) (targets_of o kids) n many (links_stay kids))) laid
+
+    abbrev with_notes : ℕ → (shared : Bool) → List (List ℕ) → List Line → List Line
+    with_notes width shared targets lines = if o.footnotes && is_filled targets
+        then parted o width lines ++ notes o width (noted_targets shared targets) else lines
+
+    layout_stays : (width : ℕ) (blocks : PlainBlocks) →
+        option_map (with_notes width o.shares_footnotes (wide.targets_of o (wide_blocks blocks)))
+        (wide.lay o width 0 [] (wide_blocks blocks) [])
+        ≡ option_map (with_notes width false (targets_of o blocks)) (lay o width 0 0 blocks [])
+    layout_stays width blocks =
+        ap (λ b. option_map (with_notes width b (wide.targets_of o (wide_blocks blocks)))
+        (wide.lay o width 0 [] (wide_blocks blocks) [])) unshared
+        ∙ ap (λ t. option_map (with_notes width false t) (wide.lay o width 0 [] (wide_blocks blocks) []))
+        (links_stay blocks)
+        ∙ ap (option_map (with_notes width false (targets_of o blocks))) (lay_stays width blocks 0 [] 0 [] refl)
+
+    pub lines_stay : (width : ℕ) (blocks : PlainBlocks) →
+        wide.article_lines o width (wide_blocks blocks) ≡ plain_lines o width blocks
+    lines_stay width blocks =
+        ap (λ (x : Option (List Line)). let none : Option (List Line) = None in if nat_lt 0 width then x else none)
+        (layout_stays width blocks)
