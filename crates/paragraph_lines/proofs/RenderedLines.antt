@@ -4,6 +4,7 @@ use Rattle.std.proofs.Common.{if◌then◌else◌, inl, inr, ⊎_elim, refl, sym
 use Rattle.std.proofs.lemmas.Option.{none-some, same_Some}
 use Rattle.std.specs.Option.{option_map}
 use Rattle.block_layout.specs.Laid.{Laid}
+use Rattle.link_targets.specs.Targets.{noted_targets}
 use Rattle.html_render_tree.specs.PageLines.{HasNoLines, IsClosed, IsNoted, IsRendered, IsTooNarrow, IsUnclosed}
 use Rattle.html_render_tree.specs.PageLines.{NeverNoted, Setting, laid_page, noted, with_notes}
 use Rattle.render_values.specs.Values.{Values, none}
@@ -30,9 +31,11 @@ abbrev Notes : Type 0
 Notes = List (TaggedLine (Unit {0}))
 
 -- the targets of a page without links
-targets_none : (links : Bool) → ◌≡◌ {A = List (List ℕ)} (if links then [] else []) []
-targets_none true = refl
-targets_none false = refl
+targets_none : (links shared : Bool) →
+    ◌≡◌ {A = List (List ℕ)} (if links then noted_targets shared [] else []) []
+targets_none true true = refl
+targets_none true false = refl
+targets_none false shared = refl
 
 abbrev footnotes : List (List ℕ) → List (List (Item (Unit {0})))
 footnotes targets = map (λ text. tagged text tt) (footnote_texts 1 targets)
@@ -43,16 +46,16 @@ IsNotedBy targets s t = IsNoted plain_marking seen plain_closes targets s t
 abbrev IsNever : List (List ℕ) → Page → Type 0
 IsNever targets s = NeverNoted plain_marking seen plain_closes targets s
 
-module _ (links : Bool) (held : Unit {0}) (width : ℕ) where
+module _ (links shared : Bool) (held : Unit {0}) (width : ℕ) where
   abbrev sub : Laid Plain → Page
-  sub b = sub_at links held width b
+  sub b = sub_at links shared held width b
 
   abbrev parts : Laid Plain → Pages
-  parts b = parts_at links held width b
+  parts b = parts_at links shared held width b
 
   notes_none : (b : Laid Plain) (notes : Notes) → plain_closes held (noted (parts b)) notes →
       map (line_items seen) notes ≡ []
-  notes_none b notes told = told ∙ ap footnotes (targets_none links)
+  notes_none b notes told = told ∙ ap footnotes (targets_none links shared)
 
   closed_is : (b : Laid Plain) (s : Page) → IsNotedBy (noted (parts b)) (sub b) s → s ≡ sub b
   closed_is b s n = same_Some s (sub b)
@@ -63,7 +66,7 @@ module _ (links : Bool) (held : Unit {0}) (width : ℕ) where
       (sym n.never ∙ ap (λ ns. with_notes ns (sub b)) (notes_none b n.notes n.told))
 
   closed_at : (b : Laid Plain) → IsNotedBy (noted (parts b)) (sub b) (sub b)
-  closed_at b = record { notes = []; told = sym (ap footnotes (targets_none links)); behind = refl }
+  closed_at b = record { notes = []; told = sym (ap footnotes (targets_none links shared)); behind = refl }
 
   -- ---- what a page is rendered as
 
@@ -154,6 +157,7 @@ pub are_laid : (k : KnowsNormalText) (c : Setting (Unit {0})) (width : ℕ) (tex
     AreLaid c width texts (paragraph_values texts)
 are_laid k c width texts is_plain =
     let links = c.options.include_link_footnotes in
+    let shared = c.options.shared_footnotes in
     let values = paragraph_values texts in
     let found = all_laid width texts begun_laid in
     let laid = page_is c width texts is_plain in
@@ -162,12 +166,12 @@ are_laid k c width texts is_plain =
       some = some_values texts;
       lines = λ lines. (
         λ r. are_lines k width texts [] lines
-            (sym same ∙ lines_shown_are links c.held width c values found lines laid r),
-        λ a. are_rendered links c.held width c values found lines laid
+            (sym same ∙ lines_shown_are links shared c.held width c values found lines laid r),
+        λ a. are_rendered links shared c.held width c values found lines laid
             (same ∙ lines_are k width texts [] lines a),
       );
       narrow = (
-        λ n. some_wider k width texts [] (sym same ∙ none_shown links c.held width c values found laid n),
-        λ some. is_narrow links c.held width c values found laid (same ∙ wider_none k width texts [] some),
+        λ n. some_wider k width texts [] (sym same ∙ none_shown links shared c.held width c values found laid n),
+        λ some. is_narrow links shared c.held width c values found laid (same ∙ wider_none k width texts [] some),
       );
     }

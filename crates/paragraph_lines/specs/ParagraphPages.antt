@@ -16,7 +16,10 @@ AreQuiet rules = (rules ≡ []) ⊎ (map seen_rule rules ≡ decorating_rules)
 
 -- options as they are by default, but for the targets of links
 abbrev pub IsPlain : Setting (Unit {0}) → Type 0
-IsPlain c = c.options ≡ record default_options { include_link_footnotes = c.options.include_link_footnotes }
+IsPlain c = c.options ≡ record default_options {
+  include_link_footnotes = c.options.include_link_footnotes;
+  shared_footnotes = c.options.shared_footnotes;
+}
 
 -- What a page of paragraphs has: values that are rendered as its paragraphs' lines and no others, and for which a width
 -- is too narrow just where it is for one of the texts.
