@@ -12,6 +12,7 @@ trap 'rm -rf "$room"' EXIT
 cd "$room"
 printf '<h1>T</h1><p>a &notin; <b>b</b> <a href="x">c</a>' >page
 printf '<p>a' >./-page
+printf '<p><a href=x>a</a> <a href=y>b</a> <a href=x>c</a>' >links
 printf '[]' >bad.json
 printf '\377' >bytes.json
 cp "$top/share/html-references.json" references.json
@@ -44,6 +45,7 @@ run 0 '# T\n\na\n&notin;\n**b**\n[c][1]\n\n[1]: x\n' '' --width=8 page
 run 0 '# T\n\na &notin; b c\n' '' --rich page
 run 0 '# T\n\na &notin; b [c]\n' '' page --no-decorate
 run 0 '# T\n\na &notin; b c[1]\n\n[1]: x\n' '' --footnotes --rich page
+run 0 '[a][1] [b][2] [c][1]\n\n[1]: x\n[2]: y\n' '' --shared-footnotes links
 run 0 '# T\n\na \342\210\211 **b** [c][1]\n\n[1]: x\n' '' --references references.json page
 run 0 '*' '' --help
 run 1 '' 'html2text: read or write failed\n' nowhere

@@ -16,7 +16,7 @@ _html2text() {
         ;;
     *)
         if [[ $word == -* ]]; then
-            COMPREPLY=($(compgen -W '--width --rich --no-decorate --footnotes --references --max-bytes --help' -- "$word"))
+            COMPREPLY=($(compgen -W '--width --rich --no-decorate --footnotes --shared-footnotes --references --max-bytes --help' -- "$word"))
         else
             COMPREPLY=($(compgen -f -- "$word"))
         fi
