@@ -42,6 +42,7 @@ const PLAIN: LineOptions = LineOptions {
     pads: false,
     decorates: true,
     footnotes: true,
+    shares_footnotes: false,
     wraps_links: true,
     min_wrap_width: 3,
 };
@@ -51,6 +52,7 @@ fn set_option(options: &mut LineOptions, field: &str) -> Result<(), Error> {
         Some(("max_wrap_width", columns)) => options.wrap_width = Some(number(columns)?),
         Some(("min_wrap_width", columns)) => options.min_wrap_width = number(columns)?,
         Some(("link_footnotes", "false")) => options.footnotes = false,
+        Some(("shared_footnotes", "true")) => options.shares_footnotes = true,
         Some(("do_decorate", "false")) => options.decorates = false,
         None if field == "pad_block_width" => options.pads = true,
         None if field.is_empty() => {}

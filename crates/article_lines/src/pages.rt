@@ -16,6 +16,7 @@ pub(crate) fn config_of(
     }
     let mut config = Config::plain_no_decorate(alloc, ReferenceTable::basic(alloc)?)
         .link_footnotes(options.footnotes)
+        .shared_footnotes(options.shares_footnotes)
         .min_wrap_width(options.min_wrap_width);
     if let Some(columns) = options.wrap_width {
         config = config.max_wrap_width(columns);
