@@ -73,7 +73,9 @@ impl LinkTargets {
         if shared {
             links.number_all()?;
             let LinkTargets {
-                targets, numbers, ..
+                targets,
+                numbers,
+                ..
             } = links;
             return each_once(targets, numbers);
         }

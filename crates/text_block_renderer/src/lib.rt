@@ -9,9 +9,9 @@ pub use block_renderer::{
     SubRenderer,
 };
 pub use footnote_lines::footnotes_keep_the_width;
-pub use link_targets::LinkTargets;
 pub use laws::{parts_keep_the_width, parts_with_room_never_refuse};
 pub use layout_laws::{calls_keep_the_width, cells_hang_until_a_row, overflow_never_refuses};
+pub use link_targets::LinkTargets;
 pub use renderer_laws::{
     a_prefix_and_its_room_are_the_width, renderers_keep_the_width, renderers_with_room_never_refuse,
 };

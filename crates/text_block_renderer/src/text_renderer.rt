@@ -245,7 +245,9 @@ impl<D: TextDecorator + Drop> TextRenderer<D> {
         if !self.current.options.include_link_footnotes {
             return Ok(());
         }
-        let number = self.links.last_number(self.current.options.shared_footnotes)?;
+        let number = self
+            .links
+            .last_number(self.current.options.shared_footnotes)?;
         let mark = footnote_mark(*self.below.allocator(), number)?;
         self.current.add_inline_text(mark.as_str())
     }
