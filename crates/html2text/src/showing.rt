@@ -71,9 +71,8 @@ fn write_decorated<R: ByteReader, W: ByteWriter>(
         (R.has_failed input.new) (W.has_failed output.new) (W.was_flushed output.new) (R.count input.old)
         (R.count input.new) (W.contents output.old) (W.contents output.new) (output.new ≡ output.old) result }
 {
-    let config = Config::plain(alloc, table)?
-        .shared_footnotes(request.shared_footnotes)
-        .max_bytes(request.max_bytes.unwrap_or(usize::MAX));
+    let config = Config::plain(alloc, table)?.max_bytes(request.max_bytes.unwrap_or(usize::MAX));
+    let config = config.shared_footnotes(request.shared_footnotes);
     write_by(alloc, input, output, config, request.width)
 }
 
