@@ -50,7 +50,7 @@ fn are_parts(alloc: Global) -> Result<bool, BlockError> {
         return Ok(false);
     }
     let (block, links) = page.into_inner();
-    Ok(links.len() == 1 && block.into_lines()?.len() == 3)
+    Ok(links.into_noted(true)?.len() == 1 && block.into_lines()?.len() == 3)
 }
 
 fn targets(alloc: Global) -> Result<Vec<String>, AllocError> {
