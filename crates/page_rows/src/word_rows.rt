@@ -6,7 +6,7 @@ use std::test::Fail;
 
 /// A line of words, cut at spaces, and what it comes to: what is asked for, as `told` tells it; `help`; or `words`,
 /// where it is refused.
-static LINES: [(&str, &str); 60] = [
+static LINES: [(&str, &str); 62] = [
     ("", "80"),
     ("--", "80"),
     ("--width 8", "8"),
@@ -39,6 +39,8 @@ static LINES: [(&str, &str); 60] = [
     ("--rich", "80 rich"),
     ("--no-decorate", "80 no-decorate"),
     ("--footnotes", "80 footnotes"),
+    ("--shared-footnotes", "80 shared-footnotes"),
+    ("--shared-footnotes=true", "words"),
     ("--rich --rich", "words"),
     ("--rich=true", "words"),
     ("--rich true", "80 rich file true"),
@@ -100,6 +102,9 @@ fn told(alloc: Global, request: &Request) -> Result<String, AllocError> {
     }
     if request.footnotes {
         text.push_str(" footnotes")?;
+    }
+    if request.shared_footnotes {
+        text.push_str(" shared-footnotes")?;
     }
     if let Some(name) = &request.references {
         write!(&mut text, " references {name}")?;

@@ -1,4 +1,5 @@
-//! The program `html2text` on a page with headings, lists, links, a quotation and preformatted text.
+//! The program `html2text` on a page with headings, lists, a quotation, preformatted text, and links that share
+//! footnotes.
 #![tactic(auto)]
 
 use html2text::{Served, serve};
