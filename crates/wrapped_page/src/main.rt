@@ -1,5 +1,4 @@
-//! The program `html2text` on a page with headings, lists, a quotation, preformatted text, and links that share
-//! footnotes.
+//! The program `html2text` on a page with headings, lists, links, a quotation and preformatted text.
 #![tactic(auto)]
 
 use html2text::{Served, serve};
