@@ -15,7 +15,7 @@ positive (suc n) e = omega arith
 
 module _ (o : Options) (width : ℕ) (blocks : Blocks) where
   abbrev found : Option (List Line)
-  found = lay o width 0 0 blocks []
+  found = lay o width 0 [] blocks []
 
   abbrev behind : Option (List Line) → Option At
   behind x = option_map (λ ls. record { lines = ls; paragraphs = 0 + count blocks; targets = targets_of o blocks }) x

@@ -1,5 +1,5 @@
 -- The lines of a paragraph, by what was said of it.
-use Rattle.std.proofs.Common.{◌≡◌, ℕ, Bool, true, false, List, [], ◌∷◌, ◌++◌, map, length, Option, None, Some}
+use Rattle.std.proofs.Common.{◌≡◌, ℕ, Bool, true, false, List, [], ◌∷◌, ◌++◌, map, Option, None, Some}
 use Rattle.std.proofs.Common.{if◌then◌else◌, refl, sym, ap, ◌∙◌}
 use Rattle.std.specs.Option.{option_and_then, option_map}
 use Rattle.std.proofs.lemmas.Option.{none-some, same_Some}
@@ -72,10 +72,10 @@ module _ (o : Options) (width k : ℕ) where
 
   module _ (is : Inlines) (ts : List (List ℕ)) where
     abbrev parts : List Part
-    parts = parts_of o outermost (length ts) is
+    parts = parts_of o outermost ts is
 
     abbrev found : Option (List Line)
-    found = paragraph_lines o width k (length ts) is
+    found = paragraph_lines o width k ts is
 
     abbrev Calls : Type 0
     Calls = run_whole (measure o width) parts nothing_laid ≡ option_map as_block found

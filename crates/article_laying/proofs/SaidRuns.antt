@@ -1,8 +1,7 @@
 -- What is said of a paragraph is what its parts say, one after another.
-use Rattle.std.proofs.Common.{◌≡◌, ℕ, suc, ◌+◌, Bool, true, false, List, [], ◌∷◌, ◌++◌, length, Option, None, Some}
-use Rattle.std.proofs.Common.{codes, if◌then◌else◌, refl, sym, ap, ◌∙◌, append_assoc, append-nil, arith}
+use Rattle.std.proofs.Common.{◌≡◌, ℕ, Bool, true, false, List, [], ◌∷◌, ◌++◌, Option, None, Some}
+use Rattle.std.proofs.Common.{codes, if◌then◌else◌, refl, sym, ap, ◌∙◌, append_assoc, append-nil}
 use Rattle.std.specs.Option.{option_and_then, option_map}
-use Rattle.std.proofs.lemmas.List.{length-append}
 use Rattle.article_layout.specs.Calls.{run}
 use Rattle.article_layout.specs.Layouts.{Options, Part, Tag, all_shallow, breaks, mark_of, number_mark, parts_of, says}
 use Rattle.article_layout.specs.Layouts.{targets_in, unless_shallow, within}
@@ -63,36 +62,34 @@ module _ (m : Measure) where
       ∙ sym (run_on k (says cs tag ∷ r) x)
 
   module _ (o : Options) where
-    abbrev parts : Tag → ℕ → Inlines → List Part
-    parts tag n is = parts_of o tag n is
+    abbrev parts : Tag → List (List ℕ) → Inlines → List Part
+    parts tag ts is = parts_of o tag ts is
 
     abbrev Is : Inlines → Type 0
     Is is = (tag : Tag) (ts : List (List ℕ)) (b : Laid Tag) →
-        said o m tag is (at ts b) ≡ behind (ts ++ targets_in o is) (run m (parts tag (length ts) is) b)
+        said o m tag is (at ts b) ≡ behind (ts ++ targets_in o is) (run m (parts tag ts is) b)
 
     -- behind what was said before
-    further : (is : Inlines) → Is is → (tag : Tag) (ts us vs : List (List ℕ)) (n : ℕ) (x : Option (Laid Tag)) →
-        us ++ targets_in o is ≡ vs → length us ≡ n → option_and_then (said o m tag is) (behind us x)
-        ≡ behind vs (option_and_then (run m (parts tag n is)) x)
-    further is same tag ts us vs n x e f = carried (said o m tag is) (run m (parts tag n is)) us vs x
-        (λ b. same tag us b ∙ ap (λ t. behind t (run m (parts tag (length us) is) b)) e
-        ∙ ap (λ k. behind vs (run m (parts tag k is) b)) f)
+    further : (is : Inlines) → Is is → (tag : Tag) (us vs : List (List ℕ)) (x : Option (Laid Tag)) →
+        us ++ targets_in o is ≡ vs → option_and_then (said o m tag is) (behind us x)
+        ≡ behind vs (option_and_then (run m (parts tag us is)) x)
+    further is same tag us vs x e = carried (said o m tag is) (run m (parts tag us is)) us vs x
+        (λ b. same tag us b ∙ ap (λ t. behind t (run m (parts tag us is) b)) e)
 
     spanned_is : (style : Style) (kids rest : Inlines) → Is kids → Is rest → Is (span style kids rest)
     spanned_is style kids rest inside on tag ts b =
         let mark = mark_of o style in
         let d = within tag in
-        let n = length ts in
         let us = ts ++ targets_in o kids in
-        let k = parts d n kids in
-        let r = parts tag (n + length (targets_in o kids)) rest in
+        let k = parts d ts kids in
+        let r = parts tag us rest in
         let x : Option (Laid Tag) = adding mark d b in
         ap (λ y. option_and_then (said o m tag rest) (option_and_then (adds m mark d) y))
-        (further kids inside d ts ts us n x refl refl)
+        (further kids inside d ts us x refl)
         ∙ ap (option_and_then (said o m tag rest)) (added mark d us (option_and_then (run m k) x))
-        ∙ further rest on tag ts us (ts ++ (targets_in o kids ++ targets_in o rest)) (n + length (targets_in o kids))
+        ∙ further rest on tag us (ts ++ (targets_in o kids ++ targets_in o rest))
         (option_and_then (adding mark d) (option_and_then (run m k) x))
-        (append_assoc ts (targets_in o kids) (targets_in o rest)) (length-append ts (targets_in o kids))
+        (append_assoc ts (targets_in o kids) (targets_in o rest))
         ∙ ap (behind (ts ++ (targets_in o kids ++ targets_in o rest))) (between k r mark d x)
 
     link_is : (target : List ℕ) (kids rest : Inlines) → Is kids → Is rest → (tag : Tag) (ts : List (List ℕ))
@@ -100,34 +97,30 @@ module _ (m : Measure) where
         option_and_then (said o m tag rest) (linked shallow o m tag target (said o m (within tag) kids) (at ts b))
         ≡ behind (ts ++ (unless_shallow shallow (target ∷ targets_in o kids) ++ targets_in o rest))
         (run m (unless_shallow shallow (says (codes "[") (within tag)
-        ∷ (parts (within tag) (suc (length ts)) kids ++ says (codes "]") (within tag)
-        ∷ says (number_mark o (length ts + suc (length (targets_in o kids)))) tag ∷ []))
-        ++ parts tag (if shallow then length ts else length ts + suc (length (targets_in o kids))) rest) b)
+        ∷ (parts (within tag) (ts ++ target ∷ []) kids ++ says (codes "]") (within tag)
+        ∷ says (number_mark o (ts ++ target ∷ targets_in o kids)) tag ∷ []))
+        ++ parts tag (if shallow then ts else ts ++ target ∷ targets_in o kids) rest) b)
     link_is target kids rest inside on tag ts b true = on tag ts b
     link_is target kids rest inside on tag ts b false =
         let d = within tag in
-        let n = length ts in
-        let all = n + suc (length (targets_in o kids)) in
+        let all = ts ++ target ∷ targets_in o kids in
         let one = ts ++ target ∷ [] in
         let us = one ++ targets_in o kids in
         let vs = ts ++ (target ∷ targets_in o kids ++ targets_in o rest) in
-        let k = parts d (suc n) kids in
+        let k = parts d one kids in
         let r = parts tag all rest in
         let mark = number_mark o all in
         let x : Option (Laid Tag) = adding (codes "[") d b in
         let y : Option (Laid Tag) = option_and_then (run m k) x in
         let z : Option (Laid Tag) = option_and_then (adding (codes "]") d) y in
-        let many : length us ≡ all = length-append one (targets_in o kids)
-        ∙ ap (λ l. l + length (targets_in o kids)) (length-append ts (target ∷ [])) ∙ omega arith in
-        let told : us ++ targets_in o rest ≡ vs = append_assoc one (targets_in o kids) (targets_in o rest)
-        ∙ append_assoc ts (target ∷ []) (targets_in o kids ++ targets_in o rest) in
-        let first : length one ≡ suc n = length-append ts (target ∷ []) ∙ omega arith in
+        let same : us ≡ all = append_assoc ts (target ∷ []) (targets_in o kids) in
         ap (λ y. option_and_then (said o m tag rest) (option_and_then (numbered o m tag)
-        (option_and_then (adds m (codes "]") d) y))) (further kids inside d ts one us (suc n) x refl first)
+        (option_and_then (adds m (codes "]") d) y))) (further kids inside d one us x refl)
         ∙ ap (λ y. option_and_then (said o m tag rest) (option_and_then (numbered o m tag) y)) (added (codes "]") d us y)
-        ∙ ap (option_and_then (said o m tag rest)) (carried (numbered o m tag) (adding mark tag) us us z
-        (λ b. ap (λ l. behind us (adding (number_mark o l) tag b)) many))
-        ∙ further rest on tag ts us vs all (option_and_then (adding mark tag) z) told many
+        ∙ ap (λ t. option_and_then (said o m tag rest) (option_and_then (numbered o m tag) (behind t z))) same
+        ∙ ap (option_and_then (said o m tag rest)) (carried (numbered o m tag) (adding mark tag) all all z (λ b. refl))
+        ∙ further rest on tag all vs (option_and_then (adding mark tag) z)
+        (append_assoc ts (target ∷ targets_in o kids) (targets_in o rest))
         ∙ ap (λ w. behind vs w) (sym (chained (adding mark tag) (run m r) z)
         ∙ between k (says mark tag ∷ r) (codes "]") d x
         ∙ ap (λ ps. option_and_then (run m ps) x)
@@ -136,9 +129,9 @@ module _ (m : Measure) where
     pub said_is : (is : Inlines) → Is is
     said_is no_inlines tag ts b = ap (λ t. let s : Option Said = Some (at t b) in s) (sym (append-nil ts))
     said_is (words cs rest) tag ts b =
-        further rest (said_is rest) tag ts ts (ts ++ targets_in o rest) (length ts) (adding cs tag b) refl refl
+        further rest (said_is rest) tag ts (ts ++ targets_in o rest) (adding cs tag b) refl
     said_is (line_break rest) tag ts b =
-        further rest (said_is rest) tag ts ts (ts ++ targets_in o rest) (length ts) (break_line m tag b) refl refl
+        further rest (said_is rest) tag ts (ts ++ targets_in o rest) (break_line m tag b) refl
     said_is (span style kids rest) tag ts b =
         spanned_is style kids rest (said_is kids) (said_is rest) tag ts b
     said_is (link target kids rest) tag ts b =

@@ -1,13 +1,11 @@
 -- What is said of a span and of a link, step by step.
-use Rattle.std.proofs.Common.{◌≡◌, ℕ, Bool, false, List, [], ◌∷◌, ◌++◌, Option, chars, string_bytes, codes, refl, sym}
-use Rattle.std.proofs.Common.{ap, ◌∙◌, String, Global}
+use Rattle.std.proofs.Common.{◌≡◌, ℕ, Bool, false, List, [], ◌∷◌, ◌++◌, Option, codes, sym, ap, ◌∙◌}
 use Rattle.std.specs.Option.{option_and_then}
 use Rattle.article_layout.specs.Layouts.{Options, Tag, mark_of, within}
 use Rattle.article_laying.specs.Walks.{Said, adds, linked, numbered, spanned, with_target}
 use Rattle.article_values.specs.Articles.{Style}
 use Rattle.block_layout.specs.Laid.{Laid}
 use Rattle.block_layout.specs.declared.measure.Measure.{Measure}
-use Rattle.text_pieces.specs.Sources.{names}
 
 module _ (o : Options) (m : Measure) (tag : Tag) (inside : Tag → Said → Option Said) (s : Said) where
   -- a span by what its mark is, and by what each step comes to
@@ -37,16 +35,7 @@ module _ (o : Options) (m : Measure) (tag : Tag) (inside : Tag → Said → Opti
       ∙ ap (λ y. option_and_then (numbered o m tag) (option_and_then (adds m (codes "]") d) y)) second
       ∙ ap (option_and_then (numbered o m tag)) third ∙ last
 
-names_behind : (xs : List (String Global)) (x : String Global) →
-    names (xs ++ x ∷ []) ≡ names xs ++ chars (string_bytes x) ∷ []
-names_behind [] x = refl
-names_behind (y ∷ xs) x = ap (λ ns. chars (string_bytes y) ∷ ns) (names_behind xs x)
-
 -- a target that was noted
-pub target_noted : (laid : Laid Tag) (old new : List (String Global)) (target : String Global) (cs : List ℕ) →
-    new ≡ old ++ target ∷ [] → string_bytes target ≡ cs →
-    record { laid = laid; targets = names new }
-    ≡ with_target (chars cs) (record { laid = laid; targets = names old })
-target_noted laid old new target cs e f =
-    ap (λ ts. let s : Said = record { laid = laid; targets = ts } in s)
-    (ap names e ∙ names_behind old target ∙ ap (λ bs. names old ++ chars bs ∷ []) f)
+pub target_noted : (laid : Laid Tag) (old new : List (List ℕ)) (target : List ℕ) → new ≡ old ++ target ∷ [] →
+    record { laid = laid; targets = new } ≡ with_target target (record { laid = laid; targets = old })
+target_noted laid old new target e = ap (λ ts. let s : Said = record { laid = laid; targets = ts } in s) e

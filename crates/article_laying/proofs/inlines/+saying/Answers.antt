@@ -11,6 +11,7 @@ use Rattle.article_layout.specs.Layouts.{within}
 use Rattle.article_values.specs.Articles.{bold, code, emphasis, italic, strong}
 use Rattle.article_values.specs.Views.{inline_view, inlines_view}
 use Rattle.article_values.proofs.VariantViews.{seen_bold, seen_code, seen_emphasis, seen_italic, seen_strong, seen_text}
+use Rattle.link_targets.specs.Links.{all_targets}
 use Rattle.text_pieces.specs.declared.fault.BlockError.TheVariants.{TooNarrow}
 use Rattle.article_laying.proofs.SayingSteps.{link_by, span_by, target_noted}
 use Rattle.article_laying.proofs.inlines.+saying.Goals as goal
@@ -163,7 +164,8 @@ say_link-returns-in_err-say-clause-narrow t c = λ e.
     let same : c.in_err-say.field-0.0 ≡ TooNarrow = cc (q.1, q.2, e) in
     link_by (options_of c.args.room.options) (measure (options_of c.args.room.options) c.args.room.width) (tag_of c.args.tag.now) (λ d. said (options_of c.args.room.options) (measure (options_of c.args.room.options) c.args.room.width) d (inlines_view c.args.contents.now)) (said_of c.args.block.now c.args.targets.now) _ (chars c.args.target.now)
     (tag_of c.in_ok-inner.inner) (said_of c.args.block.now c.push.new.self) None None None None (sym c.all_shallow.ensures ∙ c.if-all_shallow.false) c.in_ok-inner.ensures
-    (target_noted _ c.args.targets.now.items c.push.new.self.items c.in_ok-from_str.field-0 c.args.target.now c.in_ok-push.ensures.items c.in_ok-from_str.ensures.ok)
+    (target_noted _ (all_targets c.args.targets.now) (all_targets c.push.new.self) (chars c.args.target.now)
+    c.in_ok-push.ensures.pushed)
     (c.say.ensures.narrow c.push.new.self (c.in_err-say.was ∙ ap Err same)) refl refl refl
 
 pub say_link-returns-in_err-say_inlines-clause-narrow : goal.say_link-returns-in_err-say_inlines-clause-narrow
@@ -173,7 +175,8 @@ say_link-returns-in_err-say_inlines-clause-narrow t c = λ e.
     let same : c.in_err-say_inlines.field-0.0 ≡ TooNarrow = cc (q.1, q.2, e) in
     link_by (options_of c.args.room.options) (measure (options_of c.args.room.options) c.args.room.width) (tag_of c.args.tag.now) (λ d. said (options_of c.args.room.options) (measure (options_of c.args.room.options) c.args.room.width) d (inlines_view c.args.contents.now)) (said_of c.args.block.now c.args.targets.now) _ (chars c.args.target.now)
     (tag_of c.in_ok-inner.inner) (said_of c.args.block.now c.push.new.self) (Some (said_of c.say.new.block c.push.new.self)) None None None (sym c.all_shallow.ensures ∙ c.if-all_shallow.false)
-    c.in_ok-inner.ensures (target_noted _ c.args.targets.now.items c.push.new.self.items c.in_ok-from_str.field-0 c.args.target.now c.in_ok-push.ensures.items c.in_ok-from_str.ensures.ok)
+    c.in_ok-inner.ensures (target_noted _ (all_targets c.args.targets.now) (all_targets c.push.new.self)
+    (chars c.args.target.now) c.in_ok-push.ensures.pushed)
     (c.in_ok-say.ensures.done c.push.new.self)
     (c.say_inlines.ensures.narrow (c.in_err-say_inlines.was ∙ ap Err same)) refl refl
 
@@ -185,7 +188,8 @@ say_link-returns-in_err-say-2-clause-narrow t c = λ e.
     link_by (options_of c.args.room.options) (measure (options_of c.args.room.options) c.args.room.width) (tag_of c.args.tag.now) (λ d. said (options_of c.args.room.options) (measure (options_of c.args.room.options) c.args.room.width) d (inlines_view c.args.contents.now)) (said_of c.args.block.now c.args.targets.now) _ (chars c.args.target.now)
     (tag_of c.in_ok-inner.inner) (said_of c.args.block.now c.push.new.self) (Some (said_of c.say.new.block c.push.new.self))
     (Some (said_of c.say_inlines.new.block c.say_inlines.new.targets)) None None (sym c.all_shallow.ensures ∙ c.if-all_shallow.false)
-    c.in_ok-inner.ensures (target_noted _ c.args.targets.now.items c.push.new.self.items c.in_ok-from_str.field-0 c.args.target.now c.in_ok-push.ensures.items c.in_ok-from_str.ensures.ok)
+    c.in_ok-inner.ensures (target_noted _ (all_targets c.args.targets.now) (all_targets c.push.new.self)
+    (chars c.args.target.now) c.in_ok-push.ensures.pushed)
     (c.in_ok-say.ensures.done c.push.new.self) c.in_ok-say_inlines.ensures.done
     (c.say-2.ensures.narrow c.say_inlines.new.targets (c.in_err-say-2.was ∙ ap Err same)) refl
 
@@ -196,8 +200,10 @@ say_link-returns-clause-done t c = on_ok_weaker c.say_number.result (λ h.
     (tag_of c.in_ok-inner.inner) (said_of c.args.block.now c.push.new.self) (Some (said_of c.say.new.block c.push.new.self))
     (Some (said_of c.say_inlines.new.block c.say_inlines.new.targets))
     (Some (said_of c.say-2.new.block c.say_inlines.new.targets))
-    (Some (said_of c.say_number.new.block c.say_inlines.new.targets)) (sym c.all_shallow.ensures ∙ c.if-all_shallow.false)
-    c.in_ok-inner.ensures (target_noted _ c.args.targets.now.items c.push.new.self.items c.in_ok-from_str.field-0 c.args.target.now c.in_ok-push.ensures.items c.in_ok-from_str.ensures.ok)
+    (Some (said_of c.say_number.new.block c.say_number.new.targets))
+    (sym c.all_shallow.ensures ∙ c.if-all_shallow.false)
+    c.in_ok-inner.ensures (target_noted _ (all_targets c.args.targets.now) (all_targets c.push.new.self)
+    (chars c.args.target.now) c.in_ok-push.ensures.pushed)
     (c.in_ok-say.ensures.done c.push.new.self) c.in_ok-say_inlines.ensures.done
     (c.in_ok-say-2.ensures.done c.say_inlines.new.targets) h) c.say_number.ensures.done
 
@@ -208,6 +214,7 @@ say_link-returns-clause-narrow t c = λ e.
     (tag_of c.in_ok-inner.inner) (said_of c.args.block.now c.push.new.self) (Some (said_of c.say.new.block c.push.new.self))
     (Some (said_of c.say_inlines.new.block c.say_inlines.new.targets))
     (Some (said_of c.say-2.new.block c.say_inlines.new.targets)) None (sym c.all_shallow.ensures ∙ c.if-all_shallow.false)
-    c.in_ok-inner.ensures (target_noted _ c.args.targets.now.items c.push.new.self.items c.in_ok-from_str.field-0 c.args.target.now c.in_ok-push.ensures.items c.in_ok-from_str.ensures.ok)
+    c.in_ok-inner.ensures (target_noted _ (all_targets c.args.targets.now) (all_targets c.push.new.self)
+    (chars c.args.target.now) c.in_ok-push.ensures.pushed)
     (c.in_ok-say.ensures.done c.push.new.self) c.in_ok-say_inlines.ensures.done
     (c.in_ok-say-2.ensures.done c.say_inlines.new.targets) (c.say_number.ensures.narrow e)

@@ -1,7 +1,5 @@
-use Rattle.std.proofs.Common.{rules, ◌≡◌, length, chars, string_bytes, arith}
-use Rattle.std.proofs.lemmas.List.{length-map}
+use Rattle.std.proofs.Common.{rules}
 use Rattle.std.proofs.lemmas.Str.{chars-nil}
-use Rattle.text_pieces.specs.Sources.{names}
 use Rattle.article_laying.proofs.inlines.say_number.Goals as goal
 
 pub returns-then-not-room-clause-done : goal.returns-then-not-room-clause-done
@@ -13,20 +11,8 @@ returns-then-not-room-clause-narrow c =
 
 pub returns-clause-done : goal.returns-clause-done
 returns-clause-done c =
-    let same : c.len.result ≡ length (names c.args.targets.now.items) = omega (
-      arith,
-      c.len.ensures,
-      c.args.targets.now.ok.0,
-      length-map c.args.targets.now.items (λ name. chars (string_bytes name)),
-    ) in
-    let said = c.say-2.ensures.done c.args.targets.now in search (rules, same, said)
+    let said = c.say-2.ensures.done c.last_number.new.self in search (rules, said)
 
 pub returns-clause-narrow : goal.returns-clause-narrow
 returns-clause-narrow c =
-    let same : c.len.result ≡ length (names c.args.targets.now.items) = omega (
-      arith,
-      c.len.ensures,
-      c.args.targets.now.ok.0,
-      length-map c.args.targets.now.items (λ name. chars (string_bytes name)),
-    ) in
-    let said = c.say-2.ensures.narrow c.args.targets.now in search (rules, same, said)
+    let said = c.say-2.ensures.narrow c.last_number.new.self in search (rules, said)
