@@ -140,7 +140,7 @@ module _ (c : Setting (Unit {0})) (decorates : Bool) (width : ℕ) where
 
   module _ (blocks : Blocks) where
     abbrev calls : Option (Laid Tag)
-    calls = run_blocks o width 0 blocks nothing_laid
+    calls = run_blocks o width [] blocks nothing_laid
 
     abbrev Walked : Type 0
     Walked = laid_page plain_marking c width (page_values o blocks)
