@@ -1,5 +1,5 @@
-//! Articles without quotes and strong text: what is written of them, and their lines where no links share a footnote, by
-//! definitions that know none of these.
+//! Articles without quotes and strong text: what is written of them, and their lines where no links share a footnote,
+//! by definitions that know none of these.
 #![tactic(auto)]
 
 mod laws;
