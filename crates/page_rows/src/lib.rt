@@ -17,8 +17,6 @@ mod devices;
 #[cfg(test)]
 mod page_rows;
 #[cfg(test)]
-mod refused_rows;
-#[cfg(test)]
 mod response_rows;
 #[cfg(test)]
 mod word_rows;

@@ -1,10 +1,13 @@
 //! Rows that hold also where a request for memory is refused, each in turn: `rt try --test --fail-alloc N`. What stands
 //! behind a refusal is asked again, where it answers as if there had been none.
-use crate::checks::{holds, is_answer};
-use crate::page_rows::plain;
 use html2text::{Config, Device, Error, Page, PlainDecorator, RcDom, ReferenceTable, TableError};
 use std::alloc::Global;
 use std::process::Abort;
+
+// ends the test where something does not hold, and says at what
+fn holds<R: Abort>(rt: &R, is_so: bool, at: &str) {
+    assert!(rt; is_so, "at {at}");
+}
 
 const NAMES: &str = "{\"&not\":{\"codepoints\":[172]},\"&notin;\":{\"codepoints\":[8713]}}";
 
@@ -131,7 +134,10 @@ fn text_of(alloc: Global, config: &Config<PlainDecorator>, dom: &RcDom) -> Resul
 #[test]
 fn a_refused_page_goes_no_further(rt: HostRuntime) {
     let alloc = rt.alloc();
-    let Ok(config) = plain(alloc) else {
+    let Ok(table) = ReferenceTable::basic(alloc) else {
+        return;
+    };
+    let Ok(config) = Config::plain(alloc, table) else {
         return;
     };
     match tree_of(&rt, alloc, &config) {
@@ -140,7 +146,8 @@ fn a_refused_page_goes_no_further(rt: HostRuntime) {
             if text == Err(Error::Memory) {
                 text = text_of(alloc, &config, &dom);
             }
-            holds(&rt, is_answer(text, Ok(SPANNED_TEXT)), "a tree that stands");
+            let is_so = matches!(text, Ok(found) if found.as_str() == SPANNED_TEXT);
+            holds(&rt, is_so, "a tree that stands");
         }
         Err(error) => holds(&rt, error == Error::Memory, "a page that is refused"),
     }
