@@ -91,7 +91,10 @@ for number in $(seq 1 12); do
         elif [ "$status" = 1 ] && cmp -s -n "$length" out whole && grep -qx 'html2text: read or write failed' err; then
             [ "$fault" = READ ] && [ "$length" != 0 ] || is_fine=yes
         fi
-        [ "$is_fine" = yes ] || { wrong=$((wrong + 1)); echo "$fault $number: status $status, $length bytes, $(cat err)"; }
+        if [ "$is_fine" != yes ]; then
+            wrong=$((wrong + 1))
+            echo "$fault $number: status $status, $length bytes, $(cat err)"
+        fi
     done
 done
 echo "$runs runs, $wrong of them wrong"

@@ -61,7 +61,8 @@ def checks():
 
 
 def main():
-    top = subprocess.run(["git", "rev-parse", "--show-toplevel"], check=True, capture_output=True, text=True).stdout.strip()
+    asked = subprocess.run(["git", "rev-parse", "--show-toplevel"], check=True, capture_output=True, text=True)
+    top = asked.stdout.strip()
     words = [it for it in sys.argv[1:] if it != "--anew"]
     gate_words = ["bash", ".ci/run", *(["--anew"] if "--anew" in sys.argv else [])]
     room = words[0] if words else tempfile.mkdtemp(prefix="gate-times-")
@@ -84,7 +85,8 @@ def main():
         proof, tests, edits = (round(total[crate, kind]) for kind in ("proof", "tests", "edits"))
         counted = re.search(rf"== {crate}\n(?:.*\n)*?logic=proved functions=(\d+)", text)
         print(f"| {crate} | {counted[1] if counted else '?'} | {proof} | {tests} | {edits} |")
-    print(f"{text.rstrip().splitlines()[-1]}: {time.time() - begun:.0f} s, {sum(total.values()):.0f} s of processor time in checks")
+    last, spent = text.rstrip().splitlines()[-1], sum(total.values())
+    print(f"{last}: {time.time() - begun:.0f} s, {spent:.0f} s of processor time in checks")
     return gate.returncode
 
 

@@ -1,6 +1,6 @@
 #!/usr/bin/env bash
-# Proves and builds the program, and puts it into PREFIX/bin (by default ~/.local/bin) under the name html2text, with its
-# manual page, the standard's table of references, and completions for bash, zsh and fish under PREFIX/share:
+# Proves and builds the program, and puts it into PREFIX/bin (by default ~/.local/bin) under the name html2text, with
+# its manual page, the standard's table of references, and completions for bash, zsh and fish under PREFIX/share:
 #
 #     tools/install.sh [PREFIX]
 set -eu

@@ -32,9 +32,10 @@ below() {
 
 # Whether a crate, or one that it stands on, changed.
 changed() {
-  local dep
+  local dep at
   for dep in $(below "$1" | sort -u); do
-    if ! git diff --quiet "$since" HEAD -- "crates/$dep/src" "crates/$dep/specs" "crates/$dep/proofs" "crates/$dep/wrong-bodies"; then
+    at="crates/$dep"
+    if ! git diff --quiet "$since" HEAD -- "$at/src" "$at/specs" "$at/proofs" "$at/wrong-bodies"; then
       return 0
     fi
   done

@@ -11,7 +11,8 @@ use Rattle.article_values.specs.declared.error.ArticleError.TheVariants.{LinkInL
 use Rattle.article_walk.specs.Pages.{AreFilled, AreFilledBlocks, AreFilledItems}
 use Rattle.written_articles.proofs.Accepted.{both_none, passed}
 
-inlines_filled : (d : ℕ) (linked behind : Bool) (is : Inlines) → fault_of_inlines d linked behind is ≡ None → AreFilled is
+inlines_filled : (d : ℕ) (linked behind : Bool) (is : Inlines) → fault_of_inlines d linked behind is ≡ None →
+    AreFilled is
 inlines_filled d linked behind no_inlines h = tt
 inlines_filled d linked behind (words [] rest) h = cc
 inlines_filled d linked behind (words (c ∷ cs) rest) h =

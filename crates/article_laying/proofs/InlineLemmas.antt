@@ -17,7 +17,8 @@ IsOne i = (rest : Inlines) → has_none (inline_view i rest) ≡ false
 is_one : (i : Inline) → IsOne i
 is_one = ind-Inline IsOne (λ x y is. λ rest. subst (λ view. has_none (view rest) ≡ false)
     (sym (fold-roll-Inline (Inlines → Inlines) inline_step x))
-    (subst (λ z. has_none (inline_step (map-Inline Inline (Inlines → Inlines) inline_view z) rest) ≡ false) is (by y rest)))
+    (subst (λ z. has_none (inline_step (map-Inline Inline (Inlines → Inlines) inline_view z) rest) ≡ false) is
+    (by y rest)))
   where
     by : (y : Inline-F ((i : Inline) × IsOne i)) (rest : Inlines) →
         has_none (inline_step (map-Inline Inline (Inlines → Inlines) inline_view

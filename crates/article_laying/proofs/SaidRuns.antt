@@ -43,7 +43,8 @@ module _ (m : Measure) where
   abbrev behind : List (List ℕ) → Option (Laid Tag) → Option Said
   behind ts x = option_map (at ts) x
 
-  carried : (f : Said → Option Said) (g : Laid Tag → Option (Laid Tag)) (ts us : List (List ℕ)) (x : Option (Laid Tag)) →
+  carried : (f : Said → Option Said) (g : Laid Tag → Option (Laid Tag)) (ts us : List (List ℕ)) (x : Option (Laid Tag))
+      →
       ((b : Laid Tag) → f (at ts b) ≡ behind us (g b)) →
       option_and_then f (behind ts x) ≡ behind us (option_and_then g x)
   carried f g ts us None same = refl
@@ -116,7 +117,8 @@ module _ (m : Measure) where
         let same : us ≡ all = append_assoc ts (target ∷ []) (targets_in o kids) in
         ap (λ y. option_and_then (said o m tag rest) (option_and_then (numbered o m tag)
         (option_and_then (adds m (codes "]") d) y))) (further kids inside d one us x refl)
-        ∙ ap (λ y. option_and_then (said o m tag rest) (option_and_then (numbered o m tag) y)) (added (codes "]") d us y)
+        ∙ ap (λ y. option_and_then (said o m tag rest) (option_and_then (numbered o m tag) y))
+        (added (codes "]") d us y)
         ∙ ap (λ t. option_and_then (said o m tag rest) (option_and_then (numbered o m tag) (behind t z))) same
         ∙ ap (option_and_then (said o m tag rest)) (carried (numbered o m tag) (adding mark tag) all all z (λ b. refl))
         ∙ further rest on tag all vs (option_and_then (adding mark tag) z)

@@ -13,7 +13,8 @@ module _ (o : Options) (m : Measure) (tag : Tag) (inside : Tag → Said → Opti
       d ≡ within tag → adds m cs d s ≡ x → option_and_then (inside d) x ≡ y → option_and_then (adds m cs d) y ≡ z →
       spanned o m tag style (inside (within tag)) s ≡ z
   span_by style cs d x y z mark inner first second third =
-      ap (λ c. option_and_then (adds m c (within tag)) (option_and_then (inside (within tag)) (adds m c (within tag) s)))
+      ap (λ c. option_and_then (adds m c (within tag))
+      (option_and_then (inside (within tag)) (adds m c (within tag) s)))
       (sym mark)
       ∙ ap (λ t. option_and_then (adds m cs t) (option_and_then (inside t) (adds m cs t s))) (sym inner)
       ∙ ap (λ x. option_and_then (adds m cs d) (option_and_then (inside d) x)) first

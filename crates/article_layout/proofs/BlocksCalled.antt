@@ -15,8 +15,10 @@ use Rattle.article_layout.specs.BlockCalls.{append, awaits_behind, run_blocks, r
 use Rattle.article_layout.specs.Calls.{block_with, cell_of, measure, run, run_whole}
 use Rattle.render_sizes.specs.Extents.{capped}
 use Rattle.article_layout.specs.Layouts.{Line, Options, Tag, behind, count, count_items, empty_line, has_content}
-use Rattle.article_layout.specs.Layouts.{how_many, item_prefix, lay, lay_items, least_in, least_of, least_of_items, next_number}
-use Rattle.article_layout.specs.Layouts.{paragraph_lines, parted, parts_of, prefixed, quote_prefix, room, room_of_numbers, targets_in}
+use Rattle.article_layout.specs.Layouts.{how_many, item_prefix, lay, lay_items, least_in, least_of, least_of_items}
+use Rattle.article_layout.specs.Layouts.{next_number}
+use Rattle.article_layout.specs.Layouts.{paragraph_lines, parted, parts_of, prefixed, quote_prefix, room}
+use Rattle.article_layout.specs.Layouts.{room_of_numbers, targets_in}
 use Rattle.article_layout.specs.Layouts.{targets_of, targets_of_items, to_room, outermost, within}
 use Rattle.render_laying.specs.Items.{spaces}
 use Rattle.article_layout.proofs.Called.{KeepsMarkers, paragraph_called}
@@ -59,7 +61,8 @@ module _ (kept : KeepsMarkers) (o : Options) where
       record { lines = map cell_of xs ++ map cell_of ys; running = None; awaits = awaits; markers = []; hanging = [] }
       ≡ laid (xs ++ ys) awaits
   behind_lines xs ys awaits = ap (λ cs. let all : Laid Tag =
-      record { lines = cs; running = None; awaits = awaits; markers = []; hanging = [] } in all) (sym (cells_both xs ys))
+      record { lines = cs; running = None; awaits = awaits; markers = []; hanging = [] } in all)
+      (sym (cells_both xs ys))
 
   content_is : (lines : List Line) → cells_have_content (map cell_of lines) ≡ has_content lines
   content_is [] = refl
@@ -146,7 +149,8 @@ module _ (kept : KeepsMarkers) (o : Options) where
         (block_with [] None []) in
         ap (λ x. end (option_and_then (λ within. option_and_then (λ sub. option_and_then
         (λ b. run_blocks o width (ts ++ targets_in o is) rest
-        (end_block (append o width within prefix prefix sub b))) (option_map (laid_parted m outermost) x)) (subs within))
+        (end_block (append o width within prefix prefix sub b))) (option_map (laid_parted m outermost) x))
+        (subs within))
         (room width (level + 1) (capped (least_in o is + (level + 1)))))) e
         ∙ ended_nowhere _ (both_nowhere subs (room width (level + 1) (capped (least_in o is + (level + 1)))))
     refused ts (division kids rest) b e =
@@ -265,12 +269,14 @@ module _ (kept : KeepsMarkers) (o : Options) where
       by : (new : Option (List Line)) → {x : Option (Laid Tag)} → x
           ≡ option_and_then (flush (measure o width) outermost) (option_and_then (λ sub. option_and_then
           (λ b. run_blocks o width (ts ++ targets_in o is) rest
-          (end_block (append o width within (replicate level 0x23 ++ codes " ") (replicate level 0x23 ++ codes " ") sub b)))
+          (end_block (append o width within (replicate level 0x23 ++ codes " ") (replicate level 0x23
+          ++ codes " ") sub b)))
           (start_block (measure o width) outermost (laid lines awaits)))
           (option_map (λ ls. block_with (map cell_of ls) None []) new)) → x
           ≡ option_map (λ all. laid all (awaits_behind rest true))
           (option_and_then (λ new. lay o width (suc k) (ts ++ targets_in o is) rest
-          (parted o width lines ++ prefixed o width (replicate level 0x23 ++ codes " ") (replicate level 0x23 ++ codes " ") new))
+          (parted o width lines ++ prefixed o width (replicate level 0x23 ++ codes " ")
+          (replicate level 0x23 ++ codes " ") new))
           new)
       by None e = e
       by (Some new) e = let prefix : List ℕ = replicate level 0x23 ++ codes " " in
@@ -351,7 +357,8 @@ module _ (kept : KeepsMarkers) (o : Options) where
       by : (new : Option (List Line)) → option_and_then (λ sub. option_and_then
           (λ b. run_items o width (ts ++ targets_of o kids) columns least (next_number at) rest
           (append o width within (to_room columns (item_prefix at)) (spaces columns) sub b))
-          (flush (measure o width) outermost (laid lines false))) (option_map (λ all. laid all (awaits_behind kids false)) new)
+          (flush (measure o width) outermost (laid lines false)))
+          (option_map (λ all. laid all (awaits_behind kids false)) new)
           ≡ option_map (λ all. laid all false) (option_and_then (λ new. lay_items o width (k + count kids)
           (ts ++ targets_of o kids) columns least (next_number at) rest
           (lines ++ prefixed o width (to_room columns (item_prefix at)) (spaces columns) new)) new)

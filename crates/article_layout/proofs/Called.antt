@@ -46,7 +46,8 @@ same_map w (l ∷ ls) = ap (λ t. l ∷ t) (same_map w ls)
 
 -- the markers of normal text are on its lines, or wait behind them
 abbrev pub KeepsMarkers : Type 0
-KeepsMarkers = (w : ℕ) (s : List (Source Tag)) → flat_map (markers_of {S = Tag}) (normal_lines w s) ++ normal_waiting w s
+KeepsMarkers = (w : ℕ) (s : List (Source Tag)) → flat_map (markers_of {S = Tag}) (normal_lines w s)
+    ++ normal_waiting w s
     ≡ marker_names s
 
 module _ (kept : KeepsMarkers) (o : Options) (width k : ℕ) (hanging : List (Hanging Tag)) where
@@ -73,9 +74,11 @@ module _ (kept : KeepsMarkers) (o : Options) (width k : ℕ) (hanging : List (Ha
 
   -- ---- lines are added
 
-  lines_added : (fill close : Tag) (source : List (Source Tag)) (lines : List (List (Item Tag))) (before : List (CellLine Tag)) →
+  lines_added : (fill close : Tag) (source : List (Source Tag)) (lines : List (List (Item Tag)))
+      (before : List (CellLine Tag)) →
       add_text_lines m close fill lines (at before None)
-      ≡ at (before ++ map cell_of (map (line_of o width k (record { fill = fill; source = source; close = close })) lines))
+      ≡ at (before
+      ++ map cell_of (map (line_of o width k (record { fill = fill; source = source; close = close })) lines))
       None
   lines_added fill close source [] before = ap (λ ls. at ls None) (sym (append-nil before))
   lines_added fill close source (l ∷ lines) before =
@@ -104,7 +107,8 @@ module _ (kept : KeepsMarkers) (o : Options) (width k : ℕ) (hanging : List (Ha
       ≡ if_fits (not b) ([], normal_lines w s)
   text_by s true h = refl
   text_by s false h =
-      ap (λ t. found_in (map (padded w None) (normal_lines w s)) (names_of (fragments {S = Tag} t))) (nothing_waits w s h)
+      ap (λ t. found_in (map (padded w None) (normal_lines w s)) (names_of (fragments {S = Tag} t)))
+      (nothing_waits w s h)
       ∙ ap (λ t. found_in t []) (same_map w (normal_lines w s))
       ∙ ap (λ o. let found : Option Found = option_map (λ ls. ([], ls)) o in found) (ended_is (normal_lines w s))
 
@@ -185,7 +189,8 @@ module _ (kept : KeepsMarkers) (o : Options) (width k : ℕ) (hanging : List (Ha
       let r : Running Tag = runs mode (text_block lines source) fill in
       if ends then flush m close (at before (Some r)) else add_empty_line m close (at before (Some r))
 
-  break_by : (fill close : Tag) (mode : Option WhiteSpace) (s : List (Source Tag)) (before : List (CellLine Tag)) (b : Bool) →
+  break_by : (fill close : Tag) (mode : Option WhiteSpace) (s : List (Source Tag)) (before : List (CellLine Tag))
+      (b : Bool) →
       has_marker s ≡ false →
       option_and_then (broken_line m close (at before (Some (runs mode (text_block [] s) fill))))
       (option_map (with_text_of (runs mode (text_block [] s) fill))
@@ -304,20 +309,25 @@ module _ (kept : KeepsMarkers) (o : Options) (width k : ℕ) (hanging : List (Ha
       ≡ Some (at (before ++ empty_cell tag ∷ []) None)
   no_break tag before = refl
 
-  none_said : (tag : Tag) → map (line_of o width k (stretch outermost [] tag)) (stretch_lines o width (stretch outermost [] tag))
-      ++ break_lines o width k tag (stretch_lines o width (stretch outermost [] tag)) ≡ empty_line o width tag (Some k) ∷ []
+  none_said : (tag : Tag) →
+      map (line_of o width k (stretch outermost [] tag)) (stretch_lines o width (stretch outermost [] tag))
+      ++ break_lines o width k tag (stretch_lines o width (stretch outermost [] tag))
+      ≡ empty_line o width tag (Some k) ∷ []
   none_said tag =
       ap (λ ls. map (line_of o width k (stretch outermost [] tag)) ls ++ break_lines o width k tag ls) (no_lines w)
 
   abbrev IsCalled : List Part → Type 0
-  IsCalled parts = (b : Bool) (s : List (Source Tag)) (fill : Tag) (before : List (CellLine Tag)) → has_marker s ≡ false →
+  IsCalled parts = (b : Bool) (s : List (Source Tag)) (fill : Tag) (before : List (CellLine Tag)) →
+      has_marker s ≡ false →
       run_whole m parts (at before (running (Some fill) b s)) ≡ lay_all before (stretches (Some fill) s parts)
 
   abbrev IsBegun : List Part → Type 0
-  IsBegun parts = (before : List (CellLine Tag)) → run_whole m parts (at before None) ≡ lay_all before (stretches None [] parts)
+  IsBegun parts = (before : List (CellLine Tag)) → run_whole m parts (at before None)
+      ≡ lay_all before (stretches None [] parts)
 
   behind_break : (b : Bool) (first : List Line) (parts : List Part) (before : List (CellLine Tag)) → IsBegun parts →
-      option_and_then (flush m outermost) (option_and_then (run m parts) (if_fits b (at (before ++ map cell_of first) None)))
+      option_and_then (flush m outermost)
+      (option_and_then (run m parts) (if_fits b (at (before ++ map cell_of first) None)))
       ≡ option_and_then (λ (laid : Laid Tag). lay_all laid.lines (stretches None [] parts))
       (if_fits b (at (before ++ map cell_of first) None))
   behind_break true first parts before h = h (before ++ map cell_of first)
@@ -334,13 +344,15 @@ module _ (kept : KeepsMarkers) (o : Options) (width k : ℕ) (hanging : List (Ha
         ∙ called parts (or_filled cs false) (sourced cs tag tag) tag before (no_marker cs tag)
     begun (breaks tag ∷ parts) before =
         begun parts (before ++ empty_cell tag ∷ [])
-        ∙ further true (empty_line o width tag (Some k) ∷ []) (stretch outermost [] tag) (stretches None [] parts) before
+        ∙ further true (empty_line o width tag (Some k) ∷ []) (stretch outermost [] tag)
+        (stretches None [] parts) before
         (sym (none_said tag)) refl (some_stretch None [] parts)
 
     called : (parts : List Part) → IsCalled parts
     called [] b s fill before h = flush_text fill outermost (mode_by b) s before h ∙ last (has_wide_text w s)
       where
-        last : (wide : Bool) → if_fits (not wide) (at (before ++ cells (stretch fill s outermost) (normal_lines w s)) None)
+        last : (wide : Bool) →
+            if_fits (not wide) (at (before ++ cells (stretch fill s outermost) (normal_lines w s)) None)
             ≡ if_fits (not wide && true) (at (before ++ cells (stretch fill s outermost) (normal_lines w s)) None)
         last true = refl
         last false = refl
@@ -350,8 +362,10 @@ module _ (kept : KeepsMarkers) (o : Options) (width k : ℕ) (hanging : List (Ha
         (marked_both s (sourced cs tag tag) h (no_marker cs tag))
     called (breaks tag ∷ parts) b s fill before h =
         let st : Stretch = stretch fill s tag in
-        let first : List Line = map (line_of o width k st) (normal_lines w s) ++ break_lines o width k tag (normal_lines w s) in
-        ap (λ x. option_and_then (flush m outermost) (option_and_then (run m parts) x)) (break_text fill tag (mode_by b) s before h)
+        let first : List Line =
+        map (line_of o width k st) (normal_lines w s) ++ break_lines o width k tag (normal_lines w s) in
+        ap (λ x. option_and_then (flush m outermost) (option_and_then (run m parts) x))
+        (break_text fill tag (mode_by b) s before h)
         ∙ behind_break (not (has_wide_text w s)) first parts before (begun parts)
         ∙ further (not (has_wide_text w s)) first st (stretches None [] parts) before refl refl
         (some_stretch None [] parts)

@@ -14,11 +14,14 @@ use Rattle.article_values.specs.Articles.{Blocks, Items, bullets, division, head
 use Rattle.article_values.specs.Articles.{paragraph, quote}
 use Rattle.article_layout.specs.Exchanges.{Alike, Differ, DifferItems, behind_bullets, behind_division, behind_heading}
 use Rattle.article_layout.specs.Exchanges.{behind_item, behind_numbers, behind_paragraph, in_bullets, in_division}
-use Rattle.article_layout.specs.Exchanges.{behind_quote, in_item, in_numbers, in_quote, others, this_heading, this_paragraph}
+use Rattle.article_layout.specs.Exchanges.{behind_quote, in_item, in_numbers, in_quote, others, this_heading}
+use Rattle.article_layout.specs.Exchanges.{this_paragraph}
 use Rattle.render_sizes.specs.Extents.{capped}
 use Rattle.article_layout.specs.Layouts.{Line, Options, count, count_items, how_many, if_fits, item_prefix, layout, lay}
-use Rattle.article_layout.specs.Layouts.{lay_items, least_in, least_of, least_of_items, next_number, paragraph_lines, parted}
-use Rattle.article_layout.specs.Layouts.{prefixed, quote_prefix, room, room_of_numbers, targets_in, targets_of, targets_of_items}
+use Rattle.article_layout.specs.Layouts.{lay_items, least_in, least_of, least_of_items, next_number, paragraph_lines}
+use Rattle.article_layout.specs.Layouts.{parted}
+use Rattle.article_layout.specs.Layouts.{prefixed, quote_prefix, room, room_of_numbers, targets_in, targets_of}
+use Rattle.article_layout.specs.Layouts.{targets_of_items}
 use Rattle.article_layout.specs.Layouts.{to_room, Tag, within}
 use Rattle.render_laying.specs.Items.{spaces}
 use Rattle.article_layout.proofs.Alikes.{alike_both, alike_changed, alike_others, alike_parted, alike_prefixed}
@@ -298,7 +301,8 @@ module _ (o : Options) where
           let many : how_many b ≡ how_many a = sym (same_many number k a b d) in
           option_and_then_some _ (lay_items o w k ts columns la (Some first) a (parted o w ls)) x p (λ u e f.
           option_and_then_some _ (lay_items o w k ts (room_of_numbers first (how_many b))
-          (capped (least_of_items o b + room_of_numbers first (how_many b))) (Some first) b (parted o w ms)) y q (λ v e' f'.
+          (capped (least_of_items o b + room_of_numbers first (how_many b))) (Some first) b (parted o w ms)) y q
+          (λ v e' f'.
           behind_changed w (k + count_items a) (k + count_items b) (ts ++ targets_of_items o a)
           (ts ++ targets_of_items o b) rest u v x y (ap (λ c. k + c) (same_count_items number k a b d))
           (ap (λ t. ts ++ t) (same_links_items number k a b d)) f f'

@@ -7,7 +7,8 @@ use Rattle.std.specs.Prelude.{unwrap_or, IfSome}
 use Rattle.normal_text.specs.Riders.{has_wide_text}
 use Rattle.tagged_lines.specs.Columns.{columns_of, columns_of-at_most_two, width_of}
 use Rattle.text_pieces.specs.Sources.{Source, fragment, is_break_point, letter}
-use Rattle.article_values.specs.Articles.{Blocks, Inlines, bullets, division, heading, no_blocks, numbers, paragraph, quote}
+use Rattle.article_values.specs.Articles.{Blocks, Inlines, bullets, division, heading, no_blocks, numbers, paragraph}
+use Rattle.article_values.specs.Articles.{quote}
 use Rattle.article_layout.specs.Layouts.{Line, Options, Stretch, all_fit, if_fits, lay, lines_of_stretches}
 use Rattle.article_layout.specs.Layouts.{paragraph_lines, parted, parts_of, stretches, targets_in, wrap_at, Tag}
 use Rattle.article_layout.specs.Layouts.{outermost}

@@ -71,7 +71,8 @@ and_right false b h = refl
 
 -- ---- texts
 
-white_stops : (front back : List ℕ) (c : ℕ) → is_whitespace c ≡ false → list_all is_whitespace (front ++ c ∷ back) ≡ false
+white_stops : (front back : List ℕ) (c : ℕ) → is_whitespace c ≡ false → list_all is_whitespace (front ++ c ∷ back)
+    ≡ false
 white_stops [] back c h = and_left (is_whitespace c) (list_all is_whitespace back) h
 white_stops (d ∷ front) back c h =
     and_right (is_whitespace d) (list_all is_whitespace (front ++ c ∷ back)) (white_stops front back c h)
@@ -79,7 +80,8 @@ white_stops (d ∷ front) back c h =
 not_white : (cs : List ℕ) → HasVisible cs → list_all is_whitespace cs ≡ false
 not_white cs h = ap (list_all is_whitespace) h.3 ∙ white_stops h.0 h.2 h.1 h.4.0
 
-seen_there : (front back : List ℕ) (c : ℕ) (d : Tag) → is_visible c ≡ true → has_visible (sourced (front ++ c ∷ back) d d) ≡ true
+seen_there : (front back : List ℕ) (c : ℕ) (d : Tag) → is_visible c ≡ true →
+    has_visible (sourced (front ++ c ∷ back) d d) ≡ true
 seen_there [] back c d h = or_left (is_visible c) (has_visible (sourced back d d)) h
 seen_there (e ∷ front) back c d h =
     or_right (is_visible e) (has_visible (sourced (front ++ c ∷ back) d d)) (seen_there front back c d h)
@@ -250,7 +252,8 @@ module _ (o : Options) where
         none_of_both (map (line_of o width k s) (stretch_lines o width s))
         (break_lines o width k s.close (stretch_lines o width s) ++ lines_of_stretches o width k (t ∷ more))
         (numbered_lines s (stretch_lines o width s))
-        (none_of_both (break_lines o width k s.close (stretch_lines o width s)) (lines_of_stretches o width k (t ∷ more))
+        (none_of_both (break_lines o width k s.close (stretch_lines o width s))
+        (lines_of_stretches o width k (t ∷ more))
         (numbered_break s.close (ends_in_columns (stretch_lines o width s))) (numbered (t ∷ more)))
 
     content_is : (s : Stretch) (lines : List (List (Item Tag))) →
@@ -287,7 +290,8 @@ module _ (o : Options) where
           content_both lines (broken ++ rest)
           ∙ either_shown (stretch_shows s) (list_any stretch_shows (t ∷ more)) (has_content lines)
           (has_content (broken ++ rest)) h (stretch_content s n.0)
-          (λ e. content_both broken rest ∙ or_right (has_content broken) (has_content rest) (lines_shown (t ∷ more) n.1 e))
+          (λ e. content_both broken rest ∙ or_right (has_content broken) (has_content rest)
+          (lines_shown (t ∷ more) n.1 e))
 
       fits_is : (b : Bool) (x y : List Line) → if_fits b x ≡ Some y → x ≡ y
       fits_is true x y e = same_Some x y e

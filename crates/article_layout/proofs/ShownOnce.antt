@@ -65,7 +65,8 @@ none_shown : {S : Type 0} (lines : List (List (Item S))) → list_any has_text l
 none_shown [] h = refl
 none_shown (line ∷ lines) h =
     let parts = or_false (has_text line) (list_any has_text lines) h in
-    ap (λ t. t ++ flat_map (visible_of {S = _}) lines) (ap (filter is_visible) (no_text line parts.0)) ∙ none_shown lines parts.1
+    ap (λ t. t ++ flat_map (visible_of {S = _}) lines) (ap (filter is_visible) (no_text line parts.0)) ∙
+    none_shown lines parts.1
   where
     or_false : (a b : Bool) → (a || b) ≡ false → (a ≡ false) × (b ≡ false)
     or_false true b h = absurd (let wrong : true ≡ false = h in cc)

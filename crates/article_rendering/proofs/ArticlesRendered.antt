@@ -53,11 +53,13 @@ module _ (c : Setting (Unit {0})) (width : ℕ) (values : Values) where
 
   closed_by : (p : Pages) (s : Page) → IsNoted plain_marking (λ _. tt) plain_closes (noted p) p.current s →
       closed p ≡ Some s
-  closed_by p s n = ap (λ ns. with_notes ns (with_held (plain_marking.after p.current.held (page_end (noted p))) p.current))
+  closed_by p s n =
+      ap (λ ns. with_notes ns (with_held (plain_marking.after p.current.held (page_end (noted p))) p.current))
       (sym n.told) ∙ n.behind
 
   never_closed : (p : Pages) → NeverNoted plain_marking (λ _. tt) plain_closes (noted p) p.current → closed p ≡ None
-  never_closed p n = ap (λ ns. with_notes ns (with_held (plain_marking.after p.current.held (page_end (noted p))) p.current))
+  never_closed p n =
+      ap (λ ns. with_notes ns (with_held (plain_marking.after p.current.held (page_end (noted p))) p.current))
       (sym n.told) ∙ n.never
 
   whole_is : (s : Page) → IsClosed plain_marking (λ _. tt) plain_closes c width values s →
@@ -134,7 +136,8 @@ module _ (c : Setting (Unit {0})) (decorates : Bool) (width : ℕ) where
   seen_lines [] = refl
   seen_lines (l ∷ lines) = ap (λ ls. l.items ∷ ls) (seen_lines lines)
 
-  items_are : (x : Option (List Line)) → option_map seen (option_map (map cell_of) x) ≡ option_map (map (λ l. l.items)) x
+  items_are : (x : Option (List Line)) → option_map seen (option_map (map cell_of) x)
+      ≡ option_map (map (λ l. l.items)) x
   items_are None = refl
   items_are (Some lines) = ap (λ ls. let all : Option Lines = Some ls in all) (seen_lines lines)
 

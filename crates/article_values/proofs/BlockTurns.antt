@@ -1,5 +1,6 @@
 -- A turn of the check of blocks, and of items.
-use Rattle.std.proofs.Common.{◌≡◌, ℕ, ℤ, Bool, true, false, not, ◌==◌, List, [], ◌∷◌, ◌+◌, ◌<◌, drop, get_or, length, map, Option, None, Some, Vec, Global, refl, sym, ap, ◌∙◌, add-one, drop-cons, suc}
+use Rattle.std.proofs.Common.{◌≡◌, ℕ, ℤ, Bool, true, false, not, ◌==◌, List, [], ◌∷◌, ◌+◌, ◌<◌, drop, get_or, length}
+use Rattle.std.proofs.Common.{map, Option, None, Some, Vec, Global, refl, sym, ap, ◌∙◌, add-one, drop-cons, suc}
 use Rattle.std.proofs.lemmas.Bool.{eqb-true}
 use Rattle.std.proofs.lemmas.List.{nil_from_length}
 use Rattle.std.specs.Option.{option_or}

@@ -1,10 +1,14 @@
 -- No fault of a value is want of memory.
 use Rattle.std.proofs.Common.{◌≡◌, ℕ, suc, not, Bool, true, false, Option, None, Some}
 use Rattle.std.specs.Option.{option_or}
-use Rattle.article_values.specs.Articles.{Blocks, Inlines, Items, bullets, division, heading, item, line_break, link, no_blocks, no_inlines, no_items, numbers, paragraph, quote, span, words}
-use Rattle.article_values.specs.Faults.{fault_of_blocks, fault_of_inlines, fault_of_items, fault_where, has_forbidden, has_item, is_filled, is_level, is_too_deep}
+use Rattle.article_values.specs.Articles.{Blocks, Inlines, Items, bullets, division, heading, item, line_break, link}
+use Rattle.article_values.specs.Articles.{no_blocks, no_inlines, no_items, numbers, paragraph, quote, span, words}
+use Rattle.article_values.specs.Faults.{fault_of_blocks, fault_of_inlines, fault_of_items, fault_where, has_forbidden}
+use Rattle.article_values.specs.Faults.{has_item, is_filled, is_level, is_too_deep}
 use Rattle.article_values.specs.declared.error.ArticleError.{ArticleError}
-use Rattle.article_values.specs.declared.error.ArticleError.TheVariants.{BadLevel, EmptyList, EmptyText, ForbiddenCharacter, LinkInLink, Memory, NeighbourTexts, TooDeep}
+use Rattle.article_values.specs.declared.error.ArticleError.TheVariants.{BadLevel, EmptyList, EmptyText}
+use Rattle.article_values.specs.declared.error.ArticleError.TheVariants.{ForbiddenCharacter, LinkInLink, Memory}
+use Rattle.article_values.specs.declared.error.ArticleError.TheVariants.{NeighbourTexts, TooDeep}
 
 abbrev Fits : Option ArticleError → Type 0
 Fits fault = fault ≡ Some Memory → ⊥

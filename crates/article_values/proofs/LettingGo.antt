@@ -1,14 +1,17 @@
 -- A step of letting go leaves less to do.
-use Rattle.std.proofs.Common.{◌≡◌, ℕ, ℤ, suc, ◌+◌, ◌*◌, ◌<◌, ◌≤◌, ◌==◌, false, List, [], ◌∷◌, ◌++◌, map, length, Option, None, Some, MatchOption, Vec, Global, get_or, slice_set, refl, sym, ap, ◌∙◌, arith}
+use Rattle.std.proofs.Common.{◌≡◌, ℕ, ℤ, suc, ◌+◌, ◌*◌, ◌<◌, ◌≤◌, ◌==◌, false, List, [], ◌∷◌, ◌++◌, map, length, Option}
+use Rattle.std.proofs.Common.{None, Some, MatchOption, Vec, Global, get_or, slice_set, refl, sym, ap, ◌∙◌, arith}
 use Rattle.std.proofs.lemmas.Bool.{eqb-false}
 use Rattle.std.proofs.lemmas.Nat.{mul-le}
 use Rattle.std.proofs.Math.Nat.{suc-mul}
 use Rattle.std.specs.Option.{option_to_list}
-use Rattle.article_values.specs.Sizes.{block_size, block_size_step, blocks_size, first_of, inline_size, inline_size_step, inlines_size, items_size, size_before, total, with_first, work}
+use Rattle.article_values.specs.Sizes.{block_size, block_size_step, blocks_size, first_of, inline_size}
+use Rattle.article_values.specs.Sizes.{inline_size_step, inlines_size, items_size, size_before, total, with_first, work}
 use Rattle.article_values.specs.declared.values.Block.{Block}
 use Rattle.article_values.specs.declared.values.Block.TheFolds.{fold-roll-Block}
 use Rattle.article_values.specs.declared.values.Block.TheOpen.{Block-F}
-use Rattle.article_values.specs.declared.values.Block.TheVariants.{rolls-Bullets, rolls-Division, rolls-Heading, rolls-Numbers, rolls-Paragraph, rolls-Quote}
+use Rattle.article_values.specs.declared.values.Block.TheVariants.{rolls-Bullets, rolls-Division, rolls-Heading}
+use Rattle.article_values.specs.declared.values.Block.TheVariants.{rolls-Numbers, rolls-Paragraph, rolls-Quote}
 use Rattle.article_values.specs.declared.values.Block.TheVariants as variants
 use Rattle.article_values.specs.declared.values.Block.TheViews as block_views
 use Rattle.article_values.specs.declared.values.Inline.{Inline}

@@ -1,5 +1,6 @@
 -- A turn of the check of inline contents.
-use Rattle.std.proofs.Common.{◌≡◌, ℕ, Bool, true, false, not, List, [], ◌∷◌, ◌+◌, ◌<◌, drop, get_or, length, Option, None, Some, refl, sym, ap, ◌∙◌, chars, add-one, drop-cons, suc}
+use Rattle.std.proofs.Common.{◌≡◌, ℕ, Bool, true, false, not, List, [], ◌∷◌, ◌+◌, ◌<◌, drop, get_or, length, Option}
+use Rattle.std.proofs.Common.{None, Some, refl, sym, ap, ◌∙◌, chars, add-one, drop-cons, suc}
 use Rattle.std.proofs.Common.{◌==◌, IsUtf8, encode_utf8_all}
 use Rattle.std.proofs.lemmas.Bool.{eqb-true}
 use Rattle.std.proofs.lemmas.List.{nil_from_length}
@@ -10,11 +11,13 @@ use Rattle.article_values.specs.Faults.{fault_of_inlines, has_forbidden, fault_w
 use Rattle.article_values.specs.Outcomes.{begins_with_text}
 use Rattle.article_values.specs.Views.{inline_view, inlines_view}
 use Rattle.article_values.specs.declared.error.ArticleError.{ArticleError}
-use Rattle.article_values.specs.declared.error.ArticleError.TheVariants.{EmptyText, ForbiddenCharacter, NeighbourTexts, TooDeep}
+use Rattle.article_values.specs.declared.error.ArticleError.TheVariants.{EmptyText, ForbiddenCharacter, NeighbourTexts}
+use Rattle.article_values.specs.declared.error.ArticleError.TheVariants.{TooDeep}
 use Rattle.article_values.specs.declared.values.Inline.{Inline}
 use Rattle.article_values.specs.declared.values.Inline.TheFolds.{fold-roll-Inline}
 use Rattle.article_values.specs.declared.values.Inline.TheOpen.{Inline-F}
-use Rattle.article_values.specs.declared.values.Inline.TheVariants.{rolls-Bold, rolls-Code, rolls-Emphasis, rolls-Italic, rolls-Link, rolls-Strong}
+use Rattle.article_values.specs.declared.values.Inline.TheVariants.{rolls-Bold, rolls-Code, rolls-Emphasis}
+use Rattle.article_values.specs.declared.values.Inline.TheVariants.{rolls-Italic, rolls-Link, rolls-Strong}
 use Rattle.article_values.specs.declared.values.Inline.TheViews as views
 use Rattle.article_values.specs.Views.{inline_step}
 use Rattle.article_values.specs.Articles.{bold, code, emphasis, italic, strong}

@@ -1,16 +1,21 @@
 -- What contracts see of each variant of an inline and of a block.
-use Rattle.std.proofs.Common.{◌≡◌, ℕ, ℤ, List, [], ◌∷◌, map, refl, sym, ap, ◌∙◌, chars, string_bytes, Vec, String, Global}
-use Rattle.article_values.specs.Articles.{Blocks, Inlines, bold, bullets, code, division, emphasis, heading, italic, line_break, link, no_items, numbers, paragraph, quote, span, strong, words}
-use Rattle.article_values.specs.Views.{block_step, block_view, blocks_view, held, in_turn, inline_step, inline_view, inlines_view, item_before, items_view}
+use Rattle.std.proofs.Common.{◌≡◌, ℕ, ℤ, List, [], ◌∷◌, map, refl, sym, ap, ◌∙◌, chars, string_bytes, Vec, String}
+use Rattle.std.proofs.Common.{Global}
+use Rattle.article_values.specs.Articles.{Blocks, Inlines, bold, bullets, code, division, emphasis, heading, italic}
+use Rattle.article_values.specs.Articles.{line_break, link, no_items, numbers, paragraph, quote, span, strong, words}
+use Rattle.article_values.specs.Views.{block_step, block_view, blocks_view, held, in_turn, inline_step, inline_view}
+use Rattle.article_values.specs.Views.{inlines_view, item_before, items_view}
 use Rattle.article_values.specs.declared.values.Block.{Block}
 use Rattle.article_values.specs.declared.values.Block.TheFolds.{fold-roll-Block}
 use Rattle.article_values.specs.declared.values.Block.TheOpen.{Block-F}
-use Rattle.article_values.specs.declared.values.Block.TheVariants.{rolls-Bullets, rolls-Division, rolls-Heading, rolls-Numbers, rolls-Paragraph, rolls-Quote}
+use Rattle.article_values.specs.declared.values.Block.TheVariants.{rolls-Bullets, rolls-Division, rolls-Heading}
+use Rattle.article_values.specs.declared.values.Block.TheVariants.{rolls-Numbers, rolls-Paragraph, rolls-Quote}
 use Rattle.article_values.specs.declared.values.Block.TheVariants as block_variants
 use Rattle.article_values.specs.declared.values.Block.TheViews as block_views
 use Rattle.article_values.specs.declared.values.Inline.TheFolds.{fold-roll-Inline}
 use Rattle.article_values.specs.declared.values.Inline.TheOpen.{Inline-F}
-use Rattle.article_values.specs.declared.values.Inline.TheVariants.{rolls-Bold, rolls-Break, rolls-Code, rolls-Emphasis, rolls-Italic, rolls-Link, rolls-Strong, rolls-Text}
+use Rattle.article_values.specs.declared.values.Inline.TheVariants.{rolls-Bold, rolls-Break, rolls-Code, rolls-Emphasis}
+use Rattle.article_values.specs.declared.values.Inline.TheVariants.{rolls-Italic, rolls-Link, rolls-Strong, rolls-Text}
 use Rattle.article_values.specs.declared.values.Inline.TheVariants as variants
 use Rattle.article_values.specs.declared.values.Inline.TheViews as views
 

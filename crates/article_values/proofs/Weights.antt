@@ -1,16 +1,19 @@
 -- How much stands in blocks: a measure of what goes through an article as deep as it is nested.
-use Rattle.std.proofs.Common.{◌≡◌, ℕ, ℤ, zero, suc, ◌+◌, ◌<◌, ◌≤◌, List, [], ◌∷◌, map, length, get_or, refl, sym, ap, ◌∙◌, Vec, String, Global, arith}
+use Rattle.std.proofs.Common.{◌≡◌, ℕ, ℤ, zero, suc, ◌+◌, ◌<◌, ◌≤◌, List, [], ◌∷◌, map, length, get_or, refl, sym, ap}
+use Rattle.std.proofs.Common.{◌∙◌, Vec, String, Global, arith}
 use Rattle.article_values.specs.Sizes.{total}
 use Rattle.article_values.specs.declared.values.Block.{Block, fold-Block}
 use Rattle.article_values.specs.declared.values.Block.TheFolds.{fold-roll-Block}
 use Rattle.article_values.specs.declared.values.Block.TheOpen.{Block-F}
-use Rattle.article_values.specs.declared.values.Block.TheVariants.{rolls-Bullets, rolls-Division, rolls-Heading, rolls-Numbers, rolls-Paragraph, rolls-Quote}
+use Rattle.article_values.specs.declared.values.Block.TheVariants.{rolls-Bullets, rolls-Division, rolls-Heading}
+use Rattle.article_values.specs.declared.values.Block.TheVariants.{rolls-Numbers, rolls-Paragraph, rolls-Quote}
 use Rattle.article_values.specs.declared.values.Block.TheVariants as block_variants
 use Rattle.article_values.specs.declared.values.Block.TheViews as block_views
 use Rattle.article_values.specs.declared.values.Inline.{Inline}
 use Rattle.article_values.specs.declared.values.Inline.TheFolds.{fold-roll-Inline}
 use Rattle.article_values.specs.declared.values.Inline.TheOpen.{Inline-F}
-use Rattle.article_values.specs.declared.values.Inline.TheVariants.{rolls-Bold, rolls-Break, rolls-Code, rolls-Emphasis, rolls-Italic, rolls-Link, rolls-Strong}
+use Rattle.article_values.specs.declared.values.Inline.TheVariants.{rolls-Bold, rolls-Break, rolls-Code, rolls-Emphasis}
+use Rattle.article_values.specs.declared.values.Inline.TheVariants.{rolls-Italic, rolls-Link, rolls-Strong}
 use Rattle.article_values.specs.declared.values.Inline.TheVariants as variants
 use Rattle.article_values.specs.declared.values.Inline.TheViews as views
 use Rattle.article_values.specs.Sizes.{inline_size, inline_size_step, inlines_size}
@@ -47,19 +50,24 @@ size_of_break = ap inline_size (sym rolls-Break) ∙ fold-roll-Inline ℕ inline
 
 module _ (contents : Vec Inline Global) where
   pub size_of_bold : inline_size (views.Bold contents) ≡ suc (inlines_size contents.items)
-  size_of_bold = ap inline_size (sym (rolls-Bold contents)) ∙ fold-roll-Inline ℕ inline_size_step (Inline-F.Bold contents)
+  size_of_bold =
+      ap inline_size (sym (rolls-Bold contents)) ∙ fold-roll-Inline ℕ inline_size_step (Inline-F.Bold contents)
 
   pub size_of_italic : inline_size (views.Italic contents) ≡ suc (inlines_size contents.items)
-  size_of_italic = ap inline_size (sym (rolls-Italic contents)) ∙ fold-roll-Inline ℕ inline_size_step (Inline-F.Italic contents)
+  size_of_italic =
+      ap inline_size (sym (rolls-Italic contents)) ∙ fold-roll-Inline ℕ inline_size_step (Inline-F.Italic contents)
 
   pub size_of_emphasis : inline_size (views.Emphasis contents) ≡ suc (inlines_size contents.items)
-  size_of_emphasis = ap inline_size (sym (rolls-Emphasis contents)) ∙ fold-roll-Inline ℕ inline_size_step (Inline-F.Emphasis contents)
+  size_of_emphasis =
+      ap inline_size (sym (rolls-Emphasis contents)) ∙ fold-roll-Inline ℕ inline_size_step (Inline-F.Emphasis contents)
 
   pub size_of_code : inline_size (views.Code contents) ≡ suc (inlines_size contents.items)
-  size_of_code = ap inline_size (sym (rolls-Code contents)) ∙ fold-roll-Inline ℕ inline_size_step (Inline-F.Code contents)
+  size_of_code =
+      ap inline_size (sym (rolls-Code contents)) ∙ fold-roll-Inline ℕ inline_size_step (Inline-F.Code contents)
 
   pub size_of_strong : inline_size (views.Strong contents) ≡ suc (inlines_size contents.items)
-  size_of_strong = ap inline_size (sym (rolls-Strong contents)) ∙ fold-roll-Inline ℕ inline_size_step (Inline-F.Strong contents)
+  size_of_strong =
+      ap inline_size (sym (rolls-Strong contents)) ∙ fold-roll-Inline ℕ inline_size_step (Inline-F.Strong contents)
 
   pub size_of_link : (target : String Global) →
       inline_size (views.Link target contents) ≡ suc (inlines_size contents.items)
@@ -70,7 +78,8 @@ module _ (contents : Vec Inline Global) where
   weight_of_paragraph = ap weight (sym (rolls-Paragraph contents))
       ∙ fold-roll-Block ℕ weight_step (Block-F.Paragraph contents)
 
-  pub weight_of_heading : (level : ℕ) → weight (block_variants.Heading level contents) ≡ suc (inlines_size contents.items)
+  pub weight_of_heading : (level : ℕ) → weight (block_variants.Heading level contents)
+      ≡ suc (inlines_size contents.items)
   weight_of_heading level = ap weight (sym (rolls-Heading level contents))
       ∙ fold-roll-Block ℕ weight_step (Block-F.Heading level contents)
 

@@ -1,11 +1,15 @@
 -- The first fault of a value, in the order in which it is written: a value before what it holds, and this before what
 -- follows it.
-use Rattle.std.specs.Prelude.{ℕ, suc, nat_le, nat_lt, ◌==◌, ◌||◌, ◌&&◌, not, Bool, true, false, List, [], ◌∷◌, Option, None, Some}
+use Rattle.std.specs.Prelude.{ℕ, suc, nat_le, nat_lt, ◌==◌, ◌||◌, ◌&&◌, not, Bool, true, false, List, [], ◌∷◌, Option}
+use Rattle.std.specs.Prelude.{None, Some}
 use Rattle.std.specs.List.{list_any}
 use Rattle.std.specs.Option.{option_or}
-use Rattle.article_values.specs.Articles.{Blocks, Inlines, Items, bullets, division, heading, item, line_break, link, no_blocks, no_inlines, no_items, numbers, paragraph, quote, span, words}
+use Rattle.article_values.specs.Articles.{Blocks, Inlines, Items, bullets, division, heading, item, line_break, link}
+use Rattle.article_values.specs.Articles.{no_blocks, no_inlines, no_items, numbers, paragraph, quote, span, words}
 use Rattle.article_values.specs.declared.error.ArticleError.{ArticleError}
-use Rattle.article_values.specs.declared.error.ArticleError.TheVariants.{BadLevel, EmptyList, EmptyText, ForbiddenCharacter, LinkInLink, NeighbourTexts, TooDeep}
+use Rattle.article_values.specs.declared.error.ArticleError.TheVariants.{BadLevel, EmptyList, EmptyText}
+use Rattle.article_values.specs.declared.error.ArticleError.TheVariants.{ForbiddenCharacter, LinkInLink, NeighbourTexts}
+use Rattle.article_values.specs.declared.error.ArticleError.TheVariants.{TooDeep}
 
 -- the fault where the test holds, else what is told later
 abbrev pub fault_where : Bool → ArticleError → Option ArticleError → Option ArticleError

@@ -2,7 +2,9 @@
 use Rattle.std.specs.Prelude.{ℕ, ℤ, List, [], ◌∷◌, map, chars, string_bytes, Vec, String, Option, option_map}
 use Rattle.std.specs.Global.{Global}
 use Rattle.std.specs.Int.{cast_signed, cast_unsigned, w64}
-use Rattle.article_values.specs.Articles.{Blocks, Inlines, Items, bold, bullets, code, division, emphasis, heading, italic, item, line_break, link, no_blocks, no_inlines, no_items, numbers, paragraph, quote, span, strong, words}
+use Rattle.article_values.specs.Articles.{Blocks, Inlines, Items, bold, bullets, code, division, emphasis, heading}
+use Rattle.article_values.specs.Articles.{italic, item, line_break, link, no_blocks, no_inlines, no_items, numbers}
+use Rattle.article_values.specs.Articles.{paragraph, quote, span, strong, words}
 use Rattle.article_values.specs.declared.values.Inline.{Inline, fold-Inline}
 use Rattle.article_values.specs.declared.values.Inline.TheOpen.{Inline-F}
 use Rattle.article_values.specs.declared.values.Block.{Block, fold-Block}

@@ -5,7 +5,8 @@ ghost use Rattle.std.specs.Prelude.{◌≡◌, ◌≤◌, ◌<◌, ◌+◌, ℕ,
 ghost use Rattle.std.specs.List.{list_any};
 ghost use Rattle.std.specs.Option.{option_or};
 ghost use Rattle.article_values.specs.Articles.{Blocks, Inlines, Items, Style, link, no_inlines, span, words};
-ghost use Rattle.article_values.specs.Faults.{fault_of_inlines, fault_of_blocks, fault_of_items, has_forbidden, fault_where, is_forbidden, is_level, is_too_deep};
+ghost use Rattle.article_values.specs.Faults.{fault_of_inlines, fault_of_blocks, fault_of_items, has_forbidden};
+ghost use Rattle.article_values.specs.Faults.{fault_where, is_forbidden, is_level, is_too_deep};
 ghost use Rattle.article_values.specs.Outcomes.{fault_met, begins_with_text};
 ghost use Rattle.article_values.specs.Views.{block_view, blocks_view, inline_view, inlines_view, items_view};
 

@@ -30,7 +30,8 @@ module _ {S : Type 0} (means : S → Call → Reply → S → Type 0) where
       (one_told means s t (doctype_of (codes "html")) (λ more. more) a told))
 
   pub document_told : {A B : Type 0} (s t u : S) (a : Result A SerializeFault) (value : A) (r : Result B SerializeFault)
-      (title : Option (List ℕ)) (content : Content) → a ≡ Ok value → means s (doctype_of (codes "html")) (reply_of a) t →
+      (title : Option (List ℕ)) (content : Content) → a ≡ Ok value →
+      means s (doctype_of (codes "html")) (reply_of a) t →
       Tells means t u r (λ more. start (of_html (codes "html")) []
       ∷ calls_and (root_content title content) (finish (of_html (codes "html")) ∷ more)) (λ more. more) →
       IsTold means s (document_calls title content) (reply_of r) u

@@ -26,7 +26,8 @@ last_as lines front l above e f = f ∙ sym (ap (λ ls. last_border ls) e ∙ la
 
 back_by : {S : Type 0} (b : Laid S) (lines front : List (CellLine S)) (line : BlockLine S) (l : CellLine S)
     → l.line ≡ line → lines ≡ front ++ l ∷ [] → before_last lines ≡ front → last_border lines ≡ border_line line
-    → put_back line l (record b { lines = front }) ≡ without_last_border (last_border lines) (record b { lines = lines })
+    → put_back line l (record b { lines = front })
+    ≡ without_last_border (last_border lines) (record b { lines = lines })
 back_by b lines front (text items) l k e f h =
     ap (λ ls. record b { lines = ls }) (sym e)
     ∙ sym (ap (λ above. without_last_border above (record b { lines = lines })) h)

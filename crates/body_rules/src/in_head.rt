@@ -104,7 +104,8 @@ pub fn raw_start<S: TreeSink>(
 ) -> Result<Flow<S::Handle>, ParseFault>
     requires ready { Ready (state_of S.number S.forest S.quirks page.old) }
     ensures came { IfOk result (λ flow. came_to flow (state_of S.number S.forest S.quirks page.new)
-        ≡ outcome S.handle (reads_raw kind (insert target tag.now ∷ [])) (state_of S.number S.forest S.quirks page.old)) }
+        ≡ outcome S.handle (reads_raw kind (insert target tag.now ∷ []))
+        (state_of S.number S.forest S.quirks page.old)) }
     ensures ready { OnOk result (Ready (state_of S.number S.forest S.quirks page.new)) }
     ensures memory { IfErr result (λ e. e ≡ Memory) }
 {

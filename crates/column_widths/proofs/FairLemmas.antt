@@ -28,7 +28,8 @@ pub record AreFair (cs : List ColumnShare) (ws : List ℕ) : Type 0 where
       IsSooner (excess_at cs ws i + 1) (column_at cs i).least i (excess_at cs ws j) (column_at cs j).least j
 
 -- ---- as many taken, the same taken
-pub sum_up : (a b : List ℕ) → length a ≡ length b → ((j : ℕ) → j < length a → get_or a j 0 ≤ get_or b j 0) → sum a ≤ sum b
+pub sum_up : (a b : List ℕ) → length a ≡ length b → ((j : ℕ) → j < length a → get_or a j 0 ≤ get_or b j 0) →
+    sum a ≤ sum b
 sum_up [] [] e le = omega arith
 sum_up [] (y ∷ b) e le = omega arith
 sum_up (x ∷ a) [] e le = absurd (omega arith)

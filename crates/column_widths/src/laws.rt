@@ -29,8 +29,8 @@ pub fn widths_fit_the_width()
         → width < sum_by share_of columns + separators columns → sum widths + separators columns ≡ width }
 {}
 
-/// One column of text can be taken at a time until the columns fit, from the column that exceeds its least most, of such
-/// ones the widest, and of these the leftmost; and it comes to their widths.
+/// One column of text can be taken at a time until the columns fit, from the column that exceeds its least most, of
+/// such ones the widest, and of these the leftmost; and it comes to their widths.
 pub fn one_at_a_time_comes_to_the_widths()
     ensures some { (columns : List ColumnShare) (width : ℕ)
         → sum_by least_of columns + separators columns ≤ width → HasTurns columns (passed_by columns width) }

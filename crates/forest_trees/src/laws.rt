@@ -4,8 +4,8 @@ ghost use Rattle.html_forest.specs.Forest.{Forest, children_at, kind_at};
 ghost use Rattle.html_forest.specs.Orders.{IsForest};
 ghost use Rattle.forest_trees.specs.Trees.{Trees, followed_by, node, none, size, steps, trees};
 
-/// A tree goes one step on: of the first of some nodes it is what that is, with its children's trees in it, and those of
-/// the others behind it; of no nodes there is none. Together these say what the trees of any nodes are.
+/// A tree goes one step on: of the first of some nodes it is what that is, with its children's trees in it, and those
+/// of the others behind it; of no nodes there is none. Together these say what the trees of any nodes are.
 pub fn a_tree_goes_one_step_on()
     ensures first { (f : Forest) (n : ℕ) (ns : List ℕ) → IsForest f
         → trees f (n ∷ ns) ≡ node (kind_at n f) (trees f (children_at n f)) (trees f ns) }

@@ -1,4 +1,5 @@
--- Words of the worked rows: the items that a page gives to a sink that always goes on, with neighbouring texts joined and errors left out.
+-- Words of the worked rows: the items that a page gives to a sink that always goes on, with neighbouring texts joined
+-- and errors left out.
 use Rattle.std.specs.Prelude.{ℕ, zero, suc, Bool, true, false, List, [], ◌∷◌, ◌++◌, codes, Option, Some, None}
 use Rattle.reference_tables.specs.References.{Reference, References, references}
 use Rattle.html_lexemes.specs.declared.names.Attribute.{Attribute}
@@ -32,7 +33,8 @@ items_of_lexeme further mode (tagged t rest) = tag t ∷ further (mode_behind mo
 -- at most so many lexemes
 abbrev pub items_from : References → Bool → ℕ → Mode → List ℕ → List Item
 items_from table foreign zero mode cs = []
-items_from table foreign (suc n) mode cs = items_of_lexeme (items_from table foreign n) mode (lexeme table foreign mode cs)
+items_from table foreign (suc n) mode cs =
+    items_of_lexeme (items_from table foreign n) mode (lexeme table foreign mode cs)
 
 abbrev pub with_characters : List ℕ → List Item → List Item
 with_characters cs [] = characters cs ∷ []
@@ -52,10 +54,18 @@ abbrev pub mode_in : TextKind → List ℕ → Mode
 mode_in kind name = record { text = kind; last_start_tag = Some name }
 
 abbrev pub start : List ℕ → List Attribute → Item
-start name attributes = tag (record { kind = StartTag; name = name; self_closing = false; attrs = attributes; had_duplicate_attributes = false })
+start name attributes =
+    tag (record {
+      kind = StartTag;
+      name = name;
+      self_closing = false;
+      attrs = attributes;
+      had_duplicate_attributes = false;
+    })
 
 abbrev pub end : List ℕ → Item
-end name = tag (record { kind = EndTag; name = name; self_closing = false; attrs = []; had_duplicate_attributes = false })
+end name =
+    tag (record { kind = EndTag; name = name; self_closing = false; attrs = []; had_duplicate_attributes = false })
 
 abbrev pub quirky : Option (List ℕ) → Item
 quirky name = doctype (record { name = name; public_id = None; system_id = None; force_quirks = true })

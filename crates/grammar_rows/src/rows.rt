@@ -1,7 +1,8 @@
 //! What the definitions give on rows worked out from the standard.
 ghost use Rattle.std.specs.Prelude.{◌≡◌, ℕ, [], ◌∷◌, ◌++◌, true, false, codes, map, Some, None};
 ghost use Rattle.reference_tables.specs.References.{References};
-ghost use Rattle.html_lexemes.specs.declared.states.RawKind.TheVariants.{Rcdata, Rawtext, ScriptData, ScriptDataEscaped};
+ghost use Rattle.html_lexemes.specs.declared.states.RawKind.TheVariants.{Rcdata, Rawtext, ScriptData};
+ghost use Rattle.html_lexemes.specs.declared.states.RawKind.TheVariants.{ScriptDataEscaped};
 ghost use Rattle.html_lexemes.specs.declared.states.ScriptEscapeKind.TheVariants.{Escaped, DoubleEscaped};
 ghost use Rattle.html_lexemes.specs.declared.states.AttrValueKind.{AttrValueKind};
 ghost use Rattle.html_lexemes.specs.declared.states.DoctypeIdKind.{DoctypeIdKind};
@@ -9,66 +10,104 @@ ghost use Rattle.html_lexemes.specs.declared.states.RawKind.{RawKind};
 ghost use Rattle.html_lexemes.specs.declared.states.ScriptEscapeKind.{ScriptEscapeKind};
 ghost use Rattle.html_lexemes.specs.declared.states.State.TheVariants as states;
 ghost use Rattle.html_lexemes.specs.declared.token.TagKind.TheVariants.{StartTag, EndTag};
-ghost use Rattle.html_lexemes.specs.declared.token.TokenSinkResult.TheVariants.{Continue, EncodingIndicator, Plaintext, RawData, Script};
+ghost use Rattle.html_lexemes.specs.declared.token.TokenSinkResult.TheVariants.{Continue, EncodingIndicator, Plaintext};
+ghost use Rattle.html_lexemes.specs.declared.token.TokenSinkResult.TheVariants.{RawData, Script};
 ghost use Rattle.html_grammar.specs.FirstMode.{first_mode};
 ghost use Rattle.html_grammar.specs.Items.{characters, comment, doctype, error, null_character, tag};
 ghost use Rattle.html_grammar.specs.Lexemes.{kind_behind};
 ghost use Rattle.html_grammar.specs.Modes.{is_pause, last_behind, mode_behind, text_behind, text_of_state};
 ghost use Rattle.html_grammar.specs.References.{numbered, reference, value_of};
 ghost use Rattle.html_grammar.specs.declared.modes.TextKind.TheVariants.{Ordinary, Plain, Raw};
-ghost use Rattle.grammar_rows.specs.RowWords.{doctype_with, element_items, end, end_tag, few, found, items_from, joined, markup_states, mode_in, opts_of, ordinary_mode, page_items, quirky, self_closed, start};
+ghost use Rattle.grammar_rows.specs.RowWords.{doctype_with, element_items, end, end_tag, few, found, items_from};
+ghost use Rattle.grammar_rows.specs.RowWords.{joined, markup_states, mode_in, opts_of, ordinary_mode, page_items};
+ghost use Rattle.grammar_rows.specs.RowWords.{quirky, self_closed, start};
 ghost use Rattle.html_grammar.specs.Tags.{attribute};
 
 fn comments_of_rows()
-    ensures three { (table : References) → joined (items_from table false 9 ordinary_mode (codes "<!--><!---><!--a--!>b"))
+    ensures three { (table : References) →
+        joined (items_from table false 9 ordinary_mode (codes "<!--><!---><!--a--!>b"))
         ≡ comment [] ∷ comment [] ∷ comment (codes "a") ∷ characters (codes "b") ∷ [] }
-    ensures cut { (table : References) → joined (items_from table false 9 ordinary_mode (codes "<!--a--")) ≡ comment (codes "a") ∷ [] }
-    ensures cut_at_a_dash { (table : References) → joined (items_from table false 9 ordinary_mode (codes "<!--a-")) ≡ comment (codes "a") ∷ [] }
-    ensures cut_at_a_mark { (table : References) → joined (items_from table false 9 ordinary_mode (codes "<!--a--!")) ≡ comment (codes "a") ∷ [] }
+    ensures cut { (table : References) → joined (items_from table false 9 ordinary_mode (codes "<!--a--"))
+        ≡ comment (codes "a") ∷ [] }
+    ensures cut_at_a_dash { (table : References) → joined (items_from table false 9 ordinary_mode (codes "<!--a-"))
+        ≡ comment (codes "a") ∷ [] }
+    ensures cut_at_a_mark { (table : References) → joined (items_from table false 9 ordinary_mode (codes "<!--a--!"))
+        ≡ comment (codes "a") ∷ [] }
     ensures bogus { (table : References) → joined (items_from table false 9 ordinary_mode (codes "</>x<1<?pi?><!y>"))
         ≡ characters (codes "x<1") ∷ comment (codes "?pi?") ∷ comment (codes "y") ∷ [] }
-    ensures unfinished_mark { (table : References) → joined (items_from table false 9 ordinary_mode (codes "a<!")) ≡ characters (codes "a") ∷ comment [] ∷ [] }
+    ensures unfinished_mark { (table : References) → joined (items_from table false 9 ordinary_mode (codes "a<!"))
+        ≡ characters (codes "a") ∷ comment [] ∷ [] }
 {}
 
 fn sections_of_rows()
-    ensures in_html { (table : References) → joined (items_from table false 9 ordinary_mode (codes "<![CDATA[a]]>")) ≡ comment (codes "[CDATA[a]]") ∷ [] }
-    ensures foreign { (table : References) → joined (items_from table true 9 ordinary_mode (codes "<![CDATA[a]]>")) ≡ characters (codes "a") ∷ [] }
-    ensures cut { (table : References) → joined (items_from table true 9 ordinary_mode (codes "<![CDATA[a]")) ≡ characters (codes "a]") ∷ [] }
+    ensures in_html { (table : References) → joined (items_from table false 9 ordinary_mode (codes "<![CDATA[a]]>"))
+        ≡ comment (codes "[CDATA[a]]") ∷ [] }
+    ensures foreign { (table : References) → joined (items_from table true 9 ordinary_mode (codes "<![CDATA[a]]>"))
+        ≡ characters (codes "a") ∷ [] }
+    ensures cut { (table : References) → joined (items_from table true 9 ordinary_mode (codes "<![CDATA[a]"))
+        ≡ characters (codes "a]") ∷ [] }
 {}
 
 fn texts_of_rows()
-    ensures numbers { (table : References) → joined (items_from table false 9 ordinary_mode (codes "&#0;&#x80;&#xD800;&#x110000;&#65"))
+    ensures numbers { (table : References) →
+        joined (items_from table false 9 ordinary_mode (codes "&#0;&#x80;&#xD800;&#x110000;&#65"))
         ≡ characters (0xFFFD ∷ 0x20AC ∷ 0xFFFD ∷ 0xFFFD ∷ 65 ∷ []) ∷ [] }
     ensures nul { (table : References) → joined (items_from table false 9 ordinary_mode (97 ∷ 0 ∷ 98 ∷ []))
         ≡ characters (codes "a") ∷ null_character ∷ characters (codes "b") ∷ [] }
-    ensures nul_in_an_element { (table : References) → joined (items_from table false 9 (mode_in (Raw Rcdata) (codes "title")) (97 ∷ 0 ∷ 98 ∷ []))
+    ensures nul_in_an_element { (table : References) →
+        joined (items_from table false 9 (mode_in (Raw Rcdata) (codes "title")) (97 ∷ 0 ∷ 98 ∷ []))
         ≡ characters (97 ∷ 0xFFFD ∷ 98 ∷ []) ∷ [] }
-    ensures slash_at_the_end { (table : References) → joined (items_from table false 9 ordinary_mode (codes "a</")) ≡ characters (codes "a</") ∷ [] }
-    ensures sign_at_the_end { (table : References) → joined (items_from table false 9 ordinary_mode (codes "a<")) ≡ characters (codes "a<") ∷ [] }
+    ensures slash_at_the_end { (table : References) → joined (items_from table false 9 ordinary_mode (codes "a</"))
+        ≡ characters (codes "a</") ∷ [] }
+    ensures sign_at_the_end { (table : References) → joined (items_from table false 9 ordinary_mode (codes "a<"))
+        ≡ characters (codes "a<") ∷ [] }
 {}
 
 fn raw_texts_of_rows()
-    ensures script { (table : References) → joined (items_from table false 40 (mode_in (Raw ScriptData) (codes "script")) (codes "<!--<script></script>--></script>"))
+    ensures script { (table : References) →
+        joined (items_from table false 40 (mode_in (Raw ScriptData) (codes "script"))
+        (codes "<!--<script></script>--></script>"))
         ≡ characters (codes "<!--<script></script>-->") ∷ end (codes "script") ∷ [] }
-    ensures cut_tag { (table : References) → joined (items_from table false 20 (mode_in (Raw Rcdata) (codes "title")) (codes "a</title ")) ≡ characters (codes "a") ∷ [] }
-    ensures cut_name { (table : References) → joined (items_from table false 20 (mode_in (Raw Rcdata) (codes "title")) (codes "a</title")) ≡ characters (codes "a</title") ∷ [] }
-    ensures other_name { (table : References) → joined (items_from table false 20 (mode_in (Raw Rawtext) (codes "style")) (codes "a</b></STYLE>c"))
+    ensures cut_tag { (table : References) →
+        joined (items_from table false 20 (mode_in (Raw Rcdata) (codes "title")) (codes "a</title "))
+        ≡ characters (codes "a") ∷ [] }
+    ensures cut_name { (table : References) →
+        joined (items_from table false 20 (mode_in (Raw Rcdata) (codes "title")) (codes "a</title"))
+        ≡ characters (codes "a</title") ∷ [] }
+    ensures other_name { (table : References) →
+        joined (items_from table false 20 (mode_in (Raw Rawtext) (codes "style")) (codes "a</b></STYLE>c"))
         ≡ characters (codes "a</b>") ∷ end (codes "style") ∷ characters (codes "c") ∷ [] }
-    ensures to_the_end { (table : References) → joined (items_from table false 20 (mode_in Plain (codes "plaintext")) (codes "a</plaintext>")) ≡ characters (codes "a</plaintext>") ∷ [] }
-    ensures empty_comment { (table : References) → joined (items_from table false 20 (mode_in (Raw ScriptData) (codes "script")) (codes "<!--></script>a"))
+    ensures to_the_end { (table : References) →
+        joined (items_from table false 20 (mode_in Plain (codes "plaintext")) (codes "a</plaintext>"))
+        ≡ characters (codes "a</plaintext>") ∷ [] }
+    ensures empty_comment { (table : References) →
+        joined (items_from table false 20 (mode_in (Raw ScriptData) (codes "script")) (codes "<!--></script>a"))
         ≡ characters (codes "<!-->") ∷ end (codes "script") ∷ characters (codes "a") ∷ [] }
 {}
 
 fn tags_of_rows()
     ensures self_closing { (table : References) → joined (items_from table false 9 ordinary_mode (codes "<br/><p / x>"))
-        ≡ tag (record { kind = StartTag; name = codes "br"; self_closing = true; attrs = []; had_duplicate_attributes = false })
+        ≡ tag (record {
+          kind = StartTag;
+          name = codes "br";
+          self_closing = true;
+          attrs = [];
+          had_duplicate_attributes = false;
+        })
         ∷ start (codes "p") (attribute (codes "x") [] ∷ []) ∷ [] }
     ensures slash_in_a_value { (table : References) → joined (items_from table false 9 ordinary_mode (codes "<p a=/>"))
         ≡ start (codes "p") (attribute (codes "a") (codes "/") ∷ []) ∷ [] }
     ensures sign_in_a_name { (table : References) → joined (items_from table false 9 ordinary_mode (codes "<p =a=b>"))
         ≡ start (codes "p") (attribute (codes "=a") (codes "b") ∷ []) ∷ [] }
-    ensures duplicates { (table : References) → joined (items_from table false 9 ordinary_mode (codes "<P CLASS=a class=b x='&#38;'>"))
-        ≡ tag (record { kind = StartTag; name = codes "p"; self_closing = false; attrs = attribute (codes "class") (codes "a") ∷ attribute (codes "x") (codes "&") ∷ []; had_duplicate_attributes = true }) ∷ [] }
+    ensures duplicates { (table : References) →
+        joined (items_from table false 9 ordinary_mode (codes "<P CLASS=a class=b x='&#38;'>"))
+        ≡ tag (record {
+          kind = StartTag;
+          name = codes "p";
+          self_closing = false;
+          attrs = attribute (codes "class") (codes "a") ∷ attribute (codes "x") (codes "&") ∷ [];
+          had_duplicate_attributes = true;
+        }) ∷ [] }
     ensures cut { (table : References) → joined (items_from table false 9 ordinary_mode (codes "<a b=c")) ≡ [] }
     ensures empty_value { (table : References) → joined (items_from table false 9 ordinary_mode (codes "<a b = >c"))
         ≡ start (codes "a") (attribute (codes "b") [] ∷ []) ∷ characters (codes "c") ∷ [] }
@@ -77,16 +116,40 @@ fn tags_of_rows()
 {}
 
 fn doctypes_of_rows()
-    ensures two { (table : References) → joined (items_from table false 9 ordinary_mode (codes "<!doctype HTML><!DOCTYPE><p"))
-        ≡ doctype (record { name = Some (codes "html"); public_id = None; system_id = None; force_quirks = false }) ∷ quirky None ∷ [] }
-    ensures identifiers { (table : References) → joined (items_from table false 9 ordinary_mode (codes "<!DOCTYPE html PUBLIC 'a' 'b'>"))
-        ≡ doctype (record { name = Some (codes "html"); public_id = Some (codes "a"); system_id = Some (codes "b"); force_quirks = false }) ∷ [] }
-    ensures no_identifier { (table : References) → joined (items_from table false 9 ordinary_mode (codes "<!DOCTYPE html SYSTEM>")) ≡ quirky (Some (codes "html")) ∷ [] }
-    ensures other_word { (table : References) → joined (items_from table false 9 ordinary_mode (codes "<!DOCTYPE html x>")) ≡ quirky (Some (codes "html")) ∷ [] }
-    ensures behind_system { (table : References) → joined (items_from table false 9 ordinary_mode (codes "<!DOCTYPE a system'b'x"))
-        ≡ doctype (record { name = Some (codes "a"); public_id = None; system_id = Some (codes "b"); force_quirks = false }) ∷ [] }
-    ensures cut_identifier { (table : References) → joined (items_from table false 9 ordinary_mode (codes "<!DOCTYPE a public'b>c"))
-        ≡ doctype (record { name = Some (codes "a"); public_id = Some (codes "b"); system_id = None; force_quirks = true }) ∷ characters (codes "c") ∷ [] }
+    ensures two { (table : References) →
+        joined (items_from table false 9 ordinary_mode (codes "<!doctype HTML><!DOCTYPE><p"))
+        ≡ doctype (record { name = Some (codes "html"); public_id = None; system_id = None; force_quirks = false })
+        ∷ quirky None ∷ [] }
+    ensures identifiers { (table : References) →
+        joined (items_from table false 9 ordinary_mode (codes "<!DOCTYPE html PUBLIC 'a' 'b'>"))
+        ≡ doctype (record {
+          name = Some (codes "html");
+          public_id = Some (codes "a");
+          system_id = Some (codes "b");
+          force_quirks = false;
+        }) ∷ [] }
+    ensures no_identifier { (table : References) →
+        joined (items_from table false 9 ordinary_mode (codes "<!DOCTYPE html SYSTEM>"))
+        ≡ quirky (Some (codes "html")) ∷ [] }
+    ensures other_word { (table : References) →
+        joined (items_from table false 9 ordinary_mode (codes "<!DOCTYPE html x>"))
+        ≡ quirky (Some (codes "html")) ∷ [] }
+    ensures behind_system { (table : References) →
+        joined (items_from table false 9 ordinary_mode (codes "<!DOCTYPE a system'b'x"))
+        ≡ doctype (record {
+          name = Some (codes "a");
+          public_id = None;
+          system_id = Some (codes "b");
+          force_quirks = false;
+        }) ∷ [] }
+    ensures cut_identifier { (table : References) →
+        joined (items_from table false 9 ordinary_mode (codes "<!DOCTYPE a public'b>c"))
+        ≡ doctype (record {
+          name = Some (codes "a");
+          public_id = Some (codes "b");
+          system_id = None;
+          force_quirks = true;
+        }) ∷ characters (codes "c") ∷ [] }
 {}
 
 // WHATWG HTML, 13.2.5.80
@@ -315,10 +378,12 @@ fn modes_of_rows()
         ≡ Some (codes "b") ∷ Some (codes "b") ∷ [] }
     ensures behind_end_tags { map (last_behind EndTag (codes "b")) (Some (codes "a") ∷ None ∷ [])
         ≡ Some (codes "a") ∷ None ∷ [] }
-    ensures behind_a_tag { mode_behind {H = ℕ} (mode_in Plain (codes "a")) (end_tag (codes "b") [] false) (RawData Rawtext)
+    ensures behind_a_tag { mode_behind {H = ℕ} (mode_in Plain (codes "a")) (end_tag (codes "b") [] false)
+        (RawData Rawtext)
         ≡ mode_in (Raw Rawtext) (codes "a") }
     ensures at_no_state { map text_of_state (None ∷ Some states.Data ∷ []) ≡ Ordinary ∷ Ordinary ∷ [] }
-    ensures at_states_of_markup { (raw : RawKind) (escape : ScriptEscapeKind) (identifier : DoctypeIdKind) (value : AttrValueKind) →
+    ensures at_states_of_markup { (raw : RawKind) (escape : ScriptEscapeKind) (identifier :
+        DoctypeIdKind) (value : AttrValueKind) →
         map (λ state. text_of_state (Some state)) (markup_states raw escape identifier value)
         ≡ map (λ _. Ordinary) (markup_states raw escape identifier value) }
     ensures at_plain_text { text_of_state (Some states.Plaintext) ≡ Plain }

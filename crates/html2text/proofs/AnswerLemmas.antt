@@ -47,7 +47,8 @@ module _ (asked : Asked) (files : Files) (names : References) (table : IsTableOf
       → IsAnswered asked files input read_failed write_failed flushed before after old new Unread Untouched Silent Told
       outcome
   page_refused read_failed wf fl before after rf b a error outcome is reason ends told =
-      subst (IsAnswered asked files input read_failed wf fl before after old new Unread Untouched Silent Told) (sym is) (
+      subst (IsAnswered asked files input read_failed wf fl before after old new Unread Untouched Silent Told)
+      (sym is) (
         told,
         record { names = names; table = table; reason = reason },
         elim ends.1 [

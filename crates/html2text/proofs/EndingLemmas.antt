@@ -10,7 +10,8 @@ use Rattle.html2text.specs.Written.{Gains, GainsPart}
 use Rattle.page_config.specs.declared.error.Error.{Error}
 use Rattle.page_config.specs.declared.error.Error.TheVariants as errors
 
-pub some_as : (all : Bytes) (P Q : List ℕ → Type 0) → ((bytes : List ℕ) → P bytes → Q bytes) → IfSome all P → IfSome all Q
+pub some_as : (all : Bytes) (P Q : List ℕ → Type 0) → ((bytes : List ℕ) → P bytes → Q bytes) → IfSome all P →
+    IfSome all Q
 some_as None P Q f p = tt
 some_as (Some bytes) P Q f p = f bytes p
 
@@ -71,7 +72,12 @@ pub kept : (P : List ℕ → List ℕ → Type 0) (most : ℕ) (all old between 
 kept P most None old between new is short keeps = tt
 kept P most (Some bytes) old between new is short keeps = (
   short,
-  record { text = is.text; utf8 = is.utf8; page = is.page; added = appends_kept old between new is.text is.added keeps },
+  record {
+    text = is.text;
+    utf8 = is.utf8;
+    page = is.page;
+    added = appends_kept old between new is.text is.added keeps;
+  },
 )
 
 -- and is a beginning of itself

@@ -25,11 +25,13 @@ use Rattle.page_config.specs.declared.error.Error.{Error}
 use Rattle.page_config.specs.declared.error.Error.TheVariants as errors
 
 -- a part of the first of three texts
-pub first_part : {old a : Option (List ℕ)} (front back : List ℕ) → AppendsPart old a front → AppendsPart old a (front ++ back)
+pub first_part : {old a : Option (List ℕ)} (front back : List ℕ) → AppendsPart old a front →
+    AppendsPart old a (front ++ back)
 first_part {old} {a} front back p = part_written front back (nothing_written old (front ++ back) false) p refl
 
 -- a text, and a part of the one behind it
-pub later_part : {old a b : Option (List ℕ)} (front back : List ℕ) → Appends old a front → AppendsPart a b back → AppendsPart old b (front ++ back)
+pub later_part : {old a b : Option (List ℕ)} (front back : List ℕ) → Appends old a front → AppendsPart a b back →
+    AppendsPart old b (front ++ back)
 later_part {old} {a} {b} front back added p =
     record {
       front = front ++ p.front;

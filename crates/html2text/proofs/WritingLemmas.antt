@@ -19,7 +19,8 @@ nothing_written a bytes failed = record { front = []; whole = refl; added = Appe
 
 -- a front of the rest was written, and what is behind it is left
 pub more_written : {old a b : Option (List ℕ)} {bytes rest : List ℕ} {f g h : Bool} (front after : List ℕ)
-    → IsWritten old a bytes rest f g → Appends a b front → rest ≡ front ++ after → (g ≡ true → h ≡ true) → IsWritten old b bytes after f h
+    → IsWritten old a bytes rest f g → Appends a b front → rest ≡ front ++ after → (g ≡ true → h ≡ true) →
+    IsWritten old b bytes after f h
 more_written {old} {a} {b} {bytes} {rest} front after w more at stays =
     record {
       front = w.front ++ front;
@@ -28,8 +29,10 @@ more_written {old} {a} {b} {bytes} {rest} front after w more at stays =
       stays = λ h. stays (w.stays h);
     }
 
-pub all_written : {old a : Option (List ℕ)} {bytes rest : List ℕ} {f g : Bool} → IsWritten old a bytes rest f g → rest ≡ [] → Appends old a bytes
-all_written {old} {a} {bytes} w none = subst (Appends old a) (sym (w.whole ∙ ap (λ l. w.front ++ l) none ∙ append-nil w.front)) w.added
+pub all_written : {old a : Option (List ℕ)} {bytes rest : List ℕ} {f g : Bool} → IsWritten old a bytes rest f g →
+    rest ≡ [] → Appends old a bytes
+all_written {old} {a} {bytes} w none =
+    subst (Appends old a) (sym (w.whole ∙ ap (λ l. w.front ++ l) none ∙ append-nil w.front)) w.added
 
 -- a part of the front of the rest was written
 pub part_written : {old a b : Option (List ℕ)} {bytes rest : List ℕ} {f g : Bool} (front after : List ℕ)
@@ -38,7 +41,8 @@ part_written {old} {a} {b} {bytes} {rest} front after w p at =
     record {
       front = w.front ++ p.front;
       rest = p.rest ++ after;
-      whole = w.whole ∙ ap (λ l. w.front ++ l) (at ∙ ap (λ l. l ++ after) p.whole ∙ append_assoc p.front p.rest after) ∙ sym (append_assoc w.front p.front (p.rest ++ after));
+      whole = w.whole ∙ ap (λ l. w.front ++ l) (at ∙ ap (λ l. l ++ after) p.whole ∙ append_assoc p.front p.rest after) ∙
+          sym (append_assoc w.front p.front (p.rest ++ after));
       added = Appends-trans old a b w.front p.front w.added p.added;
     }
 
@@ -63,5 +67,6 @@ pub no_bytes : (xs : List ℕ) (b : Bool) → b ≡ (length xs == 0) → b ≡ t
 no_bytes xs b is so = none_left xs (eq-eqb-back (length xs) (sym is ∙ so))
 
 -- what is left from an index on: the item there, and what is left from the next index on
-pub drop_item : {X : Type 0} (xs : List X) (i : ℕ) (x : X) → i < length xs → x ≡ get_or xs i x → drop i xs ≡ x ∷ drop (i + 1) xs
+pub drop_item : {X : Type 0} (xs : List X) (i : ℕ) (x : X) → i < length xs → x ≡ get_or xs i x →
+    drop i xs ≡ x ∷ drop (i + 1) xs
 drop_item xs i x h is = rw (add-one, drop-cons xs i x h) (ap (λ y. y ∷ drop (suc i) xs) (sym is))

@@ -1,5 +1,6 @@
 -- The value of an attribute is its characters and references in turn.
-use Rattle.std.proofs.Common.{◌≡◌, ℕ, zero, suc, ◌≤◌, Bool, true, false, cond, ◌==◌, List, [], ◌∷◌, ◌++◌, length, Option, Some, None, IfSome, refl, sym, ap, subst, ◌∙◌, arith}
+use Rattle.std.proofs.Common.{◌≡◌, ℕ, zero, suc, ◌≤◌, Bool, true, false, cond, ◌==◌, List, [], ◌∷◌, ◌++◌, length}
+use Rattle.std.proofs.Common.{Option, Some, None, IfSome, refl, sym, ap, subst, ◌∙◌, arith}
 use Rattle.std.proofs.lemmas.Bool.{eqb-true, eq-eqb, false≢true}
 use Rattle.reference_tables.specs.References.{References}
 use Rattle.html_grammar.specs.Characters.{shown}
@@ -12,23 +13,27 @@ module _ (table : References) where
   abbrev IsRead : ℕ → Type 0
   IsRead n = (cs : List ℕ) → length cs ≤ n → IsValue table cs (value_from table n cs)
 
-  is_step : (n c : ℕ) (cs : List ℕ) (b : Bool) (o : Option Found) → (c == 38) ≡ b → reference_in_value table cs ≡ o → IfSome o (λ f. length f.rest ≤ length cs) → length cs ≤ n → IsRead n
+  is_step : (n c : ℕ) (cs : List ℕ) (b : Bool) (o : Option Found) → (c == 38) ≡ b → reference_in_value table cs ≡ o →
+      IfSome o (λ f. length f.rest ≤ length cs) → length cs ≤ n → IsRead n
       → IsValue table (c ∷ cs) (value_step c cs (cond b o None) (value_from table n))
   is_step n c cs false o e r short le further =
       character c cs (value_from table n cs) (λ same. absurd (false≢true (sym e ∙ eq-eqb c 38 same))) (further cs le)
   is_step n c cs true None e r short le further = character c cs (value_from table n cs) (λ same. r) (further cs le)
   is_step n c cs true (Some found) e r short le further =
       subst (λ d. IsValue table (d ∷ cs) (found.characters ++ value_from table n found.rest)) (sym (eqb-true c 38 e))
-      (refers cs found.characters found.rest (value_from table n found.rest) found.closed r (further found.rest (omega (arith, short, le))))
+      (refers cs found.characters found.rest (value_from table n found.rest) found.closed r
+      (further found.rest (omega (arith, short, le))))
 
   is_from : (n : ℕ) → IsRead n
   is_from zero [] le = ends
   is_from zero (c ∷ cs) le = absurd (omega arith)
   is_from (suc n) [] le = ends
-  is_from (suc n) (c ∷ cs) le = is_step n c cs (c == 38) (reference_in_value table cs) refl refl (within_value table cs) (omega arith) (is_from n)
+  is_from (suc n) (c ∷ cs) le =
+      is_step n c cs (c == 38) (reference_in_value table cs) refl refl (within_value table cs) (omega arith) (is_from n)
 
   -- a step is known by what stands behind its character
-  found_there : (b : Bool) (c : ℕ) (cs : List ℕ) → (c == 38) ≡ b → (c ≡ 38 → reference_in_value table cs ≡ None) → cond b (reference_in_value table cs) None ≡ None
+  found_there : (b : Bool) (c : ℕ) (cs : List ℕ) → (c == 38) ≡ b → (c ≡ 38 → reference_in_value table cs ≡ None) →
+      cond b (reference_in_value table cs) None ≡ None
   found_there true c cs e h = h (eqb-true c 38 e)
   found_there false c cs e h = refl
 
@@ -44,7 +49,8 @@ module _ (table : References) where
       ∙ ap (λ o. value_step c cs o (value_from table n)) (sym (found_there (c == 38) c cs refl none))
   only_from _ _ (refers cs characters rest value closed found h) zero le = absurd (omega arith)
   only_from _ _ (refers cs characters rest value closed found h) (suc n) le =
-      let short : length rest ≤ length cs = subst (λ (o : Option Found). IfSome o (λ f. length f.rest ≤ length cs)) found (within_value table cs) in
+      let short : length rest ≤ length cs =
+      subst (λ (o : Option Found). IfSome o (λ f. length f.rest ≤ length cs)) found (within_value table cs) in
       ap (λ l. characters ++ l) (only_from rest value h n (omega arith))
       ∙ ap (λ o. value_step 38 cs o (value_from table n)) (sym found)
 

@@ -1,7 +1,9 @@
 -- Classes of characters that slices are made of.
 use Rattle.std.specs.Prelude.{ℕ, Bool, not, ◌==◌, ◌||◌}
 use Rattle.html_grammar.specs.declared.slices.CharacterClass.{CharacterClass}
-use Rattle.html_grammar.specs.declared.slices.CharacterClass.TheVariants.{Space, Gap, Letter, DecimalDigit, HexadecimalDigit, TagName, AttributeName, Unquoted, Lowered, Identifier}
+use Rattle.html_grammar.specs.declared.slices.CharacterClass.TheVariants.{Space, Gap, Letter, DecimalDigit}
+use Rattle.html_grammar.specs.declared.slices.CharacterClass.TheVariants.{HexadecimalDigit, TagName, AttributeName}
+use Rattle.html_grammar.specs.declared.slices.CharacterClass.TheVariants.{Unquoted, Lowered, Identifier}
 use Rattle.html_grammar.specs.Characters.{is_between, is_digit, is_letter, is_space}
 use Rattle.html_grammar.specs.Doctypes.{ends_identifier}
 use Rattle.html_grammar.specs.Tags.{ends_attribute_name, ends_tag_name, ends_unquoted, is_gap}

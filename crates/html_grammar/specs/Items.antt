@@ -3,7 +3,8 @@ use Rattle.std.specs.Prelude.{ℕ, List}
 use Rattle.html_lexemes.specs.declared.token.Tag.{Tag}
 use Rattle.html_lexemes.specs.declared.token.Doctype.{Doctype}
 use Rattle.html_lexemes.specs.declared.token.Token.{Token}
-use Rattle.html_lexemes.specs.declared.token.Token.TheVariants.{DoctypeToken, TagToken, CommentToken, CharacterTokens, NullCharacterToken, EOFToken, ParseError}
+use Rattle.html_lexemes.specs.declared.token.Token.TheVariants.{DoctypeToken, TagToken, CommentToken, CharacterTokens}
+use Rattle.html_lexemes.specs.declared.token.Token.TheVariants.{NullCharacterToken, EOFToken, ParseError}
 
 pub data Item : Type 0 where
   characters : List ℕ → Item

@@ -50,8 +50,8 @@ LexemeOf kind nothing = Unit {0}
 LexemeOf kind (told items behind rest) = AreWithin kind items × (HasMarkup behind.text → HasMarkup kind)
 LexemeOf kind (tagged t rest) = IsOf kind (tag t)
 
--- What a sink that welcomes an item keeps to: what it welcomes beside an item, it welcomes behind it; and behind a tag it
--- welcomes what is told in the text that it asked for. The end, behind which nothing is told, is left out.
+-- What a sink that welcomes an item keeps to: what it welcomes beside an item, it welcomes behind it; and behind a tag
+-- it welcomes what is told in the text that it asked for. The end, behind which nothing is told, is left out.
 pub record IsHearing {A H : Type 0} (means : Meaning A H) (welcomes : A → Item → Type 0) : Type 0 where
   pub goes_on : (state : A) (item later : Item) → IsWithin item → welcomes state item → welcomes state later →
       welcomes (means.step state item) later

@@ -1,5 +1,6 @@
 -- The grammar of a page's text (WHATWG HTML, 13.2.5): what stands first in a text, by slices of it.
-use Rattle.std.specs.Prelude.{ℕ, Bool, true, false, ◌==◌, ◌&&◌, nat_lt, if◌then◌else◌, List, [], ◌∷◌, ◌++◌, length, map, drop, codes, Option, Some, None}
+use Rattle.std.specs.Prelude.{ℕ, Bool, true, false, ◌==◌, ◌&&◌, nat_lt, if◌then◌else◌, List, [], ◌∷◌, ◌++◌, length, map}
+use Rattle.std.specs.Prelude.{drop, codes, Option, Some, None}
 use Rattle.std.specs.Str.{bytes_eq}
 use Rattle.reference_tables.specs.References.{References}
 use Rattle.html_lexemes.specs.declared.states.RawKind.{RawKind}
@@ -15,10 +16,12 @@ use Rattle.html_grammar.specs.declared.modes.Mode.{Mode}
 use Rattle.html_grammar.specs.declared.modes.TextKind.{TextKind}
 use Rattle.html_grammar.specs.declared.modes.TextKind.TheVariants.{Ordinary, Plain, Raw}
 use Rattle.html_grammar.specs.References.{Found, reference}
-use Rattle.html_grammar.specs.Slices.{Cut, after, begins, begins_word, cut, cut_or_all, first_passes, front_while, rest_while}
+use Rattle.html_grammar.specs.Slices.{Cut, after, begins, begins_word, cut, cut_or_all, first_passes, front_while}
+use Rattle.html_grammar.specs.Slices.{rest_while}
 use Rattle.html_grammar.specs.Tags.{ends_tag_name, tag_at}
 
--- nothing, at the end and in a tag that the end cuts off; some items, with the mode of what follows; or a tag, whose sink chooses that mode
+-- nothing, at the end and in a tag that the end cuts off; some items, with the mode of what follows; or a tag, whose
+-- sink chooses that mode
 pub data Lexeme : Type 0 where
   nothing : Lexeme
   told : List Item → Mode → List ℕ → Lexeme
@@ -31,14 +34,16 @@ one_character mode c rest = told (characters (c ∷ []) ∷ []) mode rest
 abbrev pub ordinary_item : ℕ → Item
 ordinary_item c = if c == 0 then null_character else characters (c ∷ [])
 
--- A reference in text (13.2.5.72): without its semicolon it is an error, told before its characters. Without a reference `&` is text.
+-- A reference in text (13.2.5.72): without its semicolon it is an error, told before its characters. Without a
+-- reference `&` is text.
 abbrev pub error_unless : Bool → List Item
 error_unless true = []
 error_unless false = error ∷ []
 
 abbrev pub reference_lexeme : Mode → List ℕ → Option Found → Lexeme
 reference_lexeme mode cs None = one_character mode 38 cs
-reference_lexeme mode cs (Some found) = told (error_unless found.closed ++ characters found.characters ∷ []) mode found.rest
+reference_lexeme mode cs (Some found) =
+    told (error_unless found.closed ++ characters found.characters ∷ []) mode found.rest
 
 abbrev pub tag_lexeme : Option (Tag × List ℕ) → Lexeme
 tag_lexeme None = nothing
@@ -54,7 +59,8 @@ doctype_lexeme mode end = told (doctype end.doctype ∷ []) mode end.rest
 abbrev pub cdata_lexeme : Mode → Cut → Lexeme
 cdata_lexeme mode cut = told (map ordinary_item cut.slice) mode cut.rest
 
--- behind `</` (13.2.5.7): a letter opens a tag, `>` ends nothing, another character opens a bogus comment; at the end `<` is text
+-- behind `</` (13.2.5.7): a letter opens a tag, `>` ends nothing, another character opens a bogus comment; at the end
+-- `<` is text
 abbrev pub behind_slash : References → Mode → List ℕ → Lexeme
 behind_slash table mode [] = one_character mode 60 (codes "/")
 behind_slash table mode (c ∷ cs) =
@@ -66,7 +72,8 @@ abbrev pub declaration : Bool → Mode → List ℕ → Lexeme
 declaration foreign mode cs =
     if begins (codes "--") cs then comment_lexeme mode (comment_slice (drop 2 cs))
     else (if begins_word (codes "doctype") cs then doctype_lexeme mode (doctype_at (drop 7 cs))
-    else (if foreign && begins (codes "[CDATA[") cs then cdata_lexeme mode (cut_or_all (cut (after (codes "]]>")) (drop 7 cs)) (drop 7 cs))
+    else (if foreign && begins (codes "[CDATA[") cs then
+    cdata_lexeme mode (cut_or_all (cut (after (codes "]]>")) (drop 7 cs)) (drop 7 cs))
     else comment_lexeme mode (bogus_comment_slice cs)))
 
 -- behind `<` in ordinary text (13.2.5.6)
@@ -83,19 +90,22 @@ ordinary_lexeme table foreign mode c cs =
     if c == 60 then markup table foreign mode cs
     else (if c == 38 then reference_lexeme mode cs (reference table cs) else told (ordinary_item c ∷ []) mode cs)
 
--- the end tag of an element's text, behind `<`: `/`, letters that are the last start tag's name, and the end of a name (13.2.5.11)
+-- the end tag of an element's text, behind `<`: `/`, letters that are the last start tag's name, and the end of a name
+-- (13.2.5.11)
 abbrev pub is_last : Option (List ℕ) → List ℕ → Bool
 is_last None name = false
 is_last (Some last) name = bytes_eq last name
 
 abbrev pub named_end_tag : Option (List ℕ) → List ℕ → List ℕ → Bool
-named_end_tag last letters rest = nat_lt 0 (length letters) && is_last last (name_of letters) && first_passes ends_tag_name rest
+named_end_tag last letters rest = nat_lt 0 (length letters) && is_last last (name_of letters)
+    && first_passes ends_tag_name rest
 
 abbrev pub ends_raw_text : Option (List ℕ) → List ℕ → Bool
-ends_raw_text last cs = begins (codes "/") cs && named_end_tag last (front_while is_letter (drop 1 cs)) (rest_while is_letter (drop 1 cs))
+ends_raw_text last cs =
+    begins (codes "/") cs && named_end_tag last (front_while is_letter (drop 1 cs)) (rest_while is_letter (drop 1 cs))
 
--- In script data `<!--` begins an escaped part, which `-->` ends; in it `<script` begins a double escaped part, which `</script` ends
--- (13.2.5.18 to 13.2.5.31). Each is one character of text, behind which the other kind of text begins.
+-- In script data `<!--` begins an escaped part, which `-->` ends; in it `<script` begins a double escaped part, which
+-- `</script` ends (13.2.5.18 to 13.2.5.31). Each is one character of text, behind which the other kind of text begins.
 abbrev pub begins_tag : List ℕ → List ℕ → Bool
 begins_tag word cs = begins_word word cs && first_passes ends_tag_name (drop (length word) cs)
 
@@ -128,7 +138,8 @@ in_kind mode kind = record mode { text = Raw kind }
 
 abbrev pub raw_lexeme : References → RawKind → Mode → ℕ → List ℕ → Lexeme
 raw_lexeme table kind mode c cs =
-    if c == 60 && has_end_tags kind && ends_raw_text mode.last_start_tag cs then tag_lexeme (tag_at table EndTag (drop 1 cs))
+    if c == 60 && has_end_tags kind && ends_raw_text mode.last_start_tag cs then
+    tag_lexeme (tag_at table EndTag (drop 1 cs))
     else (if c == 38 && has_references kind then reference_lexeme mode cs (reference table cs)
     else one_character (in_kind mode (kind_behind kind (c ∷ cs))) (shown c) cs)
 

@@ -1,4 +1,5 @@
--- How the text of a page is read: as markup, as text to its end, or as the text of an element (WHATWG HTML, 13.2.5.1 to 13.2.5.5).
+-- How the text of a page is read: as markup, as text to its end, or as the text of an element (WHATWG HTML, 13.2.5.1 to
+-- 13.2.5.5).
 use Rattle.std.specs.Prelude.{ℕ, Bool, true, false, List, Option, Some}
 use Rattle.html_lexemes.specs.declared.states.State.{State}
 use Rattle.html_lexemes.specs.declared.states.State.TheVariants as states
@@ -9,7 +10,8 @@ use Rattle.html_lexemes.specs.declared.token.Tag.{Tag}
 use Rattle.html_lexemes.specs.declared.token.TagKind.{TagKind}
 use Rattle.html_lexemes.specs.declared.token.TagKind.TheVariants.{StartTag, EndTag}
 use Rattle.html_lexemes.specs.declared.token.TokenSinkResult.{TokenSinkResult}
-use Rattle.html_lexemes.specs.declared.token.TokenSinkResult.TheVariants.{Continue, Script, Plaintext, RawData, EncodingIndicator}
+use Rattle.html_lexemes.specs.declared.token.TokenSinkResult.TheVariants.{Continue, Script, Plaintext, RawData}
+use Rattle.html_lexemes.specs.declared.token.TokenSinkResult.TheVariants.{EncodingIndicator}
 
 -- what a sink asks for by its answer to a tag
 abbrev pub text_behind : {H : Type 0} → TokenSinkResult H → TextKind
@@ -33,7 +35,8 @@ last_behind EndTag name last = last
 
 -- the mode behind a tag
 abbrev pub mode_behind : {H : Type 0} → Mode → Tag → TokenSinkResult H → Mode
-mode_behind mode t answer = record { text = text_behind answer; last_start_tag = last_behind t.kind t.name mode.last_start_tag }
+mode_behind mode t answer =
+    record { text = text_behind answer; last_start_tag = last_behind t.kind t.name mode.last_start_tag }
 
 -- the kind of text in which a page begins: plain or an element's where a state of such text is named, else ordinary
 abbrev pub text_of_state : Option State → TextKind

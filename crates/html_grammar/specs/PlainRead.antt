@@ -13,5 +13,6 @@ items_of tokens = map item_of tokens
 -- a lexeme that was read in a mode
 abbrev pub lexeme_of : Mode → Lexeme → grammar.Lexeme
 lexeme_of mode Nothing = grammar.nothing
-lexeme_of mode (Told tokens text rest) = grammar.told (items_of tokens.items) (record mode { text = text }) (chars rest.now)
+lexeme_of mode (Told tokens text rest) =
+    grammar.told (items_of tokens.items) (record mode { text = text }) (chars rest.now)
 lexeme_of mode (Tagged tag rest) = grammar.tagged tag (chars rest.now)

@@ -1,4 +1,5 @@
--- The reading of a page: its lexemes in order, folded with a sink's step, whose answers choose how the text behind a tag is read.
+-- The reading of a page: its lexemes in order, folded with a sink's step, whose answers choose how the text behind a
+-- tag is read.
 use Rattle.std.specs.Prelude.{◌≡◌, ℕ, List, [], ◌∷◌, ◌++◌, fold}
 use Rattle.reference_tables.specs.References.{References}
 use Rattle.html_lexemes.specs.declared.token.TokenSinkResult.TheVariants.{Continue}
@@ -43,8 +44,8 @@ IsAnswered (doctype d) = ⊥
 IsAnswered error = ⊥
 IsAnswered end_of_file = ⊥
 
--- What a sink keeps to: texts that follow each other are as one, an empty text changes nothing, a tag alone is answered, what a sink asks for
--- stays, and an error changes at most how a LF right behind it is taken.
+-- What a sink keeps to: texts that follow each other are as one, an empty text changes nothing, a tag alone is
+-- answered, what a sink asks for stays, and an error changes at most how a LF right behind it is taken.
 pub record IsLawful {A H : Type 0} (means : Meaning A H) (ready : A → Type 0) : Type 0 where
   pub joins : (state : A) (cs ds : List ℕ) →
       means.step (means.step state (characters cs)) (characters ds) ≡ means.step state (characters (cs ++ ds))

@@ -1,5 +1,6 @@
 -- Character references (WHATWG HTML, 13.2.5.72 to 13.2.5.80).
-use Rattle.std.specs.Prelude.{ℕ, zero, suc, ◌+◌, ◌*◌, Bool, ◌==◌, ◌&&◌, ◌||◌, not, nat_lt, if◌then◌else◌, List, [], ◌∷◌, ◌++◌, length, drop, Option, Some, None, option_map, option_and_then, fold}
+use Rattle.std.specs.Prelude.{ℕ, zero, suc, ◌+◌, ◌*◌, Bool, ◌==◌, ◌&&◌, ◌||◌, not, nat_lt, if◌then◌else◌, List, [], ◌∷◌}
+use Rattle.std.specs.Prelude.{◌++◌, length, drop, Option, Some, None, option_map, option_and_then, fold}
 use Rattle.std.specs.Option.{option_or}
 use Rattle.std.specs.List.{list_any}
 use Rattle.std.specs.Char.{digit_value}
@@ -20,7 +21,8 @@ semicolon = 59
 -- The longest name of the table that a text begins with, of those that begin with a front already read.
 abbrev pub named_here : References → List ℕ → List ℕ → Option Found
 named_here table front rest =
-    option_map (λ value. record { characters = value; closed = list_any (λ c. c == semicolon) front; rest = rest }) (finite.get table front)
+    option_map (λ value. record { characters = value; closed = list_any (λ c. c == semicolon) front; rest = rest })
+    (finite.get table front)
 
 abbrev pub named_from : References → List ℕ → List ℕ → Option Found
 named_from table front [] = named_here table front []
@@ -33,8 +35,10 @@ named table cs = named_from table [] cs
 abbrev pub windows_characters : List (ℕ × ℕ)
 windows_characters =
     (0x80, 0x20AC) ∷ (0x82, 0x201A) ∷ (0x83, 0x0192) ∷ (0x84, 0x201E) ∷ (0x85, 0x2026) ∷ (0x86, 0x2020) ∷ (0x87, 0x2021)
-    ∷ (0x88, 0x02C6) ∷ (0x89, 0x2030) ∷ (0x8A, 0x0160) ∷ (0x8B, 0x2039) ∷ (0x8C, 0x0152) ∷ (0x8E, 0x017D) ∷ (0x91, 0x2018)
-    ∷ (0x92, 0x2019) ∷ (0x93, 0x201C) ∷ (0x94, 0x201D) ∷ (0x95, 0x2022) ∷ (0x96, 0x2013) ∷ (0x97, 0x2014) ∷ (0x98, 0x02DC)
+    ∷ (0x88, 0x02C6) ∷ (0x89, 0x2030) ∷ (0x8A, 0x0160) ∷ (0x8B, 0x2039) ∷ (0x8C, 0x0152) ∷ (0x8E, 0x017D)
+    ∷ (0x91, 0x2018)
+    ∷ (0x92, 0x2019) ∷ (0x93, 0x201C) ∷ (0x94, 0x201D) ∷ (0x95, 0x2022) ∷ (0x96, 0x2013) ∷ (0x97, 0x2014)
+    ∷ (0x98, 0x02DC)
     ∷ (0x99, 0x2122) ∷ (0x9A, 0x0161) ∷ (0x9B, 0x203A) ∷ (0x9C, 0x0153) ∷ (0x9E, 0x017E) ∷ (0x9F, 0x0178) ∷ []
 
 abbrev pub listed : List (ℕ × ℕ) → ℕ → ℕ
@@ -53,7 +57,11 @@ abbrev pub numeric_of : ℕ → List ℕ → List ℕ → Option Found
 numeric_of base digits rest =
     if length digits == 0
     then None
-    else Some (record { characters = numbered (number_of base digits) ∷ []; closed = begins (semicolon ∷ []) rest; rest = if begins (semicolon ∷ []) rest then drop 1 rest else rest })
+    else Some (record {
+      characters = numbered (number_of base digits) ∷ [];
+      closed = begins (semicolon ∷ []) rest;
+      rest = if begins (semicolon ∷ []) rest then drop 1 rest else rest;
+    })
 
 abbrev pub numeric : ℕ → List ℕ → Option Found
 numeric base cs = numeric_of base (front_while (is_digit base) cs) (rest_while (is_digit base) cs)
@@ -76,7 +84,8 @@ abbrev pub kept_in_value : Found → Option Found
 kept_in_value found = if not found.closed && first_passes goes_on found.rest then None else Some found
 
 abbrev pub reference_in_value : References → List ℕ → Option Found
-reference_in_value table cs = if begins (35 ∷ []) cs then behind_number_sign (drop 1 cs) else option_and_then kept_in_value (named table cs)
+reference_in_value table cs = if begins (35 ∷ []) cs then behind_number_sign (drop 1 cs)
+    else option_and_then kept_in_value (named table cs)
 
 -- An attribute's value: its references read, and NUL shown. The number is at least the text's length.
 abbrev pub value_step : ℕ → List ℕ → Option Found → (List ℕ → List ℕ) → List ℕ

@@ -9,7 +9,8 @@ use Rattle.html_grammar.specs.Characters.{is_space, name_of, shown}
 use Rattle.html_grammar.specs.Doctypes.{is_quote}
 use Rattle.html_grammar.specs.References.{reference_in_value}
 use Rattle.html_grammar.specs.Slices.{begins, first_passes}
-use Rattle.html_grammar.specs.Tags.{attribute, ends_attribute_name, ends_tag_name, ends_unquoted, ends_with_slash, equals, greater, has_name, is_gap, tag_of, without_spaces}
+use Rattle.html_grammar.specs.Tags.{attribute, ends_attribute_name, ends_tag_name, ends_unquoted, ends_with_slash}
+use Rattle.html_grammar.specs.Tags.{equals, greater, has_name, is_gap, tag_of, without_spaces}
 
 -- some of the members of a list, in its order
 pub data IsPartOf {T : Type 0} : List T → List T → Type 0 where

@@ -1,5 +1,6 @@
 -- What the reader of tags promises of its parts.
-use Rattle.std.specs.Prelude.{ℕ, ◌+◌, Bool, ◌==◌, ◌||◌, not, if◌then◌else◌, List, [], ◌∷◌, ◌++◌, length, drop, chars, ◌≡◌}
+use Rattle.std.specs.Prelude.{ℕ, ◌+◌, Bool, ◌==◌, ◌||◌, not, if◌then◌else◌, List, [], ◌∷◌, ◌++◌, length, drop, chars}
+use Rattle.std.specs.Prelude.{◌≡◌}
 use Rattle.std.specs.List.{list_any}
 use Rattle.std.specs.Str.{bytes_eq}
 use Rattle.std.specs.BTreeSet.{BTreeSet, contains}
@@ -26,7 +27,8 @@ with_new attributes a = if is_named a.name.local attributes then attributes else
 
 -- A set has the names of the attributes behind the first few.
 abbrev pub HasLaterNames : BTreeSet LocalName → List Attribute → Type 0
-HasLaterNames later attributes = (name : List ℕ) → contains (slice_cmp nat_cmp) later name ≡ is_named name (drop SEARCHED attributes)
+HasLaterNames later attributes = (name : List ℕ) → contains (slice_cmp nat_cmp) later name
+    ≡ is_named name (drop SEARCHED attributes)
 
 -- A tag and what follows it, from what stands behind its name and its first attributes: of these some were kept, and
 -- whether another was dropped is known.
@@ -37,7 +39,8 @@ tag_from kind name kept dropped end = (
     name = name;
     self_closing = end.self_closing;
     attrs = first_of_each kept end.attributes;
-    had_duplicate_attributes = dropped || not (length (first_of_each kept end.attributes) == length kept + length end.attributes);
+    had_duplicate_attributes =
+        dropped || not (length (first_of_each kept end.attributes) == length kept + length end.attributes);
   },
   end.rest,
 )

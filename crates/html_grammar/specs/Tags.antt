@@ -1,5 +1,6 @@
 -- Tags and their attributes (WHATWG HTML, 13.2.5.8 and 13.2.5.32 to 13.2.5.40).
-use Rattle.std.specs.Prelude.{ℕ, zero, suc, Bool, false, ◌==◌, ◌||◌, not, if◌then◌else◌, List, [], ◌∷◌, ◌++◌, length, drop, Option, Some, None, option_map, option_and_then}
+use Rattle.std.specs.Prelude.{ℕ, zero, suc, Bool, false, ◌==◌, ◌||◌, not, if◌then◌else◌, List, [], ◌∷◌, ◌++◌, length}
+use Rattle.std.specs.Prelude.{drop, Option, Some, None, option_map, option_and_then}
 use Rattle.std.specs.List.{list_any}
 use Rattle.std.specs.Str.{bytes_eq}
 use Rattle.reference_tables.specs.References.{References}
@@ -43,7 +44,10 @@ written_value [] = Some (record { slice = []; rest = [] })
 written_value (c ∷ cs) =
     if c == 34 || c == 39
     then cut (after (c ∷ [])) cs
-    else Some (record { slice = front_while (λ d. not (ends_unquoted d)) (c ∷ cs); rest = rest_while (λ d. not (ends_unquoted d)) (c ∷ cs) })
+    else Some (record {
+      slice = front_while (λ d. not (ends_unquoted d)) (c ∷ cs);
+      rest = rest_while (λ d. not (ends_unquoted d)) (c ∷ cs);
+    })
 
 -- behind an attribute's name, over spaces, an optional `=` and, over spaces, a value
 abbrev pub value_behind : List ℕ → Option Cut
@@ -59,10 +63,15 @@ attribute name value = record { name = record { ns = Other []; local = name }; v
 -- The attribute that begins with a character, which belongs to its name, also `=`; and what follows it.
 abbrev pub attribute_at : References → ℕ → List ℕ → Option (Attribute × List ℕ)
 attribute_at table c cs =
-    option_map (λ value. (attribute (name_of (c ∷ front_while (λ d. not (ends_attribute_name d)) cs)) (value_of table value.slice), value.rest))
+    option_map
+    (λ value. (
+      attribute (name_of (c ∷ front_while (λ d. not (ends_attribute_name d)) cs)) (value_of table value.slice),
+      value.rest,
+    ))
     (value_behind (rest_while (λ d. not (ends_attribute_name d)) cs))
 
--- what stands behind a tag's name: its attributes as they are written, whether `/` stands directly before its `>`, and what follows
+-- what stands behind a tag's name: its attributes as they are written, whether `/` stands directly before its `>`, and
+-- what follows
 pub record TagEnd : Type 0 where
   pub attributes : List Attribute
   pub self_closing : Bool
@@ -76,7 +85,8 @@ abbrev pub ends_with_slash : List ℕ → Bool
 ends_with_slash [] = false
 ends_with_slash (c ∷ cs) = if length cs == 0 then c == slash else ends_with_slash cs
 
--- Over a gap, the end of the tag or an attribute: none where the text ends in the tag. The number is more than the text's length.
+-- Over a gap, the end of the tag or an attribute: none where the text ends in the tag. The number is more than the
+-- text's length.
 abbrev pub behind_gap : References → Bool → List ℕ → (List ℕ → Option TagEnd) → Option TagEnd
 behind_gap table closes [] further = None
 behind_gap table closes (c ∷ cs) further =
@@ -86,7 +96,8 @@ behind_gap table closes (c ∷ cs) further =
 
 abbrev pub tag_end_from : References → ℕ → List ℕ → Option TagEnd
 tag_end_from table zero cs = None
-tag_end_from table (suc n) cs = behind_gap table (ends_with_slash (front_while is_gap cs)) (rest_while is_gap cs) (tag_end_from table n)
+tag_end_from table (suc n) cs =
+    behind_gap table (ends_with_slash (front_while is_gap cs)) (rest_while is_gap cs) (tag_end_from table n)
 
 abbrev pub tag_end : References → List ℕ → Option TagEnd
 tag_end table cs = tag_end_from table (suc (length cs)) cs

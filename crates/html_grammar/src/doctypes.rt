@@ -1,6 +1,7 @@
 ghost use Rattle.std.specs.Prelude.{◌≡◌, ◌∷◌, [], chars, option_map, false, true, IfOk, IfSome, MatchOption};
 ghost use Rattle.std.specs.Str.{IsUtf8};
-ghost use Rattle.html_grammar.specs.Doctypes.{behind_keyword, behind_public, behind_system, doctype_at, ends_here, is_quote, public_at, skipped, system_at, with_quirks};
+ghost use Rattle.html_grammar.specs.Doctypes.{behind_keyword, behind_public, behind_system, doctype_at, ends_here};
+ghost use Rattle.html_grammar.specs.Doctypes.{is_quote, public_at, skipped, system_at, with_quirks};
 ghost use Rattle.html_grammar.specs.Read.{doctype_and_rest};
 ghost use Rattle.html_grammar.specs.Slices.{after, first_passes};
 
@@ -105,7 +106,8 @@ fn system_at(
 
 // the quote that a text begins with, and what follows it
 fn behind_opening_quote(text: &str) -> Option<(char, &str)>
-    ensures value { MatchOption result (first_passes is_quote (chars text.now) ≡ false) (λ r. (chars text.now ≡ r.0 ∷ chars r.1.now) × (is_quote r.0 ≡ true)) }
+    ensures value { MatchOption result (first_passes is_quote (chars text.now) ≡ false)
+        (λ r. (chars text.now ≡ r.0 ∷ chars r.1.now) × (is_quote r.0 ≡ true)) }
     ensures utf8 { IfSome result (λ r. IsUtf8 r.1.now) }
 {
     let (first, rest) = first_and_rest(text)?;

@@ -3,7 +3,10 @@ ghost use Rattle.std.specs.Str.{IsUtf8};
 ghost use Rattle.html_grammar.specs.Characters.{is_letter, shown};
 ghost use Rattle.html_grammar.specs.Doctypes.{doctype_at};
 ghost use Rattle.html_grammar.specs.Items.{characters, item_of};
-ghost use Rattle.html_grammar.specs.Lexemes.{begins_tag, behind_slash, cdata_lexeme, comment_lexeme, declaration, doctype_lexeme, ends_raw_text, has_end_tags, has_references, is_last, kind_behind, lexeme, markup, named_end_tag, ordinary_item, ordinary_lexeme, raw_lexeme, reference_lexeme, tag_lexeme, told};
+ghost use Rattle.html_grammar.specs.Lexemes.{begins_tag, behind_slash, cdata_lexeme, comment_lexeme, declaration};
+ghost use Rattle.html_grammar.specs.Lexemes.{doctype_lexeme, ends_raw_text, has_end_tags, has_references, is_last};
+ghost use Rattle.html_grammar.specs.Lexemes.{kind_behind, lexeme, markup, named_end_tag, ordinary_item};
+ghost use Rattle.html_grammar.specs.Lexemes.{ordinary_lexeme, raw_lexeme, reference_lexeme, tag_lexeme, told};
 ghost use Rattle.html_grammar.specs.PlainRead.{items_of, lexeme_of};
 ghost use Rattle.html_grammar.specs.Slices.{after, begins, cut, cut_or_all, first_passes, front_while, rest_while};
 ghost use Rattle.html_grammar.specs.Tags.{ends_tag_name, tag_at};
@@ -64,7 +67,8 @@ fn told_one(
     text: TextKind,
     rest: &str,
 ) -> Result<Lexeme<'_>, AllocError>
-    ensures value { IfOk result (λ l. (mode : SeenMode) → lexeme_of mode l ≡ told (item_of token ∷ []) (record mode { text = text }) (chars rest.now)) }
+    ensures value { IfOk result (λ l. (mode : SeenMode) → lexeme_of mode l
+        ≡ told (item_of token ∷ []) (record mode { text = text }) (chars rest.now)) }
     ensures utf8 { IfOk result HasRest }
 {
     let mut tokens = Vec::new(alloc);
@@ -79,7 +83,8 @@ fn one_character(
     c: char,
     rest: &str,
 ) -> Result<Lexeme<'_>, AllocError>
-    ensures value { IfOk result (λ l. (mode : SeenMode) → lexeme_of mode l ≡ told (characters (c ∷ []) ∷ []) (record mode { text = text }) (chars rest.now)) }
+    ensures value { IfOk result (λ l. (mode : SeenMode) → lexeme_of mode l
+        ≡ told (characters (c ∷ []) ∷ []) (record mode { text = text }) (chars rest.now)) }
     ensures utf8 { IfOk result HasRest }
 {
     told_one(
@@ -107,7 +112,8 @@ fn ordinary<'t>(
     c: char,
     rest: &'t str,
 ) -> Result<Lexeme<'t>, AllocError>
-    ensures value { IfOk result (λ l. lexeme_of mode.now l ≡ ordinary_lexeme table.now foreign mode.now c (chars rest.now)) }
+    ensures value { IfOk result (λ l. lexeme_of mode.now l
+        ≡ ordinary_lexeme table.now foreign mode.now c (chars rest.now)) }
     ensures utf8 { IfOk result HasRest }
 {
     match c {
@@ -125,7 +131,8 @@ pub fn reference_or_sign<'t>(
     mode: &Mode,
     rest: &'t str,
 ) -> Result<Lexeme<'t>, AllocError>
-    ensures value { IfOk result (λ l. lexeme_of mode.now l ≡ reference_lexeme mode.now (chars rest.now) (reference table.now (chars rest.now))) }
+    ensures value { IfOk result (λ l. lexeme_of mode.now l ≡ reference_lexeme mode.now (chars rest.now)
+        (reference table.now (chars rest.now))) }
     ensures utf8 { IfOk result HasRest }
 {
     let Some(found) = reference(alloc, table, rest)? else {
@@ -268,7 +275,8 @@ pub fn doctype<'t>(alloc: Global, mode: &Mode, text: &'t str) -> Result<Lexeme<'
 
 // what follows the opening of a CDATA section, where one may stand
 fn section_text(foreign: bool, text: &str) -> Option<&str>
-    ensures value { option_map (λ rest. chars rest.now) result ≡ (if foreign && begins (codes "[CDATA[") (chars text.now) then Some (drop 7 (chars text.now)) else None) }
+    ensures value { option_map (λ rest. chars rest.now) result
+        ≡ (if foreign && begins (codes "[CDATA[") (chars text.now) then Some (drop 7 (chars text.now)) else None) }
     ensures utf8 { IfSome result (λ rest. IsUtf8 rest.now) }
 {
     if !foreign {
@@ -277,10 +285,11 @@ fn section_text(foreign: bool, text: &str) -> Option<&str>
     behind(text, "[CDATA[")
 }
 
-/// The text of a CDATA section, from behind its opening, and what follows it (WHATWG HTML, 13.2.5.69). The error is want of
-/// memory alone.
+/// The text of a CDATA section, from behind its opening, and what follows it (WHATWG HTML, 13.2.5.69). The error is
+/// want of memory alone.
 pub fn section<'t>(alloc: Global, mode: &Mode, text: &'t str) -> Result<Lexeme<'t>, AllocError>
-    ensures value { IfOk result (λ l. lexeme_of mode.now l ≡ cdata_lexeme mode.now (cut_or_all (cut (after (codes "]]>")) (chars text.now)) (chars text.now))) }
+    ensures value { IfOk result (λ l. lexeme_of mode.now l
+        ≡ cdata_lexeme mode.now (cut_or_all (cut (after (codes "]]>")) (chars text.now)) (chars text.now))) }
     ensures utf8 { IfOk result HasRest }
 {
     let (slice, rest) = cut_at(text, "]]>").unwrap_or((text, ""));
@@ -309,8 +318,8 @@ fn ordinary_token(alloc: Global, c: char) -> Result<Token, AllocError>
     Ok(Token::CharacterTokens(text_of(alloc, c)?))
 }
 
-/// What stands first in the text of an element, at its first character (WHATWG HTML, 13.2.5.2 to 13.2.5.4). The error is want
-/// of memory alone.
+/// What stands first in the text of an element, at its first character (WHATWG HTML, 13.2.5.2 to 13.2.5.4). The error
+/// is want of memory alone.
 pub fn raw<'t>(
     alloc: Global,
     table: &ReferenceTable,
@@ -347,7 +356,8 @@ fn end_tag_name<'t>(
     rest: &'t str,
 ) -> Result<Option<&'t str>, AllocError>
     ensures value { IfOk result (λ name. option_map (λ text. chars text.now) name
-        ≡ (if c == 60 && has_end_tags kind && ends_raw_text mode.now.last_start_tag (chars rest.now) then Some (drop 1 (chars rest.now)) else None)) }
+        ≡ (if c == 60 && has_end_tags kind && ends_raw_text mode.now.last_start_tag (chars rest.now) then
+        Some (drop 1 (chars rest.now)) else None)) }
     ensures utf8 { IfOk result (λ name. IfSome name (λ text. IsUtf8 text.now)) }
 {
     if c != '<' || !has_end_tags(kind) {
@@ -380,7 +390,8 @@ fn has_end_tags(kind: RawKind) -> bool
 
 // whether letters that are the last start tag's name stand here, and the name ends there
 fn begins_with_last(alloc: Global, last: &Option<LocalName>, text: &str) -> Result<bool, AllocError>
-    ensures { IfOk result (λ b. b ≡ named_end_tag last.now (front_while is_letter (chars text.now)) (rest_while is_letter (chars text.now))) }
+    ensures { IfOk result (λ b. b ≡ named_end_tag last.now (front_while is_letter (chars text.now))
+        (rest_while is_letter (chars text.now))) }
 {
     let (letters, rest) = split_while(text, CharacterClass::Letter);
     if first_and_rest(letters).is_none() || !ends_name(rest) {

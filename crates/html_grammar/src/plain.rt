@@ -63,8 +63,8 @@ pub fn text_of_state(state: Option<State>) -> TextKind
     }
 }
 
-/// Tells what stands in a text before its end, each token at a line, and passes over pauses that the sink asks for. The error is
-/// want of memory; then nothing is known of the sink.
+/// Tells what stands in a text before its end, each token at a line, and passes over pauses that the sink asks for. The
+/// error is want of memory; then nothing is known of the sink.
 pub fn tell_lexemes<S: TokenSink>(
     alloc: Global,
     sink: &mut S,
@@ -108,7 +108,8 @@ pub fn tell_tokens<S: TokenSink>(
     requires welcome { AreWelcome S.welcomes (S.state sink.old) (items_of tokens.items) }
     ensures memory { IfErr result (λ e. e ≡ Memory) }
     ensures ready { OnOk result (S.ready (S.state sink.new)) }
-    ensures hears { OnOk result ((item : Item) → S.welcomes (S.state sink.old) item → S.welcomes (S.state sink.new) item) }
+    ensures hears { OnOk result ((item : Item) → S.welcomes (S.state sink.old) item →
+        S.welcomes (S.state sink.new) item) }
     ensures told { OnOk result (S.state sink.new ≡ fold S.means.step (S.state sink.old) (items_of tokens.items)) }
 {
     'tokens: for token in tokens {
@@ -171,7 +172,8 @@ fn page_text(alloc: Global, discard_mark: bool, text: &str) -> Result<String, Al
 
 // adds a character of a text, from which what follows it is taken: a CR before a LF goes, and another is a LF
 fn push_ended(page: &mut String, c: char, rest: &str) -> Result<(), AllocError>
-    ensures { OnOk result (chars (string_bytes page.new) ++ lines_ended (chars rest.now) ≡ chars (string_bytes page.old) ++ lines_ended (c ∷ chars rest.now)) }
+    ensures { OnOk result (chars (string_bytes page.new) ++ lines_ended (chars rest.now)
+        ≡ chars (string_bytes page.old) ++ lines_ended (c ∷ chars rest.now)) }
 {
     if c != '\r' {
         return page.push(c);

@@ -1,4 +1,5 @@
-ghost use Rattle.std.specs.Prelude.{◌≡◌, ◌==◌, ◌||◌, ◌≤◌, if◌then◌else◌, chars, not, option_map, true, IfOk, IfSome, IsTrue};
+ghost use Rattle.std.specs.Prelude.{◌≡◌, ◌==◌, ◌||◌, ◌≤◌, if◌then◌else◌, chars, not, option_map, true, IfOk, IfSome};
+ghost use Rattle.std.specs.Prelude.{IsTrue};
 ghost use Rattle.std.specs.Char.{IsScalar};
 ghost use Rattle.std.specs.List.{list_all, list_any};
 ghost use Rattle.std.specs.Str.{IsUtf8};
@@ -6,7 +7,8 @@ ghost use Rattle.reference_tables.specs.References.{References};
 ghost use Rattle.html_grammar.specs.Characters.{is_alphanumeric, is_digit};
 ghost use Rattle.html_grammar.specs.Classes.{is_of};
 ghost use Rattle.html_grammar.specs.Read.{found_of};
-ghost use Rattle.html_grammar.specs.References.{behind_number_sign, named, number_of, numbered, numeric, reference, reference_in_value, value_of};
+ghost use Rattle.html_grammar.specs.References.{behind_number_sign, named, number_of, numbered, numeric, reference};
+ghost use Rattle.html_grammar.specs.References.{reference_in_value, value_of};
 ghost use Rattle.html_grammar.specs.Slices.{first_passes};
 
 use crate::characters::shown_character;
@@ -66,7 +68,8 @@ pub fn reference_in_value<'t>(
 
 // whether a name is a reference in a value too
 fn is_kept(found: &Found<'_>) -> bool
-    ensures { result ≡ (found.now.closed || not (first_passes (λ c. c == 61 || is_alphanumeric c) (chars found.now.rest.now))) }
+    ensures { result
+        ≡ (found.now.closed || not (first_passes (λ c. c == 61 || is_alphanumeric c) (chars found.now.rest.now))) }
 {
     found.closed || !goes_on(found.rest)
 }
@@ -106,7 +109,8 @@ fn reference_behind<'t>(
     c: char,
     text: &'t str,
 ) -> Result<Option<Found<'t>>, AllocError>
-    ensures value { IfOk result (λ found. option_map found_of found ≡ (if c == 38 then reference_in_value table.now (chars text.now) else None)) }
+    ensures value { IfOk result (λ found. option_map found_of found
+        ≡ (if c == 38 then reference_in_value table.now (chars text.now) else None)) }
     ensures utf8 { IfOk result (λ found. IfSome found (λ f. IsUtf8 f.rest.now)) }
 {
     if c == '&' {

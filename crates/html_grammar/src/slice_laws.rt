@@ -7,7 +7,8 @@ ghost use Rattle.html_grammar.specs.Slices.{Cut, HasNoMark, IsShortest, cut};
 
 /// A cut stands before the first mark of a text, and a text without a cut has no mark.
 pub fn cut_is_shortest()
-    ensures shortest { (mark : List ℕ → Option (List ℕ)) (cs : List ℕ) (c : Cut) → cut mark cs ≡ Some c → IsShortest mark cs c }
+    ensures shortest { (mark : List ℕ → Option (List ℕ)) (cs : List ℕ) (c : Cut) → cut mark cs ≡ Some c →
+        IsShortest mark cs c }
     ensures no_mark { (mark : List ℕ → Option (List ℕ)) (cs : List ℕ) → cut mark cs ≡ None → HasNoMark mark cs }
 {}
 

@@ -1,4 +1,5 @@
-ghost use Rattle.std.specs.Prelude.{◌≡◌, ℕ, List, ◌∷◌, ◌++◌, ◌||◌, ◌&&◌, true, take, chars, option_map, IfOk, IfSome, OnOk, string_bytes};
+ghost use Rattle.std.specs.Prelude.{◌≡◌, ℕ, List, ◌∷◌, ◌++◌, ◌||◌, ◌&&◌, true, take, chars, option_map, IfOk, IfSome};
+ghost use Rattle.std.specs.Prelude.{OnOk, string_bytes};
 ghost use Rattle.std.specs.Char.{to_ascii_lowercase};
 ghost use Rattle.std.specs.Str.{IsUtf8, bytes_eq};
 ghost use Rattle.std.specs.Bool.{nat_le};
@@ -118,7 +119,8 @@ fn add_later(
     before: usize,
     name: &LocalName,
 ) -> Result<(), AllocError>
-    ensures { OnOk result ((other : List ℕ) → contains (slice_cmp nat_cmp) later.new other ≡ (contains (slice_cmp nat_cmp) later.old other || (nat_le SEARCHED before && bytes_eq name.now other))) }
+    ensures { OnOk result ((other : List ℕ) → contains (slice_cmp nat_cmp) later.new other
+        ≡ (contains (slice_cmp nat_cmp) later.old other || (nat_le SEARCHED before && bytes_eq name.now other))) }
 {
     if before < SEARCHED {
         return Ok(());

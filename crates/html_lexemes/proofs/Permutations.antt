@@ -1,12 +1,14 @@
 -- Lists in which each element stands equally often are permutations of one another.
-use Rattle.std.proofs.Common.{◌≡◌, ℕ, ◌+◌, ◌<◌, Bool, true, false, cond, ◌&&◌, ◌==◌, List, [], ◌∷◌, ◌++◌, refl, sym, ap, ◌∙◌, subst, inl, inr, arith}
+use Rattle.std.proofs.Common.{◌≡◌, ℕ, ◌+◌, ◌<◌, Bool, true, false, cond, ◌&&◌, ◌==◌, List, [], ◌∷◌, ◌++◌, refl, sym, ap}
+use Rattle.std.proofs.Common.{◌∙◌, subst, inl, inr, arith}
 use Rattle.std.specs.Bool.{Decides}
 use Rattle.std.specs.List.{list_all}
 use Rattle.std.specs.List.Sorted.{IsPermutation}
 use Rattle.std.proofs.lemmas.Bool.{cases_lt, and_parts, cases_Bool}
 use Rattle.std.proofs.lemmas.Bool.Decides.{nat_tests}
 use Rattle.std.proofs.lemmas.List.Sums.{sum_by-cons, sum_by-append}
-use Rattle.std.proofs.lemmas.List.Sorted.{IsPermutation-refl, IsPermutation-sym, IsPermutation-trans, IsPermutation-cons, IsPermutation-middle, sum_by-IsPermutation}
+use Rattle.std.proofs.lemmas.List.Sorted.{IsPermutation-refl, IsPermutation-sym, IsPermutation-trans}
+use Rattle.std.proofs.lemmas.List.Sorted.{IsPermutation-cons, IsPermutation-middle, sum_by-IsPermutation}
 use Rattle.html_lexemes.specs.Counts.{count_of, stand_as_often}
 
 module _ {A : Type 0} (equal : A → A → Bool) (decides : (a b : A) → Decides (equal a b) (a ≡ b)) where
@@ -35,7 +37,8 @@ module _ {A : Type 0} (equal : A → A → Bool) (decides : (a b : A) → Decide
         | inr e ↦ of_member p xs a q.1 (omega (arith, count-cons a x xs, one_other x a e))
       ]
 
-  same_count : (a : A) (xs ys : List A) → (0 < count_of equal a xs → count_of equal a xs ≡ count_of equal a ys) → (0 < count_of equal a ys → count_of equal a ys ≡ count_of equal a xs) → count_of equal a xs ≡ count_of equal a ys
+  same_count : (a : A) (xs ys : List A) → (0 < count_of equal a xs → count_of equal a xs ≡ count_of equal a ys) →
+      (0 < count_of equal a ys → count_of equal a ys ≡ count_of equal a xs) → count_of equal a xs ≡ count_of equal a ys
   same_count a xs ys f g = elim (cases_lt 0 (count_of equal a xs)) [
     | inl h ↦ f h
     | inr h ↦ elim (cases_lt 0 (count_of equal a ys)) [ inl k ↦ sym (g k) | inr k ↦ omega arith ]
@@ -55,25 +58,37 @@ module _ {A : Type 0} (equal : A → A → Bool) (decides : (a b : A) → Decide
         record { front = x ∷ s.front; back = s.back; is = ap (λ ys. x ∷ ys) s.is }
   ]
 
-  count-split : (a z : A) (front back : List A) → count_of equal z (front ++ a ∷ back) ≡ one a z + count_of equal z (front ++ back)
-  count-split a z front back = omega (arith, count-append z front (a ∷ back), count-cons z a back, count-append z front back)
+  count-split : (a z : A) (front back : List A) → count_of equal z (front ++ a ∷ back)
+      ≡ one a z + count_of equal z (front ++ back)
+  count-split a z front back =
+      omega (arith, count-append z front (a ∷ back), count-cons z a back, count-append z front back)
 
   permuted : (xs ys : List A) → ((a : A) → count_of equal a xs ≡ count_of equal a ys) → IsPermutation xs ys
   permuted [] [] h = IsPermutation-refl []
   permuted [] (y ∷ ys) h = absurd (omega (arith, h y, count-cons y y ys, one_self y))
   permuted (x ∷ xs) ys h =
       let s = split x ys (omega (arith, h x, count-cons x x xs, one_self x)) in
-      let rest = permuted xs (s.front ++ s.back) (λ a. omega (arith, h a, count-cons a x xs, ap (count_of equal a) s.is, count-split x a s.front s.back)) in
+      let rest =
+      permuted xs (s.front ++ s.back) (λ a. omega (
+        arith,
+        h a,
+        count-cons a x xs,
+        ap (count_of equal a) s.is,
+        count-split x a s.front s.back,
+      )) in
       subst (IsPermutation (x ∷ xs)) (sym s.is)
-      (IsPermutation-trans (x ∷ xs) (x ∷ (s.front ++ s.back)) (s.front ++ x ∷ s.back) (IsPermutation-cons x xs (s.front ++ s.back) rest)
+      (IsPermutation-trans (x ∷ xs) (x ∷ (s.front ++ s.back)) (s.front ++ x ∷ s.back)
+      (IsPermutation-cons x xs (s.front ++ s.back) rest)
       (IsPermutation-sym (s.front ++ x ∷ s.back) (x ∷ (s.front ++ s.back)) (IsPermutation-middle s.front x s.back)))
 
-  pub permuted_from_counts : (xs ys : List A) → stand_as_often equal xs ys ≡ true → stand_as_often equal ys xs ≡ true → IsPermutation xs ys
+  pub permuted_from_counts : (xs ys : List A) → stand_as_often equal xs ys ≡ true → stand_as_often equal ys xs ≡ true →
+      IsPermutation xs ys
   permuted_from_counts xs ys e f = permuted xs ys (λ a. same_count a xs ys
       (λ c. let t = of_member (λ b. count_of equal b xs == count_of equal b ys) xs a e c in grind (arith, nat_tests))
       (λ c. let t = of_member (λ b. count_of equal b ys == count_of equal b xs) ys a f c in grind (arith, nat_tests)))
 
-  all_same : (ws xs ys : List A) → ((a : A) → count_of equal a xs ≡ count_of equal a ys) → list_all (λ a. count_of equal a xs == count_of equal a ys) ws ≡ true
+  all_same : (ws xs ys : List A) → ((a : A) → count_of equal a xs ≡ count_of equal a ys) →
+      list_all (λ a. count_of equal a xs == count_of equal a ys) ws ≡ true
   all_same [] xs ys h = refl
   all_same (w ∷ ws) xs ys h =
       let e : (count_of equal w xs == count_of equal w ys) ≡ true = let k = h w in grind (arith, nat_tests) in

@@ -1,9 +1,14 @@
 -- What calls on the bytes of a text say of a queue's characters.
-use Rattle.std.proofs.Common.{◌≡◌, ℕ, ◌+◌, ◌-◌, ◌^◌, ◌<◌, ◌≤◌, min, Bool, true, false, cond, IsTrue, List, [], ◌∷◌, ◌++◌, length, take, drop, eqb, Some, Result, Ok, Err, is_ok, OnOk, IsUtf8, chars, refl, sym, ap, subst, ◌∙◌, arith, length-append, length-drop, append_assoc, encode_utf8, encode_utf8_all, slice_get, String, string_bytes}
+use Rattle.std.proofs.Common.{◌≡◌, ℕ, ◌+◌, ◌-◌, ◌^◌, ◌<◌, ◌≤◌, min, Bool, true, false, cond, IsTrue, List, [], ◌∷◌}
+use Rattle.std.proofs.Common.{◌++◌, length, take, drop, eqb, Some, Result, Ok, Err, is_ok, OnOk, IsUtf8, chars, refl}
+use Rattle.std.proofs.Common.{sym, ap, subst, ◌∙◌, arith, length-append, length-drop, append_assoc, encode_utf8}
+use Rattle.std.proofs.Common.{encode_utf8_all, slice_get, String, string_bytes}
 use Rattle.std.proofs.lemmas.Bool.{eqb-true, eq-eqb}
 use Rattle.std.proofs.lemmas.List.{take-append-drop, drop_all, drop_at, drop-append-le, drop-drop, length-take-le}
 use Rattle.std.proofs.lemmas.Option.{none-some, same_Some}
-use Rattle.std.proofs.lemmas.Str.{chars-append, chars-nil, chars_past_char, encodes-chars, drop_past_char, IsUtf8-append, IsUtf8-drop, IsUtf8-take, IsCharBoundary-from_drop, IsCharBoundary-past_char}
+use Rattle.std.proofs.lemmas.Str.{chars-append, chars-nil, chars_past_char, encodes-chars, drop_past_char}
+use Rattle.std.proofs.lemmas.Str.{IsUtf8-append, IsUtf8-drop, IsUtf8-take, IsCharBoundary-from_drop}
+use Rattle.std.proofs.lemmas.Str.{IsCharBoundary-past_char}
 use Rattle.std.specs.Char.{len_utf8}
 use Rattle.std.specs.Str.{IsCharBoundary}
 use Rattle.std.specs.String.{string_len}
@@ -22,7 +27,8 @@ some_left (c ∷ cs) h = omega arith
 pub queue_same : {l m : List ℕ} {a b : ℕ} → l ≡ m → a ≡ b → queue_of l a ≡ queue_of m b
 queue_same {l} {m} {a} {b} e f = ap (λ (k : List ℕ). queue_of k a) e ∙ ap (λ (n : ℕ). queue_of m n) f
 
-pub Takes-from : (old : Queue) (cs left : List ℕ) (had count taken : ℕ) → cs ++ left ≡ old.text → had ≡ old.taken → count ≡ length cs → taken ≡ min (had + count) (2 ^ 64 - 1)
+pub Takes-from : (old : Queue) (cs left : List ℕ) (had count taken : ℕ) → cs ++ left ≡ old.text → had ≡ old.taken →
+    count ≡ length cs → taken ≡ min (had + count) (2 ^ 64 - 1)
     → Takes old cs (queue_of left taken)
 Takes-from old cs left had count taken e h n t = record { text = sym e; taken = rw (← h, ← n) t }
 
@@ -37,12 +43,15 @@ ends_at bs start size u cut e = (
   λ none. let gone = no_characters (drop start bs) (IsUtf8-drop bs start u cut) none in eq-eqb start size (omega (arith, ap length gone, length-drop start bs, cut.0)),
 )
 
-begins_by : (cs bs : List ℕ) (c : ℕ) → encode_utf8_all cs ≡ bs → slice_get cs 0 ≡ Some c → (rest : List ℕ) × (bs ≡ encode_utf8 c ++ rest)
+begins_by : (cs bs : List ℕ) (c : ℕ) → encode_utf8_all cs ≡ bs → slice_get cs 0 ≡ Some c →
+    (rest : List ℕ) × (bs ≡ encode_utf8 c ++ rest)
 begins_by [] bs c e first = absurd (none-some c first)
-begins_by (d ∷ ds) bs c e first = (encode_utf8_all ds, sym e ∙ ap (λ x. encode_utf8 x ++ encode_utf8_all ds) (same_Some d c first))
+begins_by (d ∷ ds) bs c e first =
+    (encode_utf8_all ds, sym e ∙ ap (λ x. encode_utf8 x ++ encode_utf8_all ds) (same_Some d c first))
 
 -- a text begins with its first character
-pub begins : (bs : List ℕ) (c : ℕ) → IsUtf8 bs → slice_get (chars bs) 0 ≡ Some c → (rest : List ℕ) × (bs ≡ encode_utf8 c ++ rest)
+pub begins : (bs : List ℕ) (c : ℕ) → IsUtf8 bs → slice_get (chars bs) 0 ≡ Some c →
+    (rest : List ℕ) × (bs ≡ encode_utf8 c ++ rest)
 begins bs c u first = begins_by (chars bs) bs c (encodes-chars bs u) first
 
 -- the place behind the first character of what is left
@@ -50,52 +59,67 @@ pub record IsPastFirst (bs : List ℕ) (start c past : ℕ) : Type 0 where
   pub boundary : IsCharBoundary bs past
   pub parts : (c ∷ []) ++ chars (drop past bs) ≡ chars (drop start bs)
 
-pub past_first : (bs : List ℕ) (start c width : ℕ) → IsUtf8 bs → IsCharBoundary bs start → slice_get (chars (drop start bs)) 0 ≡ Some c → width ≡ len_utf8 c → IsPastFirst bs start c (start + width)
+pub past_first : (bs : List ℕ) (start c width : ℕ) → IsUtf8 bs → IsCharBoundary bs start →
+    slice_get (chars (drop start bs)) 0 ≡ Some c → width ≡ len_utf8 c → IsPastFirst bs start c (start + width)
 past_first bs start c width u cut first e =
     let text = IsUtf8-drop bs start u cut in
     let begun = begins (drop start bs) c text first in
     rw e
     (record {
       boundary = IsCharBoundary-past_char bs begun.0 start c cut.0 text begun.1;
-      parts = ap (λ l. c ∷ chars l) (drop_past_char bs begun.0 start c begun.1) ∙ sym (chars_past_char (drop start bs) begun.0 c text begun.1);
+      parts = ap (λ l. c ∷ chars l) (drop_past_char bs begun.0 start c begun.1) ∙
+          sym (chars_past_char (drop start bs) begun.0 c text begun.1);
     })
 
 -- what is left, cut at one of its places
-pub past_place : (bs rest : List ℕ) (start size : ℕ) → IsUtf8 rest → rest ≡ drop start bs → IsCharBoundary rest size → chars (take size rest) ++ chars (drop (start + size) bs) ≡ chars (drop start bs)
+pub past_place : (bs rest : List ℕ) (start size : ℕ) → IsUtf8 rest → rest ≡ drop start bs → IsCharBoundary rest size →
+    chars (take size rest) ++ chars (drop (start + size) bs) ≡ chars (drop start bs)
 past_place bs rest start size u e cut =
     ap (λ l. chars (take size rest) ++ chars l) (sym (drop-drop size start bs) ∙ ap (drop size) (sym e))
     ∙ sym (chars-append (take size rest) (drop size rest) (IsUtf8-take rest size u cut))
     ∙ ap chars (take-append-drop size rest ∙ e)
 
 -- a run at the front of what is left
-pub past_run : (bs rest run : List ℕ) (start size : ℕ) → IsUtf8 rest → rest ≡ drop start bs → run ≡ take (length run) rest → IsCharBoundary rest (length run) → size ≡ length run
+pub past_run : (bs rest run : List ℕ) (start size : ℕ) → IsUtf8 rest → rest ≡ drop start bs →
+    run ≡ take (length run) rest → IsCharBoundary rest (length run) → size ≡ length run
     → chars run ++ chars (drop (start + size) bs) ≡ chars (drop start bs)
 past_run bs rest run start size u e front cut s =
-    rw s (ap (λ l. chars l ++ chars (drop (start + length run) bs)) front ∙ past_place bs rest start (length run) u e cut)
+    rw s (ap (λ l. chars l ++ chars (drop (start + length run) bs)) front ∙ past_place bs rest start
+    (length run) u e cut)
 
 -- a place in a text is one in what the text grows to
-pub IsCharBoundary-append : (bs ys : List ℕ) (i : ℕ) → IsUtf8 bs → IsUtf8 ys → IsCharBoundary bs i → IsCharBoundary (bs ++ ys) i
+pub IsCharBoundary-append : (bs ys : List ℕ) (i : ℕ) → IsUtf8 bs → IsUtf8 ys → IsCharBoundary bs i →
+    IsCharBoundary (bs ++ ys) i
 IsCharBoundary-append bs ys i u v cut =
     IsCharBoundary-from_drop (bs ++ ys) i (omega (arith, length-append bs ys, cut.0))
     (rw (drop-append-le i bs ys cut.0) (IsUtf8-append (drop i bs) ys (IsUtf8-drop bs i u cut) v))
 
-pub pushed_boundary : (bs ys new : List ℕ) (i : ℕ) (done : Bool) → IsUtf8 bs → IsUtf8 ys → new ≡ cond done (bs ++ ys) bs → IsCharBoundary bs i → IsCharBoundary new i
-pushed_boundary bs ys new i true u v e cut = subst (λ l. IsCharBoundary l i) (sym e) (IsCharBoundary-append bs ys i u v cut)
+pub pushed_boundary : (bs ys new : List ℕ) (i : ℕ) (done : Bool) → IsUtf8 bs → IsUtf8 ys →
+    new ≡ cond done (bs ++ ys) bs → IsCharBoundary bs i → IsCharBoundary new i
+pushed_boundary bs ys new i true u v e cut =
+    subst (λ l. IsCharBoundary l i) (sym e) (IsCharBoundary-append bs ys i u v cut)
 pushed_boundary bs ys new i false u v e cut = subst (λ l. IsCharBoundary l i) (sym e) cut
 
 -- what is left after a text was added behind it
-pub pushed_rest : {T E : Type 0} (r : Result T E) (bs ys new : List ℕ) (i : ℕ) (left : List ℕ) (taken had : ℕ) → IsUtf8 bs → IsCharBoundary bs i → new ≡ cond (is_ok r) (bs ++ ys) bs → chars (drop i bs) ≡ left → taken ≡ had
+pub pushed_rest : {T E : Type 0} (r : Result T E) (bs ys new : List ℕ) (i : ℕ) (left : List ℕ) (taken had : ℕ) →
+    IsUtf8 bs → IsCharBoundary bs i → new ≡ cond (is_ok r) (bs ++ ys) bs → chars (drop i bs) ≡ left → taken ≡ had
     → OnOk r (queue_of (chars (drop i new)) taken ≡ queue_of (left ++ chars ys) had)
 pushed_rest (Ok x) bs ys new i left taken had u cut e l t =
-    queue_same (ap (λ k. chars (drop i k)) e ∙ ap chars (drop-append-le i bs ys cut.0) ∙ chars-append (drop i bs) ys (IsUtf8-drop bs i u cut) ∙ ap (λ k. k ++ chars ys) l) t
+    queue_same (ap (λ k. chars (drop i k)) e ∙ ap chars (drop-append-le i bs ys cut.0) ∙
+    chars-append (drop i bs) ys (IsUtf8-drop bs i u cut) ∙ ap (λ k. k ++ chars ys) l) t
 pushed_rest (Err x) bs ys new i left taken had u cut e l t = tt
 
 -- what is left after a text at the end of what was taken was put back
-pub put_back : (bs front added : List ℕ) (start size : ℕ) → IsUtf8 added → start ≤ length bs → front ≡ take start bs → size ≡ length added → size ≤ length front → front ≡ take (length front - size) front ++ added
+pub put_back : (bs front added : List ℕ) (start size : ℕ) → IsUtf8 added → start ≤ length bs → front ≡ take start bs →
+    size ≡ length added → size ≤ length front → front ≡ take (length front - size) front ++ added
     → chars (drop (start - size) bs) ≡ chars added ++ chars (drop start bs)
 put_back bs front added start size u low e s fits ends =
     let kept : List ℕ = take (length front - size) front in
     let long : length front ≡ start = ap length e ∙ length-take-le start bs low in
-    let short : length kept ≡ start - size = length-take-le (length front - size) front (omega arith) ∙ ap (λ n. n - size) long in
-    let whole : bs ≡ kept ++ (added ++ drop start bs) = sym (take-append-drop start bs) ∙ ap (λ l. l ++ drop start bs) (sym e ∙ ends) ∙ append_assoc kept added (drop start bs) in
-    ap (λ l. chars (drop (start - size) l)) whole ∙ ap chars (drop_at kept (added ++ drop start bs) (start - size) short) ∙ chars-append added (drop start bs) u
+    let short : length kept ≡ start - size =
+    length-take-le (length front - size) front (omega arith) ∙ ap (λ n. n - size) long in
+    let whole : bs ≡ kept ++ (added ++ drop start bs) =
+    sym (take-append-drop start bs) ∙ ap (λ l. l ++ drop start bs) (sym e ∙ ends) ∙
+    append_assoc kept added (drop start bs) in
+    ap (λ l. chars (drop (start - size) l)) whole ∙
+    ap chars (drop_at kept (added ++ drop start bs) (start - size) short) ∙ chars-append added (drop start bs) u

@@ -28,7 +28,8 @@ namespace_decides Svg (Other u) = (λ e. cc, λ e. cc)
 namespace_decides (Other t) Html = (λ e. cc, λ e. cc)
 namespace_decides (Other t) MathMl = (λ e. cc, λ e. cc)
 namespace_decides (Other t) Svg = (λ e. cc, λ e. cc)
-namespace_decides (Other t) (Other u) = (λ e. ap Other ((bytes_eq-Decides t u).0 e), λ e. (bytes_eq-Decides t u).1 (let same : t ≡ u = cc in same))
+namespace_decides (Other t) (Other u) =
+    (λ e. ap Other ((bytes_eq-Decides t u).0 e), λ e. (bytes_eq-Decides t u).1 (let same : t ≡ u = cc in same))
 
 both_true : (x y : Bool) → x ≡ true → y ≡ true → (x && y) ≡ true
 both_true x y p q = ap₂ (λ a b. a && b) p q
@@ -41,7 +42,9 @@ unfolding make_name
 name_decides a b = (
   (λ e. let p = and_parts (namespaces.it a.ns b.ns) (bytes_eq a.local b.local) e in
       ap₂ make_name ((namespace_decides a.ns b.ns).0 p.0) ((bytes_eq-Decides a.local b.local).0 p.1)),
-  (λ e. both_true (namespaces.it a.ns b.ns) (bytes_eq a.local b.local) ((namespace_decides a.ns b.ns).1 (ap (λ n. n.ns) e)) ((bytes_eq-Decides a.local b.local).1 (ap (λ n. n.local) e))),
+  (λ e. both_true (namespaces.it a.ns b.ns) (bytes_eq a.local b.local)
+      ((namespace_decides a.ns b.ns).1 (ap (λ n. n.ns) e))
+      ((bytes_eq-Decides a.local b.local).1 (ap (λ n. n.local) e))),
 )
 
 make_attribute : QualName → List ℕ → Attribute
@@ -52,5 +55,7 @@ unfolding make_attribute
 attribute_decides a b = (
   (λ e. let p = and_parts (names.it a.name b.name) (bytes_eq a.value b.value) e in
       ap₂ make_attribute ((name_decides a.name b.name).0 p.0) ((bytes_eq-Decides a.value b.value).0 p.1)),
-  (λ e. both_true (names.it a.name b.name) (bytes_eq a.value b.value) ((name_decides a.name b.name).1 (ap (λ n. n.name) e)) ((bytes_eq-Decides a.value b.value).1 (ap (λ n. n.value) e))),
+  (λ e. both_true (names.it a.name b.name) (bytes_eq a.value b.value)
+      ((name_decides a.name b.name).1 (ap (λ n. n.name) e))
+      ((bytes_eq-Decides a.value b.value).1 (ap (λ n. n.value) e))),
 )

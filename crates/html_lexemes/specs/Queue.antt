@@ -1,5 +1,6 @@
 -- A queue of characters as one text, with a count of what was taken from it.
-use Rattle.std.specs.Prelude.{◌≡◌, ℕ, ◌+◌, ◌^◌, ◌-◌, min, Bool, true, false, not, ◌==◌, List, [], ◌∷◌, ◌++◌, length, Option, Some, None, refl}
+use Rattle.std.specs.Prelude.{◌≡◌, ℕ, ◌+◌, ◌^◌, ◌-◌, min, Bool, true, false, not, ◌==◌, List, [], ◌∷◌, ◌++◌, length}
+use Rattle.std.specs.Prelude.{Option, Some, None, refl}
 use Rattle.std.specs.List.{list_any, list_all}
 use Rattle.std.specs.Coded.{Coded, code_by, coded×, coded_ℕ, coded_list}
 
@@ -11,7 +12,8 @@ pub record Queue : Type 0 where
 -- a queue is stored as the pair of its fields
 abbrev pub queue_code : Coded Queue
 queue_code =
-    code_by (List ℕ × ℕ) (coded× (coded_list coded_ℕ) coded_ℕ) (λ q. (q.text, q.taken)) (λ p. record { text = p.0; taken = p.1 }) (λ _. refl)
+    code_by (List ℕ × ℕ) (coded× (coded_list coded_ℕ) coded_ℕ) (λ q. (q.text, q.taken))
+    (λ p. record { text = p.0; taken = p.1 }) (λ _. refl)
 
 -- a count and one for each of some characters
 abbrev pub counted : ℕ → List ℕ → ℕ
@@ -64,7 +66,8 @@ pub record Differs (alike : ℕ → ℕ → Bool → Type 0) (text pattern : Lis
   pub same : IsAlike alike front begun
   pub differs : alike found wanted false
 
--- What `eat` answers: none exactly where the text ends inside a match, and then nothing is taken; true and the match is taken; or false, and nothing is.
+-- What `eat` answers: none exactly where the text ends inside a match, and then nothing is taken; true and the match is
+-- taken; or false, and nothing is.
 abbrev pub Eats : (ℕ → ℕ → Bool → Type 0) → Queue → List ℕ → Option Bool → Queue → Type 0
 Eats alike old pattern None new = EndsInside alike old.text pattern × (new ≡ old)
 Eats alike old pattern (Some true) new = Eaten alike old pattern new

@@ -9,7 +9,8 @@ abbrev pub PopsExcept : List ℕ → Queue → Option SetResult → Queue → Ty
 PopsExcept set old None new = (old.text ≡ []) × (new ≡ old)
 PopsExcept set old (Some (FromSet c)) new = Takes old (c ∷ []) new × IsTrue (is_in set c)
 PopsExcept set old (Some (NotFromSet run)) new =
-    Takes old (chars (string_bytes run)) new × (0 < length (chars (string_bytes run))) × IsTrue (is_free_of set (chars (string_bytes run)))
+    Takes old (chars (string_bytes run)) new × (0 < length (chars (string_bytes run)))
+    × IsTrue (is_free_of set (chars (string_bytes run)))
 
 -- a run of characters outside the set was taken, and stands behind what the text was before
 pub record PopsRun (set : List ℕ) (old : Queue) (before : List ℕ) (new : Queue) (behind : List ℕ) : Type 0 where

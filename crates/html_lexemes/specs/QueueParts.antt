@@ -1,5 +1,6 @@
 -- What the parts of a queue's calls do, on the bytes of a text.
-use Rattle.std.specs.Prelude.{◌≡◌, ℕ, ◌<◌, Bool, true, false, ◌||◌, nat_lt, nat_le, IsTrue, List, length, take, chars, Some, slice_get, slice_index_or}
+use Rattle.std.specs.Prelude.{◌≡◌, ℕ, ◌<◌, Bool, true, false, ◌||◌, nat_lt, nat_le, IsTrue, List, length, take, chars}
+use Rattle.std.specs.Prelude.{Some, slice_get, slice_index_or}
 use Rattle.std.specs.Str.{IsCharBoundary}
 use Rattle.html_lexemes.specs.Queue.{is_in, is_free_of, IsAlike, EndsInside, Differs}
 use Rattle.html_lexemes.specs.declared.queue.Compared.{Compared}

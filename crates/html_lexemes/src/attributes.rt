@@ -93,8 +93,8 @@ impl Attributes {
         }
     }
 
-    /// Shares the attributes with the copies that are made of them from now on, which then take no memory, and no time in
-    /// step with the list. The error is want of memory alone; without attributes there is none.
+    /// Shares the attributes with the copies that are made of them from now on, which then take no memory, and no time
+    /// in step with the list. The error is want of memory alone; without attributes there is none.
     pub fn share(&mut self) -> Result<(), AllocError>
         ensures { self.new ≡ self.old }
     {

@@ -1,4 +1,5 @@
-ghost use Rattle.std.specs.Prelude.{◌≡◌, ◌<◌, ◌↔◌, [], ◌∷◌, ◌++◌, length, drop, chars, string_bytes, slice_get, IsTrue, IfOk, IfSome, OnOk, OnErr, MatchOption};
+ghost use Rattle.std.specs.Prelude.{◌≡◌, ◌<◌, ◌↔◌, [], ◌∷◌, ◌++◌, length, drop, chars, string_bytes, slice_get, IsTrue};
+ghost use Rattle.std.specs.Prelude.{IfOk, IfSome, OnOk, OnErr, MatchOption};
 ghost use Rattle.std.specs.Char.{IsScalar};
 ghost use Rattle.std.specs.Str.{IsCharBoundary};
 ghost use Rattle.html_lexemes.specs.Queue.{Takes, Eats};
@@ -84,7 +85,8 @@ impl BufferQueue {
 
     /// Takes the first character. `None` is an empty queue.
     pub fn next(&mut self) -> Option<char>
-        ensures takes { MatchOption result ((self.old.text ≡ []) × (self.new ≡ self.old)) (λ c. Takes self.old (c ∷ []) self.new) }
+        ensures takes { MatchOption result ((self.old.text ≡ []) × (self.new ≡ self.old))
+            (λ c. Takes self.old (c ∷ []) self.new) }
         ensures scalar { IfSome result IsScalar }
     {
         let c = self.peek()?;
@@ -112,7 +114,10 @@ impl BufferQueue {
 
     /// Adds a text behind what is left. The error is want of memory alone, and leaves the queue as it was.
     pub fn push_back(&mut self, text: String) -> Result<(), AllocError>
-        ensures ok { OnOk result (self.new ≡ record { text = self.old.text ++ chars (string_bytes text); taken = self.old.taken }) }
+        ensures ok { OnOk result (self.new ≡ record {
+          text = self.old.text ++ chars (string_bytes text);
+          taken = self.old.taken;
+        }) }
         ensures err { OnErr result (self.new ≡ self.old) }
     {
         if self.is_empty() {
@@ -127,7 +132,10 @@ impl BufferQueue {
     /// Puts a text before what is left. The error is want of memory alone, and leaves the queue as it was.
     /// To put back what was just taken takes no memory, and no time for what is left.
     pub fn push_front(&mut self, text: String) -> Result<(), AllocError>
-        ensures ok { OnOk result (self.new ≡ record { text = chars (string_bytes text) ++ self.old.text; taken = self.old.taken }) }
+        ensures ok { OnOk result (self.new ≡ record {
+          text = chars (string_bytes text) ++ self.old.text;
+          taken = self.old.taken;
+        }) }
         ensures err { OnErr result (self.new ≡ self.old) }
     {
         if self.is_empty() {

@@ -16,10 +16,15 @@ pub emptied_text : (reader : Reader) → HoldsNothing reader → is_of_text read
 emptied_text reader h = ap is_of_text h.place
 
 no_bytes : (reader : Reader) → HoldsNothing reader → string_bytes reader.pending.held ≡ []
-no_bytes reader h = sym (encodes-chars (string_bytes reader.pending.held) (IsUtf8-string_bytes reader.pending.held)) ∙ ap encode_utf8_all h.held
+no_bytes reader h =
+    sym (encodes-chars (string_bytes reader.pending.held) (IsUtf8-string_bytes reader.pending.held)) ∙
+    ap encode_utf8_all h.held
 
 pub emptied_pending : (reader : Reader) → HoldsNothing reader →
-    (is_open reader.pending.place && length (string_bytes reader.pending.held) == 0 && length (string_bytes reader.run) == 0) ≡ true
+    (is_open reader.pending.place && length (string_bytes reader.pending.held) == 0
+    && length (string_bytes reader.run) == 0) ≡ true
 emptied_pending reader h =
-    all_three (is_open reader.pending.place) (length (string_bytes reader.pending.held) == 0) (length (string_bytes reader.run) == 0)
-    (ap is_open h.place) (ap (λ (l : List ℕ). length l == 0) (no_bytes reader h)) (ap (λ (l : List ℕ). length l == 0) h.run)
+    all_three (is_open reader.pending.place) (length (string_bytes reader.pending.held) == 0)
+    (length (string_bytes reader.run) == 0)
+    (ap is_open h.place) (ap (λ (l : List ℕ). length l == 0) (no_bytes reader h))
+    (ap (λ (l : List ℕ). length l == 0) h.run)

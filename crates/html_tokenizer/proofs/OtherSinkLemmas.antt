@@ -19,5 +19,6 @@ goes_on_as state means ready welcomes tokenizer sink holds same =
       works = refl;
       fit = λ fit goes_on. subst (λ now. IsFitReader ready welcomes tokenizer.reader now) (sym same) (fit goes_on);
       completes = λ rest final does. subst
-          (λ now. Reads tokenizer.table means tokenizer.reader now (page_rest tokenizer.line_ends rest) final) same does;
+          (λ now. Reads tokenizer.table means tokenizer.reader now (page_rest tokenizer.line_ends rest) final) same
+          does;
     }

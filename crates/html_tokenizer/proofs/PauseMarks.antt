@@ -1,5 +1,6 @@
 -- The last character before a pause is a tag's `>`.
-use Rattle.std.proofs.Common.{◌≡◌, ℕ, Bool, true, false, cond, ◌==◌, List, [], ◌∷◌, ◌++◌, append-nil, append_assoc, Option, Some, None, IfSome, refl, sym, ap, ◌∙◌, subst}
+use Rattle.std.proofs.Common.{◌≡◌, ℕ, Bool, true, false, cond, ◌==◌, List, [], ◌∷◌, ◌++◌, append-nil, append_assoc}
+use Rattle.std.proofs.Common.{Option, Some, None, IfSome, refl, sym, ap, ◌∙◌, subst}
 use Rattle.html_lexemes.specs.LineEnds.{lines_ended}
 use Rattle.html_lexemes.specs.Queue.{Queue, Takes}
 use Rattle.reference_tables.specs.References.{References}
@@ -35,20 +36,26 @@ same_last held front c d e = sym (last_is 0 held c) ∙ (ap (last_or 0) e ∙ la
 
 -- a tag ends with its `>`
 abbrev pub TagsEndWithMark : Type 0
-TagsEndWithMark = (table : References) (foreign : Bool) (mode : Mode) (place : Place) (cs : List ℕ) (t : Tag) (rest : List ℕ) →
+TagsEndWithMark =
+    (table : References) (foreign : Bool) (mode : Mode) (place : Place) (cs : List ℕ) (t : Tag) (rest : List ℕ) →
     place_lexeme table foreign mode place cs ≡ tagged t rest → (front : List ℕ) × (cs ≡ front ++ greater ∷ rest)
 
 -- What is over with a character, and is answered, is a tag.
-by_lexeme : {H : Type 0} (table : References) (foreign : Bool) (mode : Mode) (place : Place) (held : List ℕ) (c : ℕ) (pause : Option H) (l : Lexeme) → TagsEndWithMark →
-    place_lexeme table foreign mode place (held ++ c ∷ []) ≡ l → LeavesText l → (IsUntagged l → pause ≡ None) → IfSome pause (λ _. c ≡ greater)
-by_lexeme table foreign mode place held c pause nothing law e left untagged = subst (λ p. IfSome p (λ _. c ≡ greater)) (sym (untagged tt)) tt
-by_lexeme table foreign mode place held c pause (told items behind rest) law e left untagged = subst (λ p. IfSome p (λ _. c ≡ greater)) (sym (untagged tt)) tt
+by_lexeme : {H : Type 0} (table : References) (foreign : Bool) (mode : Mode) (place : Place) (held : List ℕ) (c : ℕ)
+    (pause : Option H) (l : Lexeme) → TagsEndWithMark →
+    place_lexeme table foreign mode place (held ++ c ∷ []) ≡ l → LeavesText l → (IsUntagged l → pause ≡ None) →
+    IfSome pause (λ _. c ≡ greater)
+by_lexeme table foreign mode place held c pause nothing law e left untagged =
+    subst (λ p. IfSome p (λ _. c ≡ greater)) (sym (untagged tt)) tt
+by_lexeme table foreign mode place held c pause (told items behind rest) law e left untagged =
+    subst (λ p. IfSome p (λ _. c ≡ greater)) (sym (untagged tt)) tt
 by_lexeme table foreign mode place held c None (tagged t rest) law e left untagged = tt
 by_lexeme table foreign mode place held c (Some pause) (tagged t rest) law e left untagged =
     let found = law table foreign mode place (held ++ c ∷ []) t [] (e ∙ ap (tagged t) left) in
     same_last held found.0 c greater found.1
 
-pub pause_mark : {H : Type 0} (table : References) (foreign : Bool) (mode : Mode) (place last : Place) (held now : List ℕ) (c : ℕ) (pause : Option H) → TagsEndWithMark →
+pub pause_mark : {H : Type 0} (table : References) (foreign : Bool) (mode : Mode) (place last : Place)
+    (held now : List ℕ) (c : ℕ) (pause : Option H) → TagsEndWithMark →
     IsTaken table foreign mode place held c last now → LeavesText (place_lexeme table foreign mode last now) →
     (IsUntagged (place_lexeme table foreign mode last now) → pause ≡ None) → IfSome pause (λ _. c ≡ greater)
 pause_mark table foreign mode place last held now c pause law taken left untagged =
@@ -92,17 +99,22 @@ pub record HasTaken {A : Type 0} (completes now : List ℕ → A → Type 0) (ol
 pub has_taken_none : {A : Type 0} (completes : List ℕ → A → Type 0) (old : Queue) → HasTaken completes completes old old
 has_taken_none completes old = record { taken = []; takes = refl; reads = λ rest final l. l }
 
-pub has_taken_more : {A : Type 0} (completes now after : List ℕ → A → Type 0) (old between new : Queue) (c : ℕ) → HasTaken completes now old between →
-    Takes between (c ∷ []) new → ((rest : List ℕ) (final : A) → after rest final → now (c ∷ rest) final) → HasTaken completes after old new
+pub has_taken_more : {A : Type 0} (completes now after : List ℕ → A → Type 0) (old between new : Queue) (c : ℕ) →
+    HasTaken completes now old between →
+    Takes between (c ∷ []) new → ((rest : List ℕ) (final : A) → after rest final → now (c ∷ rest) final) →
+    HasTaken completes after old new
 has_taken_more completes now after old between new c h t f = record {
   taken = h.taken ++ c ∷ [];
   takes = each_more old h.taken between new c h.takes t;
-  reads = λ rest final l. subst (λ x. completes x final) (sym (append_assoc h.taken (c ∷ []) rest)) (h.reads (c ∷ rest) final (f rest final l));
+  reads = λ rest final l. subst (λ x. completes x final) (sym (append_assoc h.taken (c ∷ []) rest))
+      (h.reads (c ∷ rest) final (f rest final l));
 }
 
 pub pauses_behind : {S A H : Type 0} (state : S → A) (means : Meaning A H) (mark c : ℕ) (begun : A)
-    (completes : List ℕ → A → Type 0) (old now after : Queue) (before : Tokenizer S) → HasTaken completes (inside.Completes state means before) old now →
-    TellsOn means begun (state before.sink) → inside.IsUndecided before → Takes now (c ∷ []) after → c ≡ mark → PausesBehind state means mark begun completes old after
+    (completes : List ℕ → A → Type 0) (old now after : Queue) (before : Tokenizer S) →
+    HasTaken completes (inside.Completes state means before) old now →
+    TellsOn means begun (state before.sink) → inside.IsUndecided before → Takes now (c ∷ []) after → c ≡ mark →
+    PausesBehind state means mark begun completes old after
 unfolding Completes IsUndecided
 pauses_behind state means mark c begun completes old now after before h on undecided t e = record {
   taken = h.taken;

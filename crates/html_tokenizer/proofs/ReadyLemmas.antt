@@ -16,9 +16,13 @@ use Rattle.html_tokenizer.specs.Tells.{AreUnanswered}
 module _ {A H : Type 0} (means : Meaning A H) (ready : A → Type 0) (welcomes : A → Item → Type 0)
     (lawful : IsLawful means ready) (hearing : IsHearing means welcomes) where
   -- behind an item that is of the text
-  pub ready_behind : (kind : TextKind) (old new : A) (item : Item) → IsReadyFor ready welcomes kind old → IsWithin item → IsOf kind item → new ≡ means.step old item → IsReadyFor ready welcomes kind new
+  pub ready_behind : (kind : TextKind) (old new : A) (item : Item) → IsReadyFor ready welcomes kind old →
+      IsWithin item → IsOf kind item → new ≡ means.step old item → IsReadyFor ready welcomes kind new
   ready_behind kind old new item r w o e = subst (IsReadyFor ready welcomes kind) (sym e)
-      (record { is_ready = lawful.keeps old item r.is_ready; hears = λ later i. hearing.goes_on old item later w (r.hears item o) (r.hears later i) })
+      (record {
+        is_ready = lawful.keeps old item r.is_ready;
+        hears = λ later i. hearing.goes_on old item later w (r.hears item o) (r.hears later i);
+      })
 
 -- no text of a kind that is told is answered
 unanswered : (item : Item) → IsWithin item → ¬ (IsAnswered item)
@@ -39,9 +43,11 @@ pub placed_text : (kind : TextKind) (place : Place) → place ≡ NoLexeme → I
 placed_text kind place e = subst (IsPlaceOf kind) (sym e) tt
 
 -- what a lexeme of a kind tells is of it
-pub told_kind : (kind : TextKind) (l : Lexeme) (items : List Item) (behind : Mode) (rest : List ℕ) → LexemeOf kind l → l ≡ told items behind rest →
+pub told_kind : (kind : TextKind) (l : Lexeme) (items : List Item) (behind : Mode) (rest : List ℕ) → LexemeOf kind l →
+    l ≡ told items behind rest →
     AreWithin kind items × (HasMarkup behind.text → HasMarkup kind)
 told_kind kind l items behind rest h e = subst (LexemeOf kind) e h
 
-pub tagged_kind : (kind : TextKind) (l : Lexeme) (t : Tag) (rest : List ℕ) → LexemeOf kind l → l ≡ tagged t rest → IsOf kind (tag t)
+pub tagged_kind : (kind : TextKind) (l : Lexeme) (t : Tag) (rest : List ℕ) → LexemeOf kind l → l ≡ tagged t rest →
+    IsOf kind (tag t)
 tagged_kind kind l t rest h e = subst (LexemeOf kind) e h

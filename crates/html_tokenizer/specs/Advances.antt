@@ -25,11 +25,15 @@ IsLeft (Ends last text) at = at ≡ Text
 IsLeft (EndsBefore last text) at = at ≡ Text
 
 abbrev pub Advances : References → Bool → Mode → Place → List ℕ → ℕ → Advance → Place → List ℕ → Type 0
-Advances table foreign mode place held c Goes at now = IsTaken table foreign mode place held c at now × IsGoing table mode.last_start_tag at now
+Advances table foreign mode place held c Goes at now =
+    IsTaken table foreign mode place held c at now × IsGoing table mode.last_start_tag at now
 Advances table foreign mode place held c (Ends last text) at now =
-    IsTaken table foreign mode place held c last (chars (string_bytes text)) × IsOver table foreign mode last (chars (string_bytes text)) []
+    IsTaken table foreign mode place held c last (chars (string_bytes text))
+    × IsOver table foreign mode last (chars (string_bytes text)) []
 Advances table foreign mode place held c (EndsBefore last text) at now =
-    (last ≡ place) × ((chars (string_bytes text) ≡ held) × (IsOver table foreign mode place held (c ∷ []) × IsUntagged (place_lexeme table foreign mode place held)))
+    (last ≡ place)
+    × ((chars (string_bytes text) ≡ held) × (IsOver table foreign mode place held (c ∷ [])
+    × IsUntagged (place_lexeme table foreign mode place held)))
 
 -- a place in an element's text of a kind
 abbrev pub IsRawPlace : RawKind → Place → Type 0
@@ -38,12 +42,15 @@ IsRawPlace kind _ = ⊥
 
 -- the same in the text of an element, where the last start tag is that of the mode
 abbrev pub RawAdvances : References → Bool → Mode → RawKind → List ℕ → ℕ → RawAdvance → Place → List ℕ → Type 0
-RawAdvances table foreign mode kind held c RawGoes at now = (now ≡ held ++ c ∷ []) × (IsRawPlace kind at × IsGoing table mode.last_start_tag at now)
+RawAdvances table foreign mode kind held c RawGoes at now =
+    (now ≡ held ++ c ∷ []) × (IsRawPlace kind at × IsGoing table mode.last_start_tag at now)
 RawAdvances table foreign mode kind held c (Before text behind) at now =
     (at ≡ Text) × ((now ≡ []) × ((chars (string_bytes text) ≡ held) × IsTextBefore table mode kind held behind c))
 RawAdvances table foreign mode kind held c (Shifts text behind) at now =
-    IsShifted table mode kind (held ++ c ∷ []) (chars text.now) behind now × (IsRawPlace behind at × IsGoing table mode.last_start_tag at now)
-RawAdvances table foreign mode kind held c EndTag at now = IsEndTag table foreign mode kind held c now × (at ≡ Tag EndTagKind TagName)
+    IsShifted table mode kind (held ++ c ∷ []) (chars text.now) behind now
+    × (IsRawPlace behind at × IsGoing table mode.last_start_tag at now)
+RawAdvances table foreign mode kind held c EndTag at now =
+    IsEndTag table foreign mode kind held c now × (at ≡ Tag EndTagKind TagName)
 
 -- what a further character leads to is in text of a kind
 abbrev pub IsWithinKind : TextKind → Advance → Place → Type 0

@@ -3,7 +3,8 @@
 use Rattle.std.specs.Prelude.{◌≡◌, ℕ, Bool, false, List, [], ◌∷◌, ◌++◌, Option}
 use Rattle.html_lexemes.specs.Queue.{Queue, Takes}
 use Rattle.reference_tables.specs.References.{References}
-use Rattle.html_lexemes.specs.declared.token.TokenSinkResult.TheVariants.{Script as AskedScript, EncodingIndicator as AskedEncoding}
+use Rattle.html_lexemes.specs.declared.token.TokenSinkResult.TheVariants.{Script as AskedScript}
+use Rattle.html_lexemes.specs.declared.token.TokenSinkResult.TheVariants.{EncodingIndicator as AskedEncoding}
 use Rattle.html_grammar.specs.Items.{Item}
 use Rattle.html_grammar.specs.Meaning.{Meaning}
 use Rattle.html_grammar.specs.declared.modes.Mode.{Mode}

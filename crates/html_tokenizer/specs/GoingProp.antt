@@ -6,11 +6,15 @@ use Rattle.lexeme_places.specs.Goings.{IsGoing}
 use Rattle.html_tokenizer.specs.Holdings.{HoldsUnless, held_of}
 use Rattle.lexeme_places.specs.SoundProp.{IsSound-prop}
 use Rattle.lexeme_places.specs.declared.place.Place.{Place}
-use Rattle.lexeme_places.specs.declared.place.Place.TheVariants.{Text, CharacterReference, TagOpen, EndTagOpen, Tag, MarkupDeclarationOpen, BogusComment, Comment, Doctype, CdataSection, RawText}
-use Rattle.lexeme_places.specs.declared.place.ReferencePlace.TheVariants.{Named, Numeric, HexadecimalStart, Decimal, Hexadecimal}
+use Rattle.lexeme_places.specs.declared.place.Place.TheVariants.{Text, CharacterReference, TagOpen, EndTagOpen, Tag}
+use Rattle.lexeme_places.specs.declared.place.Place.TheVariants.{MarkupDeclarationOpen, BogusComment, Comment, Doctype}
+use Rattle.lexeme_places.specs.declared.place.Place.TheVariants.{CdataSection, RawText}
+use Rattle.lexeme_places.specs.declared.place.ReferencePlace.TheVariants.{Named, Numeric, HexadecimalStart, Decimal}
+use Rattle.lexeme_places.specs.declared.place.ReferencePlace.TheVariants.{Hexadecimal}
 use Rattle.html_tokenizer.specs.declared.reader.Reader.{Reader}
 
-pub IsGoing-prop : (table : References) (last : Option (List ℕ)) (place : Place) (held : List ℕ) → IsProp (IsGoing table last place held)
+pub IsGoing-prop : (table : References) (last : Option (List ℕ)) (place : Place) (held : List ℕ) →
+    IsProp (IsGoing table last place held)
 IsGoing-prop table last Text held = IsSound-prop Text held
 IsGoing-prop table last (CharacterReference Named) [] = hlevel props
 IsGoing-prop table last (CharacterReference Named) (c ∷ cs) = hlevel props
@@ -30,4 +34,5 @@ IsGoing-prop table last (RawText kind place) held = hlevel props
 
 pub HoldsUnless-prop : (over : Bool) (table : References) (reader : Reader) → IsProp (HoldsUnless over table reader)
 HoldsUnless-prop true table reader = hlevel props
-HoldsUnless-prop false table reader = IsGoing-prop table reader.mode.last_start_tag reader.pending.place (held_of reader)
+HoldsUnless-prop false table reader =
+    IsGoing-prop table reader.mode.last_start_tag reader.pending.place (held_of reader)

@@ -15,7 +15,8 @@ abbrev pub Holds : References → Reader → Type 0
 Holds table reader = IsGoing table reader.mode.last_start_tag reader.pending.place (held_of reader)
 
 abbrev pub HoldsRaw : Reader → Type 0
-HoldsRaw reader = (kind : RawKind) (place : RawPlace) → reader.pending.place ≡ RawText kind place → IsTrue (is_raw_going reader.mode.last_start_tag kind place (held_of reader))
+HoldsRaw reader = (kind : RawKind) (place : RawPlace) → reader.pending.place ≡ RawText kind place →
+    IsTrue (is_raw_going reader.mode.last_start_tag kind place (held_of reader))
 
 -- where it has not come to the end, and no call was refused
 abbrev pub HoldsUnless : Bool → References → Reader → Type 0

@@ -14,7 +14,8 @@ use Rattle.lexeme_places.specs.declared.place.Place.TheVariants.{CdataSection}
 use Rattle.html_tokenizer.specs.declared.line_ends.LineEnds.{LineEnds}
 use Rattle.html_tokenizer.specs.declared.reader.Pause.{Pause}
 use Rattle.html_tokenizer.specs.declared.reader.Reader.{Reader}
-use Rattle.html_tokenizer.specs.declared.reader.Pause.TheVariants.{Script as PauseScript, EncodingIndicator as PauseEncoding}
+use Rattle.html_tokenizer.specs.declared.reader.Pause.TheVariants.{Script as PauseScript}
+use Rattle.html_tokenizer.specs.declared.reader.Pause.TheVariants.{EncodingIndicator as PauseEncoding}
 use Rattle.html_tokenizer.specs.declared.results.TokenizerResult.{TokenizerResult}
 use Rattle.html_tokenizer.specs.declared.results.TokenizerResult.TheVariants.{Script, EncodingIndicator}
 use Rattle.html_tokenizer.specs.declared.tokenizer.Tokenizer.{Tokenizer}
@@ -32,10 +33,13 @@ HasTold tokenizer = string_bytes tokenizer.reader.run ≡ []
 abbrev pub IsEmptied : {S : Type 0} → Tokenizer S → Type 0
 IsEmptied tokenizer = HoldsNothing tokenizer.reader
 
--- No lexeme stands where the tokenizer is whatever follows in the page; of a CDATA section at most a beginning of `]]>` is held back.
+-- No lexeme stands where the tokenizer is whatever follows in the page; of a CDATA section at most a beginning of `]]>`
+-- is held back.
 pub record IsUndecidedAt (table : References) (ends : LineEnds) (reader : Reader) : Type 0 where
   pub lexeme : (foreign : Bool) (l : Lexeme) →
-      ((page : List ℕ) → place_lexeme table foreign reader.mode reader.pending.place (held_of reader ++ page_rest ends page) ≡ with_more (page_rest ends page) l) → ⊥
+      ((page : List ℕ) →
+      place_lexeme table foreign reader.mode reader.pending.place (held_of reader ++ page_rest ends page)
+      ≡ with_more (page_rest ends page) l) → ⊥
   pub section : reader.pending.place ≡ CdataSection → IsTrue (is_begun_section_end (held_of reader))
 
 abbrev pub IsUndecided : {S : Type 0} → Tokenizer S → Type 0
@@ -52,4 +56,6 @@ is_text_state tokenizer = is_of_text tokenizer.reader.pending.place
 
 -- no character is held back, and no text is untold
 abbrev pub nothing_pending : {S : Type 0} → Tokenizer S → Bool
-nothing_pending tokenizer = is_open tokenizer.reader.pending.place && length (string_bytes tokenizer.reader.pending.held) == 0 && length (string_bytes tokenizer.reader.run) == 0
+nothing_pending tokenizer =
+    is_open tokenizer.reader.pending.place && length (string_bytes tokenizer.reader.pending.held) == 0
+    && length (string_bytes tokenizer.reader.run) == 0

@@ -2,7 +2,8 @@
 use Rattle.std.specs.Prelude.{◌≡◌, false, List, [], ◌∷◌, Option, Some, None}
 use Rattle.html_lexemes.specs.declared.token.Tag.{Tag}
 use Rattle.html_lexemes.specs.declared.token.TokenSinkResult.{TokenSinkResult}
-use Rattle.html_lexemes.specs.declared.token.TokenSinkResult.TheVariants.{Script as AskedScript, EncodingIndicator as AskedEncoding}
+use Rattle.html_lexemes.specs.declared.token.TokenSinkResult.TheVariants.{Script as AskedScript}
+use Rattle.html_lexemes.specs.declared.token.TokenSinkResult.TheVariants.{EncodingIndicator as AskedEncoding}
 use Rattle.html_grammar.specs.Items.{Item, tag}
 use Rattle.html_grammar.specs.Meaning.{Meaning}
 use Rattle.html_grammar.specs.Modes.{is_pause}

@@ -14,9 +14,9 @@ use lexeme_places::Place;
 use parse_errors::ParseErrors;
 use std::alloc::AllocError;
 
-/// Finds the parse errors in a lexeme that is over: in what was held at its place. `line` is that on which a reference stands.
-/// What the grammar tells as an item, a `</>` and a reference without its semicolon, is not among them. Where `may_repeat` is
-/// false no two attributes of a tag have one name. The error is want of memory alone.
+/// Finds the parse errors in a lexeme that is over: in what was held at its place. `line` is that on which a reference
+/// stands. What the grammar tells as an item, a `</>` and a reference without its semicolon, is not among them. Where
+/// `may_repeat` is false no two attributes of a tag have one name. The error is want of memory alone.
 pub(crate) fn find_errors(
     errors: &mut ParseErrors,
     table: &ReferenceTable,
@@ -78,8 +78,8 @@ pub(crate) fn find_last_errors(
     }
 }
 
-/// The state in which the page ends, at a place: one of text, or of a CDATA section. Behind markup, which the end of the page cuts
-/// off, it is that of ordinary text.
+/// The state in which the page ends, at a place: one of text, or of a CDATA section. Behind markup, which the end of
+/// the page cuts off, it is that of ordinary text.
 pub(crate) fn last_state(text: TextKind, place: Place) -> State {
     match place {
         Place::Text => state_of(text),
@@ -143,7 +143,8 @@ pub(crate) fn may_follow_error(tokens: &[Token]) -> bool
 
 // whether a text begins with another character than LF
 fn is_other_than_line_feed(text: &str) -> bool
-    ensures { MatchBool result (IsAfterError (characters (chars text.now))) (IsAfterError (characters (chars text.now)) → ⊥) }
+    ensures { MatchBool result (IsAfterError (characters (chars text.now)))
+        (IsAfterError (characters (chars text.now)) → ⊥) }
 {
     match first_and_rest(text) {
         Some((c, _)) => c != '\n',

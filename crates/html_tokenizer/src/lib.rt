@@ -1,5 +1,5 @@
-//! The tokenizer: resumable, and equal to the reading of the grammar however the text is cut. What its calls name of the
-//! crates below it is exported here too.
+//! The tokenizer: resumable, and equal to the reading of the grammar however the text is cut. What its calls name of
+//! the crates below it is exported here too.
 #![tactic(auto)]
 
 mod errors;

@@ -1,6 +1,8 @@
 ghost use Rattle.std.specs.Prelude.{◌≡◌, [], ◌∷◌, ◌++◌, ℕ, Bool, List, chars, string_bytes, length, ◌==◌, ◌≢◌};
 ghost use Rattle.std.specs.Prelude.{IfOk, IsTrue, IfSome, OnOk, Some, MatchBool, MatchOption};
-ghost use Rattle.lexeme_places.specs.declared.place.Place.TheVariants.{CdataSection as SectionPlace, MarkupDeclarationOpen as DeclarationPlace, RawText as RawPlaceOf, Text as TextPlace};
+ghost use Rattle.lexeme_places.specs.declared.place.Place.TheVariants.{CdataSection as SectionPlace};
+ghost use Rattle.lexeme_places.specs.declared.place.Place.TheVariants.{MarkupDeclarationOpen as DeclarationPlace};
+ghost use Rattle.lexeme_places.specs.declared.place.Place.TheVariants.{RawText as RawPlaceOf, Text as TextPlace};
 ghost use Rattle.std.specs.Char.{IsScalar};
 ghost use Rattle.html_lexemes.specs.QueueAnswers.{PopsRun};
 ghost use Rattle.lexeme_places.specs.HeldRuns.{held_stops};
@@ -136,7 +138,8 @@ impl Pending {
         Ok(())
     }
 
-    /// Takes a further character of markup; `foreign` says that the adjusted current node is foreign, which matters behind
+    /// Takes a further character of markup; `foreign` says that the adjusted current node is foreign, which matters
+    /// behind
     /// `<!` alone. `None` is a place in text, where nothing is done. After a refusal nothing is held.
     pub(crate) fn take(
         &mut self,
@@ -145,10 +148,12 @@ impl Pending {
         c: char,
     ) -> Result<Option<Advance>, AllocError>
         ensures left { IfOk result (λ done. IfSome done (λ advance. IsLeft advance self.new.place)) }
-        ensures kind { IfOk result (λ done. IfSome done (λ advance. StaysWithinKind self.old.place advance self.new.place)) }
+        ensures kind { IfOk
+            result (λ done. IfSome done (λ advance. StaysWithinKind self.old.place advance self.new.place)) }
         ensures advance { IfOk result (λ done. MatchOption done (IsNoMarkup self.old.place × (self.new ≡ self.old))
             (λ advance. (asked : Bool) (mode : SeenMode) → (self.old.place ≡ DeclarationPlace → asked ≡ foreign) →
-            Advances table.now asked mode self.old.place (chars (string_bytes self.old.held)) c advance self.new.place (chars (string_bytes self.new.held)))) }
+            Advances table.now asked mode self.old.place (chars (string_bytes self.old.held)) c advance self.new.place
+            (chars (string_bytes self.new.held)))) }
     {
         let done = match markup_turn(table, foreign, self.place, &mut self.held, c) {
             Ok(done) => done,
@@ -192,8 +197,8 @@ impl Pending {
         queue.pop_run_into(stops, &mut self.held)
     }
 
-    /// Takes a further character of the text of an element, some of which is held at this place; `last` is the last start
-    /// tag's name. After a refusal nothing is held.
+    /// Takes a further character of the text of an element, some of which is held at this place; `last` is the last
+    /// start tag's name. After a refusal nothing is held.
     pub(crate) fn take_raw(
         &mut self,
         last: &Option<LocalName>,
@@ -203,8 +208,10 @@ impl Pending {
     ) -> Result<RawAdvance, AllocError>
         requires place { self.old.place ≡ RawPlaceOf kind place }
         requires going { IsTrue (is_raw_going last.now kind place (chars (string_bytes self.old.held))) }
-        ensures { IfOk result (λ advance. (table : References) (foreign : Bool) (mode : SeenMode) → mode.last_start_tag ≡ last.now →
-            RawAdvances table foreign mode kind (chars (string_bytes self.old.held)) c advance self.new.place (chars (string_bytes self.new.held))) }
+        ensures { IfOk result (λ advance. (table : References) (foreign : Bool) (mode : SeenMode) →
+            mode.last_start_tag ≡ last.now →
+            RawAdvances table foreign mode kind (chars (string_bytes self.old.held)) c advance self.new.place
+            (chars (string_bytes self.new.held))) }
     {
         let alloc = *self.held.allocator();
         let turn = match raw_turn(alloc, last, kind, place, &mut self.held, c) {
@@ -235,11 +242,13 @@ impl Pending {
         }
     }
 
-    /// Takes a further character of a CDATA section. Where it is text, so is what is held. After a refusal nothing is held.
+    /// Takes a further character of a CDATA section. Where it is text, so is what is held. After a refusal nothing is
+    /// held.
     pub(crate) fn take_in_section(&mut self, c: char) -> Result<SectionTurn, AllocError>
         requires { self.old.place ≡ SectionPlace }
         ensures { IfOk result (λ turn. (mode : SeenMode) →
-            SectionAdvances mode (chars (string_bytes self.old.held)) c turn self.new.place (chars (string_bytes self.new.held))) }
+            SectionAdvances mode (chars (string_bytes self.old.held)) c turn self.new.place
+            (chars (string_bytes self.new.held))) }
     {
         let turn = match section_turn(&mut self.held, c) {
             Ok(turn) => turn,

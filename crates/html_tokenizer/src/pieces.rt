@@ -24,7 +24,8 @@ pub fn read_pieces<Sink: TokenSink + Drop>(
     requires { IsReadyFor Sink.ready Sink.welcomes (text_of_state opts.initial_state) (Sink.state sink) }
     ensures memory { IfErr result (λ e. e ≡ Memory) }
     ensures told { IfOk result (λ told. IsClosed Sink.close
-        (Reading table Sink.means (first_mode opts) (Sink.state sink) (page_text opts.discard_bom (joined pieces.items)))
+        (Reading table Sink.means (first_mode opts) (Sink.state sink)
+        (page_text opts.discard_bom (joined pieces.items)))
         (Sink.state told)) }
 {
     let mut tokenizer = Tokenizer::new(alloc, sink, opts, table);

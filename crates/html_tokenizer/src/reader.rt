@@ -19,7 +19,9 @@ ghost use Rattle.lexeme_places.specs.PlaceKinds.{IsPlaceOf, IsWithinMarkup, is_o
 ghost use Rattle.html_tokenizer.specs.Stops.{stops};
 ghost use Rattle.html_tokenizer.specs.Tells.{IsPauseOf};
 ghost use Rattle.lexeme_places.specs.declared.place.Place.{Place as SeenPlace};
-ghost use Rattle.lexeme_places.specs.declared.place.Place.TheVariants.{CdataSection as SectionPlace, MarkupDeclarationOpen as DeclarationPlace, Text as TextPlace};
+ghost use Rattle.lexeme_places.specs.declared.place.Place.TheVariants.{CdataSection as SectionPlace};
+ghost use Rattle.lexeme_places.specs.declared.place.Place.TheVariants.{MarkupDeclarationOpen as DeclarationPlace};
+ghost use Rattle.lexeme_places.specs.declared.place.Place.TheVariants.{Text as TextPlace};
 ghost use Rattle.parse_errors.specs.Found.{found_of, heeds};
 
 use crate::errors::{
@@ -114,7 +116,8 @@ impl Reader {
 
     /// Whether no character is held back, and no text is untold.
     pub(crate) fn has_nothing_pending(&self) -> bool
-        ensures { result ≡ (is_open self.now.pending.place && length (string_bytes self.now.pending.held) == 0 && length (string_bytes self.now.run) == 0) }
+        ensures { result ≡ (is_open self.now.pending.place && length (string_bytes self.now.pending.held) == 0
+            && length (string_bytes self.now.run) == 0) }
     {
         let is_open = matches!(self.pending.place(), Place::Text | Place::CdataSection);
         is_open && self.pending.is_empty() && self.run.is_empty()
@@ -263,8 +266,8 @@ impl Reader {
         Ok(())
     }
 
-    /// Takes a further character of the text, and says what the sink pauses for. After a refusal nothing is known of the
-    /// sink.
+    /// Takes a further character of the text, and says what the sink pauses for. After a refusal nothing is known of
+    /// the sink.
     pub(crate) fn take<S: TokenSink>(
         &mut self,
         table: &ReferenceTable,
@@ -329,8 +332,8 @@ impl Reader {
         }
     }
 
-    // Takes a further character of the text of an element, where some of it is held back. The answer is whether it was taken:
-    // it is not elsewhere, nor behind the name of an end tag, which is markup then.
+    // Takes a further character of the text of an element, where some of it is held back. The answer is whether it was
+    // taken: it is not elsewhere, nor behind the name of an end tag, which is markup then.
     fn take_in_raw_text<S: TokenSink>(&mut self, sink: &mut S, c: char) -> Result<bool, ParseFault>
         requires ready { IsReadyFor S.ready S.welcomes self.old.mode.text (S.state sink.old) }
         requires scalar { IsScalar c }
@@ -438,7 +441,8 @@ impl Reader {
         ensures placed { OnOk result (IsPlaceOf self.new.mode.text self.new.pending.place) }
         ensures ready { OnOk result (IsReadyFor S.ready S.welcomes self.new.mode.text (S.state sink.new)) }
         ensures holds { OnOk result ((foreign : Bool) (place : SeenPlace) (held : List ℕ) →
-            Advances table.now foreign self.old.mode place held c advance self.old.pending.place (chars (string_bytes self.old.pending.held)) → Holds table.now self.new) }
+            Advances table.now foreign self.old.mode place held c advance self.old.pending.place
+            (chars (string_bytes self.old.pending.held)) → Holds table.now self.new) }
         ensures asks { IfOk result (λ pause. (place : SeenPlace) (held : List ℕ) →
             Advances table.now (S.means.foreign (state_of S.means self.old (S.state sink.old))) self.old.mode place held
             c advance self.old.pending.place (chars (string_bytes self.old.pending.held)) →

@@ -27,8 +27,8 @@ use lexeme_places::laws::{going_is_no_lexeme, held_run_goes_on};
 use std::alloc::Global;
 
 /// Reads the text of a page, in any pieces, and tells its tokens to a sink (WHATWG HTML, 13.2.5). What it tells is what
-/// the reading of the whole text by the grammar tells, however the text is cut. Parse errors are told before what follows
-/// them; they change nothing else.
+/// the reading of the whole text by the grammar tells, however the text is cut. Parse errors are told before what
+/// follows them; they change nothing else.
 #[derive(Drop)]
 pub struct Tokenizer<Sink> {
     /// What the tokens are told to. Nobody else is to change its state before the end.
@@ -42,7 +42,10 @@ pub struct Tokenizer<Sink> {
 }
 
 impl<Sink: TokenSink> Tokenizer<Sink> {
-    ghost use Rattle.html_tokenizer.specs.Completes.{Answers, Completes, HasTold, IsEmptied, IsFit, IsUndecided, PausesBehind, TakesSome, has_failed, is_text_state, last_start_tag_of, nothing_pending, plain_mode, table_of, text_left};
+    ghost use Rattle.html_tokenizer.specs.Completes.{Answers, Completes, HasTold, IsEmptied, IsFit, IsUndecided};
+    ghost use Rattle.html_tokenizer.specs.Completes.{PausesBehind, TakesSome, has_failed, is_text_state};
+    ghost use Rattle.html_tokenizer.specs.Completes.{last_start_tag_of, nothing_pending, plain_mode, table_of};
+    ghost use Rattle.html_tokenizer.specs.Completes.{text_left};
     ghost use Rattle.html_tokenizer.specs.Inside as inside;
     ghost use Rattle.html_tokenizer.specs.Runs.{TakesFront, TakesRun};
 
@@ -84,10 +87,11 @@ impl<Sink: TokenSink> Tokenizer<Sink> {
         }
     }
 
-    /// Reads what is in the queue, up to its end or to a pause that the sink asks for, after which the same queue is fed on.
-    /// It pauses exactly where the sink asks, right behind the tag's `>`, and holds nothing back then. At `Done` all text
-    /// that was read is told, and what is held back is the beginning of a lexeme that what follows decides. The error is
-    /// want of memory; after it, and after the end, every call is refused as `Failed` and takes nothing from the queue.
+    /// Reads what is in the queue, up to its end or to a pause that the sink asks for, after which the same queue is
+    /// fed on. It pauses exactly where the sink asks, right behind the tag's `>`, and holds nothing back then. At
+    /// `Done` all text that was read is told, and what is held back is the beginning of a lexeme that what follows
+    /// decides. The error is want of memory; after it, and after the end, every call is refused as `Failed` and takes
+    /// nothing from the queue.
     #[tactic(auto, unfolding(crate::specs::Completes::has_failed, crate::specs::Completes::IsFit, crate::specs::Completes::Completes, crate::specs::Completes::HasTold, crate::specs::Completes::IsEmptied, crate::specs::Completes::IsUndecided, crate::specs::Completes::table_of, crate::specs::Completes::is_text_state, crate::specs::Completes::nothing_pending))]
     pub fn feed(
         &mut self,
@@ -102,7 +106,8 @@ impl<Sink: TokenSink> Tokenizer<Sink> {
         ensures works { has_failed self.new ≡ is_err result }
         ensures table { table_of self.new ≡ table_of self.old }
         ensures takes { OnOk result (TakesSome queue.old queue.new) }
-        ensures done { result ≡ Ok TokenizerResult.Done → (queue.new.text ≡ []) × (HasTold self.new × IsUndecided self.new) }
+        ensures done { result ≡ Ok TokenizerResult.Done →
+            (queue.new.text ≡ []) × (HasTold self.new × IsUndecided self.new) }
         ensures pauses { IfOk result (λ r. (r ≡ TokenizerResult.Done → ⊥) →
             (length queue.new.text < length queue.old.text) × (IsEmptied self.new
             × ((is_text_state self.new ≡ true) × (nothing_pending self.new ≡ true)))) }
@@ -157,7 +162,8 @@ impl<Sink: TokenSink> Tokenizer<Sink> {
         ensures table { self.new.table ≡ self.old.table }
         ensures holds { OnOk result (Holds self.new.table self.new.reader) }
         ensures takes { OnOk result (TakesSome queue.old queue.new) }
-        ensures done { result ≡ Ok TokenizerResult.Done → (queue.new.text ≡ []) × (inside.HasTold self.new × inside.IsUndecided self.new) }
+        ensures done { result ≡ Ok TokenizerResult.Done →
+            (queue.new.text ≡ []) × (inside.HasTold self.new × inside.IsUndecided self.new) }
         ensures pauses { IfOk result (λ r. (r ≡ TokenizerResult.Done → ⊥) →
             (length queue.new.text < length queue.old.text) × (inside.IsEmptied self.new
             × ((inside.is_text_state self.new ≡ true) × (inside.nothing_pending self.new ≡ true)))) }
@@ -308,7 +314,8 @@ impl<Sink: TokenSink> Tokenizer<Sink> {
         requires nothing { nothing_pending self.old ≡ true }
         ensures sink { self.new.sink ≡ self.old.sink }
         ensures works { has_failed self.new ≡ has_failed self.old }
-        ensures fit { IsFit Sink.state Sink.ready Sink.welcomes self.old → IsFit Sink.state Sink.ready Sink.welcomes self.new }
+        ensures fit { IsFit Sink.state Sink.ready Sink.welcomes self.old →
+            IsFit Sink.state Sink.ready Sink.welcomes self.new }
         ensures table { table_of self.new ≡ table_of self.old }
         ensures plain { (rest : List ℕ) (final : Sink.Abstract) → Completes Sink.state Sink.means self.new rest final →
             Reading (table_of self.old) Sink.means (plain_mode (last_start_tag_of self.old)) (Sink.state self.old.sink)
@@ -317,8 +324,8 @@ impl<Sink: TokenSink> Tokenizer<Sink> {
         self.reader.set_plaintext();
     }
 
-    /// Tells what the end of the page makes of what is held back, one `EOFToken`, and that nothing more is told. The error is
-    /// want of memory. After it every call is refused as `Failed`.
+    /// Tells what the end of the page makes of what is held back, one `EOFToken`, and that nothing more is told. The
+    /// error is want of memory. After it every call is refused as `Failed`.
     #[tactic(auto, unfolding(crate::specs::Completes::has_failed, crate::specs::Completes::IsFit, crate::specs::Completes::Completes, crate::specs::Completes::HasTold, crate::specs::Completes::IsEmptied, crate::specs::Completes::IsUndecided, crate::specs::Completes::table_of))]
     pub fn end(&mut self) -> Result<(), ParseFault>
         requires { IsFit Sink.state Sink.ready Sink.welcomes self.old }

@@ -219,8 +219,10 @@ unclosed_in : (tag : List ℕ) (ns : Namespace) (local : List ℕ) (some : Bool)
     (is_foreign_in tag ns local || some) ≡ false → (some ≡ false → found ≡ None) →
     (if is_of_html ns then None else if bytes_eq (in_lower_case local) tag then Some n else found) ≡ None
 unclosed_in tag Html local some n found none rest = refl
-unclosed_in tag MathMl local some n found none rest = unclosed_by (bytes_eq (in_lower_case local) tag) some n found none rest
-unclosed_in tag Svg local some n found none rest = unclosed_by (bytes_eq (in_lower_case local) tag) some n found none rest
+unclosed_in tag MathMl local some n found none rest =
+    unclosed_by (bytes_eq (in_lower_case local) tag) some n found none rest
+unclosed_in tag Svg local some n found none rest =
+    unclosed_by (bytes_eq (in_lower_case local) tag) some n found none rest
 unclosed_in tag (Other text) local some n found none rest =
     unclosed_by (bytes_eq (in_lower_case local) tag) some n found none rest
 

@@ -29,8 +29,9 @@ pub(crate) fn laws_of_forests()
     texts_side_by_side_are_one();
 }
 
-/// Each word of tree construction keeps a sound tree sound, takes no node away, and an element stays one. Characters that are inserted one
-/// after another are inserted as if they had come together, and behind them nothing is reconstructed twice.
+/// Each word of tree construction keeps a sound tree sound, takes no node away, and an element stays one. Characters
+/// that are inserted one after another are inserted as if they had come together, and behind them nothing is
+/// reconstructed twice.
 pub fn words_keep_a_tree_sound()
     ensures { Words }
 {

@@ -109,7 +109,8 @@ border_hangs m tag width b = mapped (Hangs b) (Hangs b) (add_border (plain horiz
 prefixed_hang : {S : Type 0} (other m : Measure) (tag : S) (prefix : List ℕ) (lines : List (CellLine S)) (b : Laid S)
     → Hangs b (fold (add_prefixed other m tag prefix) b lines)
 prefixed_hang other m tag prefix [] b = refl
-prefixed_hang other m tag prefix (l ∷ lines) b = prefixed_hang other m tag prefix lines (add_prefixed other m tag prefix b l)
+prefixed_hang other m tag prefix (l ∷ lines) b =
+    prefixed_hang other m tag prefix lines (add_prefixed other m tag prefix b l)
 
 pub other_hangs : {S : Type 0} (other m : Measure) (tag : S) (first following : List ℕ) (lines : List (CellLine S))
     (b : Laid S) → Hangs b (add_block other m tag first following lines b)
@@ -117,7 +118,8 @@ other_hangs other m tag first following [] b = refl
 other_hangs other m tag first following (l ∷ lines) b =
     prefixed_hang other m tag following lines (add_prefixed other m tag first b l)
 
-pub row_hangs : {S : Type 0} (m : Measure) (tag : S) (draws collapse : Bool) (cells : List (Cell S)) (b flushed new : Laid S)
+pub row_hangs : {S : Type 0} (m : Measure) (tag : S) (draws collapse : Bool) (cells : List (Cell S))
+    (b flushed new : Laid S)
     → flush m tag b ≡ Some flushed → add_row m tag draws collapse cells b ≡ Some new
     → new.hanging ≡ (across draws collapse tag (last_border flushed.lines) cells flushed.hanging).hanging
 row_hangs {S = S} m tag draws collapse cells b flushed new is row = by_above (last_border flushed.lines) refl new_is

@@ -1,5 +1,6 @@
 -- Characters that are held of markup, and markup that is over.
-use Rattle.std.proofs.Common.{◌≡◌, ◌≢◌, ℕ, Bool, true, false, ◌&&◌, ◌==◌, not, List, [], ◌∷◌, ◌++◌, Some, refl, sym, ap, subst, ◌∙◌, append_assoc}
+use Rattle.std.proofs.Common.{◌≡◌, ◌≢◌, ℕ, Bool, true, false, ◌&&◌, ◌==◌, not, List, [], ◌∷◌, ◌++◌, Some, refl, sym, ap}
+use Rattle.std.proofs.Common.{subst, ◌∙◌, append_assoc}
 use Rattle.std.proofs.lemmas.Bool.{and_parts, ne_eqb}
 use Rattle.std.proofs.lemmas.List.{append-nil}
 use Rattle.std.proofs.lemmas.List.Folds.{list_all-append}
@@ -21,17 +22,24 @@ use Rattle.lexeme_places.specs.Turns.{IsOver, IsTaken, LeavesText, with_more}
 use Rattle.lexeme_places.specs.declared.place.Place.{Place}
 use Rattle.lexeme_places.specs.declared.place.Place.TheVariants.{BogusComment}
 
-pub pushed : {Z : Type 0} (old new : String Z) (c : ℕ) → IsScalar c → string_bytes new ≡ string_bytes old ++ encode_utf8 c → chars (string_bytes new) ≡ chars (string_bytes old) ++ c ∷ []
-pushed old new c scalar e = pushed_text old new (encode_utf8 c) e ∙ ap (λ l. chars (string_bytes old) ++ l) (chars-encode c scalar)
+pub pushed : {Z : Type 0} (old new : String Z) (c : ℕ) → IsScalar c → string_bytes new
+    ≡ string_bytes old ++ encode_utf8 c → chars (string_bytes new) ≡ chars (string_bytes old) ++ c ∷ []
+pushed old new c scalar e =
+    pushed_text old new (encode_utf8 c) e ∙ ap (λ l. chars (string_bytes old) ++ l) (chars-encode c scalar)
 
 -- a character that is held at the same place
-pub taken : (table : References) (foreign : Bool) (mode : Mode) (place : Place) (hs : List ℕ) (c : ℕ) (now : List ℕ) → now ≡ hs ++ c ∷ [] → IsTaken table foreign mode place hs c place now
-taken table foreign mode place hs c now e rest = ap (place_lexeme table foreign mode place) (ap (λ l. l ++ rest) e ∙ append_assoc hs (c ∷ []) rest)
+pub taken : (table : References) (foreign : Bool) (mode : Mode) (place : Place) (hs : List ℕ) (c : ℕ) (now : List ℕ) →
+    now ≡ hs ++ c ∷ [] → IsTaken table foreign mode place hs c place now
+taken table foreign mode place hs c now e rest =
+    ap (place_lexeme table foreign mode place) (ap (λ l. l ++ rest) e ∙ append_assoc hs (c ∷ []) rest)
 
 -- a lexeme that leaves what follows what is held, whatever that is, is over
-pub over_by : (table : References) (foreign : Bool) (mode : Mode) (place : Place) (now : List ℕ) (items : List Item) (behind : Mode) → ((rest : List ℕ) → place_lexeme table foreign mode place (now ++ rest) ≡ told items behind rest) → IsOver table foreign mode place now []
+pub over_by : (table : References) (foreign : Bool) (mode : Mode) (place : Place) (now : List ℕ) (items : List Item)
+    (behind : Mode) → ((rest : List ℕ) → place_lexeme table foreign mode place (now ++ rest) ≡ told items behind rest) →
+    IsOver table foreign mode place now []
 over_by table foreign mode place now items behind h =
-    let alone : place_lexeme table foreign mode place now ≡ told items behind [] = ap (place_lexeme table foreign mode place) (sym (append-nil now)) ∙ h [] in
+    let alone : place_lexeme table foreign mode place now ≡ told items behind [] =
+    ap (place_lexeme table foreign mode place) (sym (append-nil now)) ∙ h [] in
     record { settled = λ rest. h rest ∙ ap (with_more rest) (sym alone); left = subst LeavesText (sym alone) refl }
 
 pub held_more : (hs now rest : List ℕ) (c : ℕ) → now ≡ hs ++ c ∷ [] → now ++ rest ≡ hs ++ c ∷ rest
@@ -51,19 +59,25 @@ first_of h hs e =
     let parts = and_parts (not (h == 62)) (list_all (λ c. not (c == 62)) hs) e in
     (not_false (h == 62) parts.0, parts.1)
 
-pub cut_greater : (hs more : List ℕ) → HasNoGreater hs → cut (after (codes ">")) (hs ++ 62 ∷ more) ≡ Some (record { slice = hs; rest = more })
+pub cut_greater : (hs more : List ℕ) → HasNoGreater hs → cut (after (codes ">")) (hs ++ 62 ∷ more)
+    ≡ Some (record { slice = hs; rest = more })
 cut_greater [] more n = refl
 cut_greater (h ∷ hs) more n =
     let parts = first_of h hs n in
     rw parts.0 (rw (cut_greater hs more parts.1) refl)
 
-pub bogus_up_to : (hs more : List ℕ) → HasNoGreater hs → bogus_comment_slice (hs ++ 62 ∷ more) ≡ record { slice = hs; rest = more }
+pub bogus_up_to : (hs more : List ℕ) → HasNoGreater hs → bogus_comment_slice (hs ++ 62 ∷ more)
+    ≡ record { slice = hs; rest = more }
 bogus_up_to hs more n = ap (λ o. cut_or_all o (hs ++ 62 ∷ more)) (cut_greater hs more n)
 
 pub still_no_greater : (hs now : List ℕ) (c : ℕ) → HasNoGreater hs → now ≡ hs ++ c ∷ [] → c ≢ 62 → HasNoGreater now
 still_no_greater hs now c n e apart =
-    ap (list_all (λ d. not (d == 62))) e ∙ (list_all-append (λ d. not (d == 62)) hs (c ∷ []) ∙ rw (n, ne_eqb c 62 apart) refl)
+    ap (list_all (λ d. not (d == 62))) e ∙ (list_all-append (λ d. not (d == 62)) hs (c ∷ []) ∙
+    rw (n, ne_eqb c 62 apart) refl)
 
-pub bogus_over : (table : References) (foreign : Bool) (mode : Mode) (hs now : List ℕ) → HasNoGreater hs → now ≡ hs ++ 62 ∷ [] → IsOver table foreign mode BogusComment now []
+pub bogus_over : (table : References) (foreign : Bool) (mode : Mode) (hs now : List ℕ) → HasNoGreater hs →
+    now ≡ hs ++ 62 ∷ [] → IsOver table foreign mode BogusComment now []
 bogus_over table foreign mode hs now n e =
-    over_by table foreign mode BogusComment now _ mode (λ rest. ap (λ l. comment_lexeme mode (bogus_comment_slice l)) (held_more hs now rest 62 e) ∙ ap (comment_lexeme mode) (bogus_up_to hs rest n))
+    over_by table foreign mode BogusComment now _ mode
+    (λ rest. ap (λ l. comment_lexeme mode (bogus_comment_slice l)) (held_more hs now rest 62 e) ∙
+    ap (comment_lexeme mode) (bogus_up_to hs rest n))

@@ -9,17 +9,22 @@ use Rattle.html_grammar.specs.References.{reference}
 use Rattle.html_grammar.specs.Slices.{after, cut, cut_or_all}
 use Rattle.html_grammar.specs.declared.modes.Mode.{Mode}
 use Rattle.html_grammar.specs.declared.modes.TextKind.{TextKind}
-use Rattle.html_grammar.proofs.KindLemmas.{any_section, in_declaration, in_end_tag, in_markup, in_reference, in_tag, in_text}
+use Rattle.html_grammar.proofs.KindLemmas.{any_section, in_declaration, in_end_tag, in_markup, in_reference, in_tag}
+use Rattle.html_grammar.proofs.KindLemmas.{in_text}
 use Rattle.lexeme_places.specs.PlaceKinds.{IsPlaceOf, KeepsKind}
 use Rattle.lexeme_places.specs.Places.{place_lexeme}
 use Rattle.lexeme_places.specs.declared.place.Place.{Place}
-use Rattle.lexeme_places.specs.declared.place.Place.TheVariants.{Text, CharacterReference, TagOpen, EndTagOpen, Tag, MarkupDeclarationOpen, BogusComment, Comment, Doctype, CdataSection, RawText}
+use Rattle.lexeme_places.specs.declared.place.Place.TheVariants.{Text, CharacterReference, TagOpen, EndTagOpen, Tag}
+use Rattle.lexeme_places.specs.declared.place.Place.TheVariants.{MarkupDeclarationOpen, BogusComment, Comment, Doctype}
+use Rattle.lexeme_places.specs.declared.place.Place.TheVariants.{CdataSection, RawText}
 use Rattle.lexeme_places.specs.declared.turn.Turn.{Turn}
 use Rattle.lexeme_places.specs.declared.turn.Turn.TheVariants.{Goes, Ends, EndsBefore}
 
-pub at_place : (table : References) (foreign : Bool) (mode : Mode) (place : Place) (cs : List ℕ) → IsPlaceOf mode.text place → LexemeOf mode.text (place_lexeme table foreign mode place cs)
+pub at_place : (table : References) (foreign : Bool) (mode : Mode) (place : Place) (cs : List ℕ) →
+    IsPlaceOf mode.text place → LexemeOf mode.text (place_lexeme table foreign mode place cs)
 at_place table foreign mode Text cs h = in_text mode.text table foreign mode cs (λ m. m)
-at_place table foreign mode (CharacterReference place) cs h = in_reference mode.text mode (λ m. m) cs (reference table cs)
+at_place table foreign mode (CharacterReference place) cs h =
+    in_reference mode.text mode (λ m. m) cs (reference table cs)
 at_place table foreign mode TagOpen cs h = in_markup mode.text mode (λ m. m) h table foreign cs
 at_place table foreign mode EndTagOpen cs h = in_end_tag mode.text mode (λ m. m) h table cs
 at_place table foreign mode (Tag kind place) cs h = in_tag mode.text table kind cs h
@@ -27,8 +32,10 @@ at_place table foreign mode MarkupDeclarationOpen cs h = in_declaration mode.tex
 at_place table foreign mode BogusComment cs h = (((tt, h), tt), λ m. m)
 at_place table foreign mode Comment cs h = (((tt, h), tt), λ m. m)
 at_place table foreign mode Doctype cs h = (((tt, h), tt), λ m. m)
-at_place table foreign mode CdataSection cs h = any_section mode.text mode (λ m. m) h _ (cut_or_all (cut (after (codes "]]>")) cs) cs).rest
-at_place table foreign mode (RawText kind place) cs h = in_text mode.text table foreign (in_kind mode kind) cs (λ m. absurd m)
+at_place table foreign mode CdataSection cs h =
+    any_section mode.text mode (λ m. m) h _ (cut_or_all (cut (after (codes "]]>")) cs) cs).rest
+at_place table foreign mode (RawText kind place) cs h =
+    in_text mode.text table foreign (in_kind mode kind) cs (λ m. absurd m)
 
 -- every place is one of text with markup
 any_tag : (kind : TextKind) (tag : TagKind) → HasMarkup kind → IsOfTag kind tag
@@ -49,7 +56,8 @@ any_place kind Doctype h = h
 any_place kind CdataSection h = h
 
 -- from markup any turn keeps the kind of the text
-pub from_markup : (place : Place) (turn : Turn) → ((kind : TextKind) → IsPlaceOf kind place → HasMarkup kind) → KeepsKind place turn
+pub from_markup : (place : Place) (turn : Turn) → ((kind : TextKind) → IsPlaceOf kind place → HasMarkup kind) →
+    KeepsKind place turn
 from_markup place (Goes at) m = λ kind h. any_place kind at (m kind h)
 from_markup place (Ends at) m = λ kind h. any_place kind at (m kind h)
 from_markup place EndsBefore m = tt

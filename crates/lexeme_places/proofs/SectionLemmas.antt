@@ -1,5 +1,6 @@
 -- A further character of a CDATA section.
-use Rattle.std.proofs.Common.{◌≡◌, ◌≢◌, ℕ, true, false, ◌==◌, List, [], ◌∷◌, ◌++◌, codes, Option, Some, None, option_map, IsTrue, IsUtf8, ◌⊎◌, inl, inr, refl, sym, ap, subst, ◌∙◌}
+use Rattle.std.proofs.Common.{◌≡◌, ◌≢◌, ℕ, true, false, ◌==◌, List, [], ◌∷◌, ◌++◌, codes, Option, Some, None}
+use Rattle.std.proofs.Common.{option_map, IsTrue, IsUtf8, ◌⊎◌, inl, inr, refl, sym, ap, subst, ◌∙◌}
 use Rattle.std.specs.Str.{bytes_eq, chars}
 use Rattle.std.proofs.lemmas.Bool.{false≢true, eqb-true, ne_eqb, and_parts}
 use Rattle.std.proofs.lemmas.Slice.Eq.{bytes_eq-Decides}
@@ -15,11 +16,13 @@ use Rattle.lexeme_places.specs.declared.section_turns.SectionTurn.TheVariants.{G
 -- ---- a character at which no end mark begins
 
 more : (mode : Mode) (c : ℕ) (later : Option Cut) (cs : List ℕ)
-    → cdata_lexeme mode (cut_or_all (option_map (longer c) later) (c ∷ cs)) ≡ with_items (ordinary_item c ∷ []) (cdata_lexeme mode (cut_or_all later cs))
+    → cdata_lexeme mode (cut_or_all (option_map (longer c) later) (c ∷ cs))
+    ≡ with_items (ordinary_item c ∷ []) (cdata_lexeme mode (cut_or_all later cs))
 more mode c None cs = refl
 more mode c (Some later) cs = refl
 
-no_mark : (mode : Mode) (c : ℕ) (cs : List ℕ) → after (codes "]]>") (c ∷ cs) ≡ None → section_lexeme mode (c ∷ cs) ≡ with_items (ordinary_item c ∷ []) (section_lexeme mode cs)
+no_mark : (mode : Mode) (c : ℕ) (cs : List ℕ) → after (codes "]]>") (c ∷ cs) ≡ None →
+    section_lexeme mode (c ∷ cs) ≡ with_items (ordinary_item c ∷ []) (section_lexeme mode cs)
 no_mark mode c cs e =
     let mark : List ℕ → Option (List ℕ) = after (codes "]]>") in
     ap (λ o. cdata_lexeme mode (cut_or_all (cut_here c o (cut mark cs)) (c ∷ cs))) e ∙ more mode c (cut mark cs) cs
@@ -42,7 +45,8 @@ text-one : (mode : Mode) (c : ℕ) → (c == 93) ≡ false → SectionTurns mode
 text-one mode c e = (
   refl,
   λ rest.
-      no_mark mode 93 (c ∷ rest) (second_differs c rest e) ∙ ap (with_items (ordinary_item 93 ∷ [])) (no_mark mode c rest (first_differs c rest e)),
+      no_mark mode 93 (c ∷ rest) (second_differs c rest e) ∙ ap (with_items (ordinary_item 93 ∷ []))
+      (no_mark mode c rest (first_differs c rest e)),
 )
 
 pub text-two : (mode : Mode) (c : ℕ) → c ≢ 93 → c ≢ 62 → SectionTurns mode (93 ∷ 93 ∷ []) c Text (93 ∷ 93 ∷ [])
@@ -54,7 +58,8 @@ text-two mode c no_bracket no_end = (
 )
 
 pub shifts : (mode : Mode) (c : ℕ) → c ≡ 93 → SectionTurns mode (93 ∷ 93 ∷ []) c Shifts (93 ∷ 93 ∷ [])
-shifts mode c e = (refl, λ rest. ap (λ d. section_lexeme mode (93 ∷ 93 ∷ d ∷ rest)) e ∙ no_mark mode 93 (93 ∷ 93 ∷ rest) refl)
+shifts mode c e =
+    (refl, λ rest. ap (λ d. section_lexeme mode (93 ∷ 93 ∷ d ∷ rest)) e ∙ no_mark mode 93 (93 ∷ 93 ∷ rest) refl)
 
 -- ---- what is held, short of two brackets
 
@@ -67,13 +72,16 @@ are_two b d begun =
     let first : b ≡ 93 = eqb-true b 93 parts.0 in
     let second : d ≡ 93 = eqb-true d 93 (and_parts (d == 93) _ parts.1).0 in cc
 
-short : (held : List ℕ) → IsTrue (is_begun_section_end held) → bytes_eq held (93 ∷ 93 ∷ []) ≡ false → (held ≡ []) ⊎ (held ≡ 93 ∷ [])
+short : (held : List ℕ) → IsTrue (is_begun_section_end held) → bytes_eq held (93 ∷ 93 ∷ []) ≡ false →
+    (held ≡ []) ⊎ (held ≡ 93 ∷ [])
 short [] begun not_two = inl refl
 short (b ∷ []) begun not_two = inr (ap (λ x. x ∷ []) (is_one b begun))
 short (b ∷ d ∷ []) begun not_two = let two : b ∷ d ∷ [] ≡ 93 ∷ 93 ∷ [] = are_two b d begun in absurd (false≢true (sym not_two ∙ ap (λ l. bytes_eq l (93 ∷ 93 ∷ [])) two))
-short (b ∷ d ∷ e ∷ held) begun not_two = absurd (false≢true (and_parts (e == 62) _ (and_parts (d == 93) _ (and_parts (b == 93) _ begun).1).1).1)
+short (b ∷ d ∷ e ∷ held) begun not_two =
+    absurd (false≢true (and_parts (e == 62) _ (and_parts (d == 93) _ (and_parts (b == 93) _ begun).1).1).1)
 
-module _ (held : List ℕ) (c : ℕ) (mode : Mode) (begun : IsTrue (is_begun_section_end held)) (not_two : bytes_eq held (93 ∷ 93 ∷ []) ≡ false) where
+module _ (held : List ℕ) (c : ℕ) (mode : Mode) (begun : IsTrue (is_begun_section_end held))
+    (not_two : bytes_eq held (93 ∷ 93 ∷ []) ≡ false) where
   pub text-short : c ≢ 93 → SectionTurns mode held c Text held
   text-short other = elim (short held begun not_two) [
     | inl e ↦ subst (λ h. SectionTurns mode h c Text h) (sym e) (text-none mode c (ne_eqb c 93 other))

@@ -1,5 +1,6 @@
 -- Words of which a front is held, ASCII case aside.
-use Rattle.std.proofs.Common.{◌≡◌, ◌≢◌, ℕ, zero, suc, ◌<◌, ◌≤◌, Bool, true, false, ◌==◌, ◌&&◌, nat_lt, List, [], ◌∷◌, ◌++◌, length, drop, get_or, IsUtf8, encode_utf8_all, refl, sym, ap, ◌∙◌, arith}
+use Rattle.std.proofs.Common.{◌≡◌, ◌≢◌, ℕ, zero, suc, ◌<◌, ◌≤◌, Bool, true, false, ◌==◌, ◌&&◌, nat_lt, List, [], ◌∷◌}
+use Rattle.std.proofs.Common.{◌++◌, length, drop, get_or, IsUtf8, encode_utf8_all, refl, sym, ap, ◌∙◌, arith}
 use Rattle.std.proofs.lemmas.Bool.{and_from, and_parts, and_left, and_right}
 use Rattle.std.proofs.lemmas.Bool.Decides.{nat_tests}
 use Rattle.std.proofs.lemmas.Str.{encode_ascii, encodes-chars}
@@ -42,7 +43,8 @@ lower_ascii : (w c : ℕ) → is_ascii w ≡ true → (to_ascii_lowercase c == w
 lower_ascii w c a e = grind (arith, nat_tests)
 
 -- a front of an ASCII word
-pub front_ascii : (word held : List ℕ) → list_all is_ascii word ≡ true → is_word_front word held ≡ true → list_all is_ascii held ≡ true
+pub front_ascii : (word held : List ℕ) → list_all is_ascii word ≡ true → is_word_front word held ≡ true →
+    list_all is_ascii held ≡ true
 front_ascii word [] a h = refl
 front_ascii [] (c ∷ cs) a h = absurd cc
 front_ascii (w ∷ ws) (c ∷ cs) a h =
@@ -50,7 +52,8 @@ front_ascii (w ∷ ws) (c ∷ cs) a h =
     let q = and_parts (is_ascii w) (list_all is_ascii ws) a in
     and_from (is_ascii c) (list_all is_ascii cs) (lower_ascii w c q.0 p.0) (front_ascii ws cs q.1 p.1)
 
-pub front_more : (word held : List ℕ) (c : ℕ) → is_word_front word held ≡ true → is_at (to_ascii_lowercase c) word (length held) ≡ true → is_word_front word (held ++ c ∷ []) ≡ true
+pub front_more : (word held : List ℕ) (c : ℕ) → is_word_front word held ≡ true →
+    is_at (to_ascii_lowercase c) word (length held) ≡ true → is_word_front word (held ++ c ∷ []) ≡ true
 front_more [] [] c h a = absurd cc
 front_more (w ∷ ws) [] c h a = and_from (to_ascii_lowercase c == w) true a refl
 front_more [] (d ∷ ds) c h a = absurd cc
@@ -59,15 +62,19 @@ front_more (w ∷ ws) (d ∷ ds) c h a =
     and_from (to_ascii_lowercase d == w) (is_word_front ws (ds ++ c ∷ [])) p.0 (front_more ws ds c p.1 a)
 
 -- what is held, before a character that does not go on with the word
-pub front_stops : (word held : List ℕ) (c : ℕ) (rest : List ℕ) → is_word_front word held ≡ true → is_at (to_ascii_lowercase c) word (length held) ≡ false → length held ≢ length word → begins_word word (held ++ c ∷ rest) ≡ false
+pub front_stops : (word held : List ℕ) (c : ℕ) (rest : List ℕ) → is_word_front word held ≡ true →
+    is_at (to_ascii_lowercase c) word (length held) ≡ false → length held ≢ length word →
+    begins_word word (held ++ c ∷ rest) ≡ false
 front_stops [] [] c rest h a n = absurd (n refl)
 front_stops (w ∷ ws) [] c rest h a n = and_left (to_ascii_lowercase c == w) (begins_word ws rest) a
 front_stops [] (d ∷ ds) c rest h a n = absurd cc
 front_stops (w ∷ ws) (d ∷ ds) c rest h a n =
     let p = and_parts (to_ascii_lowercase d == w) (is_word_front ws ds) h in
-    and_right (to_ascii_lowercase d == w) (begins_word ws (ds ++ c ∷ rest)) (front_stops ws ds c rest p.1 a (λ e. n (ap suc e)))
+    and_right (to_ascii_lowercase d == w) (begins_word ws (ds ++ c ∷ rest))
+    (front_stops ws ds c rest p.1 a (λ e. n (ap suc e)))
 
-front_whole : (word held rest : List ℕ) → is_word_front word held ≡ true → length held ≡ length word → begins_word word (held ++ rest) ≡ true
+front_whole : (word held rest : List ℕ) → is_word_front word held ≡ true → length held ≡ length word →
+    begins_word word (held ++ rest) ≡ true
 front_whole [] [] rest h n = refl
 front_whole (w ∷ ws) [] rest h n = absurd (omega arith)
 front_whole [] (d ∷ ds) rest h n = absurd cc
@@ -81,10 +88,15 @@ past_front (w ∷ ws) [] rest n = absurd (omega arith)
 past_front [] (d ∷ ds) rest n = absurd (omega arith)
 past_front (w ∷ ws) (d ∷ ds) rest n = past_front ws ds rest (omega arith)
 
-pub no_word_yet : (word held : List ℕ) (c : ℕ) (rest : List ℕ) → is_word_front word held ≡ true → is_at (to_ascii_lowercase c) word (length held) ≡ false → length held ≢ length word → begins_tag word (held ++ c ∷ rest) ≡ false
-no_word_yet word held c rest h a n = and_left (begins_word word (held ++ c ∷ rest)) _ (front_stops word held c rest h a n)
+pub no_word_yet : (word held : List ℕ) (c : ℕ) (rest : List ℕ) → is_word_front word held ≡ true →
+    is_at (to_ascii_lowercase c) word (length held) ≡ false → length held ≢ length word →
+    begins_tag word (held ++ c ∷ rest) ≡ false
+no_word_yet word held c rest h a n =
+    and_left (begins_word word (held ++ c ∷ rest)) _ (front_stops word held c rest h a n)
 
-pub whole_word : (word held : List ℕ) (c : ℕ) (rest : List ℕ) (b : Bool) → is_word_front word held ≡ true → length held ≡ length word → ends_tag_name c ≡ b → begins_tag word (held ++ c ∷ rest) ≡ b
+pub whole_word : (word held : List ℕ) (c : ℕ) (rest : List ℕ) (b : Bool) → is_word_front word held ≡ true →
+    length held ≡ length word → ends_tag_name c ≡ b → begins_tag word (held ++ c ∷ rest) ≡ b
 whole_word word held c rest b h n e =
-    ap (λ t. t && first_passes ends_tag_name (drop (length word) (held ++ c ∷ rest))) (front_whole word held (c ∷ rest) h n)
+    ap (λ t. t && first_passes ends_tag_name (drop (length word) (held ++ c ∷ rest)))
+    (front_whole word held (c ∷ rest) h n)
     ∙ ap (first_passes ends_tag_name) (past_front word held (c ∷ rest) n) ∙ e

@@ -16,11 +16,13 @@ use Rattle.lexeme_places.specs.declared.place.Place.{Place}
 -- whatever follows, the character is this item in text of a kind
 abbrev pub IsItem : Option (List ℕ) → TextKind → ℕ → Item → Type 0
 IsItem last text c item =
-    (table : References) (foreign : Bool) (mode : Mode) (rest : List ℕ) → mode.text ≡ text → mode.last_start_tag ≡ last → lexeme table foreign mode (c ∷ rest) ≡ told (item ∷ []) mode rest
+    (table : References) (foreign : Bool) (mode : Mode) (rest : List ℕ) → mode.text ≡ text →
+    mode.last_start_tag ≡ last → lexeme table foreign mode (c ∷ rest) ≡ told (item ∷ []) mode rest
 
 -- whatever follows, the character opens what stands at a place
 abbrev pub IsOpening : TextKind → ℕ → Place → Type 0
-IsOpening text c place = (table : References) (foreign : Bool) (mode : Mode) (rest : List ℕ) → mode.text ≡ text → lexeme table foreign mode (c ∷ rest) ≡ place_lexeme table foreign mode place rest
+IsOpening text c place = (table : References) (foreign : Bool) (mode : Mode) (rest : List ℕ) → mode.text ≡ text →
+    lexeme table foreign mode (c ∷ rest) ≡ place_lexeme table foreign mode place rest
 
 -- the same where the last start tag has this name
 abbrev pub IsFirst : Option (List ℕ) → TextKind → ℕ → First → Type 0

@@ -1,5 +1,6 @@
 -- What is held of a lexeme that goes on: more than what a place asks for, it may still become something else.
-use Rattle.std.specs.Prelude.{ℕ, Bool, true, false, ◌&&◌, nat_lt, List, [], ◌∷◌, length, drop, Option, Some, None, IsTrue}
+use Rattle.std.specs.Prelude.{ℕ, Bool, true, false, ◌&&◌, nat_lt, List, [], ◌∷◌, length, drop, Option, Some, None}
+use Rattle.std.specs.Prelude.{IsTrue}
 use Rattle.std.specs.List.{list_all}
 use Rattle.reference_tables.specs.Lookup.{HasLongerName}
 use Rattle.reference_tables.specs.References.{References, is_between}
@@ -9,11 +10,15 @@ use Rattle.lexeme_places.specs.RawSound.{is_raw_held, is_word_front}
 use Rattle.lexeme_places.specs.ReferenceSound.{is_reference_held}
 use Rattle.lexeme_places.specs.Sound.{IsSound}
 use Rattle.lexeme_places.specs.declared.place.Place.{Place}
-use Rattle.lexeme_places.specs.declared.place.Place.TheVariants.{Text, CharacterReference, TagOpen, EndTagOpen, Tag, MarkupDeclarationOpen, BogusComment, Comment, Doctype, CdataSection, RawText}
+use Rattle.lexeme_places.specs.declared.place.Place.TheVariants.{Text, CharacterReference, TagOpen, EndTagOpen, Tag}
+use Rattle.lexeme_places.specs.declared.place.Place.TheVariants.{MarkupDeclarationOpen, BogusComment, Comment, Doctype}
+use Rattle.lexeme_places.specs.declared.place.Place.TheVariants.{CdataSection, RawText}
 use Rattle.lexeme_places.specs.declared.place.RawPlace.{RawPlace}
-use Rattle.lexeme_places.specs.declared.place.RawPlace.TheVariants.{LessThanSign, EndTagName, EscapeStart, EscapeWord, Dashes}
+use Rattle.lexeme_places.specs.declared.place.RawPlace.TheVariants.{LessThanSign, EndTagName, EscapeStart, EscapeWord}
+use Rattle.lexeme_places.specs.declared.place.RawPlace.TheVariants.{Dashes}
 use Rattle.lexeme_places.specs.declared.place.ReferencePlace.{ReferencePlace}
-use Rattle.lexeme_places.specs.declared.place.ReferencePlace.TheVariants.{Named, Numeric, HexadecimalStart, Decimal, Hexadecimal}
+use Rattle.lexeme_places.specs.declared.place.ReferencePlace.TheVariants.{Named, Numeric, HexadecimalStart, Decimal}
+use Rattle.lexeme_places.specs.declared.place.ReferencePlace.TheVariants.{Hexadecimal}
 
 -- The table has a name that is longer than what is held of one; behind `&` alone a number may stand.
 abbrev pub IsNamed : References → ReferencePlace → List ℕ → Type 0

@@ -28,7 +28,8 @@ is_begun_word (w ∷ ws) (c ∷ cs) = to_ascii_lowercase c == w && is_begun_word
 
 -- behind `<!`, the beginning of what opens a comment, a doctype or a section
 abbrev pub is_begun_declaration : List ℕ → Bool
-is_begun_declaration held = is_begun (codes "--") held || is_begun_word (codes "doctype") held || is_begun (codes "[CDATA[") held
+is_begun_declaration held = is_begun (codes "--") held || is_begun_word (codes "doctype") held
+    || is_begun (codes "[CDATA[") held
 
 -- in a section, the beginning of its end mark
 abbrev pub is_begun_section_end : List ℕ → Bool

@@ -15,4 +15,6 @@ is_steady cs = list_all (λ c. not (c == 10 || c == 13 || c == 0xFEFF)) cs
 -- No lexeme stands there whatever follows.
 abbrev pub IsOpenEnded : References → Bool → Mode → Place → List ℕ → Type 0
 IsOpenEnded table foreign mode place held =
-    (l : Lexeme) → ((rest : List ℕ) → IsTrue (is_steady rest) → place_lexeme table foreign mode place (held ++ rest) ≡ with_more rest l) → ⊥
+    (l : Lexeme) →
+    ((rest : List ℕ) → IsTrue (is_steady rest) → place_lexeme table foreign mode place (held ++ rest)
+    ≡ with_more rest l) → ⊥

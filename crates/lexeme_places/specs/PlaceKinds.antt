@@ -7,7 +7,9 @@ use Rattle.lexeme_places.specs.declared.first.First.TheVariants.{Text as FirstTe
 use Rattle.lexeme_places.specs.declared.turn.Turn.{Turn}
 use Rattle.lexeme_places.specs.declared.turn.Turn.TheVariants.{Goes, Ends, EndsBefore}
 use Rattle.lexeme_places.specs.declared.place.Place.{Place}
-use Rattle.lexeme_places.specs.declared.place.Place.TheVariants.{Text, CharacterReference, TagOpen, EndTagOpen, Tag, MarkupDeclarationOpen, BogusComment, Comment, Doctype, CdataSection, RawText}
+use Rattle.lexeme_places.specs.declared.place.Place.TheVariants.{Text, CharacterReference, TagOpen, EndTagOpen, Tag}
+use Rattle.lexeme_places.specs.declared.place.Place.TheVariants.{MarkupDeclarationOpen, BogusComment, Comment, Doctype}
+use Rattle.lexeme_places.specs.declared.place.Place.TheVariants.{CdataSection, RawText}
 
 -- The state is one of text: a reference in text is of that state too.
 abbrev pub is_of_text : Place → Bool

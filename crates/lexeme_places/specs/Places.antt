@@ -3,13 +3,16 @@ use Rattle.std.specs.Prelude.{ℕ, Bool, List, codes}
 use Rattle.reference_tables.specs.References.{References}
 use Rattle.html_grammar.specs.Comments.{bogus_comment_slice, comment_slice}
 use Rattle.html_grammar.specs.Doctypes.{doctype_at}
-use Rattle.html_grammar.specs.Lexemes.{Lexeme, behind_slash, cdata_lexeme, comment_lexeme, declaration, doctype_lexeme, in_kind, lexeme, markup, reference_lexeme, tag_lexeme}
+use Rattle.html_grammar.specs.Lexemes.{Lexeme, behind_slash, cdata_lexeme, comment_lexeme, declaration, doctype_lexeme}
+use Rattle.html_grammar.specs.Lexemes.{in_kind, lexeme, markup, reference_lexeme, tag_lexeme}
 use Rattle.html_grammar.specs.References.{reference}
 use Rattle.html_grammar.specs.Slices.{after, cut, cut_or_all}
 use Rattle.html_grammar.specs.Tags.{tag_at}
 use Rattle.html_grammar.specs.declared.modes.Mode.{Mode}
 use Rattle.lexeme_places.specs.declared.place.Place.{Place}
-use Rattle.lexeme_places.specs.declared.place.Place.TheVariants.{Text, CharacterReference, TagOpen, EndTagOpen, Tag, MarkupDeclarationOpen, BogusComment, Comment, Doctype, CdataSection, RawText}
+use Rattle.lexeme_places.specs.declared.place.Place.TheVariants.{Text, CharacterReference, TagOpen, EndTagOpen, Tag}
+use Rattle.lexeme_places.specs.declared.place.Place.TheVariants.{MarkupDeclarationOpen, BogusComment, Comment, Doctype}
+use Rattle.lexeme_places.specs.declared.place.Place.TheVariants.{CdataSection, RawText}
 
 abbrev pub place_lexeme : References → Bool → Mode → Place → List ℕ → Lexeme
 place_lexeme table foreign mode Text cs = lexeme table foreign mode cs

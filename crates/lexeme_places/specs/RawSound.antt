@@ -8,7 +8,8 @@ use Rattle.html_lexemes.specs.declared.states.ScriptEscapeKind.TheVariants.{Esca
 use Rattle.html_grammar.specs.Characters.{is_letter}
 use Rattle.html_grammar.specs.Lexemes.{has_end_tags}
 use Rattle.lexeme_places.specs.declared.place.RawPlace.{RawPlace}
-use Rattle.lexeme_places.specs.declared.place.RawPlace.TheVariants.{LessThanSign, EndTagName, EscapeStart, EscapeWord, Dashes}
+use Rattle.lexeme_places.specs.declared.place.RawPlace.TheVariants.{LessThanSign, EndTagName, EscapeStart, EscapeWord}
+use Rattle.lexeme_places.specs.declared.place.RawPlace.TheVariants.{Dashes}
 
 abbrev pub is_less_than_sign : List ℕ → Bool
 is_less_than_sign (l ∷ []) = l == 60

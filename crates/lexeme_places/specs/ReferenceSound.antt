@@ -4,7 +4,8 @@ use Rattle.std.specs.List.{list_all}
 use Rattle.html_grammar.specs.Characters.{is_alphanumeric, is_digit}
 use Rattle.html_grammar.specs.References.{is_x}
 use Rattle.lexeme_places.specs.declared.place.ReferencePlace.{ReferencePlace}
-use Rattle.lexeme_places.specs.declared.place.ReferencePlace.TheVariants.{Named, Numeric, HexadecimalStart, Decimal, Hexadecimal}
+use Rattle.lexeme_places.specs.declared.place.ReferencePlace.TheVariants.{Named, Numeric, HexadecimalStart, Decimal}
+use Rattle.lexeme_places.specs.declared.place.ReferencePlace.TheVariants.{Hexadecimal}
 
 -- at least one digit to the base
 abbrev pub are_digits : ℕ → List ℕ → Bool

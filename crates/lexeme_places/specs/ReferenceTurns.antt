@@ -19,7 +19,8 @@ held_behind (Ends place) held c = held ++ c ∷ []
 held_behind EndsBefore held c = held
 
 abbrev pub ReferenceTurns : References → ReferencePlace → List ℕ → ℕ → Turn → Type 0
-ReferenceTurns table place held c turn = (foreign : Bool) (mode : Mode) → Turns table foreign mode (CharacterReference place) held c turn (held_behind turn held c)
+ReferenceTurns table place held c turn = (foreign : Bool) (mode : Mode) →
+    Turns table foreign mode (CharacterReference place) held c turn (held_behind turn held c)
 
 abbrev pub goes : ReferencePlace → Turn
 goes place = Goes (CharacterReference place)
@@ -34,7 +35,8 @@ hexadecimal_turn c = if is_digit 16 c then goes Hexadecimal else EndsBefore
 
 -- behind digits to the base
 abbrev pub digit_turn : ReferencePlace → ℕ → ℕ → Turn
-digit_turn place base c = if is_digit base c then goes place else (if c == semicolon then Ends (CharacterReference place) else EndsBefore)
+digit_turn place base c = if is_digit base c then goes place
+    else (if c == semicolon then Ends (CharacterReference place) else EndsBefore)
 
 -- It goes on, and ends, as a reference.
 abbrev pub IsReference : Place → Type 0

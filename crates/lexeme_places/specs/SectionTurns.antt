@@ -22,15 +22,26 @@ with_items items (tagged t rest) = tagged t rest
 
 abbrev pub SectionTurns : Mode → List ℕ → ℕ → SectionTurn → List ℕ → Type 0
 SectionTurns mode held c Goes now = (now ≡ held ++ c ∷ []) × IsTrue (is_begun_section_end now)
-SectionTurns mode held c Ends now = (now ≡ held) × ((rest : List ℕ) → section_lexeme mode (held ++ c ∷ rest) ≡ told [] mode rest)
-SectionTurns mode held c Shifts now = (now ≡ held) × ((rest : List ℕ) → section_lexeme mode (held ++ c ∷ rest) ≡ with_items (characters (93 ∷ []) ∷ []) (section_lexeme mode (held ++ rest)))
-SectionTurns mode held c Text now = (now ≡ held) × ((rest : List ℕ) → section_lexeme mode (held ++ c ∷ rest) ≡ with_items (map ordinary_item (held ++ c ∷ [])) (section_lexeme mode rest))
+SectionTurns mode held c Ends now =
+    (now ≡ held) × ((rest : List ℕ) → section_lexeme mode (held ++ c ∷ rest) ≡ told [] mode rest)
+SectionTurns mode held c Shifts now = (now ≡ held)
+    × ((rest : List ℕ) → section_lexeme mode (held ++ c ∷ rest)
+    ≡ with_items (characters (93 ∷ []) ∷ []) (section_lexeme mode (held ++ rest)))
+SectionTurns mode held c Text now =
+    (now ≡ held)
+    × ((rest : List ℕ) → section_lexeme mode (held ++ c ∷ rest)
+    ≡ with_items (map ordinary_item (held ++ c ∷ [])) (section_lexeme mode rest))
 
 -- the same of what is pending
 abbrev pub SectionAdvances : Mode → List ℕ → ℕ → SectionTurn → Place → List ℕ → Type 0
 SectionAdvances mode held c Goes at now = (at ≡ CdataSection) × (now ≡ held ++ c ∷ [])
-SectionAdvances mode held c Ends at now = (at ≡ NoLexeme) × ((now ≡ []) × ((rest : List ℕ) → section_lexeme mode (held ++ c ∷ rest) ≡ told [] mode rest))
+SectionAdvances mode held c Ends at now = (at ≡ NoLexeme)
+    × ((now ≡ []) × ((rest : List ℕ) → section_lexeme mode (held ++ c ∷ rest) ≡ told [] mode rest))
 SectionAdvances mode held c Shifts at now =
-    (at ≡ CdataSection) × ((now ≡ held) × ((rest : List ℕ) → section_lexeme mode (held ++ c ∷ rest) ≡ with_items (characters (93 ∷ []) ∷ []) (section_lexeme mode (held ++ rest))))
+    (at ≡ CdataSection)
+    × ((now ≡ held) × ((rest : List ℕ) → section_lexeme mode (held ++ c ∷ rest)
+    ≡ with_items (characters (93 ∷ []) ∷ []) (section_lexeme mode (held ++ rest))))
 SectionAdvances mode held c Text at now =
-    (at ≡ CdataSection) × ((now ≡ held) × ((rest : List ℕ) → section_lexeme mode (held ++ c ∷ rest) ≡ with_items (map ordinary_item (held ++ c ∷ [])) (section_lexeme mode rest)))
+    (at ≡ CdataSection)
+    × ((now ≡ held) × ((rest : List ℕ) → section_lexeme mode (held ++ c ∷ rest)
+    ≡ with_items (map ordinary_item (held ++ c ∷ [])) (section_lexeme mode rest)))

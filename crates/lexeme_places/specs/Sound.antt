@@ -5,7 +5,9 @@ use Rattle.lexeme_places.specs.RawSound.{is_raw_held}
 use Rattle.lexeme_places.specs.ReferenceSound.{is_reference_held}
 use Rattle.lexeme_places.specs.TagPlaces.{IsInTag}
 use Rattle.lexeme_places.specs.declared.place.Place.{Place}
-use Rattle.lexeme_places.specs.declared.place.Place.TheVariants.{Text, CharacterReference, TagOpen, EndTagOpen, Tag, MarkupDeclarationOpen, BogusComment, Comment, Doctype, CdataSection, RawText}
+use Rattle.lexeme_places.specs.declared.place.Place.TheVariants.{Text, CharacterReference, TagOpen, EndTagOpen, Tag}
+use Rattle.lexeme_places.specs.declared.place.Place.TheVariants.{MarkupDeclarationOpen, BogusComment, Comment, Doctype}
+use Rattle.lexeme_places.specs.declared.place.Place.TheVariants.{CdataSection, RawText}
 
 abbrev pub IsSound : Place → List ℕ → Type 0
 IsSound Text held = held ≡ []

@@ -13,7 +13,8 @@ use std::alloc::AllocError;
 /// A further character of a comment that `>` ends.
 pub(crate) fn bogus_comment_turn(held: &mut String, c: char) -> Result<Turn, AllocError>
     requires { HasNoGreater (chars (string_bytes held.old)) }
-    ensures { IfOk result (λ turn. (table : References) (foreign : Bool) (mode : SeenMode) → Turns table foreign mode BogusComment (chars (string_bytes held.old)) c turn (chars (string_bytes held.new))) }
+    ensures { IfOk result (λ turn. (table : References) (foreign : Bool) (mode : SeenMode) →
+        Turns table foreign mode BogusComment (chars (string_bytes held.old)) c turn (chars (string_bytes held.new))) }
 {
     held.push(c)?;
     if c == '>' {
@@ -25,7 +26,8 @@ pub(crate) fn bogus_comment_turn(held: &mut String, c: char) -> Result<Turn, All
 /// A further character of a comment behind `<!--`.
 pub(crate) fn comment_turn(held: &mut String, c: char) -> Result<Turn, AllocError>
     requires { IsOpenComment (chars (string_bytes held.old)) }
-    ensures { IfOk result (λ turn. (table : References) (foreign : Bool) (mode : SeenMode) → Turns table foreign mode Comment (chars (string_bytes held.old)) c turn (chars (string_bytes held.new))) }
+    ensures { IfOk result (λ turn. (table : References) (foreign : Bool) (mode : SeenMode) →
+        Turns table foreign mode Comment (chars (string_bytes held.old)) c turn (chars (string_bytes held.new))) }
 {
     held.push(c)?;
     if is_closed(held) {

@@ -12,7 +12,8 @@ use std::alloc::AllocError;
 /// A further character of a doctype, which ends at its first `>`, also in an identifier.
 pub(crate) fn doctype_turn(held: &mut String, c: char) -> Result<Turn, AllocError>
     requires { HasNoGreater (chars (string_bytes held.old)) }
-    ensures { IfOk result (λ turn. (table : References) (foreign : Bool) (mode : SeenMode) → Turns table foreign mode Doctype (chars (string_bytes held.old)) c turn (chars (string_bytes held.new))) }
+    ensures { IfOk result (λ turn. (table : References) (foreign : Bool) (mode : SeenMode) →
+        Turns table foreign mode Doctype (chars (string_bytes held.old)) c turn (chars (string_bytes held.new))) }
 {
     held.push(c)?;
     if c == '>' {

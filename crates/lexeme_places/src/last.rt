@@ -51,7 +51,8 @@ fn raw_lexeme<'t>(
     kind: RawKind,
     text: &'t str,
 ) -> Result<Lexeme<'t>, AllocError>
-    ensures value { IfOk result (λ l. lexeme_of mode.now l ≡ lexeme table.now foreign (in_kind mode.now kind) (chars text.now)) }
+    ensures value { IfOk result (λ l. lexeme_of mode.now l ≡ lexeme table.now foreign (in_kind mode.now kind)
+        (chars text.now)) }
     ensures utf8 { IfOk result HasRest }
 {
     let raw = Mode {

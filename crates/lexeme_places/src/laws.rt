@@ -35,7 +35,8 @@ pub fn place_of_a_kind()
 
 /// A tag that stands at a place ends with its `>`, right before what follows it.
 pub fn tag_ends_with_its_mark()
-    ensures { (table : References) (foreign : Bool) (mode : Mode) (place : Place) (cs : List ℕ) (t : Tag) (rest : List ℕ) →
+    ensures { (table : References) (foreign : Bool) (mode : Mode) (place : Place) (cs : List ℕ) (t : Tag)
+        (rest : List ℕ) →
         place_lexeme table foreign mode place cs ≡ tagged t rest → (front : List ℕ) × (cs ≡ front ++ greater ∷ rest) }
 {}
 

@@ -14,7 +14,8 @@ use std::alloc::AllocError;
 /// The character behind `<`.
 pub(crate) fn tag_open_turn(held: &mut String, c: char) -> Result<Turn, AllocError>
     requires { chars (string_bytes held.old) ≡ [] }
-    ensures { IfOk result (λ turn. (table : References) (foreign : Bool) (mode : SeenMode) → Turns table foreign mode TagOpen (chars (string_bytes held.old)) c turn (chars (string_bytes held.new))) }
+    ensures { IfOk result (λ turn. (table : References) (foreign : Bool) (mode : SeenMode) →
+        Turns table foreign mode TagOpen (chars (string_bytes held.old)) c turn (chars (string_bytes held.new))) }
 {
     if c.is_ascii_alphabetic() {
         held.push(c)?;
@@ -34,7 +35,8 @@ pub(crate) fn tag_open_turn(held: &mut String, c: char) -> Result<Turn, AllocErr
 /// The character behind `</`.
 pub(crate) fn end_tag_open_turn(held: &mut String, c: char) -> Result<Turn, AllocError>
     requires { chars (string_bytes held.old) ≡ [] }
-    ensures { IfOk result (λ turn. (table : References) (foreign : Bool) (mode : SeenMode) → Turns table foreign mode EndTagOpen (chars (string_bytes held.old)) c turn (chars (string_bytes held.new))) }
+    ensures { IfOk result (λ turn. (table : References) (foreign : Bool) (mode : SeenMode) →
+        Turns table foreign mode EndTagOpen (chars (string_bytes held.old)) c turn (chars (string_bytes held.new))) }
 {
     held.push(c)?;
     if c.is_ascii_alphabetic() {
@@ -53,7 +55,9 @@ pub(crate) fn declaration_turn(
     c: char,
 ) -> Result<Turn, AllocError>
     requires { IsTrue (is_begun_declaration (chars (string_bytes held.old))) }
-    ensures { IfOk result (λ turn. (table : References) (mode : SeenMode) → Turns table foreign mode MarkupDeclarationOpen (chars (string_bytes held.old)) c turn (chars (string_bytes held.new))) }
+    ensures { IfOk result (λ turn. (table : References) (mode : SeenMode) →
+        Turns table foreign mode MarkupDeclarationOpen (chars (string_bytes held.old)) c turn
+        (chars (string_bytes held.new))) }
 {
     held.push(c)?;
     match declared(foreign, held) {

@@ -1,4 +1,5 @@
-ghost use Rattle.std.specs.Prelude.{ℕ, ◌≡◌, Bool, ◌&&◌, nat_lt, ◌∷◌, [], length, drop, chars, string_bytes, IfOk, OnOk, IsTrue};
+ghost use Rattle.std.specs.Prelude.{ℕ, ◌≡◌, Bool, ◌&&◌, nat_lt, ◌∷◌, [], length, drop, chars, string_bytes, IfOk, OnOk};
+ghost use Rattle.std.specs.Prelude.{IsTrue};
 ghost use Rattle.std.specs.List.{list_all};
 ghost use Rattle.reference_tables.specs.References.{References};
 ghost use Rattle.html_grammar.specs.Characters.{is_letter, name_of};
@@ -19,8 +20,8 @@ use html_lexemes::LocalName;
 use html_lexemes::states::{RawKind, ScriptEscapeKind};
 use std::alloc::{AllocError, Global};
 
-/// What a further character does to what is held of the text of an element, of a kind, at a place; `last` is the name of
-/// the last start tag. What is held is then what it is behind that turn. The error is want of memory alone.
+/// What a further character does to what is held of the text of an element, of a kind, at a place; `last` is the name
+/// of the last start tag. What is held is then what it is behind that turn. The error is want of memory alone.
 pub fn raw_turn(
     alloc: Global,
     last: &Option<LocalName>,
@@ -30,7 +31,9 @@ pub fn raw_turn(
     c: char,
 ) -> Result<RawTurn, AllocError>
     requires { IsTrue (is_raw_going last.now kind place (chars (string_bytes held.old))) }
-    ensures { IfOk result (λ turn. (table : References) (foreign : Bool) (mode : SeenMode) → mode.last_start_tag ≡ last.now → RawTurns table foreign mode kind (chars (string_bytes held.old)) c turn (chars (string_bytes held.new))) }
+    ensures { IfOk result (λ turn. (table : References) (foreign : Bool) (mode : SeenMode) →
+        mode.last_start_tag ≡ last.now →
+        RawTurns table foreign mode kind (chars (string_bytes held.old)) c turn (chars (string_bytes held.new))) }
 {
     let turn = turn_at(alloc, last, kind, place, held.as_str(), c)?;
     take(turn, held, c)?;
@@ -47,7 +50,9 @@ fn turn_at(
     c: char,
 ) -> Result<RawTurn, AllocError>
     requires { IsTrue (is_raw_going last.now kind place (chars held.now)) }
-    ensures { IfOk result (λ turn. (table : References) (foreign : Bool) (mode : SeenMode) → mode.last_start_tag ≡ last.now → RawTurns table foreign mode kind (chars held.now) c turn (held_behind turn (chars held.now) c)) }
+    ensures { IfOk result (λ turn. (table : References) (foreign : Bool) (mode : SeenMode) →
+        mode.last_start_tag ≡ last.now →
+        RawTurns table foreign mode kind (chars held.now) c turn (held_behind turn (chars held.now) c)) }
 {
     match place {
         RawPlace::LessThanSign => Ok(at_less_than_sign(last, kind, c)),
@@ -88,7 +93,8 @@ fn drop_first(held: &mut String)
 
 // at `<`
 fn at_less_than_sign(last: &Option<LocalName>, kind: RawKind, c: char) -> RawTurn
-    ensures { (table : References) (foreign : Bool) (mode : SeenMode) → mode.last_start_tag ≡ last.now → RawTurns table foreign mode kind (60 ∷ []) c result (held_behind result (60 ∷ []) c) }
+    ensures { (table : References) (foreign : Bool) (mode : SeenMode) → mode.last_start_tag ≡ last.now →
+        RawTurns table foreign mode kind (60 ∷ []) c result (held_behind result (60 ∷ []) c) }
 {
     match kind {
         RawKind::Rcdata | RawKind::Rawtext => match c {
@@ -115,7 +121,8 @@ fn at_less_than_sign(last: &Option<LocalName>, kind: RawKind, c: char) -> RawTur
 // at `<`, before `/`
 fn at_slash(last: &Option<LocalName>, kind: RawKind) -> RawTurn
     requires { IsTrue (has_end_tags kind) }
-    ensures { (table : References) (foreign : Bool) (mode : SeenMode) → mode.last_start_tag ≡ last.now → RawTurns table foreign mode kind (60 ∷ []) 47 result (held_behind result (60 ∷ []) 47) }
+    ensures { (table : References) (foreign : Bool) (mode : SeenMode) → mode.last_start_tag ≡ last.now →
+        RawTurns table foreign mode kind (60 ∷ []) 47 result (held_behind result (60 ∷ []) 47) }
 {
     if has_end_tag(last) {
         RawTurn::Goes(RawPlace::EndTagName)
@@ -133,7 +140,9 @@ fn at_end_tag_name(
     c: char,
 ) -> Result<RawTurn, AllocError>
     requires { IsTrue (is_raw_going last.now kind EndTagName (chars held.now)) }
-    ensures { IfOk result (λ turn. (table : References) (foreign : Bool) (mode : SeenMode) → mode.last_start_tag ≡ last.now → RawTurns table foreign mode kind (chars held.now) c turn (held_behind turn (chars held.now) c)) }
+    ensures { IfOk result (λ turn. (table : References) (foreign : Bool) (mode : SeenMode) →
+        mode.last_start_tag ≡ last.now →
+        RawTurns table foreign mode kind (chars held.now) c turn (held_behind turn (chars held.now) c)) }
 {
     let Some(letters) = behind(held, "</") else {
         return Ok(RawTurn::Before(kind));
@@ -156,7 +165,9 @@ fn at_letter(last: &Option<LocalName>, kind: RawKind, letters: &str, c: char) ->
     requires letters { IsTrue (list_all is_letter (chars letters.now)) }
     requires front { IsTrue (is_end_tag_front last.now (chars letters.now)) }
     requires letter { IsTrue (is_letter c) }
-    ensures { (table : References) (foreign : Bool) (mode : SeenMode) → mode.last_start_tag ≡ last.now → RawTurns table foreign mode kind (60 ∷ 47 ∷ chars letters.now) c result (held_behind result (60 ∷ 47 ∷ chars letters.now) c) }
+    ensures { (table : References) (foreign : Bool) (mode : SeenMode) → mode.last_start_tag ≡ last.now →
+        RawTurns table foreign mode kind (60 ∷ 47 ∷ chars letters.now) c result
+        (held_behind result (60 ∷ 47 ∷ chars letters.now) c) }
 {
     let Some(name) = last else {
         return RawTurn::Before(kind);
@@ -169,7 +180,8 @@ fn at_letter(last: &Option<LocalName>, kind: RawKind, letters: &str, c: char) ->
 
 // whether letters are the last start tag's name
 fn is_last_name(alloc: Global, last: &Option<LocalName>, letters: &str) -> Result<bool, AllocError>
-    ensures { IfOk result (λ b. b ≡ (nat_lt 0 (length (chars letters.now)) && is_last last.now (name_of (chars letters.now)))) }
+    ensures { IfOk result (λ b. b
+        ≡ (nat_lt 0 (length (chars letters.now)) && is_last last.now (name_of (chars letters.now)))) }
 {
     let Some(last) = last else {
         return Ok(false);

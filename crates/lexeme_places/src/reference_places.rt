@@ -1,7 +1,8 @@
 ghost use Rattle.std.specs.Prelude.{◌≡◌, ℕ, ◌≤◌, ◌∷◌, ◌++◌, Bool, IfOk, IsTrue, List, [], chars, string_bytes};
 ghost use Rattle.html_grammar.specs.declared.modes.Mode.{Mode as SeenMode};
 ghost use Rattle.lexeme_places.specs.ReferenceSound.{is_reference_held};
-ghost use Rattle.lexeme_places.specs.ReferenceTurns.{ReferenceTurns, StaysInReference, digit_turn, goes, hexadecimal_turn, number_turn};
+ghost use Rattle.lexeme_places.specs.ReferenceTurns.{ReferenceTurns, StaysInReference, digit_turn, goes};
+ghost use Rattle.lexeme_places.specs.ReferenceTurns.{hexadecimal_turn, number_turn};
 ghost use Rattle.lexeme_places.specs.Turns.{Turns};
 
 use crate::place::{Place, ReferencePlace};
@@ -18,7 +19,8 @@ pub(crate) fn reference_turn(
 ) -> Result<Turn, AllocError>
     requires { IsTrue (is_reference_held place (chars (string_bytes held.old))) }
     ensures turns { IfOk result (λ turn. (foreign : Bool) (mode : SeenMode)
-        → Turns table.now foreign mode (Place.CharacterReference place) (chars (string_bytes held.old)) c turn (chars (string_bytes held.new))) }
+        → Turns table.now foreign mode (Place.CharacterReference place) (chars (string_bytes held.old)) c turn
+        (chars (string_bytes held.new))) }
     ensures kind { IfOk result StaysInReference }
 {
     let length = held.len();
@@ -47,7 +49,8 @@ fn turn_behind(table: &ReferenceTable, place: ReferencePlace, text: &str, c: cha
 
 // What the last character of a name does.
 fn name_turn(table: &ReferenceTable, text: &str) -> Turn
-    ensures turns { (held : List ℕ) (c : ℕ) → chars text.now ≡ held ++ c ∷ [] → IsTrue (is_reference_held ReferencePlace.Named held)
+    ensures turns { (held : List ℕ) (c : ℕ) → chars text.now ≡ held ++ c ∷ [] →
+        IsTrue (is_reference_held ReferencePlace.Named held)
         → ReferenceTurns table.now ReferencePlace.Named held c result }
     ensures kind { StaysInReference result }
 {

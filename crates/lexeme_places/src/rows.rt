@@ -1,7 +1,8 @@
 //! What is held at places, computed on worked rows.
 ghost use Rattle.std.specs.Prelude.{◌≡◌, [], ◌∷◌, ℕ, List, true, false, codes, Some, None};
 ghost use Rattle.reference_tables.specs.References.{References};
-ghost use Rattle.html_lexemes.specs.declared.states.RawKind.TheVariants.{Rcdata, Rawtext, ScriptData, ScriptDataEscaped};
+ghost use Rattle.html_lexemes.specs.declared.states.RawKind.TheVariants.{Rcdata, Rawtext, ScriptData};
+ghost use Rattle.html_lexemes.specs.declared.states.RawKind.TheVariants.{ScriptDataEscaped};
 ghost use Rattle.html_lexemes.specs.declared.states.ScriptEscapeKind.TheVariants.{Escaped, DoubleEscaped};
 ghost use Rattle.html_grammar.specs.Items.{comment};
 ghost use Rattle.html_grammar.specs.Lexemes.{nothing, ordinary_item, told};
@@ -12,9 +13,12 @@ ghost use Rattle.lexeme_places.specs.PlaceKinds.{is_of_text, is_open};
 ghost use Rattle.lexeme_places.specs.Places.{place_lexeme};
 ghost use Rattle.lexeme_places.specs.RawSound.{is_raw_held};
 ghost use Rattle.lexeme_places.specs.ReferenceSound.{is_reference_held};
-ghost use Rattle.lexeme_places.specs.declared.place.Place.TheVariants.{BogusComment, CdataSection, CharacterReference, RawText, TagOpen, Text};
-ghost use Rattle.lexeme_places.specs.declared.place.RawPlace.TheVariants.{Dashes, EndTagName, EscapeStart, EscapeWord, LessThanSign};
-ghost use Rattle.lexeme_places.specs.declared.place.ReferencePlace.TheVariants.{Decimal, Hexadecimal, HexadecimalStart, Named, Numeric};
+ghost use Rattle.lexeme_places.specs.declared.place.Place.TheVariants.{BogusComment, CdataSection, CharacterReference};
+ghost use Rattle.lexeme_places.specs.declared.place.Place.TheVariants.{RawText, TagOpen, Text};
+ghost use Rattle.lexeme_places.specs.declared.place.RawPlace.TheVariants.{Dashes, EndTagName, EscapeStart, EscapeWord};
+ghost use Rattle.lexeme_places.specs.declared.place.RawPlace.TheVariants.{LessThanSign};
+ghost use Rattle.lexeme_places.specs.declared.place.ReferencePlace.TheVariants.{Decimal, Hexadecimal, HexadecimalStart};
+ghost use Rattle.lexeme_places.specs.declared.place.ReferencePlace.TheVariants.{Named, Numeric};
 
 fn kinds_of_rows()
     ensures text { is_of_text Text ≡ true }
@@ -85,7 +89,9 @@ fn ends_of_rows()
 {}
 
 fn lexemes_of_rows()
-    ensures bogus { (table : References) (mode : Mode) → place_lexeme table false mode BogusComment (codes "a>b") ≡ told (comment (codes "a") ∷ []) mode (codes "b") }
-    ensures section { (table : References) (mode : Mode) → place_lexeme table true mode CdataSection (codes "a]]>b") ≡ told (ordinary_item 97 ∷ []) mode (codes "b") }
+    ensures bogus { (table : References) (mode : Mode) → place_lexeme table false mode BogusComment (codes "a>b")
+        ≡ told (comment (codes "a") ∷ []) mode (codes "b") }
+    ensures section { (table : References) (mode : Mode) → place_lexeme table true mode CdataSection (codes "a]]>b")
+        ≡ told (ordinary_item 97 ∷ []) mode (codes "b") }
     ensures tag { (table : References) (mode : Mode) → place_lexeme table false mode TagOpen (codes "p") ≡ nothing }
 {}

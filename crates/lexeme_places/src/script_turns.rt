@@ -15,7 +15,8 @@ use html_lexemes::states::{RawKind, ScriptEscapeKind};
 /// At one or two dashes of an escaped part, which `-->` ends.
 pub(crate) fn at_dashes(kind: RawKind, held: &str, c: char) -> RawTurn
     requires { IsTrue (is_raw_held kind Dashes (chars held.now)) }
-    ensures { (table : References) (foreign : Bool) (mode : SeenMode) → RawTurns table foreign mode kind (chars held.now) c result (held_behind result (chars held.now) c) }
+    ensures { (table : References) (foreign : Bool) (mode : SeenMode) →
+        RawTurns table foreign mode kind (chars held.now) c result (held_behind result (chars held.now) c) }
 {
     if held.len() == 1 {
         return match c {
@@ -33,7 +34,8 @@ pub(crate) fn at_dashes(kind: RawKind, held: &str, c: char) -> RawTurn
 /// At `<!` or `<!-` of script data, where `<!--` begins an escaped part.
 pub(crate) fn at_escape_start(kind: RawKind, held: &str, c: char) -> RawTurn
     requires { IsTrue (is_raw_held kind EscapeStart (chars held.now)) }
-    ensures { (table : References) (foreign : Bool) (mode : SeenMode) → RawTurns table foreign mode kind (chars held.now) c result (held_behind result (chars held.now) c) }
+    ensures { (table : References) (foreign : Bool) (mode : SeenMode) →
+        RawTurns table foreign mode kind (chars held.now) c result (held_behind result (chars held.now) c) }
 {
     if c != '-' {
         return RawTurn::Before(kind);
@@ -48,7 +50,8 @@ pub(crate) fn at_escape_start(kind: RawKind, held: &str, c: char) -> RawTurn
 /// In the word that begins the other escaped part, `<script` or `</script`.
 pub(crate) fn at_escape_word(kind: RawKind, held: &str, c: char) -> RawTurn
     requires { IsTrue (is_raw_held kind EscapeWord (chars held.now)) }
-    ensures { (table : References) (foreign : Bool) (mode : SeenMode) → RawTurns table foreign mode kind (chars held.now) c result (held_behind result (chars held.now) c) }
+    ensures { (table : References) (foreign : Bool) (mode : SeenMode) →
+        RawTurns table foreign mode kind (chars held.now) c result (held_behind result (chars held.now) c) }
 {
     let word = word_of(kind);
     if goes_on(word, held.len(), c) {

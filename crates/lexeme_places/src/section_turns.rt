@@ -21,7 +21,8 @@ pub enum SectionTurn {
 /// What a further character does in a section where the beginning of an end mark is held.
 pub fn section_turn(held: &mut String, c: char) -> Result<SectionTurn, AllocError>
     requires { IsTrue (is_begun_section_end (chars (string_bytes held.old))) }
-    ensures { IfOk result (λ turn. (mode : SeenMode) → SectionTurns mode (chars (string_bytes held.old)) c turn (chars (string_bytes held.new))) }
+    ensures { IfOk result (λ turn. (mode : SeenMode) →
+        SectionTurns mode (chars (string_bytes held.old)) c turn (chars (string_bytes held.new))) }
 {
     if held.as_str() == "]]" {
         return Ok(behind_brackets(c));

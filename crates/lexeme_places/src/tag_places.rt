@@ -47,8 +47,10 @@ impl TagPlace {
 
 // the same in a value
 fn in_value(kind: AttrValueKind, c: char) -> Option<TagPlace>
-    ensures { MatchOption result ((table : References) (cs : List ℕ) → rest_in table (AttributeValue kind) (c ∷ cs) ≡ Some cs)
-        (λ place. (table : References) (cs : List ℕ) → rest_in table (AttributeValue kind) (c ∷ cs) ≡ rest_in table place cs) }
+    ensures { MatchOption result ((table : References) (cs : List ℕ) → rest_in table (AttributeValue kind) (c ∷ cs)
+        ≡ Some cs)
+        (λ place. (table : References) (cs : List ℕ) → rest_in table (AttributeValue kind) (c ∷ cs)
+        ≡ rest_in table place cs) }
 {
     match kind {
         AttrValueKind::Unquoted => match c {

@@ -19,7 +19,9 @@ pub(crate) fn tag_turn(
     c: char,
 ) -> Result<Turn, AllocError>
     requires { IsInTag kind place (chars (string_bytes held.old)) }
-    ensures turns { IfOk result (λ turn. (table : References) (foreign : Bool) (mode : SeenMode) → Turns table foreign mode (Tag kind place) (chars (string_bytes held.old)) c turn (chars (string_bytes held.new))) }
+    ensures turns { IfOk result (λ turn. (table : References) (foreign : Bool) (mode : SeenMode) →
+        Turns table foreign mode (Tag kind place) (chars (string_bytes held.old)) c turn
+        (chars (string_bytes held.new))) }
     ensures kind { IfOk result (KeepsKind (Tag kind place)) }
 {
     held.push(c)?;

@@ -183,7 +183,8 @@ fn tags_are_equivalent_in_any_order_of_attributes(rt: HostRuntime) {
     }
 }
 
-// whether a tag is its copy, and equivalent to itself once it is closed, but not to an end tag, nor to one of another name
+// whether a tag is its copy, and equivalent to itself once it is closed, but not to an end tag, nor to one of another
+// name
 fn are_tags_apart(alloc: Global) -> Result<bool, AllocError> {
     let first = tag(alloc, &[("x", "1")])?;
     let mut other = first.try_clone()?;

@@ -1,6 +1,7 @@
 -- The number of the last target.
 use Rattle.std.proofs.Common.{◌≡◌, ℕ, ◌+◌, ◌-◌, ◌<◌, true, false, cond, List, [], ◌∷◌, ◌++◌, length, take, refl, sym}
-use Rattle.std.proofs.Common.{ap, subst, ◌∙◌, None, Option, Some, String, arith, get_or, slice_get, string_eq, unwrap_or}
+use Rattle.std.proofs.Common.{ap, subst, ◌∙◌, None, Option, Some, String, arith, get_or, slice_get, string_eq}
+use Rattle.std.proofs.Common.{unwrap_or}
 use Rattle.std.proofs.lemmas.List.{map-append, take_more}
 use Rattle.std.proofs.lemmas.Bool.{cond-true, or_left, or_right}
 use Rattle.std.specs.Cmp.Lexicographic.{nat_list_eq_equiv}
@@ -49,7 +50,8 @@ none_numbered (x ∷ xs) none = cc none
 
 -- one target more is numbered
 pub one_numbered : (items : List (String Global)) (n : ℕ) (y : String Global) (m : Numbers) → n < length items →
-    y ≡ get_or items n y → AreNumbered (take n (names items) ++ text_of y ∷ []) m → AreNumbered (take (n + 1) (names items)) m
+    y ≡ get_or items n y → AreNumbered (take n (names items) ++ text_of y ∷ []) m →
+    AreNumbered (take (n + 1) (names items)) m
 one_numbered items n y m small is numbered =
     subst (λ ts. AreNumbered ts m) (sym (take-map text_of (n + 1) items
     ∙ (ap names (take_more items n y small ∙ ap (λ z. take n items ++ z ∷ []) (sym is))

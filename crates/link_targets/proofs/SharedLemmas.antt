@@ -93,7 +93,8 @@ number_kept : (held more : List (List ℕ)) (t : List ℕ) → has_text held t �
     number_among (fold with_text held more) (Some t) ≡ number_among held (Some t)
 number_kept held [] t has = refl
 number_kept held (u ∷ more) t has =
-    number_kept (with_text held u) more t (has_with_at held u t (has_text held u) refl ∙ ap (λ b. b || is_same_text t u) has)
+    number_kept (with_text held u) more t (has_with_at held u t (has_text held u) refl ∙
+    ap (λ b. b || is_same_text t u) has)
     ∙ number_with held u t (has_text held u) has
 
 pub number_stays : (targets more : List (List ℕ)) (target : List ℕ) → has_text targets target ≡ true →

@@ -13,7 +13,8 @@ use Rattle.name_sets.specs.Sets.{Elements, is_element_of, is_one_of}
 -- the names that tests of scope ask about (13.2.6.4.7 to 13.2.6.4.15), what is asked most often first
 abbrev pub counted_names : List (List ℕ)
 counted_names = codes "p" ∷ codes "div" ∷ codes "li" ∷ codes "ul" ∷ codes "a" ∷ codes "button" ∷ codes "table"
-    ∷ codes "td" ∷ codes "th" ∷ codes "tr" ∷ codes "tbody" ∷ codes "thead" ∷ codes "tfoot" ∷ codes "caption" ∷ codes "template"
+    ∷ codes "td" ∷ codes "th" ∷ codes "tr" ∷ codes "tbody" ∷ codes "thead" ∷ codes "tfoot" ∷ codes "caption"
+    ∷ codes "template"
     ∷ codes "select" ∷ codes "form" ∷ codes "body" ∷ codes "html" ∷ codes "dd" ∷ codes "dt" ∷ codes "dl" ∷ codes "ol"
     ∷ codes "h1" ∷ codes "h2" ∷ codes "h3" ∷ codes "h4" ∷ codes "h5" ∷ codes "h6" ∷ codes "nobr" ∷ codes "ruby"
     ∷ codes "option" ∷ codes "optgroup" ∷ codes "rtc" ∷ codes "colgroup" ∷ codes "section" ∷ codes "article"

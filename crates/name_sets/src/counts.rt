@@ -56,8 +56,8 @@ impl OpenCounts {
         self.counts[place] -= 1;
     }
 
-    /// Whether it is known by the counts that no element of a set is open. Where each word of the set has a count of its
-    /// own, they say it exactly; of another name, which shares its count with others, `false` says nothing.
+    /// Whether it is known by the counts that no element of a set is open. Where each word of the set has a count of
+    /// its own, they say it exactly; of another name, which shares its count with others, `false` says nothing.
     pub fn has_none(&self, wanted: ElementSet<'_>) -> bool
         ensures none { (names : List SeenQualName) → self.now ≡ counts_of names → result ≡ true →
             has_one (elements_of wanted.entry) names ≡ false }

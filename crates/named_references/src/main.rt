@@ -1,6 +1,6 @@
 //! Tells what named character references stand for. The table is read from standard input, in the form in
-//! which the standard publishes it (WHATWG HTML, 13.5); each word of the command line is a text, of which the longest name
-//! that it begins with is told, with the code points that it stands for.
+//! which the standard publishes it (WHATWG HTML, 13.5); each word of the command line is a text, of which the longest
+//! name that it begins with is told, with the code points that it stands for.
 #![tactic(auto)]
 
 use html_lexemes::{ReferenceTable, TableError};

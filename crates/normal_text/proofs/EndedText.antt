@@ -70,7 +70,8 @@ visible_ends width read cs tag ends =
     let held = ap (λ xs. read_letters width nothing_read (read ++ lettered xs tag)) ends.whole
     ∙ last_is_read width read ends.front ends.last tag ends.visible r refl in
     ap (λ ls. lines_read width (read_letters width nothing_read (read ++ ls))) (map-append _ cs (0x20 ∷ []))
-    ∙ ap (λ ls. lines_read width (read_letters width nothing_read ls)) (sym (append_assoc read (lettered cs tag) (s ∷ [])))
+    ∙ ap (λ ls. lines_read width (read_letters width nothing_read ls))
+    (sym (append_assoc read (lettered cs tag) (s ∷ [])))
     ∙ ap (lines_read width) (fold-append (read_letter width) nothing_read (read ++ lettered cs tag) (s ∷ []))
     ∙ ap (λ q. lines_read width (read_letter width q s)) held
     ∙ space_ends width r.lines r.space r.letters l s

@@ -45,7 +45,8 @@ only_front x (z ∷ w ∷ front) back y e = cc
 pub ride_fits : {S : Type 0} (width : ℕ) (overflow : Bool) (tag : Rider S)
     → HasWider width overflow (lettered (chars (0xE2 ∷ 0x81 ∷ 0xA0 ∷ [])) tag) → ⊥
 ride_fits width overflow tag h =
-    let same = only_front (record { code = 0x2060; tag = tag }) h.front h.back h.letter (sym (ride_letters tag) ∙ h.whole)
+    let same =
+    only_front (record { code = 0x2060; tag = tag }) h.front h.back h.letter (sym (ride_letters tag) ∙ h.whole)
     in
     let code : width_of h.letter.code ≡ 0 = ap (λ (l : Letter _). width_of l.code) (sym same) ∙ no_width in
     let wider : width < width_of h.letter.code = h.wider in
@@ -56,7 +57,8 @@ ride_fits width overflow tag h =
 names-append : (xs ys : List (String Global)) → names (xs ++ ys) ≡ names xs ++ names ys
 names-append xs ys = map-append (λ name. chars (string_bytes name)) xs ys
 
-pub rides_more : {S : Type 0} (read : List (Letter (Rider S))) (all : List (String Global)) (i : ℕ) (name : String Global)
+pub rides_more : {S : Type 0} (read : List (Letter (Rider S))) (all : List (String Global)) (i : ℕ)
+    (name : String Global)
     → i < length all → name ≡ get_or all i name
     → (read ++ map (λ n. ride n) (names (take i all))) ++ ride (chars (string_bytes name)) ∷ []
     ≡ read ++ map (λ n. ride n) (names (take (i + 1) all))
@@ -73,7 +75,8 @@ abbrev pub carried_so : {S : Type 0} → List (Letter (Rider S)) → List (List 
 carried_so letters waiting in_word = record { letters = letters; waiting = waiting; in_word = in_word }
 
 pub bare_step : {S : Type 0} (width : ℕ) (k : Carried S) (c : ℕ) (m f : S) → is_carrier c ≡ false
-    → carry width k (letter c m f) ≡ carried_so (k.letters ++ plain_letter c m ∷ []) k.waiting (in_word_at width k.in_word c)
+    → carry width k (letter c m f) ≡ carried_so (k.letters ++ plain_letter c m ∷ []) k.waiting
+    (in_word_at width k.in_word c)
 bare_step width k c m f bare =
     ap (λ t. if t
     then carried_so (k.letters ++ (map (λ name. ride name) k.waiting ++ plain_letter c m ∷ [])) []
@@ -81,7 +84,8 @@ bare_step width k c m f bare =
     else carried_so (k.letters ++ plain_letter c m ∷ []) k.waiting (in_word_at width k.in_word c)) bare
 
 pub word_step : {S : Type 0} (width : ℕ) (k : Carried S) (c : ℕ) (m f : S) → is_carrier c ≡ true
-    → carry width k (letter c m f) ≡ carried_so (k.letters ++ (map (λ name. ride name) k.waiting ++ plain_letter c m ∷ []))
+    → carry width k (letter c m f)
+    ≡ carried_so (k.letters ++ (map (λ name. ride name) k.waiting ++ plain_letter c m ∷ []))
     [] (in_word_at width k.in_word c)
 word_step width k c m f carrier =
     ap (λ t. if t
@@ -93,7 +97,8 @@ carry_bare : {S : Type 0} (width : ℕ) (cs : List ℕ) (letters : List (Letter 
     (in_word : Bool) (m f : S) → All (λ c. is_carrier c ≡ false) cs
     → fold (carry width) (carried_so letters waiting in_word) (sourced cs m f)
     ≡ carried_so (letters ++ lettered cs (plain m)) waiting (in_word_behind width in_word cs)
-carry_bare width [] letters waiting in_word m f bare = ap (λ ls. carried_so ls waiting in_word) (sym (append-nil letters))
+carry_bare width [] letters waiting in_word m f bare =
+    ap (λ ls. carried_so ls waiting in_word) (sym (append-nil letters))
 carry_bare width (c ∷ cs) letters waiting in_word m f bare =
     ap (λ k. fold (carry width) k (sourced cs m f)) (bare_step width (carried_so letters waiting in_word) c m f
     (All-head (λ d. is_carrier d ≡ false) c cs bare))
@@ -150,7 +155,8 @@ carry_text width text front back k m f whole bare begins =
 
 -- ---- what is too wide
 
-wide_first : (breaks : Bool) (n w : ℕ) (rest : Bool) → breaks ≡ false → w < n → ((not breaks && nat_lt w n) || rest) ≡ true
+wide_first : (breaks : Bool) (n w : ℕ) (rest : Bool) → breaks ≡ false → w < n → ((not breaks && nat_lt w n) || rest)
+    ≡ true
 wide_first true n w rest solid wide = cc
 wide_first false n w rest solid wide = grind (arith, nat_tests)
 
@@ -230,7 +236,8 @@ adds_nothing seen old (c ∷ cs) tag none = cc
 pub adds_words : {T S : Type 0} (seen : T → S) (old new : MarkedText T) (mid : NormalText (MarkedTag T))
     (rides : List (String Global)) (cs : List ℕ) (tag : Rider S) → (cs ≡ [] → ⊥) → new.width ≡ old.width
     → new.in_word ≡ old.in_word → new.waiting.items ≡ [] → rides ≡ old.waiting.items
-    → ((width : ℕ) (overflow : Bool) (read : List (Letter (Rider S))) → HasRead (tag_seen seen) width overflow read old.text
+    → ((width : ℕ) (overflow : Bool) (read : List (Letter (Rider S))) →
+    HasRead (tag_seen seen) width overflow read old.text
     → HasRead (tag_seen seen) width overflow (read ++ map (λ name. ride name) (names rides)) mid)
     → ((width : ℕ) (overflow : Bool) (read : List (Letter (Rider S))) → HasRead (tag_seen seen) width overflow read mid
     → HasRead (tag_seen seen) width overflow (read ++ lettered cs tag) new.text)
@@ -252,7 +259,8 @@ adds_words seen old new mid rides (c ∷ cs) tag some w i none same first second
 }
 
 pub meets_at_rides : {T S : Type 0} (seen : T → S) (old : MarkedText T) (cs : List ℕ) (tag : Rider S)
-    → ((width : ℕ) (overflow : Bool) (read : List (Letter (Rider S))) → HasRead (tag_seen seen) width overflow read old.text
+    → ((width : ℕ) (overflow : Bool) (read : List (Letter (Rider S))) →
+    HasRead (tag_seen seen) width overflow read old.text
     → ⊥) → MeetsWideWord seen old cs tag
 meets_at_rides seen old cs tag never = record {
   wide = λ width overflow letters waiting h. absurd (never width overflow letters h.read);
@@ -260,7 +268,8 @@ meets_at_rides seen old cs tag never = record {
 
 pub meets_behind : {T S : Type 0} (seen : T → S) (old : MarkedText T) (mid : NormalText (MarkedTag T))
     (rides : List (String Global)) (cs : List ℕ) (tag : Rider S)
-    → ((width : ℕ) (overflow : Bool) (read : List (Letter (Rider S))) → HasRead (tag_seen seen) width overflow read old.text
+    → ((width : ℕ) (overflow : Bool) (read : List (Letter (Rider S))) →
+    HasRead (tag_seen seen) width overflow read old.text
     → HasRead (tag_seen seen) width overflow (read ++ map (λ name. ride name) (names rides)) mid)
     → ((width : ℕ) (overflow : Bool) (read : List (Letter (Rider S))) → HasRead (tag_seen seen) width overflow read mid
     → HasWider width overflow (lettered cs tag))
@@ -274,7 +283,8 @@ meets_behind seen old mid rides cs tag first wider = record {
 pub text_carried : {T S : Type 0} (seen : T → S) (old mid words new : MarkedText T) (text front back : List ℕ) (m f : S)
     → text ≡ front ++ back → All (λ c. is_carrier c ≡ false) front → BeginsWord back → mid.width ≡ old.width
     → mid.in_word ≡ old.in_word → mid.waiting ≡ old.waiting
-    → ((width : ℕ) (overflow : Bool) (read : List (Letter (Rider S))) → HasRead (tag_seen seen) width overflow read old.text
+    → ((width : ℕ) (overflow : Bool) (read : List (Letter (Rider S))) →
+    HasRead (tag_seen seen) width overflow read old.text
     → HasRead (tag_seen seen) width overflow (read ++ lettered front (plain m)) mid.text)
     → AddsWords seen mid words back (plain m) → new.width ≡ words.width → new.text ≡ words.text
     → new.waiting ≡ words.waiting → new.in_word ≡ in_word_behind words.width words.in_word text
@@ -303,7 +313,8 @@ text_carried seen old mid words new text front back m f whole bare begins mw mi 
 
 pub wide_at_front : {T S : Type 0} (seen : T → S) (old : MarkedText T) (text front back : List ℕ) (m f : S)
     → text ≡ front ++ back
-    → ((width : ℕ) (overflow : Bool) (read : List (Letter (Rider S))) → HasRead (tag_seen seen) width overflow read old.text
+    → ((width : ℕ) (overflow : Bool) (read : List (Letter (Rider S))) →
+    HasRead (tag_seen seen) width overflow read old.text
     → HasWider width overflow (lettered front (plain m))) → MeetsWide seen old (sourced text m f)
 wide_at_front seen old text front back m f whole wider = record {
   wide = λ width overflow k h.
@@ -313,7 +324,8 @@ wide_at_front seen old text front back m f whole wider = record {
 
 pub wide_at_back : {T S : Type 0} (seen : T → S) (old mid : MarkedText T) (text front back : List ℕ) (m f : S)
     → text ≡ front ++ back → mid.width ≡ old.width → mid.waiting ≡ old.waiting
-    → ((width : ℕ) (overflow : Bool) (read : List (Letter (Rider S))) → HasRead (tag_seen seen) width overflow read old.text
+    → ((width : ℕ) (overflow : Bool) (read : List (Letter (Rider S))) →
+    HasRead (tag_seen seen) width overflow read old.text
     → HasRead (tag_seen seen) width overflow (read ++ lettered front (plain m)) mid.text)
     → MeetsWideWord seen mid back (plain m) → MeetsWide seen old (sourced text m f)
 wide_at_back seen old mid text front back m f whole mw mq first wider = record {
@@ -338,7 +350,8 @@ marker_at width k name b e = ap (λ t. if t then carried_so (k.letters ++ ride n
 
 pub marker_rides : {T S : Type 0} (seen : T → S) (old new : MarkedText T) (name : List ℕ) → old.in_word ≡ true
     → new.width ≡ old.width → new.in_word ≡ old.in_word → new.waiting ≡ old.waiting
-    → ((width : ℕ) (overflow : Bool) (read : List (Letter (Rider S))) → HasRead (tag_seen seen) width overflow read old.text
+    → ((width : ℕ) (overflow : Bool) (read : List (Letter (Rider S))) →
+    HasRead (tag_seen seen) width overflow read old.text
     → HasRead (tag_seen seen) width overflow (read ++ ride name ∷ []) new.text)
     → CarriesOn seen old new (fragment name ∷ [])
 marker_rides seen old new name riding w i q read = record {
@@ -374,7 +387,8 @@ marker_waits seen old new name told is riding w i t q = record {
 }
 
 pub marker_fits : {T S : Type 0} (seen : T → S) (old : MarkedText T) (name : List ℕ)
-    → ((width : ℕ) (overflow : Bool) (read : List (Letter (Rider S))) → HasRead (tag_seen seen) width overflow read old.text
+    → ((width : ℕ) (overflow : Bool) (read : List (Letter (Rider S))) →
+    HasRead (tag_seen seen) width overflow read old.text
     → ⊥) → MeetsWide seen old (fragment name ∷ [])
 marker_fits seen old name never = record {
   wide = λ width overflow k h. absurd (never width overflow k.letters h.holds.read);

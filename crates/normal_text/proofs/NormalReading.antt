@@ -330,7 +330,8 @@ pub both_ok : {T E : Type 0} (P Q : Type 0) (r : Result T E) → OnOk r P → On
 both_ok P Q (Ok x) p q = (p, q)
 both_ok P Q (Err e) p q = tt
 
-pub text_read : {T S E : Type 0} (seen : T → S) (r : Result (Unit {0}) E) (old new : NormalText T) (ls : List (Letter S))
+pub text_read : {T S E : Type 0} (seen : T → S) (r : Result (Unit {0}) E) (old new : NormalText T)
+    (ls : List (Letter S))
     → OnOk r (Reads seen old new ls)
     → OnOk r ((width : ℕ) (overflow : Bool) (read : List (Letter S)) → HasRead seen width overflow read old
     → HasRead seen width overflow (read ++ ls) new)

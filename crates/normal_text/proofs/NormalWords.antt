@@ -67,7 +67,8 @@ some_letters (c ∷ cs) some e = cc
 pub whole_read : {T S : Type 0} (block : NormalText T) (width : ℕ) (r : Reading S) (cs : List ℕ) (code : ℕ) (tag : S)
     → All (JoinsWord block) cs → r.letters ≡ [] → text_columns cs ≢ 0 → is_break_point code ≡ true
     → read_letters width r (lettered (cs ++ code ∷ []) tag)
-    ≡ reading (add_unit width r.lines (piece r.space (lettered cs tag))) (if is_white_space code then Some tag else None)
+    ≡ reading (add_unit width r.lines (piece r.space (lettered cs tag))) (if is_white_space code then Some tag
+    else None)
     []
 whole_read block width r cs code tag all none some is_break =
     let l : Letter _ = record { code = code; tag = tag } in
@@ -91,7 +92,8 @@ word_reads seen old new cs code tag all some empty is_break laid =
       moves = record {
         moves = λ width overflow r h.
             let none = no_letters r.letters (sym h.word ∙ empty) in
-            subst (HoldsReading seen width overflow new) (sym (whole_read old width r cs code tag all none some is_break))
+            subst (HoldsReading seen width overflow new)
+            (sym (whole_read old width r cs code tag all none some is_break))
             (laid.lays width overflow r h none (some_letters cs some) is_break);
       };
       room = λ width overflow r h.
@@ -187,7 +189,8 @@ pub first_wider : {T S : Type 0} (seen : T → S) (old : NormalText T) (text aft
 first_wider seen old text after c tag utf8 split meets =
     record {
       wider = λ width overflow r h.
-          wider_within width overflow [] (lettered (c ∷ []) tag) (lettered (chars after) tag) (lettered (chars text) tag)
+          wider_within width overflow [] (lettered (c ∷ []) tag) (lettered (chars after) tag)
+          (lettered (chars text) tag)
           (ap (λ x. lettered x tag) (chars_past_char text after c utf8 split)) (meets.wider width overflow r h);
     }
 

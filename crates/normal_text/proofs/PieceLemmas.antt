@@ -34,7 +34,8 @@ pub letters_of_sourced : {S : Type 0} (cs : List ℕ) (m f : S) → letters_of (
 letters_of_sourced [] m f = refl
 letters_of_sourced (c ∷ cs) m f = ap (λ ls. record { code = c; tag = m } ∷ ls) (letters_of_sourced cs m f)
 
-pub has_marker-append : {S : Type 0} (xs ys : List (Source S)) → has_marker (xs ++ ys) ≡ (has_marker xs || has_marker ys)
+pub has_marker-append : {S : Type 0} (xs ys : List (Source S)) → has_marker (xs ++ ys)
+    ≡ (has_marker xs || has_marker ys)
 has_marker-append [] ys = refl
 has_marker-append (letter c m f ∷ xs) ys = has_marker-append xs ys
 has_marker-append (fragment name ∷ xs) ys = refl

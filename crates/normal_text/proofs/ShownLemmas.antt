@@ -26,7 +26,8 @@ pub settled_more : {S : Type 0} (done lines : List (List (Item S))) (front line 
     ++ settled_lines (if has_text (front ++ line) then [] else front ++ line) lines
     ≡ done ++ settled_lines front (line ∷ lines)
 settled_more done lines front line none =
-    ap (λ t. (if t then done ++ (front ++ line) ∷ [] else done) ++ settled_lines (if t then [] else front ++ line) lines)
+    ap (λ t. (if t then done ++ (front ++ line) ∷ [] else done) ++ settled_lines (if t then []
+    else front ++ line) lines)
     (has_text-append front line ∙ ap (λ t. t || has_text line) none) ∙ by_text (has_text line)
   where
     by_text : (t : Bool) → (if t then done ++ (front ++ line) ∷ [] else done)
@@ -60,7 +61,8 @@ pub settled_step : {S : Type 0} (done made lines all : List (List (Item S))) (fr
 settled_step done made lines all front line whole left split made_is left_is free before =
     ap (λ d. d ++ settled_lines left lines) made_is
     ∙ ap (λ f. (if has_text whole then done ++ whole ∷ [] else done) ++ settled_lines f lines) left_is
-    ∙ ap (λ w. (if has_text w then done ++ w ∷ [] else done) ++ settled_lines (if has_text w then [] else w) lines) split
+    ∙ ap (λ w. (if has_text w then done ++ w ∷ [] else done) ++ settled_lines (if has_text w then []
+    else w) lines) split
     ∙ settled_more done lines front line free ∙ before
 
 pub rest_step : {S : Type 0} (lines : List (List (Item S))) (front line whole left all : List (Item S))

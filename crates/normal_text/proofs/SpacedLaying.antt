@@ -87,7 +87,8 @@ words_read block width lines tag (w ∷ ws) room all =
     ∙ words_read block width (add_unit width lines (piece (Some tag) (lettered w tag))) tag ws room
     (All-tail IsWord w ws all)
 
-pub words_room : {T S : Type 0} (seen : T → S) (width : ℕ) (overflow : Bool) (old : NormalText T) (r : Reading S) (tag : S)
+pub words_room : {T S : Type 0} (seen : T → S) (width : ℕ) (overflow : Bool) (old : NormalText T) (r : Reading S)
+    (tag : S)
     (ws : List (List ℕ)) → HoldsReading seen width overflow old r
     → (old.lines.allow_overflow || nat_le 1 old.lines.width) ≡ true → All IsWord ws
     → AllHaveRoom width overflow (lettered (closed ws) tag)
@@ -97,7 +98,8 @@ words_room seen width overflow old r tag (w ∷ ws) h room all =
     let fit : Letter _ → Type 0 = λ x. IsTrue (has_room width overflow x) in
     let word = All-head IsWord w ws all in
     let first = All-append fit (lettered w tag) (l ∷ [])
-    (run_room seen width overflow old r w tag h (all_join old room w word.visible)) (break_room width overflow l refl) in
+    (run_room seen width overflow old r w tag h (all_join old room w word.visible))
+    (break_room width overflow l refl) in
     subst (AllHaveRoom width overflow) (sym (map-append _ (w ++ 0x20 ∷ []) (closed ws)))
     (All-append fit (lettered (w ++ 0x20 ∷ []) tag) (lettered (closed ws) tag)
     (subst (AllHaveRoom width overflow) (sym (map-append _ w (0x20 ∷ []))) first)
@@ -128,7 +130,8 @@ word_fits width done n ns tag c cs fits =
     columns_behind n ns ms ∙ ap (λ k. columns (n ∷ ns) + k) more in
     let left = below (letters_columns ls) width (omega (arith, fits)) in
     let right = below (columns ((n ∷ ns) ++ ms)) width (omega (arith, fits, counted)) in (
-      if_true (nat_le (letters_columns ls) width) _ _ left ∙ if_true (nat_le (columns ((n ∷ ns) ++ ms)) width) _ _ right,
+      if_true (nat_le (letters_columns ls) width) _ _ left ∙
+          if_true (nat_le (columns ((n ∷ ns) ++ ms)) width) _ _ right,
       counted,
     )
 
@@ -174,7 +177,8 @@ words_pushed seen old new text tag w o d added joins =
                 (omega (arith, more.fits, same, h.same_width)) in
                 subst (HoldsLines seen width overflow new) (sym fills.whole)
                 (holds_pushed seen width overflow old new f fills.marks h w o d
-                (added ∙ ap (λ i. line_items seen old.line ++ i) (ap (λ cs. tagged cs tag) text_is ∙ sym fills.items)) joins);
+                (added ∙ ap (λ i. line_items seen old.line ++ i) (ap (λ cs. tagged cs tag) text_is ∙ sym fills.items))
+                joins);
           };
     }
 
@@ -198,7 +202,8 @@ one_fits seen filling more t =
     either true c h = refl
     either false c h = h
 
-pub words_moved : {T S : Type 0} (seen : T → S) (old new : NormalText T) (words : List (List ℕ)) (text : List ℕ) (tag : S)
+pub words_moved : {T S : Type 0} (seen : T → S) (old new : NormalText T) (words : List (List ℕ)) (text : List ℕ)
+    (tag : S)
     → AwaitsWord seen old tag → All IsWord words → text ≡ spaced words
     → TakesMore seen old.lines (length (spaced words)) → LaysWords seen old.lines new.lines text tag
     → new.width ≡ old.width → new.space ≡ old.space → new.word ≡ old.word
@@ -226,14 +231,16 @@ words_moved seen old new words text tag awaits all text_is more laid w s o =
 
 -- the words in front of a text are read, with the space behind them
 pub words_taken : {T S : Type 0} (seen : T → S) (old new : NormalText T) (text after here rest back behind : List ℕ)
-    (n room read c : ℕ) (tag : S) → AwaitsWord seen old tag → IsUtf8 text → IsUtf8 back → text ≡ encode_utf8 read ++ after → read ≡ 0x20
+    (n room read c : ℕ) (tag : S) → AwaitsWord seen old tag → IsUtf8 text → IsUtf8 back →
+    text ≡ encode_utf8 read ++ after → read ≡ 0x20
     → HasWords text rest n room → ((front : List ℕ) → text ≡ front ++ rest → here ≡ front)
     → chars text ≡ chars here ++ chars back → back ≡ encode_utf8 c ++ behind → c ≡ 0x20 → n ≢ 0
     → ((k : ℕ) → k ≢ 0 → k ≤ room → TakesMore seen old.lines k)
     → LaysWords seen old.lines new.lines (chars here) tag
     → new.width ≡ old.width → new.space ≡ old.space → new.word ≡ old.word
     → ReadsFront seen old new after behind tag
-words_taken seen old new text after here rest back behind n room read c tag awaits utf8 back_utf8 begins read_is has only
+words_taken seen old new text after here rest back behind n room read c tag awaits utf8 back_utf8 begins read_is has
+    only
     parts split is_space some takes laid w s o =
     let words_are : chars here ≡ spaced has.words = ap chars (only has.parts.front has.parts.whole) ∙ has.whole in
     let back_is = chars_past_char back behind c back_utf8 split ∙ ap (λ x. x ∷ chars behind) is_space in

@@ -84,7 +84,8 @@ pub more_moved : {T S : Type 0} (seen : T → S) (old new : NormalText T) (text 
 more_moved seen old new text n tag fills goes_on w s o first after text_is =
     let ws = fills.words in
     let g = goes_on (spaced ws.words) ws.whole in
-    let laid = words_pushed seen old.lines new.lines (spaced ws.words) tag g.same_width g.same_overflow g.same_done g.line
+    let laid =
+    words_pushed seen old.lines new.lines (spaced ws.words) tag g.same_width g.same_overflow g.same_done g.line
     g.joins in
     let more = subst (TakesMore seen old.lines) ws.counted fills.more in
     let after_is : after ≡ closed ws.words =
@@ -166,14 +167,16 @@ line_read : {T S : Type 0} (block : NormalText T) (width : ℕ) (r : Reading S) 
     (words : List (List ℕ)) (text : List ℕ) → text ≡ (first ++ 0x20 ∷ []) ++ closed words
     → (block.lines.allow_overflow || nat_le 1 block.lines.width) ≡ true → IsWord first → All IsWord words
     → r.letters ≡ [] → read_letters width r (lettered text tag)
-    ≡ reading (fold (add_unit width) (add_unit width r.lines (piece r.space (lettered first tag))) (word_pieces tag words))
+    ≡ reading (fold (add_unit width) (add_unit width r.lines (piece r.space (lettered first tag)))
+    (word_pieces tag words))
     (Some tag) []
 line_read block width r tag first words text text_is room word all none =
     ap (λ cs. read_letters width r (lettered cs tag)) text_is
     ∙ ap (read_letters width r) (map-append _ (first ++ 0x20 ∷ []) (closed words))
     ∙ fold-append (read_letter width) r (lettered (first ++ 0x20 ∷ []) tag) (lettered (closed words) tag)
     ∙ ap (λ q. read_letters width q (lettered (closed words) tag))
-    (whole_read block width r first 0x20 tag (all_join block room first word.visible) none (some_columns first word) refl)
+    (whole_read block width r first 0x20 tag (all_join block room first word.visible) none
+    (some_columns first word) refl)
     ∙ words_read block width (add_unit width r.lines (piece r.space (lettered first tag))) tag words room all
 
 line_room : {T S : Type 0} (seen : T → S) (width : ℕ) (overflow : Bool) (old : NormalText T) (r : Reading S) (tag : S)
@@ -223,7 +226,8 @@ line_moved seen old new text n tag fills goes_on w s o =
             (sym (line_read old width r tag ws.first ws.words text text_is room ws.is_word ws.are_words none))
             (record {
               same_width = w ∙ h.same_width;
-              lines = fresh_held seen width overflow old.lines new.lines r.lines r.space tag ws.first ws.words ws.is_word
+              lines = fresh_held seen width overflow old.lines new.lines r.lines r.space tag ws.first ws.words
+                  ws.is_word
                   ws.are_words (omega (arith, ws.counted, fills.fits, h.same_width)) fills.fresh
                   (goes_on (ws.first ++ spaced ws.words) ws.whole) h.lines;
               space = s;
@@ -253,7 +257,8 @@ pub spaced_reads : {T S : Type 0} (seen : T → S) (old mid new : NormalText T) 
 spaced_reads seen old mid new text after c tag utf8 split one more =
     let text_is = chars_past_char text after c utf8 split in
     subst (λ cs. Reads seen old new (lettered cs tag)) (sym text_is)
-    (reads_more seen old mid new (lettered (c ∷ []) tag) (lettered (chars after) tag) one (more c (chars after) text_is))
+    (reads_more seen old mid new (lettered (c ∷ []) tag) (lettered (chars after) tag) one
+    (more c (chars after) text_is))
 
 pub nothing_there : {X T S : Type 0} (seen : T → S) (old : NormalText T) (o : Option X) (text bytes : List ℕ) (tag : S)
     → ((x : X) → o ≡ Some x → ⊥) → (IsNone o → text ≡ []) → text ≡ bytes

@@ -54,7 +54,8 @@ behind_last width in_word rest before c split utf8 scalar =
     ∙ fold-append (in_word_at width) in_word (chars before) (c ∷ [])
 
 pub at_break : (width : ℕ) (b : Bool) (c : ℕ) → is_break_point c ≡ true → in_word_at width b c ≡ false
-at_break width b c breaks = ap (λ t. if t then false else (if is_some (columns_of c) then nat_le (width_of c) width else b))
+at_break width b c breaks = ap (λ t. if t then false
+    else (if is_some (columns_of c) then nat_le (width_of c) width else b))
     breaks
 
 pub at_shown : (width : ℕ) (b : Bool) (c n : ℕ) → is_break_point c ≡ false → columns_of c ≡ Some n

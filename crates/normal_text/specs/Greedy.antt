@@ -1,4 +1,5 @@
--- Greedy filling: unit by unit, on lines each of which takes what goes on it. That it gives the fullest layouts is a law.
+-- Greedy filling: unit by unit, on lines each of which takes what goes on it. That it gives the fullest layouts is a
+-- law.
 use Rattle.std.specs.Prelude.{ℕ, nat_le, List, [], ◌∷◌, ◌++◌, fold, if◌then◌else◌}
 use Rattle.normal_text.specs.Units.{Piece, letters_columns}
 use Rattle.normal_text.specs.Layout.{Mark, marked, opens, starts, inside, cuttable, columns}

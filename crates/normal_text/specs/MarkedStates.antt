@@ -18,7 +18,8 @@ pub record HoldsLetters {T S : Type 0} (seen : T → S) (width : ℕ) (overflow 
   pub waits : names m.waiting.items ≡ waiting
 
 -- The same, and whether a marker rides on the word before it.
-pub record Carries {T S : Type 0} (seen : T → S) (width : ℕ) (overflow : Bool) (k : Carried S) (m : MarkedText T) : Type 0
+pub record Carries {T S : Type 0} (seen : T → S) (width : ℕ) (overflow : Bool) (k : Carried S) (m : MarkedText T) :
+    Type 0
   where
     pub holds : HoldsLetters seen width overflow k.letters k.waiting m
     pub in_word : m.in_word ≡ k.in_word
@@ -46,13 +47,15 @@ abbrev pub words_waiting : List ℕ → List (List ℕ) → List (List ℕ)
 words_waiting [] waiting = waiting
 words_waiting (c ∷ cs) waiting = []
 
-pub record AddsWords {T S : Type 0} (seen : T → S) (old new : MarkedText T) (text : List ℕ) (tag : Rider S) : Type 0 where
+pub record AddsWords {T S : Type 0} (seen : T → S) (old new : MarkedText T) (text : List ℕ)
+    (tag : Rider S) : Type 0 where
   pub in_word : new.in_word ≡ old.in_word
   pub adds : (width : ℕ) (overflow : Bool) (letters : List (Letter (Rider S))) (waiting : List (List ℕ))
       → HoldsLetters seen width overflow letters waiting old
       → HoldsLetters seen width overflow (letters ++ words_letters text tag waiting) (words_waiting text waiting) new
 
-pub record MeetsWideWord {T S : Type 0} (seen : T → S) (old : MarkedText T) (text : List ℕ) (tag : Rider S) : Type 0 where
+pub record MeetsWideWord {T S : Type 0} (seen : T → S) (old : MarkedText T) (text : List ℕ)
+    (tag : Rider S) : Type 0 where
   pub wide : (width : ℕ) (overflow : Bool) (letters : List (Letter (Rider S))) (waiting : List (List ℕ))
       → HoldsLetters seen width overflow letters waiting old → HasWider width overflow (lettered text tag)
 
@@ -67,13 +70,15 @@ pub record MeetsWide {T S : Type 0} (seen : T → S) (old : MarkedText T) (sourc
       → (overflow ≡ false) × (has_wide_text width sources ≡ true)
 
 -- The sources in front of the rest are carried.
-pub record CarriesFront {T S : Type 0} (seen : T → S) (old new : MarkedText T) (all rest : List (Source S)) : Type 0 where
+pub record CarriesFront {T S : Type 0} (seen : T →
+    S) (old new : MarkedText T) (all rest : List (Source S)) : Type 0 where
   pub front : List (Source S)
   pub whole : all ≡ front ++ rest
   pub carries : CarriesOn seen old new front
 
 -- The letters of the sources in front of the rest are read.
-pub record ReadsSources {T S : Type 0} (seen : T → S) (old new : NormalText T) (all rest : List (Source S)) : Type 0 where
+pub record ReadsSources {T S : Type 0} (seen : T →
+    S) (old new : NormalText T) (all rest : List (Source S)) : Type 0 where
   pub front : List (Source S)
   pub whole : all ≡ front ++ rest
   pub reads : (width : ℕ) (overflow : Bool) (read : List (Letter S)) → HasRead seen width overflow read old

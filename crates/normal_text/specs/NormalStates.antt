@@ -187,7 +187,8 @@ pub record LaysWord {T S : Type 0} (seen : T → S) (old new : NormalText T) (ru
     (tag : S) : Type 0 where
   pub lays : (width : ℕ) (overflow : Bool) (r : Reading S) → HoldsReading seen width overflow old r → r.letters ≡ []
       → run ≢ [] → is_break_point code ≡ true → HoldsReading seen width overflow new
-      (reading (add_unit width r.lines (piece r.space (lettered run tag))) (if is_white_space code then Some tag else None)
+      (reading (add_unit width r.lines (piece r.space (lettered run tag))) (if is_white_space code then Some tag
+      else None)
       [])
 
 -- No word is at hand, and a space with that tag is to stand before the next.
@@ -202,8 +203,8 @@ pub record FillsLine {T S : Type 0} (seen : T → S) (block : NormalText T) (tex
   pub words : IsLineAndSpace text columns
   pub fits : columns ≤ block.width
 
--- A space with that tag is to stand before the next word, and a text is words that go on the line, each behind a space, and
--- one more space.
+-- A space with that tag is to stand before the next word, and a text is words that go on the line, each behind a space,
+-- and one more space.
 pub record FillsOn {T S : Type 0} (seen : T → S) (block : NormalText T) (text : List ℕ) (columns : ℕ) (tag : S) : Type 0
   where
     pub awaits : AwaitsWord seen block tag

@@ -1,5 +1,5 @@
--- Markers in normal text. A marker rides on a word: it is a letter of no columns whose tag is a note of its name, so that
--- units and layouts need not know of markers.
+-- Markers in normal text. A marker rides on a word: it is a letter of no columns whose tag is a note of its name, so
+-- that units and layouts need not know of markers.
 use Rattle.std.specs.Prelude.{ℕ, Bool, false, not, ◌&&◌, ◌||◌, nat_le, nat_lt, List, [], ◌∷◌, ◌++◌, map, fold, is_some}
 use Rattle.std.specs.Prelude.{if◌then◌else◌}
 use Rattle.tagged_lines.specs.Columns.{columns_of, width_of}

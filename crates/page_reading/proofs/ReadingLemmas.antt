@@ -69,7 +69,8 @@ pub reading_goes_on : {count_then count_now : ℕ} {failed_then failed_now faile
     ((rest : List ℕ) (forest : Forest) (mode : QuirksMode) → Comes later rest forest mode →
     Comes new (piece ++ rest) forest mode) →
     IsReading count_then count_next failed_then failed_next all next old later
-reading_goes_on {all = all} {now = now} {next = next} count_next piece later r stays consumed counted less works pushed =
+reading_goes_on {all = all} {now = now} {next = next}
+    count_next piece later r stays consumed counted less works pushed =
     record {
       counted = omega (arith, r.counted);
       stays = λ h. stays (r.stays h);

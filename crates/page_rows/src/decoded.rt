@@ -6,7 +6,8 @@ use std::alloc::Global;
 
 /// The text of bytes that come in pieces: the replaced text of the pieces joined, however they were cut.
 pub fn decoded_text(alloc: Global, pieces: &[Vec<u8>]) -> Result<String, ParseFault>
-    ensures text { IfOk result (λ text. chars (string_bytes text) ≡ replaced_text (flat_map (λ piece. piece.items) pieces.now)) }
+    ensures text { IfOk result (λ text. chars (string_bytes text)
+        ≡ replaced_text (flat_map (λ piece. piece.items) pieces.now)) }
     ensures kinds { IfErr result (λ e. e ≡ ParseFault.Memory) }
 {
     let mut decoder = Utf8LossyDecoder::new();

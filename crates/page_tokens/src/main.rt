@@ -17,7 +17,8 @@ use std::io::{BufWriter, Write};
 use std::process::ExitCode;
 use telling::lines_told;
 
-/// Ends with status 0 where each line was a case and was told alike in all ways, and else 1 with a text on standard error.
+/// Ends with status 0 where each line was a case and was told alike in all ways, and else 1 with a text on standard
+/// error.
 fn main(rt: HostRuntime) -> ExitCode {
     match serve(&rt) {
         Ok(()) => ExitCode::from(0),

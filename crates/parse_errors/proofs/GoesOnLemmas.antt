@@ -7,5 +7,6 @@ pub goes_on_twice : (a b c : ParseErrors) → GoesOn a b → GoesOn b c → Goes
 goes_on_twice a b c first second = record {
   wording = second.wording ∙ first.wording;
   more = first.more ++ second.more;
-  order = second.order ∙ (ap (λ found. found ++ second.more) first.order ∙ append_assoc (found_of a) first.more second.more);
+  order = second.order
+      ∙ (ap (λ found. found ++ second.more) first.order ∙ append_assoc (found_of a) first.more second.more);
 }

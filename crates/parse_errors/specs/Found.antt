@@ -4,7 +4,10 @@ use Rattle.std.specs.Option.{is_some}
 use Rattle.html_lexemes.specs.declared.states.RawKind.{RawKind}
 use Rattle.html_lexemes.specs.declared.states.RawKind.TheVariants.{ScriptDataEscaped}
 use Rattle.html_lexemes.specs.declared.states.State.{State}
-use Rattle.html_lexemes.specs.declared.states.State.TheVariants.{CdataSection, CdataSectionBracket, CdataSectionEnd, RawData, RawEndTagName, RawEndTagOpen, RawLessThanSign, ScriptDataDoubleEscapeEnd, ScriptDataEscapeStart, ScriptDataEscapedDash, ScriptDataEscapedDashDash}
+use Rattle.html_lexemes.specs.declared.states.State.TheVariants.{CdataSection, CdataSectionBracket, CdataSectionEnd}
+use Rattle.html_lexemes.specs.declared.states.State.TheVariants.{RawData, RawEndTagName, RawEndTagOpen, RawLessThanSign}
+use Rattle.html_lexemes.specs.declared.states.State.TheVariants.{ScriptDataDoubleEscapeEnd, ScriptDataEscapeStart}
+use Rattle.html_lexemes.specs.declared.states.State.TheVariants.{ScriptDataEscapedDash, ScriptDataEscapedDashDash}
 use Rattle.html_lexemes.specs.declared.states.ScriptEscapeKind.TheVariants.{DoubleEscaped}
 use Rattle.parse_errors.specs.Noncharacters.{is_noncharacter}
 use Rattle.parse_errors.specs.declared.errors.FoundError.{FoundError}

@@ -2,7 +2,14 @@
 ghost use Rattle.std.specs.Prelude.{◌≡◌, true, false};
 ghost use Rattle.html_lexemes.specs.declared.states.RawKind.TheVariants.{Rcdata, ScriptData, ScriptDataEscaped};
 ghost use Rattle.html_lexemes.specs.declared.states.ScriptEscapeKind.TheVariants.{DoubleEscaped, Escaped};
-ghost use Rattle.html_lexemes.specs.declared.states.State.TheVariants.{CdataSection, CdataSectionBracket, CdataSectionEnd, Data, Plaintext, RawData, RawEndTagName, RawEndTagOpen, RawLessThanSign, ScriptDataDoubleEscapeEnd, ScriptDataEscapeStart, ScriptDataEscapeStartDash, ScriptDataEscapedDash, ScriptDataEscapedDashDash};
+ghost use Rattle.html_lexemes.specs.declared.states.State.TheVariants.{CdataSection, CdataSectionBracket};
+ghost use Rattle.html_lexemes.specs.declared.states.State.TheVariants.{CdataSectionEnd, Data, Plaintext, RawData};
+ghost use Rattle.html_lexemes.specs.declared.states.State.TheVariants.{RawEndTagName, RawEndTagOpen, RawLessThanSign};
+ghost use Rattle.html_lexemes.specs.declared.states.State.TheVariants.{ScriptDataDoubleEscapeEnd};
+ghost use Rattle.html_lexemes.specs.declared.states.State.TheVariants.{ScriptDataEscapeStart};
+ghost use Rattle.html_lexemes.specs.declared.states.State.TheVariants.{ScriptDataEscapeStartDash};
+ghost use Rattle.html_lexemes.specs.declared.states.State.TheVariants.{ScriptDataEscapedDash};
+ghost use Rattle.html_lexemes.specs.declared.states.State.TheVariants.{ScriptDataEscapedDashDash};
 ghost use Rattle.parse_errors.specs.Found.{is_error_at_end};
 ghost use Rattle.parse_errors.specs.Noncharacters.{is_noncharacter};
 

@@ -7,10 +7,10 @@ use html_lexemes::{NamedReference, ReferenceTable};
 use std::alloc::AllocError;
 
 impl ParseErrors {
-    /// Finds the errors of a character reference in text: the text behind `&` that the reference is made of, perhaps with the
-    /// character that ended it. That its semicolon is missing is not among them: the grammar tells it. A name that the table
-    /// lacks is an error only once its `;` is read; `at_text` then goes on with the character behind the text. The error is
-    /// want of memory alone.
+    /// Finds the errors of a character reference in text: the text behind `&` that the reference is made of, perhaps
+    /// with the character that ended it. That its semicolon is missing is not among them: the grammar tells it. A name
+    /// that the table lacks is an error only once its `;` is read; `at_text` then goes on with the character behind the
+    /// text. The error is want of memory alone.
     pub fn in_reference(
         &mut self,
         table: &ReferenceTable,
@@ -53,7 +53,8 @@ impl ParseErrors {
         }
     }
 
-    // Finds the errors of a character reference in a value: the text from its `&` up to the end of the tag or of the page.
+    // Finds the errors of a character reference in a value: the text from its `&` up to the end of the tag or of the
+    // page.
     pub(crate) fn in_value(
         &mut self,
         table: &ReferenceTable,
@@ -98,7 +99,8 @@ impl ParseErrors {
         Ok(())
     }
 
-    // Finds the errors of a number behind `#`, but for a missing semicolon; `is_last` says that the page ends with the text.
+    // Finds the errors of a number behind `#`, but for a missing semicolon; `is_last` says that the page ends with the
+    // text.
     fn in_number(&mut self, text: &str, is_last: bool, line: u64) -> Result<(), AllocError>
         ensures found { GoesOn self.old self.new }
         ensures watched { is_watching self.new ≡ is_watching self.old }
@@ -116,8 +118,8 @@ impl ParseErrors {
         Ok(())
     }
 
-    // Finds that no semicolon stands behind the digits of a number in a value; the text goes up to the end of the tag or of
-    // the page.
+    // Finds that no semicolon stands behind the digits of a number in a value; the text goes up to the end of the tag
+    // or of the page.
     fn at_number_end(&mut self, text: &str, line: u64) -> Result<(), AllocError>
         ensures found { GoesOn self.old self.new }
         ensures watched { is_watching self.new ≡ is_watching self.old }

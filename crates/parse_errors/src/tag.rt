@@ -10,7 +10,8 @@ use html_lexemes::{ReferenceTable, TagKind};
 use std::alloc::AllocError;
 
 impl ParseErrors {
-    /// Finds the errors of a tag: the text from its name on, up to and with its `>`, or up to the end of the page. Where
+    /// Finds the errors of a tag: the text from its name on, up to and with its `>`, or up to the end of the page.
+    /// Where
     /// `may_repeat` is false no two of its attributes have one name. The error is want of memory alone.
     #[tactic(auto, using(crate::proofs::GoesOnLemmas::goes_on_twice))]
     pub fn in_tag(
@@ -84,8 +85,8 @@ impl ParseErrors {
         Ok(reading)
     }
 
-    // Takes a character that is read in a state, if it is of an attribute's name, as the next state says; in all states but
-    // one it is the first.
+    // Takes a character that is read in a state, if it is of an attribute's name, as the next state says; in all states
+    // but one it is the first.
     fn in_attribute_name(
         &mut self,
         names: &mut AttributeNames,

@@ -6,9 +6,9 @@ use html_lexemes::states::{RawKind, ScriptEscapeKind, State};
 use std::alloc::AllocError;
 
 impl ParseErrors {
-    /// Finds the errors at a character that is read in a state of text, on its line: `Data`, `Plaintext`, `RawData`, a state
-    /// behind dashes of a script, or `CdataSection`. A `<` or `&`, which may begin markup, is such a character too. The
-    /// error is want of memory alone.
+    /// Finds the errors at a character that is read in a state of text, on its line: `Data`, `Plaintext`, `RawData`, a
+    /// state behind dashes of a script, or `CdataSection`. A `<` or `&`, which may begin markup, is such a character
+    /// too. The error is want of memory alone.
     pub fn at_text(&mut self, state: State, c: char, line: u64) -> Result<(), AllocError>
         ensures found { GoesOn self.old self.new }
         ensures unheeded { heeds self.old c ≡ false → (self.new ≡ self.old) × (result ≡ Ok tt) }
@@ -51,12 +51,14 @@ impl ParseErrors {
         self.at_character(c, line)
     }
 
-    /// Finds the error of a page that ends on a line in a state: within a CDATA section, or in the text of a script within
+    /// Finds the error of a page that ends on a line in a state: within a CDATA section, or in the text of a script
+    /// within
     /// `<!--`. The error is want of memory alone.
     pub fn at_end(&mut self, state: State, line: u64) -> Result<(), AllocError>
         ensures found { GoesOn self.old self.new }
         ensures unwatched { is_watching self.new ≡ false }
-        ensures told { OnOk result (MatchBool (is_error_at_end state) (HasOneMore self.old line self.new) (found_of self.new ≡ found_of self.old)) }
+        ensures told { OnOk result (MatchBool (is_error_at_end state) (HasOneMore self.old line self.new) (found_of self.new
+            ≡ found_of self.old)) }
     {
         self.leave_name();
         match state_of_text(state) {

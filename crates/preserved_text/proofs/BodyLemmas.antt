@@ -22,7 +22,8 @@ use Rattle.text_pieces.proofs.ItemColumns.{line_columns-append}
 joined : {S : Type 0} (k : Kind) (wraps begun : Bool) (c : ℕ) (main further : S) (p : Pass S) → p.begun ≡ true
     → begun ≡ true → goes_on_with wraps k ≡ true
     → read_at k (not wraps && begun) c main further p ≡ lettered c main further p
-joined solid wraps begun c main further p is has goes = ap (λ b. lettered c main further (if b then p else entered p)) is
+joined solid wraps begun c main further p is has goes =
+    ap (λ b. lettered c main further (if b then p else entered p)) is
 joined white false true c main further p is has goes =
     ap (λ b. lettered c main further (if b then p else entered p)) is
 joined white false false c main further p is has goes = cc

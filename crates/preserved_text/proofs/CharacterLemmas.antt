@@ -8,7 +8,8 @@ use Rattle.preserved_text.specs.Preserved.{Kind, solid, nothing, kind_of}
 
 shown : (is_tab is_white is_joint has_columns : Bool) (x y z : Kind) → is_tab ≡ false → is_white ≡ false
     → is_joint ≡ false → has_columns ≡ true
-    → (if is_tab then x else (if is_white then y else (if is_joint then z else (if has_columns then solid else nothing))))
+    → (if is_tab then x
+    else (if is_white then y else (if is_joint then z else (if has_columns then solid else nothing))))
     ≡ solid
 shown is_tab is_white is_joint has_columns x y z a b c d =
     ap (λ t. if t then x else (if is_white then y else (if is_joint then z else (if has_columns then solid

@@ -131,7 +131,8 @@ stop_seen {S = S} w f none xs main further r h =
     let tag : S = chosen r.goes_on main further in
     let k : HasSeen f xs room = roomed w 1 f none xs (fold (put_space w) (without_spaces r) r.spaces)
     (put_spaces_seen w f none xs (without_spaces r) r.spaces (without_spaces_seen f xs r h) h.spaces) in
-    behind_stop_seen w f none xs (record room { tail = room.tail ++ replicate (to_stop w (line_taken room)) (space tag) })
+    behind_stop_seen w f none xs
+    (record room { tail = room.tail ++ replicate (to_stop w (line_taken room)) (space tag) })
     (tail_seen f xs room (replicate (to_stop w (line_taken room)) (space tag)) k
     (AreSpaces-replicate (to_stop w (line_taken room)) tag))
 
@@ -256,7 +257,8 @@ ended_or_waits g word = ended_or_waits_by g (is_begun word) word
 
 ended_behind : {S X : Type 0} (g : Source S → List X) (word : List (Source S)) (p : Part S) → seen_in g (p ∷ []) ≡ []
     → seen_in g (ended_word word ++ p ∷ []) ++ flat_map g (waiting_word word) ≡ flat_map g word
-ended_behind g word p none = ap (λ ys. ys ++ flat_map g (waiting_word word)) (seen_in-append g (ended_word word) (p ∷ [])
+ended_behind g word p none =
+    ap (λ ys. ys ++ flat_map g (waiting_word word)) (seen_in-append g (ended_word word) (p ∷ [])
     ∙ ap (λ ys. seen_in g (ended_word word) ++ ys) none ∙ append-nil (seen_in g (ended_word word)))
     ∙ ended_or_waits g word
 

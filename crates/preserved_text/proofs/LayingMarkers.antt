@@ -48,6 +48,7 @@ lines_keep_markers {S = S} w wraps line =
     (lines_one_by_one (laid w wraps line).done)
     ∙ ap (λ names. flat_map (markers_of {S = S}) (laid w wraps line).done ++ (names ++ flat_map source_names waiting))
     (markers_one_by_one (laid w wraps line).line)
-    ∙ ap (λ names. flat_map (markers_of {S = S}) (laid w wraps line).done ++ (markers_of (laid w wraps line).line ++ names))
+    ∙ ap (λ names. flat_map (markers_of {S = S}) (laid w wraps line).done
+    ++ (markers_of (laid w wraps line).line ++ names))
     (names_one_by_one waiting))
     ∙ laid_seen w wraps item_markers source_names line (markers_are_seen w wraps) ∙ names_one_by_one line

@@ -229,7 +229,8 @@ tagged_narrow w wraps before t (letter c main further ∷ rest) e narrow =
     let both : (nat_lt w (width_of c) ≡ false) × (has_wide_letter w rest ≡ false)
     = or_false (nat_lt w (width_of c)) (has_wide_letter w rest) e in
     tagged_narrow w wraps before (tag_one w wraps before t (letter c main further)) rest both.1
-    (AreNarrow-append w t.items (character c (chosen (tag_one w wraps before t (letter c main further)).goes_on main further) ∷ [])
+    (AreNarrow-append w t.items
+    (character c (chosen (tag_one w wraps before t (letter c main further)).goes_on main further) ∷ [])
     narrow (le_unless w (width_of c) both.0, tt))
 tagged_narrow w wraps before t (fragment name ∷ rest) e narrow =
     tagged_narrow w wraps before (tag_one w wraps before t (fragment name)) rest e
@@ -299,7 +300,8 @@ parts_at_in w tab inside c main further word h =
 parts_at_in w cut inside c main further word h = ended_word_in w word
 parts_at_in w nothing inside c main further word h = tt
 
-parts_in : {S : Type 0} (w : ℕ) (wraps : Bool) (word line : List (Source S)) → ArePartsIn w (parts_behind w wraps word line)
+parts_in : {S : Type 0} (w : ℕ) (wraps : Bool) (word line : List (Source S)) →
+    ArePartsIn w (parts_behind w wraps word line)
 parts_in w wraps word [] = ended_word_in w word
 parts_in w wraps word (letter c main further ∷ rest) =
     ArePartsIn-append w (parts_at (kind_of w wraps c) (goes_over_white wraps word) c main further word)

@@ -135,7 +135,8 @@ pub record StandsAt {S : Type 0} (width : ℕ) (wraps : Bool) (r : Laying S) (wo
   pub bare : is_begun word ≡ false → p.word ≡ bare_items word
   pub is_wide : p.wide ≡ (wide || has_wide_letter width word)
 
-rewide : {S : Type 0} (width : ℕ) (wraps : Bool) (r : Laying S) (word : List (Source S)) (wide other : Bool) (p : Pass S)
+rewide : {S : Type 0} (width : ℕ) (wraps : Bool) (r : Laying S) (word : List (Source S)) (wide other : Bool)
+    (p : Pass S)
     → wide ≡ other → StandsAt width wraps r word wide p → StandsAt width wraps r word other p
 rewide width wraps r word wide other p same h = record {
   same_width = h.same_width;
@@ -303,7 +304,8 @@ marker_read width wraps r word wide p name h =
       same_wraps = h.same_wraps;
       begun = h.begun ∙ sym same;
       rows = h.rows ∙ ap (room_for width r) (sym same);
-      tagged = λ some. ap (λ t. tag_one width wraps (taken (with_room width 0 r)) t (fragment name)) (h.tagged (sym same ∙ some))
+      tagged = λ some. ap (λ t. tag_one width wraps (taken (with_room width 0 r)) t (fragment name))
+          (h.tagged (sym same ∙ some))
           ∙ sym (tagged-one width wraps (with_room width 0 r) word (fragment name));
       bare = λ none. ap (λ items. items ++ marker name ∷ []) (h.bare (sym same ∙ none)) ∙ sym (bare-fragment word name);
       is_wide = h.is_wide ∙ ap (λ b. wide || b) (sym (wide-fragment width word name));
@@ -394,7 +396,8 @@ all_read width wraps r word wide p (letter c main further ∷ line) h =
     let behind = all_read width wraps (fold (lay_part width wraps) r here) next (wide || has_wide_body width here)
     (read_letter c main further p) line
     (subst (StandsAt width wraps (fold (lay_part width wraps) r here) next (wide || has_wide_body width here))
-    (read_here width wraps r word wide p c main further h) (at_read width wraps r word wide p k inside c main further h)) in
+    (read_here width wraps r word wide p c main further h)
+    (at_read width wraps r word wide p k inside c main further h)) in
     record {
       rows = behind.rows ∙ sym (fold-append (lay_part width wraps) r here (parts_behind width wraps next line));
       waits = behind.waits;
@@ -421,7 +424,8 @@ line_read width wraps line =
     })
 
 pub pass_lines : {S : Type 0} (width : ℕ) (wraps : Bool) (line : List (Source S))
-    → (finished (read_all (new_pass width wraps) (trimmed width wraps line))).rows.done ≡ preserved_lines width wraps line
+    → (finished (read_all (new_pass width wraps) (trimmed width wraps line))).rows.done
+    ≡ preserved_lines width wraps line
 unfolding preserved_lines
 pass_lines width wraps line = ap (λ r. (fresh r).done) (line_read width wraps line).rows
 

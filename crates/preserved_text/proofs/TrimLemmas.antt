@@ -105,7 +105,8 @@ sourced_trimmed width wraps (c ∷ cs) main further =
     ap (λ b. if is_solid (kind_of width wraps c) || b
     then letter c main further ∷ trimmed width wraps (sourced cs main further)
     else trimmed width wraps (sourced cs main further)) (sourced_solid width wraps cs main further)
-    ∙ ap (λ l. if is_solid (kind_of width wraps c) || has_solid_text width wraps cs then letter c main further ∷ l else l)
+    ∙ ap (λ l. if is_solid (kind_of width wraps c) || has_solid_text width wraps cs then letter c main further ∷ l
+    else l)
     (sourced_trimmed width wraps cs main further)
     ∙ by_test (is_solid (kind_of width wraps c) || has_solid_text width wraps cs)
   where
@@ -156,7 +157,8 @@ goes_before width wraps (letter c main further ∷ xs) ys bare =
   where
     by_test : (b : Bool) → (if b then letter c main further ∷ (trimmed width wraps xs ++ trimmed width wraps ys)
         else trimmed width wraps xs ++ trimmed width wraps ys)
-        ≡ (if b then letter c main further ∷ trimmed width wraps xs else trimmed width wraps xs) ++ trimmed width wraps ys
+        ≡ (if b then letter c main further ∷ trimmed width wraps xs
+        else trimmed width wraps xs) ++ trimmed width wraps ys
     by_test true = refl
     by_test false = refl
 goes_before width wraps (fragment name ∷ xs) ys bare =
@@ -180,13 +182,15 @@ bare_each : {T S : Type 0} (seen : T → S) (width : ℕ) (wraps : Bool) (pieces
     → trimmed width wraps (sources_of seen pieces) ≡ trimmed_each seen width wraps pieces
 bare_each seen width wraps [] bare = refl
 bare_each seen width wraps (piece ∷ pieces) bare =
-    let none = or_both (has_solid width wraps (piece_sources seen piece)) (has_solid width wraps (sources_of seen pieces))
+    let none =
+    or_both (has_solid width wraps (piece_sources seen piece)) (has_solid width wraps (sources_of seen pieces))
     (sym (has_solid-append width wraps (piece_sources seen piece) (sources_of seen pieces)) ∙ bare) in
     goes_before width wraps (piece_sources seen piece) (sources_of seen pieces) none.1
     ∙ ap (λ l. trimmed width wraps (piece_sources seen piece) ++ l) (bare_each seen width wraps pieces none.1)
 
 -- Behind these pieces nothing is shown.
-pub record IsBareBehind {T S : Type 0} (seen : T → S) (width : ℕ) (wraps : Bool) (all rest : List (Piece T)) : Type 0 where
+pub record IsBareBehind {T S : Type 0} (seen : T → S) (width : ℕ) (wraps : Bool)
+    (all rest : List (Piece T)) : Type 0 where
   pub behind : List (Piece T)
   pub whole : all ≡ rest ++ behind
   pub bare : has_solid width wraps (sources_of seen behind) ≡ false
@@ -195,7 +199,8 @@ pub bare_at_end : {T S : Type 0} (seen : T → S) (width : ℕ) (wraps : Bool) (
     → IsBareBehind seen width wraps all all
 bare_at_end seen width wraps all = record { behind = []; whole = sym (append-nil all); bare = refl }
 
-pub bare_more : {T S : Type 0} (seen : T → S) (width : ℕ) (wraps : Bool) (all rest front : List (Piece T)) (last : Piece T)
+pub bare_more : {T S : Type 0} (seen : T → S) (width : ℕ) (wraps : Bool) (all rest front : List (Piece T))
+    (last : Piece T)
     → IsBareBehind seen width wraps all rest → rest ≡ front ++ last ∷ []
     → has_solid width wraps (piece_sources seen last) ≡ false → IsBareBehind seen width wraps all front
 bare_more seen width wraps all rest front last r split none = record {
@@ -210,7 +215,8 @@ pub whole_before : {T S : Type 0} (seen : T → S) (width : ℕ) (wraps : Bool) 
     → has_solid width wraps (piece_sources seen last) ≡ true → StayWhole seen width wraps all (length front)
 whole_before seen width wraps all rest front last r split some =
     let back = last ∷ r.behind in
-    let whole : all ≡ front ++ back = r.whole ∙ ap (λ l. l ++ r.behind) split ∙ append_assoc front (last ∷ []) r.behind in
+    let whole : all ≡ front ++ back =
+    r.whole ∙ ap (λ l. l ++ r.behind) split ∙ append_assoc front (last ∷ []) r.behind in
     let solid : has_solid width wraps (sources_of seen back) ≡ true =
     has_solid-append width wraps (piece_sources seen last) (sources_of seen r.behind)
     ∙ ap (λ b. b || has_solid width wraps (sources_of seen r.behind)) some in

@@ -27,7 +27,8 @@ kind_of width wraps c =
     if c == 0x9 then (if width == 0 then cut else tab)
     else (if is_white_space c
     then (if (width == 0) || not (is_some (columns_of c)) then (if wraps then cut else nothing) else white)
-    else (if c == 0x200B then (if wraps then cut else nothing) else (if is_some (columns_of c) then solid else nothing)))
+    else (if c == 0x200B then (if wraps then cut else nothing)
+    else (if is_some (columns_of c) then solid else nothing)))
 
 abbrev pub is_solid : Kind → Bool
 is_solid solid = true

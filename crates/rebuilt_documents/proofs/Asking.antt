@@ -97,7 +97,10 @@ inline_name : (kind : Inline) (linked : Bool) (name : List ℕ) (attributes : Li
     IsInline kind linked name attributes kids → is_one_of (codes "title" ∷ []) name ≡ false
 inline_name kinds.line_break linked name attributes kids h = ap (is_one_of (codes "title" ∷ [])) h.0
 inline_name kinds.mark linked name attributes kids h =
-    for_one (λ name. is_one_of (codes "title" ∷ []) name ≡ false) marks name (refl, (refl, (refl, (refl, (refl, tt))))) h.0
+    for_one (λ name. is_one_of (codes "title" ∷ []) name ≡ false) marks name (
+      refl,
+      (refl, (refl, (refl, (refl, tt)))),
+    ) h.0
 inline_name kinds.link linked name attributes kids h = ap (is_one_of (codes "title" ∷ [])) h.0
 
 inlines_none : (linked behind : Bool) (content : Content) → IsInlines linked behind content → (more : List Item) →

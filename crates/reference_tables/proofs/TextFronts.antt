@@ -1,8 +1,11 @@
 -- A text that is read one character more.
-use Rattle.std.proofs.Common.{◌≡◌, ℕ, ◌+◌, ◌≤◌, List, [], ◌∷◌, ◌++◌, length, take, drop, IsUtf8, chars, sym, ap, subst, ◌∙◌, arith, append_assoc, append-nil, length-append, encode_utf8}
+use Rattle.std.proofs.Common.{◌≡◌, ℕ, ◌+◌, ◌≤◌, List, [], ◌∷◌, ◌++◌, length, take, drop, IsUtf8, chars, sym, ap, subst}
+use Rattle.std.proofs.Common.{◌∙◌, arith, append_assoc, append-nil, length-append, encode_utf8}
 use Rattle.std.proofs.lemmas.Bool.{and_parts}
 use Rattle.std.proofs.lemmas.List.{take-append-drop, take-append-le, take_all, length-take-le}
-use Rattle.std.proofs.lemmas.Str.{chars-append, chars-nil, chars_past_char, length-encode, drop_past_char, IsUtf8-take, IsUtf8-drop, IsUtf8-encode, IsCharBoundary-from_take, IsCharBoundary-past_char, cons_from_encodes}
+use Rattle.std.proofs.lemmas.Str.{chars-append, chars-nil, chars_past_char, length-encode, drop_past_char, IsUtf8-take}
+use Rattle.std.proofs.lemmas.Str.{IsUtf8-drop, IsUtf8-encode, IsCharBoundary-from_take, IsCharBoundary-past_char}
+use Rattle.std.proofs.lemmas.Str.{cons_from_encodes}
 use Rattle.std.proofs.Math.Utf8.{scalar}
 use Rattle.std.specs.Char.{IsScalar, len_utf8}
 use Rattle.std.specs.Str.{IsCharBoundary, all_scalars}
@@ -13,7 +16,9 @@ scalar_first bs rest c u e =
     (and_parts (scalar c) (all_scalars cut.0) (ap all_scalars (sym cut.1) ∙ u.1.0)).0
 
 pub chars-encode : (c : ℕ) → IsScalar c → chars (encode_utf8 c) ≡ c ∷ []
-chars-encode c scalar = chars_past_char (encode_utf8 c) [] c (IsUtf8-encode c scalar) (sym (append-nil (encode_utf8 c))) ∙ ap (λ l. c ∷ l) chars-nil
+chars-encode c scalar =
+    chars_past_char (encode_utf8 c) [] c (IsUtf8-encode c scalar) (sym (append-nil (encode_utf8 c))) ∙
+    ap (λ l. c ∷ l) chars-nil
 
 -- One character more was read: c, of w bytes, behind the first n bytes of the text bs.
 pub record IsReadOn (bs rest : List ℕ) (n c w : ℕ) : Type 0 where
@@ -24,7 +29,8 @@ pub record IsReadOn (bs rest : List ℕ) (n c w : ℕ) : Type 0 where
   pub whole : chars bs ≡ chars (take n bs) ++ c ∷ chars rest
 
 -- n bytes of the text were read, and what is left begins with the character c, which takes w bytes
-module _ (bs left rest : List ℕ) (n c w : ℕ) (u : IsUtf8 bs) (le : n ≤ length bs) (read : IsUtf8 (take n bs)) (is_left : left ≡ drop n bs) (e : left ≡ encode_utf8 c ++ rest) (width : w ≡ len_utf8 c) where
+module _ (bs left rest : List ℕ) (n c w : ℕ) (u : IsUtf8 bs) (le : n ≤ length bs) (read : IsUtf8 (take n bs))
+    (is_left : left ≡ drop n bs) (e : left ≡ encode_utf8 c ++ rest) (width : w ≡ len_utf8 c) where
   behind : drop n bs ≡ encode_utf8 c ++ rest
   behind = sym is_left ∙ e
 
@@ -47,9 +53,13 @@ module _ (bs left rest : List ℕ) (n c w : ℕ) (u : IsUtf8 bs) (le : n ≤ len
 
   front : take (n + w) bs ≡ take n bs ++ encode_utf8 c
   front =
-      let long : length (take n bs ++ encode_utf8 c) ≡ n + w = omega (arith, length-append (take n bs) (encode_utf8 c), length-take-le n bs le, length-encode c) in
-      let whole : bs ≡ (take n bs ++ encode_utf8 c) ++ rest = sym (take-append-drop n bs) ∙ ap (λ l. take n bs ++ l) behind ∙ sym (append_assoc (take n bs) (encode_utf8 c) rest) in
-      ap (take (n + w)) whole ∙ take-append-le (n + w) (take n bs ++ encode_utf8 c) rest (omega arith) ∙ take_all (n + w) (take n bs ++ encode_utf8 c) (omega arith)
+      let long : length (take n bs ++ encode_utf8 c) ≡ n + w =
+      omega (arith, length-append (take n bs) (encode_utf8 c), length-take-le n bs le, length-encode c) in
+      let whole : bs ≡ (take n bs ++ encode_utf8 c) ++ rest =
+      sym (take-append-drop n bs) ∙ ap (λ l. take n bs ++ l) behind ∙ sym
+      (append_assoc (take n bs) (encode_utf8 c) rest) in
+      ap (take (n + w)) whole ∙ take-append-le (n + w) (take n bs ++ encode_utf8 c) rest (omega arith) ∙
+      take_all (n + w) (take n bs ++ encode_utf8 c) (omega arith)
 
   read_text : chars (take (n + w) bs) ≡ chars (take n bs) ++ c ∷ []
   read_text =

@@ -20,4 +20,5 @@ pub record IsLongestName (table : References) (text name value : List ℕ) : Typ
   pub rest : List ℕ
   pub begins : text ≡ name ++ rest
   pub named : finite.get table name ≡ Some value
-  pub longest : (front more : List ℕ) → text ≡ front ++ more → IsTrue (finite.contains_key table front) → length front ≤ length name
+  pub longest : (front more : List ℕ) → text ≡ front ++ more → IsTrue (finite.contains_key table front) →
+      length front ≤ length name

@@ -1,5 +1,6 @@
 -- Named character references as a table of names.
-use Rattle.std.specs.Prelude.{ℕ, Bool, ◌==◌, ◌&&◌, ◌||◌, nat_lt, nat_le, if◌then◌else◌, List, [], ◌∷◌, length, reverse, codes, Result, Ok, Err}
+use Rattle.std.specs.Prelude.{ℕ, Bool, ◌==◌, ◌&&◌, ◌||◌, nat_lt, nat_le, if◌then◌else◌, List, [], ◌∷◌, length, reverse}
+use Rattle.std.specs.Prelude.{codes, Result, Ok, Err}
 use Rattle.std.specs.List.{list_all}
 use Rattle.std.specs.Ordering.{nat_cmp}
 use Rattle.std.specs.Cmp.Lexicographic.{slice_cmp}
@@ -27,7 +28,8 @@ references rs = finite.from_entries (reverse rs)
 -- The references of the characters that HTML escapes (WHATWG HTML, 13.3, "escaping a string", and 13.5).
 abbrev pub basic_references : List Reference
 basic_references =
-    (codes "amp;", 38 ∷ []) ∷ (codes "lt;", 60 ∷ []) ∷ (codes "gt;", 62 ∷ []) ∷ (codes "quot;", 34 ∷ []) ∷ (codes "nbsp;", 160 ∷ []) ∷ []
+    (codes "amp;", 38 ∷ []) ∷ (codes "lt;", 60 ∷ []) ∷ (codes "gt;", 62 ∷ []) ∷ (codes "quot;", 34 ∷ [])
+    ∷ (codes "nbsp;", 160 ∷ []) ∷ []
 
 abbrev pub basic : References
 basic = references basic_references

@@ -1,4 +1,5 @@
-ghost use Rattle.std.specs.Prelude.{◌≡◌, ◌⊎◌, chars, string_bytes, Option, Some, None, option_map, option_and_then, IfSome, IfOk, IfErr, Ok, Err};
+ghost use Rattle.std.specs.Prelude.{◌≡◌, ◌⊎◌, chars, string_bytes, Option, Some, None, option_map, option_and_then};
+ghost use Rattle.std.specs.Prelude.{IfSome, IfOk, IfErr, Ok, Err};
 ghost use Rattle.std.specs.Str.{IsUtf8};
 ghost use Rattle.serde_json.specs.Find.{as_number, as_u64};
 ghost use Rattle.serde_json.specs.Read as serde;
@@ -77,7 +78,8 @@ fn name_of(key: &str) -> Option<&str>
 fn value_in(alloc: Global, key: &str, value: &Value) -> Result<String, TableError>
     ensures ok { IfOk result (λ text. value_in (view value.now) ≡ Some (chars (string_bytes text))) }
     ensures err { IfErr result
-        (λ e. (e ≡ TableError.Memory) ⊎ ((value_in (view value.now) ≡ None) × (e ≡ TableError.BadCodePoints (chars key.now)))) }
+        (λ e. (e ≡ TableError.Memory)
+        ⊎ ((value_in (view value.now) ≡ None) × (e ≡ TableError.BadCodePoints (chars key.now)))) }
 {
     match value_of(alloc, value)? {
         Some(text) => Ok(text),

@@ -36,7 +36,12 @@ fn values_of_rows()
 fn pairs_of_rows()
     ensures name_first { checked (codes "a;b", []) ≡ Err (BadName (codes "a;b")) }
     ensures value { checked (codes "a", []) ≡ Err (BadCodePoints (codes "a")) }
-    ensures first_fault { all_checked ((codes "a", 1 ∷ []) ∷ (codes "b", 0 ∷ []) ∷ ([], 1 ∷ []) ∷ []) ≡ Err (BadCodePoints (codes "b")) }
-    ensures last_value { finite.get (references ((codes "a", 1 ∷ []) ∷ (codes "b", 2 ∷ []) ∷ (codes "a", 3 ∷ []) ∷ [])) (codes "a") ≡ Some (3 ∷ []) }
-    ensures other_name { finite.get (references ((codes "a", 1 ∷ []) ∷ (codes "b", 2 ∷ []) ∷ (codes "a", 3 ∷ []) ∷ [])) (codes "b") ≡ Some (2 ∷ []) }
+    ensures first_fault { all_checked ((codes "a", 1 ∷ []) ∷ (codes "b", 0 ∷ []) ∷ ([], 1 ∷ []) ∷ [])
+        ≡ Err (BadCodePoints (codes "b")) }
+    ensures last_value { finite.get (references ((codes "a", 1 ∷ []) ∷ (codes "b", 2 ∷ []) ∷ (codes "a", 3 ∷ []) ∷ []))
+        (codes "a")
+        ≡ Some (3 ∷ []) }
+    ensures other_name { finite.get (references ((codes "a", 1 ∷ []) ∷ (codes "b", 2 ∷ []) ∷ (codes "a", 3 ∷ []) ∷ []))
+        (codes "b")
+        ≡ Some (2 ∷ []) }
 {}

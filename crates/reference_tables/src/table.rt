@@ -1,4 +1,5 @@
-ghost use Rattle.std.specs.Prelude.{◌≡◌, ◌⊎◌, ◌↔◌, ℕ, List, Some, IsTrue, IfOk, IfErr, OnOk, OnErr, Ok, Err, MatchOption, chars, map, option_map, length, string_bytes};
+ghost use Rattle.std.specs.Prelude.{◌≡◌, ◌⊎◌, ◌↔◌, ℕ, List, Some, IsTrue, IfOk, IfErr, OnOk, OnErr, Ok, Err};
+ghost use Rattle.std.specs.Prelude.{MatchOption, chars, map, option_map, length, string_bytes};
 ghost use Rattle.std.specs.Ordering.{nat_cmp};
 ghost use Rattle.std.specs.Cmp.Lexicographic.{slice_cmp};
 ghost use Rattle.std.specs.List.Sorted.{IsBinarySearchResult, IsSearchInRange};
@@ -235,7 +236,9 @@ impl ReferenceTable {
 // where a name stands, or where it would
 fn place_of(references: &[Reference], name: &str) -> Result<usize, usize>
     ensures bound { IsSearchInRange result (length references.now) }
-    ensures position { IsBinarySearchResult (λ r. slice_cmp nat_cmp (chars (string_bytes r.name)) (chars name.now)) references.now result }
+    ensures position { IsBinarySearchResult (λ r. slice_cmp nat_cmp (chars (string_bytes r.name))
+        (chars name.now)) references.now
+        result }
 {
     references.binary_search_by(|r| r.name.as_str().cmp(name))
 }

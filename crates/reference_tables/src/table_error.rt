@@ -13,8 +13,8 @@ pub enum TableError {
     NotJson,
     /// The JSON is no object.
     NotAnObject,
-    /// The first fault is this name, or this key of the JSON, as it was given: it is no name of ASCII letters and digits, at
-    /// least one, with a semicolon only last; or a key does not begin with `&`.
+    /// The first fault is this name, or this key of the JSON, as it was given: it is no name of ASCII letters and
+    /// digits, at least one, with a semicolon only last; or a key does not begin with `&`.
     BadName(Text),
     /// The first fault is the value of this name or key: it is not one or two characters other than NUL.
     BadCodePoints(Text),

@@ -21,10 +21,12 @@ goes_on : (b : Bool) (name : List ℕ) (c : ℕ) → b ≡ false → (if b then 
 goes_on true name c e = cc
 goes_on false name c e = refl
 
-kept : (name cs : List ℕ) → Lacks 0x2F cs → fold (λ name c. if c == 0x2F then [] else name ++ c ∷ []) name cs ≡ name ++ cs
+kept : (name cs : List ℕ) → Lacks 0x2F cs → fold (λ name c. if c == 0x2F then []
+    else name ++ c ∷ []) name cs ≡ name ++ cs
 kept name [] h = sym (append-nil name)
 kept name (c ∷ cs) h =
-    ap (λ n. fold (λ name c. if c == 0x2F then [] else name ++ c ∷ []) n cs) (goes_on (c == 0x2F) name c (differs c h.0))
+    ap (λ n. fold (λ name c. if c == 0x2F then [] else name ++ c ∷ []) n cs)
+    (goes_on (c == 0x2F) name c (differs c h.0))
     ∙ kept (name ++ c ∷ []) cs h.1 ∙ append_assoc name (c ∷ []) cs
 
 pub name_alone : (cs : List ℕ) → Lacks 0x2F cs → cs ≡ file_name cs

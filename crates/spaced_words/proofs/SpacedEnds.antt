@@ -53,7 +53,8 @@ line_fits text behind rest n m room run has = fits_words n m room run.fits has.f
 
 -- ---- the space
 
-pub visible_end : (text front : List ℕ) (c : ℕ) → IsUtf8 front → IsScalar c → text ≡ front ++ encode_utf8 c → IsVisible c
+pub visible_end : (text front : List ℕ) (c : ℕ) → IsUtf8 front → IsScalar c → text ≡ front ++ encode_utf8 c →
+    IsVisible c
     → EndsVisibly (chars text)
 visible_end text front c utf8 scalar split visible =
     record {
@@ -69,7 +70,8 @@ pub space_behind : (text ended : List ℕ) → IsUtf8 text → EndsVisibly (char
 space_behind text ended utf8 visible pushed scalar =
     inr (
       visible,
-      ap chars pushed ∙ chars-append text (encode_utf8 0x20) utf8 ∙ ap (λ l. chars text ++ l) (chars_of_one 0x20 scalar),
+      ap chars pushed ∙ chars-append text (encode_utf8 0x20) utf8 ∙ ap (λ l. chars text ++ l)
+          (chars_of_one 0x20 scalar),
     )
 
 last_equal : (xs ys : List ℕ) (x y : ℕ) → xs ++ x ∷ [] ≡ ys ++ y ∷ [] → xs ≡ ys
@@ -85,7 +87,8 @@ pub last_taken : (old new front : List ℕ) (last c : ℕ) → IsUtf8 new → Is
     → chars old ≡ front ++ last ∷ [] → chars new ≡ front
 last_taken old new front last c utf8 scalar split whole =
     last_equal (chars new) front c last
-    (sym (ap chars split ∙ chars-append new (encode_utf8 c) utf8 ∙ ap (λ l. chars new ++ l) (chars_of_one c scalar)) ∙ whole)
+    (sym (ap chars split ∙ chars-append new (encode_utf8 c) utf8 ∙ ap (λ l. chars new ++ l) (chars_of_one c scalar)) ∙
+    whole)
 
 both : (a b : Bool) → (a && b) ≡ true → (a ≡ true) × (b ≡ true)
 both true b e = (refl, e)

@@ -38,7 +38,8 @@ pub record HasWord (text rest : List ℕ) (columns room : ℕ) : Type 0 where
   pub counted : columns ≡ suc (length word)
   pub fits : columns ≤ room
 
--- Words that stand behind a space each, of so many columns, stand in front of a text, at most as many as there is room for.
+-- Words that stand behind a space each, of so many columns, stand in front of a text, at most as many as there is room
+-- for.
 pub record HasWords (text rest : List ℕ) (columns room : ℕ) : Type 0 where
   pub parts : IsBehind text rest
   pub words : List (List ℕ)

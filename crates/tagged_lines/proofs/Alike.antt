@@ -1,5 +1,6 @@
 -- What is found equal is seen alike, and joined elements that are seen alike are found equal.
-use Rattle.std.proofs.Common.{◌≡◌, ◌≢◌, ℕ, Bool, true, false, ◌&&◌, List, [], ◌∷◌, ◌++◌, nat_eq, String, Global, sym, ap, ap₂, ◌∙◌, refl, subst, eq-eqb}
+use Rattle.std.proofs.Common.{◌≡◌, ◌≢◌, ℕ, Bool, true, false, ◌&&◌, List, [], ◌∷◌, ◌++◌, nat_eq, String, Global, sym}
+use Rattle.std.proofs.Common.{ap, ap₂, ◌∙◌, refl, subst, eq-eqb}
 use Rattle.std.specs.Prelude.{chars, string_bytes}
 use Rattle.std.specs.Bool.{Decides}
 use Rattle.std.specs.Str.{IsUtf8, bytes_eq}
@@ -10,7 +11,8 @@ use Rattle.tagged_lines.specs.declared.tagged_string.TaggedString.{TaggedString}
 use Rattle.tagged_lines.specs.declared.tagged_string.TaggedLineElement.{TaggedLineElement}
 use Rattle.tagged_lines.specs.declared.tagged_string.TaggedLineElement.TheVariants.{Str, FragmentStart}
 use Rattle.tagged_lines.specs.Columns.{text_columns}
-use Rattle.tagged_lines.specs.Elements.{Item, character, marker, tagged, element_items, elements_items, elements_text, BeginsWithTag, AreJoined}
+use Rattle.tagged_lines.specs.Elements.{Item, character, marker, tagged, element_items, elements_items, elements_text}
+use Rattle.tagged_lines.specs.Elements.{BeginsWithTag, AreJoined}
 use Rattle.tagged_lines.specs.Equality.{AreSameStrings, AreSameElements}
 use Rattle.tagged_lines.proofs.Emptiness.{chars_nil}
 use Rattle.tagged_lines.proofs.Joins.{same_columns}

@@ -1,5 +1,6 @@
 -- Texts and markers that are added at the end of a line's elements.
-use Rattle.std.proofs.Common.{◌≡◌, ℕ, ◌+◌, ◌-◌, ◌<◌, subst, List, [], ◌∷◌, ◌++◌, length, get_or, set, take, sym, ap, ◌∙◌, refl, append_assoc, arith}
+use Rattle.std.proofs.Common.{◌≡◌, ℕ, ◌+◌, ◌-◌, ◌<◌, subst, List, [], ◌∷◌, ◌++◌, length, get_or, set, take, sym, ap}
+use Rattle.std.proofs.Common.{◌∙◌, refl, append_assoc, arith}
 use Rattle.std.specs.Prelude.{Option, None, Some, chars, string_bytes, IsSomeAnd, slice_get}
 use Rattle.std.proofs.lemmas.Str.{chars-append, chars-nil, chars_past_char, IsUtf8-encode, IsUtf8-string_bytes}
 use Rattle.std.specs.Char.{IsScalar}
@@ -10,7 +11,8 @@ use Rattle.std.proofs.lemmas.Option.{slice_get-get_or}
 use Rattle.tagged_lines.specs.declared.tagged_string.TaggedLineElement.{TaggedLineElement}
 use Rattle.tagged_lines.specs.declared.tagged_string.TaggedLineElement.TheVariants.{Str, FragmentStart}
 use Rattle.tagged_lines.specs.Columns.{text_columns, width_of}
-use Rattle.tagged_lines.specs.Elements.{Item, character, marker, tagged, characters, element_items, elements_items, elements_text, element_text, HasTag, EndsWithTag, Extends}
+use Rattle.tagged_lines.specs.Elements.{Item, character, marker, tagged, characters, element_items, elements_items}
+use Rattle.tagged_lines.specs.Elements.{elements_text, element_text, HasTag, EndsWithTag, Extends}
 
 -- ---- the items of joined lists
 

@@ -4,7 +4,9 @@ use Rattle.tagged_lines.specs.Columns.{text_columns}
 use Rattle.tagged_lines.specs.declared.tagged_string.TaggedString.{TaggedString}
 use Rattle.tagged_lines.specs.declared.tagged_string.TaggedLineElement.{TaggedLineElement}
 use Rattle.tagged_lines.specs.declared.tagged_line.TaggedLine.{TaggedLine}
-pub use Rattle.tagged_lines.specs.Elements.{Item, character, marker, tagged, characters, element_items, elements_items, element_text, elements_text, elements_strings, AreJoined, MapsTag, MapsTags, Copies, CopiesAll}
+pub use Rattle.tagged_lines.specs.Elements.{Item, character, marker, tagged, characters, element_items, elements_items}
+pub use Rattle.tagged_lines.specs.Elements.{element_text, elements_text, elements_strings, AreJoined, MapsTag, MapsTags}
+pub use Rattle.tagged_lines.specs.Elements.{Copies, CopiesAll}
 
 -- the columns of a line: the sum over its characters
 abbrev pub line_columns : {S : Type 0} → List (Item S) → ℕ

@@ -1,5 +1,6 @@
 ghost use Rattle.std.specs.Prelude.{◌≡◌, ℕ, ◌≤◌, Option, Some, IfSome};
-ghost use Rattle.tagged_lines.specs.Columns.{columns_of, columns_of-at_most_two, columns_of-one, is_border, IsOfOneColumn};
+ghost use Rattle.tagged_lines.specs.Columns.{columns_of, columns_of-at_most_two, columns_of-one, is_border};
+ghost use Rattle.tagged_lines.specs.Columns.{IsOfOneColumn};
 
 use unicode_width::UnicodeWidthChar;
 

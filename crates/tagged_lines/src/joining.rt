@@ -1,7 +1,9 @@
 //! Adding text at the end of a line's elements.
 
-ghost use Rattle.std.specs.Prelude.{◌≡◌, ◌≢◌, ◌<◌, ◌≤◌, ◌↔◌, [], ◌∷◌, ◌++◌, chars, string_bytes, vec_len, vec_capacity, IfOk, OnOk, OnErr, IsTrue};
-ghost use Rattle.tagged_lines.specs.Elements.{element_items, elements_items, tagged, marker, AreJoined, EndsWithTag, MeetWithTag, IsApart};
+ghost use Rattle.std.specs.Prelude.{◌≡◌, ◌≢◌, ◌<◌, ◌≤◌, ◌↔◌, [], ◌∷◌, ◌++◌, chars, string_bytes, vec_len, vec_capacity};
+ghost use Rattle.std.specs.Prelude.{IfOk, OnOk, OnErr, IsTrue};
+ghost use Rattle.tagged_lines.specs.Elements.{element_items, elements_items, tagged, marker, AreJoined, EndsWithTag};
+ghost use Rattle.tagged_lines.specs.Elements.{MeetWithTag, IsApart};
 
 use crate::equal_copy::EqualCopy;
 use crate::tagged_string::{TaggedLineElement, TaggedString, roomy_copy};

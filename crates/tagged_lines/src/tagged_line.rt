@@ -24,7 +24,8 @@ pub struct TaggedLine<T> {
 }
 
 impl<T: EqualCopy + Drop> TaggedLine<T> {
-    ghost use Rattle.tagged_lines.specs.Tagged.{line_items, element_items, element_text, character, tagged, marker, line_columns, IsJoined};
+    ghost use Rattle.tagged_lines.specs.Tagged.{line_items, element_items, element_text, character, tagged, marker};
+    ghost use Rattle.tagged_lines.specs.Tagged.{line_columns, IsJoined};
     ghost use Rattle.std.specs.Prelude.{replicate};
 
     /// A line without text.

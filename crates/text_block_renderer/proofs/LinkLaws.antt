@@ -87,7 +87,8 @@ number_stays laws m n s kept = by_notes s.options.include_link_footnotes
 numbered_on : {H A : Type 0} (laws : LinkWidths H A) (m : Marking H A) (p q : Parts H A) → PartsStayWithin p q
     → IfSome (add_part_number m q) (PartsStayWithin p)
 numbered_on laws m p q so_far =
-    mapped (StaysWithin q.current) (PartsStayWithin p) (with_current q) (numbered m (last_number q.current.options.shared_footnotes q.targets) q.current)
+    mapped (StaysWithin q.current) (PartsStayWithin p) (with_current q)
+    (numbered m (last_number q.current.options.shared_footnotes q.targets) q.current)
     (λ s inside. record {
       current = (inside.0, (inside.1.0 ∙ so_far.current.1.0, inside.1.1 ∙ so_far.current.1.1));
       below = so_far.below;
@@ -131,7 +132,8 @@ pub end_never_refused : {H A : Type 0} (laws : LinkRooms H A) (m : Marking H A) 
 end_never_refused laws m p all =
     given_chained HaveRoom HaveRoom (add_part_number m)
     (option_map (with_current p) (finish_link m link_end p.current))
-    (λ q room. given_mapped HasRoom HaveRoom (with_current q) (numbered m (last_number q.current.options.shared_footnotes q.targets) q.current)
+    (λ q room. given_mapped HasRoom HaveRoom (with_current q)
+    (numbered m (last_number q.current.options.shared_footnotes q.targets) q.current)
     (λ s more. record { current = more; below = room.below })
     (number_never_refused laws m (last_number q.current.options.shared_footnotes q.targets) q.current room.current))
     (given_mapped HasRoom HaveRoom (with_current p) (finish_link m link_end p.current)

@@ -35,10 +35,12 @@ parts_split {H} {A} s t p q e = (
 
 -- the number of the last link is added
 pub number_added : {H A : Type 0} (m : Marking H A) (p : Parts H A) (n : ℕ) (cs : List ℕ) (o : Option (Sub H A))
-    → p.current.options.include_link_footnotes ≡ true → n ≡ last_number p.current.options.shared_footnotes p.targets → cs ≡ footnote_mark n
+    → p.current.options.include_link_footnotes ≡ true → n ≡ last_number p.current.options.shared_footnotes p.targets →
+    cs ≡ footnote_mark n
     → add_inline m cs p.current ≡ o → add_part_number m p ≡ option_map (with_current p) o
 number_added m p n cs o asked number mark added =
-    ap (λ t. option_map (with_current p) (if t then add_inline m (footnote_mark (last_number p.current.options.shared_footnotes p.targets)) p.current
+    ap (λ t. option_map (with_current p) (if t then
+    add_inline m (footnote_mark (last_number p.current.options.shared_footnotes p.targets)) p.current
     else Some p.current)) asked
     ∙ ap (λ k. option_map (with_current p) (add_inline m (footnote_mark k) p.current)) (sym number)
     ∙ ap (λ ds. option_map (with_current p) (add_inline m ds p.current)) (sym mark)

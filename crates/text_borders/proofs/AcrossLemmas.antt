@@ -90,7 +90,8 @@ where_below is at (s ∷ ss) = by_test (is s)
     (where_below is (at + 1) ss))
   where
     by_test : (t : Bool) → AreBelow (at + length (s ∷ ss)) (columns_where is (at + 1) ss)
-        → AreBelow (at + length (s ∷ ss)) (if t then at ∷ columns_where is (at + 1) ss else columns_where is (at + 1) ss)
+        → AreBelow (at + length (s ∷ ss)) (if t then at ∷ columns_where is (at + 1) ss
+        else columns_where is (at + 1) ss)
     by_test true rest = All-cons (λ k. k < at + length (s ∷ ss)) at (columns_where is (at + 1) ss) (omega arith) rest
     by_test false rest = rest
 
@@ -186,7 +187,8 @@ opened_fits false above tag c fits = whole_fits tag c fits
 
 -- ---- lines of the row
 
-drop_fits : {S : Type 0} (width i : ℕ) (lines : List (CellLine S)) → LinesFit width lines → LinesFit width (drop i lines)
+drop_fits : {S : Type 0} (width i : ℕ) (lines : List (CellLine S)) → LinesFit width lines →
+    LinesFit width (drop i lines)
 drop_fits width zero lines all = all
 drop_fits width (suc i) [] all = all
 drop_fits width (suc i) (l ∷ lines) all = drop_fits width i lines (All-tail (λ x. LineFits width x.line) l lines all)
@@ -197,7 +199,8 @@ line_or_columns width tag filler [] h all = h
 line_or_columns width tag filler (l ∷ lines) h all =
     widened_columns width tag l.line (All-head (λ x. LineFits width x.line) l lines all)
 
-cell_columns : {S : Type 0} (tag : S) (i : ℕ) (c : OpenCell S) → OpenFits c → line_columns (cell_items tag i c) ≡ c.width
+cell_columns : {S : Type 0} (tag : S) (i : ℕ) (c : OpenCell S) → OpenFits c → line_columns (cell_items tag i c)
+    ≡ c.width
 cell_columns tag i c fits =
     line_or_columns c.width tag c.filler (drop i c.lines) fits.filler (drop_fits c.width i c.lines fits.lines)
 
@@ -416,7 +419,8 @@ sign_column : (draws : Bool) → width_of (sign_of draws) ≡ 1
 sign_column true = one_column 0x2502 (inl refl)
 sign_column false = space_column
 
-pub row_lines_columns : {S : Type 0} (draws collapse : Bool) (tag : S) (above : Option (Border S)) (cells : List (Cell S))
+pub row_lines_columns : {S : Type 0} (draws collapse : Bool) (tag : S) (above : Option (Border S))
+    (cells : List (Cell S))
     (hanging : List (Hanging S)) → All CellFits cells → All (λ h. CellFits h.cell) hanging
     → All (λ l. line_columns l ≡ width_across collapse tag above cells hanging)
     (across draws collapse tag above cells hanging).lines
@@ -452,7 +456,8 @@ row_below_sound draws collapse tag above cells hanging all hangs =
     let fits = row_below_fits draws collapse tag above cells hanging all hangs in
     order_wider 0 (width_across collapse tag above cells hanging) _ _ (omega (arith, fits.width)) fits.sound
 
-pub row_below_columns : {S : Type 0} (draws collapse : Bool) (tag : S) (above : Option (Border S)) (cells : List (Cell S))
+pub row_below_columns : {S : Type 0} (draws collapse : Bool) (tag : S) (above : Option (Border S))
+    (cells : List (Cell S))
     (hanging : List (Hanging S)) → All CellFits cells → All (λ h. CellFits h.cell) hanging
     → line_columns (shown (across draws collapse tag above cells hanging).below)
     ≡ width_across collapse tag above cells hanging

@@ -151,7 +151,8 @@ seats_from collapse above tag height at (c ∷ cells) =
     then (record { place = at; cell = further height (opened collapse above tag c) }) ∷ [] else []) ++ rest)
     (ap (λ w. map seat_of (hanging_of height (at + w + 1) (map (opened collapse above tag) cells))) is.0
     ∙ seats_from collapse above tag height (at + c.width + 1) cells)
-    ∙ ap (λ front. front ++ seats_behind (at + c.width + 1) cells) (seat_here height at (opened collapse above tag c) c is)
+    ∙ ap (λ front. front ++ seats_behind (at + c.width + 1) cells)
+    (seat_here height at (opened collapse above tag c) c is)
 
 pub row_seats : {S : Type 0} (draws collapse : Bool) (tag : S) (above : Option (Border S)) (cells : List (Cell S))
     (hanging : List (Hanging S)) → map (seat_of {S = S}) (across draws collapse tag above cells hanging).hanging

@@ -23,7 +23,8 @@ some_alike none ss n s empty are =
     ap (map segment_of) (are ∙ ap (λ l. l ++ replicate n s) empty) ∙ map-replicate n s
 
 pub stretched_by : (old new : List BorderSegHoriz) (width missing : ℕ)
-    → missing ≡ width - length (map segment_of old) → new ≡ old ++ replicate missing Horiz → map segment_of new ≡ stretched width (map segment_of old)
+    → missing ≡ width - length (map segment_of old) → new ≡ old ++ replicate missing Horiz →
+    map segment_of new ≡ stretched width (map segment_of old)
 stretched_by old new width missing missing_is new_is =
     ap (map segment_of) new_is ∙ map-append segment_of old (replicate missing Horiz)
     ∙ ap (λ ss. map segment_of old ++ ss) (map-replicate missing Horiz)
@@ -87,11 +88,13 @@ pub merged_more : {S : Type 0} (f : Segment → Segment) (is : Segment → Bool)
     → fold (change_to f) (fold (change_to f) b.segments (columns_where is k (s ∷ []))) (columns_where is n others)
     ≡ fold (change_to f) b.segments (columns_where is k (s ∷ others))
 merged_more f is s others k n b n_is =
-    ap (λ m. fold (change_to f) (fold (change_to f) b.segments (columns_where is k (s ∷ []))) (columns_where is m others))
+    ap (λ m. fold (change_to f) (fold (change_to f) b.segments (columns_where is k (s ∷ [])))
+    (columns_where is m others))
     n_is ∙ by_test (is s)
   where
     by_test : (t : Bool)
-        → fold (change_to f) (fold (change_to f) b.segments (if t then k ∷ [] else [])) (columns_where is (k + 1) others)
+        → fold (change_to f) (fold (change_to f) b.segments (if t then k ∷ []
+        else [])) (columns_where is (k + 1) others)
         ≡ fold (change_to f) b.segments (if t then k ∷ columns_where is (k + 1) others
         else columns_where is (k + 1) others)
     by_test true = refl
@@ -137,7 +140,8 @@ rest_is n m behind rest is n_is =
     ap (map segment_of) is ∙ map_drop segment_of n rest ∙ ap (λ k. drop k (map segment_of rest)) n_is
 
 -- a hole and the segments before it were shown
-pub more_shown : {S : Type 0} (tag : S) (at end : ℕ) (rest here behind : List Segment) (h : Hole S) (holes : List (Hole S))
+pub more_shown : {S : Type 0} (tag : S) (at end : ℕ) (rest here behind : List Segment) (h : Hole S)
+    (holes : List (Hole S))
     (old mid new : List (Item S)) → here ≡ take (h.place - at) rest → end ≡ h.place + line_columns h.items
     → behind ≡ drop (h.place + line_columns h.items - at) rest → mid ≡ old ++ glyphs tag here → new ≡ mid ++ h.items
     → new ++ shown_from tag end behind holes ≡ old ++ shown_from tag at rest (h ∷ holes)

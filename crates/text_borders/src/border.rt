@@ -33,7 +33,8 @@ impl<T: EqualCopy + Drop> BorderHoriz<T> {
 
     /// A border of `─` of so many columns. The error is want of memory alone.
     pub fn new(alloc: Global, width: usize, tag: T) -> Result<BorderHoriz<T>, AllocError>
-        ensures { IfOk result (λ border. border_of T.seen border ≡ plain (segment_of segments.Horiz) width (T.seen tag)) }
+        ensures { IfOk result (λ border. border_of T.seen border
+            ≡ plain (segment_of segments.Horiz) width (T.seen tag)) }
     {
         BorderHoriz::of_segments(alloc, width, BorderSegHoriz::Horiz, tag)
     }

@@ -107,6 +107,7 @@ pub fn cells_keep_their_places<T: EqualCopy>()
         (hanging : List (Hanging T.Seen)) → AreSeatedIn 0 cells hanging
         → width_across collapse tag above cells hanging ≡ cells_width cells }
     ensures seats { (draws collapse : Bool) (tag : T.Seen) (above : Option (Border T.Seen)) (cells : List (Cell T.Seen))
-        (hanging : List (Hanging T.Seen)) → map (seat_of {S = T.Seen}) (across draws collapse tag above cells hanging).hanging
+        (hanging : List (Hanging T.Seen)) →
+        map (seat_of {S = T.Seen}) (across draws collapse tag above cells hanging).hanging
         ≡ seats_behind 0 (seated 0 cells hanging) }
 {}

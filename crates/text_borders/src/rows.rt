@@ -18,9 +18,11 @@ fn joins_are_shown<T: EqualCopy>()
 
 /// A border is stretched to a column that is joined, and joined where borders that it takes in ask for it.
 fn borders_are_taken_in<T: EqualCopy>()
-    ensures below { (tag : T.Seen) → characters (shown (merged_below (joined_above 1 (plain horizontal 3 tag)).segments 1
+    ensures below { (tag : T.Seen) →
+        characters (shown (merged_below (joined_above 1 (plain horizontal 3 tag)).segments 1
         (plain horizontal 2 tag))) ≡ codes "──┬" }
-    ensures above { (tag : T.Seen) → characters (shown (merged_above (joined_below 1 (plain horizontal 3 tag)).segments 1
+    ensures above { (tag : T.Seen) →
+        characters (shown (merged_above (joined_below 1 (plain horizontal 3 tag)).segments 1
         (joined_below 2 (plain horizontal 5 tag)))) ≡ codes "──┼──" }
 {}
 

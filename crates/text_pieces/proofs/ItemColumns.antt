@@ -11,7 +11,8 @@ characters-append [] ys = refl
 characters-append (character c tag ∷ xs) ys = ap (λ cs. c ∷ cs) (characters-append xs ys)
 characters-append (marker name ∷ xs) ys = characters-append xs ys
 
-pub line_columns-append : {S : Type 0} (xs ys : List (Item S)) → line_columns (xs ++ ys) ≡ line_columns xs + line_columns
+pub line_columns-append : {S : Type 0} (xs ys : List (Item S)) → line_columns (xs ++ ys)
+    ≡ line_columns xs + line_columns
     ys
 line_columns-append xs ys = ap text_columns (characters-append xs ys)
     ∙ sum_by-append width_of (characters xs) (characters ys)

@@ -47,7 +47,8 @@ pub split_once-parts : (mark : ℕ) (bs : List ℕ) (r : Option (Bor (List ℕ) 
 split_once-parts mark bs None u low h = tt
 split_once-parts mark bs (Some parts) u low h =
     subst (λ l. IsCutAt mark (chars bs) (chars l) (chars parts.1.now)) (sym h.3)
-    (subst (λ l. IsCutAt mark (chars bs) (chars (take h.0 bs)) (chars l)) (sym h.4) (found_at mark bs h.0 h.1 u low h.2))
+    (subst (λ l. IsCutAt mark (chars bs) (chars (take h.0 bs)) (chars l)) (sym h.4)
+    (found_at mark bs h.0 h.1 u low h.2))
 
 pub split_once-none : (mark : ℕ) (bs : List ℕ) (r : Option (Bor (List ℕ) × Bor (List ℕ))) → IsUtf8 bs
     → IsSplitOnceResult mark bs r → IsNone r → Lacks mark (chars bs)

@@ -138,7 +138,8 @@ one_at_least (line ∷ lines) = omega arith
 took_gives : {S : Type 0} (main further : S) (c : ℕ) (b new : Block S) → is_preserved b.mode ≡ true
     → took main further c b ≡ Some new → length b.lines + (if c == line_feed then 1 else 0) ≤ length new.lines
 took_gives main further c b new preserved is =
-    by_end (c == line_feed) (ap (λ p. if p && (c == line_feed) then line_ended b else Some (with_letter main further c b))
+    by_end (c == line_feed) (ap (λ p. if p && (c == line_feed) then line_ended b
+    else Some (with_letter main further c b))
     (sym preserved) ∙ is)
   where
     by_end : (t : Bool) → (if t then line_ended b else Some (with_letter main further c b)) ≡ Some new
@@ -201,7 +202,8 @@ line_ends_give {S = S} mode (c ∷ cs) main further b new preserved is = by_ente
     by_entered None e h = cc
     by_entered (Some x) e h =
         let here = entered_keeps mode b x e in
-        let rest = took_all_gives main further (c ∷ cs) x new (ap is_preserved (entered_mode mode b x e) ∙ preserved) h in
+        let rest =
+        took_all_gives main further (c ∷ cs) x new (ap is_preserved (entered_mode mode b x e) ∙ preserved) h in
         omega (arith, here, rest)
 
 -- ---- lines that are filled

@@ -65,7 +65,8 @@ behind_fits {S = S} width b lines h fit =
     record {
       same_width = h.same_width;
       no_overflow = h.no_overflow;
-      lines = All-append (λ (l : List (Item S)). line_columns l ≤ width) b.lines (map (padded b.width b.padding) lines) h.lines
+      lines = All-append (λ (l : List (Item S)). line_columns l ≤ width) b.lines
+          (map (padded b.width b.padding) lines) h.lines
           (subst (λ w. AreFitting width (map (padded w b.padding) lines)) (sym h.same_width)
           (all_padded width b.padding lines fit));
     }
@@ -121,7 +122,8 @@ took_all_within : {S : Type 0} (laws : FitLaws S) (width : ℕ) (main further : 
     → IsWithin width b → took_all main further cs b ≡ Some new → IsWithin width new
 took_all_within laws width main further [] b new h is = subst (IsWithin width) (some_same b new is) h
 took_all_within {S = S} laws width main further (c ∷ cs) b new h is =
-    by_first (λ mid within e. took_all_within laws width main further cs mid new within e) (took main further c b) refl is
+    by_first (λ mid within e. took_all_within laws width main further cs mid new within e)
+    (took main further c b) refl is
   where
     by_first : ((mid : Block S) → IsWithin width mid → took_all main further cs mid ≡ Some new → IsWithin width new)
         → (o : Option (Block S)) → took main further c b ≡ o
@@ -159,4 +161,5 @@ lines_within {S = S} laws width b lines h is = by_ended (ended b) refl is
   where
     by_ended : (o : Option (Block S)) → ended b ≡ o → option_map lines_of o ≡ Some lines → AreFitting width lines
     by_ended None e k = cc
-    by_ended (Some x) e k = subst (AreFitting width) (some_same (lines_of x) lines k) (ended_within laws width b x h e).lines
+    by_ended (Some x) e k =
+        subst (AreFitting width) (some_same (lines_of x) lines k) (ended_within laws width b x h e).lines

@@ -95,7 +95,8 @@ impl<T: EqualCopy + Drop> WrappedBlock<T> {
         ensures refused { is_err result ≡ has_failed self.new }
         ensures failed { has_failed self.old ≡ true → result ≡ Err BlockError.Failed }
         ensures kinds { has_failed self.old ≡ false → IfErr result (λ e. e ≡ BlockError.Memory) }
-        ensures marked { OnOk result (block_of T.seen self.new ≡ marked_by (chars name.now) (block_of T.seen self.old)) }
+        ensures marked { OnOk result
+            (block_of T.seen self.new ≡ marked_by (chars name.now) (block_of T.seen self.old)) }
         ensures joined { HasJoinedLines T.seen self.old → HasJoinedLines T.seen self.new }
     {
         if self.failed {
@@ -133,7 +134,8 @@ impl<T: EqualCopy + Drop> WrappedBlock<T> {
         ensures failed { has_failed self.old ≡ true → result ≡ Err BlockError.Failed }
         ensures kinds { has_failed self.old ≡ false
             → IfErr result (λ e. (e ≡ BlockError.TooNarrow) ⊎ (e ≡ BlockError.Memory)) }
-        ensures broken { IfOk result (λ ends. broken (block_of T.seen self.old) ≡ Some (ends, block_of T.seen self.new)) }
+        ensures broken { IfOk result (λ ends. broken (block_of T.seen self.old)
+            ≡ Some (ends, block_of T.seen self.new)) }
         ensures narrow { result ≡ Err BlockError.TooNarrow → broken (block_of T.seen self.old) ≡ None }
         ensures joined { HasJoinedLines T.seen self.old → HasJoinedLines T.seen self.new }
     {

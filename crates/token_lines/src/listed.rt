@@ -67,7 +67,15 @@ impl TokenSink for Listed {
 
     ghost close = { λ s. s };
 
-    ghost lawful = { record { joins = λ _ _ _. refl; skips = λ _. refl; answers = λ _ _ _. refl; keeps = λ _ _ r. r; forgets = λ _ _ _. refl; still_answers = λ _ _. refl; still_foreign = λ _. refl } };
+    ghost lawful = { record {
+      joins = λ _ _ _. refl;
+      skips = λ _. refl;
+      answers = λ _ _ _. refl;
+      keeps = λ _ _ r. r;
+      forgets = λ _ _ _. refl;
+      still_answers = λ _ _. refl;
+      still_foreign = λ _. refl;
+    } };
 
     ghost hearing = { record { goes_on = λ _ _ _ _ _ h. h; asks = λ _ _ _ _ _. tt } };
 

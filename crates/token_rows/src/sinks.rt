@@ -39,7 +39,14 @@ impl Switching {
     }
 
     fn asked_by(&self, tag: &Tag) -> Result<TokenSinkResult<u32>, AllocError>
-        ensures { IfOk result (λ answer. answer ≡ asked_by (record { rcdata = self.now.rcdata; script = self.now.script; plaintext = self.now.plaintext; meta = self.now.meta; encoding = self.now.encoding }) tag.now.kind tag.now.name) }
+        ensures { IfOk result (λ answer. answer
+            ≡ asked_by (record {
+              rcdata = self.now.rcdata;
+              script = self.now.script;
+              plaintext = self.now.plaintext;
+              meta = self.now.meta;
+              encoding = self.now.encoding;
+            }) tag.now.kind tag.now.name) }
     {
         Ok(match tag.kind {
             TagKind::EndTag if tag.name == self.script => TokenSinkResult::Script(SCRIPT_HANDLE),
@@ -66,7 +73,13 @@ impl TokenSink for Switching {
 
     ghost Abstract = { Names };
 
-    ghost state = { λ s. record { rcdata = s.rcdata; script = s.script; plaintext = s.plaintext; meta = s.meta; encoding = s.encoding } };
+    ghost state = { λ s. record {
+      rcdata = s.rcdata;
+      script = s.script;
+      plaintext = s.plaintext;
+      meta = s.meta;
+      encoding = s.encoding;
+    } };
 
     ghost means = { record { step = λ s _. s; reply = λ s item. asked s item; foreign = λ _. false } };
 
@@ -76,7 +89,15 @@ impl TokenSink for Switching {
 
     ghost close = { λ s. s };
 
-    ghost lawful = { record { joins = λ _ _ _. refl; skips = λ _. refl; answers = λ s item other. asked-answers s item other; keeps = λ _ _ r. r; forgets = λ _ _ _. refl; still_answers = λ _ _. refl; still_foreign = λ _. refl } };
+    ghost lawful = { record {
+      joins = λ _ _ _. refl;
+      skips = λ _. refl;
+      answers = λ s item other. asked-answers s item other;
+      keeps = λ _ _ r. r;
+      forgets = λ _ _ _. refl;
+      still_answers = λ _ _. refl;
+      still_foreign = λ _. refl;
+    } };
 
     ghost hearing = { record { goes_on = λ _ _ _ _ _ h. h; asks = λ _ _ _ _ _. tt } };
 
@@ -132,7 +153,15 @@ impl TokenSink for Counting {
 
     ghost close = { λ s. s };
 
-    ghost lawful = { record { joins = λ _ _ _. refl; skips = λ _. refl; answers = λ _ _ _. refl; keeps = λ _ _ r. r; forgets = λ _ _ _. refl; still_answers = λ _ _. refl; still_foreign = λ _. refl } };
+    ghost lawful = { record {
+      joins = λ _ _ _. refl;
+      skips = λ _. refl;
+      answers = λ _ _ _. refl;
+      keeps = λ _ _ r. r;
+      forgets = λ _ _ _. refl;
+      still_answers = λ _ _. refl;
+      still_foreign = λ _. refl;
+    } };
 
     ghost hearing = { record { goes_on = λ _ _ _ _ _ h. h; asks = λ _ _ _ _ _. tt } };
 

@@ -1,9 +1,11 @@
 -- A text behind tokens, as items.
-use Rattle.std.proofs.Common.{◌≡◌, ℕ, ◌<◌, List, [], ◌∷◌, ◌++◌, length, map, IsUtf8, chars, refl, sym, ap, ◌∙◌, append_assoc, arith}
+use Rattle.std.proofs.Common.{◌≡◌, ℕ, ◌<◌, List, [], ◌∷◌, ◌++◌, length, map, IsUtf8, chars, refl, sym, ap, ◌∙◌}
+use Rattle.std.proofs.Common.{append_assoc, arith}
 use Rattle.std.proofs.lemmas.List.{map-append}
 use Rattle.std.proofs.lemmas.Str.{chars-append}
 use Rattle.html_lexemes.specs.declared.token.Token.{Token}
-use Rattle.html_lexemes.specs.declared.token.Token.TheVariants.{DoctypeToken, TagToken, CommentToken, CharacterTokens, NullCharacterToken, EOFToken, ParseError}
+use Rattle.html_lexemes.specs.declared.token.Token.TheVariants.{DoctypeToken, TagToken, CommentToken, CharacterTokens}
+use Rattle.html_lexemes.specs.declared.token.Token.TheVariants.{NullCharacterToken, EOFToken, ParseError}
 use Rattle.html_grammar.specs.Items.{Item, characters, item_of}
 use Rattle.token_sinks.specs.KeptTokens.{kept, with_text}
 
@@ -47,9 +49,11 @@ behind_other whole new front last cs e f h =
     let items : map item_of (front ++ last ∷ []) ≡ map item_of front ++ item_of last ∷ [] =
     map-append item_of front (last ∷ []) in
     ap (λ l. map item_of l ++ characters cs ∷ []) f
-    ∙ (ap (λ l. l ++ characters cs ∷ []) items ∙ append_assoc (map item_of front) (item_of last ∷ []) (characters cs ∷ []))
+    ∙ (ap (λ l. l ++ characters cs ∷ []) items ∙ append_assoc (map item_of front) (item_of last ∷ [])
+    (characters cs ∷ []))
     ∙ sym (ap (λ l. with_text (map item_of l) cs) e
-    ∙ (ap (λ l. with_text l cs) items ∙ (at_last (map item_of front) (item_of last) cs ∙ ap (λ l. map item_of front ++ l) (after last cs h))))
+    ∙ (ap (λ l. with_text l cs) items ∙ (at_last (map item_of front) (item_of last) cs ∙
+    ap (λ l. map item_of front ++ l) (after last cs h))))
 
 -- two texts joined by their bytes
 pub joined : (old more new ds cs whole : List ℕ)

@@ -24,7 +24,11 @@ settled page = record page { skips_line_feed = false }
 abbrev pub said : Page → List ℕ → Page
 said page [] = page
 said page (c ∷ cs) =
-    record page { skips_line_feed = false; text = page.text ++ (if page.skips_line_feed && c == 10 then cs else c ∷ cs) }
+    record page {
+      skips_line_feed = false;
+      text = page.text ++ (if page.skips_line_feed && c == 10 then cs
+          else c ∷ cs);
+    }
 
 -- without the innermost, unless it is the last
 abbrev pub closed : List (List ℕ) → List (List ℕ)

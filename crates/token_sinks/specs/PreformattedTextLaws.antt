@@ -1,13 +1,15 @@
 -- The small model of a tree builder is lawful: texts that follow each other are as one, an element stays open, and an
 -- error ends at most the rule of the line feed.
-use Rattle.std.specs.Prelude.{◌≡◌, ℕ, ◌<◌, Bool, true, false, ◌==◌, ◌&&◌, if◌then◌else◌, List, [], ◌∷◌, ◌++◌, length, refl}
+use Rattle.std.specs.Prelude.{◌≡◌, ℕ, ◌<◌, Bool, true, false, ◌==◌, ◌&&◌, if◌then◌else◌, List, [], ◌∷◌, ◌++◌, length}
+use Rattle.std.specs.Prelude.{refl}
 use Rattle.std.proofs.Common.{sym, ap, ◌∙◌, append_assoc, append-nil, arith}
 use Rattle.std.proofs.lemmas.Bool.{ne_eqb}
 use Rattle.html_lexemes.specs.declared.token.TagKind.{TagKind}
 use Rattle.html_lexemes.specs.declared.token.TagKind.TheVariants.{StartTag, EndTag}
 use Rattle.html_grammar.specs.Items.{Item, characters, error, null_character, tag, comment, doctype, end_of_file}
 use Rattle.html_grammar.specs.Reading.{IsAfterError, IsLawful}
-use Rattle.token_sinks.specs.PreformattedText.{Page, HasOpen, settled, said, closed, behind_tag, page_behind, page_meaning}
+use Rattle.token_sinks.specs.PreformattedText.{Page, HasOpen, settled, said, closed, behind_tag, page_behind}
+use Rattle.token_sinks.specs.PreformattedText.{page_meaning}
 
 abbrev with_text : Page → List ℕ → Page
 with_text page text = record page { skips_line_feed = false; text = text }

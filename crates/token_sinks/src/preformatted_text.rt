@@ -1,4 +1,5 @@
-ghost use Rattle.std.specs.Prelude.{◌≡◌, [], ◌∷◌, ◌<◌, false, IfOk, OnOk, chars, codes, drop, length, reverse, string_bytes};
+ghost use Rattle.std.specs.Prelude.{◌≡◌, [], ◌∷◌, ◌<◌, false, IfOk, OnOk, chars, codes, drop, length, reverse};
+ghost use Rattle.std.specs.Prelude.{string_bytes};
 ghost use Rattle.std.specs.Str.{bytes_eq};
 ghost use Rattle.html_lexemes.specs.declared.token.TagKind.TheVariants.{StartTag};
 ghost use Rattle.token_sinks.specs.PreformattedText.{behind_tag, closed, said, settled};

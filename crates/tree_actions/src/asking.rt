@@ -25,7 +25,8 @@ impl<S: TreeSink> Parse<S> {
     /// Whether an element of a set is in list item scope.
     pub fn in_list_item_scope(&self, wanted: ElementSet<'_>) -> bool
         requires { Ready (state_of S.number S.forest S.quirks self.now) }
-        ensures { result ≡ in_list_item_scope (elements_of wanted.entry) (state_of S.number S.forest S.quirks self.now) }
+        ensures { result
+            ≡ in_list_item_scope (elements_of wanted.entry) (state_of S.number S.forest S.quirks self.now) }
     {
         self.tree.in_scope(Scope::ListItemScope, wanted)
     }

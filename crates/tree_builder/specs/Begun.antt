@@ -39,8 +39,8 @@ begun options forest quirks = record {
   };
 }
 
--- A fragment's root, an element "html" without attributes, is put into the document and is open alone; of a template the
--- contents are taken by a mode of their own; then the mode is reset (13.4).
+-- A fragment's root, an element "html" without attributes, is put into the document and is open alone; of a template
+-- the contents are taken by a mode of their own; then the mode is reset (13.4).
 abbrev pub root_actions : (is_template : Bool) → List Action
 root_actions true = insert_named (codes "html") ∷ push_template_mode InTemplate ∷ reset ∷ []
 root_actions false = insert_named (codes "html") ∷ reset ∷ []

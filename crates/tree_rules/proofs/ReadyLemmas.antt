@@ -1,5 +1,6 @@
 -- Each action keeps what is ready so.
-use Rattle.std.proofs.Common.{◌≡◌, ℕ, ◌≤◌, Bool, true, false, if◌then◌else◌, List, [], ◌∷◌, Option, None, Some, refl, sym, ap, subst, ◌==◌, inl, inr, arith}
+use Rattle.std.proofs.Common.{◌≡◌, ℕ, ◌≤◌, Bool, true, false, if◌then◌else◌, List, [], ◌∷◌, Option, None, Some, refl}
+use Rattle.std.proofs.Common.{sym, ap, subst, ◌==◌, inl, inr, arith}
 use Rattle.std.proofs.lemmas.Bool.{eqb-true}
 use Rattle.html_forest.specs.Forest.{Forest, Holds, IsElement, is_in, nodes}
 use Rattle.html_forest.specs.Orders.{IsIn}
@@ -16,7 +17,8 @@ use Rattle.name_sets.specs.Sets.{Elements, is_one_of}
 use Rattle.name_sets.specs.TagSets.{formatting}
 use Rattle.tree_rules.specs.Actions.{Action, act, add_attributes, adopt, adopt_in_scope}
 use Rattle.tree_rules.specs.Actions.{adopted_in_scope, append_doctype, clear_to_marker, close_item}
-use Rattle.tree_rules.specs.Actions.{break_out, close_foreign, close_other, close_p, comment_to_document, comment_to_root, forget_form}
+use Rattle.tree_rules.specs.Actions.{break_out, close_foreign, close_other, close_p, comment_to_document}
+use Rattle.tree_rules.specs.Actions.{comment_to_root, forget_form}
 use Rattle.tree_rules.specs.Actions.{forget_pending, foster, given_attributes, go_back, go_to, hold_mode}
 use Rattle.tree_rules.specs.Actions.{imply_but, in_html, insert, insert_comment, insert_foreign}
 use Rattle.tree_rules.specs.Actions.{insert_formatting, insert_named, insert_void, inserted_and_listed}
@@ -91,7 +93,8 @@ given_kept words n attributes b sound = by_test (is_in n b.stack) b _ _
     (λ e. same b sound)
 
 popped_if_kept : Words → (set : Elements) → Keeps (popped_if set)
-popped_if_kept words set b sound = by_test (is_current set b b.stack) b _ _ (λ e. words.pops b sound) (λ e. same b sound)
+popped_if_kept words set b sound =
+    by_test (is_current set b b.stack) b _ _ (λ e. words.pops b sound) (λ e. same b sound)
 
 listed_kept : Words → (tag : Tag) → Keeps (inserted_and_listed tag)
 listed_kept words tag b sound = by_test (is_one_of formatting tag.name) b _ _
@@ -128,8 +131,10 @@ first_holds there b sound (m ∷ ms) e n f =
 pub act_ready : Words → AreThere → (action : Action) (s : State) → Ready s → Ready (act action s)
 unfolding act
 act_ready words there (insert targets.AtPlace tag) s ready = by_word s _ ready (words.inserts (name_for tag) tag.attrs)
-act_ready words there (insert targets.IntoHead tag) s ready = stepped s _ ready (into_kept words s tag s.head refl ready)
-act_ready words there (insert_void targets.AtPlace tag) s ready = by_word s _ ready (words.inserts_void (name_for tag) tag.attrs)
+act_ready words there (insert targets.IntoHead tag) s ready =
+    stepped s _ ready (into_kept words s tag s.head refl ready)
+act_ready words there (insert_void targets.AtPlace tag) s ready =
+    by_word s _ ready (words.inserts_void (name_for tag) tag.attrs)
 act_ready words there (insert_void targets.IntoHead tag) s ready =
     stepped s _ ready (void_into_kept words s tag s.head refl ready)
 act_ready words there (insert_named name) s ready = by_word s _ ready (words.inserts (in_html name) [])
@@ -178,11 +183,14 @@ act_ready words there keep_head s ready = record {
 }
 act_ready words there keep_form s ready = record { sound = ready.sound; head = ready.head; context = ready.context }
 act_ready words there forget_form s ready = record { sound = ready.sound; head = ready.head; context = ready.context }
-act_ready words there refuse_frameset s ready = record { sound = ready.sound; head = ready.head; context = ready.context }
+act_ready words there refuse_frameset s ready =
+    record { sound = ready.sound; head = ready.head; context = ready.context }
 act_ready words there skip_next_line_feed s ready =
     record { sound = ready.sound; head = ready.head; context = ready.context }
-act_ready words there (keep_pending c) s ready = record { sound = ready.sound; head = ready.head; context = ready.context }
-act_ready words there forget_pending s ready = record { sound = ready.sound; head = ready.head; context = ready.context }
+act_ready words there (keep_pending c) s ready =
+    record { sound = ready.sound; head = ready.head; context = ready.context }
+act_ready words there forget_pending s ready =
+    record { sound = ready.sound; head = ready.head; context = ready.context }
 
 -- the adjusted current node is an element
 same_node : (m n : ℕ) → Some m ≡ Some n → m ≡ n

@@ -14,7 +14,8 @@ use Rattle.html_lexemes.specs.declared.token.TagKind.TheVariants.{StartTag}
 use Rattle.html_tree_state.specs.Adoption.{adoption, closed_by_other_end, out_of_place}
 use Rattle.html_tree_state.specs.Building.{Building}
 use Rattle.html_tree_state.specs.Foreign.{broken_out, closed_by_foreign_end}
-use Rattle.html_tree_state.specs.Formatting.{cleared, inserted_for, inserted_formatting, marked, name_for, reconstructed}
+use Rattle.html_tree_state.specs.Formatting.{cleared, inserted_for, inserted_formatting, marked, name_for}
+use Rattle.html_tree_state.specs.Formatting.{reconstructed}
 use Rattle.html_tree_state.specs.Formatting.{unlisted}
 use Rattle.html_tree_state.specs.Insertions.{commented_at, here, inserted, inserted_at, inserted_void, root_of, said}
 use Rattle.html_tree_state.specs.Insertions.{with_attributes_of, with_doctype_of, with_element}

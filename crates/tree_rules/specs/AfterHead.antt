@@ -1,5 +1,5 @@
--- The "after head" insertion mode (WHATWG HTML, 13.2.6.4.6). The standard opens the head again while a tag is taken by the
--- rules for it: the tag's element is inserted into the head.
+-- The "after head" insertion mode (WHATWG HTML, 13.2.6.4.6). The standard opens the head again while a tag is taken by
+-- the rules for it: the tag's element is inserted into the head.
 use Rattle.std.specs.Prelude.{Bool, false, true, List, [], ◌∷◌, codes}
 use Rattle.html_lexemes.specs.declared.token.Tag.{Tag}
 use Rattle.tag_groups.specs.declared.group.TagGroup.{TagGroup}

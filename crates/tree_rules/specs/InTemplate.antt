@@ -8,7 +8,8 @@ use Rattle.tree_rules.specs.InHead.{in_head_end, in_head_start}
 use Rattle.tree_rules.specs.Rows.{Row, again, ignored}
 use Rattle.tree_rules.specs.State.{State}
 use Rattle.tree_words.specs.declared.modes.InsertionMode.{InsertionMode}
-use Rattle.tree_words.specs.declared.modes.InsertionMode.TheVariants.{InBody, InColumnGroup, InRow, InTable, InTableBody}
+use Rattle.tree_words.specs.declared.modes.InsertionMode.TheVariants.{InBody, InColumnGroup, InRow, InTable}
+use Rattle.tree_words.specs.declared.modes.InsertionMode.TheVariants.{InTableBody}
 
 -- the template's contents are those of another mode
 abbrev pub becomes : InsertionMode → Row

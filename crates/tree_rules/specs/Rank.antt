@@ -1,5 +1,5 @@
--- Why a mark is not handed on for ever: each time it is, fewer tables and templates are open, or the mode stands further
--- on in the order in which modes hand such a mark on.
+-- Why a mark is not handed on for ever: each time it is, fewer tables and templates are open, or the mode stands
+-- further on in the order in which modes hand such a mark on.
 use Rattle.std.specs.Prelude.{ℕ, ◌+◌, ◌*◌, List, [], ◌∷◌, codes, if◌then◌else◌}
 use Rattle.html_forest.specs.Forest.{Forest, name_of}
 use Rattle.name_sets.specs.Sets.{Elements, html_elements, is_element_of}

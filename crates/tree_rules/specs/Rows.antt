@@ -37,8 +37,8 @@ fostered (done actions) = done (between_fosters actions)
 fostered (asks ask actions) = asks ask (between_fosters actions)
 fostered (again actions) = again (between_fosters actions)
 
--- What a mode makes of a character: it is ignored, said behind some actions, kept with the pending ones, or taken by the
--- mode that stands behind some actions.
+-- What a mode makes of a character: it is ignored, said behind some actions, kept with the pending ones, or taken by
+-- the mode that stands behind some actions.
 pub data TextRow : Type 0 where
   dropped : TextRow
   said_behind : List Action → TextRow

@@ -16,7 +16,8 @@ use Rattle.tree_rules.specs.Actions.{act_all}
 use Rattle.tree_rules.specs.Rank.{rank}
 use Rattle.tree_rules.specs.Rows.{Row, again, asks, done}
 use Rattle.tree_rules.specs.Rule.{rule}
-use Rattle.tree_rules.specs.State.{Ask, Mark, State, character, comment, doctype, encoding, end_of_file, finish, nothing}
+use Rattle.tree_rules.specs.State.{Ask, Mark, State, character, comment, doctype, encoding, end_of_file, finish}
+use Rattle.tree_rules.specs.State.{nothing}
 use Rattle.tree_rules.specs.State.{null, plaintext, raw, script, start}
 use Rattle.tree_words.specs.Foreign.{is_of_html}
 use Rattle.tree_words.specs.declared.modes.InsertionMode.TheVariants.{Text}

@@ -11,8 +11,8 @@ use Rattle.tree_words.specs.declared.modes.InsertionMode.{InsertionMode}
 -- The insertion mode, the original one, and those of open templates, the last first (13.2.4.1); the elements that head
 -- and form pointer name (13.2.4.4); a fragment's context (13.4); whether a frameset may still come, and whether a line
 -- feed is left out next (13.2.4.5 and 13.2.6.4.7); the pending characters of a table (13.2.6.4.9); the quirks mode by
--- which tags are taken; whether nothing more is taken, since the end was told or a call was refused, and whether one was
--- refused; and the tree that is built.
+-- which tags are taken; whether nothing more is taken, since the end was told or a call was refused, and whether one
+-- was refused; and the tree that is built.
 pub record State : Type 0 where
   pub options : TreeBuilderOpts
   pub mode : InsertionMode

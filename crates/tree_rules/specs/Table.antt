@@ -7,7 +7,8 @@ use Rattle.tag_groups.specs.Groups.{tag_group}
 use Rattle.tag_groups.specs.declared.group.TagGroup.{TagGroup}
 use Rattle.tree_rules.specs.Actions.{insert_comment}
 use Rattle.tree_rules.specs.AfterBody.{after_after_body_comment, after_after_body_end, after_after_body_end_of_file}
-use Rattle.tree_rules.specs.AfterBody.{after_after_body_start, after_after_body_text, after_body_comment, after_body_end}
+use Rattle.tree_rules.specs.AfterBody.{after_after_body_start, after_after_body_text, after_body_comment}
+use Rattle.tree_rules.specs.AfterBody.{after_body_end}
 use Rattle.tree_rules.specs.AfterBody.{after_body_end_of_file, after_body_start, after_body_text}
 use Rattle.tree_rules.specs.AfterHead.{after_head_end, after_head_start, after_head_text, body_made}
 use Rattle.tree_rules.specs.BeforeHead.{before_head_end, before_head_start, before_head_text, head_made}

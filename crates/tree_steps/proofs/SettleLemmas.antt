@@ -1,5 +1,5 @@
--- A mark that a rule takes has come to what it comes to; one that is handed on comes to the same behind it, and its rank
--- has fallen.
+-- A mark that a rule takes has come to what it comes to; one that is handed on comes to the same behind it, and its
+-- rank has fallen.
 use Rattle.std.proofs.Common.{◌≡◌, ℕ, ◌<◌, refl, sym, ap, ◌∙◌, subst}
 use Rattle.html_lexemes.specs.declared.token.TokenSinkResult.{TokenSinkResult}
 use Rattle.html_lexemes.specs.declared.token.TokenSinkResult.TheVariants.{Continue}

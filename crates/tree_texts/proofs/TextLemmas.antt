@@ -1,5 +1,6 @@
 -- Runs of text, by what a mode makes of their characters.
-use Rattle.std.proofs.Common.{◌≡◌, ℕ, ◌⊎◌, inl, inr, ◌==◌, ◌&&◌, ◌||◌, Bool, true, false, if◌then◌else◌, List, [], ◌∷◌, codes}
+use Rattle.std.proofs.Common.{◌≡◌, ℕ, ◌⊎◌, inl, inr, ◌==◌, ◌&&◌, ◌||◌, Bool, true, false, if◌then◌else◌, List, [], ◌∷◌}
+use Rattle.std.proofs.Common.{codes}
 use Rattle.std.proofs.Common.{◌++◌, ◌<◌, append_assoc, fold, refl, sym, ap, ◌∙◌, subst, Option, None, Some}
 use Rattle.std.proofs.lemmas.List.{append-nil}
 use Rattle.html_forest.specs.Forest.{Forest, Holds, IsElement, Kind, element_of, is_integration_point, kind_at, name_of}
@@ -113,7 +114,8 @@ module _ (laws : TextLaws) (s : State) (ready : Ready s) where
   stays : (ds : List ℕ) (n : ℕ) → IsIn n s.tree.stack → kind_at n (said ds s.tree).forest ≡ kind_at n s.tree.forest
   stays ds n there = laws.words.says_elsewhere ds n s.tree (ready.sound.elements n there)
 
-  by_mode_same : (ds : List ℕ) (ok : Bool) (c : ℕ) → is_by_mode (character c) (ahead ds ok s) ≡ is_by_mode (character c) s
+  by_mode_same : (ds : List ℕ) (ok : Bool) (c : ℕ) → is_by_mode (character c) (ahead ds ok s)
+      ≡ is_by_mode (character c) s
   by_mode_same ds ok c = ap (λ (b : Bool). is_text s.mode || b)
       (taken_same (character c) s.tree.forest (said ds s.tree).forest s.context s.tree.stack (stays ds)
       (λ n is. laws.words.says_elsewhere ds n s.tree (ready.context n is)))
@@ -335,7 +337,8 @@ module _ (laws : TextLaws) (s : State) (ready : Ready s) where
       let base : Ready (anew s) = anew_ready laws s ready in
       body_taken laws (is_white_space c) (ahead ds ok (anew s)) c
       (record { ready = ahead_ready laws (anew s) base ds ok; flag = flag })
-      (mode_rule (ahead ds ok (anew s)) c (by_mode_same laws (anew s) base ds ok c ∙ by_anew laws.nodes s c ready top by)
+      (mode_rule (ahead ds ok (anew s)) c (by_mode_same laws (anew s) base ds ok c ∙
+      by_anew laws.nodes s c ready top by)
       ∙ ap (for_character c) (row_same laws (anew s) base ds ok (is_white_space c)
       ∙ row_anew s.mode (is_white_space c) s (anew s) refl (collects_anew s top) is))
       ∙ ap (λ (b : Building). record (ahead ds ok (anew s)) {
@@ -398,7 +401,8 @@ keeps_flag modes.InTable b s = table_flag b s
 keeps_flag modes.InTableBody b s = table_flag b s
 keeps_flag modes.InRow b s = table_flag b s
 keeps_flag modes.InColumnGroup true s = tt
-keeps_flag modes.InColumnGroup false s = flag_by (is_in_column_group s) (then_again column_group_closed) dropped s refl tt
+keeps_flag modes.InColumnGroup false s =
+    flag_by (is_in_column_group s) (then_again column_group_closed) dropped s refl tt
 keeps_flag modes.AfterBody true s = tt
 keeps_flag modes.AfterBody false s = refl
 keeps_flag modes.AfterAfterBody true s = tt

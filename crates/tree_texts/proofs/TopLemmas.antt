@@ -5,7 +5,8 @@ use Rattle.std.proofs.lemmas.Bool.{cases_Bool}
 use Rattle.std.proofs.lemmas.Slice.Eq.{bytes_eq-Decides}
 use Rattle.formatting_list.specs.Entries.{Entry, formatted, marker}
 use Rattle.html_forest.specs.Changes.{contents_number, made, made_element}
-use Rattle.html_forest.specs.Forest.{Forest, Holds, IsElement, Kind, document, element, element_of, kind_at, name_of, nodes}
+use Rattle.html_forest.specs.Forest.{Forest, Holds, IsElement, Kind, document, element, element_of, kind_at, name_of}
+use Rattle.html_forest.specs.Forest.{nodes}
 use Rattle.html_forest.specs.Places.{Place, put_node}
 use Rattle.html_lexemes.specs.declared.names.Attribute.{Attribute}
 use Rattle.html_lexemes.specs.declared.names.QualName.{QualName}

@@ -1,4 +1,5 @@
--- What runs of characters come to, which are taken one by one: laws of the rule table (WHATWG HTML, 13.2.6.1 and 13.2.6.4).
+-- What runs of characters come to, which are taken one by one: laws of the rule table (WHATWG HTML, 13.2.6.1 and
+-- 13.2.6.4).
 use Rattle.std.specs.Prelude.{◌≡◌, ℕ, ◌<◌, ◌&&◌, Bool, false, List, ◌∷◌, fold}
 use Rattle.html_tree_state.specs.Insertions.{said}
 use Rattle.tree_rules.specs.Actions.{Action, act, act_all, keep_pending, reconstruct, say}

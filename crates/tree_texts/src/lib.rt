@@ -1,5 +1,5 @@
-//! Runs of text in tree construction: what characters come to that an insertion mode treats alike, as laws (WHATWG HTML,
-//! 13.2.6.1 and 13.2.6.4); a part of `html_tree_builder`.
+//! Runs of text in tree construction: what characters come to that an insertion mode treats alike, as laws (WHATWG
+//! HTML, 13.2.6.1 and 13.2.6.4); a part of `html_tree_builder`.
 #![tactic(auto)]
 
 mod laws;

@@ -146,7 +146,8 @@ following_noted (m ∷ ms) h =
     gap_noted m.joint (character m.letter.code m.letter.tag ∷ following_items ms) h.0
     ∙ ap (λ ns. tag_notes m.letter.tag ++ ns) (following_noted ms h.1)
 
-line_noted : {S : Type 0} (ms : List (Mark (Rider S))) → AreGapsPlain ms → noted (marks_items ms) ≡ notes (letters_in ms)
+line_noted : {S : Type 0} (ms : List (Mark (Rider S))) → AreGapsPlain ms → noted (marks_items ms)
+    ≡ notes (letters_in ms)
 line_noted [] h = refl
 line_noted (m ∷ ms) h = ap (λ ns. tag_notes m.letter.tag ++ ns) (following_noted ms h.1)
 
@@ -170,7 +171,8 @@ further_letters : {S : Type 0} (further : Joint S) (ls : List (Letter S))
 further_letters further [] = refl
 further_letters further (l ∷ ls) = ap (λ rest. l ∷ rest) (further_letters further ls)
 
-marked_letters : {S : Type 0} (first further : Joint S) (ls : List (Letter S)) → letters_in (marked first further ls) ≡ ls
+marked_letters : {S : Type 0} (first further : Joint S) (ls : List (Letter S)) →
+    letters_in (marked first further ls) ≡ ls
 marked_letters first further [] = refl
 marked_letters first further (l ∷ ls) = ap (λ rest. l ∷ rest) (further_letters further ls)
 
@@ -260,7 +262,8 @@ front_plain : {S : Type 0} (l : Letter (Rider S)) (ps : List (Piece (Rider S))) 
 front_plain l [] h = tt
 front_plain l (p ∷ ps) h = (h.0, h.1)
 
-pieces_plain : {S : Type 0} (space : Option (Rider S)) (ls : List (Letter (Rider S))) → IsPlainSpace space → AreRiding ls
+pieces_plain : {S : Type 0} (space : Option (Rider S)) (ls : List (Letter (Rider S))) → IsPlainSpace space →
+    AreRiding ls
     → AreSpacesPlain (pieces_after space ls)
 pieces_plain space [] h rides = (h, tt)
 pieces_plain {S = S} space (l ∷ ls) h rides =
@@ -353,7 +356,10 @@ letter_carried {S = S} width c main further names k h = by_carrier (is_carrier c
     } else record k { letters = k.letters ++ plain_letter c main ∷ []; in_word = in_word_at width k.in_word c })
     by_carrier true is = record {
       riding = riding_both k.letters (map (λ name. ride name) k.waiting ++ plain_letter c main ∷ []) h.riding
-          (riding_both (map (λ name. ride name) k.waiting) (plain_letter c main ∷ []) (rides_ride S k.waiting) (tt, tt));
+          (riding_both (map (λ name. ride name) k.waiting) (plain_letter c main ∷ []) (rides_ride S k.waiting) (
+            tt,
+            tt,
+          ));
       all = append-nil (notes (k.letters ++ (map (λ name. ride name) k.waiting ++ plain_letter c main ∷ [])))
           ∙ notes-append k.letters (map (λ name. ride name) k.waiting ++ plain_letter c main ∷ [])
           ∙ ap (λ ns. notes k.letters ++ ns)
@@ -396,7 +402,8 @@ pub all_carried : {S : Type 0} (width : ℕ) (source : List (Source S)) (names :
 all_carried width [] names k h =
     record { riding = h.riding; all = h.all ∙ sym (append-nil names); clear = h.clear }
 all_carried width (letter c main further ∷ source) names k h =
-    all_carried width source names (carry width k (letter c main further)) (letter_carried width c main further names k h)
+    all_carried width source names (carry width k (letter c main further))
+    (letter_carried width c main further names k h)
 all_carried width (fragment name ∷ source) names k h =
     subst (λ ns. IsCarrying ns (fold (carry width) (carry width k (fragment name)) source))
     (append_assoc names (name ∷ []) (names_of source))

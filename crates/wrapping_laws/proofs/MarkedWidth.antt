@@ -52,11 +52,13 @@ one_room width c main h =
     All-cons (λ l. IsTrue (has_room width false l)) (plain_letter c main) [] h
     (All-nil (λ l. IsTrue (has_room width false l)))
 
-pub carried_room : {S : Type 0} (width : ℕ) (source : List (Source S)) (k : Carried S) → has_wide_text width source ≡ false
+pub carried_room : {S : Type 0} (width : ℕ) (source : List (Source S)) (k : Carried S) →
+    has_wide_text width source ≡ false
     → AllHaveRoom width false k.letters → AllHaveRoom width false (fold (carry width) k source).letters
 carried_room width [] k narrow room = room
 carried_room {S = S} width (letter c main further ∷ source) k narrow room =
-    let parts = room_unless (is_break_point c) (nat_lt width (width_of c)) (has_wide_text width source) (width_of c) width
+    let parts =
+    room_unless (is_break_point c) (nat_lt width (width_of c)) (has_wide_text width source) (width_of c) width
     refl narrow in
     let P = λ (l : Letter (Rider S)). IsTrue (has_room width false l) in
     let one = one_room width c main parts.0 in
@@ -82,7 +84,8 @@ carried_room {S = S} width (letter c main further ∷ source) k narrow room =
       in_word = in_word_at width k.in_word c;
     }) with_rides
     by_carrier rest without with_rides false =
-        rest (record k { letters = k.letters ++ plain_letter c main ∷ []; in_word = in_word_at width k.in_word c }) without
+        rest (record k { letters = k.letters ++ plain_letter c main ∷ []; in_word = in_word_at width k.in_word c })
+        without
 carried_room {S = S} width (fragment name ∷ source) k narrow room =
     let P = λ (l : Letter (Rider S)). IsTrue (has_room width false l) in
     by_word (λ next here. carried_room width source next narrow here)

@@ -72,7 +72,7 @@ link_passed d linked behind target contents rest h =
     let b = passed linked LinkInLink (fault_where (is_too_deep d) TooDeep both) a.1 in
     (a.0, (b.0, both_none within later (passed (is_too_deep d) TooDeep both b.1).1))
 
--- a paragraph, a heading or a division, and a list, behind the test of its own
+-- a paragraph, a heading, a division or a quote, and a list, behind the test of its own
 pub held_passed : (d : ℕ) (within later : Option ArticleError) →
     fault_where (is_too_deep d) TooDeep (option_or within later) ≡ None → (within ≡ None) × (later ≡ None)
 held_passed d within later h = both_none within later (passed (is_too_deep d) TooDeep (option_or within later) h).1

@@ -104,7 +104,8 @@ module _ (content : Content) where
   pub document_called : (scope : TraversalScope) (title : Option (List ℕ)) →
       calls_of scope 0 (whole_tree title content) ≡ document_calls title content
   document_called IncludeNode None = page_calls None (length (listed 5 content)) (enough 5 _ (omega arith))
-  document_called IncludeNode (Some []) = page_calls (Some []) (suc (length (listed 6 content))) (enough 6 _ (omega arith))
+  document_called IncludeNode (Some []) =
+      page_calls (Some []) (suc (length (listed 6 content))) (enough 6 _ (omega arith))
   document_called IncludeNode (Some (c ∷ cs)) =
       page_calls (Some (c ∷ cs)) (suc (suc (length (listed 7 content)))) (enough 7 _ (omega arith))
   document_called (ChildrenOnly name) None =

@@ -26,13 +26,15 @@ use Rattle.article_writing.proofs.+telling.Goals as goal
 pub blocks::tell_block-tell_element-requires-in-Bullets : goal.blocks::tell_block-tell_element-requires-in-Bullets
 blocks::tell_block-tell_element-requires-in-Bullets g t c =
     let less : weight c.args.block.now ≡ suc (items_weight c.as_slice-in-Bullets.result.now) = ap weight c.in-Bullets.is
-    ∙ weight_of_bullets c.in-Bullets.items ∙ ap (λ is. suc (items_weight is)) (sym c.as_slice-in-Bullets.ensures.value) in
+    ∙ weight_of_bullets c.in-Bullets.items ∙ ap (λ is. suc (items_weight is))
+    (sym c.as_slice-in-Bullets.ensures.value) in
     search (rules, less)
 
 pub blocks::tell_block-tell_numbers-requires : goal.blocks::tell_block-tell_numbers-requires
 blocks::tell_block-tell_numbers-requires g t c =
     let less : weight c.args.block.now ≡ suc (items_weight c.as_slice-in-Numbers.result.now) = ap weight c.in-Numbers.is
-    ∙ weight_of_numbers c.in-Numbers.first c.in-Numbers.items ∙ ap (λ is. suc (items_weight is)) (sym c.as_slice-in-Numbers.ensures.value) in
+    ∙ weight_of_numbers c.in-Numbers.first c.in-Numbers.items ∙ ap (λ is. suc (items_weight is))
+    (sym c.as_slice-in-Numbers.ensures.value) in
     search (rules, less)
 
 pub blocks::tell_blocks-tell_block-requires : goal.blocks::tell_blocks-tell_block-requires
@@ -85,42 +87,52 @@ pub blocks::tell_block-returns-in-Paragraph : goal.blocks::tell_block-returns-in
 unfolding chars
 blocks::tell_block-returns-in-Paragraph g t c =
     λ rest. element_told g.S.Serializer.means _ _ c.tell_element.result (codes "p") (codes "p") [] []
-    (content_of_inlines (inlines_view c.as_slice.result.now)) (content_of_inlines (inlines_view c.in-Paragraph.contents.items)) (content_of_blocks rest)
+    (content_of_inlines (inlines_view c.as_slice.result.now))
+    (content_of_inlines (inlines_view c.in-Paragraph.contents.items)) (content_of_blocks rest)
     (content_of_blocks (block_view c.args.block.now rest)) refl refl
     (ap (λ xs. content_of_inlines (inlines_view xs)) c.as_slice.ensures.value)
-    (ap (λ v. content_of_blocks (block_view v rest)) c.in-Paragraph.is ∙ ap content_of_blocks (seen_paragraph c.in-Paragraph.contents rest)) c.tell_element.ensures
+    (ap (λ v. content_of_blocks (block_view v rest)) c.in-Paragraph.is ∙ ap content_of_blocks
+    (seen_paragraph c.in-Paragraph.contents rest)) c.tell_element.ensures
 
 pub blocks::tell_block-returns-in-Division : goal.blocks::tell_block-returns-in-Division
 unfolding chars
 blocks::tell_block-returns-in-Division g t c =
     λ rest. element_told g.S.Serializer.means _ _ c.tell_element-in-Division.result (codes "div") (codes "div") [] []
-    (content_of_blocks (blocks_view c.as_slice-in-Division.result.now)) (content_of_blocks (blocks_view c.in-Division.blocks.items)) (content_of_blocks rest)
+    (content_of_blocks (blocks_view c.as_slice-in-Division.result.now))
+    (content_of_blocks (blocks_view c.in-Division.blocks.items)) (content_of_blocks rest)
     (content_of_blocks (block_view c.args.block.now rest)) refl refl
     (ap (λ xs. content_of_blocks (blocks_view xs)) c.as_slice-in-Division.ensures.value)
-    (ap (λ v. content_of_blocks (block_view v rest)) c.in-Division.is ∙ ap content_of_blocks (seen_division c.in-Division.blocks rest)) c.tell_element-in-Division.ensures
+    (ap (λ v. content_of_blocks (block_view v rest)) c.in-Division.is ∙ ap content_of_blocks
+    (seen_division c.in-Division.blocks rest)) c.tell_element-in-Division.ensures
 
 pub blocks::tell_block-returns-in-Quote : goal.blocks::tell_block-returns-in-Quote
 unfolding chars
 blocks::tell_block-returns-in-Quote g t c =
-    λ rest. element_told g.S.Serializer.means _ _ c.tell_element-in-Quote.result (codes "blockquote") (codes "blockquote") [] []
-    (content_of_blocks (blocks_view c.as_slice-in-Quote.result.now)) (content_of_blocks (blocks_view c.in-Quote.blocks.items)) (content_of_blocks rest)
+    λ rest. element_told g.S.Serializer.means _ _ c.tell_element-in-Quote.result (codes "blockquote")
+    (codes "blockquote") [] []
+    (content_of_blocks (blocks_view c.as_slice-in-Quote.result.now))
+    (content_of_blocks (blocks_view c.in-Quote.blocks.items)) (content_of_blocks rest)
     (content_of_blocks (block_view c.args.block.now rest)) refl refl
     (ap (λ xs. content_of_blocks (blocks_view xs)) c.as_slice-in-Quote.ensures.value)
-    (ap (λ v. content_of_blocks (block_view v rest)) c.in-Quote.is ∙ ap content_of_blocks (seen_quote c.in-Quote.blocks rest)) c.tell_element-in-Quote.ensures
+    (ap (λ v. content_of_blocks (block_view v rest)) c.in-Quote.is ∙ ap content_of_blocks
+    (seen_quote c.in-Quote.blocks rest)) c.tell_element-in-Quote.ensures
 
 pub blocks::tell_block-returns-in-Bullets : goal.blocks::tell_block-returns-in-Bullets
 unfolding chars
 blocks::tell_block-returns-in-Bullets g t c =
     λ rest. element_told g.S.Serializer.means _ _ c.tell_element-in-Bullets.result (codes "ul") (codes "ul") [] []
-    (content_of_items (items_view c.as_slice-in-Bullets.result.now)) (content_of_items (items_view c.in-Bullets.items.items)) (content_of_blocks rest)
+    (content_of_items (items_view c.as_slice-in-Bullets.result.now))
+    (content_of_items (items_view c.in-Bullets.items.items)) (content_of_blocks rest)
     (content_of_blocks (block_view c.args.block.now rest)) refl refl
     (ap (λ xs. content_of_items (items_view xs)) c.as_slice-in-Bullets.ensures.value)
-    (ap (λ v. content_of_blocks (block_view v rest)) c.in-Bullets.is ∙ ap content_of_blocks (seen_bullets c.in-Bullets.items rest)) c.tell_element-in-Bullets.ensures
+    (ap (λ v. content_of_blocks (block_view v rest)) c.in-Bullets.is ∙ ap content_of_blocks
+    (seen_bullets c.in-Bullets.items rest)) c.tell_element-in-Bullets.ensures
 
 pub blocks::tell_block-returns-in-Numbers : goal.blocks::tell_block-returns-in-Numbers
 blocks::tell_block-returns-in-Numbers g t c =
     λ rest. retold g.S.Serializer.means _ _ c.tell_numbers.result
-    (λ more. calls_and (content_of_blocks (numbers (held c.in-Numbers.first) (items_view c.as_slice-in-Numbers.result.now)
+    (λ more. calls_and
+    (content_of_blocks (numbers (held c.in-Numbers.first) (items_view c.as_slice-in-Numbers.result.now)
     no_blocks)) more) (λ more. more) (λ more. calls_and (content_of_blocks (block_view c.args.block.now rest)) more)
     (λ more. calls_and (content_of_blocks rest) more) (λ more. calls_and (content_of_blocks rest) more)
     (λ more. ap (λ v. calls_and (content_of_blocks (block_view v rest)) more) c.in-Numbers.is
@@ -132,7 +144,8 @@ pub blocks::tell_items-returns-in_err-tell_element : goal.blocks::tell_items-ret
 unfolding chars
 blocks::tell_items-returns-in_err-tell_element g t c =
     let p = err_from_is_err_and c.from_residual.result c.from_residual.ensures.1 in
-    left_err g.S.Serializer.means (λ xs more. calls_and (content_of_items (items_view xs)) more) _ c.args.items.now _ _ c.items.item-index c.item-item.result
+    left_err g.S.Serializer.means (λ xs more. calls_and (content_of_items (items_view xs)) more) _ c.args.items.now _ _
+    c.items.item-index c.item-item.result
     c.tell_element.result c.from_residual.result c.in_err-tell_element.field-0.0 p.0 c.items.invariant c.items-test.true
     c.item-item.is c.in_err-tell_element.was p.1 p.2
     (λ rest. element_told g.S.Serializer.means _ _ c.tell_element.result (codes "li") (codes "li") [] []
@@ -143,7 +156,8 @@ blocks::tell_items-returns-in_err-tell_element g t c =
 pub blocks::tell_items-items-preserved : goal.blocks::tell_items-items-preserved
 unfolding chars
 blocks::tell_items-items-preserved g t c =
-    left_on g.S.Serializer.means (λ xs more. calls_and (content_of_items (items_view xs)) more) _ c.args.items.now _ _ c.items.item-index c.item-item.result
+    left_on g.S.Serializer.means (λ xs more. calls_and (content_of_items (items_view xs)) more) _ c.args.items.now _ _
+    c.items.item-index c.item-item.result
     c.tell_element.result c.in_ok-tell_element.field-0 c.items.invariant c.items-test.true c.item-item.is
     c.in_ok-tell_element.was
     (λ rest. element_told g.S.Serializer.means _ _ c.tell_element.result (codes "li") (codes "li") [] []
@@ -155,11 +169,14 @@ pub blocks::tell_numbers-returns : goal.blocks::tell_numbers-returns
 unfolding chars
 blocks::tell_numbers-returns g t c =
     element_told g.S.Serializer.means _ _ c.tell_element.result (codes "ol") (codes "ol") (c.in_ok-start.start ∷ [])
-    (in_no_namespace (codes "start") (signed_decimal c.args.first) ∷ []) (content_of_items (items_view c.args.items.now))
+    (in_no_namespace (codes "start") (signed_decimal c.args.first) ∷ [])
+    (content_of_items (items_view c.args.items.now))
     (content_of_items (items_view c.args.items.now)) none
     (content_of_blocks (numbers c.args.first (items_view c.args.items.now) no_blocks)) refl
     (ap (λ a. a ∷ []) (c.in_ok-start.ensures ∙ ap (in_no_namespace (codes "start"))
-    (ap chars c.as_str.ensures.value ∙ number_chars c.args.first (string_bytes c.in_ok-number.number) c.ranges.first c.in_ok-number.ensures.ok))) refl refl c.tell_element.ensures
+    (ap chars c.as_str.ensures.value ∙ number_chars c.args.first
+    (string_bytes c.in_ok-number.number) c.ranges.first c.in_ok-number.ensures.ok))) refl refl
+    c.tell_element.ensures
 
 pub elements::tell_element-returns-in_err-start_elem : goal.elements::tell_element-returns-in_err-start_elem
 elements::tell_element-returns-in_err-start_elem g t c =
@@ -167,7 +184,8 @@ elements::tell_element-returns-in_err-start_elem g t c =
     let given = c.args.attributes.now in
     let kids = inner_content c.args.inner in
     let p = err_from_is_err_and c.from_residual-in_err-start_elem.result c.from_residual-in_err-start_elem.ensures.1 in
-    subst (λ (n : QualName). Tells {X = List Call} g.S.Serializer.means (g.S.Serializer.seen c.args.serializer.now) (g.S.Serializer.seen c.start_elem.new.self) c.from_residual-in_err-start_elem.result
+    subst (λ (n : QualName). Tells {X = List Call} g.S.Serializer.means (g.S.Serializer.seen c.args.serializer.now)
+    (g.S.Serializer.seen c.start_elem.new.self) c.from_residual-in_err-start_elem.result
     (λ more. start n given ∷ calls_and kids (finish n ∷ more)) (λ more. more)) c.in_ok-name.ensures
     (handed_on g.S.Serializer.means _ _ c.start_elem.result c.from_residual-in_err-start_elem.result
     c.in_err-start_elem.field-0.0 p.0 (λ more. start q given ∷ calls_and kids (finish q ∷ more))
@@ -181,50 +199,59 @@ elements::tell_element-returns-in_err-tell_inner g t c =
     let given = c.args.attributes.now in
     let kids = inner_content c.args.inner in
     let p = err_from_is_err_and c.from_residual-in_err-tell_inner.result c.from_residual-in_err-tell_inner.ensures.1 in
-    subst (λ (n : QualName). Tells {X = List Call} g.S.Serializer.means (g.S.Serializer.seen c.args.serializer.now) (g.S.Serializer.seen c.tell_inner.new.serializer) c.from_residual-in_err-tell_inner.result
+    subst (λ (n : QualName). Tells {X = List Call} g.S.Serializer.means (g.S.Serializer.seen c.args.serializer.now)
+    (g.S.Serializer.seen c.tell_inner.new.serializer) c.from_residual-in_err-tell_inner.result
     (λ more. start n given ∷ calls_and kids (finish n ∷ more)) (λ more. more)) c.in_ok-name.ensures
     (handed_on g.S.Serializer.means _ _ c.tell_inner.result c.from_residual-in_err-tell_inner.result
     c.in_err-tell_inner.field-0.0 p.0 (λ more. start q given ∷ calls_and kids more) (λ more. more) (λ more. more)
     (λ more. finish q ∷ more) c.in_err-tell_inner.was p.1 p.2
     (then_told g.S.Serializer.means _ _ _ c.start_elem.result c.in_ok-start_elem.field-0 c.tell_inner.result
     (λ more. start q given ∷ more) (λ more. more) (λ more. more) (λ more. calls_and kids more) c.in_ok-start_elem.was
-    (one_told g.S.Serializer.means _ _ (start q given) (λ more. more) c.start_elem.result c.start_elem.ensures) c.tell_inner.ensures))
+    (one_told g.S.Serializer.means _ _ (start q given) (λ more. more) c.start_elem.result c.start_elem.ensures)
+    c.tell_inner.ensures))
 
 pub elements::tell_element-returns : goal.elements::tell_element-returns
 elements::tell_element-returns g t c =
     let q = c.in_ok-name.name in
     let given = c.args.attributes.now in
     let kids = inner_content c.args.inner in
-    subst (λ (n : QualName). Tells {X = List Call} g.S.Serializer.means (g.S.Serializer.seen c.args.serializer.now) (g.S.Serializer.seen c.end_elem.new.self) c.end_elem.result
+    subst (λ (n : QualName). Tells {X = List Call} g.S.Serializer.means (g.S.Serializer.seen c.args.serializer.now)
+    (g.S.Serializer.seen c.end_elem.new.self) c.end_elem.result
     (λ more. start n given ∷ calls_and kids (finish n ∷ more)) (λ more. more)) c.in_ok-name.ensures
     (then_told g.S.Serializer.means _ _ _ c.tell_inner.result c.in_ok-tell_inner.field-0 c.end_elem.result
     (λ more. start q given ∷ calls_and kids more) (λ more. more) (λ more. more) (λ more. finish q ∷ more)
     c.in_ok-tell_inner.was
     (then_told g.S.Serializer.means _ _ _ c.start_elem.result c.in_ok-start_elem.field-0 c.tell_inner.result
     (λ more. start q given ∷ more) (λ more. more) (λ more. more) (λ more. calls_and kids more) c.in_ok-start_elem.was
-    (one_told g.S.Serializer.means _ _ (start q given) (λ more. more) c.start_elem.result c.start_elem.ensures) c.tell_inner.ensures)
+    (one_told g.S.Serializer.means _ _ (start q given) (λ more. more) c.start_elem.result c.start_elem.ensures)
+    c.tell_inner.ensures)
     (one_told g.S.Serializer.means _ _ (finish q) (λ more. more) c.end_elem.result c.end_elem.ensures))
 
-pub elements::tell_inner-returns-in_err-tell_element-in-Root : goal.elements::tell_inner-returns-in_err-tell_element-in-Root
+pub elements::tell_inner-returns-in_err-tell_element-in-Root :
+    goal.elements::tell_inner-returns-in_err-tell_element-in-Root
 unfolding chars
 elements::tell_inner-returns-in_err-tell_element-in-Root g t c =
     let p = err_from_is_err_and c.from_residual.result c.from_residual.ensures.1 in
-    handed_on g.S.Serializer.means _ _ c.tell_element-in-Root.result c.from_residual.result c.in_err-tell_element-in-Root.field-0.0 p.0
+    handed_on g.S.Serializer.means _ _ c.tell_element-in-Root.result c.from_residual.result
+    c.in_err-tell_element-in-Root.field-0.0 p.0
     (λ more. calls_and (inner_content c.args.inner) more)
     (λ more. calls_and (span (codes "body") [] (inner_content (Blocks c.in-Root.blocks)) none) more) (λ more. more)
     (λ more. more) c.in_err-tell_element-in-Root.was p.1 p.2
-    (element_told g.S.Serializer.means _ _ c.tell_element-in-Root.result (codes "head") (codes "head") [] [] (inner_content (Head c.in-Root.title))
+    (element_told g.S.Serializer.means _ _ c.tell_element-in-Root.result (codes "head") (codes "head") []
+    [] (inner_content (Head c.in-Root.title))
     (inner_content (Head c.in-Root.title)) (span (codes "body") [] (inner_content (Blocks c.in-Root.blocks)) none)
     (inner_content c.args.inner) refl refl refl (ap inner_content c.in-Root.is) c.tell_element-in-Root.ensures)
 
-pub elements::tell_inner-returns-in_ok-tell_element-in-Root : goal.elements::tell_inner-returns-in_ok-tell_element-in-Root
+pub elements::tell_inner-returns-in_ok-tell_element-in-Root :
+    goal.elements::tell_inner-returns-in_ok-tell_element-in-Root
 unfolding chars
 elements::tell_inner-returns-in_ok-tell_element-in-Root g t c =
     then_told g.S.Serializer.means _ _ _ c.tell_element-in-Root.result c.in_ok-tell_element-in-Root.field-0
     c.tell_element-in-Root-2.result (λ more. calls_and (inner_content c.args.inner) more)
     (λ more. calls_and (span (codes "body") [] (inner_content (Blocks c.in-Root.blocks)) none) more) (λ more. more)
     (λ more. more) c.in_ok-tell_element-in-Root.was
-    (element_told g.S.Serializer.means _ _ c.tell_element-in-Root.result (codes "head") (codes "head") [] [] (inner_content (Head c.in-Root.title))
+    (element_told g.S.Serializer.means _ _ c.tell_element-in-Root.result (codes "head") (codes "head") []
+    [] (inner_content (Head c.in-Root.title))
     (inner_content (Head c.in-Root.title)) (span (codes "body") [] (inner_content (Blocks c.in-Root.blocks)) none)
     (inner_content c.args.inner) refl refl refl (ap inner_content c.in-Root.is) c.tell_element-in-Root.ensures)
     (element_told g.S.Serializer.means _ _ c.tell_element-in-Root-2.result (codes "body") (codes "body") [] []
@@ -259,58 +286,73 @@ inlines::tell_inline-returns-in-Break g t c =
     (text_content (chars [])) (none) (content_of_inlines rest)
     (content_of_inlines (inline_view c.args.inline.now rest)) refl refl
     (ap text_content chars-nil)
-    (ap (λ v. content_of_inlines (inline_view v rest)) c.in-Break.is ∙ ap content_of_inlines (seen_break rest)) c.tell_element.ensures
+    (ap (λ v. content_of_inlines (inline_view v rest)) c.in-Break.is ∙ ap content_of_inlines (seen_break rest))
+    c.tell_element.ensures
 
 pub inlines::tell_inline-returns-in-Bold : goal.inlines::tell_inline-returns-in-Bold
 unfolding chars
 inlines::tell_inline-returns-in-Bold g t c =
     λ rest. element_told g.S.Serializer.means _ _ c.tell_element-in-Bold.result (codes "b") (codes "b") [] []
-    (content_of_inlines (inlines_view c.as_slice.result.now)) (content_of_inlines (inlines_view c.in-Bold.contents.items)) (content_of_inlines rest)
+    (content_of_inlines (inlines_view c.as_slice.result.now))
+    (content_of_inlines (inlines_view c.in-Bold.contents.items)) (content_of_inlines rest)
     (content_of_inlines (inline_view c.args.inline.now rest)) refl refl
     (ap (λ xs. content_of_inlines (inlines_view xs)) c.as_slice.ensures.value)
-    (ap (λ v. content_of_inlines (inline_view v rest)) c.in-Bold.is ∙ ap content_of_inlines (seen_bold c.in-Bold.contents rest)) c.tell_element-in-Bold.ensures
+    (ap (λ v. content_of_inlines (inline_view v rest)) c.in-Bold.is ∙ ap content_of_inlines
+    (seen_bold c.in-Bold.contents rest)) c.tell_element-in-Bold.ensures
 
 pub inlines::tell_inline-returns-in-Italic : goal.inlines::tell_inline-returns-in-Italic
 unfolding chars
 inlines::tell_inline-returns-in-Italic g t c =
     λ rest. element_told g.S.Serializer.means _ _ c.tell_element-in-Italic.result (codes "i") (codes "i") [] []
-    (content_of_inlines (inlines_view c.as_slice-in-Italic.result.now)) (content_of_inlines (inlines_view c.in-Italic.contents.items)) (content_of_inlines rest)
+    (content_of_inlines (inlines_view c.as_slice-in-Italic.result.now))
+    (content_of_inlines (inlines_view c.in-Italic.contents.items)) (content_of_inlines rest)
     (content_of_inlines (inline_view c.args.inline.now rest)) refl refl
     (ap (λ xs. content_of_inlines (inlines_view xs)) c.as_slice-in-Italic.ensures.value)
-    (ap (λ v. content_of_inlines (inline_view v rest)) c.in-Italic.is ∙ ap content_of_inlines (seen_italic c.in-Italic.contents rest)) c.tell_element-in-Italic.ensures
+    (ap (λ v. content_of_inlines (inline_view v rest)) c.in-Italic.is ∙ ap content_of_inlines
+    (seen_italic c.in-Italic.contents rest)) c.tell_element-in-Italic.ensures
 
 pub inlines::tell_inline-returns-in-Emphasis : goal.inlines::tell_inline-returns-in-Emphasis
 unfolding chars
 inlines::tell_inline-returns-in-Emphasis g t c =
     λ rest. element_told g.S.Serializer.means _ _ c.tell_element-in-Emphasis.result (codes "em") (codes "em") [] []
-    (content_of_inlines (inlines_view c.as_slice-in-Emphasis.result.now)) (content_of_inlines (inlines_view c.in-Emphasis.contents.items)) (content_of_inlines rest)
+    (content_of_inlines (inlines_view c.as_slice-in-Emphasis.result.now))
+    (content_of_inlines (inlines_view c.in-Emphasis.contents.items)) (content_of_inlines rest)
     (content_of_inlines (inline_view c.args.inline.now rest)) refl refl
     (ap (λ xs. content_of_inlines (inlines_view xs)) c.as_slice-in-Emphasis.ensures.value)
-    (ap (λ v. content_of_inlines (inline_view v rest)) c.in-Emphasis.is ∙ ap content_of_inlines (seen_emphasis c.in-Emphasis.contents rest)) c.tell_element-in-Emphasis.ensures
+    (ap (λ v. content_of_inlines (inline_view v rest)) c.in-Emphasis.is ∙ ap content_of_inlines
+    (seen_emphasis c.in-Emphasis.contents rest)) c.tell_element-in-Emphasis.ensures
 
 pub inlines::tell_inline-returns-in-Code : goal.inlines::tell_inline-returns-in-Code
 unfolding chars
 inlines::tell_inline-returns-in-Code g t c =
     λ rest. element_told g.S.Serializer.means _ _ c.tell_element-in-Code.result (codes "code") (codes "code") [] []
-    (content_of_inlines (inlines_view c.as_slice-in-Code.result.now)) (content_of_inlines (inlines_view c.in-Code.contents.items)) (content_of_inlines rest)
+    (content_of_inlines (inlines_view c.as_slice-in-Code.result.now))
+    (content_of_inlines (inlines_view c.in-Code.contents.items)) (content_of_inlines rest)
     (content_of_inlines (inline_view c.args.inline.now rest)) refl refl
     (ap (λ xs. content_of_inlines (inlines_view xs)) c.as_slice-in-Code.ensures.value)
-    (ap (λ v. content_of_inlines (inline_view v rest)) c.in-Code.is ∙ ap content_of_inlines (seen_code c.in-Code.contents rest)) c.tell_element-in-Code.ensures
+    (ap (λ v. content_of_inlines (inline_view v rest)) c.in-Code.is ∙ ap content_of_inlines
+    (seen_code c.in-Code.contents rest)) c.tell_element-in-Code.ensures
 
 pub inlines::tell_inline-returns-in-Strong : goal.inlines::tell_inline-returns-in-Strong
 unfolding chars
 inlines::tell_inline-returns-in-Strong g t c =
-    λ rest. element_told g.S.Serializer.means _ _ c.tell_element-in-Strong.result (codes "strong") (codes "strong") [] []
-    (content_of_inlines (inlines_view c.as_slice-in-Strong.result.now)) (content_of_inlines (inlines_view c.in-Strong.contents.items)) (content_of_inlines rest)
+    λ rest. element_told g.S.Serializer.means _ _ c.tell_element-in-Strong.result (codes "strong") (codes "strong") []
+    []
+    (content_of_inlines (inlines_view c.as_slice-in-Strong.result.now))
+    (content_of_inlines (inlines_view c.in-Strong.contents.items)) (content_of_inlines rest)
     (content_of_inlines (inline_view c.args.inline.now rest)) refl refl
     (ap (λ xs. content_of_inlines (inlines_view xs)) c.as_slice-in-Strong.ensures.value)
-    (ap (λ v. content_of_inlines (inline_view v rest)) c.in-Strong.is ∙ ap content_of_inlines (seen_strong c.in-Strong.contents rest)) c.tell_element-in-Strong.ensures
+    (ap (λ v. content_of_inlines (inline_view v rest)) c.in-Strong.is ∙ ap content_of_inlines
+    (seen_strong c.in-Strong.contents rest)) c.tell_element-in-Strong.ensures
 
 pub inlines::tell_link-returns : goal.inlines::tell_link-returns
 unfolding chars
 inlines::tell_link-returns g t c =
-    element_told g.S.Serializer.means _ _ c.tell_element.result (codes "a") (codes "a") (c.in_ok-href.href ∷ []) (in_no_namespace (codes "href") (chars c.args.target.now) ∷ [])
-    (content_of_inlines (inlines_view c.args.contents.now)) (content_of_inlines (inlines_view c.args.contents.now)) (none)
-    (content_of_inlines (link (chars c.args.target.now) (inlines_view c.args.contents.now) no_inlines)) refl (ap (λ a. a ∷ []) c.in_ok-href.ensures)
+    element_told g.S.Serializer.means _ _ c.tell_element.result (codes "a") (codes "a") (c.in_ok-href.href ∷ [])
+    (in_no_namespace (codes "href") (chars c.args.target.now) ∷ [])
+    (content_of_inlines (inlines_view c.args.contents.now)) (content_of_inlines (inlines_view c.args.contents.now))
+    (none)
+    (content_of_inlines (link (chars c.args.target.now) (inlines_view c.args.contents.now) no_inlines)) refl
+    (ap (λ a. a ∷ []) c.in_ok-href.ensures)
     (refl)
     (refl) c.tell_element.ensures

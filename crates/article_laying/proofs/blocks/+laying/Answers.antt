@@ -35,7 +35,8 @@ lay_list-lay_item-requires t c =
 pub lay_block-lay_list-requires : goal.lay_block-lay_list-requires
 lay_block-lay_list-requires t c =
     let less : weight c.args.block.now ≡ suc (items_weight c.as_slice-in-Bullets.result.now) = ap weight c.in-Bullets.is
-    ∙ weight_of_bullets c.in-Bullets.items ∙ ap (λ is. suc (items_weight is)) (sym c.as_slice-in-Bullets.ensures.value) in
+    ∙ weight_of_bullets c.in-Bullets.items ∙ ap (λ is. suc (items_weight is))
+    (sym c.as_slice-in-Bullets.ensures.value) in
     search (rules, less)
 
 pub lay_block-lay_list-requires-in-Numbers : goal.lay_block-lay_list-requires-in-Numbers
@@ -47,19 +48,27 @@ lay_block-lay_list-requires-in-Numbers t c =
 
 pub lay_block-returns-in-Bullets-clause-done : goal.lay_block-returns-in-Bullets-clause-done
 lay_block-returns-in-Bullets-clause-done t c = on_ok_weaker c.lay_list.result (λ h. λ rest.
-    ap (λ v. laid (options_of c.args.room.options) c.args.room.width (block_view v rest) (at_of c.args.lines.now c.args.behind.now)) c.in-Bullets.is
-    ∙ ap (λ bs. laid (options_of c.args.room.options) c.args.room.width bs (at_of c.args.lines.now c.args.behind.now)) (seen_bullets c.in-Bullets.items rest)
+    ap (λ v. laid (options_of c.args.room.options) c.args.room.width (block_view v rest)
+    (at_of c.args.lines.now c.args.behind.now)) c.in-Bullets.is
+    ∙ ap (λ bs. laid (options_of c.args.room.options) c.args.room.width bs (at_of c.args.lines.now c.args.behind.now))
+    (seen_bullets c.in-Bullets.items rest)
     ∙ ap (option_and_then (laid (options_of c.args.room.options) c.args.room.width rest))
-    (ap (λ xs. laid_items (options_of c.args.room.options) c.args.room.width 2 (capped (least_of_items (options_of c.args.room.options) (items_view xs) + 2)) None (items_view xs)
-    (parted_at (options_of c.args.room.options) c.args.room.width (at_of c.args.lines.now c.args.behind.now))) (sym c.as_slice-in-Bullets.ensures.value) ∙ h)) c.lay_list.ensures.done
+    (ap (λ xs. laid_items (options_of c.args.room.options) c.args.room.width 2
+    (capped (least_of_items (options_of c.args.room.options) (items_view xs) + 2)) None (items_view xs)
+    (parted_at (options_of c.args.room.options) c.args.room.width (at_of c.args.lines.now c.args.behind.now)))
+    (sym c.as_slice-in-Bullets.ensures.value) ∙ h)) c.lay_list.ensures.done
 
 pub lay_block-returns-in-Bullets-clause-narrow : goal.lay_block-returns-in-Bullets-clause-narrow
 lay_block-returns-in-Bullets-clause-narrow t c = λ e. λ rest.
-    ap (λ v. laid (options_of c.args.room.options) c.args.room.width (block_view v rest) (at_of c.args.lines.now c.args.behind.now)) c.in-Bullets.is
-    ∙ ap (λ bs. laid (options_of c.args.room.options) c.args.room.width bs (at_of c.args.lines.now c.args.behind.now)) (seen_bullets c.in-Bullets.items rest)
+    ap (λ v. laid (options_of c.args.room.options) c.args.room.width (block_view v rest)
+    (at_of c.args.lines.now c.args.behind.now)) c.in-Bullets.is
+    ∙ ap (λ bs. laid (options_of c.args.room.options) c.args.room.width bs (at_of c.args.lines.now c.args.behind.now))
+    (seen_bullets c.in-Bullets.items rest)
     ∙ ap (option_and_then (laid (options_of c.args.room.options) c.args.room.width rest))
-    (ap (λ xs. laid_items (options_of c.args.room.options) c.args.room.width 2 (capped (least_of_items (options_of c.args.room.options) (items_view xs) + 2)) None (items_view xs)
-    (parted_at (options_of c.args.room.options) c.args.room.width (at_of c.args.lines.now c.args.behind.now))) (sym c.as_slice-in-Bullets.ensures.value) ∙ c.lay_list.ensures.narrow e)
+    (ap (λ xs. laid_items (options_of c.args.room.options) c.args.room.width 2
+    (capped (least_of_items (options_of c.args.room.options) (items_view xs) + 2)) None (items_view xs)
+    (parted_at (options_of c.args.room.options) c.args.room.width (at_of c.args.lines.now c.args.behind.now)))
+    (sym c.as_slice-in-Bullets.ensures.value) ∙ c.lay_list.ensures.narrow e)
 
 pub lay_block-returns-in_ok-columns-in-Numbers-clause-done :
     goal.lay_block-returns-in_ok-columns-in-Numbers-clause-done
@@ -71,17 +80,25 @@ lay_block-returns-in_ok-columns-in-Numbers-clause-done t c =
       c.in-Numbers.items.ok.0,
       items_counted items,
     ) in
-    let columns : c.in_ok-columns-in-Numbers.columns ≡ room_of_numbers (held c.in-Numbers.first) (how_many (items_view items))
+    let columns : c.in_ok-columns-in-Numbers.columns
+    ≡ room_of_numbers (held c.in-Numbers.first) (how_many (items_view items))
     = c.in_ok-columns-in-Numbers.ensures ∙ ap (room_of_numbers (held c.in-Numbers.first)) many in
     on_ok_weaker c.lay_list-in-Numbers.result (λ h. λ rest.
-    ap (λ v. laid (options_of c.args.room.options) c.args.room.width (block_view v rest) (at_of c.args.lines.now c.args.behind.now)) c.in-Numbers.is
-    ∙ ap (λ bs. laid (options_of c.args.room.options) c.args.room.width bs (at_of c.args.lines.now c.args.behind.now)) (seen_numbers c.in-Numbers.first c.in-Numbers.items rest)
+    ap (λ v. laid (options_of c.args.room.options) c.args.room.width (block_view v rest)
+    (at_of c.args.lines.now c.args.behind.now)) c.in-Numbers.is
+    ∙ ap (λ bs. laid (options_of c.args.room.options) c.args.room.width bs (at_of c.args.lines.now c.args.behind.now))
+    (seen_numbers c.in-Numbers.first c.in-Numbers.items rest)
     ∙ ap (option_and_then (laid (options_of c.args.room.options) c.args.room.width rest))
-    (ap (λ n. laid_items (options_of c.args.room.options) c.args.room.width n (capped (least_of_items (options_of c.args.room.options) (items_view items) + n)) (Some (held c.in-Numbers.first))
-    (items_view items) (parted_at (options_of c.args.room.options) c.args.room.width (at_of c.args.lines.now c.args.behind.now))) (sym columns)
-    ∙ ap (λ xs. laid_items (options_of c.args.room.options) c.args.room.width c.in_ok-columns-in-Numbers.columns (capped (least_of_items (options_of c.args.room.options) (items_view xs)
+    (ap (λ n. laid_items (options_of c.args.room.options) c.args.room.width n
+    (capped (least_of_items (options_of c.args.room.options) (items_view items) + n))
+    (Some (held c.in-Numbers.first))
+    (items_view items) (parted_at (options_of c.args.room.options) c.args.room.width
+    (at_of c.args.lines.now c.args.behind.now))) (sym columns)
+    ∙ ap (λ xs. laid_items (options_of c.args.room.options) c.args.room.width c.in_ok-columns-in-Numbers.columns
+    (capped (least_of_items (options_of c.args.room.options) (items_view xs)
     + c.in_ok-columns-in-Numbers.columns)) (Some (held c.in-Numbers.first)) (items_view xs)
-    (parted_at (options_of c.args.room.options) c.args.room.width (at_of c.args.lines.now c.args.behind.now))) (sym c.as_slice-in-Numbers.ensures.value) ∙ h)) c.lay_list-in-Numbers.ensures.done
+    (parted_at (options_of c.args.room.options) c.args.room.width (at_of c.args.lines.now c.args.behind.now)))
+    (sym c.as_slice-in-Numbers.ensures.value) ∙ h)) c.lay_list-in-Numbers.ensures.done
 
 pub lay_block-returns-in_ok-columns-in-Numbers-clause-narrow :
     goal.lay_block-returns-in_ok-columns-in-Numbers-clause-narrow
@@ -93,17 +110,25 @@ lay_block-returns-in_ok-columns-in-Numbers-clause-narrow t c =
       c.in-Numbers.items.ok.0,
       items_counted items,
     ) in
-    let columns : c.in_ok-columns-in-Numbers.columns ≡ room_of_numbers (held c.in-Numbers.first) (how_many (items_view items))
+    let columns : c.in_ok-columns-in-Numbers.columns
+    ≡ room_of_numbers (held c.in-Numbers.first) (how_many (items_view items))
     = c.in_ok-columns-in-Numbers.ensures ∙ ap (room_of_numbers (held c.in-Numbers.first)) many in
     λ e. λ rest.
-    ap (λ v. laid (options_of c.args.room.options) c.args.room.width (block_view v rest) (at_of c.args.lines.now c.args.behind.now)) c.in-Numbers.is
-    ∙ ap (λ bs. laid (options_of c.args.room.options) c.args.room.width bs (at_of c.args.lines.now c.args.behind.now)) (seen_numbers c.in-Numbers.first c.in-Numbers.items rest)
+    ap (λ v. laid (options_of c.args.room.options) c.args.room.width (block_view v rest)
+    (at_of c.args.lines.now c.args.behind.now)) c.in-Numbers.is
+    ∙ ap (λ bs. laid (options_of c.args.room.options) c.args.room.width bs (at_of c.args.lines.now c.args.behind.now))
+    (seen_numbers c.in-Numbers.first c.in-Numbers.items rest)
     ∙ ap (option_and_then (laid (options_of c.args.room.options) c.args.room.width rest))
-    (ap (λ n. laid_items (options_of c.args.room.options) c.args.room.width n (capped (least_of_items (options_of c.args.room.options) (items_view items) + n)) (Some (held c.in-Numbers.first))
-    (items_view items) (parted_at (options_of c.args.room.options) c.args.room.width (at_of c.args.lines.now c.args.behind.now))) (sym columns)
-    ∙ ap (λ xs. laid_items (options_of c.args.room.options) c.args.room.width c.in_ok-columns-in-Numbers.columns (capped (least_of_items (options_of c.args.room.options) (items_view xs)
+    (ap (λ n. laid_items (options_of c.args.room.options) c.args.room.width n
+    (capped (least_of_items (options_of c.args.room.options) (items_view items) + n))
+    (Some (held c.in-Numbers.first))
+    (items_view items) (parted_at (options_of c.args.room.options) c.args.room.width
+    (at_of c.args.lines.now c.args.behind.now))) (sym columns)
+    ∙ ap (λ xs. laid_items (options_of c.args.room.options) c.args.room.width c.in_ok-columns-in-Numbers.columns
+    (capped (least_of_items (options_of c.args.room.options) (items_view xs)
     + c.in_ok-columns-in-Numbers.columns)) (Some (held c.in-Numbers.first)) (items_view xs)
-    (parted_at (options_of c.args.room.options) c.args.room.width (at_of c.args.lines.now c.args.behind.now))) (sym c.as_slice-in-Numbers.ensures.value) ∙ c.lay_list-in-Numbers.ensures.narrow e)
+    (parted_at (options_of c.args.room.options) c.args.room.width (at_of c.args.lines.now c.args.behind.now)))
+    (sym c.as_slice-in-Numbers.ensures.value) ∙ c.lay_list-in-Numbers.ensures.narrow e)
 
 pub lay_quote-returns-clause-done : goal.lay_quote-returns-clause-done
 unfolding chars
@@ -118,9 +143,12 @@ lay_quote-returns-clause-done t c =
     quoted o w (capped (least_of o seen + 2)) room_of.width (λ within. laid o within seen) s inner
     (lines_of c.append_behind.new.self)
     (ap (room w 2) (sym least) ∙ c.in_ok-within.ensures.room)
-    (ap (λ opts. laid (options_of opts) room_of.width seen (record s { lines = [] })) (sym c.in_ok-within.ensures.options)
+    (ap (λ opts. laid (options_of opts) room_of.width seen (record s { lines = [] }))
+    (sym c.in_ok-within.ensures.options)
     ∙ ap (λ ls. laid (options_of room_of.options) room_of.width seen (record s { lines = ls })) (sym c.new-own.ensures)
     ∙ c.in_ok-lay_blocks.ensures.done)
     (c.in_ok-append_behind.ensures
-    ∙ ap (λ ls. ls ++ prefixed o w quote_prefix quote_prefix (map line_of c.into_lines.result.items)) c.in_ok-part.ensures
-    ∙ ap (λ ls. parted o w (lines_of c.args.lines.now) ++ prefixed o w quote_prefix quote_prefix ls) c.into_lines.ensures)
+    ∙ ap (λ ls. ls ++ prefixed o w quote_prefix quote_prefix (map line_of c.into_lines.result.items))
+    c.in_ok-part.ensures
+    ∙ ap (λ ls. parted o w (lines_of c.args.lines.now)
+    ++ prefixed o w quote_prefix quote_prefix ls) c.into_lines.ensures)

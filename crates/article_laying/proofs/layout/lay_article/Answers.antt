@@ -15,7 +15,8 @@ returns-clause-shown c = λ s. c.visible_characters_once.ensures (options_of c.a
 pub returns-clause-fewest : goal.returns-clause-fewest
 returns-clause-fewest c = λ s layout marker wide legal.
     let w = wrap_at (options_of c.args.options) c.args.width in
-    c.fewest_lines.ensures w false (letters_of s.source) (stretch_lines (options_of c.args.options) c.args.width s) layout
+    c.fewest_lines.ensures w false (letters_of s.source)
+    (stretch_lines (options_of c.args.options) c.args.width s) layout
     (c.normal_lines_are_fullest.ensures w false s.source marker (ap (λ b. not b) wide)) legal
 
 pub returns-clause-exchange : goal.returns-clause-exchange

@@ -21,7 +21,8 @@ least_of_block-returns-in_ok-least_of_items-in-Bullets t c = λ rest.
 pub least_of_block-least_of_items-requires : goal.least_of_block-least_of_items-requires
 least_of_block-least_of_items-requires t c =
     let less : weight c.args.block.now ≡ suc (items_weight c.as_slice-in-Bullets.result.now) = ap weight c.in-Bullets.is
-    ∙ weight_of_bullets c.in-Bullets.items ∙ ap (λ is. suc (items_weight is)) (sym c.as_slice-in-Bullets.ensures.value) in
+    ∙ weight_of_bullets c.in-Bullets.items ∙ ap (λ is. suc (items_weight is))
+    (sym c.as_slice-in-Bullets.ensures.value) in
     search (rules, less)
 
 pub least_of_items-least_of-requires : goal.least_of_items-least_of-requires
@@ -58,10 +59,12 @@ least_of_block-returns-in_ok-least_of_items-in-Numbers t c = λ rest.
       c.in-Numbers.items.ok.0,
       items_counted items,
     ) in
-    let columns : c.in_ok-columns-in-Numbers.columns ≡ room_of_numbers (held c.in-Numbers.first) (how_many (items_view items))
+    let columns : c.in_ok-columns-in-Numbers.columns
+    ≡ room_of_numbers (held c.in-Numbers.first) (how_many (items_view items))
     = c.in_ok-columns-in-Numbers.ensures ∙ ap (room_of_numbers (held c.in-Numbers.first)) many in
     let same : c.in_ok-least_of_items-in-Numbers.field-0 ≡ least_of_items o (items_view items)
-    = c.in_ok-least_of_items-in-Numbers.ensures ∙ ap (λ xs. least_of_items o (items_view xs)) c.as_slice-in-Numbers.ensures.value in
+    = c.in_ok-least_of_items-in-Numbers.ensures ∙ ap
+    (λ xs. least_of_items o (items_view xs)) c.as_slice-in-Numbers.ensures.value in
     let both : c.saturating_add-in-Numbers.result ≡ capped (least_of_items o (items_view items)
     + room_of_numbers (held c.in-Numbers.first) (how_many (items_view items))) = search (rules, columns, same) in
     ap (λ v. least_of o (block_view v rest)) c.in-Numbers.is

@@ -4,4 +4,5 @@ use Rattle.article_laying.proofs.prefixes.characters.Goals as goal
 
 pub returns : goal.returns
 returns c =
-    count_from_yields_List _ _ c.count.ensures.ran (YieldsList-from_chars c.args.text.now c.utf8.text c.chars.ensures.rest)
+    count_from_yields_List _ _ c.count.ensures.ran
+    (YieldsList-from_chars c.args.text.now c.utf8.text c.chars.ensures.rest)

@@ -10,7 +10,8 @@ use Rattle.renderer_calls.specs.declared.options.RenderOptions.{RenderOptions}
 use Rattle.text_block_renderer.specs.Parts.{whole_page}
 use Rattle.text_block_renderer.specs.PlainText.{plain_marking}
 
-kept : (given : RenderOptions) → given.allow_width_overflow ≡ false → given ≡ record given { allow_width_overflow = false }
+kept : (given : RenderOptions) → given.allow_width_overflow ≡ false →
+    given ≡ record given { allow_width_overflow = false }
 kept given e = ap (λ b. record given { allow_width_overflow = b }) e
 
 pub returns : goal.returns

@@ -4,7 +4,8 @@ use Rattle.std.proofs.lemmas.Result.{err_from_is_err_and}
 use Rattle.article_values.specs.Faults.{fault_of_items}
 use Rattle.article_values.specs.Views.{items_view}
 use Rattle.article_values.specs.Outcomes.{fault_met}
-use Rattle.article_values.proofs.BlockTurns.{block_goes_on, block_stops, blocks_end, bullets_case, item_goes_on, item_stops, items_end, list_goes, list_stops, numbers_case}
+use Rattle.article_values.proofs.BlockTurns.{block_goes_on, block_stops, blocks_end, bullets_case, item_goes_on}
+use Rattle.article_values.proofs.BlockTurns.{item_stops, items_end, list_goes, list_stops, numbers_case}
 use Rattle.article_values.proofs.block_checks.+blocks.Goals as goal
 
 pub check_block-returns-in-Bullets : goal.check_block-returns-in-Bullets

@@ -4,7 +4,8 @@ use Rattle.std.proofs.lemmas.Result.{err_from_is_err_and}
 use Rattle.article_values.specs.Articles.{bold, code, emphasis, italic, strong}
 use Rattle.article_values.specs.Outcomes.{fault_met}
 use Rattle.article_values.specs.Views.{inline_view}
-use Rattle.article_values.proofs.Turns.{ends, goes_on, link_case, seen_bold, seen_code, seen_emphasis, seen_italic, seen_link, seen_strong, span_case, stops}
+use Rattle.article_values.proofs.Turns.{ends, goes_on, link_case, seen_bold, seen_code, seen_emphasis, seen_italic}
+use Rattle.article_values.proofs.Turns.{seen_link, seen_strong, span_case, stops}
 use Rattle.article_values.proofs.inline_checks.+inlines.Goals as goal
 
 pub check_inline-returns-in-Bold : goal.check_inline-returns-in-Bold

@@ -1,7 +1,8 @@
 use Rattle.std.proofs.Common.{suc, sym, ap, ◌∙◌, vec_len, arith}
 use Rattle.std.specs.Vec.{with_item}
 use Rattle.article_values.specs.Sizes.{block_size, blocks_size, items_size}
-use Rattle.article_values.proofs.LettingGo.{first_is_less, first_swapped, first_taken, last_taken, size_of_bullets, some_wait}
+use Rattle.article_values.proofs.LettingGo.{first_is_less, first_swapped, first_taken, last_taken, size_of_bullets}
+use Rattle.article_values.proofs.LettingGo.{some_wait}
 use Rattle.article_values.proofs.letting_go.next_of_items.Goals as goal
 
 pub returns-then-is_empty-2 : goal.returns-then-is_empty-2

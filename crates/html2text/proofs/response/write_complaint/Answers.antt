@@ -8,7 +8,8 @@ use Rattle.html2text.proofs.response.write_complaint.Goals as goal
 
 pub returns-in_err-write_all-clause-part : goal.returns-in_err-write_all-clause-part
 returns-in_err-write_all-clause-part g c =
-    on_err _ c.from_residual.ensures.0 (first_part (codes "html2text: ") (c.args.text.now ++ newline) c.in_err-write_all.ensures.part)
+    on_err _ c.from_residual.ensures.0
+    (first_part (codes "html2text: ") (c.args.text.now ++ newline) c.in_err-write_all.ensures.part)
 
 pub returns-in_err-write_all-2-clause-part : goal.returns-in_err-write_all-2-clause-part
 returns-in_err-write_all-2-clause-part g c =

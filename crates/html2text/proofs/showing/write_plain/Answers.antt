@@ -18,7 +18,8 @@ returns g c =
         options = record s.rendering.options { include_link_footnotes = asked.footnotes };
       };
     }) c.plain_no_decorate.ensures.setting) in
-    let is : IsSetting asked c.args.table setting = plain_setting asked c.args.table setting c.requires.rich c.requires.decorated same in
+    let is : IsSetting asked c.args.table setting =
+    plain_setting asked c.args.table setting c.requires.rich c.requires.decorated same in
     ends_as _ _ _ _ _ _ _ _ _ _ _ _ _ _ _ _ _ c.write_by.result
     (λ page told. plain_has asked c.args.table setting is c.requires.rich page told)
     (λ page. plain_narrow asked c.args.table setting is c.requires.rich page)

@@ -6,5 +6,6 @@ use Rattle.html2text.proofs.writing.write_line.Given as goal
 
 abbrev pub invariant-elements : goal.invariant-elements
 invariant-elements g l =
-    IsWritten (g.W.ByteWriter.contents l.fn.writer) (g.W.ByteWriter.contents l.writer) (line_bytes l.line) (elements_bytes (iter_rest l.element-iterator) ++ newline)
+    IsWritten (g.W.ByteWriter.contents l.fn.writer) (g.W.ByteWriter.contents l.writer) (line_bytes l.line)
+    (elements_bytes (iter_rest l.element-iterator) ++ newline)
     (g.W.ByteWriter.has_failed l.fn.writer) (g.W.ByteWriter.has_failed l.writer)

@@ -14,5 +14,8 @@ cut-smaller c = shorter _ _ _ c.cut.invariant.1.left_text c.in-Some.ensures.utf8
 
 pub cut-preserved : goal.cut-preserved
 cut-preserved c =
-    let left = c.in-Some.ensures in
-    (left.utf8, IsLeft-past comment_mark _ _ _ _ c.cut.invariant.1 left.scalar left.utf8 left.value (sym c.in_default-behind_mark.ensures.value))
+    let left = c.in-Some.ensures in (
+      left.utf8,
+      IsLeft-past comment_mark _ _ _ _ c.cut.invariant.1 left.scalar left.utf8 left.value
+          (sym c.in_default-behind_mark.ensures.value),
+    )

@@ -12,4 +12,5 @@ returns-in-Some-clause-value c =
 pub returns-in-None-clause-value : goal.returns-in-None-clause-value
 returns-in-None-clause-value c =
     let cs = chars c.args.text.now in
-    c.cut_short.ensures.value ∙ ends_here-none c.args.doctype cs (c.in-None.ensures.value ∙ ap (λ m. after m cs) greater_codes)
+    c.cut_short.ensures.value ∙ ends_here-none c.args.doctype cs
+    (c.in-None.ensures.value ∙ ap (λ m. after m cs) greater_codes)

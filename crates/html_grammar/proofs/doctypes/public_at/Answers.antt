@@ -9,7 +9,8 @@ returns-in-Some-behind_opening_quote-clause-value c =
     let q = c.args.quote in
     let cs = chars c.args.text.now in
     let d = with_public c.args.doctype c.in_ok-shown.field-0 in
-    let read = IsIdentifier-read q cs _ _ _ c.split_while.ensures.front c.split_while.ensures.rest c.in_ok-shown.ensures in
+    let read =
+    IsIdentifier-read q cs _ _ _ c.split_while.ensures.front c.split_while.ensures.rest c.in_ok-shown.ensures in
     let second = c.in-Some-behind_opening_quote.ensures.value in
     IfOk-weaker c.system_at.result _ _
     (λ x p.

@@ -23,6 +23,9 @@ returns-clause-value c =
     let none = sym (ap (option_map (λ text. chars text.now)) c.in_default.is) ∙ c.in_ok-name.ensures.value in
     let kind = c.kind_behind.ensures ∙ ap (kind_behind c.args.kind) c.requires in
     ok_weaker _ (λ l. lexeme_of m l ≡ raw_lexeme c.args.table.now c.args.kind m c.args.c cs)
-    (λ l h. h m ∙ (ap₂ (λ d k. told (characters (d ∷ []) ∷ []) (record m { text = Raw k }) cs) c.shown_character.ensures.value kind
-    ∙ raw_character c.args.table.now c.args.kind m c.args.c cs none (sym c.may_be_reference.ensures ∙ c.if-may_be_reference.false)))
+    (λ l h. h m
+    ∙ (ap₂ (λ d k. told (characters (d ∷ []) ∷ []) (record m { text = Raw k }) cs) c.shown_character.ensures.value
+    kind
+    ∙ raw_character c.args.table.now c.args.kind m c.args.c cs none
+    (sym c.may_be_reference.ensures ∙ c.if-may_be_reference.false)))
     c.one_character.result c.one_character.ensures.value

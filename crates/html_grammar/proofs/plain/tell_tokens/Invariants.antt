@@ -9,7 +9,10 @@ use Rattle.html_grammar.proofs.plain.tell_tokens.Given as goal
 abbrev pub invariant-tokens : goal.invariant-tokens
 invariant-tokens g l = record {
   ready : g.S.TokenSink.ready (g.S.TokenSink.state l.sink);
-  welcome : AreWelcome g.S.TokenSink.welcomes (g.S.TokenSink.state l.sink) (items_of (into_iter_items l.token-iterator));
-  hears : (item : Item) → g.S.TokenSink.welcomes (g.S.TokenSink.state l.fn.sink) item → g.S.TokenSink.welcomes (g.S.TokenSink.state l.sink) item;
-  told : fold g.S.TokenSink.means.step (g.S.TokenSink.state l.sink) (items_of (into_iter_items l.token-iterator)) ≡ fold g.S.TokenSink.means.step (g.S.TokenSink.state l.fn.sink) (items_of l.fn.tokens.items);
+  welcome : AreWelcome g.S.TokenSink.welcomes (g.S.TokenSink.state l.sink)
+      (items_of (into_iter_items l.token-iterator));
+  hears : (item : Item) → g.S.TokenSink.welcomes (g.S.TokenSink.state l.fn.sink) item →
+      g.S.TokenSink.welcomes (g.S.TokenSink.state l.sink) item;
+  told : fold g.S.TokenSink.means.step (g.S.TokenSink.state l.sink) (items_of (into_iter_items l.token-iterator))
+      ≡ fold g.S.TokenSink.means.step (g.S.TokenSink.state l.fn.sink) (items_of l.fn.tokens.items);
 }

@@ -9,5 +9,7 @@ use Rattle.html_grammar.proofs.tags.add_later.Goals as goal
 
 pub returns : goal.returns
 returns c = λ other.
-    inserted c.args.later.now c.insert.new.self c.args.name.now (rw c.in_ok-try_clone.ensures at c.in_ok-insert.ensures.updates) other
-    ∙ ap (λ b. contains (slice_cmp nat_cmp) c.args.later.now other || b) (at_least SEARCHED c.args.before (bytes_eq c.args.name.now other) (omega arith))
+    inserted c.args.later.now c.insert.new.self c.args.name.now
+    (rw c.in_ok-try_clone.ensures at c.in_ok-insert.ensures.updates) other
+    ∙ ap (λ b. contains (slice_cmp nat_cmp) c.args.later.now other || b)
+    (at_least SEARCHED c.args.before (bytes_eq c.args.name.now other) (omega arith))

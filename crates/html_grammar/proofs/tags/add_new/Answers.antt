@@ -10,7 +10,9 @@ use Rattle.html_grammar.proofs.tags.add_new.Goals as goal
 pub returns-clause-later : goal.returns-clause-later
 returns-clause-later c = λ name.
     c.in_ok-add_later.ensures name
-    ∙ ap (λ b. b || (nat_le SEARCHED (length c.as_slice-2.result.now) && bytes_eq c.args.attribute.name.local name)) (c.requires name)
-    ∙ ap (λ (xs : List Attribute). is_named name (drop SEARCHED c.args.attributes.now) || (nat_le SEARCHED (length xs) && bytes_eq c.args.attribute.name.local name)) c.as_slice-2.ensures
+    ∙ ap (λ b. b || (nat_le SEARCHED (length c.as_slice-2.result.now) && bytes_eq c.args.attribute.name.local name))
+    (c.requires name)
+    ∙ ap (λ (xs : List Attribute). is_named name (drop SEARCHED c.args.attributes.now)
+    || (nat_le SEARCHED (length xs) && bytes_eq c.args.attribute.name.local name)) c.as_slice-2.ensures
     ∙ sym (later-more SEARCHED name c.args.attributes.now c.args.attribute)
     ∙ ap (λ (xs : List Attribute). is_named name (drop SEARCHED xs)) (sym c.in_ok-push.ensures.ok)

@@ -4,4 +4,5 @@ use Rattle.html_grammar.proofs.tags.is_lowered.Goals as goal
 
 pub returns : goal.returns
 returns c told =
-    lowered_text (chars c.args.text.now) c.split_while.result.1.now c.split_while.ensures.rest (sym c.is_empty.ensures ∙ told)
+    lowered_text (chars c.args.text.now) c.split_while.result.1.now c.split_while.ensures.rest
+    (sym c.is_empty.ensures ∙ told)

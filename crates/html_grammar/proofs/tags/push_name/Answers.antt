@@ -7,7 +7,8 @@ characters-init c = record { text = search rules; same = search rules }
 
 pub characters-preserved : goal.characters-preserved
 characters-preserved c =
-    named-more c.characters.name _ _ _ _ c.in-Some.c _ c.characters.invariant c.in-Some.ensures.steps.0 c.name_character.ensures c.in_ok-push.ensures.bytes
+    named-more c.characters.name _ _ _ _ c.in-Some.c _ c.characters.invariant c.in-Some.ensures.steps.0
+    c.name_character.ensures c.in_ok-push.ensures.bytes
 
 pub returns : goal.returns
 returns c = named-all _ _ _ c.characters.invariant c.in-None.ensures.steps.0.0

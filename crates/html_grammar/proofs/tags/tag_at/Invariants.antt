@@ -11,7 +11,8 @@ abbrev pub invariant-attributes : goal.invariant-attributes
 invariant-attributes l =
     shadow (Utf8 l.rest)
     × HasLaterNames l.later l.attrs
-    × (tag_left l.fn.table l.fn.kind l.name l.attrs l.had_duplicate_attributes (chars l.rest) ≡ tag_at l.fn.table l.fn.kind (chars l.fn.text))
+    × (tag_left l.fn.table l.fn.kind l.name l.attrs l.had_duplicate_attributes (chars l.rest)
+    ≡ tag_at l.fn.table l.fn.kind (chars l.fn.text))
 
 abbrev pub decreases-attributes : goal.decreases-attributes
 decreases-attributes l = length (chars l.rest)

@@ -6,8 +6,10 @@ use Rattle.html_render_tree.proofs.coloured.coloured.Goals as goal
 pub lines-preserved : goal.lines-preserved
 lines-preserved g c =
     let makes = Colours g.F.Fn c.args.colour_map.now in
-    let before : HasColouredLines makes c.args.lines.now (c.in-Some.line.now ∷ c.in-Some.others.now) (string_bytes c.lines.text) =
-    subst (λ left. HasColouredLines makes c.args.lines.now left (string_bytes c.lines.text)) (search rules) c.lines.invariant in
+    let before : HasColouredLines makes c.args.lines.now (c.in-Some.line.now ∷ c.in-Some.others.now)
+    (string_bytes c.lines.text) =
+    subst (λ left. HasColouredLines makes c.args.lines.now left (string_bytes c.lines.text))
+    (search rules) c.lines.invariant in
     line_coloured makes c.args.lines.now c.in-Some.others.now c.in-Some.line.now (string_bytes c.lines.text)
     (string_bytes c.push_line.new.text) before c.in_ok-push_line.ensures
 

@@ -9,11 +9,13 @@ pub strings-preserved : goal.strings-preserved
 strings-preserved g c =
     let makes = Colours g.F.Fn c.args.colour_map.now in
     let all = line_strings c.args.line.now in
-    let before : HasColoured makes all (c.in-Some.string.now ∷ strings_left c.next.new.self) (string_bytes c.args.text.now)
+    let before : HasColoured makes all (c.in-Some.string.now ∷ strings_left c.next.new.self)
+    (string_bytes c.args.text.now)
     (string_bytes c.strings.text) =
     subst (λ left. HasColoured makes all left (string_bytes c.args.text.now) (string_bytes c.strings.text))
     c.in-Some.ensures.steps c.strings.invariant in
-    let made : makes c.in-Some.string.now.tag.items (string_bytes c.in-Some.string.now.s) (string_bytes c.in_ok-made.made) = record {
+    let made : makes c.in-Some.string.now.tag.items (string_bytes c.in-Some.string.now.s)
+    (string_bytes c.in_ok-made.made) = record {
       tags_shown = c.as_slice.result;
       text_shown = c.as_str.result;
       shows = (c.as_slice.ensures.value, c.as_str.ensures.value);
@@ -22,7 +24,8 @@ strings-preserved g c =
       same = refl;
     } in
     one_coloured makes all (strings_left c.next.new.self) c.in-Some.string.now (string_bytes c.args.text.now)
-    (string_bytes c.strings.text) (string_bytes c.push_str.new.self) (string_bytes c.in_ok-made.made) before made (search rules)
+    (string_bytes c.strings.text) (string_bytes c.push_str.new.self) (string_bytes c.in_ok-made.made) before made
+    (search rules)
 
 pub returns : goal.returns
 returns g c =

@@ -7,4 +7,5 @@ use Rattle.html_render_tree.proofs.coloured.push_line.Given as goal
 
 abbrev pub invariant-strings : goal.invariant-strings
 invariant-strings g l =
-    HasColoured (Colours g.F.Fn l.colour_map) (line_strings l.line) (strings_left l.string-iterator) (string_bytes l.fn.text) (string_bytes l.text)
+    HasColoured (Colours g.F.Fn l.colour_map) (line_strings l.line) (strings_left l.string-iterator)
+    (string_bytes l.fn.text) (string_bytes l.text)

@@ -14,5 +14,7 @@ invariant-pieces g l =
     record {
       works : has_failed l.tokenizer ≡ false;
       fit : IsFit s g.Sink.TokenSink.ready g.Sink.TokenSink.welcomes l.tokenizer;
-      reads : (final : _) → Completes s means l.tokenizer (joined (into_iter_items l.piece-iterator)) final → Reading l.fn.table means (first_mode l.fn.opts) (s l.fn.sink) (page_text l.fn.opts.discard_bom (joined l.fn.pieces.items)) final;
+      reads : (final : _) → Completes s means l.tokenizer (joined (into_iter_items l.piece-iterator)) final →
+          Reading l.fn.table means (first_mode l.fn.opts) (s l.fn.sink)
+          (page_text l.fn.opts.discard_bom (joined l.fn.pieces.items)) final;
     }

@@ -9,7 +9,8 @@ returns-clause-begins g c = λ text final does.
     let context = tree.number c.args.context in
     let nodes = tree.forest c.args.sink in
     c.parser_from.ensures.begins
-    (begun_fragment c.args.opts.tree_builder context (option_map tree.number c.args.form) nodes (tree.quirks c.args.sink))
+    (begun_fragment c.args.opts.tree_builder context (option_map tree.number c.args.form) nodes
+    (tree.quirks c.args.sink))
     (context_state c.args.scripting (name_of context nodes))
     c.in_ok-builder.ensures.begun
     (c.context_state-first.ensures ∙ ap (context_state c.args.scripting) c.elem_name.ensures)

@@ -22,5 +22,6 @@ returns-clause-begins g c = λ begun first is_begun is_first text final does.
     let read : tokenizers.Completes state means c.new.result text final = subst
     (λ q. tokenizers.Completes state means c.new.result (q.text ++ text) final) c.new-2.ensures does in
     subst (λ (s : State). Reading c.args.table means (mode_from first opts) s pages final) is_begun
-    (subst (λ (t : TextState). Reading c.args.table means (mode_from t opts) (state c.args.builder) pages final) is_first
+    (subst (λ (t : TextState). Reading c.args.table means (mode_from t opts) (state c.args.builder) pages final)
+    is_first
     (c.new.ensures.begins text final read))

@@ -11,7 +11,10 @@ returns-then-is_closed c =
     let now = chars (string_bytes c.push.new.self) in
     let e = pushed c.args.held.now c.push.new.self c.args.c c.ranges.c.0 c.in_ok-push.ensures.bytes in
     let closed = subst IsClosed (ap chars c.deref.ensures) c.if-is_closed.ensures in
-    λ table foreign mode. (taken table foreign mode Comment hs c.args.c now e, comment_over table foreign mode hs now c.args.c c.requires e closed)
+    λ table foreign mode. (
+      taken table foreign mode Comment hs c.args.c now e,
+      comment_over table foreign mode hs now c.args.c c.requires e closed,
+    )
 
 pub returns : goal.returns
 returns c =
@@ -19,4 +22,7 @@ returns c =
     let now = chars (string_bytes c.push.new.self) in
     let e = pushed c.args.held.now c.push.new.self c.args.c c.ranges.c.0 c.in_ok-push.ensures.bytes in
     let more = subst IsNotClosed (ap chars c.deref.ensures) c.if-is_closed.ensures in
-    λ table foreign mode. (taken table foreign mode Comment hs c.args.c now e, still_open_comment hs now c.args.c c.requires e more)
+    λ table foreign mode. (
+      taken table foreign mode Comment hs c.args.c now e,
+      still_open_comment hs now c.args.c c.requires e more,
+    )

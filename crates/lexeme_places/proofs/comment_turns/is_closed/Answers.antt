@@ -9,7 +9,11 @@ pub returns-then-ends_with : goal.returns-then-ends_with
 unfolding encode
 returns-then-ends_with c =
     let text = c.args.comment.now in
-    closed_first (chars text) c.ends_with.result c.if-ends_with.true (ends_at (codes "-->") text c.ends_with.result c.utf8.comment (codes "-->", (refl, refl)) end_codes c.ends_with.ensures.cases)
+    closed_first (chars text) c.ends_with.result c.if-ends_with.true
+    (ends_at (codes "-->") text c.ends_with.result c.utf8.comment (
+      codes "-->",
+      (refl, refl),
+    ) end_codes c.ends_with.ensures.cases)
 
 pub returns-else-ends_with : goal.returns-else-ends_with
 unfolding encode
@@ -21,7 +25,10 @@ returns-else-ends_with c =
     (apart_at (codes "->") text u (codes "->", (refl, refl)) arrow_codes c.in_default.not-text-2)
     c.if-ends_with.false
     (ends_at (codes "-->") text c.ends_with.result u (codes "-->", (refl, refl)) end_codes c.ends_with.ensures.cases)
-    (ends_at (codes "--!>") text c.ends_with-else-ends_with.result u (codes "--!>", (refl, refl)) bang_codes c.ends_with-else-ends_with.ensures.cases)
+    (ends_at (codes "--!>") text c.ends_with-else-ends_with.result u (
+      codes "--!>",
+      (refl, refl),
+    ) bang_codes c.ends_with-else-ends_with.ensures.cases)
 
 pub returns-in-text : goal.returns-in-text
 returns-in-text c = closed_when c.args.comment.now (inl c.in-text.is-text)

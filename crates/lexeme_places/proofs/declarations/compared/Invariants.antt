@@ -8,5 +8,6 @@ abbrev pub invariant-mark : goal.invariant-mark
 invariant-mark l = record {
   rest_utf8 : shadow (Utf8 l.rest);
   left_utf8 : IsUtf8 l.wanted-iterator.rest.now;
-  same : spelled (folded l.any_case) (chars l.mark) (chars l.text) ≡ spelled (folded l.any_case) (chars l.wanted-iterator.rest.now) (chars l.rest);
+  same : spelled (folded l.any_case) (chars l.mark) (chars l.text)
+      ≡ spelled (folded l.any_case) (chars l.wanted-iterator.rest.now) (chars l.rest);
 }

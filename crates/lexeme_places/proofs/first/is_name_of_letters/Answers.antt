@@ -13,9 +13,11 @@ returns-then-not-is_empty c =
     let name = c.args.name.now in
     let chain = YieldsList-from_chars name c.utf8.name c.chars.ensures.rest in
     all_from_yields_List (is_between 97 122) _ _ c.all.result c.all.ensures.ran chain (λ x b q k. search (rules, tests))
-    ∙ some_name name (list_all (is_between 97 122) (chars name)) c.utf8.name (sym c.is_empty.ensures ∙ c.if-not-is_empty.true)
+    ∙ some_name name (list_all (is_between 97 122) (chars name)) c.utf8.name
+    (sym c.is_empty.ensures ∙ c.if-not-is_empty.true)
 
 pub returns-else-not-is_empty : goal.returns-else-not-is_empty
 returns-else-not-is_empty c =
     let name = c.args.name.now in
-    ap not c.if-not-is_empty.false ∙ no_name name (list_all (is_between 97 122) (chars name)) (eqb-true (length name) 0 (sym c.is_empty.ensures ∙ c.if-not-is_empty.false))
+    ap not c.if-not-is_empty.false ∙ no_name name (list_all (is_between 97 122) (chars name))
+    (eqb-true (length name) 0 (sym c.is_empty.ensures ∙ c.if-not-is_empty.false))

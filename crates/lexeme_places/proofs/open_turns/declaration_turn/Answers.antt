@@ -23,18 +23,31 @@ returns-in-Opens c =
     let e = pushed c.args.held.now c.push.new.self c.args.c c.ranges.c.0 c.in_ok-push.ensures.bytes in
     let none : cleared ≡ [] = ap chars c.clear.ensures.bytes ∙ chars-nil in
     let opens = c.in-Opens.ensures in
-    λ table mode. (opened_taken table c.args.foreign mode hs now (chars c.deref.result.now) cleared c.args.c c.in-Opens.place e (ap chars c.deref.ensures) none opens.0, subst (IsGoing table mode.last_start_tag c.in-Opens.place) (sym none) (opens.1 table mode.last_start_tag))
+    λ table mode. (
+      opened_taken table c.args.foreign mode hs now (chars c.deref.result.now) cleared c.args.c c.in-Opens.place e
+          (ap chars c.deref.ensures) none opens.0,
+      subst (IsGoing table mode.last_start_tag c.in-Opens.place) (sym none) (opens.1 table mode.last_start_tag),
+    )
 
 pub returns-in-Other : goal.returns-in-Other
 returns-in-Other c =
     let hs = chars (string_bytes c.args.held.now) in
     let now = chars (string_bytes c.push.new.self) in
     let e = pushed c.args.held.now c.push.new.self c.args.c c.ranges.c.0 c.in_ok-push.ensures.bytes in
-    λ table mode. (bogus_taken table c.args.foreign mode hs now (chars c.deref.result.now) c.args.c c.requires e (ap chars c.deref.ensures) c.in-Other.ensures, bogus_over table c.args.foreign mode hs now (no_greater_begun hs c.requires) (e ∙ ap (λ d. hs ++ d ∷ []) c.if-c-eq62.true))
+    λ table mode. (
+      bogus_taken table c.args.foreign mode hs now (chars c.deref.result.now) c.args.c c.requires e
+          (ap chars c.deref.ensures) c.in-Other.ensures,
+      bogus_over table c.args.foreign mode hs now (no_greater_begun hs c.requires)
+          (e ∙ ap (λ d. hs ++ d ∷ []) c.if-c-eq62.true),
+    )
 
 pub returns-in-Other-2 : goal.returns-in-Other-2
 returns-in-Other-2 c =
     let hs = chars (string_bytes c.args.held.now) in
     let now = chars (string_bytes c.push.new.self) in
     let e = pushed c.args.held.now c.push.new.self c.args.c c.ranges.c.0 c.in_ok-push.ensures.bytes in
-    λ table mode. (bogus_taken table c.args.foreign mode hs now (chars c.deref.result.now) c.args.c c.requires e (ap chars c.deref.ensures) c.in-Other-2.ensures, still_no_greater hs now c.args.c (no_greater_begun hs c.requires) e c.if-c-eq62.false)
+    λ table mode. (
+      bogus_taken table c.args.foreign mode hs now (chars c.deref.result.now) c.args.c c.requires e
+          (ap chars c.deref.ensures) c.in-Other-2.ensures,
+      still_no_greater hs now c.args.c (no_greater_begun hs c.requires) e c.if-c-eq62.false,
+    )

@@ -14,5 +14,6 @@ returns-in-Goes c =
 pub returns-in-Shifts : goal.returns-in-Shifts
 returns-in-Shifts c =
     let new = string_bytes c.push_str.new.self in
-    subst (λ t. OnOk c.push_str.result (chars new ≡ held_behind t (chars (string_bytes c.args.held.now)) c.args.c)) (sym c.in-Shifts.is)
+    subst (λ t. OnOk c.push_str.result (chars new ≡ held_behind t (chars (string_bytes c.args.held.now)) c.args.c))
+    (sym c.in-Shifts.is)
     (two_dashes c.push_str.result (string_bytes c.clear.new.self) new c.clear.ensures.bytes c.push_str.ensures.bytes)

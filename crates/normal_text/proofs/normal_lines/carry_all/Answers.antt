@@ -34,4 +34,5 @@ pub returns-clause-carries : goal.returns-clause-carries
 returns-clause-carries g c =
     let seen = g.T.EqualCopy.seen in
     carries_all seen c.args.text.now c.loop-first.text (sources_of seen c.args.pieces.now)
-    (sources_of seen c.loop-first.rest.now) (no_sources seen c.loop-first.rest.now c.in_default.ensures.cases) c.loop-first.invariant
+    (sources_of seen c.loop-first.rest.now) (no_sources seen c.loop-first.rest.now c.in_default.ensures.cases)
+    c.loop-first.invariant

@@ -15,7 +15,8 @@ returns-in_err-take_all-in-Some-clause-narrow g c = λ e width overflow read has
     let front = sources_of seen c.pop.new.self.items in
     let p = err_from_is_err_and c.from_residual.result c.from_residual.ensures.1 in
     let found = c.take_all.ensures.narrow
-    (c.in_err-take_all-in-Some.was ∙ ap Err (err_same _ _ c.from_residual.result (p.1 ∙ ap Err p.2) e)) width overflow read
+    (c.in_err-take_all-in-Some.was ∙ ap Err (err_same _ _ c.from_residual.result (p.1 ∙ ap Err p.2) e)) width overflow
+    read
     has in (
       found.0,
       wide_within width (sources_of seen c.args.pieces.items) [] front (piece_sources seen c.in-Some.last)
@@ -50,6 +51,7 @@ pub returns-in-None-clause-ends : goal.returns-in-None-clause-ends
 returns-in-None-clause-ends g c =
     let seen = g.T.EqualCopy.seen in
     let none = no_sources seen c.args.pieces.items (omega (arith, c.in-None.ensures.cases.0, c.args.pieces.ok.0)) in
-    if_ok_two _ _ _ c.into_lines.result (λ lines laid joined. subst (λ source. EndsAs seen c.args.text (letters_of source)
+    if_ok_two _ _ _ c.into_lines.result (λ lines laid joined.
+    subst (λ source. EndsAs seen c.args.text (letters_of source)
     lines.items) (sym none) (ends_here seen c.args.text lines.items laid joined)) c.into_lines.ensures.laid
     c.into_lines.ensures.joined

@@ -10,7 +10,8 @@ use Rattle.normal_text.proofs.normal_lines.lay_plain.Goals as goal
 pub returns-in_err-read_all-clause-narrow : goal.returns-in_err-read_all-clause-narrow
 returns-in_err-read_all-clause-narrow g c = λ e.
     let p = err_from_is_err_and c.from_residual.result c.from_residual.ensures.1 in
-    c.read_all.ensures.narrow (c.in_err-read_all.was ∙ ap Err (err_same _ _ c.from_residual.result (p.1 ∙ ap Err p.2) e)) c.args.width
+    c.read_all.ensures.narrow (c.in_err-read_all.was ∙
+    ap Err (err_same _ _ c.from_residual.result (p.1 ∙ ap Err p.2) e)) c.args.width
     c.args.allow_overflow [] c.new-text.ensures
 
 pub returns-clause-lines : goal.returns-clause-lines
@@ -22,7 +23,8 @@ returns-clause-lines g c = λ none.
 
 pub returns-clause-waiting : goal.returns-clause-waiting
 returns-clause-waiting g c = λ none.
-    ap names c.new.ensures.items ∙ sym (plain_waiting c.args.width (sources_of g.T.EqualCopy.seen c.args.pieces.now) none)
+    ap names c.new.ensures.items ∙
+    sym (plain_waiting c.args.width (sources_of g.T.EqualCopy.seen c.args.pieces.now) none)
 
 pub returns-clause-room : goal.returns-clause-room
 returns-clause-room g c =

@@ -13,7 +13,8 @@ loop-after-preserved g c =
           ∙ append_assoc (line_items seen c.loop-after.front) (marker (chars c.args.name.now) ∷ [])
           (map (λ d. marker (chars c.args.name.now)) (chars c.in-Some.after.now))
           ∙ ap (λ cs. line_items seen c.loop-after.front ++ map (λ d. marker (chars c.args.name.now)) cs)
-          (sym (chars_past_char c.loop-after.rest.now c.in-Some.after.now c.in-Some.field-0-0 c.loop-after.invariant.text
+          (sym (chars_past_char c.loop-after.rest.now c.in-Some.after.now c.in-Some.field-0-0
+          c.loop-after.invariant.text
           c.in-Some.ensures.first)) ∙ c.loop-after.invariant.items;
       joined = λ h. c.push_marker.ensures.joined (c.loop-after.invariant.joined h);
     }

@@ -8,6 +8,7 @@ abbrev pub invariant-loop-element : goal.invariant-loop-element
 invariant-loop-element g l =
     record {
       items : line_items g.T.EqualCopy.seen l.front ≡ line_items g.T.EqualCopy.seen l.fn.front
-          ++ map shown_item (elements_items (tag_seen g.T.EqualCopy.seen) (take (length l.yielded) (line_elements l.line)));
+          ++ map shown_item
+          (elements_items (tag_seen g.T.EqualCopy.seen) (take (length l.yielded) (line_elements l.line)));
       joined : IsJoined g.T.EqualCopy.seen l.fn.front → IsJoined g.T.EqualCopy.seen l.front;
     }

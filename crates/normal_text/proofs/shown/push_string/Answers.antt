@@ -27,4 +27,5 @@ returns-in-Note-clause-ok g c =
     c.as_str-in-Note-2.ensures.value
     ∙ ap (λ items. line_items seen c.args.front.now ++ items)
     (sym (ap (λ tag. map (shown_item {S = g.T.EqualCopy.Seen}) (tagged (chars bytes) (tag_seen seen tag))) c.in-Note.is
-    ∙ shown_note {S = g.T.EqualCopy.Seen} (chars bytes) (chars (string_bytes c.in-Note.name))))) c.push_markers.ensures.ok
+    ∙ shown_note {S = g.T.EqualCopy.Seen} (chars bytes) (chars (string_bytes c.in-Note.name)))))
+    c.push_markers.ensures.ok

@@ -5,7 +5,8 @@ use Rattle.preserved_text.proofs.FrontLemmas.{has_wider-none, wider_here, wider_
 use Rattle.preserved_text.proofs.fronts.has_wider.Goals as goal
 
 pub returns-then-width-ge2 : goal.returns-then-width-ge2
-returns-then-width-ge2 c = sym (has_wider-none c.args.width (chars c.args.text.now) (omega (arith, c.if-width-ge2.true)))
+returns-then-width-ge2 c =
+    sym (has_wider-none c.args.width (chars c.args.text.now) (omega (arith, c.if-width-ge2.true)))
 
 pub returns-then-width_of-width : goal.returns-then-width_of-width
 returns-then-width_of-width c =

@@ -17,5 +17,6 @@ returns-then-has_solid g c =
 
 pub returns : goal.returns
 returns g c =
-    none_before g.T.EqualCopy.seen c.args.width c.args.wraps c.args.pieces.now c.loop-last.rest.now c.loop-last.invariant
+    none_before g.T.EqualCopy.seen c.args.width c.args.wraps c.args.pieces.now c.loop-last.rest.now
+    c.loop-last.invariant
     (nil_length c.loop-last.rest.now c.in_default.ensures.cases)

@@ -5,7 +5,11 @@ use Rattle.std.specs.Cmp.Lexicographic.{nat_list_cmp_total}
 use Rattle.reference_tables.proofs.rows.pairs_of_rows.Goals as goal
 
 pub returns-clause-last_value : goal.returns-clause-last_value
-returns-clause-last_value c = get-from_entries nat_list_cmp_total (reverse ((codes "a", 1 ∷ []) ∷ (codes "b", 2 ∷ []) ∷ (codes "a", 3 ∷ []) ∷ [])) (codes "a")
+returns-clause-last_value c =
+    get-from_entries nat_list_cmp_total (reverse ((codes "a", 1 ∷ []) ∷ (codes "b", 2 ∷ []) ∷ (codes "a", 3 ∷ []) ∷ []))
+    (codes "a")
 
 pub returns-clause-other_name : goal.returns-clause-other_name
-returns-clause-other_name c = get-from_entries nat_list_cmp_total (reverse ((codes "a", 1 ∷ []) ∷ (codes "b", 2 ∷ []) ∷ (codes "a", 3 ∷ []) ∷ [])) (codes "b")
+returns-clause-other_name c =
+    get-from_entries nat_list_cmp_total (reverse ((codes "a", 1 ∷ []) ∷ (codes "b", 2 ∷ []) ∷ (codes "a", 3 ∷ []) ∷ []))
+    (codes "b")

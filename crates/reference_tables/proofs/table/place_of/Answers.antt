@@ -12,4 +12,5 @@ pub returns-clause-position : goal.returns-clause-position
 returns-clause-position c =
     subst (λ (key : Reference → Ordering). IsBinarySearchResult key c.args.references.now c.binary_search_by.result)
     (λ i r. order_of_bytes (string_bytes r.name) c.args.name.now (IsUtf8-string_bytes r.name) c.utf8.name i)
-    (c.binary_search_by.ensures.position (λ r. slice_cmp nat_cmp (string_bytes r.name) c.args.name.now) (always_returns_same _ _ _ (λ a r f' q. search rules)))
+    (c.binary_search_by.ensures.position (λ r. slice_cmp nat_cmp (string_bytes r.name) c.args.name.now)
+    (always_returns_same _ _ _ (λ a r f' q. search rules)))

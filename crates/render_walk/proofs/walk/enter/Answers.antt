@@ -81,7 +81,8 @@ returns-clause-goes g c = λ tag p.
     g.D.TextDecorator.sub) g.w
     c.args.waiting.now.items c.push_nodes.new.waiting.items
     (rest_of (c.args.place.at + 1 + c.index-nodes-place.result.below) c.args.place.end) o.items
-    c.open_value.new.waiting.items c.index-nodes-place.result.head _ _ _ _ (content_seen c.in_ok-content.content) c.in_ok-entered.entered
+    c.open_value.new.waiting.items c.index-nodes-place.result.head _ _ _ _
+    (content_seen c.in_ok-content.content) c.in_ok-entered.entered
     (laying_of g.D.Annotation.EqualCopy.seen g.D.TextDecorator.held c.args.laying.now) (laying_of
     g.D.Annotation.EqualCopy.seen g.D.TextDecorator.held c.open_value.new.laying) c.in_ok-push_nodes.ensures o.pushed
     (rest_waits g.D.Annotation.EqualCopy.seen g.D.TextDecorator.held c.args.nodes.now

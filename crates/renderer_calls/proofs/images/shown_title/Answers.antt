@@ -21,4 +21,5 @@ returns-in-Replace c = untitled c.args.mode (Replace c.in-Replace.name) (chars c
 pub returns-in-Filename : goal.returns-in-Filename
 returns-in-Filename c = untitled c.args.mode Filename (chars c.args.src.now) (chars c.args.title.now)
     (Some (chars c.file_name.result.now))
-    (empty_text c.args.title.now (sym c.is_empty.ensures ∙ c.if-not-is_empty.false)) c.in-Filename.is (ap (λ t. Some t) c.file_name.ensures)
+    (empty_text c.args.title.now (sym c.is_empty.ensures ∙ c.if-not-is_empty.false)) c.in-Filename.is
+    (ap (λ t. Some t) c.file_name.ensures)

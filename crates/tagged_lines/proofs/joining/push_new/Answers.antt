@@ -15,5 +15,6 @@ pub returns-clause-joined : goal.returns-clause-joined
 returns-clause-joined g c =
     let es = c.args.elements.now.items in
     let seen = g.T.EqualCopy.seen in
-    on_ok_weaker c.push_own.result (λ pushed joined some ends. pushed joined (λ none. some (sym c.in_ok-s.ensures.ok ∙ none))
+    on_ok_weaker c.push_own.result (λ pushed joined some ends.
+    pushed joined (λ none. some (sym c.in_ok-s.ensures.ok ∙ none))
     (λ h. ends (subst (λ t. EndsWithTag seen t es) c.in_ok-tag.ensures h))) c.push_own.ensures.joined

@@ -10,7 +10,8 @@ loop-segment-preserved g c =
     let seen = g.T.EqualCopy.seen in
     let tag = seen c.args.tag.now in
     record {
-      items = more_pushed (line_items seen c.loop-segment.line) _ _ (character (line_above (segment_of c.in-Some.segment.now)) tag)
+      items = more_pushed (line_items seen c.loop-segment.line) _ _
+          (character (line_above (segment_of c.in-Some.segment.now)) tag)
           (tagged (map line_above (map segment_of c.in-Some.others.now)) tag) c.in_ok-push_char.ensures.ok
           (ap (λ code. character code tag) c.line_above.ensures)
           ∙ ap (λ ss. line_items seen c.loop-segment.line ++ tagged (map line_above (map segment_of ss)) tag)
@@ -22,6 +23,7 @@ loop-segment-preserved g c =
 pub returns-clause-items : goal.returns-clause-items
 returns-clause-items g c =
     let seen = g.T.EqualCopy.seen in
-    sym (ap (λ ss. line_items seen c.loop-segment.line ++ tagged (map line_above (map segment_of ss)) (seen c.args.tag.now))
+    sym (ap (λ ss. line_items seen c.loop-segment.line
+    ++ tagged (map line_above (map segment_of ss)) (seen c.args.tag.now))
     (nothing_left c.loop-segment.rest.now c.in_default.ensures.cases)
     ∙ append-nil (line_items seen c.loop-segment.line)) ∙ c.loop-segment.invariant.items

@@ -19,7 +19,8 @@ loop-hole-preserved g c =
           (rest_is _ _ c.behind_of-rest.result.now c.loop-hole.rest.now c.behind_of-rest.ensures
           (c.saturating_sub-in-Some.ensures ∙ ap (λ n. n - c.loop-hole.at) c.in_ok-end.ensures))
           c.in_ok-push_glyphs.ensures.items c.in_ok-push_line.ensures.ok
-          ∙ ap (λ hs. old ++ shown_from tag c.loop-hole.at (map segment_of c.loop-hole.rest.now) (map (hole_of seen) hs))
+          ∙ ap (λ hs. old ++ shown_from tag c.loop-hole.at (map segment_of c.loop-hole.rest.now)
+          (map (hole_of seen) hs))
           (sym c.in-Some.ensures.cases.0)
           ∙ c.loop-hole.invariant.items;
       joined = λ j. c.push_line.ensures.joined (c.push_glyphs.ensures.joined (c.loop-hole.invariant.joined j));

@@ -15,4 +15,5 @@ invariant-rules g l =
 abbrev pub decreases-rules : goal.decreases-rules
 decreases-rules g l =
     let tree = g.S.TreeSink in
-    rank (doctype l.fn.doctype) (parsed tree.number tree.forest tree.quirks l.page.kept l.page.tree.held l.page.tree.sink)
+    rank (doctype l.fn.doctype)
+    (parsed tree.number tree.forest tree.quirks l.page.kept l.page.tree.held l.page.tree.sink)

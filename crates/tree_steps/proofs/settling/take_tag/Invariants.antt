@@ -9,9 +9,14 @@ invariant-rules g l =
     let tree = g.S.TreeSink in
     let now = parsed tree.number tree.forest tree.quirks l.page.kept l.page.tree.held l.page.tree.sink in
     let first = parsed tree.number tree.forest tree.quirks l.fn.page.kept l.fn.page.tree.held l.fn.page.tree.sink in
-    record { ready : Ready now; same : taken (mark_by l.fn.tag.kind l.fn.tag) now ≡ taken (mark_by l.fn.tag.kind l.fn.tag) first }
+    record {
+      ready : Ready now;
+      same : taken (mark_by l.fn.tag.kind l.fn.tag) now
+          ≡ taken (mark_by l.fn.tag.kind l.fn.tag) first;
+    }
 
 abbrev pub decreases-rules : goal.decreases-rules
 decreases-rules g l =
     let tree = g.S.TreeSink in
-    rank (mark_by l.fn.tag.kind l.fn.tag) (parsed tree.number tree.forest tree.quirks l.page.kept l.page.tree.held l.page.tree.sink)
+    rank (mark_by l.fn.tag.kind l.fn.tag)
+    (parsed tree.number tree.forest tree.quirks l.page.kept l.page.tree.held l.page.tree.sink)

@@ -93,5 +93,6 @@ returns-in-Kept-clause-calm g c =
     let new : State = parsed tree.number tree.forest tree.quirks made.kept made.tree.held made.tree.sink in
     record {
       ready = c.in_ok-keep_pending-in-Kept.ensures.ready;
-      flag = flag_kept (chars c.as_str.result.now) old new c.in_ok-keep_pending-in-Kept.ensures.seen c.requires.calm.flag;
+      flag = flag_kept (chars c.as_str.result.now) old new c.in_ok-keep_pending-in-Kept.ensures.seen
+          c.requires.calm.flag;
     }

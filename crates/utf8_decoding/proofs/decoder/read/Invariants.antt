@@ -4,7 +4,8 @@ use Rattle.utf8_decoding.proofs.decoder.read.Given as goal
 
 abbrev pub invariant-loop-run : goal.invariant-loop-run
 invariant-loop-run l =
-    (l.taken ≤ length l.bytes) × HasRead (string_bytes l.initial.text) l.bytes (string_bytes l.text) (drop l.taken l.bytes)
+    (l.taken ≤ length l.bytes) × HasRead (string_bytes l.initial.text) l.bytes (string_bytes l.text)
+    (drop l.taken l.bytes)
 
 abbrev pub decreases-loop-run : goal.decreases-loop-run
 decreases-loop-run l = length l.bytes - l.taken

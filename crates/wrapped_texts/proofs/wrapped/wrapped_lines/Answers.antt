@@ -38,7 +38,8 @@ returns-clause-within g c = λ whole.
     if_ok_map _ _ c.into_lines.result
     (λ lines are. c.lines_keep_the_width.ensures c.args.width (letters_of seen c.args.pieces.now)
     (map (line_items seen) lines.items)
-    (subst (λ o. AreLinesOf c.args.width o (letters_of seen c.args.pieces.now) (map (line_items seen) lines.items)) whole
+    (subst (λ o. AreLinesOf c.args.width o (letters_of seen c.args.pieces.now) (map (line_items seen) lines.items))
+    whole
     are)) (returns-clause-lines g c)
 
 pub returns-clause-narrow : goal.returns-clause-narrow

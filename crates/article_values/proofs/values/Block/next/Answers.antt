@@ -1,6 +1,7 @@
 use Rattle.std.proofs.Common.{ap, ◌∙◌, arith}
 use Rattle.article_values.specs.Sizes.{block_size}
-use Rattle.article_values.proofs.LettingGo.{last_taken, size_of_bullets, size_of_heading, size_of_numbers, size_of_paragraph}
+use Rattle.article_values.proofs.LettingGo.{last_taken, size_of_bullets, size_of_heading, size_of_numbers}
+use Rattle.article_values.proofs.LettingGo.{size_of_paragraph}
 use Rattle.article_values.proofs.values.Block.next.Goals as goal
 
 pub returns-in-Bullets : goal.returns-in-Bullets

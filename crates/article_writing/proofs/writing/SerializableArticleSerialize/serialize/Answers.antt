@@ -18,7 +18,8 @@ returns-in_err-write_doctype g c =
     (reply_of c.from_residual.result) (g.S.Serializer.seen c.write_doctype.new.self))
     (sym (c.a_document_is_told.ensures c.args._scope.now c.args.self.now.article.now.title
     (content_of_blocks (blocks_view c.args.self.now.article.now.blocks))))
-    (document_refused g.S.Serializer.means _ _ c.write_doctype.result c.from_residual.result _ p.0 _ _ c.in_err-write_doctype.was p.1 p.2
+    (document_refused g.S.Serializer.means _ _ c.write_doctype.result c.from_residual.result _ p.0 _ _
+    c.in_err-write_doctype.was p.1 p.2
     c.write_doctype.ensures)
 
 pub returns : goal.returns

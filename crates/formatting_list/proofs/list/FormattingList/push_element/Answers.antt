@@ -10,7 +10,8 @@ use Rattle.formatting_list.proofs.list.FormattingList.push_element.Goals as goal
 
 pub returns-in-Some-clause-ok : goal.returns-in-Some-clause-ok
 returns-in-Some-clause-ok g c = λ number. ap (entries_of number) (c.take_off.ensures.items
-    ∙ ap (λ v. remove v c.in-Some.at) (c.in_ok-push.ensures.items ∙ ap (λ v. v ++ Element c.args.handle c.args.tag ∷ []) (sym c.as_slice.ensures.value)))
+    ∙ ap (λ v. remove v c.in-Some.at) (c.in_ok-push.ensures.items ∙ ap (λ v. v ++ Element c.args.handle c.args.tag ∷ [])
+    (sym c.as_slice.ensures.value)))
     ∙ pushed_for_three number c.as_slice.result.now c.args.handle c.args.tag c.in-Some.at c.in-Some.ensures.many
     ∙ ap (λ v. pushed (number c.args.handle) c.args.tag (entries_of number v))
     (c.as_slice.ensures.value ∙ c.self.view_is)

@@ -16,13 +16,15 @@ returns-in-Begins g c =
     let rest = c.split_at.result.1.now in
     let start = c.self.inside.start in
     let here : rest ≡ drop start bs = c.split_at.ensures.back ∙ ap (drop start) c.as_str.ensures.value in
-    let is_text : IsUtf8 rest = subst IsUtf8 (sym here) (IsUtf8-drop bs start (IsUtf8-string_bytes c.self.inside.text) c.self.invariant) in
+    let is_text : IsUtf8 rest =
+    subst IsUtf8 (sym here) (IsUtf8-drop bs start (IsUtf8-string_bytes c.self.inside.text) c.self.invariant) in
     let begins = c.in-Begins.ensures in
     let parts = past_place bs rest start c.in-Begins.length is_text here begins.boundary in
     record {
       front = chars (take c.in-Begins.length rest);
       takes =
-          Takes-from _ _ _ _ _ _ (parts ∙ ap (λ (q : Queue). q.text) c.self.view_is) (ap (λ (q : Queue). q.taken) c.self.view_is)
+          Takes-from _ _ _ _ _ _ (parts ∙ ap (λ (q : Queue). q.text) c.self.view_is)
+          (ap (λ (q : Queue). q.taken) c.self.view_is)
           (counts_front begins) c.saturating_add-self-inside.ensures;
       same = begins.same;
     }

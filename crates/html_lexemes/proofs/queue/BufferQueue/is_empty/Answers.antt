@@ -8,5 +8,7 @@ pub returns : goal.returns
 returns c =
     let text = ap (λ (q : Queue). q.text) c.self.view_is in
     let s = c.self.inside.text in
-    let ends = ends_at _ c.self.inside.start c.len.result (IsUtf8-string_bytes s) c.self.invariant (c.len.ensures ∙ string_length s) in
+    let ends =
+    ends_at _ c.self.inside.start c.len.result (IsUtf8-string_bytes s) c.self.invariant
+    (c.len.ensures ∙ string_length s) in
     (λ e. sym text ∙ ends.0 e, λ none. ends.1 (text ∙ none))

@@ -11,5 +11,9 @@ same_permutation xs ys e = subst (IsPermutation xs) e (IsPermutation-refl xs)
 pub returns-then-eq : goal.returns-then-eq
 returns-then-eq c =
     let names = c.is_named_as.ensures.0 c.if-is_named_as.true in
-    let attributes = (slice_eq-Decides attribute_decides c.args.self.now.attrs c.args.other.now.attrs c.eq.result c.eq.ensures).0 c.if-eq.true in
-    ((λ t. record { kind = names.0; name = names.1; attributes = same_permutation _ _ attributes }), (λ e. c.if-eq.true))
+    let attributes =
+    (slice_eq-Decides attribute_decides c.args.self.now.attrs c.args.other.now.attrs c.eq.result c.eq.ensures).0
+    c.if-eq.true in (
+      (λ t. record { kind = names.0; name = names.1; attributes = same_permutation _ _ attributes }),
+      (λ e. c.if-eq.true),
+    )

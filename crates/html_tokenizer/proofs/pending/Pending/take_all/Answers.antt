@@ -5,4 +5,8 @@ use Rattle.lexeme_places.specs.Sound.{IsSound}
 use Rattle.html_tokenizer.proofs.pending.Pending.take_all.Goals as goal
 
 pub invariant_of-self : goal.invariant_of-self
-invariant_of-self c = record { sound = subst (λ x. IsSound x (chars (string_bytes c.take_out.new.text))) (sym c.replace-place.ensures.after) (ap chars c.take_out.ensures.left ∙ chars-nil) }
+invariant_of-self c =
+    record {
+      sound = subst (λ x. IsSound x (chars (string_bytes c.take_out.new.text)))
+          (sym c.replace-place.ensures.after) (ap chars c.take_out.ensures.left ∙ chars-nil);
+    }

@@ -16,12 +16,19 @@ invariant_of-self-in_default c =
     let p = c.args.self.now in
     let now = chars (string_bytes c.section_turn.new.held) in
     let old = subst (λ x. IsSound x (chars (string_bytes p.held))) c.requires p.sound in
-    record { sound = subst (λ x. IsSound x now) (sym c.requires) (section_sound some_mode (chars (string_bytes p.held)) c.args.c c.in-Ok.turn now c.in_default.not-Ends old (c.in-Ok.ensures some_mode)) }
+    record {
+      sound = subst (λ x. IsSound x now) (sym c.requires)
+          (section_sound some_mode (chars (string_bytes p.held)) c.args.c c.in-Ok.turn now c.in_default.not-Ends old
+          (c.in-Ok.ensures some_mode));
+    }
 
 pub returns-in-Ends : goal.returns-in-Ends
 returns-in-Ends c = λ mode.
-    section_ended mode (chars (string_bytes c.args.self.now.held)) c.args.c c.in-Ok.turn (chars (string_bytes c.section_turn.new.held)) (chars (string_bytes c.clear-in-Ends.new.self)) c.in-Ends.is (ap chars c.clear-in-Ends.ensures.bytes ∙ chars-nil) (c.in-Ok.ensures mode)
+    section_ended mode (chars (string_bytes c.args.self.now.held)) c.args.c c.in-Ok.turn
+    (chars (string_bytes c.section_turn.new.held)) (chars (string_bytes c.clear-in-Ends.new.self)) c.in-Ends.is
+    (ap chars c.clear-in-Ends.ensures.bytes ∙ chars-nil) (c.in-Ok.ensures mode)
 
 pub returns-in_default : goal.returns-in_default
 returns-in_default c = λ mode.
-    section_stays mode (chars (string_bytes c.args.self.now.held)) c.args.c c.in-Ok.turn c.args.self.now.place (chars (string_bytes c.section_turn.new.held)) c.requires c.in_default.not-Ends (c.in-Ok.ensures mode)
+    section_stays mode (chars (string_bytes c.args.self.now.held)) c.args.c c.in-Ok.turn c.args.self.now.place
+    (chars (string_bytes c.section_turn.new.held)) c.requires c.in_default.not-Ends (c.in-Ok.ensures mode)

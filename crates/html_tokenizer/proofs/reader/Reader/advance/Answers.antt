@@ -16,7 +16,8 @@ pub end_lexeme-requires-clause-place : goal.end_lexeme-requires-clause-place
 end_lexeme-requires-clause-place g c = subst (λ a. IsLeft a c.args.self.now.pending.place) c.in-Ends.is c.requires.left
 
 pub end_lexeme-requires-in-EndsBefore-clause-place : goal.end_lexeme-requires-in-EndsBefore-clause-place
-end_lexeme-requires-in-EndsBefore-clause-place g c = subst (λ a. IsLeft a c.args.self.now.pending.place) c.in-EndsBefore.is c.requires.left
+end_lexeme-requires-in-EndsBefore-clause-place g c =
+    subst (λ a. IsLeft a c.args.self.now.pending.place) c.in-EndsBefore.is c.requires.left
 
 pub returns-in_ok-begin-in-EndsBefore-clause-reads : goal.returns-in_ok-begin-in-EndsBefore-clause-reads
 returns-in_ok-begin-in-EndsBefore-clause-reads g c = λ place held a rest final l.
@@ -25,10 +26,15 @@ returns-in_ok-begin-in-EndsBefore-clause-reads g c = λ place held a rest final 
     let s = g.S.TokenSink.means.step (g.S.TokenSink.state c.args.sink.now) (characters (chars (string_bytes r.run))) in
     let f = g.S.TokenSink.means.foreign s in
     let text = chars (string_bytes c.in-EndsBefore.held) in
-    let known = subst (λ x. Advances table f r.mode place held c.args.c x r.pending.place (chars (string_bytes r.pending.held))) c.in-EndsBefore.is a in
+    let known =
+    subst (λ x. Advances table f r.mode place held c.args.c x r.pending.place
+    (chars (string_bytes r.pending.held))) c.in-EndsBefore.is a in
     let over : IsOver table f r.mode c.in-EndsBefore.place text (c.args.c ∷ []) =
-    subst (λ x. IsOver table f r.mode x text (c.args.c ∷ [])) (sym known.0) (subst (λ x. IsOver table f r.mode place x (c.args.c ∷ [])) (sym known.1.0) known.1.1.0) in
-    let further = c.in_ok-end_lexeme-in-EndsBefore.ensures.reads (c.args.c ∷ []) rest final over (c.in_ok-begin-in-EndsBefore.ensures.reads table rest final l) in
+    subst (λ x. IsOver table f r.mode x text (c.args.c ∷ [])) (sym known.0)
+    (subst (λ x. IsOver table f r.mode place x (c.args.c ∷ [])) (sym known.1.0) known.1.1.0) in
+    let further =
+    c.in_ok-end_lexeme-in-EndsBefore.ensures.reads (c.args.c ∷ []) rest final over
+    (c.in_ok-begin-in-EndsBefore.ensures.reads table rest final l) in
     subst (λ x. Leaves table g.S.TokenSink.means r.mode place (x ++ c.args.c ∷ rest) s final) known.1.0
     (subst (λ x. Leaves table g.S.TokenSink.means r.mode x (text ++ c.args.c ∷ rest) s final) known.0 further)
 
@@ -46,27 +52,45 @@ returns-in_ok-begin-in-EndsBefore-clause-asks g c = λ place held a.
     let s2 = g.S.TokenSink.state c.begin.new.sink in
     let f = g.S.TokenSink.means.foreign (means.step s0 (characters (chars (string_bytes r.run)))) in
     let text = chars (string_bytes c.in-EndsBefore.held) in
-    let known = subst (λ x. Advances table f r.mode place held c.args.c x r.pending.place (chars (string_bytes r.pending.held))) c.in-EndsBefore.is a in
-    let untagged = subst (λ x. IsUntagged (place_lexeme table f r.mode x text)) (sym known.0) (subst (λ x. IsUntagged (place_lexeme table f r.mode place x)) (sym known.1.0) known.1.1.1) in
-    tells_then means s0 s1 s2 (subst (λ x. Asks means x s0 s1) (c.in_ok-end_lexeme-in-EndsBefore.ensures.untagged untagged) c.in_ok-end_lexeme-in-EndsBefore.ensures.asks)
+    let known =
+    subst (λ x. Advances table f r.mode place held c.args.c x r.pending.place
+    (chars (string_bytes r.pending.held))) c.in-EndsBefore.is a in
+    let untagged =
+    subst (λ x. IsUntagged (place_lexeme table f r.mode x text)) (sym known.0)
+    (subst (λ x. IsUntagged (place_lexeme table f r.mode place x)) (sym known.1.0) known.1.1.1) in
+    tells_then means s0 s1 s2
+    (subst (λ x. Asks means x s0 s1) (c.in_ok-end_lexeme-in-EndsBefore.ensures.untagged untagged)
+    c.in_ok-end_lexeme-in-EndsBefore.ensures.asks)
     c.in_ok-begin-in-EndsBefore.ensures.tells
 
 pub end_lexeme-requires-clause-placed : goal.end_lexeme-requires-clause-placed
-end_lexeme-requires-clause-placed g c = subst (λ a. IsWithinKind c.args.self.now.mode.text a c.args.self.now.pending.place) c.in-Ends.is c.requires.placed
+end_lexeme-requires-clause-placed g c =
+    subst (λ a. IsWithinKind c.args.self.now.mode.text a c.args.self.now.pending.place) c.in-Ends.is c.requires.placed
 
 pub end_lexeme-requires-in-EndsBefore-clause-placed : goal.end_lexeme-requires-in-EndsBefore-clause-placed
-end_lexeme-requires-in-EndsBefore-clause-placed g c = subst (λ a. IsWithinKind c.args.self.now.mode.text a c.args.self.now.pending.place) c.in-EndsBefore.is c.requires.placed
+end_lexeme-requires-in-EndsBefore-clause-placed g c =
+    subst (λ a. IsWithinKind c.args.self.now.mode.text a c.args.self.now.pending.place) c.in-EndsBefore.is
+    c.requires.placed
 
 pub returns-in-Goes-clause-placed : goal.returns-in-Goes-clause-placed
-returns-in-Goes-clause-placed g c = subst (λ a. IsWithinKind c.args.self.now.mode.text a c.args.self.now.pending.place) c.in-Goes.is c.requires.placed
+returns-in-Goes-clause-placed g c =
+    subst (λ a. IsWithinKind c.args.self.now.mode.text a c.args.self.now.pending.place) c.in-Goes.is c.requires.placed
 
 pub returns-in-Ends-clause-placed : goal.returns-in-Ends-clause-placed
-returns-in-Ends-clause-placed g c = on_ok_map c.end_lexeme.result c.end_lexeme.ensures.place (λ e. placed_text c.end_lexeme.new.self.mode.text c.end_lexeme.new.self.pending.place e)
+returns-in-Ends-clause-placed g c =
+    on_ok_map c.end_lexeme.result c.end_lexeme.ensures.place
+    (λ e. placed_text c.end_lexeme.new.self.mode.text c.end_lexeme.new.self.pending.place e)
 
 pub returns-in-Ends-clause-greater : goal.returns-in-Ends-clause-greater
-returns-in-Ends-clause-greater g c = if_ok_map c.end_lexeme.result c.end_lexeme.ensures.untagged (λ pause untagged place held a.
+returns-in-Ends-clause-greater g c =
+    if_ok_map c.end_lexeme.result c.end_lexeme.ensures.untagged (λ pause untagged place held a.
     let r = c.args.self.now in
     let table = c.args.table.now in
-    let f = g.S.TokenSink.means.foreign (g.S.TokenSink.means.step (g.S.TokenSink.state c.args.sink.now) (characters (chars (string_bytes r.run)))) in
-    let known = subst (λ x. Advances table f r.mode place held c.args.c x r.pending.place (chars (string_bytes r.pending.held))) c.in-Ends.is a in
-    pause_mark table f r.mode place c.in-Ends.place held (chars (string_bytes c.in-Ends.held)) c.args.c pause c.tag_ends_with_its_mark.ensures known.0 known.1.left untagged)
+    let f = g.S.TokenSink.means.foreign (g.S.TokenSink.means.step (g.S.TokenSink.state c.args.sink.now)
+    (characters (chars (string_bytes r.run)))) in
+    let known =
+    subst (λ x. Advances table f r.mode place held c.args.c x r.pending.place
+    (chars (string_bytes r.pending.held))) c.in-Ends.is a in
+    pause_mark table f r.mode place c.in-Ends.place held
+    (chars (string_bytes c.in-Ends.held)) c.args.c pause c.tag_ends_with_its_mark.ensures known.0 known.1.left
+    untagged)

@@ -12,9 +12,11 @@ pub returns-in_ok-read_text-in-Text-clause-reads : goal.returns-in_ok-read_text-
 returns-in_ok-read_text-in-Text-clause-reads g c = λ table rest final l.
     let r = c.args.self.now in
     let e = c.read_text.ensures in
-    text_read table g.S.TokenSink.means r.mode r.pending.place (chars (string_bytes r.pending.held)) c.args.c c.in-Text.shown rest
+    text_read table g.S.TokenSink.means r.mode r.pending.place
+    (chars (string_bytes r.pending.held)) c.args.c c.in-Text.shown rest
     (g.S.TokenSink.means.step (g.S.TokenSink.state c.args.sink.now) (characters (chars (string_bytes r.run))))
-    (g.S.TokenSink.means.step (g.S.TokenSink.state c.read_text.new.sink) (characters (chars (string_bytes c.read_text.new.self.run)))) final
+    (g.S.TokenSink.means.step (g.S.TokenSink.state c.read_text.new.sink)
+    (characters (chars (string_bytes c.read_text.new.self.run)))) final
     c.requires.place (held_none r.pending c.requires.place) c.in_ok-read_text-in-Text.ensures.told
     (λ f. c.in-Text.ensures.first.1 table f r.mode rest refl refl)
     (rw (e.mode, e.pending) at l)
@@ -23,31 +25,43 @@ pub returns-in_ok-tell_null-in-Null-clause-reads : goal.returns-in_ok-tell_null-
 returns-in_ok-tell_null-in-Null-clause-reads g c = λ table rest final l.
     let r = c.args.self.now in
     let e = c.tell_null.ensures in
-    null_read table g.S.TokenSink.means r.mode r.pending.place (chars (string_bytes r.pending.held)) c.args.c rest (chars (string_bytes c.tell_null.new.self.run))
-    (g.S.TokenSink.means.step (g.S.TokenSink.state c.args.sink.now) (characters (chars (string_bytes r.run)))) (g.S.TokenSink.state c.tell_null.new.sink) final
-    g.met.S.TokenSink.lawful.skips c.requires.place (held_none r.pending c.requires.place) (ap chars c.in_ok-tell_null-in-Null.ensures.run ∙ chars-nil)
+    null_read table g.S.TokenSink.means r.mode r.pending.place (chars (string_bytes r.pending.held)) c.args.c rest
+    (chars (string_bytes c.tell_null.new.self.run))
+    (g.S.TokenSink.means.step (g.S.TokenSink.state c.args.sink.now) (characters (chars (string_bytes r.run))))
+    (g.S.TokenSink.state c.tell_null.new.sink) final
+    g.met.S.TokenSink.lawful.skips c.requires.place (held_none r.pending c.requires.place)
+    (ap chars c.in_ok-tell_null-in-Null.ensures.run ∙ chars-nil)
     (λ f. c.in-Null.ensures.first table f r.mode rest refl refl) c.in_ok-tell_null-in-Null.ensures.told
     (rw (e.mode, e.pending) at l)
 
 pub returns-in_ok-open_raw-in-OpensRaw-clause-reads : goal.returns-in_ok-open_raw-in-OpensRaw-clause-reads
 returns-in_ok-open_raw-in-OpensRaw-clause-reads g c = λ table rest final l.
     let r = c.args.self.now in
-    raw_opened table g.S.TokenSink.means r.mode c.in-OpensRaw.kind c.in-OpensRaw.place r.pending.place c.open_raw.new.self.place (chars (string_bytes r.pending.held)) (chars (string_bytes c.open_raw.new.self.held)) c.args.c rest
-    (g.S.TokenSink.means.step (g.S.TokenSink.state c.args.sink.now) (characters (chars (string_bytes r.run)))) final c.in-OpensRaw.ensures.first.0 c.requires.place (held_none r.pending c.requires.place)
+    raw_opened table g.S.TokenSink.means r.mode c.in-OpensRaw.kind c.in-OpensRaw.place r.pending.place
+    c.open_raw.new.self.place (chars (string_bytes r.pending.held))
+    (chars (string_bytes c.open_raw.new.self.held)) c.args.c rest
+    (g.S.TokenSink.means.step (g.S.TokenSink.state c.args.sink.now) (characters (chars (string_bytes r.run)))) final
+    c.in-OpensRaw.ensures.first.0 c.requires.place (held_none r.pending c.requires.place)
     c.in_ok-open_raw-in-OpensRaw.ensures.place c.in_ok-open_raw-in-OpensRaw.ensures.held l
 
 pub open-requires-clause-sound : goal.open-requires-clause-sound
-open-requires-clause-sound g c = going_sound some_table c.args.self.now.mode.last_start_tag c.in-Opens.place [] (c.in-Opens.ensures.first.1 some_table)
+open-requires-clause-sound g c =
+    going_sound some_table c.args.self.now.mode.last_start_tag c.in-Opens.place []
+    (c.in-Opens.ensures.first.1 some_table)
 
 pub returns-in-Opens-clause-tells : goal.returns-in-Opens-clause-tells
-returns-in-Opens-clause-tells g c = tells_same g.S.TokenSink.means (g.S.TokenSink.state c.args.sink.now) (g.S.TokenSink.state c.args.sink.now) refl
+returns-in-Opens-clause-tells g c =
+    tells_same g.S.TokenSink.means (g.S.TokenSink.state c.args.sink.now) (g.S.TokenSink.state c.args.sink.now) refl
 
 pub returns-in-Opens-clause-reads : goal.returns-in-Opens-clause-reads
 returns-in-Opens-clause-reads g c = λ table rest final l.
     let r = c.args.self.now in
-    opened_read table g.S.TokenSink.means r.mode c.in-Opens.place r.pending.place c.open.new.self.place (chars (string_bytes r.pending.held)) (chars (string_bytes c.open.new.self.held)) c.args.c rest
-    (g.S.TokenSink.means.step (g.S.TokenSink.state c.args.sink.now) (characters (chars (string_bytes r.run)))) final c.requires.place (held_none r.pending c.requires.place) c.open.ensures.place c.open.ensures.held
+    opened_read table g.S.TokenSink.means r.mode c.in-Opens.place r.pending.place c.open.new.self.place
+    (chars (string_bytes r.pending.held)) (chars (string_bytes c.open.new.self.held)) c.args.c rest
+    (g.S.TokenSink.means.step (g.S.TokenSink.state c.args.sink.now) (characters (chars (string_bytes r.run)))) final
+    c.requires.place (held_none r.pending c.requires.place) c.open.ensures.place c.open.ensures.held
     (λ f. c.in-Opens.ensures.first.0 table f r.mode rest refl) l
 
 pub returns-in_ok-open_raw-in-OpensRaw-clause-tells : goal.returns-in_ok-open_raw-in-OpensRaw-clause-tells
-returns-in_ok-open_raw-in-OpensRaw-clause-tells g c = tells_same g.S.TokenSink.means (g.S.TokenSink.state c.args.sink.now) (g.S.TokenSink.state c.args.sink.now) refl
+returns-in_ok-open_raw-in-OpensRaw-clause-tells g c =
+    tells_same g.S.TokenSink.means (g.S.TokenSink.state c.args.sink.now) (g.S.TokenSink.state c.args.sink.now) refl

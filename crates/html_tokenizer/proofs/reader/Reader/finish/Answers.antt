@@ -17,10 +17,17 @@ returns-clause-reads g c =
     let s1 = g.S.TokenSink.state c.tell_run.new.sink in
     let s2 = g.S.TokenSink.state c.tell_held.new.sink in
     let final = g.S.TokenSink.state c.process_token.new.self in
-    let same = ap (λ x. means.step s2 (characters x)) (ap chars c.in_ok-tell_held.ensures.run ∙ chars-nil) ∙ g.met.S.TokenSink.lawful.skips s2 in
-    let last : final ≡ means.step s2 end_of_file = c.in_ok-process_token.ensures.state ∙ (c.in_ok-tell_errors.ensures.alike.steps end_of_file tt ∙ ap (λ x. means.step x end_of_file) same) in
+    let same =
+    ap (λ x. means.step s2 (characters x)) (ap chars c.in_ok-tell_held.ensures.run ∙ chars-nil) ∙
+    g.met.S.TokenSink.lawful.skips s2 in
+    let last : final ≡ means.step s2 end_of_file =
+    c.in_ok-process_token.ensures.state ∙ (c.in_ok-tell_errors.ensures.alike.steps end_of_file tt ∙
+    ap (λ x. means.step x end_of_file) same) in
     let held = chars (string_bytes first.pending.held) in
     let told = subst (λ x. Leaves table means first.mode first.pending.place x s1 final) (sym (append-nil held))
-    (subst (λ x. Leaves table means first.mode first.pending.place held s1 x) (sym last) c.in_ok-tell_held.ensures.told) in
+    (subst (λ x. Leaves table means first.mode first.pending.place held s1 x) (sym last) c.in_ok-tell_held.ensures.told)
+    in
     closed_by g.S.TokenSink.close _ c.end.result final (g.S.TokenSink.state c.end.new.self)
-    (leaves_same table means r.mode first.mode r.pending first.pending [] s s1 final c.tell_run.ensures.mode c.tell_run.ensures.pending c.in_ok-tell_run.ensures.told told) c.end.ensures.closed
+    (leaves_same table means r.mode first.mode r.pending first.pending []
+    s s1 final c.tell_run.ensures.mode c.tell_run.ensures.pending
+    c.in_ok-tell_run.ensures.told told) c.end.ensures.closed

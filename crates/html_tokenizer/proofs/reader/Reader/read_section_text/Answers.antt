@@ -15,18 +15,30 @@ returns-then-c-eq0-clause-told g c =
     let r = c.args.self.now in
     let held = chars (string_bytes r.pending.held) in
     let sound = subst (λ x. IsSound x held) c.requires.place r.pending.sound in
-    let pushed = ap chars (c.in_ok-push_str.ensures.bytes ∙ ap (λ x. string_bytes r.run ++ x) (c.as_str.ensures.value ∙ ap string_bytes c.take_held-held.ensures.taken)) ∙ chars-append (string_bytes r.run) (string_bytes r.pending.held) (IsUtf8-string_bytes r.run) in
+    let pushed =
+    ap chars (c.in_ok-push_str.ensures.bytes ∙ ap (λ x. string_bytes r.run ++ x)
+    (c.as_str.ensures.value ∙ ap string_bytes c.take_held-held.ensures.taken)) ∙
+    chars-append (string_bytes r.run) (string_bytes r.pending.held) (IsUtf8-string_bytes r.run) in
     on_ok_two c.tell_null.result c.tell_null.ensures.told c.tell_null.ensures.run (λ t n.
-    section_null some_table g.S.TokenSink.means held (chars (string_bytes r.run)) (chars (string_bytes c.push_str.new.self)) (chars (string_bytes c.tell_null.new.self.run)) c.args.c (g.S.TokenSink.state c.args.sink.now) (g.S.TokenSink.state c.tell_null.new.sink)
-    g.met.S.TokenSink.lawful.joins g.met.S.TokenSink.lawful.skips (begun_plain (93 ∷ 93 ∷ 62 ∷ []) held sound refl) pushed c.if-c-eq0.true t (ap chars n ∙ chars-nil))
+    section_null some_table g.S.TokenSink.means held (chars (string_bytes r.run))
+    (chars (string_bytes c.push_str.new.self)) (chars (string_bytes c.tell_null.new.self.run)) c.args.c
+    (g.S.TokenSink.state c.args.sink.now) (g.S.TokenSink.state c.tell_null.new.sink)
+    g.met.S.TokenSink.lawful.joins g.met.S.TokenSink.lawful.skips
+    (begun_plain (93 ∷ 93 ∷ 62 ∷ []) held sound refl) pushed c.if-c-eq0.true t (ap chars n ∙ chars-nil))
 
 pub returns-clause-told : goal.returns-clause-told
 returns-clause-told g c =
     let r = c.args.self.now in
     let held = chars (string_bytes r.pending.held) in
     let sound = subst (λ x. IsSound x held) c.requires.place r.pending.sound in
-    let pushed = ap chars (c.in_ok-push_str.ensures.bytes ∙ ap (λ x. string_bytes r.run ++ x) (c.as_str.ensures.value ∙ ap string_bytes c.take_held-held.ensures.taken)) ∙ chars-append (string_bytes r.run) (string_bytes r.pending.held) (IsUtf8-string_bytes r.run) in
+    let pushed =
+    ap chars (c.in_ok-push_str.ensures.bytes ∙ ap (λ x. string_bytes r.run ++ x)
+    (c.as_str.ensures.value ∙ ap string_bytes c.take_held-held.ensures.taken)) ∙
+    chars-append (string_bytes r.run) (string_bytes r.pending.held) (IsUtf8-string_bytes r.run) in
     on_ok_map c.read_text.result c.read_text.ensures.told (λ t.
-    section_character some_table g.S.TokenSink.means held (chars (string_bytes r.run)) (chars (string_bytes c.push_str.new.self)) c.args.c (g.S.TokenSink.state c.args.sink.now)
-    (g.S.TokenSink.means.step (g.S.TokenSink.state c.read_text.new.sink) (characters (chars (string_bytes c.read_text.new.self.run))))
-    g.met.S.TokenSink.lawful.joins g.met.S.TokenSink.lawful.skips (begun_plain (93 ∷ 93 ∷ 62 ∷ []) held sound refl) pushed t (ap not (ne_eqb c.args.c 0 c.if-c-eq0.false)))
+    section_character some_table g.S.TokenSink.means held (chars (string_bytes r.run))
+    (chars (string_bytes c.push_str.new.self)) c.args.c (g.S.TokenSink.state c.args.sink.now)
+    (g.S.TokenSink.means.step (g.S.TokenSink.state c.read_text.new.sink)
+    (characters (chars (string_bytes c.read_text.new.self.run))))
+    g.met.S.TokenSink.lawful.joins g.met.S.TokenSink.lawful.skips
+    (begun_plain (93 ∷ 93 ∷ 62 ∷ []) held sound refl) pushed t (ap not (ne_eqb c.args.c 0 c.if-c-eq0.false)))

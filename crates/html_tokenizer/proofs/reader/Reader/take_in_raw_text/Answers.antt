@@ -15,40 +15,66 @@ use Rattle.html_tokenizer.proofs.reader.Reader.take_in_raw_text.Goals as goal
 pub begin-requires-clause-place : goal.begin-requires-clause-place
 begin-requires-clause-place g c =
     let r = c.args.self.now in
-    (subst (λ x. RawAdvances some_table false r.mode c.in-RawText.kind (chars (string_bytes r.pending.held)) c.args.c x c.take_raw.new.self.place (chars (string_bytes c.take_raw.new.self.held))) c.in-Before.is (c.in_ok-take_raw.ensures some_table false r.mode refl)).0
+    (subst (λ x. RawAdvances some_table false r.mode c.in-RawText.kind
+    (chars (string_bytes r.pending.held)) c.args.c x c.take_raw.new.self.place
+    (chars (string_bytes c.take_raw.new.self.held))) c.in-Before.is
+    (c.in_ok-take_raw.ensures some_table false r.mode refl)).0
 
 pub returns-in-Goes-clause-reads : goal.returns-in-Goes-clause-reads
 returns-in-Goes-clause-reads g c = λ table rest final l.
     let r = c.args.self.now in
     let now = c.take_raw.new.self in
-    let a = subst (λ x. RawAdvances table false r.mode c.in-RawText.kind (chars (string_bytes r.pending.held)) c.args.c x now.place (chars (string_bytes now.held))) c.in-Goes.is (c.in_ok-take_raw.ensures table false r.mode refl) in
-    raw_goes table g.S.TokenSink.means r.mode c.in-RawText.kind c.in-RawText.place r.pending.place now.place (chars (string_bytes r.pending.held)) (chars (string_bytes now.held)) c.args.c rest
-    (g.S.TokenSink.means.step (g.S.TokenSink.state c.args.sink.now) (characters (chars (string_bytes r.run)))) final (sym c.place.ensures ∙ c.in-RawText.is) a.1.0 a.0 l
+    let a = subst
+    (λ x. RawAdvances table false r.mode c.in-RawText.kind
+    (chars (string_bytes r.pending.held)) c.args.c x now.place (chars (string_bytes now.held))) c.in-Goes.is
+    (c.in_ok-take_raw.ensures table false r.mode refl) in
+    raw_goes table g.S.TokenSink.means r.mode c.in-RawText.kind c.in-RawText.place r.pending.place now.place
+    (chars (string_bytes r.pending.held)) (chars (string_bytes now.held)) c.args.c rest
+    (g.S.TokenSink.means.step (g.S.TokenSink.state c.args.sink.now) (characters (chars (string_bytes r.run)))) final
+    (sym c.place.ensures ∙ c.in-RawText.is) a.1.0 a.0 l
 
 pub returns-in_ok-begin-in-Before-clause-reads : goal.returns-in_ok-begin-in-Before-clause-reads
 returns-in_ok-begin-in-Before-clause-reads g c = λ table rest final l.
     let r = c.args.self.now in
     let now = c.take_raw.new.self in
-    let a = subst (λ x. RawAdvances table false r.mode c.in-RawText.kind (chars (string_bytes r.pending.held)) c.args.c x now.place (chars (string_bytes now.held))) c.in-Before.is (c.in_ok-take_raw.ensures table false r.mode refl) in
-    raw_before table g.S.TokenSink.means r.mode c.in-RawText.kind c.in-Before.behind c.in-RawText.place r.pending.place now.place (chars (string_bytes r.pending.held)) (chars (string_bytes now.held)) (chars (string_bytes c.in-Before.text)) (chars (string_bytes r.run)) (chars (string_bytes c.push_str.new.self)) c.args.c rest
-    (g.S.TokenSink.state c.args.sink.now) final g.met.S.TokenSink.lawful.joins g.met.S.TokenSink.lawful.skips (sym c.place.ensures ∙ c.in-RawText.is) a.0 a.1.0 a.1.1.0
-    (ap chars (c.in_ok-push_str-in-Before.ensures.bytes ∙ ap (λ x. string_bytes r.run ++ x) c.as_str.ensures.value) ∙ chars-append (string_bytes r.run) (string_bytes c.in-Before.text) (IsUtf8-string_bytes r.run)) a.1.1.1
+    let a = subst
+    (λ x. RawAdvances table false r.mode c.in-RawText.kind
+    (chars (string_bytes r.pending.held)) c.args.c x now.place (chars (string_bytes now.held))) c.in-Before.is
+    (c.in_ok-take_raw.ensures table false r.mode refl) in
+    raw_before table g.S.TokenSink.means r.mode c.in-RawText.kind c.in-Before.behind c.in-RawText.place r.pending.place
+    now.place (chars (string_bytes r.pending.held)) (chars (string_bytes now.held))
+    (chars (string_bytes c.in-Before.text)) (chars (string_bytes r.run))
+    (chars (string_bytes c.push_str.new.self)) c.args.c rest
+    (g.S.TokenSink.state c.args.sink.now) final g.met.S.TokenSink.lawful.joins g.met.S.TokenSink.lawful.skips
+    (sym c.place.ensures ∙ c.in-RawText.is) a.0 a.1.0 a.1.1.0
+    (ap chars (c.in_ok-push_str-in-Before.ensures.bytes ∙ ap (λ x. string_bytes r.run ++ x) c.as_str.ensures.value) ∙
+    chars-append (string_bytes r.run) (string_bytes c.in-Before.text) (IsUtf8-string_bytes r.run)) a.1.1.1
     (c.in_ok-begin-in-Before.ensures.reads table rest final l)
 
 pub returns-in_ok-push_str-in-Shifts-clause-reads : goal.returns-in_ok-push_str-in-Shifts-clause-reads
 returns-in_ok-push_str-in-Shifts-clause-reads g c = λ table rest final l.
     let r = c.args.self.now in
     let now = c.take_raw.new.self in
-    let a = subst (λ x. RawAdvances table false r.mode c.in-RawText.kind (chars (string_bytes r.pending.held)) c.args.c x now.place (chars (string_bytes now.held))) c.in-Shifts.is (c.in_ok-take_raw.ensures table false r.mode refl) in
-    raw_shifts table g.S.TokenSink.means r.mode c.in-RawText.kind c.in-Shifts.behind c.in-RawText.place r.pending.place now.place (chars (string_bytes r.pending.held)) (chars (string_bytes now.held)) (chars c.in-Shifts.text.now) (chars (string_bytes r.run)) (chars (string_bytes c.push_str-in-Shifts.new.self)) c.args.c rest
-    (g.S.TokenSink.state c.args.sink.now) final g.met.S.TokenSink.lawful.joins g.met.S.TokenSink.lawful.skips (sym c.place.ensures ∙ c.in-RawText.is) a.1.0
-    (ap chars c.in_ok-push_str-in-Shifts.ensures.bytes ∙ chars-append (string_bytes r.run) c.in-Shifts.text.now (IsUtf8-string_bytes r.run)) a.0 l
+    let a = subst
+    (λ x. RawAdvances table false r.mode c.in-RawText.kind
+    (chars (string_bytes r.pending.held)) c.args.c x now.place (chars (string_bytes now.held))) c.in-Shifts.is
+    (c.in_ok-take_raw.ensures table false r.mode refl) in
+    raw_shifts table g.S.TokenSink.means r.mode c.in-RawText.kind c.in-Shifts.behind c.in-RawText.place r.pending.place
+    now.place (chars (string_bytes r.pending.held)) (chars (string_bytes now.held)) (chars c.in-Shifts.text.now)
+    (chars (string_bytes r.run)) (chars (string_bytes c.push_str-in-Shifts.new.self)) c.args.c rest
+    (g.S.TokenSink.state c.args.sink.now) final g.met.S.TokenSink.lawful.joins g.met.S.TokenSink.lawful.skips
+    (sym c.place.ensures ∙ c.in-RawText.is) a.1.0
+    (ap chars c.in_ok-push_str-in-Shifts.ensures.bytes ∙ chars-append (string_bytes r.run) c.in-Shifts.text.now
+    (IsUtf8-string_bytes r.run)) a.0 l
 
 pub returns-in-EndTag-clause-place : goal.returns-in-EndTag-clause-place
 returns-in-EndTag-clause-place g c =
     let r = c.args.self.now in
     let now = c.take_raw.new.self in
-    let a = subst (λ x. RawAdvances some_table false r.mode c.in-RawText.kind (chars (string_bytes r.pending.held)) c.args.c x now.place (chars (string_bytes now.held))) c.in-EndTag.is (c.in_ok-take_raw.ensures some_table false r.mode refl) in
+    let a = subst
+    (λ x. RawAdvances some_table false r.mode c.in-RawText.kind
+    (chars (string_bytes r.pending.held)) c.args.c x now.place (chars (string_bytes now.held))) c.in-EndTag.is
+    (c.in_ok-take_raw.ensures some_table false r.mode refl) in
     λ _. subst IsWithinMarkup (sym a.1) tt
 
 pub returns-in-EndTag-clause-reads : goal.returns-in-EndTag-clause-reads
@@ -57,29 +83,41 @@ returns-in-EndTag-clause-reads g c = λ table rest final l.
     let now = c.take_raw.new.self in
     let s = g.S.TokenSink.means.step (g.S.TokenSink.state c.args.sink.now) (characters (chars (string_bytes r.run))) in
     let f = g.S.TokenSink.means.foreign s in
-    let a = subst (λ x. RawAdvances table f r.mode c.in-RawText.kind (chars (string_bytes r.pending.held)) c.args.c x now.place (chars (string_bytes now.held))) c.in-EndTag.is (c.in_ok-take_raw.ensures table f r.mode refl) in
-    raw_end_tag table g.S.TokenSink.means r.mode c.in-RawText.kind c.in-RawText.place r.pending.place now.place (chars (string_bytes r.pending.held)) (chars (string_bytes now.held)) c.args.c rest s final (sym c.place.ensures ∙ c.in-RawText.is) a.1 a.0 l
+    let a = subst
+    (λ x. RawAdvances table f r.mode c.in-RawText.kind
+    (chars (string_bytes r.pending.held)) c.args.c x now.place (chars (string_bytes now.held))) c.in-EndTag.is
+    (c.in_ok-take_raw.ensures table f r.mode refl) in
+    raw_end_tag table g.S.TokenSink.means r.mode c.in-RawText.kind c.in-RawText.place r.pending.place now.place
+    (chars (string_bytes r.pending.held)) (chars (string_bytes now.held)) c.args.c rest s final
+    (sym c.place.ensures ∙ c.in-RawText.is) a.1 a.0 l
 
 pub returns-in-Goes-clause-tells : goal.returns-in-Goes-clause-tells
-returns-in-Goes-clause-tells g c = tells_same g.S.TokenSink.means (g.S.TokenSink.state c.args.sink.now) (g.S.TokenSink.state c.args.sink.now) refl
+returns-in-Goes-clause-tells g c =
+    tells_same g.S.TokenSink.means (g.S.TokenSink.state c.args.sink.now) (g.S.TokenSink.state c.args.sink.now) refl
 
 pub returns-in_ok-push_str-in-Shifts-clause-tells : goal.returns-in_ok-push_str-in-Shifts-clause-tells
-returns-in_ok-push_str-in-Shifts-clause-tells g c = tells_same g.S.TokenSink.means (g.S.TokenSink.state c.args.sink.now) (g.S.TokenSink.state c.args.sink.now) refl
+returns-in_ok-push_str-in-Shifts-clause-tells g c =
+    tells_same g.S.TokenSink.means (g.S.TokenSink.state c.args.sink.now) (g.S.TokenSink.state c.args.sink.now) refl
 
 pub returns-in-EndTag-clause-tells : goal.returns-in-EndTag-clause-tells
-returns-in-EndTag-clause-tells g c = tells_same g.S.TokenSink.means (g.S.TokenSink.state c.args.sink.now) (g.S.TokenSink.state c.args.sink.now) refl
+returns-in-EndTag-clause-tells g c =
+    tells_same g.S.TokenSink.means (g.S.TokenSink.state c.args.sink.now) (g.S.TokenSink.state c.args.sink.now) refl
 
 pub returns-in-Goes-clause-holds : goal.returns-in-Goes-clause-holds
 returns-in-Goes-clause-holds g c = λ table _.
     let r = c.args.self.now in
     let now = c.take_raw.new.self in
-    (subst (λ x. RawAdvances table false r.mode c.in-RawText.kind (chars (string_bytes r.pending.held)) c.args.c x now.place (chars (string_bytes now.held))) c.in-Goes.is (c.in_ok-take_raw.ensures table false r.mode refl)).1.1
+    (subst (λ x. RawAdvances table false r.mode c.in-RawText.kind
+    (chars (string_bytes r.pending.held)) c.args.c x now.place (chars (string_bytes now.held))) c.in-Goes.is
+    (c.in_ok-take_raw.ensures table false r.mode refl)).1.1
 
 pub returns-in_ok-push_str-in-Shifts-clause-holds : goal.returns-in_ok-push_str-in-Shifts-clause-holds
 returns-in_ok-push_str-in-Shifts-clause-holds g c = λ table _.
     let r = c.args.self.now in
     let now = c.take_raw.new.self in
-    (subst (λ x. RawAdvances table false r.mode c.in-RawText.kind (chars (string_bytes r.pending.held)) c.args.c x now.place (chars (string_bytes now.held))) c.in-Shifts.is (c.in_ok-take_raw.ensures table false r.mode refl)).1.1
+    (subst (λ x. RawAdvances table false r.mode c.in-RawText.kind
+    (chars (string_bytes r.pending.held)) c.args.c x now.place (chars (string_bytes now.held))) c.in-Shifts.is
+    (c.in_ok-take_raw.ensures table false r.mode refl)).1.1
 
 pub returns-in_default : goal.returns-in_default
 returns-in_default g c = record {
@@ -87,36 +125,49 @@ returns-in_default g c = record {
   placed = c.requires.placed;
   ready = c.requires.ready;
   holds = λ table e. absurd (let k = e in cc);
-  tells = tells_same g.S.TokenSink.means (g.S.TokenSink.state c.args.sink.now) (g.S.TokenSink.state c.args.sink.now) refl;
-  place = λ _. within_markup c.args.self.now.pending.place c.requires.place (λ kind place e. c.in_default.not-RawText kind place (c.place.ensures ∙ e));
+  tells = tells_same g.S.TokenSink.means (g.S.TokenSink.state c.args.sink.now)
+      (g.S.TokenSink.state c.args.sink.now) refl;
+  place = λ _. within_markup c.args.self.now.pending.place c.requires.place
+      (λ kind place e. c.in_default.not-RawText kind place (c.place.ensures ∙ e));
   reads = λ table rest final l. l;
 }
 
 pub begin-requires-clause-ready : goal.begin-requires-clause-ready
 begin-requires-clause-ready g c =
-    ready_of g.S.TokenSink.ready g.S.TokenSink.welcomes c.args.self.now.mode.text (Raw c.in-Before.behind) (g.S.TokenSink.state c.args.sink.now) (λ h. absurd h) c.requires.ready
+    ready_of g.S.TokenSink.ready g.S.TokenSink.welcomes c.args.self.now.mode.text (Raw c.in-Before.behind)
+    (g.S.TokenSink.state c.args.sink.now) (λ h. absurd h) c.requires.ready
 
 pub returns-in_ok-push_str-in-Shifts-clause-ready : goal.returns-in_ok-push_str-in-Shifts-clause-ready
 returns-in_ok-push_str-in-Shifts-clause-ready g c =
-    ready_of g.S.TokenSink.ready g.S.TokenSink.welcomes c.args.self.now.mode.text (Raw c.in-Shifts.behind) (g.S.TokenSink.state c.args.sink.now) (λ h. absurd h) c.requires.ready
+    ready_of g.S.TokenSink.ready g.S.TokenSink.welcomes c.args.self.now.mode.text (Raw c.in-Shifts.behind)
+    (g.S.TokenSink.state c.args.sink.now) (λ h. absurd h) c.requires.ready
 
 pub returns-in-Goes-clause-placed : goal.returns-in-Goes-clause-placed
 returns-in-Goes-clause-placed g c =
     let r = c.args.self.now in
     let now = c.take_raw.new.self in
-    let a = subst (λ x. RawAdvances some_table false r.mode c.in-RawText.kind (chars (string_bytes r.pending.held)) c.args.c x now.place (chars (string_bytes now.held))) c.in-Goes.is (c.in_ok-take_raw.ensures some_table false r.mode refl) in
+    let a = subst
+    (λ x. RawAdvances some_table false r.mode c.in-RawText.kind
+    (chars (string_bytes r.pending.held)) c.args.c x now.place (chars (string_bytes now.held))) c.in-Goes.is
+    (c.in_ok-take_raw.ensures some_table false r.mode refl) in
     raw_place r.mode.text c.in-RawText.kind now.place a.1.0
 
 pub returns-in_ok-push_str-in-Shifts-clause-placed : goal.returns-in_ok-push_str-in-Shifts-clause-placed
 returns-in_ok-push_str-in-Shifts-clause-placed g c =
     let r = c.args.self.now in
     let now = c.take_raw.new.self in
-    let a = subst (λ x. RawAdvances some_table false r.mode c.in-RawText.kind (chars (string_bytes r.pending.held)) c.args.c x now.place (chars (string_bytes now.held))) c.in-Shifts.is (c.in_ok-take_raw.ensures some_table false r.mode refl) in
+    let a = subst
+    (λ x. RawAdvances some_table false r.mode c.in-RawText.kind
+    (chars (string_bytes r.pending.held)) c.args.c x now.place (chars (string_bytes now.held))) c.in-Shifts.is
+    (c.in_ok-take_raw.ensures some_table false r.mode refl) in
     raw_place (Raw c.in-Shifts.behind) c.in-Shifts.behind now.place a.1.0
 
 pub returns-in-EndTag-clause-placed : goal.returns-in-EndTag-clause-placed
 returns-in-EndTag-clause-placed g c =
     let r = c.args.self.now in
     let now = c.take_raw.new.self in
-    let a = subst (λ x. RawAdvances some_table false r.mode c.in-RawText.kind (chars (string_bytes r.pending.held)) c.args.c x now.place (chars (string_bytes now.held))) c.in-EndTag.is (c.in_ok-take_raw.ensures some_table false r.mode refl) in
+    let a = subst
+    (λ x. RawAdvances some_table false r.mode c.in-RawText.kind
+    (chars (string_bytes r.pending.held)) c.args.c x now.place (chars (string_bytes now.held))) c.in-EndTag.is
+    (c.in_ok-take_raw.ensures some_table false r.mode refl) in
     subst (IsPlaceOf r.mode.text) (sym a.1) tt

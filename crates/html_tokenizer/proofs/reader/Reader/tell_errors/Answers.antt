@@ -12,8 +12,11 @@ errors-preserved g c =
     let before = g.S.TokenSink.state c.errors.sink in
     let after = g.S.TokenSink.state c.process_token.new.self in
     record {
-      ready = ready_behind means g.S.TokenSink.ready g.S.TokenSink.welcomes lawful g.met.S.TokenSink.hearing _ before after error c.errors.invariant.ready tt tt c.in_ok-process_token.ensures.state;
+      ready = ready_behind means g.S.TokenSink.ready g.S.TokenSink.welcomes lawful g.met.S.TokenSink.hearing _ before
+          after error c.errors.invariant.ready tt tt c.in_ok-process_token.ensures.state;
       alike = alike_more means g.S.TokenSink.ready lawful
-          (means.step (g.S.TokenSink.state c.args.sink.now) (characters (chars (string_bytes c.args.self.now.run)))) before after c.errors.invariant.alike c.in_ok-process_token.ensures.state;
-      tells = tells_then means (g.S.TokenSink.state c.args.sink.now) before after c.errors.invariant.tells (tells_item means lawful.answers before after _ (λ h. h) c.in_ok-process_token.ensures.state);
+          (means.step (g.S.TokenSink.state c.args.sink.now) (characters (chars (string_bytes c.args.self.now.run))))
+          before after c.errors.invariant.alike c.in_ok-process_token.ensures.state;
+      tells = tells_then means (g.S.TokenSink.state c.args.sink.now) before after c.errors.invariant.tells
+          (tells_item means lawful.answers before after _ (λ h. h) c.in_ok-process_token.ensures.state);
     }

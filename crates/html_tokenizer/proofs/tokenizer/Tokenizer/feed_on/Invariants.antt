@@ -9,7 +9,8 @@ invariant-feeds g l = record {
   fit : IsFit g.Sink.TokenSink.state g.Sink.TokenSink.ready g.Sink.TokenSink.welcomes l.self;
   table : table_of l.self ≡ table_of l.fn.self;
   takes : TakesSome l.fn.queue l.queue;
-  reads : (rest : _) (final : _) → Completes g.Sink.TokenSink.state g.Sink.TokenSink.means l.self (l.queue.text ++ rest) final →
+  reads : (rest : _) (final : _) →
+      Completes g.Sink.TokenSink.state g.Sink.TokenSink.means l.self (l.queue.text ++ rest) final →
       Completes g.Sink.TokenSink.state g.Sink.TokenSink.means l.fn.self (l.fn.queue.text ++ rest) final;
 }
 

@@ -16,8 +16,10 @@ invariant-characters g l = record {
   tells : TellsOn g.Sink.TokenSink.means (g.Sink.TokenSink.state l.fn.self.sink) (g.Sink.TokenSink.state l.self.sink);
   shorter : length l.queue.text ≤ length l.fn.queue.text;
   takes : TakesSome l.fn.queue l.queue;
-  taken : HasTaken (Completes g.Sink.TokenSink.state g.Sink.TokenSink.means l.fn.self) (Completes g.Sink.TokenSink.state g.Sink.TokenSink.means l.self) l.fn.queue l.queue;
-  reads : (rest : _) (final : _) → Completes g.Sink.TokenSink.state g.Sink.TokenSink.means l.self (l.queue.text ++ rest) final →
+  taken : HasTaken (Completes g.Sink.TokenSink.state g.Sink.TokenSink.means l.fn.self)
+      (Completes g.Sink.TokenSink.state g.Sink.TokenSink.means l.self) l.fn.queue l.queue;
+  reads : (rest : _) (final : _) →
+      Completes g.Sink.TokenSink.state g.Sink.TokenSink.means l.self (l.queue.text ++ rest) final →
       Completes g.Sink.TokenSink.state g.Sink.TokenSink.means l.fn.self (l.fn.queue.text ++ rest) final;
 }
 

@@ -20,7 +20,8 @@ returns-in_err-add_text-clause-narrow g c = λ e further.
     (chars c.split_before.result.1.now) (g.T.EqualCopy.seen c.args.tag.now) further
     c.split_before.ensures.parts
     (λ width overflow read has. subst (λ tag. HasWider width overflow (lettered (chars c.split_before.result.0.now)
-    (plain tag))) c.in_ok-copy.ensures (c.add_text.ensures.narrow (c.in_err-add_text.was ∙ ap Err (sym p.2) ∙ sym p.1 ∙ e)
+    (plain tag))) c.in_ok-copy.ensures
+    (c.add_text.ensures.narrow (c.in_err-add_text.was ∙ ap Err (sym p.2) ∙ sym p.1 ∙ e)
     width overflow read has))
 
 pub returns-in_err-add_words-clause-narrow : goal.returns-in_err-add_words-clause-narrow
@@ -35,7 +36,8 @@ returns-in_err-add_words-clause-narrow g c = λ e further.
     (read ++ lettered (chars c.split_before.result.0.now) (plain tag)) c.add_text.new.self) c.in_ok-copy.ensures
     (c.in_ok-add_text.ensures.read width overflow read has))
     (subst (λ tag. MeetsWideWord g.T.EqualCopy.seen
-    (record c.args.self.now { text = c.add_text.new.self }) (chars c.split_before.result.1.now) (plain tag)) c.in_ok-copy.ensures
+    (record c.args.self.now { text = c.add_text.new.self }) (chars c.split_before.result.1.now) (plain tag))
+    c.in_ok-copy.ensures
     (c.add_words.ensures.narrow (c.in_err-add_words.was ∙ ap Err (sym p.2) ∙ sym p.1 ∙ e)))
 
 pub returns-clause-carries : goal.returns-clause-carries
@@ -53,6 +55,7 @@ returns-clause-carries g c = λ further.
     (read ++ lettered (chars c.split_before.result.0.now) (plain tag)) c.add_text.new.self) c.in_ok-copy.ensures
     (c.in_ok-add_text.ensures.read width overflow read has))
     (subst (λ tag. AddsWords g.T.EqualCopy.seen
-    (record c.args.self.now { text = c.add_text.new.self }) c.add_words.new.self (chars c.split_before.result.1.now) (plain tag))
+    (record c.args.self.now { text = c.add_text.new.self }) c.add_words.new.self (chars c.split_before.result.1.now)
+    (plain tag))
     c.in_ok-copy.ensures c.in_ok-add_words.ensures.words)
     refl refl refl c.ends_in_word-self.ensures

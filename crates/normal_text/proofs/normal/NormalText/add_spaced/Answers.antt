@@ -42,7 +42,8 @@ returns-clause-read g c =
     c.as_str.utf8 c.in-Some.ensures.first c.in_ok-add_char.ensures.read) c.in_ok-rest.ensures.read in
     on_ok_weaker c.add_normal.result (λ reads.
     subst (λ bs. Reads seen c.args.self.now c.add_normal.new.self (lettered (chars bs) tag)) c.as_str.ensures.value
-    (front_then seen c.args.self.now c.add_words.new.self c.add_normal.new.self c.as_str.result.now c.in_ok-rest.rest.now
+    (front_then seen c.args.self.now c.add_words.new.self c.add_normal.new.self c.as_str.result.now
+    c.in_ok-rest.rest.now
     tag front reads)) c.add_normal.ensures.read
 
 pub returns-clause-narrow : goal.returns-clause-narrow

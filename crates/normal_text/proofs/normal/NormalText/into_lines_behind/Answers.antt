@@ -11,7 +11,8 @@ returns-in_err-add_string-clause-narrow g c = λ e width overflow read h.
     ended_wider width overflow (chars (string_bytes c.args.text)) (chars (string_bytes c.in_ok-text.text))
     (g.T.EqualCopy.seen c.args.tag) c.in_ok-text.ensures
     (c.add_string.ensures.narrow
-    (c.in_err-add_string.was ∙ ap Err (sym p.2 ∙ err_same _ _ c.from_residual-in_err-add_string.result p.1 e)) width overflow
+    (c.in_err-add_string.was ∙ ap Err (sym p.2 ∙ err_same _ _ c.from_residual-in_err-add_string.result p.1 e)) width
+    overflow
     read h)
 
 pub returns-clause-ends : goal.returns-clause-ends

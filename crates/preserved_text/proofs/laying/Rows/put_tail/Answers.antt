@@ -13,8 +13,10 @@ loop-element-preserved g c =
     let t = YieldsList-turn (YieldsList-from_slice es cc) c.loop-element.yielded _ c.loop-element.yielded_by _ _
     c.in-Some.element c.in-Some.is c.next.ensures.steps in
     record {
-      laid = next_element seen (put_space c.args.width) es c.loop-element.yielded c.in-Some.element c.in-Some.element.now t
-          (laying_of seen c.args.self.now) (laying_of seen c.loop-element.self) (laying_of seen c.put_tail_element.new.self)
+      laid = next_element seen (put_space c.args.width) es c.loop-element.yielded c.in-Some.element
+          c.in-Some.element.now t
+          (laying_of seen c.args.self.now) (laying_of seen c.loop-element.self)
+          (laying_of seen c.put_tail_element.new.self)
           c.loop-element.invariant.laid c.in_ok-put_tail_element.ensures.laid;
       joined = λ h. c.put_tail_element.ensures.joined (c.loop-element.invariant.joined h);
     }

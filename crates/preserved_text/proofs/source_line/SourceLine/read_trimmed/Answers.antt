@@ -23,7 +23,8 @@ loop-first-preserved g c =
     record {
       framed = framed_more (pass_of seen c.args.self.now) (pass_of seen c.loop-first.self) _
           (trimmed width wraps (piece_sources seen c.in-Some.first.now)) framed read;
-      pass = more_read (pass_of seen c.loop-first.self) _ _ (trimmed width wraps (piece_sources seen c.in-Some.first.now))
+      pass = more_read (pass_of seen c.loop-first.self) _ _
+          (trimmed width wraps (piece_sources seen c.in-Some.first.now))
           (trimmed_each seen width wraps c.in-Some.others.now) (trimmed_each seen width wraps c.loop-first.rest.now)
           (ap (trimmed_each seen width wraps) c.in-Some.ensures.cases.0) c.loop-first.invariant.pass read;
       joined = λ h. c.read_trimmed_piece.ensures.joined (c.loop-first.invariant.joined h);

@@ -4,7 +4,8 @@ use Rattle.std.specs.FinMap as finite
 use Rattle.reference_tables.specs.References.{References}
 use Rattle.reference_tables.proofs.table.ReferenceTable.basic.Goals as goal
 
-then_inserted : (old new new' : References) (name value : List ℕ) → new ≡ new' → old ≡ finite.insert new name value → old ≡ finite.insert new' name value
+then_inserted : (old new new' : References) (name value : List ℕ) → new ≡ new' → old ≡ finite.insert new name value →
+    old ≡ finite.insert new' name value
 then_inserted old new new' name value e is = is ∙ ap (λ t. finite.insert t name value) e
 
 pub returns : goal.returns

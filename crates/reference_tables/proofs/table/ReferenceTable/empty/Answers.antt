@@ -6,4 +6,6 @@ use Rattle.reference_tables.specs.Table.{table_of}
 use Rattle.reference_tables.proofs.table.ReferenceTable.empty.Goals as goal
 
 pub returns : goal.returns
-returns c = ap table_of c.new.ensures.items ∙ finite.empty_of_len _ (finite.len-entries _ ∙ ap length (finite.entries-from_sorted (slice_cmp nat_cmp) [] tt))
+returns c =
+    ap table_of c.new.ensures.items ∙ finite.empty_of_len _
+    (finite.len-entries _ ∙ ap length (finite.entries-from_sorted (slice_cmp nat_cmp) [] tt))

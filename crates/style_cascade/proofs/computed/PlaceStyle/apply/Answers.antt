@@ -6,7 +6,8 @@ use Rattle.style_cascade.proofs.computed.PlaceStyle.apply.Goals as goal
 pub loop-declaration-preserved : goal.loop-declaration-preserved
 loop-declaration-preserved c = λ ds h.
     declarations_more ds c.args.rule.now.origin c.deref-declaration-items.result.now
-    c.loop-declaration.declaration-index c.declaration-item.result c.declare.new.self c.loop-declaration-test.true c.declaration-item.is
+    c.loop-declaration.declaration-index c.declaration-item.result c.declare.new.self c.loop-declaration-test.true
+    c.declaration-item.is
     (c.declare.ensures
     (ds ++ map (declared_by c.args.rule.now.origin)
     (take c.loop-declaration.declaration-index c.deref-declaration-items.result.now))

@@ -13,6 +13,7 @@ pub invariant_of-self-2 : goal.invariant_of-self-2
 invariant_of-self-2 g c =
     let sum : c.in_ok-total.total ≡ c.args.self.now.columns + c.args.columns = grind arith in
     record {
-      counted = text_added g.T.EqualCopy.seen c.args.self.now.elements.items _ (chars (string_bytes c.args.text)) _ _ _ _
+      counted =
+          text_added g.T.EqualCopy.seen c.args.self.now.elements.items _ (chars (string_bytes c.args.text)) _ _ _ _
           c.in_ok-push_string.ensures.ok c.args.self.now.counted c.requires sum;
     }

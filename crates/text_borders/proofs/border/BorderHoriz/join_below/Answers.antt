@@ -10,4 +10,5 @@ returns g c =
     let seen = g.T.EqualCopy.seen in
     joined_to (option_map with_down) (border_of seen c.args.self.now) (border_of seen c.stretch_to.new.self)
     c.stretch_to.new.self.segments.items c.args.column c.in_ok-behind.field-0 c.index_mut.result.now
-    c.join_below.new.self c.in_ok-behind.ensures c.in_ok-stretch_to.ensures refl c.index_mut.ensures.value c.join_below.ensures
+    c.join_below.new.self c.in_ok-behind.ensures c.in_ok-stretch_to.ensures refl c.index_mut.ensures.value
+    c.join_below.ensures

@@ -20,8 +20,10 @@ loop-name-preserved g c =
     record {
       waits = wait_more seen (text_of seen c.loop-name.self) _ _ c.loop-name.self.pieces.items c.in-Some.name
           (names (into_iter_items c.next.new.self)) refl
-          (ap (λ pieces. record (text_of seen c.loop-name.self) { source = sources_of seen pieces }) c.in_ok-push.ensures.items)
-          (ap (λ left. behind_sources (fragments (names left)) (text_of seen c.loop-name.self)) (sym c.in-Some.ensures.steps.0)
+          (ap (λ pieces. record (text_of seen c.loop-name.self) { source = sources_of seen pieces })
+          c.in_ok-push.ensures.items)
+          (ap (λ left. behind_sources (fragments (names left)) (text_of seen c.loop-name.self))
+          (sym c.in-Some.ensures.steps.0)
           ∙ c.loop-name.invariant.waits);
       joined = λ h. c.loop-name.invariant.joined h;
     }

@@ -9,6 +9,7 @@ unfolding chars
 returns c =
     page_same
     (ap reverse (c.in_ok-push.ensures.items
-    ∙ (ap (λ (l : List (List ℕ)). l ++ c.in_ok-from_str.field-0 ∷ []) c.new-elements.ensures.items ∙ ap (λ (l : List ℕ). l ∷ []) c.in_ok-from_str.ensures)))
+    ∙ (ap (λ (l : List (List ℕ)). l ++ c.in_ok-from_str.field-0 ∷ []) c.new-elements.ensures.items ∙
+    ap (λ (l : List ℕ). l ∷ []) c.in_ok-from_str.ensures)))
     refl
     (ap chars c.new.ensures.bytes ∙ chars-nil)

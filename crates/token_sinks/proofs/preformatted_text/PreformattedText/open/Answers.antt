@@ -9,6 +9,7 @@ pub returns : goal.returns
 unfolding chars
 returns c =
     page_same
-    (ap reverse c.in_ok-push.ensures.items ∙ (reverse-append c.self.inside.elements.items (c.args.name ∷ []) ∙ ap (λ (p : Page). c.args.name ∷ p.elements) c.self.view_is))
+    (ap reverse c.in_ok-push.ensures.items ∙ (reverse-append c.self.inside.elements.items (c.args.name ∷ []) ∙
+    ap (λ (p : Page). c.args.name ∷ p.elements) c.self.view_is))
     c.is_named-self-inside.ensures
     (ap (λ (p : Page). p.text) c.self.view_is)

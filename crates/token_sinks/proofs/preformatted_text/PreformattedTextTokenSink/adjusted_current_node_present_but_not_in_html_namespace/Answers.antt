@@ -8,5 +8,7 @@ pub returns : goal.returns
 unfolding chars
 returns c =
     let innermost = c.innermost.result.now in
-    let is : reverse c.as_slice.result.now ≡ c.args.self.now.elements = ap reverse c.as_slice.ensures.value ∙ ap (λ (p : Page). p.elements) c.self.view_is in
-    innermost_named c.args.self.now.elements innermost (codes "svg") c.is_named.result c.is_named.ensures (subst (λ (names : List (List ℕ)). names ≡ innermost ∷ drop 1 names) is c.innermost.ensures)
+    let is : reverse c.as_slice.result.now ≡ c.args.self.now.elements =
+    ap reverse c.as_slice.ensures.value ∙ ap (λ (p : Page). p.elements) c.self.view_is in
+    innermost_named c.args.self.now.elements innermost (codes "svg") c.is_named.result c.is_named.ensures
+    (subst (λ (names : List (List ℕ)). names ≡ innermost ∷ drop 1 names) is c.innermost.ensures)

@@ -3,7 +3,8 @@ use Rattle.html_grammar.specs.Items.{item_of}
 use Rattle.tree_actions.specs.Parsed.{parsed}
 use Rattle.tree_builder.proofs.FitLemmas.{still_ready}
 use Rattle.tree_builder.proofs.sink.TreeBuilderTokenSink.process_token.Goals as goal
-use Rattle.tree_builder.proofs.sink.TreeBuilderTokenSink.process_token.Goals.{then-self-via-then-self, then-self-via-else-self+then-self-2}
+use Rattle.tree_builder.proofs.sink.TreeBuilderTokenSink.process_token.Goals.{then-self-via-then-self}
+use Rattle.tree_builder.proofs.sink.TreeBuilderTokenSink.process_token.Goals.{then-self-via-else-self+then-self-2}
 use Rattle.tree_rules.specs.State.{State}
 
 pub returns-then-self-clause-refused : goal.returns-then-self-clause-refused

@@ -11,6 +11,7 @@ returns-clause-text c =
     let size : length held ≡ inside.held_len = length-take-le _ _ (omega (arith, c.self.invariant.0)) in
     rw (← c.self.view_is)
     (elim c.if-self-gt0.branch [
-      | then-self-gt0+in_ok-push w ↦ chars-held held _ _ c.new-text.ensures.bytes (ap string_bytes w.text-is ∙ w.in_ok-push.ensures.bytes) c.self.invariant.1 (omega arith)
+      | then-self-gt0+in_ok-push w ↦ chars-held held _ _ c.new-text.ensures.bytes
+          (ap string_bytes w.text-is ∙ w.in_ok-push.ensures.bytes) c.self.invariant.1 (omega arith)
       | else-self-gt0 w ↦ chars-nothing held _ (ap string_bytes w.text-is ∙ c.new-text.ensures.bytes) (omega arith)
     ])

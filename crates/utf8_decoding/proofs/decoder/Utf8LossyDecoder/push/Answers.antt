@@ -8,4 +8,5 @@ pub returns-in-Ok-clause-text : goal.returns-in-Ok-clause-text
 returns-in-Ok-clause-text c =
     rw (← c.self.view_is) (λ rest.
     let piece = c.args.piece.now in
-    sym (ap (λ t. t ++ replaced_text (take c.self.inside.held_len c.self.inside.held ++ piece ++ rest)) (ap chars c.new-text.ensures.bytes ∙ chars-nil)) ∙ c.in-Ok.ensures.text rest)
+    sym (ap (λ t. t ++ replaced_text (take c.self.inside.held_len c.self.inside.held ++ piece ++ rest))
+    (ap chars c.new-text.ensures.bytes ∙ chars-nil)) ∙ c.in-Ok.ensures.text rest)
