@@ -11,6 +11,7 @@ mod pieces;
 mod reader;
 mod results;
 mod runs;
+mod telling;
 mod tokenizer;
 
 pub use html_grammar::{TokenSink, TokenizerOpts, read_plainly};
