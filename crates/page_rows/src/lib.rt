@@ -9,8 +9,6 @@ pub use decoded::decoded_text;
 #[cfg(test)]
 mod checks;
 #[cfg(test)]
-mod config_rows;
-#[cfg(test)]
 mod decoder_rows;
 #[cfg(test)]
 mod devices;

@@ -6,7 +6,7 @@ use std::alloc::Global;
 use std::io;
 use std::test::Fail;
 
-pub(crate) fn plain(alloc: Global) -> Result<Config<PlainDecorator>, Error> {
+fn plain(alloc: Global) -> Result<Config<PlainDecorator>, Error> {
     Config::plain(alloc, ReferenceTable::basic(alloc)?)
 }
 

@@ -1,16 +1,33 @@
 //! Configurations, and pages piece by piece, through the public calls.
 use crate::checks::{holds, is_answer};
-use crate::devices::Pieces;
-use crate::page_rows::plain;
 use html_lexemes::LocalName;
 use html2text::{
-    Config, Device, Display, Error, ImageRenderMode, Importance, Page, ParseOpts, ReferenceTable,
-    RichAnnotation, RichDecorator, Style, StyleDecl, StyleOrigin, StylePlace, StyleRule,
-    TextDecorator, TrivialDecorator, a_page_has_one_answer, a_page_has_one_text, from_read_rich,
-    from_read_with_decorator, parse,
+    Config, Device, Display, Error, ImageRenderMode, Importance, Page, ParseOpts, PlainDecorator,
+    ReferenceTable, RichAnnotation, RichDecorator, Style, StyleDecl, StyleOrigin, StylePlace,
+    StyleRule, TextDecorator, TrivialDecorator, a_page_has_one_answer, a_page_has_one_text,
+    from_read_rich, from_read_with_decorator, parse,
 };
 use std::alloc::{AllocError, Global};
+use std::io;
+use std::io::Read;
 use std::test::Fail;
+
+/// Gives its bytes one at a time.
+#[derive(Drop)]
+struct SingleBytes<'a> {
+    bytes: &'a [u8],
+}
+
+impl Read for SingleBytes<'_> {
+    fn read(&mut self, buf: &mut [u8]) -> io::Result<usize> {
+        let most = buf.len().min(1);
+        (&mut self.bytes).read(&mut buf[..most])
+    }
+}
+
+fn plain(alloc: Global) -> Result<Config<PlainDecorator>, Error> {
+    Config::plain(alloc, ReferenceTable::basic(alloc)?)
+}
 
 const MARKED: &[u8] = b"<p>a <em>b</em> <a href=x>c</a></p>";
 
@@ -25,11 +42,7 @@ fn text_by<D: TextDecorator + Drop>(
     let dom = config.parse_html(alloc, &mut input)?;
     let tree = config.dom_to_render_tree(alloc, &dom)?;
     let text = config.render_to_string(alloc, tree, width)?;
-    let mut again = Device::new(Pieces {
-        bytes: page,
-        most: 1,
-        reads: usize::MAX,
-    });
+    let mut again = Device::new(SingleBytes { bytes: page });
     if config.string_from_read(alloc, &mut again, width)? != text {
         return Err(Error::Fail);
     }
