@@ -31,7 +31,6 @@ try_program() {
   echo "$1: $whole wrote the page, $memory said that memory ran out and wrote nothing, $other did anything else"
 }
 try_program html2text_program
-try_program wrapped_page
 # the tests of a crate that hold either way
 try_tests() {
   (cd "$here/../crates/$1" && rt test >/dev/null 2>&1)
