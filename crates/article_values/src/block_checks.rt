@@ -1,8 +1,8 @@
 //! The first fault of blocks, found as that of inlines is.
 ghost use Rattle.std.specs.Prelude.{◌≡◌, ◌≤◌, ◌+◌, not, suc, None};
 ghost use Rattle.std.specs.Option.{option_or};
-ghost use Rattle.article_values.specs.Articles.{Blocks, Items, bullets, division, heading, numbers, paragraph, quote};
-ghost use Rattle.article_values.specs.Faults.{fault_of_inlines, fault_of_blocks, fault_of_items, has_item, fault_where};
+ghost use Rattle.article_values.specs.Articles.{Blocks, paragraph};
+ghost use Rattle.article_values.specs.Faults.{fault_of_blocks, fault_of_items, has_item, fault_where};
 ghost use Rattle.article_values.specs.Faults.{is_level, is_too_deep};
 ghost use Rattle.article_values.specs.Outcomes.{fault_met};
 ghost use Rattle.article_values.specs.Views.{block_view, blocks_view, inlines_view, items_view};
@@ -10,7 +10,6 @@ ghost use Rattle.article_values.specs.Views.{block_view, blocks_view, inlines_vi
 use crate::error::ArticleError;
 use crate::inline_checks::{check_depth, check_inlines};
 use crate::values::{Block, Inline};
-use std::alloc::Global;
 
 // a paragraph, or what is left to check of a heading
 fn check_text_block(contents: &[Inline], depth: usize) -> Result<(), ArticleError>

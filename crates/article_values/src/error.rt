@@ -1,5 +1,4 @@
 //! Why a value is no article.
-ghost use Rattle.std.specs.Prelude.{◌≡◌};
 
 /// The first fault of a value, in the order in which it is written: the title first, and each value before what it
 /// holds. Of the faults at one value, the one that stands first below.

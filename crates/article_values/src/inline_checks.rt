@@ -1,17 +1,16 @@
 //! The first fault of inlines.
 //!
 //! The depth is asked before the check goes down, so it goes at most 257 deep into any value. It takes no memory.
-ghost use Rattle.std.specs.Prelude.{◌≡◌, ◌≤◌, ◌<◌, ◌+◌, ℕ, suc, Bool, false, true, chars, List, Option, None, Some};
-ghost use Rattle.std.specs.List.{list_any};
+ghost use Rattle.std.specs.Prelude.{◌≡◌, ◌≤◌, ◌<◌, ◌+◌, Bool, false, true, chars, None};
 ghost use Rattle.std.specs.Option.{option_or};
-ghost use Rattle.article_values.specs.Articles.{Blocks, Inlines, Items, Style, link, no_inlines, span, words};
-ghost use Rattle.article_values.specs.Faults.{fault_of_inlines, fault_of_blocks, fault_of_items, has_forbidden};
-ghost use Rattle.article_values.specs.Faults.{fault_where, is_forbidden, is_level, is_too_deep};
+ghost use Rattle.article_values.specs.Articles.{Inlines, Style, link, no_inlines, span, words};
+ghost use Rattle.article_values.specs.Faults.{fault_of_inlines, has_forbidden};
+ghost use Rattle.article_values.specs.Faults.{fault_where, is_forbidden, is_too_deep};
 ghost use Rattle.article_values.specs.Outcomes.{fault_met, begins_with_text};
-ghost use Rattle.article_values.specs.Views.{block_view, blocks_view, inline_view, inlines_view, items_view};
+ghost use Rattle.article_values.specs.Views.{inline_view, inlines_view};
 
 use crate::error::ArticleError;
-use crate::values::{Block, Inline};
+use crate::values::Inline;
 
 // a value may be this deep: so many in one another, itself among them
 const DEEPEST: usize = 256;

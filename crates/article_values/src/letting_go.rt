@@ -2,7 +2,7 @@
 //!
 //! One value is in hand and others wait. Where a value in hand holds values, these wait from then on, and what waited
 //! before waits in the place of their first, which is the next in hand.
-ghost use Rattle.std.specs.Prelude.{◌≡◌, ◌<◌, ◌+◌, map, suc, MatchOption, Some, vec_len, length};
+ghost use Rattle.std.specs.Prelude.{◌≡◌, ◌<◌, map, suc, MatchOption, Some, vec_len};
 ghost use Rattle.article_values.specs.Sizes.{block_size, blocks_size, first_of, inline_size, inlines_size, items_size};
 ghost use Rattle.article_values.specs.Sizes.{with_first, work};
 

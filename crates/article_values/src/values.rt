@@ -1,9 +1,8 @@
 //! Articles: blocks and inline contents, as they are built.
 ghost use Rattle.std.specs.Prelude.{◌≡◌, ◌<◌, map, suc, MatchOption, None, Some, vec_len};
-ghost use Rattle.article_values.specs.Sizes.{block_size, blocks_size, inline_size, inlines_size, items_size, work};
+ghost use Rattle.article_values.specs.Sizes.{block_size, inline_size, inlines_size, work};
 
 use crate::letting_go::{next_of_blocks, next_of_inlines, next_of_items};
-use std::alloc::Global;
 
 /// What stands in a paragraph or a heading, or in another inline.
 pub enum Inline {

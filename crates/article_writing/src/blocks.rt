@@ -1,5 +1,5 @@
 //! Blocks and items, told to a serializer.
-ghost use Rattle.std.specs.Prelude.{◌≡◌, List, chars};
+ghost use Rattle.std.specs.Prelude.{List};
 ghost use Rattle.html_serializer.specs.Calls.{Call};
 ghost use Rattle.article_values.specs.Articles.{Blocks as SeenBlocks, numbers, heading, no_blocks};
 ghost use Rattle.article_values.specs.Views.{block_view, blocks_view, inlines_view, items_view};

@@ -1,7 +1,7 @@
 //! Elements, told to a serializer with what stands in them.
 //!
 //! The calls go as deep as an article is nested, which is 256 at most.
-ghost use Rattle.std.specs.Prelude.{◌≡◌, ◌∷◌, [], List, chars};
+ghost use Rattle.std.specs.Prelude.{◌∷◌, [], List, chars};
 ghost use Rattle.html_serializer.specs.Calls.{Call, finish, start};
 ghost use Rattle.rebuilt_documents.specs.Planted.{of_html};
 ghost use Rattle.written_trees.specs.Tellings.{calls_and, text_content};

@@ -1,5 +1,5 @@
 //! Inlines, told to a serializer.
-ghost use Rattle.std.specs.Prelude.{◌≡◌, List, chars};
+ghost use Rattle.std.specs.Prelude.{List, chars};
 ghost use Rattle.html_serializer.specs.Calls.{Call};
 ghost use Rattle.article_values.specs.Articles.{Inlines as SeenInlines, link, no_inlines};
 ghost use Rattle.article_values.specs.Views.{inline_view, inlines_view};

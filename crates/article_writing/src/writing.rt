@@ -1,7 +1,6 @@
 //! The written form of an article.
-ghost use Rattle.std.specs.Prelude.{◌≡◌, ◌≢◌, ℕ, List, Option, None, true, Err, OnErr, OnOk};
+ghost use Rattle.std.specs.Prelude.{◌≡◌, ◌≢◌, ℕ, List, Option, true, Err, OnErr, OnOk};
 ghost use Rattle.html_serializer.specs.Writing.{Grows, GrowsPart};
-ghost use Rattle.html_serializer.specs.declared.options.TraversalScope.TheVariants.{ChildrenOnly};
 ghost use Rattle.article_values.specs.Articles.{Blocks as SeenBlocks};
 ghost use Rattle.written_articles.specs.Contents.{article_text};
 

@@ -1,5 +1,5 @@
 //! Blocks of lines.
-ghost use Rattle.std.specs.Prelude.{◌≡◌, ◌⊎◌, Bool, [], None, Some, map, All, IfOk, IfErr, OnOk};
+ghost use Rattle.std.specs.Prelude.{◌≡◌, ◌⊎◌, None, Some, map, All, IfOk, IfErr, OnOk};
 ghost use Rattle.tagged_lines.specs.Tagged.{line_items, IsJoined};
 ghost use Rattle.text_pieces.specs.declared.fault.BlockError.TheVariants as errors;
 

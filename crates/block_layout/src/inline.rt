@@ -4,7 +4,6 @@ ghost use Rattle.text_pieces.specs.declared.white_space.WhiteSpace.{WhiteSpace a
 ghost use Rattle.block_layout.specs.declared.measure.Measure.{Measure as SeenMeasure};
 ghost use Rattle.std.specs.List.{list_all};
 ghost use Rattle.std.specs.Char.{is_whitespace};
-ghost use Rattle.text_pieces.specs.Sources.{is_filled};
 ghost use Rattle.text_pieces.specs.Modes.{is_preserved};
 ghost use Rattle.text_pieces.specs.declared.fault.BlockError.TheVariants as errors;
 

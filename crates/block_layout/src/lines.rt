@@ -2,7 +2,6 @@
 
 use std::alloc::{AllocError, Global};
 use tagged_lines::EqualCopy;
-use text_borders::{BorderHoriz, RenderLine};
 use text_cells::LaidLine;
 
 /// Lines, with the number of those that have content, so that no line is looked at again.

@@ -1,7 +1,6 @@
 //! Lines of other blocks.
 ghost use Rattle.std.specs.Prelude.{◌≡◌, ◌⊎◌, ◌++◌, ◌||◌, None, Some, chars, map, IfErr, OnOk, IfOk};
 ghost use Rattle.tagged_lines.specs.Tagged.{line_items, tagged, IsJoined};
-ghost use Rattle.text_borders.specs.Across.{as_text};
 ghost use Rattle.text_borders.specs.Lines.{render_line_of};
 ghost use Rattle.text_cells.specs.Cells.{laid_line_of};
 ghost use Rattle.text_pieces.specs.Sources.{is_filled};

@@ -1,14 +1,13 @@
 //! Text of a renderer.
-ghost use Rattle.std.specs.Prelude.{◌≡◌, ◌⊎◌, ◌++◌, ◌∷◌, false, [], None, Some, map, chars, string_bytes};
-ghost use Rattle.std.specs.Prelude.{if◌then◌else◌, nat_lt, Err, IsTrue, IfOk, IfErr, OnOk};
-ghost use Rattle.text_marks.specs.Marks.{preformat_first, preformat_further};
+ghost use Rattle.std.specs.Prelude.{◌≡◌, ◌⊎◌, ◌++◌, ◌∷◌, false, [], map, chars};
+ghost use Rattle.std.specs.Prelude.{Err, IsTrue, IfOk, IfErr, OnOk};
 ghost use Rattle.text_pieces.specs.declared.fault.BlockError.TheVariants as errors;
 ghost use Rattle.block_layout.specs.Laid.{add_text};
 ghost use Rattle.renderer_calls.specs.Renderers.{struck};
 
 use crate::sub_renderer::SubRenderer;
 use renderer_calls::struck;
-use std::alloc::{AllocError, Global};
+use std::alloc::AllocError;
 use tagged_lines::EqualCopy;
 use text_marks::TextDecorator;
 use text_pieces::BlockError;

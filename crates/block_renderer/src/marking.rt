@@ -1,15 +1,14 @@
 //! Marked text of a renderer.
-ghost use Rattle.std.specs.Prelude.{◌≡◌, ◌⊎◌, ◌++◌, ◌∷◌, [], None, Some, map, chars, string_bytes, Err, IfOk, IfErr};
+ghost use Rattle.std.specs.Prelude.{◌≡◌, ◌⊎◌, None, Some, chars, Err, IfErr};
 ghost use Rattle.std.specs.Prelude.{OnOk};
 ghost use Rattle.text_marks.specs.Marks.{link_start, link_end, emphasis_start, emphasis_end, strong_start, strong_end};
-ghost use Rattle.text_marks.specs.Marks.{strikeout_start, strikeout_end, code_start, code_end, superscript_start};
+ghost use Rattle.text_marks.specs.Marks.{code_start, code_end, superscript_start};
 ghost use Rattle.text_marks.specs.Marks.{superscript_end, colour_start, background_start};
 ghost use Rattle.std.specs.Option.{option_map};
 ghost use Rattle.text_pieces.specs.declared.fault.BlockError.TheVariants as errors;
 
 use crate::sub_renderer::SubRenderer;
 use renderer_calls::{drop_last, shown_title};
-use std::alloc::AllocError;
 use text_marks::{Colour, TextDecorator};
 use text_pieces::BlockError;
 

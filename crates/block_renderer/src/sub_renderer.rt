@@ -1,5 +1,5 @@
 //! Renderers over a decorator.
-ghost use Rattle.std.specs.Prelude.{◌≡◌, ◌⊎◌, [], false, true, None, Some, map, chars, string_bytes, is_err, Ok, Err};
+ghost use Rattle.std.specs.Prelude.{◌≡◌, ◌⊎◌, [], false, true, None, Some, map, chars, is_err, Ok, Err};
 ghost use Rattle.std.specs.Prelude.{IfOk, IfErr, OnOk};
 ghost use Rattle.text_pieces.specs.declared.fault.BlockError.TheVariants as errors;
 

@@ -2,7 +2,7 @@
 ghost use Rattle.std.specs.Prelude.{◌≡◌, ◌++◌, IfErr, OnOk};
 ghost use Rattle.dom_serializer.specs.Steps.{IsStep};
 ghost use Rattle.dom_serializer.specs.Turns.{AreReady, IsReady, calls_of_turn, pending};
-ghost use Rattle.html_forest.specs.Forest.{IsElement, attributes_of, kind_at, name_of};
+ghost use Rattle.html_forest.specs.Forest.{IsElement, attributes_of, name_of};
 ghost use Rattle.html_forest.specs.Orders.{IsForest};
 ghost use Rattle.html_render_dom.specs.Numbers.{number_of};
 ghost use Rattle.html_serializer.specs.Calls.{refused, reply_of};

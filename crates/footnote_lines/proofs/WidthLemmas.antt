@@ -8,7 +8,7 @@ use Rattle.tagged_lines.specs.Columns.{columns_of, width_of, columns_of-at_most_
 use Rattle.tagged_lines.specs.Tagged.{Item, character, marker, line_columns}
 use Rattle.text_pieces.specs.Items.{has_text}
 use Rattle.text_pieces.proofs.ItemColumns.{line_columns-append, line_columns-cons, no_columns}
-use Rattle.footnote_lines.specs.Footnotes.{Cut, nothing_cut, placed, all_lines, noted, footnote_lines}
+use Rattle.footnote_lines.specs.Footnotes.{Cut, nothing_cut, placed, noted, footnote_lines}
 
 two_at_most : (o : Option ℕ) → IfSome o (λ n. n ≤ 2) → unwrap_or o 0 ≤ 2
 two_at_most None h = omega arith

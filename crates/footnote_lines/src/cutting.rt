@@ -1,5 +1,5 @@
 //! Lines that are cut.
-ghost use Rattle.std.specs.Prelude.{◌≡◌, ◌+◌, nat_le, ◌∷◌, ◌++◌, fold, map, chars, All, OnOk, IfOk};
+ghost use Rattle.std.specs.Prelude.{◌≡◌, ◌+◌, nat_le, fold, map, chars, All, OnOk, IfOk};
 ghost use Rattle.tagged_lines.specs.Tagged.{line_items, character, marker, tagged, IsJoined};
 ghost use Rattle.footnote_lines.specs.Footnotes.{nothing_cut, all_lines};
 ghost use Rattle.footnote_lines.specs.Cuts.{spaced, has_room};

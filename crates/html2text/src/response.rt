@@ -1,7 +1,7 @@
 //! What the program answers to a command line: which text goes where, and its exit status.
 
 ghost use Rattle.std.specs.Prelude.{◌≡◌, ℕ, ◌⊎◌, ◌||◌, List, Option, true};
-ghost use Rattle.std.specs.Prelude.{false, Err, IfErr, IfOk, IsOk, OnErr, OnOk, map, option_map, string_bytes, Some};
+ghost use Rattle.std.specs.Prelude.{false, Err, IfErr, IfOk, IsOk, OnErr, OnOk, map, string_bytes, Some};
 ghost use Rattle.std.specs.Io.KnownBytes.{Appends};
 ghost use Rattle.command_words.specs.CommandWords.{words_behind_name};
 ghost use Rattle.command_words.specs.FaultTexts.{fault_text};

@@ -1,9 +1,9 @@
 //! A page as a request asks for it.
 
-ghost use Rattle.std.specs.Prelude.{◌≡◌, true, false, not, ◌&&◌};
+ghost use Rattle.std.specs.Prelude.{◌≡◌, true, false};
 ghost use Rattle.command_words.specs.Requests.{asked_of};
 ghost use Rattle.html2text.specs.Endings.{EndsBy};
-ghost use Rattle.html2text.specs.Written.{HasAskedText, IsOtherPage, IsTooNarrowPage, is_decorated, most_bytes};
+ghost use Rattle.html2text.specs.Written.{HasAskedText, IsOtherPage, IsTooNarrowPage, most_bytes};
 ghost use Rattle.page_config.specs.PageAnswers.{Answers, IsTold, fail, too_narrow};
 ghost use Rattle.page_config.specs.Settings.{max_bytes_of, page_setting};
 

@@ -1,5 +1,5 @@
 //! What the changes of a forest mean, as laws.
-ghost use Rattle.std.specs.Prelude.{◌≡◌, ℕ, Bool, List, [], ◌∷◌, ◌++◌, None, Some};
+ghost use Rattle.std.specs.Prelude.{◌≡◌, ℕ, List, [], ◌∷◌, ◌++◌, Some};
 ghost use Rattle.html_lexemes.specs.declared.names.Attribute.{Attribute as SeenAttribute};
 ghost use Rattle.html_forest.specs.Alike.{AreAlike};
 ghost use Rattle.html_forest.specs.Changes.{detached, made, reparented, with_attributes, with_missing};

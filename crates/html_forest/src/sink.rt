@@ -1,4 +1,4 @@
-ghost use Rattle.std.specs.Prelude.{◌≡◌, ℕ, Bool, Option, Some, IfErr, IfOk, OnErr, OnOk, ◌==◌};
+ghost use Rattle.std.specs.Prelude.{◌≡◌, ℕ, Option, Some, IfErr, IfOk, OnErr, OnOk, ◌==◌};
 ghost use Rattle.html_lexemes.specs.declared.fault.ParseFault.TheVariants.{Memory};
 ghost use Rattle.html_forest.specs.Changes.{detached, made, made_element, reparented, with_attributes};
 ghost use Rattle.html_forest.specs.Conditions.{CanPut, CanReparent};

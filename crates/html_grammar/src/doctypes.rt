@@ -8,7 +8,7 @@ ghost use Rattle.html_grammar.specs.Slices.{after, first_passes};
 use crate::comments::{bogus_comment_slice, shown};
 use crate::slices::{CharacterClass, behind, behind_word, first_and_rest, skip, split_while};
 use crate::tags::name_of;
-use html_lexemes::{Doctype, Text};
+use html_lexemes::Doctype;
 use std::alloc::{AllocError, Global};
 
 /// The doctype behind `<!doctype`, and what follows it (WHATWG HTML, 13.2.5.53 to 13.2.5.68). The error is want

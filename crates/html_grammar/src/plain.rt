@@ -2,7 +2,7 @@ ghost use Rattle.std.specs.Prelude.{◌≡◌, ◌∷◌, ◌++◌, IfErr, IfOk,
 ghost use Rattle.html_lexemes.specs.LineEnds.{begins_with_line_feed, lines_ended, without_mark};
 ghost use Rattle.html_lexemes.specs.declared.fault.ParseFault.TheVariants.{Memory};
 ghost use Rattle.html_grammar.specs.FirstMode.{first_mode};
-ghost use Rattle.html_grammar.specs.Items.{Item, end_of_file, item_of, tag as tag_item};
+ghost use Rattle.html_grammar.specs.Items.{Item, end_of_file, tag as tag_item};
 ghost use Rattle.html_grammar.specs.Kinds.{AreWelcome, IsReadyFor};
 ghost use Rattle.html_grammar.specs.Modes.{last_behind, mode_behind, text_behind, text_of_state};
 ghost use Rattle.html_grammar.specs.PageText.{page_text};

@@ -1,5 +1,5 @@
 //! Changes of nodes that keep them a forest, with each parent noted.
-ghost use Rattle.std.specs.Prelude.{◌≡◌, ℕ, [], ◌∷◌, ◌++◌, true, false, IfOk, IfSome, None, OnErr, OnOk, Some};
+ghost use Rattle.std.specs.Prelude.{◌≡◌, [], ◌∷◌, ◌++◌, true, false, IfOk, IfSome, None, OnErr, OnOk, Some};
 ghost use Rattle.std.specs.Prelude.{chars, option_map};
 ghost use Rattle.html_forest.specs.Changes.{changed, contents_number, detached, made, made_element, reparented};
 ghost use Rattle.html_forest.specs.Changes.{saying, with_attributes};

@@ -1,5 +1,5 @@
 //! A serializer that writes HTML (WHATWG HTML, 13.3).
-ghost use Rattle.std.specs.Prelude.{◌≡◌, ◌∷◌, [], Bool, true, IfOk, IfErr};
+ghost use Rattle.std.specs.Prelude.{◌≡◌, ◌∷◌, [], IfOk, IfErr};
 ghost use Rattle.html_serializer.specs.Openings.{opening_entry};
 ghost use Rattle.html_serializer.specs.Seen.{writing_of};
 ghost use Rattle.html_serializer.specs.declared.fault.SerializeFault.TheVariants.{Memory};

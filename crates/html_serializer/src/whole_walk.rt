@@ -1,5 +1,5 @@
 //! A whole tree, written.
-ghost use Rattle.std.specs.Prelude.{◌≡◌, ◌≢◌, true, Bool, Err, List, OnErr, OnOk, Option, ℕ};
+ghost use Rattle.std.specs.Prelude.{◌≡◌, ◌≢◌, true, Err, OnErr, OnOk};
 ghost use Rattle.html_serializer.specs.Walks.{walk_text};
 ghost use Rattle.html_serializer.specs.Writing.{Grows, GrowsPart};
 

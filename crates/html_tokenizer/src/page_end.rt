@@ -1,5 +1,5 @@
 //! What the end of the page makes of what a reader holds back.
-ghost use Rattle.std.specs.Prelude.{◌≡◌, [], List, chars, string_bytes, IfErr, OnOk};
+ghost use Rattle.std.specs.Prelude.{◌≡◌, [], chars, string_bytes, IfErr, OnOk};
 ghost use Rattle.html_lexemes.specs.declared.fault.ParseFault.TheVariants.{Memory};
 ghost use Rattle.html_grammar.specs.Items.{end_of_file};
 ghost use Rattle.html_grammar.specs.Kinds.{IsReadyFor};

@@ -1,4 +1,4 @@
-ghost use Rattle.std.specs.Prelude.{◌≡◌, [], ◌∷◌, ◌++◌, ℕ, Bool, List, chars, string_bytes, length, ◌==◌, ◌≢◌};
+ghost use Rattle.std.specs.Prelude.{◌≡◌, [], ◌∷◌, Bool, chars, string_bytes, length, ◌==◌, ◌≢◌};
 ghost use Rattle.std.specs.Prelude.{IfOk, IsTrue, IfSome, OnOk, Some, MatchBool, MatchOption};
 ghost use Rattle.lexeme_places.specs.declared.place.Place.TheVariants.{CdataSection as SectionPlace};
 ghost use Rattle.lexeme_places.specs.declared.place.Place.TheVariants.{MarkupDeclarationOpen as DeclarationPlace};

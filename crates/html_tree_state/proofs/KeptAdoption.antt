@@ -1,5 +1,5 @@
 -- Reconstructing formatting elements and the adoption agency keep a sound tree sound, and its elements.
-use Rattle.std.proofs.Common.{◌≡◌, ℕ, ◌+◌, ◌≤◌, Bool, true, false, not, refl, sym, ap, subst, arith, zero}
+use Rattle.std.proofs.Common.{◌≡◌, ℕ, ◌+◌, Bool, true, false, not, refl, sym, ap, subst, arith, zero}
 use Rattle.std.proofs.Common.{suc, if◌then◌else◌, List, [], ◌∷◌, ◌++◌, Option, None, Some, length}
 use Rattle.std.proofs.lemmas.List.{length-append}
 use Rattle.std.specs.Bool.{nat_lt}

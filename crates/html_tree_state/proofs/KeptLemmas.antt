@@ -1,5 +1,5 @@
 -- What is popped, inserted or listed keeps a sound tree sound, and its elements.
-use Rattle.std.proofs.Common.{◌≡◌, ℕ, ◌≤◌, Bool, true, false, inl, inr, refl, arith, if◌then◌else◌, List, [], ◌∷◌}
+use Rattle.std.proofs.Common.{◌≡◌, ℕ, Bool, true, false, inl, inr, refl, if◌then◌else◌, List, [], ◌∷◌}
 use Rattle.std.proofs.Common.{Option, None, Some, codes, subst, sym}
 use Rattle.std.proofs.lemmas.Bool.{cond_both}
 use Rattle.html_forest.specs.Forest.{Forest, Holds, comment, doctype, is_integration_point, name_of, nodes}

@@ -4,7 +4,7 @@ use Rattle.html_forest.specs.Changes.{detached}
 use Rattle.html_forest.specs.Places.{below}
 use Rattle.html_tree_state.specs.Adoption.{out_of_place}
 use Rattle.html_tree_state.specs.Formatting.{cleared, marked, unlisted}
-use Rattle.html_tree_state.specs.Insertions.{here, root_of, with_attributes_of}
+use Rattle.html_tree_state.specs.Insertions.{here, root_of}
 use Rattle.html_tree_state.specs.Laws.{Laws}
 use Rattle.html_tree_state.specs.Scopes.{popped, taken_off}
 use Rattle.html_tree_state.specs.Words.{Keeps, Words}

@@ -4,7 +4,7 @@ ghost use Rattle.formatting_list.specs.Entries.{last_named};
 ghost use Rattle.html_forest.specs.Forest.{IsElement, is_in};
 ghost use Rattle.name_sets.specs.ElementSets.{scope_barriers};
 ghost use Rattle.html_tree_state.specs.Adoption.{farther, furthest_block as furthest_block_of};
-ghost use Rattle.html_tree_state.specs.Building.{seen, stack_of};
+ghost use Rattle.html_tree_state.specs.Building.{seen};
 ghost use Rattle.html_tree_state.specs.OpenElements.{first_of, up_to};
 ghost use Rattle.html_tree_state.specs.Sound.{Sound};
 

@@ -1,13 +1,12 @@
 //! Elements, comments and attributes that are inserted (WHATWG HTML, 13.2.6.1).
-ghost use Rattle.std.specs.Prelude.{◌≡◌, ℕ, IfErr, IfOk, OnOk, Some, true};
+ghost use Rattle.std.specs.Prelude.{◌≡◌, IfErr, IfOk, OnOk};
 ghost use Rattle.html_forest.specs.Conditions.{IsPlace};
-ghost use Rattle.html_forest.specs.Forest.{IsElement, contents_of, nodes};
+ghost use Rattle.html_forest.specs.Forest.{nodes};
 ghost use Rattle.html_forest.specs.Orders.{IsForest};
-ghost use Rattle.html_forest.specs.Places.{below};
 ghost use Rattle.html_lexemes.specs.declared.fault.ParseFault.TheVariants.{Memory};
 ghost use Rattle.html_tree_state.specs.Building.{seen};
-ghost use Rattle.html_tree_state.specs.Insertions.{commented_at, here, inserted_by, is_template, place_for, root_of};
-ghost use Rattle.html_tree_state.specs.Insertions.{with_attributes_of, with_element};
+ghost use Rattle.html_tree_state.specs.Insertions.{here, inserted_by};
+ghost use Rattle.html_tree_state.specs.Insertions.{with_element};
 ghost use Rattle.html_tree_state.specs.Points.{place_of};
 ghost use Rattle.html_tree_state.specs.Sound.{Sound};
 
@@ -15,7 +14,7 @@ use crate::construction::Construction;
 use crate::insertion::InsertionPoint;
 use crate::laws::laws_of_forests;
 use html_forest::{NodeOrText, TreeSink};
-use html_lexemes::{Attributes, ParseFault, QualName, Text};
+use html_lexemes::{Attributes, ParseFault, QualName};
 use tree_words::element_flags;
 
 /// Whether an element that is inserted becomes the current node.

@@ -1,7 +1,7 @@
 //! Where nodes and texts are inserted (WHATWG HTML, 13.2.6.1).
 ghost use Rattle.std.specs.Prelude.{◌≡◌, ℕ, IfErr, OnErr, OnOk, Some, true};
 ghost use Rattle.html_forest.specs.Conditions.{CanPut, IsPlace};
-ghost use Rattle.html_forest.specs.Forest.{IsElement, comment, contents_of, nodes};
+ghost use Rattle.html_forest.specs.Forest.{IsElement, contents_of};
 ghost use Rattle.html_forest.specs.Orders.{IsForest};
 ghost use Rattle.html_forest.specs.Places.{put};
 ghost use Rattle.html_forest.specs.Sinks.{child_of};

@@ -1,4 +1,4 @@
-ghost use Rattle.std.specs.Prelude.{ℕ, ◌≡◌, Bool, IsTrue, chars};
+ghost use Rattle.std.specs.Prelude.{◌≡◌, Bool, IsTrue, chars};
 ghost use Rattle.std.specs.Char.{to_ascii_lowercase};
 ghost use Rattle.reference_tables.specs.References.{References};
 ghost use Rattle.html_grammar.specs.declared.modes.Mode.{Mode as SeenMode};

@@ -1,5 +1,5 @@
 //! The words of this crate computed on worked rows.
-ghost use Rattle.std.specs.Prelude.{◌≡◌, ◌++◌, ◌∷◌, [], None, Some, codes};
+ghost use Rattle.std.specs.Prelude.{◌≡◌, ◌∷◌, [], None, Some, codes};
 ghost use Rattle.tree_words.specs.RowWords.{attribute};
 ghost use Rattle.meta_encodings.specs.Encodings.{named_encoding};
 ghost use Rattle.meta_encodings.specs.RowWords.{named_in};

@@ -1,6 +1,5 @@
 //! Tables of references in files.
-ghost use Rattle.std.specs.Prelude.{◌≡◌, ◌⊎◌, true, Err, IfErr, IfOk, IfSome, OnOk};
-ghost use Rattle.std.specs.Io.KnownBytes.{Consumes, IsAtEnd};
+ghost use Rattle.std.specs.Prelude.{◌≡◌, ◌⊎◌, true, Err, IfErr, IfOk, IfSome};
 ghost use Rattle.named_files.specs.TableFiles.{IsNoTable, IsTableText};
 
 use crate::files::FileOpener;

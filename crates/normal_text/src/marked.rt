@@ -1,7 +1,7 @@
 //! Normal text with markers on its words.
 ghost use Rattle.std.specs.Prelude.{◌≡◌, ◌⊎◌, ℕ, Bool, List, [], ◌∷◌, ◌++◌, map, chars, string_bytes, All, IfOk, IfErr};
 ghost use Rattle.std.specs.Prelude.{OnOk};
-ghost use Rattle.tagged_lines.specs.Tagged.{line_items, element_items, IsJoined};
+ghost use Rattle.tagged_lines.specs.Tagged.{line_items, IsJoined};
 ghost use Rattle.text_pieces.specs.Sources.{names};
 ghost use Rattle.text_pieces.specs.Items.{markers_of};
 ghost use Rattle.normal_text.specs.Units.{Letter};
@@ -13,8 +13,8 @@ use crate::marked_tag::MarkedTag;
 use crate::normal::NormalText;
 use crate::shown::{Settled, settle};
 use crate::word_ends::{ends_in_word, from_word};
-use std::alloc::{AllocError, Global};
-use tagged_lines::{EqualCopy, TaggedLine, TaggedLineElement};
+use std::alloc::Global;
+use tagged_lines::EqualCopy;
 use text_pieces::{BlockError, LaidText, Piece, names_before, split_before};
 
 /// Normal text whose markers ride on its words: one behind a word's character stays there, another waits for the next

@@ -1,9 +1,9 @@
 //! Lines of text with markers on it, shown: markers in place of the letters that stood for them.
-ghost use Rattle.std.specs.Prelude.{◌≡◌, Bool, true, false, [], ◌∷◌, ◌++◌, map, chars, string_bytes, All, IfOk, OnOk};
+ghost use Rattle.std.specs.Prelude.{◌≡◌, [], ◌∷◌, ◌++◌, map, chars, string_bytes, All, IfOk, OnOk};
 ghost use Rattle.std.specs.Prelude.{if◌then◌else◌};
-ghost use Rattle.tagged_lines.specs.Tagged.{line_items, line_text, element_items, tagged, marker, IsJoined};
+ghost use Rattle.tagged_lines.specs.Tagged.{line_items, element_items, tagged, marker, IsJoined};
 ghost use Rattle.text_pieces.specs.Items.{has_text};
-ghost use Rattle.normal_text.specs.Riders.{note, shown_item, settled_lines, settled_rest};
+ghost use Rattle.normal_text.specs.Riders.{shown_item, settled_lines, settled_rest};
 ghost use Rattle.normal_text.specs.MarkedTags.{tag_seen};
 
 use crate::marked_tag::MarkedTag;

@@ -1,6 +1,5 @@
 //! Where words begin and end in a text.
-ghost use Rattle.std.specs.Prelude.{◌≡◌, ℕ, ◌<◌, ◌≤◌, [], ◌++◌, chars, length, IfSome, IsNone, IsUtf8, encode_utf8};
-ghost use Rattle.std.specs.Char.{IsScalar};
+ghost use Rattle.std.specs.Prelude.{◌≡◌, ◌<◌, chars};
 ghost use Rattle.normal_text.specs.Riders.{is_carrier};
 ghost use Rattle.normal_text.specs.MarkedStates.{LeavesWord, BeginsWord, in_word_behind};
 

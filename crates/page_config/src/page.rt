@@ -1,5 +1,5 @@
 //! A page piece by piece.
-ghost use Rattle.std.specs.Prelude.{◌≡◌, ◌+◌, ◌<◌, ◌≤◌, ◌++◌, ◌⊎◌, ℕ, List, [], true, false, length, is_err, Err};
+ghost use Rattle.std.specs.Prelude.{◌≡◌, ◌+◌, ◌<◌, ◌++◌, ◌⊎◌, ℕ, List, [], true, false, length, is_err, Err};
 ghost use Rattle.std.specs.Prelude.{IfErr, IfOk, OnOk};
 ghost use Rattle.html_forest.specs.Forest.{Forest};
 ghost use Rattle.html_forest.specs.declared.sink.QuirksMode.{QuirksMode as Quirks};

@@ -26,7 +26,7 @@ use Rattle.page_skeleton.proofs.GuardedForests.{IsLike, KeptOn, kept_then, new_i
 use Rattle.page_skeleton.proofs.GuardedPlaces.{good_on, here_good}
 use Rattle.page_skeleton.proofs.GuardedTexts.{attributes_kept, leaf_kept, words_kept}
 use Rattle.page_skeleton.proofs.Guards.{AreFreeEntries, AreUnbarred, Guard, IsFree, IsGoodPlace, IsGuard, IsGuarded}
-use Rattle.page_skeleton.proofs.Guards.{HasFreeCurrent, IsKeptForest, IsStack, is_barred, within}
+use Rattle.page_skeleton.proofs.Guards.{IsKeptForest, is_barred, within}
 use Rattle.page_skeleton.proofs.Guards as guards
 use Rattle.tree_rules.specs.Actions.{given_attributes, inserted_foreign, inserted_into, inserted_void_into}
 use Rattle.tree_words.specs.Attributes.{is_html_annotation}

@@ -1,5 +1,5 @@
 -- What holds between two items of a page: what holds of any tree that is built, and that there is no context.
-use Rattle.std.proofs.Common.{◌≡◌, ℕ, List, [], ◌∷◌, Option, None, Some, refl, ◌∙◌}
+use Rattle.std.proofs.Common.{◌≡◌, ℕ, Option, None, Some, refl, ◌∙◌}
 use Rattle.html_forest.specs.Forest.{Holds}
 use Rattle.html_tree_state.specs.Sound.{Sound}
 use Rattle.tree_rules.specs.Actions as actions

@@ -1,9 +1,9 @@
 //! White space and bodies on lines that are being laid.
-ghost use Rattle.std.specs.Prelude.{◌≡◌, ◌+◌, ◌-◌, ◌%◌, min, [], ◌++◌, ◌||◌, ◌==◌, nat_lt, chars, string_bytes, drop};
-ghost use Rattle.std.specs.Prelude.{replicate, length, fold, OnOk, IfOk, ◌∷◌, ◌≤◌, if◌then◌else◌};
+ghost use Rattle.std.specs.Prelude.{◌≡◌, ◌+◌, ◌-◌, ◌%◌, min, [], ◌++◌, ◌||◌, ◌==◌, chars, string_bytes, drop};
+ghost use Rattle.std.specs.Prelude.{length, fold, OnOk, IfOk, ◌∷◌, ◌≤◌, if◌then◌else◌};
 ghost use Rattle.tagged_lines.specs.Tagged.{line_items, element_items, line_columns, character, marker, tagged};
 ghost use Rattle.tagged_lines.specs.Tagged.{IsJoined};
-ghost use Rattle.preserved_text.specs.Preserved.{line_taken, written, without_spaces, put_space, space, to_stop};
+ghost use Rattle.preserved_text.specs.Preserved.{line_taken, written, without_spaces, put_space, to_stop};
 ghost use Rattle.preserved_text.specs.Preserved.{behind_stop, tabbed, lay_stop, remaining, broken_anywhere};
 ghost use Rattle.preserved_text.specs.Preserved.{broken_at_white, lay_items, taken};
 

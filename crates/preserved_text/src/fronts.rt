@@ -1,11 +1,10 @@
 //! Fronts of texts, whose characters are taken at once.
-ghost use Rattle.std.specs.Prelude.{◌≡◌, ◌≤◌, ◌==◌, ◌&&◌, ◌||◌, true, ◌++◌, length, chars, IsTrue, IsUtf8, List, ℕ};
+ghost use Rattle.std.specs.Prelude.{◌≡◌, ◌≤◌, ◌==◌, ◌&&◌, ◌||◌, true, ◌++◌, length, chars, IsTrue, IsUtf8};
 ghost use Rattle.std.specs.Prelude.{if◌then◌else◌};
 ghost use Rattle.tagged_lines.specs.Columns.{text_columns};
 ghost use Rattle.preserved_text.specs.Preserved.{kind_of, is_solid};
 ghost use Rattle.preserved_text.specs.Fronts.{HasFront, goes_on_with, BeginsSolid, JoinsBody, Fits, AreWordsOrNone};
 ghost use Rattle.preserved_text.specs.Fronts.{WordsFit, has_wider};
-ghost use Rattle.text_pieces.specs.Cuts.{IsBehind};
 
 use crate::kinds::{CharacterKind, is_solid, kind_of};
 use text_pieces::{first_char, split_before, width_of};

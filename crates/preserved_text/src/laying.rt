@@ -1,9 +1,9 @@
 //! Lines that are being laid.
-ghost use Rattle.std.specs.Prelude.{◌≡◌, ◌≤◌, ◌+◌, nat_le, [], ◌∷◌, length, chars, string_bytes, fold, OnOk, IfOk};
+ghost use Rattle.std.specs.Prelude.{◌≡◌, ◌≤◌, ◌+◌, nat_le, [], length, chars, string_bytes, OnOk, IfOk};
 ghost use Rattle.std.specs.Prelude.{IsUtf8};
 ghost use Rattle.tagged_lines.specs.Tagged.{line_items, element_items, character, marker, tagged};
 ghost use Rattle.preserved_text.specs.Preserved.{nothing_laid, has_text, line_text, line_taken, fresh, with_room};
-ghost use Rattle.preserved_text.specs.Preserved.{written, without_spaces, put, put_all, put_space, space, lay_blank};
+ghost use Rattle.preserved_text.specs.Preserved.{written, put, put_all, lay_blank};
 ghost use Rattle.preserved_text.specs.Preserved.{chosen};
 
 use crate::fronts::fitting_front;

@@ -1,5 +1,5 @@
 //! The lines of a source line whose white space stays.
-ghost use Rattle.std.specs.Prelude.{◌≡◌, ◌⊎◌, Bool, true, false, not, ◌||◌, List, map, All, IfOk, IfErr, OnOk};
+ghost use Rattle.std.specs.Prelude.{◌≡◌, ◌⊎◌, true, false, not, ◌||◌, map, All, IfOk, IfErr, OnOk};
 ghost use Rattle.tagged_lines.specs.Tagged.{line_items, IsJoined};
 ghost use Rattle.text_pieces.specs.Sources.{sources_of, names};
 ghost use Rattle.preserved_text.specs.Preserved.{preserved_lines, preserved_waiting, is_too_wide};

@@ -2,7 +2,7 @@
 ghost use Rattle.std.specs.Prelude.{◌≡◌, ◌≤◌, [], true, false, length, chars, OnOk, IfOk, IsUtf8};
 ghost use Rattle.tagged_lines.specs.Tagged.{line_items};
 ghost use Rattle.text_pieces.specs.Sources.{sourced, piece_sources, sources_of, is_filled};
-ghost use Rattle.preserved_text.specs.Preserved.{trimmed, has_solid, is_solid, kind_of};
+ghost use Rattle.preserved_text.specs.Preserved.{trimmed, has_solid, is_solid};
 ghost use Rattle.preserved_text.specs.Pass.{read_all};
 ghost use Rattle.preserved_text.specs.Trimming.{has_solid_text, solid_text, trimmed_each, StayWhole};
 

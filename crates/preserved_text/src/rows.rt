@@ -1,5 +1,5 @@
 //! Worked rows, computed from the definitions.
-ghost use Rattle.std.specs.Prelude.{◌≡◌, ℕ, [], ◌∷◌, ◌++◌, codes, map};
+ghost use Rattle.std.specs.Prelude.{◌≡◌, [], ◌∷◌, ◌++◌, codes};
 ghost use Rattle.preserved_text.specs.RowWords.{lines_of, tagged_of, unwrapped, wrapped_at};
 
 /// Where lines do not break at white space: a body is cut by columns, from the line that it begins on.

@@ -3,7 +3,7 @@ ghost use Rattle.std.specs.Prelude.{◌≡◌, ◌≤◌, ◌+◌, ◌++◌, ◌
 ghost use Rattle.std.specs.Prelude.{IfErr, map, All, IsUtf8};
 ghost use Rattle.tagged_lines.specs.Tagged.{line_items, line_columns, IsJoined};
 ghost use Rattle.text_pieces.specs.Sources.{names};
-ghost use Rattle.preserved_text.specs.Pass.{new_pass, begins, lettered, closed, blanked, stopped, read_letter};
+ghost use Rattle.preserved_text.specs.Pass.{new_pass, begins, lettered, closed, stopped, read_letter};
 ghost use Rattle.preserved_text.specs.Pass.{read_marker, read_at, finished, left_markers};
 ghost use Rattle.preserved_text.specs.Preserved.{white, taken};
 ghost use Rattle.preserved_text.specs.Fronts.{all_lettered, words_laid, IsSteady};

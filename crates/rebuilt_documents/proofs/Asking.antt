@@ -17,7 +17,7 @@ use Rattle.tree_rules.specs.State.{Ask, State, encoding, nothing, plaintext, raw
 use Rattle.tree_words.specs.declared.modes.InsertionMode.TheVariants as modes
 use Rattle.rebuilt_documents.specs.Asked.{AreAsked, DocumentsAsk, IsAsked, asked_by, opens_title}
 use Rattle.rebuilt_documents.specs.Contents.{Content, Inline, IsBlocks, IsInline, IsInlines, end_of, ended, marks, none}
-use Rattle.rebuilt_documents.specs.Contents.{say, span, start_of, texts_of_blocks, tokens_and}
+use Rattle.rebuilt_documents.specs.Contents.{start_of, texts_of_blocks, tokens_and}
 use Rattle.rebuilt_documents.specs.Contents as kinds
 use Rattle.rebuilt_documents.specs.Rebuilt.{document_tokens, head_alone, html_doctype, text_tokens, title_tokens}
 use Rattle.rebuilt_documents.proofs.Documents.{documents_run}

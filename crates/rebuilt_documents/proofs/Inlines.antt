@@ -15,9 +15,8 @@ use Rattle.tree_rules.specs.Actions.{refuse_frameset}
 use Rattle.tree_rules.specs.InBody.{in_body_start}
 use Rattle.tree_rules.specs.InBodyPhrases.{formatting_start}
 use Rattle.tree_rules.specs.State.{State}
-use Rattle.rebuilt_documents.specs.Contents.{Content, HasOne, Inline, IsInline, IsInlines, end_of, ended}
-use Rattle.rebuilt_documents.specs.Contents.{in_no_namespace}
-use Rattle.rebuilt_documents.specs.Contents.{inline, line_break, link, linked_in, mark, none, nothing, say, span}
+use Rattle.rebuilt_documents.specs.Contents.{Content, IsInlines, end_of}
+use Rattle.rebuilt_documents.specs.Contents.{inline, line_break, link, mark, none, nothing, say, span}
 use Rattle.rebuilt_documents.specs.Contents.{start_of}
 use Rattle.rebuilt_documents.specs.Contents as kinds
 use Rattle.rebuilt_documents.specs.Contents.{tokens_and}

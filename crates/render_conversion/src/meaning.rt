@@ -1,5 +1,5 @@
 //! What a node means to a render tree.
-ghost use Rattle.std.specs.Prelude.{◌≡◌, [], IfOk, codes, option_map};
+ghost use Rattle.std.specs.Prelude.{◌≡◌, [], IfOk, option_map};
 ghost use Rattle.forest_trees.specs.Trees.{trees};
 ghost use Rattle.html_forest.specs.Forest.{children_at, kind_at};
 ghost use Rattle.html_forest.specs.Orders.{IsForest};

@@ -1,5 +1,4 @@
 //! What is to be known of what stands in a value.
-use std::alloc::Global;
 use table_rows::Table;
 
 /// What is to be known of what stands in a value.

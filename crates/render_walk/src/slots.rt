@@ -1,5 +1,5 @@
 //! The slots of a row, and the renderers that stand in them.
-ghost use Rattle.std.specs.Prelude.{◌≡◌, ◌++◌, ◌∷◌, [], IfErr, IfOk, OnOk, drop, filter, map};
+ghost use Rattle.std.specs.Prelude.{◌≡◌, ◌++◌, ◌∷◌, [], IfErr, IfOk, OnOk, filter, map};
 ghost use Rattle.block_renderer.specs.Seen.{marking, sub_of};
 ghost use Rattle.render_laying.specs.Seen.{IsWorking, laying_of, made_of, slots_left, widths_seen};
 ghost use Rattle.render_walk.specs.Tables.{empties_before, empty_slots, from_cell, renderer_of, separated, slot_width};

@@ -1,5 +1,5 @@
 //! Titles of images.
-ghost use Rattle.std.specs.Prelude.{◌≡◌, Option, List, ℕ, chars};
+ghost use Rattle.std.specs.Prelude.{◌≡◌, Option, chars};
 ghost use Rattle.std.specs.Option.{option_map};
 ghost use Rattle.renderer_calls.specs.Renderers.{image_title, file_name};
 

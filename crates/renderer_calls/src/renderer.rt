@@ -1,5 +1,5 @@
 //! Calls that lay out the parts of a page.
-ghost use Rattle.std.specs.Prelude.{◌≡◌, ℕ, List, Bool, true, false, chars, string_bytes, Err, IfOk, IfErr};
+ghost use Rattle.std.specs.Prelude.{◌≡◌, ℕ, List, Bool, false, chars, string_bytes, IfOk};
 ghost use Rattle.text_marks.specs.Marks.{Mark, link_start, emphasis_start, emphasis_end, strong_start, strong_end};
 ghost use Rattle.text_marks.specs.Marks.{code_start, code_end, superscript_start, superscript_end, header, quote};
 ghost use Rattle.text_marks.specs.Marks.{unordered_item, ordered_item, colour_start, colour_end, background_start};
@@ -12,7 +12,6 @@ ghost use Rattle.renderer_calls.specs.Calls.{starts_fragment, starts_colour, end
 ghost use Rattle.renderer_calls.specs.Calls.{adds_rows_below};
 ghost use Rattle.renderer_calls.specs.Outcomes.{IsOutcome, IsAnswered};
 
-use std::alloc::Global;
 use text_marks::Colour;
 use text_pieces::{BlockError, WhiteSpace};
 

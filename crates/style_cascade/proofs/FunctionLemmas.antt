@@ -1,6 +1,6 @@
 -- What is cascaded is what the cascade gives.
 use Rattle.std.proofs.Common.{◌≡◌, ◌∙◌, List, [], ◌∷◌, ◌++◌, refl, sym, ap, subst, append_assoc, append-nil}
-use Rattle.std.specs.Prelude.{ℕ, Bool, Option, None, Some, is_some, option_map}
+use Rattle.std.specs.Prelude.{ℕ, Option, None, Some, is_some, option_map}
 use Rattle.style_cascade.specs.Cascade.{IsCascaded, cascade, cascade_from}
 use Rattle.style_cascade.specs.Hiding.{is_hidden}
 use Rattle.style_cascade.specs.Seen.{IsComputed, holding}

@@ -1,9 +1,8 @@
 //! From one row to the next.
-ghost use Rattle.std.specs.Prelude.{◌≡◌, ℕ, ◌<◌, All, IfOk, length, get_or};
+ghost use Rattle.std.specs.Prelude.{◌≡◌, ◌<◌, All, IfOk, length, get_or};
 ghost use Rattle.std.specs.List.Sorted.{IsNonDecreasingBy};
 ghost use Rattle.table_places.specs.declared.cell.Cell.{Cell};
-ghost use Rattle.table_places.specs.Covers.{IsBetweenRows};
-ghost use Rattle.table_places.specs.Ends.{AreAbove, AreEnds, IsUpTo, HasNextCovers};
+ghost use Rattle.table_places.specs.Ends.{AreEnds, IsUpTo, HasNextCovers};
 
 use crate::cell::{Cell, PlacedCell};
 use crate::covers::{Cover, merge_covers};

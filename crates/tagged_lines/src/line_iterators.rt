@@ -1,6 +1,6 @@
 //! Iterators over the texts of a line, and over their characters.
 
-ghost use Rattle.std.specs.Prelude.{◌≡◌, ◌++◌, chars};
+ghost use Rattle.std.specs.Prelude.{◌≡◌, chars};
 ghost use Rattle.std.specs.Str.{IsUtf8};
 ghost use Rattle.std.specs.Iterator.{YieldsFirst, YieldsFirstRef, item_count};
 ghost use Rattle.tagged_lines.specs.Elements.{elements_text, elements_strings};

@@ -1,7 +1,7 @@
 -- Where the cells of a row stand.
-use Rattle.std.proofs.Common.{◌≡◌, ◌⊎◌, ℕ, zero, suc, ◌+◌, ◌-◌, ◌<◌, ◌≤◌, Bool, true, false, ◌&&◌, List, [], ◌∷◌, ◌++◌}
-use Rattle.std.proofs.Common.{map, if◌then◌else◌, ap, sym, ◌∙◌, refl, inl, inr, arith}
-use Rattle.std.specs.Prelude.{nat_le, nat_lt, Option, Some}
+use Rattle.std.proofs.Common.{◌≡◌, ℕ, ◌+◌, ◌-◌, ◌<◌, Bool, true, false, List, [], ◌∷◌, ◌++◌}
+use Rattle.std.proofs.Common.{map, if◌then◌else◌, ap, ◌∙◌, refl, inl, inr, arith}
+use Rattle.std.specs.Prelude.{nat_le, nat_lt, Option}
 use Rattle.std.proofs.lemmas.Bool.Decides.{nat_tests}
 use Rattle.std.proofs.lemmas.List.{map-append}
 use Rattle.text_borders.specs.Borders.{Border}
@@ -9,7 +9,7 @@ use Rattle.text_borders.specs.Lines.{BlockLine, text, border}
 use Rattle.text_borders.specs.Across.{CellLine, Cell, Hanging, seated, OpenCell, whole, open_line, open_first}
 use Rattle.text_borders.specs.Across.{close_line, close_behind, close_last, opened, row_width, goes_on, hanging_of}
 use Rattle.text_borders.specs.Across.{further, row_height, is_given, row_cells, width_across, across}
-use Rattle.text_borders.specs.AcrossLaws.{cells_width, AreSeatedIn, Seat, seat_of, seats_behind}
+use Rattle.text_borders.specs.AcrossLaws.{cells_width, AreSeatedIn, seat_of, seats_behind}
 
 -- ---- a cell without its borders keeps its columns and its rows
 

@@ -1,5 +1,5 @@
 //! Lines of blocks.
-ghost use Rattle.std.specs.Prelude.{◌≡◌, ◌-◌, ◌++◌, IfOk, OnOk};
+ghost use Rattle.std.specs.Prelude.{◌≡◌, ◌-◌, ◌++◌, IfOk};
 ghost use Rattle.tagged_lines.specs.Tagged.{line_items, line_columns, IsJoined};
 ghost use Rattle.text_borders.specs.Borders.{border_of, shown};
 ghost use Rattle.text_borders.specs.Lines.{border};

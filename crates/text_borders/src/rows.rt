@@ -1,6 +1,6 @@
 //! Worked rows, computed from the definitions.
-ghost use Rattle.std.specs.Prelude.{◌≡◌, ◌∷◌, [], true, false, None, map, codes};
-ghost use Rattle.tagged_lines.specs.Tagged.{character, characters, tagged};
+ghost use Rattle.std.specs.Prelude.{◌≡◌, ◌∷◌, [], true, false, None, codes};
+ghost use Rattle.tagged_lines.specs.Tagged.{characters, tagged};
 ghost use Rattle.text_borders.specs.Borders.{horizontal, plain, joined_above, joined_below, merged_above, merged_below};
 ghost use Rattle.text_borders.specs.Borders.{punched, shown, lines_above};
 ghost use Rattle.text_borders.specs.Across.{empty_cell, across};

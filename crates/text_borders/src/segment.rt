@@ -1,5 +1,5 @@
 //! Segments of borders.
-ghost use Rattle.std.specs.Prelude.{◌≡◌, Some};
+ghost use Rattle.std.specs.Prelude.{◌≡◌};
 ghost use Rattle.std.specs.Option.{option_map};
 ghost use Rattle.text_borders.specs.Segments.{segment_of, without_left, without_right, with_up, with_down, glyph_of};
 ghost use Rattle.text_borders.specs.Segments.{joins_below, joins_above, runs_above};

@@ -1,7 +1,7 @@
 -- The lines of a row, and the row.
 use Rattle.std.proofs.Common.{◌≡◌, ℕ, zero, suc, ◌+◌, ◌<◌, true, List, [], ◌∷◌, ◌++◌, map, take, drop, set, length}
 use Rattle.std.proofs.Common.{get_or, if◌then◌else◌, append_assoc, append-nil, ap, ◌∙◌, refl, sym, arith}
-use Rattle.std.specs.Prelude.{nat_lt, ◌||◌}
+use Rattle.std.specs.Prelude.{nat_lt}
 use Rattle.std.proofs.lemmas.Bool.Decides.{nat_tests}
 use Rattle.std.proofs.lemmas.List.{drop-drop, drop_more, map_more, get_or_at, set_at, length-map, length-take-le}
 use Rattle.std.proofs.lemmas.List.{map-set, get_or-map}

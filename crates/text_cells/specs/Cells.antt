@@ -1,5 +1,5 @@
 -- What contracts see of cells and rows.
-use Rattle.std.specs.Prelude.{List, map}
+use Rattle.std.specs.Prelude.{map}
 use Rattle.std.specs.Option.{option_map}
 use Rattle.tagged_lines.specs.Tagged.{line_items}
 use Rattle.text_borders.specs.Borders.{border_of}

@@ -1,6 +1,5 @@
 //! The answers of decorators that have none of their own.
-ghost use Rattle.std.specs.Prelude.{◌≡◌, ◌++◌, [], map, codes, chars, string_bytes, IfOk};
-ghost use Rattle.std.specs.Fmt.{decimal};
+ghost use Rattle.std.specs.Prelude.{◌≡◌, [], map, codes, chars, string_bytes, IfOk};
 ghost use Rattle.tagged_lines.specs.Tagged.{line_items, tagged};
 ghost use Rattle.text_decorators.specs.Texts.{AreFootnotes, footnote_text};
 

@@ -1,6 +1,6 @@
 //! Adding text at the end of pieces.
-ghost use Rattle.std.specs.Prelude.{◌≡◌, ◌<◌, ◌++◌, chars, vec_len, IfOk, OnOk, IsTrue};
-ghost use Rattle.text_pieces.specs.Sources.{sourced, sources_of, text_sources};
+ghost use Rattle.std.specs.Prelude.{◌≡◌, ◌<◌, ◌++◌, chars, vec_len, OnOk, IsTrue};
+ghost use Rattle.text_pieces.specs.Sources.{sourced, sources_of};
 ghost use Rattle.text_pieces.specs.Joins.{HasTags, EndsWithTags, Extends};
 
 use crate::piece::{Piece, TextPiece};

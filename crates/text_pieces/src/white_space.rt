@@ -1,5 +1,5 @@
 ghost use Rattle.std.specs.Prelude.{◌≡◌};
-ghost use Rattle.text_pieces.specs.Modes.{is_preserved, is_wrapped, is_same_mode};
+ghost use Rattle.text_pieces.specs.Modes.{is_preserved, is_wrapped};
 
 /// How a text's white space is laid out (CSS Text, `white-space`).
 #[derive(Clone, Copy, Debug, Default, PartialEq, Eq)]

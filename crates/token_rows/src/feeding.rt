@@ -12,7 +12,7 @@ ghost use Rattle.html_tokenizer.specs.Pieces.{joined};
 use html_grammar::{TokenSink, TokenizerOpts};
 use html_lexemes::{BufferQueue, ParseFault, ReferenceTable};
 use html_tokenizer::{Tokenizer, TokenizerResult, read_pieces};
-use std::alloc::{AllocError, Global};
+use std::alloc::Global;
 
 /// The sink behind the end of a page that was fed in pieces. Pauses that it asks for are passed over.
 pub(crate) fn fed<S: TokenSink + Drop>(

@@ -1,6 +1,6 @@
 //! What rules do to the stack of open elements and to the list of active formatting elements (WHATWG HTML, 13.2.4.2,
 //! 13.2.4.3 and 13.2.6.3).
-ghost use Rattle.std.specs.Prelude.{◌≡◌, ℕ, IfErr, OnOk, true, IsTrue};
+ghost use Rattle.std.specs.Prelude.{◌≡◌, ℕ, IfErr, OnOk, true};
 ghost use Rattle.html_forest.specs.Forest.{IsElement};
 ghost use Rattle.html_lexemes.specs.declared.fault.ParseFault.TheVariants.{Memory};
 ghost use Rattle.tree_actions.specs.Parsed.{state_of};

@@ -1,5 +1,5 @@
 //! What the items of a page do to a tree that is being built: each is the step of the rule table (WHATWG HTML, 13.2.6).
-ghost use Rattle.std.specs.Prelude.{◌≡◌, IfErr, IfOk, OnOk, chars, string_bytes};
+ghost use Rattle.std.specs.Prelude.{◌≡◌, IfErr, IfOk, OnOk};
 ghost use Rattle.html_grammar.specs.Items.{characters, comment as comment_item, doctype as doctype_item, end_of_file};
 ghost use Rattle.html_grammar.specs.Items.{error, item_of, null_character, tag as tag_item};
 ghost use Rattle.html_lexemes.specs.declared.fault.ParseFault.TheVariants.{Memory};

@@ -2,7 +2,7 @@
 use Rattle.std.proofs.Common.{◌≡◌, ℕ, inl, refl, sym, ap₂, subst, ◌∙◌, List}
 use Rattle.html_forest.specs.Changes.{made}
 use Rattle.html_forest.specs.Conditions.{IsPlace}
-use Rattle.html_forest.specs.Forest.{Forest, Kind, comment, document, nodes, page_alone}
+use Rattle.html_forest.specs.Forest.{Forest, comment, document, nodes, page_alone}
 use Rattle.html_forest.specs.Orders.{IsForest}
 use Rattle.html_forest.specs.Places.{before, below, put_node}
 

@@ -3,7 +3,7 @@ use Rattle.std.proofs.Common.{◌≡◌, ℕ, ◌⊎◌, inl, inr, ◌==◌, ◌
 use Rattle.std.proofs.Common.{codes}
 use Rattle.std.proofs.Common.{◌++◌, ◌<◌, append_assoc, fold, refl, sym, ap, ◌∙◌, subst, Option, None, Some}
 use Rattle.std.proofs.lemmas.List.{append-nil}
-use Rattle.html_forest.specs.Forest.{Forest, Holds, IsElement, Kind, element_of, is_integration_point, kind_at, name_of}
+use Rattle.html_forest.specs.Forest.{Forest, Holds, Kind, element_of, is_integration_point, kind_at, name_of}
 use Rattle.html_forest.specs.declared.sink.QuirksMode.TheVariants.{Quirks}
 use Rattle.html_forest.specs.Orders.{IsIn}
 use Rattle.html_lexemes.specs.declared.names.QualName.{QualName}
@@ -11,7 +11,6 @@ use Rattle.html_tree_state.specs.Building.{Building}
 use Rattle.html_tree_state.specs.Foreign.{adjusted_current}
 use Rattle.html_tree_state.specs.Formatting.{reconstructed}
 use Rattle.html_tree_state.specs.Insertions.{said}
-use Rattle.html_tree_state.specs.OpenElements.{first_of}
 use Rattle.html_tree_state.specs.Words.{Words}
 use Rattle.name_sets.specs.ElementSets.{table_text_places}
 use Rattle.name_sets.specs.Sets.{Elements, is_element_of}

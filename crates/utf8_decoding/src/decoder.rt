@@ -1,5 +1,5 @@
 ghost use Rattle.std.specs.Prelude.{◌≡◌, ℕ, ◌≤◌, ◌++◌, List, [], true, false, is_err, length, chars, string_bytes};
-ghost use Rattle.std.specs.Prelude.{flat_map, ◌+◌, ◌∷◌, take, drop, IfOk, IfErr, OnErr, Err, IsTrue};
+ghost use Rattle.std.specs.Prelude.{◌+◌, ◌∷◌, take, drop, IfOk, IfErr, OnErr, Err, IsTrue};
 ghost use Rattle.utf8_decoding.specs.ReplacedText.{replaced_text, is_unfinished};
 
 use html_lexemes::ParseFault;

@@ -1,6 +1,6 @@
 //! Worked rows, computed from the definitions: the units of short texts, and their lines.
 
-ghost use Rattle.std.specs.Prelude.{◌≡◌, ℕ, [], ◌∷◌, ◌++◌, Option, None, Some, codes};
+ghost use Rattle.std.specs.Prelude.{◌≡◌, ℕ, [], ◌∷◌, ◌++◌, None, Some, codes};
 ghost use Rattle.normal_text.specs.Units.{lettered, piece, units};
 ghost use Rattle.wrapping_laws.specs.RowWords.{unit, units_of, lines_of};
 

@@ -7,9 +7,9 @@ use Rattle.html_grammar.specs.PageText.{page_text}
 use Rattle.html_lexemes.specs.LineEnds.{begins_with_line_feed, line_feed, lines_ended}
 use Rattle.html_lexemes.specs.declared.names.Attribute.{Attribute}
 use Rattle.html_serializer.specs.Escapes.{attributes_text, end_text, escaped, escaped_character, start_text}
-use Rattle.rebuilt_documents.specs.Contents.{Content, HasOne, Inline, IsBlocks, IsInline, IsInlines, in_no_namespace}
+use Rattle.rebuilt_documents.specs.Contents.{Content, HasOne, Inline, IsBlocks, IsInline, IsInlines}
 use Rattle.rebuilt_documents.specs.Contents.{marks}
-use Rattle.rebuilt_documents.specs.Contents.{none, say, span, texts_of_blocks}
+use Rattle.rebuilt_documents.specs.Contents.{span, texts_of_blocks}
 use Rattle.rebuilt_documents.specs.Contents as kinds
 use Rattle.rebuilt_documents.specs.Planted.{of_html}
 use Rattle.written_trees.proofs.Elements.{for_one}

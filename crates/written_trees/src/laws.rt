@@ -1,5 +1,5 @@
 //! What is written is read back.
-ghost use Rattle.std.specs.Prelude.{◌≡◌, ◌++◌, ◌∷◌, [], ℕ, Bool, List, Option, None, false, fold};
+ghost use Rattle.std.specs.Prelude.{◌≡◌, ◌++◌, ℕ, Bool, List, Option, None, false, fold};
 ghost use Rattle.escaped_texts.specs.Escaped.{KnowsEscapes};
 ghost use Rattle.html_forest.specs.Forest.{Forest, page_alone};
 ghost use Rattle.html_forest.specs.declared.sink.QuirksMode.{QuirksMode as Quirks};

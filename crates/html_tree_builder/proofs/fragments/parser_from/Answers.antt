@@ -1,4 +1,4 @@
-use Rattle.std.proofs.Common.{ℕ, List, ◌++◌, Some, subst}
+use Rattle.std.proofs.Common.{ℕ, List, ◌++◌, subst}
 use Rattle.html_grammar.specs.PageText.{page_text}
 use Rattle.html_grammar.specs.Reading.{Reading}
 use Rattle.html_lexemes.specs.declared.states.State.{State as TextState}

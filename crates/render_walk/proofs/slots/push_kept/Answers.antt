@@ -1,7 +1,7 @@
 use Rattle.std.proofs.Common.{sym}
 use Rattle.std.proofs.lemmas.Result.{on_ok_weaker}
 use Rattle.block_renderer.specs.Seen.{marking, sub_of}
-use Rattle.render_laying.specs.Seen.{made_of, widths_seen}
+use Rattle.render_laying.specs.Seen.{widths_seen}
 use Rattle.render_walk.specs.Tables.{empty_slot}
 use Rattle.table_rows.specs.Slots.{has_columns}
 use Rattle.render_walk.proofs.TableSlotLemmas.{kept_filled}
