@@ -1,34 +1,20 @@
-//! A small program over the library `html2text`: shows the page on standard input in a terminal, with strong text bold,
-//! emphasis italic, links underlined, struck text struck and code green, by escape sequences (ECMA-48, SGR).
-#![tactic(auto)]
-
-use html2text::{Config, Device, Error, ReferenceTable, RichAnnotation};
+use html2text::{Config, Error, RcDom, RichAnnotation, RichDecorator};
 use std::alloc::{AllocError, Global};
-use std::process::ExitCode;
 
-/// The columns of a line.
+/// The columns of a line in the terminal.
 const WIDTH: usize = 40;
 
-fn main(rt: HostRuntime) -> ExitCode {
-    match show(&rt) {
-        Ok(()) => ExitCode::from(0),
-        Err(error) => {
-            let _ = eprintln!(&rt; "coloured_page: {error}");
-            ExitCode::from(1)
-        }
-    }
-}
-
-fn show<R: Input + Print + AllocGlobal>(rt: &R) -> Result<(), Error> {
-    let alloc = rt.alloc();
-    let config = Config::rich(alloc, ReferenceTable::basic(alloc)?);
-    let mut input = Device::new(rt.reader());
-    let dom = config.parse_html(alloc, &mut input)?;
-    let tree = config.dom_to_render_tree(alloc, &dom)?;
-    let text = config.render_coloured(alloc, tree, WIDTH, |annotations, text| {
+/// The text of a page with strong text bold, emphasis italic, links underlined, struck text struck and code green, by
+/// escape sequences (ECMA-48, SGR).
+pub(crate) fn shown(
+    alloc: Global,
+    config: &Config<RichDecorator>,
+    dom: &RcDom,
+) -> Result<String, Error> {
+    let tree = config.dom_to_render_tree(alloc, dom)?;
+    config.render_coloured(alloc, tree, WIDTH, |annotations, text| {
         coloured(alloc, annotations, text)
-    })?;
-    print!(rt; "{text}").map_err(|_| Error::IoError)
+    })
 }
 
 /// A text between the sequences that begin its looks and the one that ends all.
