@@ -1,18 +1,12 @@
--- How a text and a pattern are compared, character by character.
-use Rattle.std.proofs.Common.{◌≡◌, ℕ, suc, ◌+◌, Bool, true, false, List, [], ◌∷◌, ◌++◌, length, take, drop, IsUtf8}
-use Rattle.std.proofs.Common.{chars, refl, sym, ap, subst, ◌∙◌, append_assoc, append-nil, encode_utf8}
-use Rattle.std.proofs.lemmas.List.{append_cancel_right, length_push, nil_from_length, take-append-drop}
-use Rattle.std.proofs.lemmas.Str.{chars-append, chars-nil, chars_past_char, drop_past_char, IsUtf8-drop, IsUtf8-take}
-use Rattle.std.proofs.lemmas.Str.{IsUtf8-past_char, IsCharBoundary-past_char, IsCharBoundary-start}
-use Rattle.std.specs.Char.{len_utf8}
-use Rattle.std.specs.Str.{IsCharBoundary}
+-- How what is left and a pattern are compared, character by character.
+use Rattle.std.proofs.Common.{◌≡◌, ℕ, suc, ◌+◌, ◌<◌, ◌≤◌, Bool, true, false, List, [], ◌∷◌, ◌++◌, length, drop}
+use Rattle.std.proofs.Common.{All, IsUtf8}
+use Rattle.std.proofs.Common.{String, string_bytes, chars, refl, sym, ap, subst, ◌∙◌, append_assoc, append-nil}
+use Rattle.std.proofs.Common.{encode_utf8, slice_index_or, arith}
+use Rattle.std.proofs.lemmas.List.{drop_all, drop_more, nil_from_length}
+use Rattle.std.proofs.lemmas.Str.{IsUtf8-past_char, IsUtf8-string_bytes, chars-nil, chars_past_char}
 use Rattle.html_lexemes.specs.Queue.{IsAlike, EndsInside, Differs}
-use Rattle.html_lexemes.specs.QueueParts.{BeginsAlike}
-
--- the characters before and behind a place
-chars_cut : (bs : List ℕ) (i : ℕ) → IsUtf8 bs → IsCharBoundary bs i → chars bs ≡ chars (take i bs) ++ chars (drop i bs)
-chars_cut bs i u cut =
-    ap chars (sym (take-append-drop i bs)) ∙ chars-append (take i bs) (drop i bs) (IsUtf8-take bs i u cut)
+use Rattle.html_lexemes.specs.QueueParts.{BeginsAlike, IsFilled, joined}
 
 IsAlike-push : (alike : ℕ → ℕ → Bool → Type 0) (cs ps : List ℕ) (c p : ℕ) → IsAlike alike cs ps → alike c p true →
     IsAlike alike (cs ++ c ∷ []) (ps ++ p ∷ [])
@@ -21,62 +15,74 @@ IsAlike-push alike [] (q ∷ ps) c p same one = absurd same
 IsAlike-push alike (d ∷ cs) [] c p same one = absurd same
 IsAlike-push alike (d ∷ cs) (q ∷ ps) c p same one = (same.0, IsAlike-push alike cs ps c p same.1 one)
 
-IsAlike-length : (alike : ℕ → ℕ → Bool → Type 0) (cs ps : List ℕ) → IsAlike alike cs ps → length cs ≡ length ps
+pub IsAlike-length : (alike : ℕ → ℕ → Bool → Type 0) (cs ps : List ℕ) → IsAlike alike cs ps → length cs ≡ length ps
 IsAlike-length alike [] [] same = refl
 IsAlike-length alike [] (q ∷ ps) same = absurd same
 IsAlike-length alike (d ∷ cs) [] same = absurd same
 IsAlike-length alike (d ∷ cs) (q ∷ ps) same = ap suc (IsAlike-length alike cs ps same.1)
 
-pub Differs-at : {alike : ℕ → ℕ → Bool → Type 0} {text other pattern : List ℕ} → text ≡ other →
-    Differs alike text pattern → Differs alike other pattern
-Differs-at {alike} {text} {other} {pattern} e h = subst (λ l. Differs alike l pattern) e h
-
-pub counts_front : {alike : ℕ → ℕ → Bool → Type 0} {bs pattern : List ℕ} {bytes count : ℕ} →
-    BeginsAlike alike bs pattern bytes count → count ≡ length (chars (take bytes bs))
-counts_front {alike} {bs} {pattern} {bytes} h =
-    h.counts ∙ sym (IsAlike-length alike (chars (take bytes bs)) pattern h.same)
-
--- so far each character of the pattern that was walked has its like: `rest` and `more` are left of the two
-pub record IsComparing (alike : ℕ → ℕ → Bool → Type 0) (text pattern rest walked more : List ℕ)
-    (bytes count : ℕ) : Type 0 where
-  pub here : drop bytes text ≡ rest
-  pub boundary : IsCharBoundary text bytes
-  pub same : IsAlike alike (chars (take bytes text)) walked
+-- So far each character of the pattern that was walked has its like: `rest` is left of the text that is looked at, so
+-- many were passed of those that wait, and `more` is left of the pattern.
+pub record IsComparing {Z : Type 0} (alike : ℕ → ℕ → Bool → Type 0) (text pattern : List ℕ) (later : List (String Z))
+    (rest : List ℕ) (passed : ℕ) (walked more : List ℕ) : Type 0 where
+  pub front : List ℕ
+  pub text_is : text ≡ front ++ (chars rest ++ joined (drop passed later))
+  pub same : IsAlike alike front walked
   pub pattern_is : chars pattern ≡ walked ++ chars more
-  pub is_text : IsUtf8 more
-  pub counts : count ≡ length walked
+  pub rest_utf8 : IsUtf8 rest
+  pub more_utf8 : IsUtf8 more
 
-pub IsComparing-start : (alike : ℕ → ℕ → Bool → Type 0) (text pattern rest more : List ℕ) → IsUtf8 text →
-    IsUtf8 pattern → rest ≡ text → more ≡ pattern → IsComparing alike text pattern rest [] more 0 0
-IsComparing-start alike text pattern rest more u v e f = record {
-  here = sym e;
-  boundary = IsCharBoundary-start text u;
-  same = subst (λ l. IsAlike alike l []) (sym chars-nil) tt;
-  pattern_is = ap chars (sym f);
-  is_text = subst IsUtf8 (sym f) v;
-  counts = refl;
+pub IsComparing-start : {Z : Type 0} (alike : ℕ → ℕ → Bool → Type 0) (text pattern first : List ℕ)
+    (later : List (String Z)) (rest more : List ℕ) → first ++ joined later ≡ text → chars rest ≡ first → IsUtf8 rest →
+    IsUtf8 pattern → more ≡ pattern → IsComparing alike text pattern later rest 0 [] more
+IsComparing-start alike text pattern first later rest more t r u v e = record {
+  front = [];
+  text_is = sym (ap (λ l. l ++ joined later) r ∙ t);
+  same = tt;
+  pattern_is = ap chars (sym e);
+  rest_utf8 = u;
+  more_utf8 = subst IsUtf8 (sym e) v;
 }
 
-module _ (alike : ℕ → ℕ → Bool → Type 0) (text pattern rest walked more : List ℕ) (bytes count : ℕ) (u : IsUtf8 text)
-    (h : IsComparing alike text pattern rest walked more bytes count) where
+module _ {Z : Type 0} (alike : ℕ → ℕ → Bool → Type 0) (text pattern : List ℕ) (later : List (String Z))
+    (rest : List ℕ) (passed : ℕ) (walked more : List ℕ)
+    (h : IsComparing alike text pattern later rest passed walked more) where
   next_of_pattern : (wanted : ℕ) (after : List ℕ) → more ≡ encode_utf8 wanted ++ after →
       chars pattern ≡ walked ++ wanted ∷ chars after
-  next_of_pattern wanted after e = h.pattern_is ∙ ap (λ l. walked ++ l) (chars_past_char more after wanted h.is_text e)
+  next_of_pattern wanted after e =
+      h.pattern_is ∙ ap (λ l. walked ++ l) (chars_past_char more after wanted h.more_utf8 e)
 
-  next_of_text : (found : ℕ) (after : List ℕ) → rest ≡ encode_utf8 found ++ after →
-      chars text ≡ chars (take bytes text) ++ found ∷ chars after
-  next_of_text found after e =
-      chars_cut text bytes u h.boundary
-      ∙ ap (λ l. chars (take bytes text) ++ l) (chars_past_char (drop bytes text) after found
-      (IsUtf8-drop text bytes u h.boundary) (h.here ∙ e))
+  next_of_text : (found : ℕ) (left : List ℕ) → rest ≡ encode_utf8 found ++ left →
+      text ≡ h.front ++ found ∷ (chars left ++ joined (drop passed later))
+  next_of_text found left e =
+      h.text_is ∙ ap (λ l. h.front ++ (l ++ joined (drop passed later))) (chars_past_char rest left found h.rest_utf8 e)
+
+  -- nothing is left of the text that is looked at, and another waits
+  pub on_to_next : (next : String Z) (begun : List ℕ) → length rest ≡ 0 → passed < length later →
+      next ≡ slice_index_or later passed next → begun ≡ string_bytes next
+      → IsComparing alike text pattern later begun (passed + 1) walked more
+  on_to_next next begun none within found e = record {
+    front = h.front;
+    text_is =
+        h.text_is
+        ∙ ap (λ l. h.front ++ (l ++ joined (drop passed later))) (ap chars (nil_from_length rest none) ∙ chars-nil)
+        ∙ ap (λ ts. h.front ++ joined ts)
+        (drop_more later passed next within ∙ ap (λ t. t ∷ drop (passed + 1) later) (sym found))
+        ∙ ap (λ l. h.front ++ (chars l ++ joined (drop (passed + 1) later))) (sym e);
+    same = h.same;
+    pattern_is = h.pattern_is;
+    rest_utf8 = subst IsUtf8 (sym e) (IsUtf8-string_bytes next);
+    more_utf8 = h.more_utf8;
+  }
 
   pub ends_inside : (wanted : ℕ) (after : List ℕ) → more ≡ encode_utf8 wanted ++ after → length rest ≡ 0 →
-      EndsInside alike (chars text) (chars pattern)
-  ends_inside wanted after e none =
-      let nothing : chars (drop bytes text) ≡ [] = ap chars (h.here ∙ nil_from_length rest none) ∙ chars-nil in
-      let whole : chars text ≡ chars (take bytes text) =
-      chars_cut text bytes u h.boundary ∙ ap (λ l. chars (take bytes text) ++ l) nothing ∙
-      append-nil (chars (take bytes text)) in
+      length later ≤ passed → EndsInside alike text (chars pattern)
+  ends_inside wanted after e none last =
+      let whole : text ≡ h.front =
+      h.text_is
+      ∙ ap (λ l. h.front ++ (l ++ joined (drop passed later))) (ap chars (nil_from_length rest none) ∙ chars-nil)
+      ∙ ap (λ ts. h.front ++ joined ts) (drop_all passed later last)
+      ∙ append-nil h.front in
       record {
         begun = walked;
         next = wanted;
@@ -86,13 +92,13 @@ module _ (alike : ℕ → ℕ → Bool → Type 0) (text pattern rest walked mor
       }
 
   pub differs_here : (found wanted : ℕ) (left after : List ℕ) → rest ≡ encode_utf8 found ++ left →
-      more ≡ encode_utf8 wanted ++ after → alike found wanted false → Differs alike (chars text) (chars pattern)
+      more ≡ encode_utf8 wanted ++ after → alike found wanted false → Differs alike text (chars pattern)
   differs_here found wanted left after d e unlike = record {
-    front = chars (take bytes text);
+    front = h.front;
     begun = walked;
     found = found;
     wanted = wanted;
-    after = chars left;
+    after = chars left ++ joined (drop passed later);
     more = chars after;
     text_is = next_of_text found left d;
     pattern_is = next_of_pattern wanted after e;
@@ -100,44 +106,47 @@ module _ (alike : ℕ → ℕ → Bool → Type 0) (text pattern rest walked mor
     differs = unlike;
   }
 
-  pub begins_alike : length more ≡ 0 → BeginsAlike alike text (chars pattern) bytes count
+  pub begins_alike : length more ≡ 0 → BeginsAlike alike text (chars pattern)
   begins_alike none =
       let whole : chars pattern ≡ walked =
       h.pattern_is ∙ ap (λ l. walked ++ l) (ap chars (nil_from_length more none) ∙ chars-nil) ∙
       append-nil walked in
       record {
-        boundary = h.boundary;
-        same = subst (IsAlike alike (chars (take bytes text))) (sym whole) h.same;
-        counts = h.counts ∙ ap length (sym whole);
+        front = h.front;
+        rest = chars rest ++ joined (drop passed later);
+        text_is = h.text_is;
+        same = subst (IsAlike alike h.front) (sym whole) h.same;
       }
 
-  boundary_past : (found : ℕ) (left : List ℕ) → rest ≡ encode_utf8 found ++ left →
-      IsCharBoundary text (bytes + len_utf8 found)
-  boundary_past found left d =
-      IsCharBoundary-past_char text left bytes found h.boundary.0 (IsUtf8-drop text bytes u h.boundary) (h.here ∙ d)
+  pub compared_more : (found wanted : ℕ) (left after : List ℕ) → rest ≡ encode_utf8 found ++ left →
+      more ≡ encode_utf8 wanted ++ after → alike found wanted true
+      → IsComparing alike text pattern later left passed (walked ++ wanted ∷ []) after
+  compared_more found wanted left after d e one = record {
+    front = h.front ++ found ∷ [];
+    text_is =
+        next_of_text found left d
+        ∙ sym (append_assoc h.front (found ∷ []) (chars left ++ joined (drop passed later)));
+    same = IsAlike-push alike h.front walked found wanted h.same one;
+    pattern_is = next_of_pattern wanted after e ∙ sym (append_assoc walked (wanted ∷ []) (chars after));
+    rest_utf8 = IsUtf8-past_char rest left found h.rest_utf8 d;
+    more_utf8 = IsUtf8-past_char more after wanted h.more_utf8 e;
+  }
 
-  past_front : (found : ℕ) (left : List ℕ) → rest ≡ encode_utf8 found ++ left →
-      chars (take (bytes + len_utf8 found) text) ≡ chars (take bytes text) ++ found ∷ []
-  past_front found left d =
-      append_cancel_right (chars (take (bytes + len_utf8 found) text)) (chars (take bytes text) ++ found ∷ [])
-      (chars left)
-      (ap (λ l. chars (take (bytes + len_utf8 found) text) ++ chars l)
-      (sym (drop_past_char text left bytes found (h.here ∙ d)))
-      ∙ sym (chars_cut text (bytes + len_utf8 found) u (boundary_past found left d))
-      ∙ next_of_text found left d
-      ∙ sym (append_assoc (chars (take bytes text)) (found ∷ []) (chars left)))
+-- a text that waits has a character
+pub none_waits_empty : {Z : Type 0} (later : List (String Z)) (i : ℕ) (text : String Z) (rest : List ℕ) →
+    All IsFilled later → i < length later → text ≡ slice_index_or later i text → rest ≡ string_bytes text →
+    length rest ≡ 0 → ⊥
+none_waits_empty later i text rest all within found e none =
+    let some : IsFilled text = subst IsFilled (sym found) (all i text within) in
+    omega (
+      arith,
+      some,
+      ap length (ap chars (sym e ∙ nil_from_length rest none) ∙ chars-nil),
+    )
 
-  pub compared_more : (found wanted width : ℕ) (left after : List ℕ) → rest ≡ encode_utf8 found ++ left →
-      more ≡ encode_utf8 wanted ++ after → width ≡ len_utf8 found → alike found wanted true
-      → IsComparing alike text pattern left (walked ++ wanted ∷ []) after (bytes + width) (count + 1)
-  compared_more found wanted width left after d e w one =
-      rw w
-      (record {
-        here = drop_past_char text left bytes found (h.here ∙ d);
-        boundary = boundary_past found left d;
-        same = subst (λ l. IsAlike alike l (walked ++ wanted ∷ [])) (sym (past_front found left d))
-            (IsAlike-push alike (chars (take bytes text)) walked found wanted h.same one);
-        pattern_is = next_of_pattern wanted after e ∙ sym (append_assoc walked (wanted ∷ []) (chars after));
-        is_text = IsUtf8-past_char more after wanted h.is_text e;
-        counts = ap (λ n. n + 1) h.counts ∙ sym (length_push walked wanted);
-      })
+pub moved : {Z : Type 0} {alike : ℕ → ℕ → Bool → Type 0} {text pattern : List ℕ} {later : List (String Z)}
+    {rest : List ℕ} {passed : ℕ} {walked more : List ℕ} (begun : List ℕ) (at : ℕ) → begun ≡ rest → at ≡ passed →
+    IsComparing alike text pattern later rest passed walked more
+    → IsComparing alike text pattern later begun at walked more
+moved {Z} {alike} {text} {pattern} {later} {rest} {passed} {walked} {more} begun at e f h =
+    rw (e, f) h

@@ -1,7 +1,9 @@
 pub mod ByteRuns
 pub mod ComparedLemmas
+pub mod EatenLemmas
 pub mod NameLemmas
 pub mod Permutations
 pub mod QueueLemmas
 pub mod RunLemmas
 pub mod SameAttributes
+pub mod WaitingLemmas

@@ -1,13 +1,13 @@
 -- What calls on the bytes of a text say of a queue's characters.
-use Rattle.std.proofs.Common.{◌≡◌, ℕ, ◌+◌, ◌-◌, ◌^◌, ◌<◌, ◌≤◌, min, Bool, true, false, cond, IsTrue, List, [], ◌∷◌}
-use Rattle.std.proofs.Common.{◌++◌, length, take, drop, eqb, Some, Result, Ok, Err, is_ok, OnOk, IsUtf8, chars, refl}
-use Rattle.std.proofs.Common.{sym, ap, subst, ◌∙◌, arith, length-append, length-drop, append_assoc, encode_utf8}
+use Rattle.std.proofs.Common.{◌≡◌, ℕ, ◌+◌, ◌-◌, ◌^◌, ◌<◌, ◌≤◌, min, IsTrue, List, [], ◌∷◌}
+use Rattle.std.proofs.Common.{◌++◌, length, take, drop, eqb, Some, IsUtf8, chars, refl}
+use Rattle.std.proofs.Common.{sym, ap, ◌∙◌, arith, length-drop, append_assoc, encode_utf8}
 use Rattle.std.proofs.Common.{encode_utf8_all, slice_get, String, string_bytes}
 use Rattle.std.proofs.lemmas.Bool.{eqb-true, eq-eqb}
-use Rattle.std.proofs.lemmas.List.{take-append-drop, drop_all, drop_at, drop-append-le, drop-drop, length-take-le}
+use Rattle.std.proofs.lemmas.List.{take-append-drop, drop_all, drop_at, drop-drop, length-take-le}
 use Rattle.std.proofs.lemmas.Option.{none-some, same_Some}
 use Rattle.std.proofs.lemmas.Str.{chars-append, chars-nil, chars_past_char, encodes-chars, drop_past_char}
-use Rattle.std.proofs.lemmas.Str.{IsUtf8-append, IsUtf8-drop, IsUtf8-take, IsCharBoundary-from_drop}
+use Rattle.std.proofs.lemmas.Str.{IsUtf8-drop, IsUtf8-take}
 use Rattle.std.proofs.lemmas.Str.{IsCharBoundary-past_char}
 use Rattle.std.specs.Char.{len_utf8}
 use Rattle.std.specs.Str.{IsCharBoundary}
@@ -40,7 +40,9 @@ pub ends_at : (bs : List ℕ) (start size : ℕ) → IsUtf8 bs → IsCharBoundar
     → (IsTrue (eqb start size) → chars (drop start bs) ≡ []) × (chars (drop start bs) ≡ [] → IsTrue (eqb start size))
 ends_at bs start size u cut e = (
   λ same. ap chars (drop_all start bs (omega (arith, eqb-true start size same))) ∙ chars-nil,
-  λ none. let gone = no_characters (drop start bs) (IsUtf8-drop bs start u cut) none in eq-eqb start size (omega (arith, ap length gone, length-drop start bs, cut.0)),
+  λ none.
+      let gone = no_characters (drop start bs) (IsUtf8-drop bs start u cut) none in
+      eq-eqb start size (omega (arith, ap length gone, length-drop start bs, cut.0)),
 )
 
 begins_by : (cs bs : List ℕ) (c : ℕ) → encode_utf8_all cs ≡ bs → slice_get cs 0 ≡ Some c →
@@ -86,28 +88,6 @@ pub past_run : (bs rest run : List ℕ) (start size : ℕ) → IsUtf8 rest → r
 past_run bs rest run start size u e front cut s =
     rw s (ap (λ l. chars l ++ chars (drop (start + length run) bs)) front ∙ past_place bs rest start
     (length run) u e cut)
-
--- a place in a text is one in what the text grows to
-pub IsCharBoundary-append : (bs ys : List ℕ) (i : ℕ) → IsUtf8 bs → IsUtf8 ys → IsCharBoundary bs i →
-    IsCharBoundary (bs ++ ys) i
-IsCharBoundary-append bs ys i u v cut =
-    IsCharBoundary-from_drop (bs ++ ys) i (omega (arith, length-append bs ys, cut.0))
-    (rw (drop-append-le i bs ys cut.0) (IsUtf8-append (drop i bs) ys (IsUtf8-drop bs i u cut) v))
-
-pub pushed_boundary : (bs ys new : List ℕ) (i : ℕ) (done : Bool) → IsUtf8 bs → IsUtf8 ys →
-    new ≡ cond done (bs ++ ys) bs → IsCharBoundary bs i → IsCharBoundary new i
-pushed_boundary bs ys new i true u v e cut =
-    subst (λ l. IsCharBoundary l i) (sym e) (IsCharBoundary-append bs ys i u v cut)
-pushed_boundary bs ys new i false u v e cut = subst (λ l. IsCharBoundary l i) (sym e) cut
-
--- what is left after a text was added behind it
-pub pushed_rest : {T E : Type 0} (r : Result T E) (bs ys new : List ℕ) (i : ℕ) (left : List ℕ) (taken had : ℕ) →
-    IsUtf8 bs → IsCharBoundary bs i → new ≡ cond (is_ok r) (bs ++ ys) bs → chars (drop i bs) ≡ left → taken ≡ had
-    → OnOk r (queue_of (chars (drop i new)) taken ≡ queue_of (left ++ chars ys) had)
-pushed_rest (Ok x) bs ys new i left taken had u cut e l t =
-    queue_same (ap (λ k. chars (drop i k)) e ∙ ap chars (drop-append-le i bs ys cut.0) ∙
-    chars-append (drop i bs) ys (IsUtf8-drop bs i u cut) ∙ ap (λ k. k ++ chars ys) l) t
-pushed_rest (Err x) bs ys new i left taken had u cut e l t = tt
 
 -- what is left after a text at the end of what was taken was put back
 pub put_back : (bs front added : List ℕ) (start size : ℕ) → IsUtf8 added → start ≤ length bs → front ≡ take start bs →

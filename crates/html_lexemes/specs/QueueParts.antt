@@ -1,10 +1,9 @@
--- What the parts of a queue's calls do, on the bytes of a text.
-use Rattle.std.specs.Prelude.{◌≡◌, ℕ, ◌<◌, Bool, true, false, ◌||◌, nat_lt, nat_le, IsTrue, List, length, take, chars}
-use Rattle.std.specs.Prelude.{Some, slice_get, slice_index_or}
+-- What the parts of a queue's calls do: on the bytes of a text, and on the texts that wait.
+use Rattle.std.specs.Prelude.{◌≡◌, ℕ, ◌<◌, Bool, true, false, ◌||◌, nat_lt, nat_le, IsTrue, List, [], ◌∷◌, ◌++◌}
+use Rattle.std.specs.Prelude.{length, take, chars, String, string_bytes, All, Option, None, Some, slice_get}
+use Rattle.std.specs.Prelude.{slice_index_or}
 use Rattle.std.specs.Str.{IsCharBoundary}
 use Rattle.html_lexemes.specs.Queue.{is_in, is_free_of, IsAlike, EndsInside, Differs}
-use Rattle.html_lexemes.specs.declared.queue.Compared.{Compared}
-use Rattle.html_lexemes.specs.declared.queue.Compared.TheVariants.{EndsInside as Ends, Differs as Differing, Begins}
 
 -- the text begins with a run without a character of the set: not empty, where the first character is not one
 pub record IsRunOutside (set bs run : List ℕ) : Type 0 where
@@ -27,14 +26,39 @@ pub record Marks (set : List ℕ) (marks : List Bool) : Type 0 where
 abbrev pub begins_character : ℕ → Bool
 begins_character b = nat_lt b 128 || nat_le 192 b
 
--- so many bytes at the front of a text are alike to the pattern, which has so many characters
-pub record BeginsAlike (alike : ℕ → ℕ → Bool → Type 0) (bs pattern : List ℕ) (bytes count : ℕ) : Type 0 where
-  pub boundary : IsCharBoundary bs bytes
-  pub same : IsAlike alike (chars (take bytes bs)) pattern
-  pub counts : count ≡ length pattern
+-- texts as one
+abbrev pub joined : {Z : Type 0} → List (String Z) → List ℕ
+joined [] = []
+joined (text ∷ texts) = chars (string_bytes text) ++ joined texts
+
+-- whether a text has a character
+abbrev pub IsFilled : {Z : Type 0} → String Z → Type 0
+IsFilled text = 0 < length (chars (string_bytes text))
+
+-- what is left of a text, and those that wait behind it: none of these is empty, and none waits where nothing is left
+pub record IsWaiting {Z : Type 0} (first : List ℕ) (later : List (String Z)) : Type 0 where
+  pub filled : All IsFilled later
+  pub last : first ≡ [] → later ≡ []
+
+-- so many characters outside the set were taken, and stand behind what the text was before: at least one, where the
+-- first is not in the set
+pub record TakesRun (set old before new behind : List ℕ) (count : ℕ) : Type 0 where
+  pub cs : List ℕ
+  pub text : old ≡ cs ++ new
+  pub appended : chars behind ≡ chars before ++ cs
+  pub free : IsTrue (is_free_of set cs)
+  pub some : (c : ℕ) → slice_get old 0 ≡ Some c → is_in set c ≡ false → 0 < length cs
+  pub counts : count ≡ length cs
+
+-- the text begins with what is alike to the pattern
+pub record BeginsAlike (alike : ℕ → ℕ → Bool → Type 0) (text pattern : List ℕ) : Type 0 where
+  pub front : List ℕ
+  pub rest : List ℕ
+  pub text_is : text ≡ front ++ rest
+  pub same : IsAlike alike front pattern
 
 -- what a comparison of a text with a pattern answers
-abbrev pub Compares : (ℕ → ℕ → Bool → Type 0) → List ℕ → List ℕ → Compared → Type 0
-Compares alike bs pattern Ends = EndsInside alike (chars bs) pattern
-Compares alike bs pattern Differing = Differs alike (chars bs) pattern
-Compares alike bs pattern (Begins bytes count) = BeginsAlike alike bs pattern bytes count
+abbrev pub Begins : (ℕ → ℕ → Bool → Type 0) → List ℕ → List ℕ → Option Bool → Type 0
+Begins alike text pattern None = EndsInside alike text pattern
+Begins alike text pattern (Some true) = BeginsAlike alike text pattern
+Begins alike text pattern (Some false) = Differs alike text pattern

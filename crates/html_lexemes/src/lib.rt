@@ -5,6 +5,7 @@
 
 mod attributes;
 mod fault;
+mod first_text;
 pub mod laws;
 mod names;
 mod queue;

@@ -1,14 +1,14 @@
-ghost use Rattle.std.specs.Prelude.{◌≡◌, ◌<◌, ◌↔◌, [], ◌∷◌, ◌++◌, length, drop, chars, string_bytes, slice_get, IsTrue};
-ghost use Rattle.std.specs.Prelude.{IfOk, IfSome, OnOk, OnErr, MatchOption};
+ghost use Rattle.std.specs.Prelude.{◌≡◌, ◌<◌, ◌↔◌, [], ◌∷◌, ◌++◌, length, chars, string_bytes, slice_get, IsTrue};
+ghost use Rattle.std.specs.Prelude.{IfOk, IfSome, OnOk, OnErr, MatchOption, All};
 ghost use Rattle.std.specs.Char.{IsScalar};
-ghost use Rattle.std.specs.Str.{IsCharBoundary};
 ghost use Rattle.html_lexemes.specs.Queue.{Takes, Eats};
-ghost use Rattle.html_lexemes.specs.QueueParts.{Compares};
+ghost use Rattle.html_lexemes.specs.QueueParts.{Begins, IsFilled, IsWaiting, joined};
 
-use crate::runs::{count_of, run_outside};
+use crate::first_text::FirstText;
+use crate::runs::count_of;
 use std::alloc::{AllocError, Global};
+use std::collections::VecDeque;
 use std::marker::Model;
-use std::mem;
 
 /// What stood at a queue's front: a character of a set, or a run of characters outside it.
 #[derive(Drop)]
@@ -23,28 +23,28 @@ pub enum SetResult {
 /// its front, one that was put back and taken again counting again, up to 2^64 - 1; no call tells
 /// that number.
 ///
-/// What was taken stays in memory until a text comes when it is at least as long as what is left, at
-/// the latest until all is taken and a text comes. Taking is constant time for each character.
+/// A text that comes is kept as it is, behind those that wait: none is copied. It stays in memory until all of it is
+/// taken and another waits or comes. Taking is constant time for each character.
 #[derive(Drop)]
 pub struct BufferQueue {
-    // what is left stands from `start` on, in bytes
-    text: String,
-    start: usize,
+    // nothing is left of the first only where no other waits, and none of those is empty
+    first: FirstText,
+    later: VecDeque<String>,
     taken: u64,
 }
 
 impl Model for BufferQueue {
-    ghost use Rattle.std.specs.Prelude.{chars, string_bytes, drop};
-    ghost use Rattle.std.specs.Str.{IsCharBoundary};
+    ghost use Rattle.std.specs.Prelude.{◌++◌};
     ghost use Rattle.html_lexemes.specs.Queue.{Queue, queue_code};
+    ghost use Rattle.html_lexemes.specs.QueueParts.{IsWaiting, joined};
 
     ghost Value = { Queue };
 
     ghost coded = { queue_code };
 
-    ghost view = { λ q. record { text = chars (drop q.start (string_bytes q.text)); taken = q.taken } };
+    ghost view = { λ q. record { text = q.first ++ joined q.later.items; taken = q.taken } };
 
-    ghost invariant = { λ q. IsCharBoundary (string_bytes q.text) q.start };
+    ghost invariant = { λ q. IsWaiting q.first q.later.items };
 }
 
 impl BufferQueue {
@@ -55,8 +55,8 @@ impl BufferQueue {
         ensures { result ≡ record { text = []; taken = 0 } }
     {
         BufferQueue {
-            text: String::new(alloc),
-            start: 0,
+            first: FirstText::new(String::new(alloc)),
+            later: VecDeque::new(alloc),
             taken: 0,
         }
     }
@@ -65,22 +65,14 @@ impl BufferQueue {
     pub fn is_empty(&self) -> bool
         ensures { IsTrue result ↔ self.now.text ≡ [] }
     {
-        self.start == self.text.len()
+        self.first.is_empty()
     }
 
     /// The first character, which stays. `None` is an empty queue.
     pub fn peek(&self) -> Option<char>
         ensures { result ≡ slice_get self.now.text 0 }
     {
-        self.rest().chars().next()
-    }
-
-    // what is left
-    fn rest(&self) -> &str
-        ensures { chars result.now ≡ self.now.text }
-    {
-        let (_, rest) = self.text.as_str().split_at(self.start);
-        rest
+        self.first.peek()
     }
 
     /// Takes the first character. `None` is an empty queue.
@@ -89,8 +81,8 @@ impl BufferQueue {
             (λ c. Takes self.old (c ∷ []) self.new) }
         ensures scalar { IfSome result IsScalar }
     {
-        let c = self.peek()?;
-        self.start += c.len_utf8();
+        let c = self.first.next()?;
+        go_on(&mut self.first, &mut self.later);
         self.taken = self.taken.saturating_add(1);
         Some(c)
     }
@@ -103,10 +95,8 @@ impl BufferQueue {
         if self.is_empty() {
             return None;
         }
-        take_out_front(&mut self.text, self.start);
-        let alloc = *self.text.allocator();
-        let run = mem::replace(&mut self.text, String::new(alloc));
-        self.start = 0;
+        let run = self.first.take_all();
+        go_on(&mut self.first, &mut self.later);
         let count = count_of(run.as_str());
         self.taken = self.taken.saturating_add(count as u64);
         Some(run)
@@ -121,12 +111,13 @@ impl BufferQueue {
         ensures err { OnErr result (self.new ≡ self.old) }
     {
         if self.is_empty() {
-            self.text = text;
-            self.start = 0;
+            self.first = FirstText::new(text);
             return Ok(());
         }
-        self.start = let_go(&mut self.text, self.start);
-        self.text.push_str(text.as_str())
+        if !text.is_empty() {
+            self.later.push_back(text)?;
+        }
+        Ok(())
     }
 
     /// Puts a text before what is left. The error is want of memory alone, and leaves the queue as it was.
@@ -138,19 +129,7 @@ impl BufferQueue {
         }) }
         ensures err { OnErr result (self.new ≡ self.old) }
     {
-        if self.is_empty() {
-            self.text = text;
-            self.start = 0;
-            return Ok(());
-        }
-        let (taken, _) = self.text.as_str().split_at(self.start);
-        if taken.ends_with(text.as_str()) {
-            self.start -= text.len();
-            return Ok(());
-        }
-        self.text.replace_range(..self.start, text.as_str())?;
-        self.start = 0;
-        Ok(())
+        self.first.put_back(text)
     }
 
     /// Takes the first character where it is one of `set`, and else a run of characters, at least one,
@@ -164,15 +143,12 @@ impl BufferQueue {
             return Ok(None);
         };
         if set.contains(&first) {
-            self.start += first.len_utf8();
-            self.taken = self.taken.saturating_add(1);
+            self.next();
             return Ok(Some(SetResult::FromSet(first)));
         }
-        let (_, rest) = self.text.as_str().split_at(self.start);
-        let run = run_outside(rest, set);
-        let run = String::from_str(*self.text.allocator(), run)?;
-        self.start += run.len();
-        let count = count_of(run.as_str());
+        let mut run = String::new(self.first.allocator());
+        let count = self.first.take_run(set, &mut run)?;
+        go_on(&mut self.first, &mut self.later);
         self.taken = self.taken.saturating_add(count as u64);
         Ok(Some(SetResult::NotFromSet(run)))
     }
@@ -183,11 +159,8 @@ impl BufferQueue {
         ensures ok { OnOk result (PopsRun set.now self.old (string_bytes run.old) self.new (string_bytes run.new)) }
         ensures err { OnErr result ((self.new ≡ self.old) × (string_bytes run.new ≡ string_bytes run.old)) }
     {
-        let (_, rest) = self.text.as_str().split_at(self.start);
-        let front = run_outside(rest, set);
-        run.push_str(front)?;
-        self.start += front.len();
-        let count = count_of(front);
+        let count = self.first.take_run(set, run)?;
+        go_on(&mut self.first, &mut self.later);
         self.taken = self.taken.saturating_add(count as u64);
         Ok(())
     }
@@ -199,70 +172,61 @@ impl BufferQueue {
         requires { F.IsAlwaysCallable eq }
         ensures { Eats (λ a b r. F.post eq a b r) self.old (chars text.now) result self.new }
     {
-        let (_, rest) = self.text.as_str().split_at(self.start);
-        match compare(rest, text, eq) {
-            Compared::EndsInside => None,
-            Compared::Differs => Some(false),
-            Compared::Begins { length, count } => {
-                self.start += length;
-                self.taken = self.taken.saturating_add(count);
-                Some(true)
-            }
+        if !begins_with(&self.first, &self.later, text, eq)? {
+            return Some(false);
         }
+        'eaten: for _ in text.chars() {
+            self.next();
+        }
+        Some(true)
     }
 }
 
-// takes the first bytes out of a text, which takes no memory
-fn take_out_front(text: &mut String, length: usize)
-    requires { IsCharBoundary (string_bytes text.old) length }
-    ensures { string_bytes text.new ≡ drop length (string_bytes text.old) }
+// Whether what is left begins with a pattern; `None` where it ends before a character differs.
+fn begins_with<F: Fn(char, char) -> bool>(
+    first: &FirstText,
+    later: &VecDeque<String>,
+    pattern: &str,
+    eq: F,
+) -> Option<bool>
+    requires waiting { IsWaiting first.now later.now.items }
+    requires callable { F.IsAlwaysCallable eq }
+    ensures { Begins (λ a b r. F.post eq a b r) (first.now ++ joined later.now.items) (chars pattern.now) result }
 {
-    // An empty text fits in place of what is taken out, so nothing grows.
-    text.replace_range(..length, "").unwrap();
-}
-
-// Lets go of what stands before `start`, once it is as long as what has to move for it. The answer is
-// where the rest then starts.
-fn let_go(text: &mut String, start: usize) -> usize
-    requires { IsCharBoundary (string_bytes text.old) start }
-    ensures rest { drop result (string_bytes text.new) ≡ drop start (string_bytes text.old) }
-    ensures boundary { IsCharBoundary (string_bytes text.new) result }
-{
-    if start < text.len() - start {
-        return start;
-    }
-    take_out_front(text, start);
-    0
-}
-
-// Where a comparison of a text with a pattern came to its end.
-#[derive(Clone, Copy)]
-enum Compared {
-    // The text ends, and more of the pattern is to come.
-    EndsInside,
-    // Two characters are not alike.
-    Differs,
-    // The text begins with the pattern: so many bytes, and characters.
-    Begins { length: usize, count: u64 },
-}
-
-// compares a text and a pattern, character by character
-fn compare<F: Fn(char, char) -> bool>(text: &str, pattern: &str, eq: F) -> Compared
-    requires { F.IsAlwaysCallable eq }
-    ensures { Compares (λ a b r. F.post eq a b r) text.now (chars pattern.now) result }
-{
-    let mut length = 0;
-    let mut count = 0;
-    let mut rest = text.chars();
+    let mut rest = first.rest().chars();
+    let mut passed = 0;
     'compared: for wanted in pattern.chars() {
-        let Some(found) = rest.next() else {
-            return Compared::EndsInside;
+        let found = match rest.next() {
+            Some(found) => found,
+            None => {
+                let Some(text) = later.get(passed) else {
+                    return None;
+                };
+                passed += 1;
+                rest = text.as_str().chars();
+                // none of the texts that wait is empty
+                let Some(found) = rest.next() else {
+                    return None;
+                };
+                found
+            }
         };
         if !eq(found, wanted) {
-            return Compared::Differs;
+            return Some(false);
         }
-        length += found.len_utf8();
-        count += 1;
     }
-    Compared::Begins { length, count }
+    Some(true)
+}
+
+// Goes on to the next of the texts that wait, where nothing is left of the first.
+fn go_on(first: &mut FirstText, later: &mut VecDeque<String>)
+    requires { All IsFilled later.old.items }
+    ensures same { first.new ++ joined later.new.items ≡ first.old ++ joined later.old.items }
+    ensures waiting { IsWaiting first.new later.new.items }
+{
+    if first.is_empty() {
+        if let Some(text) = later.pop_front() {
+            *first = FirstText::new(text);
+        }
+    }
 }

@@ -1,14 +1,11 @@
 use Rattle.std.proofs.Common.{sym, ap, ◌∙◌}
-use Rattle.std.proofs.lemmas.Str.{IsUtf8-string_bytes}
 use Rattle.html_lexemes.specs.Queue.{Queue}
-use Rattle.html_lexemes.proofs.QueueLemmas.{ends_at, string_length}
+use Rattle.html_lexemes.proofs.WaitingLemmas.{none_first, none_left}
 use Rattle.html_lexemes.proofs.queue.BufferQueue.is_empty.Goals as goal
 
 pub returns : goal.returns
 returns c =
-    let text = ap (λ (q : Queue). q.text) c.self.view_is in
-    let s = c.self.inside.text in
-    let ends =
-    ends_at _ c.self.inside.start c.len.result (IsUtf8-string_bytes s) c.self.invariant
-    (c.len.ensures ∙ string_length s) in
-    (λ e. sym text ∙ ends.0 e, λ none. ends.1 (text ∙ none))
+    let text = ap (λ (q : Queue). q.text) c.self.view_is in (
+      λ e. sym text ∙ none_left _ _ c.self.invariant (c.is_empty.ensures.0 e),
+      λ none. c.is_empty.ensures.1 (none_first _ _ (text ∙ none)),
+    )
