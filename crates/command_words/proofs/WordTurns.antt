@@ -14,8 +14,8 @@ use Rattle.clap.specs.declared.error.kind.ErrorKind.TheVariants.{DisplayHelp, To
 use Rattle.command_words.specs.CommandWords.{IsHelpWord, IsPlain, Valued}
 use Rattle.command_words.proofs.FaultKinds.{or_else_none}
 use Rattle.command_words.proofs.ItemUses.{held}
-use Rattle.command_words.proofs.OptionNames.{at_first, at_second, by_id, by_letter, file_is_last}
-use Rattle.command_words.proofs.OptionNames.{file_is_single, file_takes_one, filed, help_at, id_is, id_of}
+use Rattle.command_words.proofs.OptionNames.{at_first, at_second, by_help, by_id, by_letter, file_is_last}
+use Rattle.command_words.proofs.OptionNames.{file_is_single, file_takes_one, filed, help_at, help_takes, id_is, id_of}
 use Rattle.command_words.proofs.OptionNames.{is_leaf, no_override, option_takes_one, same_option, shape, valued}
 
 -- ---- the walk between two words

@@ -3,7 +3,8 @@
 --   html2text [--width N] [--rich] [--no-decorate] [--footnotes] [--shared-footnotes] [--references FILE]
 --       [--max-bytes N] [--] [FILE]
 use Rattle.std.specs.Prelude.{◌≡◌, ℕ, ◌+◌, ◌^◌, ◌<◌, zero, suc, Bool, true, false, not, pos, All, List, []}
-use Rattle.std.specs.Prelude.{◌∷◌, ◌++◌, ◌⊎◌, flat_map, Option, Some, None, ⊤, codes}
+use Rattle.std.specs.Prelude.{◌∷◌, ◌++◌, ◌⊎◌, flat_map, Option, Some, None, ⊤, codes, slice_get}
+use Rattle.std.specs.Str.{chars}
 use Rattle.std.specs.Str.Parse.{IsNumeral, signed_digits_value, starts_with_minus, without_leading_sign}
 
 -- the options that have a value, and those that have none

@@ -6,7 +6,7 @@ use Rattle.html_lexemes.specs.declared.states.RawKind.{RawKind}
 use Rattle.html_lexemes.specs.declared.token.TagKind.{TagKind}
 use Rattle.html_lexemes.specs.declared.token.TagKind.TheVariants.{StartTag, EndTag}
 use Rattle.html_grammar.specs.Characters.{is_letter, shown}
-use Rattle.html_grammar.specs.Comments.{bogus_comment_slice}
+use Rattle.html_grammar.specs.Comments.{bogus_comment_slice, comment_slice}
 use Rattle.html_grammar.specs.Doctypes.{doctype_at}
 use Rattle.html_grammar.specs.Items.{Item, characters, comment, doctype, end_of_file, error, null_character, tag}
 use Rattle.html_grammar.specs.Kinds.{AreWelcome, AreWithin, HasMarkup, IsHearing, IsOf, IsOfTag, IsReadyFor, IsWithin}

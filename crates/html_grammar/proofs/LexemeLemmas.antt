@@ -8,7 +8,7 @@ use Rattle.html_lexemes.specs.declared.states.ScriptEscapeKind.{ScriptEscapeKind
 use Rattle.html_lexemes.specs.declared.states.ScriptEscapeKind.TheVariants.{Escaped, DoubleEscaped}
 use Rattle.html_grammar.specs.Comments.{bogus_comment_slice, comment_slice}
 use Rattle.html_grammar.specs.Doctypes.{doctype_at}
-use Rattle.html_grammar.specs.Lexemes.{cdata_lexeme, comment_lexeme, declaration, doctype_lexeme}
+use Rattle.html_grammar.specs.Lexemes.{begins_tag, cdata_lexeme, comment_lexeme, declaration, doctype_lexeme}
 use Rattle.html_grammar.specs.Lexemes.{ends_raw_text, has_end_tags, has_references, kind_behind, named_end_tag}
 use Rattle.html_grammar.specs.Lexemes.{raw_lexeme, reference_lexeme, tag_lexeme, told}
 use Rattle.html_grammar.specs.Slices.{after, after_word, begins, begins_word, cut, cut_or_all, front_while, rest_while}

@@ -9,7 +9,7 @@ use Rattle.html_lexemes.specs.declared.states.ScriptEscapeKind.TheVariants.{Esca
 use Rattle.html_lexemes.specs.declared.token.Tag.{Tag}
 use Rattle.html_lexemes.specs.declared.token.TagKind.TheVariants.{StartTag, EndTag}
 use Rattle.html_grammar.specs.Characters.{is_letter, name_of, shown, shown_text}
-use Rattle.html_grammar.specs.Comments.{bogus_comment_slice}
+use Rattle.html_grammar.specs.Comments.{bogus_comment_slice, comment_slice}
 use Rattle.html_grammar.specs.Doctypes.{DoctypeEnd, doctype_at}
 use Rattle.html_grammar.specs.Items.{Item, characters, comment, doctype, error, null_character}
 use Rattle.html_grammar.specs.declared.modes.Mode.{Mode}

@@ -5,7 +5,7 @@ use Rattle.std.specs.Prelude.{Option}
 use Rattle.std.specs.Str.{chars}
 use Rattle.html_lexemes.specs.declared.names.Attribute.{Attribute}
 use Rattle.html_lexemes.specs.declared.names.QualName.{QualName}
-use Rattle.html_serializer.specs.Escapes.{attribute_text, attributes_text, doctype_text, end_text}
+use Rattle.html_serializer.specs.Escapes.{attribute_text, attributes_text, comment_text, doctype_text, end_text}
 use Rattle.html_serializer.specs.Escapes.{escaped, instruction_text, start_text}
 use Rattle.html_serializer.specs.Writing.{GrowsPart}
 use Rattle.html_serializer.proofs.GrowthLemmas.{part_of_more}

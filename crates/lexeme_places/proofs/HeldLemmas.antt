@@ -6,6 +6,7 @@ use Rattle.std.specs.Char.{IsScalar}
 use Rattle.std.specs.Str.{chars}
 use lib.Utf8.{encode}
 use Rattle.html_grammar.proofs.MarkLemmas.{chars-encode}
+use Rattle.html_grammar.proofs.LexemeLemmas.{dashes}
 use Rattle.html_grammar.proofs.SliceLemmas.{no_bytes}
 
 pub one_more : {E : Type 0} (r : Result (Unit {0}) E) (old new : List ℕ) (c : ℕ) → IsUtf8 old → IsScalar c →

@@ -8,7 +8,7 @@ use Rattle.html_lexemes.specs.declared.token.Tag.{Tag}
 use Rattle.html_lexemes.specs.declared.token.TagKind.{TagKind}
 use Rattle.html_lexemes.specs.declared.token.TagKind.TheVariants.{StartTag, EndTag}
 use Rattle.html_grammar.specs.Characters.{is_letter, shown}
-use Rattle.html_grammar.specs.Comments.{bogus_comment_slice}
+use Rattle.html_grammar.specs.Comments.{bogus_comment_slice, comment_slice}
 use Rattle.html_grammar.specs.Doctypes.{doctype_at}
 use Rattle.html_grammar.specs.Items.{error}
 use Rattle.html_grammar.specs.Lexemes.{Lexeme, behind_slash, cdata_lexeme, comment_lexeme, declaration, doctype_lexeme}

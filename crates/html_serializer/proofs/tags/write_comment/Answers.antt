@@ -1,4 +1,4 @@
-use Rattle.std.proofs.Common.{chars, codes}
+use Rattle.std.proofs.Common.{chars, codes, ◌++◌}
 use Rattle.std.proofs.lemmas.Result.{on_err_weaker, on_ok_weaker}
 use Rattle.html_serializer.specs.Escapes.{comment_text}
 use Rattle.html_serializer.proofs.GrowthLemmas.{grows_as, grows_as_part}

@@ -1,6 +1,6 @@
 use Rattle.std.proofs.Common.{true, false, chars, codes, refl}
 use Rattle.std.proofs.lemmas.Bool.{both_ways}
-use Rattle.html_grammar.proofs.LexemeLemmas.{doctype_word, section_mark}
+use Rattle.html_grammar.proofs.LexemeLemmas.{dashes, doctype_word, section_mark}
 use Rattle.lexeme_places.specs.Spellings.{folded}
 use Rattle.lexeme_places.proofs.DeclarationLemmas.{at_mark, begins_comment, begins_doctype, begins_section, is_bogus}
 use Rattle.lexeme_places.proofs.DeclarationLemmas.{opens_comment, opens_doctype, opens_section}
