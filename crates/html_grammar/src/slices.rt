@@ -2,6 +2,7 @@ ghost use Rattle.std.specs.Prelude.{◌≡◌, ◌∷◌, [], chars, option_map,
 ghost use Rattle.std.specs.Str.{IsUtf8};
 ghost use Rattle.std.specs.Char.{IsScalar};
 ghost use Rattle.html_grammar.specs.Slices.{after, after_word, cut, front_while, rest_while};
+ghost use Rattle.html_grammar.specs.Characters.{is_space};
 ghost use Rattle.html_grammar.specs.Classes.{is_of};
 ghost use Rattle.html_grammar.specs.Read.{cut_of};
 
@@ -36,20 +37,29 @@ impl CharacterClass {
     pub fn has(self, c: char) -> bool
         ensures { result ≡ is_of self c }
     {
-        let is_space = matches!(c, '\t' | '\n' | '\u{c}' | ' ');
+        // what ends a name or a value stands before the letters
         match self {
-            CharacterClass::Space => is_space,
-            CharacterClass::Gap => is_space || c == '/',
+            CharacterClass::Space => is_space(c),
+            CharacterClass::Gap => is_space(c) || c == '/',
             CharacterClass::Letter => c.is_ascii_alphabetic(),
             CharacterClass::DecimalDigit => c.is_ascii_digit(),
             CharacterClass::HexadecimalDigit => c.is_ascii_hexdigit(),
-            CharacterClass::TagName => !(is_space || c == '/' || c == '>'),
-            CharacterClass::AttributeName => !(is_space || c == '/' || c == '>' || c == '='),
-            CharacterClass::Unquoted => !(is_space || c == '>'),
+            CharacterClass::TagName => c > '>' || !(is_space(c) || c == '/' || c == '>'),
+            CharacterClass::AttributeName => {
+                c > '>' || !(is_space(c) || c == '/' || c == '>' || c == '=')
+            }
+            CharacterClass::Unquoted => c > '>' || !(is_space(c) || c == '>'),
             CharacterClass::Lowered => !(c.is_ascii_uppercase() || c == '\0'),
             CharacterClass::Identifier(quote) => c != quote && c != '>',
         }
     }
+}
+
+// whether a character is TAB, LF, FF or SPACE
+fn is_space(c: char) -> bool
+    ensures { result ≡ is_space c }
+{
+    matches!(c, '\t' | '\n' | '\u{c}' | ' ')
 }
 
 /// The first character of a text, and what follows it.
