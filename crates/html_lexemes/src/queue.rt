@@ -121,7 +121,8 @@ impl BufferQueue {
     }
 
     /// Puts a text before what is left. The error is want of memory alone, and leaves the queue as it was.
-    /// To put back what was just taken takes no memory, and no time for what is left.
+    /// To put back what was just taken takes no memory, and no time for what is left, unless it ended a text that came
+    /// and another waits.
     pub fn push_front(&mut self, text: String) -> Result<(), AllocError>
         ensures ok { OnOk result (self.new ≡ record {
           text = chars (string_bytes text) ++ self.old.text;
