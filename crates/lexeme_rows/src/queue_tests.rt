@@ -11,8 +11,8 @@ fn put_back(alloc: Global, queue: &mut BufferQueue, text: &str) -> Result<(), Al
     queue.push_front(String::from_str(alloc, text)?)
 }
 
-// whether this is what is left, all of which is taken
-fn leaves(queue: &mut BufferQueue, text: &str) -> bool {
+// whether this front is taken as one text, and nothing of an empty queue
+fn gives_text(queue: &mut BufferQueue, text: &str) -> bool {
     match queue.pop_front() {
         Some(run) => run.as_str() == text,
         None => text.is_empty(),
@@ -27,6 +27,11 @@ fn gives(queue: &mut BufferQueue, text: &str) -> bool {
         }
     }
     true
+}
+
+// whether this is what is left, all of which is taken
+fn leaves(queue: &mut BufferQueue, text: &str) -> bool {
+    gives(queue, text) && queue.is_empty()
 }
 
 // whether this is taken: a character of a set, or a run of others, and nothing of an empty queue
@@ -45,7 +50,7 @@ fn eaten(queue: &mut BufferQueue, text: &str) -> Option<bool> {
 fn is_empty_first(alloc: Global) -> Result<bool, AllocError> {
     let mut queue = BufferQueue::new(alloc);
     let gives_none = queue.is_empty() && queue.peek().is_none() && queue.next().is_none();
-    let gives_nothing = leaves(&mut queue, "") && gives_run(&mut queue, &['a'], "")?;
+    let gives_nothing = gives_text(&mut queue, "") && gives_run(&mut queue, &['a'], "")?;
     add(alloc, &mut queue, "é")?;
     Ok(gives_none && gives_nothing && !queue.is_empty() && queue.peek() == Some('é'))
 }
@@ -78,10 +83,23 @@ fn is_eaten(alloc: Global, meal: &Meal) -> Result<bool, AllocError> {
     Ok(eaten(&mut queue, wanted) == answer && leaves(&mut queue, left))
 }
 
+// the same where each character comes as a text of its own
+fn is_eaten_over_texts(alloc: Global, meal: &Meal) -> Result<bool, AllocError> {
+    let (text, wanted, answer, left) = *meal;
+    let mut queue = BufferQueue::new(alloc);
+    for c in text.chars() {
+        let mut piece = String::new(alloc);
+        piece.push(c)?;
+        queue.push_back(piece)?;
+    }
+    Ok(eaten(&mut queue, wanted) == answer && leaves(&mut queue, left))
+}
+
 #[test]
 fn a_text_is_eaten_whole_or_not_at_all(rt: HostRuntime) {
     for meal in &MEALS {
         told(&rt, is_eaten(rt.alloc(), meal), meal.0);
+        told(&rt, is_eaten_over_texts(rt.alloc(), meal), meal.0);
     }
 }
 
@@ -93,12 +111,14 @@ enum Step {
     Gives(&'static str),
     /// A run is taken up to `&`, `<` or NUL, or one of these.
     GivesRun(&'static str),
+    /// This is taken as one text.
+    GivesText(&'static str),
     PutBack(&'static str),
     /// All that is left.
     Leaves(&'static str),
 }
 
-static STEPS: [&[Step]; 8] = [
+static STEPS: [&[Step]; 9] = [
     &[
         Step::Add("a€b"),
         Step::Gives("a€"),
@@ -106,7 +126,7 @@ static STEPS: [&[Step]; 8] = [
         Step::Gives("€"),
         Step::PutBack("é"),
         Step::PutBack("xyzé"),
-        Step::Leaves("xyzééb"),
+        Step::GivesText("xyzééb"),
         Step::PutBack("b"),
         Step::Leaves("b"),
     ],
@@ -118,8 +138,25 @@ static STEPS: [&[Step]; 8] = [
         Step::GivesRun("ab\u{1F600}"),
         Step::GivesRun(""),
     ],
-    // each text that comes in stands behind what is left, however much was taken before it
-    &[Step::Add("abcdef"), Step::Add("é"), Step::Leaves("abcdefé")],
+    // each text that comes in stands behind what is left as it is, however much was taken before it
+    &[
+        Step::Add("abcdef"),
+        Step::Add("é"),
+        Step::GivesText("abcdef"),
+        Step::GivesText("é"),
+    ],
+    &[
+        Step::Add("ab<"),
+        Step::Add(""),
+        Step::Add("é€"),
+        Step::Gives("a"),
+        Step::Add("&b"),
+        Step::GivesRun("b"),
+        Step::GivesText("<"),
+        Step::GivesRun("é€"),
+        Step::PutBack("x"),
+        Step::Leaves("x&b"),
+    ],
     &[
         Step::Add("abcdef"),
         Step::Gives("a"),
@@ -161,6 +198,7 @@ fn goes(alloc: Global, queue: &mut BufferQueue, step: &Step) -> Result<bool, All
         }
         Step::Gives(text) => Ok(gives(queue, text)),
         Step::GivesRun(run) => gives_run(queue, &['&', '<', '\0'], run),
+        Step::GivesText(text) => Ok(gives_text(queue, text)),
         Step::PutBack(text) => {
             put_back(alloc, queue, text)?;
             Ok(true)
