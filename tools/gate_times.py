@@ -1,12 +1,12 @@
 #!/usr/bin/env python3
 """Runs the gate on a copy of HEAD, and says what each crate took of the processors: its proof, its tests' proof, its
-edits.
+edits; and what `rt` itself took, which reads the sources below each library before and behind its proof.
 
     tools/gate_times.py [--anew] [FOLDER]
 
-With --anew all is proved, also what runs before kept on this machine. It looks at the running checks twice a second, so
-a number may be short by half a second a check. The gate's own output goes to FOLDER/gate.log (a new folder in /tmp
-without one); its status is this program's.
+With --anew all is proved, also what runs before kept on this machine, by a kit that keeps it (another has no such
+word). It looks at the running checks twice a second, so a number may be short by half a second a check. The gate's own
+output goes to FOLDER/gate.log (a new folder in /tmp without one); its status is this program's.
 """
 
 import collections
@@ -31,6 +31,15 @@ def processes():
             continue
         found[pid] = stat[1], stat[19], sum(map(int, stat[11:15])) / TICKS
     return found
+
+
+def own_seconds(pid):
+    """Seconds of processor time of a process, without its children's."""
+    try:
+        with open(f"/proc/{pid}/stat", encoding="utf-8", errors="replace") as it:
+            return sum(map(int, it.read().rsplit(")", 1)[1].split()[11:13])) / TICKS
+    except OSError:
+        return 0.0
 
 
 def checks():
@@ -68,10 +77,11 @@ def main():
     room = words[0] if words else tempfile.mkdtemp(prefix="gate-times-")
     tree = f"{room}/tree"
     subprocess.run(["git", "clone", "-q", top, tree], check=True)
-    seen, begun = {}, time.time()
+    seen, begun, own = {}, time.time(), 0.0
     with open(f"{room}/gate.log", "w", encoding="utf-8") as log:
         gate = subprocess.Popen(gate_words, cwd=tree, stdin=subprocess.DEVNULL, stdout=log, stderr=subprocess.STDOUT)
         while gate.poll() is None:
+            own = max(own, own_seconds(gate.pid))
             for key, folder, crate, kind, seconds in checks():
                 if kind == "edits" or folder.startswith(tree):
                     seen[key] = crate, kind, max(seconds, seen.get(key, (crate, kind, 0))[2])
@@ -86,7 +96,7 @@ def main():
         counted = re.search(rf"== {crate}\n(?:.*\n)*?logic=proved functions=(\d+)", text)
         print(f"| {crate} | {counted[1] if counted else '?'} | {proof} | {tests} | {edits} |")
     last, spent = text.rstrip().splitlines()[-1], sum(total.values())
-    print(f"{last}: {time.time() - begun:.0f} s, {spent:.0f} s of processor time in checks")
+    print(f"{last}: {time.time() - begun:.0f} s, {spent:.0f} s of processor time in checks, {own:.0f} s in rt")
     return gate.returncode
 
 

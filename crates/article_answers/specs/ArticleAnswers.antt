@@ -8,12 +8,12 @@ use Rattle.article_rendering.specs.ArticlesLaid.{options_by, shown_lines}
 use Rattle.article_values.specs.Articles.{Blocks}
 use Rattle.article_values.specs.Faults.{first_fault}
 use Rattle.escaped_texts.specs.Escaped.{KnowsEscapes}
-use Rattle.html_tree_builder.specs.Defaults.{default_parse}
+use Rattle.page_config.specs.Defaults.{default_parse}
 use Rattle.page_config.specs.PageAnswers.{HasAnswer, PageAnswer, lines, too_narrow}
 use Rattle.page_config.specs.Settings.{PageSetting}
 use Rattle.tagged_lines.specs.Tagged.{Item, line_items}
 use Rattle.text_block_renderer.specs.PlainText.{plain_closes, plain_marking}
-use Rattle.written_articles.specs.Contents.{NumbersFit, article_text}
+use Rattle.article_conversion.specs.Contents.{NumbersFit, article_text}
 
 -- Pages are parsed as by default, by a table that knows the names of escaped text; no rules of style stand but those
 -- that mark emphasis, strong text, terms and code, where these were asked for; and no part may pass the width.

@@ -9,9 +9,8 @@ ghost use Rattle.page_config.specs.PlainPages.{IsPlain};
 ghost use Rattle.page_config.specs.Settings.{PageSetting};
 ghost use Rattle.text_block_renderer.specs.PlainText.{plain_closes, plain_marking};
 
-use article_conversion::articles_have_their_values;
+use article_conversion::{articles_have_their_values, bytes_of_an_article_have_its_tree};
 use article_rendering::articles_are_laid;
-use written_articles::bytes_of_an_article_have_its_tree;
 
 /// What is written of an article, read however it is cut, built into a tree, converted and rendered as plain text, has
 /// the lines of the article at each width, or is too narrow just where the article has none: no text of it is markup,

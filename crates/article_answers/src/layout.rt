@@ -18,13 +18,13 @@ ghost use Rattle.page_config.specs.Settings.{bare_setting};
 ghost use Rattle.page_config.specs.declared.error.Error.TheVariants as errors;
 
 use crate::laws::an_article_is_laid_out_as_itself;
+use article_conversion::first_numbers_fit;
 use article_laying::{ArticleLine, LineOptions, lay_article};
 use article_values::Article;
 use page_config::{Config, Error};
 use std::alloc::Global;
 use text_decorators::PlainDecorator;
 use text_pieces::BlockError;
-use written_articles::first_numbers_fit;
 
 /// Articles that are laid out. It stands for a method of `Article`, whose crate knows nothing of pages.
 pub trait LayArticle {

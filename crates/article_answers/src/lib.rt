@@ -4,5 +4,7 @@
 mod laws;
 mod layout;
 
+pub use article_laying::ArticleLine;
 pub use laws::{an_article_is_laid_out_as_itself, plain_configurations_are_for_articles};
 pub use layout::LayArticle;
+pub use page_config::{Config, Error};

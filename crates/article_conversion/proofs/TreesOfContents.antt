@@ -10,7 +10,7 @@ use Rattle.html_lexemes.specs.declared.names.Attribute.{Attribute}
 use Rattle.paragraph_lines.proofs.TreesOfPages.{length_listed, longer, node_here, tree_here}
 use Rattle.rebuilt_documents.specs.Contents.{Content, none, say, span}
 use Rattle.rebuilt_documents.specs.Planted.{listed, node_of_element, roots, size}
-use Rattle.written_trees.specs.Trees.{doctype_node, whole_tree}
+use Rattle.written_articles.specs.Trees.{doctype_node, whole_tree}
 
 abbrev pub kind_of : List ℕ → List Attribute → Kind
 kind_of name attributes = (node_of_element name attributes []).kind

@@ -1,9 +1,7 @@
 //! The lines of an article where memory is refused.
-use article_answers::LayArticle;
-use article_laying::ArticleLine;
+use article_answers::{ArticleLine, Config, Error, LayArticle};
 use article_values::{Article, ArticleError, Block, Inline};
 use html_lexemes::ReferenceTable;
-use page_config::{Config, Error};
 use std::alloc::{AllocError, Global};
 use text_decorators::PlainDecorator;
 

@@ -6,7 +6,7 @@ use Rattle.html_serializer.specs.Told.{IsTold, all}
 use Rattle.html_serializer.specs.declared.fault.SerializeFault.{SerializeFault}
 use Rattle.rebuilt_documents.specs.Contents.{Content}
 use Rattle.rebuilt_documents.specs.Planted.{of_html}
-use Rattle.written_trees.specs.Tellings.{calls_and, document_calls, root_content}
+use Rattle.written_articles.specs.Tellings.{calls_and, document_calls, root_content}
 use Rattle.article_writing.specs.Tells.{Tells}
 use Rattle.article_writing.proofs.Telling.{handed_on, one_told, then_told}
 

@@ -9,7 +9,7 @@ use Rattle.html_serializer.specs.declared.fault.SerializeFault.{SerializeFault}
 use Rattle.html_serializer.specs.declared.fault.SerializeFault.TheVariants.{Memory}
 use Rattle.rebuilt_documents.specs.Contents.{Content, span}
 use Rattle.rebuilt_documents.specs.Planted.{of_html}
-use Rattle.written_trees.specs.Tellings.{calls_and}
+use Rattle.written_articles.specs.Tellings.{calls_and}
 use Rattle.article_writing.specs.Tells.{Tells}
 
 err_same : {A : Type 0} {r : Result A SerializeFault} {a b : SerializeFault} → r ≡ Err a → r ≡ Err b → a ≡ b

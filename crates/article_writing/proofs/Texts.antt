@@ -11,7 +11,7 @@ use Rattle.std.proofs.lemmas.Str.{chars-IsAscii, chars-nil, encodes-chars}
 use Rattle.html_serializer.specs.Calls.{Call, text_run}
 use Rattle.article_values.specs.Articles.{Inlines, words}
 use Rattle.written_articles.specs.Contents.{content_of_inlines}
-use Rattle.written_trees.specs.Tellings.{calls_and, text_content}
+use Rattle.written_articles.specs.Tellings.{calls_and, text_content}
 
 pub empty_calls : (bs : List ℕ) (more : List Call) → (length bs == 0) ≡ true →
     calls_and (text_content (chars bs)) more ≡ more

@@ -6,7 +6,7 @@ use Rattle.html_serializer.specs.declared.fault.SerializeFault.{SerializeFault}
 use Rattle.article_values.specs.Views.{blocks_view, inlines_view, items_view}
 use Rattle.rebuilt_documents.specs.Contents.{Content}
 use Rattle.written_articles.specs.Contents.{content_of_blocks, content_of_inlines, content_of_items}
-use Rattle.written_trees.specs.Tellings.{head_content, root_content, text_content}
+use Rattle.written_articles.specs.Tellings.{head_content, root_content, text_content}
 use Rattle.article_writing.specs.declared.inner.Inner.{Inner}
 use Rattle.article_writing.specs.declared.inner.Inner.TheVariants.{Blocks, Head, Inlines, Items, Root, Text}
 

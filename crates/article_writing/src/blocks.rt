@@ -4,7 +4,7 @@ ghost use Rattle.html_serializer.specs.Calls.{Call};
 ghost use Rattle.article_values.specs.Articles.{Blocks as SeenBlocks, numbers, heading, no_blocks};
 ghost use Rattle.article_values.specs.Views.{block_view, blocks_view, inlines_view, items_view};
 ghost use Rattle.written_articles.specs.Contents.{content_of_blocks, content_of_items};
-ghost use Rattle.written_trees.specs.Tellings.{calls_and};
+ghost use Rattle.written_articles.specs.Tellings.{calls_and};
 ghost use Rattle.article_writing.specs.Tells.{Tells};
 
 use crate::elements::tell_element;

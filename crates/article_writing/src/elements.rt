@@ -4,7 +4,7 @@
 ghost use Rattle.std.specs.Prelude.{◌∷◌, [], List, chars};
 ghost use Rattle.html_serializer.specs.Calls.{Call, finish, start};
 ghost use Rattle.rebuilt_documents.specs.Planted.{of_html};
-ghost use Rattle.written_trees.specs.Tellings.{calls_and, text_content};
+ghost use Rattle.written_articles.specs.Tellings.{calls_and, text_content};
 ghost use Rattle.article_writing.specs.Tells.{Tells, inner_content};
 
 use crate::blocks::{tell_blocks, tell_items};

@@ -4,7 +4,7 @@ ghost use Rattle.html_serializer.specs.Calls.{Call};
 ghost use Rattle.article_values.specs.Articles.{Inlines as SeenInlines, link, no_inlines};
 ghost use Rattle.article_values.specs.Views.{inline_view, inlines_view};
 ghost use Rattle.written_articles.specs.Contents.{content_of_inlines};
-ghost use Rattle.written_trees.specs.Tellings.{calls_and};
+ghost use Rattle.written_articles.specs.Tellings.{calls_and};
 ghost use Rattle.article_writing.specs.Tells.{Tells};
 
 use crate::elements::{tell_element, tell_text};

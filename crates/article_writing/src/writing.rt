@@ -12,8 +12,7 @@ use html_serializer::{
     Serialize, SerializeFault, SerializeOpts, Serializer, TraversalScope, serialize,
 };
 use std::alloc::Global;
-use written_articles::an_article_is_written_back;
-use written_trees::a_document_is_told;
+use written_articles::{a_document_is_told, an_article_is_written_back};
 
 /// An article, which can be told to a serializer as the page that is written of it (WHATWG HTML, 13.3).
 #[derive(Drop)]

@@ -4,7 +4,7 @@ use Rattle.std.specs.Prelude.{length, chars, IsUtf8, if◌then◌else◌, refl}
 use Rattle.std.proofs.Common.{sym, ap, ◌∙◌, arith}
 use Rattle.std.proofs.lemmas.Bool.Decides.{nat_tests}
 use Rattle.text_pieces.specs.Sources.{is_filled}
-use Rattle.normal_text.proofs.WordLemmas.{empty_text, some_text}
+use Rattle.text_wrapping.proofs.WordLemmas.{empty_text, some_text}
 use Rattle.text_cells.specs.Cells.{laid_line_of}
 use Rattle.text_cells.specs.declared.cell.LaidLine.{LaidLine}
 use Rattle.block_layout.specs.Counts.{content_count}

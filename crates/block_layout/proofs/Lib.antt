@@ -1,3 +1,4 @@
 pub mod CountLemmas
 pub mod JoinedLemmas
 pub mod RowLemmas
+pub use Rattle.text_wrapping.proofs.WordLemmas

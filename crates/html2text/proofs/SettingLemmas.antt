@@ -5,8 +5,8 @@ use Rattle.command_words.specs.CommandWords.{Asked}
 use Rattle.html2text.specs.Written.{EitherLook, HasAskedText, IsOtherPage, IsSetting, IsTooNarrowPage}
 use Rattle.html2text.specs.Written.{is_decorated}
 use Rattle.reference_tables.specs.References.{References}
-use Rattle.html_render_tree.specs.PlainText.{plain_closes}
-use Rattle.html_render_tree.specs.RichText.{rich_closes}
+use Rattle.page_config.specs.PlainText.{plain_closes}
+use Rattle.page_config.specs.RichText.{rich_closes}
 use Rattle.page_config.specs.PageAnswers.{Answers, IsTold, PageAnswer, fail, too_narrow}
 use Rattle.page_config.specs.PlainPages.{IsPlain}
 use Rattle.page_config.specs.Settings.{PageSetting, by_default, rendered_with}

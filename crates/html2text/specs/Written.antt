@@ -6,8 +6,8 @@ use Rattle.std.specs.Str.{IsUtf8}
 use Rattle.command_words.specs.CommandWords.{Asked}
 use Rattle.byte_devices.specs.KnownPart.{AppendsPart}
 use Rattle.reference_tables.specs.References.{References}
-use Rattle.html_render_tree.specs.PlainText.{plain_closes, plain_marking}
-use Rattle.html_tree_builder.specs.Defaults.{default_parse}
+use Rattle.page_config.specs.PlainText.{plain_closes, plain_marking}
+use Rattle.page_config.specs.Defaults.{default_parse}
 use Rattle.page_config.specs.PageAnswers.{HasAnswer, HasText, fail, too_narrow}
 use Rattle.page_config.specs.RichPages.{HasRichAnswer, HasRichText}
 use Rattle.page_config.specs.Settings.{PageSetting}

@@ -13,14 +13,13 @@ pub use html_lexemes::{
     ByteReader, ByteWriter, Device, DeviceFault, ParseFault, ReferenceTable, TableError,
 };
 pub use html_render_dom::RcDom;
-pub use html_render_tree::RenderTree;
-pub use html_tree_builder::ParseOpts;
 pub use named_files::{FileOpener, HostFiles, OpenedFile, TableFault};
 pub use outcome::{Outcome, exit_status};
 pub use page_config::{
-    Config, Error, Page, PlainLine, RichLine, a_page_has_an_answer, a_page_has_one_answer,
-    a_page_has_one_text, a_page_keeps_its_width, a_page_with_room_is_never_too_narrow, from_read,
-    from_read_rich, from_read_with_decorator, parse,
+    Config, Error, Page, ParseOpts, PlainLine, RenderTree, RichLine, a_page_has_an_answer,
+    a_page_has_one_answer, a_page_has_one_text, a_page_keeps_its_width,
+    a_page_with_room_is_never_too_narrow, from_read, from_read_rich, from_read_with_decorator,
+    parse,
 };
 pub use program::{Served, serve};
 pub use renderer_calls::{ImageRenderMode, RenderOptions};

@@ -7,3 +7,4 @@ pub mod QueueLemmas
 pub mod RunLemmas
 pub mod SameAttributes
 pub mod WaitingLemmas
+pub use Rattle.reference_tables.proofs.NameTests

@@ -19,7 +19,6 @@ pub use byte_devices::{ByteReader, ByteWriter, Device, DeviceFault};
 pub use fault::ParseFault;
 pub use known_names::{KnownName, known_of};
 pub use names::{Attribute, LocalName, Namespace, QualName};
-pub use owned_texts::Text;
 pub use queue::{BufferQueue, SetResult};
-pub use reference_tables::{NamedReference, ReferenceTable, TableError};
+pub use reference_tables::{NamedReference, ReferenceTable, TableError, Text};
 pub use token::{Doctype, ErrorMessage, ProcessResult, Tag, TagKind, Token, TokenSinkResult};

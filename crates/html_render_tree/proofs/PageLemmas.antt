@@ -4,11 +4,11 @@ use Rattle.std.proofs.Common.{subst, ◌∙◌, ◌<◌, ◌⊎◌, inl, inr, ar
 use Rattle.std.specs.Prelude.{All, IsSome, IsSomeAnd, ⊤}
 use Rattle.std.proofs.lemmas.List.Elements.{All-map}
 use Rattle.std.proofs.lemmas.Option.{MatchOption-at_some}
-use Rattle.layout_laws.proofs.OptionLemmas.{chained, given_chained, known}
+use Rattle.walk_laws.proofs.OptionLemmas.{chained, given_chained, known}
 use Rattle.block_renderer.specs.Footnotes.{add_footnotes}
 use Rattle.renderer_calls.specs.Calls.{Call, starts_block, step}
 use Rattle.renderer_calls.specs.Renderers.{Marking, Sub, lines_of_sub, with_block_started, with_held}
-use Rattle.renderer_laws.specs.RendererLaws.{CallFits, HasRoom, IsKeptWithin, StaysWithin}
+use Rattle.walk_laws.specs.RendererLaws.{CallFits, HasRoom, IsKeptWithin, StaysWithin}
 use Rattle.tagged_lines.specs.Tagged.{Item, line_columns, line_items}
 use Rattle.tagged_lines.specs.declared.tagged_line.TaggedLine.{TaggedLine}
 use Rattle.text_block_renderer.specs.PartLaws.{HaveRoom, PartsStayWithin}

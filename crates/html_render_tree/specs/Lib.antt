@@ -4,3 +4,6 @@ pub mod PageLines
 pub mod PlainText
 pub mod RichText
 pub mod Settings
+pub use Rattle.walk_laws.specs.WalkLaws
+pub use Rattle.text_block_renderer.specs.Parts
+pub use Rattle.walk_laws.specs.Lay

@@ -13,8 +13,8 @@ use Rattle.text_borders.specs.Lines.{BlockLine, line_shown}
 use Rattle.text_marks.specs.Marks.{page_end}
 use Rattle.render_sizes.specs.Extents.{measure_of}
 use Rattle.render_values.specs.Values.{Values}
-use Rattle.render_walk.specs.Lay.{laid_parts}
-pub use Rattle.render_laying.specs.Items.{prefix_columns}
+use Rattle.walk_laws.specs.Lay.{laid_parts}
+pub use Rattle.walk_laws.specs.Items.{prefix_columns}
 
 -- what a page is rendered by: the options, how narrow text may be wrapped, and what a decorator of the page holds
 pub record Setting (H : Type 0) : Type 0 where

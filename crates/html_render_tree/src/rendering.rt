@@ -12,11 +12,11 @@ use block_renderer::{RenderOptions, SubRenderer};
 use render_conversion::RenderError;
 use render_sizes::measured;
 use render_values::RenderTree;
-use render_walk::lay_tree;
 use std::alloc::Global;
 use text_block_renderer::TextRenderer;
 use text_marks::TextDecorator;
 use text_pieces::BlockError;
+use walk_laws::lay_tree;
 
 // behind a refusal for want of memory nothing is called
 pub(crate) fn refusal(error: BlockError) -> RenderError

@@ -3,8 +3,8 @@ use Rattle.std.proofs.Common.{◌≡◌, ◌++◌, ℕ, List, [], subst, append_
 use Rattle.html_forest.specs.Forest.{Forest}
 use Rattle.html_forest.specs.declared.sink.QuirksMode.{QuirksMode}
 use Rattle.html_tree_state.specs.Building.{Parts}
-use Rattle.tree_actions.specs.Parsed.{parsed}
-use Rattle.tree_actions.specs.declared.kept.Kept.{Kept}
+use Rattle.tree_builder.specs.Parsed.{parsed}
+use Rattle.tree_builder.specs.Kept.{Kept}
 
 -- A piece goes behind what stood in the buffer, of which nothing is left.
 pub read_on : {A : Type 0} (new old : List ℕ → A → Type 0) (queue before piece left : List ℕ) → left ≡ [] →

@@ -4,7 +4,7 @@ use Rattle.html_forest.specs.Forest.{Forest}
 use Rattle.html_forest.specs.declared.sink.QuirksMode.{QuirksMode}
 use Rattle.html_tokenizer.specs.Completes as tokenizers
 use Rattle.html_tree_builder.specs.declared.parser.Parser.{Parser}
-use Rattle.tree_actions.specs.Parsed.{parsed}
+use Rattle.tree_builder.specs.Parsed.{parsed}
 use Rattle.tree_builder.specs.declared.builder.TreeBuilder.{TreeBuilder}
 use Rattle.tree_rules.specs.Settling.{meaning}
 use Rattle.tree_rules.specs.State.{State}

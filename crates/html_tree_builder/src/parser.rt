@@ -15,8 +15,7 @@ use html_forest::TreeSink;
 use html_lexemes::{BufferQueue, ErrorMessage, ParseFault, Text};
 use html_tokenizer::Tokenizer;
 use html_tree_state::Construction;
-use tree_actions::Parse;
-use tree_builder::TreeBuilder;
+use tree_builder::{Parse, TreeBuilder};
 
 /// Parses a page that comes in pieces into a sink of trees (WHATWG HTML, 13.2). Pauses that the page asks for, for a
 /// script or a named encoding, are passed over. Where a call is refused for want of memory, every later one is refused

@@ -14,3 +14,4 @@ pub mod Scopes
 pub mod Sound
 pub mod Walks
 pub mod Words
+pub use Rattle.formatting_list.specs.Entries

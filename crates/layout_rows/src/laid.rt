@@ -2,8 +2,7 @@
 use html_lexemes::ReferenceTable;
 use html_render_dom::RcDom;
 use html_render_tree::{RenderConfig, RenderError};
-use html_tree_builder::ParseOpts;
-use page_reading::PageReader;
+use page_reading::{PageReader, ParseOpts};
 use std::alloc::{AllocError, Global};
 use std::test::Fail;
 use tagged_lines::TaggedLine;

@@ -1,7 +1,6 @@
 use crate::laid::lines_of;
 use html_lexemes::{Device, ReferenceTable};
-use html_tree_builder::ParseOpts;
-use page_reading::{PageFault, PageReader, ReadFault, read_page};
+use page_reading::{PageFault, PageReader, ParseOpts, ReadFault, read_page};
 use std::alloc::Global;
 use std::io;
 use std::io::{ErrorKind, Read};

@@ -4,7 +4,7 @@ use Rattle.std.specs.Prelude.{ℕ, Bool, ◌==◌, ◌||◌, not, List, [], ◌�
 use Rattle.std.specs.Prelude.{option_and_then, option_map}
 use Rattle.std.specs.Option.{option_or}
 use Rattle.html_grammar.specs.Slices.{Cut, after, after_word, cut, front_while, rest_while}
-use Rattle.html_lexemes.specs.declared.names.Attribute.{Attribute}
+use Rattle.tree_words.specs.Attribute.{Attribute}
 use Rattle.tree_words.specs.Attributes.{is_value_of, value_of}
 
 -- TAB, LF, FF, CR and SPACE

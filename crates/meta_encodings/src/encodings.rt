@@ -7,8 +7,7 @@ ghost use Rattle.meta_encodings.specs.Encodings.{declares_type, encoding_in, end
 ghost use Rattle.meta_encodings.specs.Encodings.{slice_of, without_white_space, written_name};
 
 use html_grammar::slices::{behind, behind_word, cut_at, first_and_rest};
-use html_lexemes::Attributes;
-use tree_words::{is_in_lower_case, value_of};
+use tree_words::{Attributes, is_in_lower_case, value_of};
 
 /// The name of the encoding that the attributes of a `meta` tell: the value of the first `charset`, or else, where
 /// `http-equiv` is `content-type` in any ASCII case, what `content` has behind its first `charset` with a `=`

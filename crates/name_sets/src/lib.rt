@@ -18,6 +18,7 @@ pub use element_sets::{
     is_svg_html_integration_point, is_table_body_context, is_table_cell, is_table_context,
     is_table_row_context, is_table_scope_barrier, is_table_section, is_void,
 };
+pub use html_lexemes::LocalName;
 pub use sets::{is_html, is_html_one_of};
 pub use tag_sets::{
     has_rawtext_context, has_rcdata_context, is_break_out_tag, is_formatting_tag,

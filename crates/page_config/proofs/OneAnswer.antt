@@ -3,7 +3,7 @@ use Rattle.std.proofs.Common.{◌≡◌, sym, ap, subst, ◌∙◌, ℕ, List, [
 use Rattle.html_forest.specs.Forest.{Forest}
 use Rattle.html_forest.specs.declared.sink.QuirksMode.{QuirksMode}
 use Rattle.reference_tables.specs.References.{References}
-use Rattle.html_tree_builder.specs.declared.options.ParseOpts.{ParseOpts}
+use Rattle.page_reading.specs.ParseOpts.{ParseOpts}
 use Rattle.page_config.proofs.AnswerLemmas.{Ends, answer_is_one}
 use Rattle.page_config.specs.PageAnswers.{ArePageValues, HasAnswer, HasText, IsAnswerOf}
 use Rattle.page_config.specs.PageAnswers.{PageAnswer, fail, lines, lines_text}

@@ -5,7 +5,7 @@ use Rattle.html_forest.specs.Forest.{Forest}
 use Rattle.html_forest.specs.declared.sink.QuirksMode.{QuirksMode}
 use Rattle.reference_tables.specs.References.{References}
 use Rattle.html_render_tree.specs.PageLines.{IsClosed, Setting, laid_page, noted, with_notes}
-use Rattle.html_tree_builder.specs.declared.options.ParseOpts.{ParseOpts}
+use Rattle.page_reading.specs.ParseOpts.{ParseOpts}
 use Rattle.page_config.specs.PageAnswers.{HasSomeAnswer, IsAlwaysClosed, IsAnswerOf, PageAnswer, fail, lines}
 use Rattle.page_config.specs.PageAnswers.{too_narrow}
 use Rattle.page_config.specs.Settings.{PageSetting}
@@ -15,7 +15,7 @@ use Rattle.render_values.specs.Values.{Values, none, value}
 use Rattle.renderer_calls.specs.Renderers.{Marking, Sub, lines_of_sub, with_held}
 use Rattle.tagged_lines.specs.Tagged.{line_items}
 use Rattle.tagged_lines.specs.declared.tagged_line.TaggedLine.{TaggedLine}
-use Rattle.text_block_renderer.specs.Parts.{Parts}
+use Rattle.html_render_tree.specs.Parts.{Parts}
 use Rattle.text_borders.specs.Lines.{line_shown}
 use Rattle.text_marks.specs.Marks.{page_end}
 

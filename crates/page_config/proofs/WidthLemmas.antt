@@ -11,7 +11,7 @@ use Rattle.style_cascade.specs.declared.rules.StyleRule.{StyleRule}
 use Rattle.tagged_lines.specs.Tagged.{Item}
 use Rattle.tagged_lines.specs.declared.tagged_line.TaggedLine.{TaggedLine}
 use Rattle.text_marks.specs.Marks.{IsSteady}
-use Rattle.walk_laws.specs.WalkLaws.{AreNumbered}
+use Rattle.html_render_tree.specs.WalkLaws.{AreNumbered}
 
 module _ {T H A : Type 0} (m : Marking H A) (seen : T → A) (closes : H → List (List ℕ) → List (TaggedLine T) → Type 0)
   where

@@ -10,7 +10,7 @@ use Rattle.render_values.specs.Values.{Values, none}
 use Rattle.renderer_calls.specs.Renderers.{Marking}
 use Rattle.tagged_lines.specs.Tagged.{Item, characters}
 use Rattle.tagged_lines.specs.declared.tagged_line.TaggedLine.{TaggedLine}
-use Rattle.text_block_renderer.specs.Parts.{Parts}
+use Rattle.html_render_tree.specs.Parts.{Parts}
 use Rattle.text_marks.specs.Marks.{Mark}
 use Rattle.page_config.specs.Settings.{PageSetting}
 

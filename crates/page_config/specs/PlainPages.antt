@@ -2,7 +2,7 @@
 use Rattle.std.specs.Prelude.{◌≡◌, ℕ, true, List, map}
 use Rattle.reference_tables.specs.References.{References}
 use Rattle.html_render_tree.specs.PlainText.{plain_closes, plain_marking}
-use Rattle.html_tree_builder.specs.Defaults.{default_parse}
+use Rattle.page_reading.specs.Defaults.{default_parse}
 use Rattle.page_config.specs.PageAnswers.{HasAnswer, HasText, PageAnswer}
 use Rattle.page_config.specs.Settings.{PageSetting}
 use Rattle.render_conversion.specs.Decorating.{decorating_rules, seen_rule}

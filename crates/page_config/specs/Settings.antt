@@ -3,8 +3,8 @@ use Rattle.std.specs.Prelude.{ℕ, Bool, false, List, []}
 use Rattle.reference_tables.specs.References.{References}
 use Rattle.html_render_tree.specs.PageLines.{Setting}
 use Rattle.html_render_tree.specs.Settings.{rules_of, setting_of}
-use Rattle.html_tree_builder.specs.Defaults.{default_parse}
-use Rattle.html_tree_builder.specs.declared.options.ParseOpts.{ParseOpts}
+use Rattle.page_reading.specs.Defaults.{default_parse}
+use Rattle.page_reading.specs.ParseOpts.{ParseOpts}
 use Rattle.page_config.specs.declared.config.Config.{Config}
 use Rattle.renderer_calls.specs.Defaults.{default_options}
 use Rattle.renderer_calls.specs.declared.options.RenderOptions.{RenderOptions}

@@ -6,7 +6,7 @@ use crate::error::Error;
 use html_lexemes::ReferenceTable;
 use html_render_dom::RcDom;
 use html_render_tree::{RenderConfig, RenderTree};
-use html_tree_builder::ParseOpts;
+use page_reading::ParseOpts;
 use renderer_calls::{ImageRenderMode, RenderOptions};
 use std::alloc::Global;
 use style_cascade::StyleRule;
@@ -36,7 +36,7 @@ impl<D: TextDecorator + Drop> Config<D> {
     ghost use Rattle.render_values.specs.Values.{none};
     ghost use Rattle.tagged_lines.specs.Tagged.{line_items};
     ghost use Rattle.text_marks.specs.Marks.{IsSteady};
-    ghost use Rattle.walk_laws.specs.WalkLaws.{AreNumbered};
+    ghost use Rattle.html_render_tree.specs.WalkLaws.{AreNumbered};
 
     /// As pages are rendered by a decorator: parsed by this table and as they are by default, without a bound on the
     /// bytes; no rules of style, and the options as they are by default.

@@ -25,7 +25,7 @@ impl<D: TextDecorator + Drop> Config<D> {
     ghost use Rattle.block_renderer.specs.Seen.{IsTagging, tags_seen};
     ghost use Rattle.html_render_tree.specs.PageLaws.{AreWithin};
     ghost use Rattle.text_marks.specs.Marks.{IsSteady};
-    ghost use Rattle.walk_laws.specs.WalkLaws.{AreNumbered};
+    ghost use Rattle.html_render_tree.specs.WalkLaws.{AreNumbered};
 
     /// Reads a page to its end, and gives its tree: that of all the bytes that the reader had. It asks for one byte
     /// more than the page may have at most. The error is `IoError` where the reader failed, `TooLong` where more bytes

@@ -10,7 +10,7 @@ ghost use Rattle.page_config.specs.Settings.{bare_default, bare_setting, by_defa
 ghost use Rattle.render_values.specs.Values.{none};
 ghost use Rattle.tagged_lines.specs.Tagged.{line_items};
 ghost use Rattle.text_decorators.specs.Annotations.{rich_tag};
-ghost use Rattle.walk_laws.specs.WalkLaws.{AreNumbered};
+ghost use Rattle.html_render_tree.specs.WalkLaws.{AreNumbered};
 
 use crate::config::Config;
 use crate::error::Error;

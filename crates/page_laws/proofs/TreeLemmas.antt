@@ -7,7 +7,7 @@ use Rattle.kept_text.specs.KeptText.{IsAtBeginning, in_texts, in_told}
 use Rattle.kept_text.specs.PageTexts.{KeepsTextOfPage, items_of}
 use Rattle.page_laws.specs.Trees.{HasSkeletonOfTree, KeepsTextOfTree}
 use Rattle.page_skeleton.specs.Skeleton.{HasSkeletonOfPage, IsSkeleton}
-use Rattle.tree_builder.specs.Begun.{begun}
+use Rattle.html_tree_builder.specs.Begun.{begun}
 use Rattle.tree_rules.specs.Settling.{Ready}
 use Rattle.tree_rules.specs.declared.options.TreeBuilderOpts.{TreeBuilderOpts}
 

@@ -4,7 +4,7 @@ ghost use Rattle.html_forest.specs.Orders.{IsForest};
 ghost use Rattle.html_forest.specs.declared.sink.QuirksMode.{QuirksMode as Quirks};
 ghost use Rattle.kept_text.specs.KeptText.{IsAtBeginning};
 ghost use Rattle.page_laws.specs.Trees.{HasSkeletonOfTree, KeepsTextOfTree};
-ghost use Rattle.tree_builder.specs.Begun.{begun};
+ghost use Rattle.html_tree_builder.specs.Begun.{begun};
 ghost use Rattle.tree_rules.specs.declared.options.TreeBuilderOpts.{TreeBuilderOpts as Options};
 
 use html_forest::TreeSink;

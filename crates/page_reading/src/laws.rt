@@ -10,8 +10,7 @@ ghost use Rattle.page_reading.specs.PageTrees.{IsTreeOfBytes};
 use html_forest::TreeSink;
 use html_grammar::laws::some_reading;
 use html_render_dom::RcDom;
-use html_tree_builder::a_page_has_one_tree;
-use tree_builder::TreeBuilder;
+use html_tree_builder::{TreeBuilder, a_page_has_one_tree};
 
 /// Bytes have one tree: equal bytes, read by equal tables and options, in whatever pieces, have equal forests and equal
 /// quirks modes.

@@ -20,6 +20,7 @@ pub use after_body::{
 pub use after_frameset::{
     after_after_frameset_comment, after_frameset_end, after_frameset_start, frameset_end_of_file,
 };
+pub use body_rules;
 pub use foreign_content::{
     close_foreign_end, foreign_start, is_html_here, takes_start_here, takes_text_here,
 };

@@ -10,7 +10,7 @@ use Rattle.html_lexemes.specs.declared.names.Attribute.{Attribute}
 use Rattle.html_lexemes.specs.declared.states.RawKind.TheVariants.{Rawtext, Rcdata, ScriptData}
 use Rattle.html_tree_state.specs.Building.{Building}
 use Rattle.kept_text.proofs.ForestTexts.{IsNew, element_new, new_then, put_follows}
-use Rattle.meta_encodings.specs.Encodings.{named_encoding}
+use Rattle.tree_rules.specs.Encodings.{named_encoding}
 use Rattle.tree_rules.specs.Actions.{is_text}
 use Rattle.tree_words.specs.Attributes.{is_html_annotation}
 use Rattle.html_lexemes.specs.declared.states.RawKind.{RawKind}

@@ -5,7 +5,7 @@ use Rattle.std.proofs.Common.{refl}
 use Rattle.formatting_list.specs.Entries.{last_named}
 use Rattle.html_lexemes.specs.declared.token.Tag.{Tag}
 use Rattle.html_tree_state.specs.Formatting.{name_for}
-use Rattle.meta_encodings.specs.Encodings.{named_encoding}
+use Rattle.tree_rules.specs.Encodings.{named_encoding}
 use Rattle.name_sets.specs.ElementSets.{headings}
 use Rattle.name_sets.specs.Sets.{is_html}
 use Rattle.name_sets.specs.Wanted.{one}

@@ -1,7 +1,7 @@
 -- Start tags that are taken as in the head, the start tag "html", and the end of a template (WHATWG HTML, 13.2.6.4.4).
 use Rattle.std.proofs.Common.{◌≡◌, ℕ, Bool, true, false, List, [], ◌∷◌, Option, None, Some, codes, refl}
 use Rattle.html_lexemes.specs.declared.token.Tag.{Tag}
-use Rattle.meta_encodings.specs.Encodings.{named_encoding}
+use Rattle.tree_rules.specs.Encodings.{named_encoding}
 use Rattle.name_sets.specs.Sets.{html_elements, is_one_of}
 use Rattle.name_sets.specs.Wanted.{one}
 use Rattle.page_skeleton.proofs.Fits.{CanBuild, ClosesTemplate, FitAll, Fits, FitsRow, MayReset}

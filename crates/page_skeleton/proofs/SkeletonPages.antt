@@ -32,7 +32,7 @@ use Rattle.page_skeleton.specs.Skeleton.{is_unframed, is_unframed_name}
 use Rattle.tag_groups.specs.Groups.{tag_group}
 use Rattle.tag_groups.specs.declared.group.TagGroup.{TagGroup}
 use Rattle.tag_groups.specs.declared.group.TagGroup.TheVariants as groups
-use Rattle.tree_ranks.specs.Falls.{Falls}
+use Rattle.kept_text.specs.Falls.{Falls}
 use Rattle.page_skeleton.proofs.PageReady.{ActionsKeep, Ready, of_page}
 use Rattle.tree_rules.specs.Actions.{act_all}
 use Rattle.tree_rules.specs.Rank.{rank}

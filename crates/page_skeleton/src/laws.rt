@@ -1,7 +1,7 @@
 //! Laws of the skeleton of a page.
 ghost use Rattle.page_skeleton.specs.Skeleton.{HasSkeletonOfPage};
 
-use tree_ranks::{a_mark_comes_to_what_its_rule_gives, the_rank_falls};
+use kept_text::{a_mark_comes_to_what_its_rule_gives, the_rank_falls};
 use tree_rules::actions_keep_what_is_ready;
 
 /// A page, read by the grammar and built by the rule table from a document without elements: the document's one child

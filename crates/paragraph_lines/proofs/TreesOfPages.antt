@@ -6,8 +6,8 @@ use Rattle.forest_trees.specs.Trees.{Trees, each_before, node, tree_before, tree
 use Rattle.forest_trees.specs.Trees as of_trees
 use Rattle.html_forest.specs.Changes.{changed, with_more}
 use Rattle.html_forest.specs.Forest.{Forest, Kind, Node, document, node_at, nodes, text}
-use Rattle.rebuilt_documents.specs.Contents.{Content, none, say, span}
-use Rattle.rebuilt_documents.specs.Planted.{listed, node_of_element, planted, roots, size, standing}
+use Rattle.paragraph_trees.specs.Contents.{Content, none, say, span}
+use Rattle.paragraph_trees.specs.Planted.{listed, node_of_element, planted, roots, size, standing}
 use Rattle.paragraph_trees.specs.ParagraphTrees.{body_alone, paragraph_tree, paragraphs}
 
 abbrev pub text_trees : List ℕ → Trees

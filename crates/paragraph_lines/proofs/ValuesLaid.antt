@@ -11,7 +11,7 @@ use Rattle.render_values.specs.declared.info.RenderInfo.TheVariants as infos
 use Rattle.render_laying.specs.Begins.{begins, ends, following, leading, style_begins, style_ends}
 use Rattle.render_laying.specs.Laying.{Laying, Step, in_current, in_turn, outside, says}
 use Rattle.render_laying.specs.declared.around.Around.TheVariants.{Flow}
-use Rattle.render_walk.specs.Lay.{Content, content_of, holds, laid, laid_parts, lay}
+use Rattle.html_render_tree.specs.Lay.{Content, content_of, holds, laid, laid_parts, lay}
 use Rattle.renderer_calls.specs.Calls.{adds_text, ends_block, starts_block}
 use Rattle.renderer_calls.specs.Defaults.{default_options}
 use Rattle.renderer_calls.specs.Renderers.{Sub, new_sub, on_laid, with_laid}

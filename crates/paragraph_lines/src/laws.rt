@@ -7,7 +7,7 @@ ghost use Rattle.paragraph_trees.specs.ParagraphTrees.{paragraph_tree};
 ghost use Rattle.render_conversion.specs.Conversion.{document_values};
 ghost use Rattle.style_cascade.specs.declared.rules.StyleRule.{StyleRule};
 
-use rebuilt_documents::a_planted_tree_is_at_once;
+use paragraph_trees::a_planted_tree_is_at_once;
 use text_block_renderer::{
     letters_of_texts, normal_lines_are_fullest, normal_lines_keep_markers, normal_text_is_kept,
     one_fullest_layout, wide_text_never_fits,

@@ -4,3 +4,4 @@
 mod laws;
 
 pub use laws::{paragraph_pages_are_laid, paragraphs_are_laid, paragraphs_have_their_values};
+pub use paragraph_trees::paragraph_pages_have_their_trees;

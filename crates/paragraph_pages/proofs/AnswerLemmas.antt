@@ -7,17 +7,17 @@ use Rattle.html_forest.specs.declared.sink.QuirksMode.{QuirksMode}
 use Rattle.html_grammar.specs.PageText.{page_text}
 use Rattle.reference_tables.specs.References.{References}
 use Rattle.html_render_dom.specs.Numbers.{handle_of}
-use Rattle.html_render_tree.specs.PageLines.{IsRendered, IsTooNarrow}
-use Rattle.html_render_tree.specs.PlainText.{plain_closes, plain_marking}
-use Rattle.html_tree_builder.specs.declared.options.ParseOpts.{ParseOpts}
+use Rattle.page_config.specs.PageLines.{IsRendered, IsTooNarrow}
+use Rattle.page_config.specs.PlainText.{plain_closes, plain_marking}
+use Rattle.page_config.specs.ParseOpts.{ParseOpts}
 use Rattle.page_config.specs.PageAnswers.{ArePageValues, HasAnswer, fail, lines, too_narrow}
 use Rattle.page_config.specs.Settings.{PageSetting}
-use Rattle.page_reading.specs.PageTrees.{IsTreeOfBytes}
+use Rattle.page_config.specs.PageTrees.{IsTreeOfBytes}
 use Rattle.paragraph_lines.specs.ParagraphLines.{AreLinesBehind, IsWiderText, PlainItems}
 use Rattle.paragraph_lines.specs.ParagraphPages.{AreLaid, ParagraphPagesAreLaid}
 use Rattle.paragraph_pages.specs.ParagraphAnswers.{AreAnswered, IsPlainly}
-use Rattle.paragraph_trees.specs.ParagraphPage.{IsParagraphPage}
-use Rattle.paragraph_trees.specs.ParagraphTrees.{ParagraphPagesHaveTheirTrees, paragraph_tree}
+use Rattle.paragraph_lines.specs.ParagraphPage.{IsParagraphPage}
+use Rattle.paragraph_lines.specs.ParagraphTrees.{ParagraphPagesHaveTheirTrees, paragraph_tree}
 use Rattle.render_conversion.specs.Conversion.{document_values}
 use Rattle.render_values.specs.Values.{Values}
 use Rattle.utf8_decoding.specs.ReplacedText.{replaced_text}

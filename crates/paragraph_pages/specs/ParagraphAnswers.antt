@@ -3,13 +3,13 @@
 use Rattle.std.specs.Prelude.{◌≡◌, ◌⊎◌, ◌↔◌, ℕ, ◌<◌, Any, true, List, []}
 use Rattle.escaped_texts.specs.Escaped.{KnowsEscapes}
 use Rattle.html_grammar.specs.PageText.{page_text}
-use Rattle.html_render_tree.specs.PlainText.{plain_closes, plain_marking}
-use Rattle.html_tree_builder.specs.Defaults.{default_parse}
+use Rattle.page_config.specs.PlainText.{plain_closes, plain_marking}
+use Rattle.page_config.specs.Defaults.{default_parse}
 use Rattle.page_config.specs.PageAnswers.{HasAnswer, fail, lines, too_narrow}
 use Rattle.page_config.specs.Settings.{PageSetting}
 use Rattle.paragraph_lines.specs.ParagraphLines.{AreLinesBehind, IsWiderText, PlainItems}
 use Rattle.paragraph_lines.specs.ParagraphPages.{AreQuiet, IsPlain}
-use Rattle.paragraph_trees.specs.ParagraphPage.{IsParagraphPage}
+use Rattle.paragraph_lines.specs.ParagraphPage.{IsParagraphPage}
 use Rattle.utf8_decoding.specs.ReplacedText.{replaced_text}
 
 -- Its lines are those of its paragraphs and no others; the width is too narrow just where it is 0, or no layout of one

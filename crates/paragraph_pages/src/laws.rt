@@ -2,9 +2,8 @@
 ghost use Rattle.paragraph_pages.specs.ParagraphAnswers.{ParagraphPages};
 
 use html_render_dom::Handle;
-use page_reading::a_page_has_a_tree_of_bytes;
-use paragraph_lines::paragraph_pages_are_laid;
-use paragraph_trees::paragraph_pages_have_their_trees;
+use page_config::a_page_has_a_tree_of_bytes;
+use paragraph_lines::{paragraph_pages_are_laid, paragraph_pages_have_their_trees};
 
 /// A page of paragraphs with nothing between them has the lines of its texts in their fullest layouts, at each width
 /// other than 0 at which each text has one; else it is too narrow. So no layout of a paragraph has fewer lines, each

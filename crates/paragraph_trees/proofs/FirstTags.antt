@@ -6,7 +6,7 @@ use Rattle.html_grammar.specs.Items.{end_of_file}
 use Rattle.rebuilt_documents.specs.Contents.{Content}
 use Rattle.rebuilt_documents.specs.Planted.{standing}
 use Rattle.tag_groups.specs.Groups.{tag_group}
-use Rattle.tree_builder.specs.Begun.{begun}
+use Rattle.html_tree_builder.specs.Begun.{begun}
 use Rattle.tree_rules.specs.Actions.{act}
 use Rattle.tree_rules.specs.Defaults.{default_options}
 use Rattle.tree_rules.specs.Settling.{step, taken_tag}

@@ -4,3 +4,4 @@
 mod laws;
 
 pub use laws::{one_list, paragraph_pages_have_their_trees};
+pub use rebuilt_documents::a_planted_tree_is_at_once;

@@ -11,7 +11,7 @@ use Rattle.plain_articles.specs.PlainContents.{plain_heading, plain_name, plain_
 use Rattle.rebuilt_documents.specs.Contents.{Content, in_no_namespace, none, say, span}
 use Rattle.written_articles.specs.Contents.{article_text, content_of_blocks, content_of_inlines, content_of_items}
 use Rattle.written_articles.specs.Contents.{style_name}
-use Rattle.written_trees.specs.Documents.{document_text}
+use Rattle.written_articles.specs.Documents.{document_text}
 use Rattle.html_lexemes.specs.declared.names.Attribute.{Attribute}
 
 -- an element with other contents, and before others

@@ -6,7 +6,7 @@ use Rattle.plain_articles.specs.PlainArticles.{division, emphasis, heading, ital
 use Rattle.plain_articles.specs.PlainArticles.{no_inlines, no_items, numbers, paragraph, words}
 use Rattle.plain_articles.specs.PlainArticles as plain
 use Rattle.rebuilt_documents.specs.Contents.{Content, in_no_namespace, none, say, span}
-use Rattle.written_trees.specs.Documents.{document_text}
+use Rattle.written_articles.specs.Documents.{document_text}
 
 abbrev pub plain_name : PlainStyle → List ℕ
 plain_name bold = codes "b"

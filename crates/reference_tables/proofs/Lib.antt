@@ -9,3 +9,4 @@ pub mod TableBeginnings
 pub mod TableSearch
 pub mod TextFronts
 pub mod TextOrder
+pub use Rattle.owned_texts.proofs.Utf8Order

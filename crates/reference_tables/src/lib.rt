@@ -8,5 +8,6 @@ mod rows;
 mod table;
 mod table_error;
 
+pub use owned_texts::Text;
 pub use table::{NamedReference, ReferenceTable};
 pub use table_error::TableError;

@@ -14,3 +14,4 @@ pub use around::{Around, ItemMark};
 pub use laying::Laying;
 pub use parts::spaces;
 pub use place::{SlotsLeft, TablePlace, TableRows};
+pub use text_block_renderer::TextRenderer;

@@ -20,7 +20,7 @@ use Rattle.render_laying.specs.declared.around.Around.{Around}
 use Rattle.render_laying.specs.declared.place.TablePlace.{TablePlace as CodePlace}
 use Rattle.render_laying.specs.declared.place.TablePlace.TheVariants.{Cells, Outside, Rows}
 use Rattle.renderer_calls.specs.Renderers.{Marking, Sub}
-use Rattle.text_block_renderer.specs.Parts.{Parts, with_current}
+use Rattle.render_laying.specs.Parts.{Parts, with_current}
 use Rattle.renderer_calls.specs.declared.options.RenderOptions.{RenderOptions}
 use Rattle.table_grid.specs.declared.columns.Column.{Column}
 use Rattle.render_sizes.specs.Extents.{capped}

@@ -6,7 +6,7 @@ use Rattle.renderer_calls.specs.Renderers.{Marking}
 use Rattle.render_sizes.specs.Extents.{Measure}
 use Rattle.render_values.specs.Values.{Values, none, value}
 use Rattle.render_values.specs.declared.info.Head.{Head}
-use Rattle.text_block_renderer.specs.Parts.{Parts}
+use Rattle.render_laying.specs.Parts.{Parts}
 use Rattle.render_walk.specs.Lay.{Content, content_of, laid, laid_parts, lay, on_page}
 use Rattle.render_laying.specs.Laying.{Laying, Step}
 use Rattle.render_walk.specs.Waiting.{Waiting, undone, unwound}

@@ -3,7 +3,7 @@ use Rattle.std.specs.Prelude.{ℕ, false, List, [], ◌∷◌, Option, Some, if�
 use Rattle.std.specs.Option.{option_map, option_to_list}
 use Rattle.renderer_calls.specs.Renderers.{Marking}
 use Rattle.tagged_lines.specs.Columns.{text_columns}
-use Rattle.text_block_renderer.specs.Parts.{Parts}
+use Rattle.render_laying.specs.Parts.{Parts}
 use Rattle.text_marks.specs.Marks.{Mark, header, quote}
 use Rattle.render_laying.specs.Begins.{begins, ends, following, leading, named, style_begins, style_ends}
 use Rattle.render_laying.specs.Items.{item_columns, item_mark, last_mark, next_mark, padded, spaces}

@@ -1,3 +1,4 @@
 pub mod KeptLemmas
 pub mod RoomLemmas
 pub mod PrefixLemmas
+pub use Rattle.layout_laws.proofs.OptionLemmas

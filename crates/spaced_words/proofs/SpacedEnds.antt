@@ -8,7 +8,7 @@ use Rattle.std.proofs.lemmas.Str.Ascii.{IsAscii-nil, IsAscii-push}
 use Rattle.std.proofs.lemmas.Bool.{eqb-true}
 use Rattle.std.proofs.Math.Dec.{eqb}
 use lib.Pointwise.{pointwise}
-use Rattle.tagged_lines.proofs.Joins.{chars_of_one}
+use Rattle.text_pieces.proofs.Joins.{chars_of_one}
 use Rattle.spaced_words.specs.SpacedWords.{IsVisible, spaced, HasRun, HasWords, IsWordsAndSpace}
 use Rattle.spaced_words.specs.SpacedWords.{IsLineAndSpace, EndsVisibly, IsEnded}
 use Rattle.spaced_words.proofs.SpacedLemmas.{some_length, fits_words}

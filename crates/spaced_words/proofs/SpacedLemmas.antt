@@ -5,7 +5,7 @@ use Rattle.std.specs.Char.{IsScalar}
 use Rattle.std.proofs.lemmas.List.{length-append}
 use Rattle.std.proofs.lemmas.List.Elements.{All-nil, All-same, All-push}
 use Rattle.std.proofs.lemmas.Str.{chars-nil, chars-append, IsUtf8-nil, IsUtf8-append, IsUtf8-encode}
-use Rattle.tagged_lines.proofs.Joins.{chars_of_one}
+use Rattle.text_pieces.proofs.Joins.{chars_of_one}
 use Rattle.text_pieces.specs.Cuts.{IsBehind}
 use Rattle.spaced_words.specs.SpacedWords.{IsVisible, IsWord, spaced, HasRun, HasWord, HasWords}
 

@@ -1,7 +1,7 @@
 -- Words of visible ASCII that stand behind single spaces.
 use Rattle.std.specs.Prelude.{◌≡◌, ◌≢◌, ℕ, suc, ◌≤◌, List, [], ◌∷◌, ◌++◌, length, All, chars, ◌⊎◌}
 use Rattle.text_pieces.specs.Cuts.{IsBehind}
-use Rattle.tagged_lines.specs.Columns.{text_columns}
+use Rattle.text_pieces.specs.Columns.{text_columns}
 
 -- visible ASCII
 abbrev pub IsVisible : ℕ → Type 0

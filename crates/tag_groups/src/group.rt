@@ -5,7 +5,7 @@ ghost use Rattle.name_sets.specs.TagSets.{formatting};
 ghost use Rattle.tag_groups.specs.Groups.{is_formatting, tag_group};
 
 use crate::names::GROUPS;
-use html_lexemes::LocalName;
+use name_sets::LocalName;
 
 /// Tags whose names every insertion mode treats alike, both as start tags and as end tags.
 #[derive(Clone, Copy, Debug, PartialEq, Eq)]

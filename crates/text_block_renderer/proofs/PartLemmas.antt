@@ -3,7 +3,7 @@ use Rattle.std.proofs.Common.{◌≡◌, ℕ, true, if◌then◌else◌, List, [
 use Rattle.std.specs.Prelude.{Option, Some, fold}
 use Rattle.std.specs.Option.{option_map}
 use Rattle.link_targets.specs.Targets.{last_number}
-use Rattle.block_layout.specs.LaidRows.{before_last}
+use Rattle.renderer_laws.specs.LaidRows.{before_last}
 use Rattle.renderer_calls.specs.Renderers.{Marking, Sub, add_inline}
 use Rattle.text_block_renderer.specs.Parts.{Parts, with_part, with_current, footnote_mark, add_part_number}
 

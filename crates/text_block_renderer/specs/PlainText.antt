@@ -1,6 +1,6 @@
 -- Pages as plain text: what its decorator marks, and what it closes a page with.
 use Rattle.std.specs.Prelude.{ℕ, false, List}
-use Rattle.block_renderer.specs.Seen.{marking}
+use Rattle.renderer_laws.specs.Seen.{marking}
 use Rattle.renderer_calls.specs.Renderers.{Marking}
 use Rattle.tagged_lines.specs.declared.tagged_line.TaggedLine.{TaggedLine}
 use Rattle.text_decorators.specs.Texts.{AreFootnotes, plain_text}

@@ -4,10 +4,10 @@ ghost use Rattle.text_pieces.specs.declared.fault.BlockError.TheVariants as erro
 ghost use Rattle.text_block_renderer.specs.Parts.{footnote_mark};
 ghost use Rattle.std.specs.Borrow.{sem, follows};
 ghost use Rattle.text_block_renderer.specs.contracts.text_renderer.TextRenderer.{the_row};
-ghost use Rattle.block_renderer.specs.contracts.sub_renderer.SubRenderer.{the_row as sub_row};
+ghost use Rattle.renderer_laws.specs.SubRendererContracts.{the_row as sub_row};
 
-use block_renderer::{Renderer, SubRenderer};
 use link_targets::LinkTargets;
+use renderer_laws::{Renderer, SubRenderer};
 use std::alloc::{AllocError, Global};
 use std::mem;
 use text_decorators::TextDecorator;
@@ -25,7 +25,7 @@ pub struct TextRenderer<D: TextDecorator> {
 }
 
 impl<D: TextDecorator + Drop> TextRenderer<D> {
-    ghost use Rattle.block_renderer.specs.Seen.{sub_of, has_failed};
+    ghost use Rattle.renderer_laws.specs.Seen.{sub_of, has_failed};
     ghost use Rattle.renderer_calls.specs.Renderers.{Sub};
     ghost use Rattle.text_block_renderer.specs.Parts.{Parts, whole_page, depth_of, with_part, with_current};
     ghost use Rattle.text_block_renderer.specs.Parts.{begin_part_link, finish_part_link, add_part_number};

@@ -4,3 +4,4 @@ pub mod FrontLemmas
 pub mod ItemColumns
 pub mod PieceJoins
 pub mod TextCuts
+pub use Rattle.tagged_lines.proofs.Joins

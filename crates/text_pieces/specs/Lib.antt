@@ -4,3 +4,4 @@ pub mod Items
 pub mod Joins
 pub mod Modes
 pub mod Sources
+pub use Rattle.tagged_lines.specs.Columns

@@ -6,3 +6,4 @@ pub mod BlockWidths
 pub mod ShowingLemmas
 pub mod CopyLemmas
 pub mod NothingLemmas
+pub use Rattle.wrapping_laws.proofs.WordLemmas

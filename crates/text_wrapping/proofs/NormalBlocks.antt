@@ -6,9 +6,9 @@ use Rattle.std.specs.Option.{option_map}
 use Rattle.tagged_lines.specs.Tagged.{Item}
 use Rattle.text_pieces.specs.Sources.{Source, letter, sourced}
 use Rattle.text_pieces.specs.declared.white_space.WhiteSpace.TheVariants.{Normal}
-use Rattle.normal_text.specs.Layout.{AreLinesOf, NeverFits}
-use Rattle.normal_text.specs.Riders.{normal_lines, has_wide_text}
-use Rattle.normal_text.specs.Letters.{letters_of}
+use Rattle.wrapping_laws.specs.Layout.{AreLinesOf, NeverFits}
+use Rattle.wrapping_laws.specs.Riders.{normal_lines, has_wide_text}
+use Rattle.wrapping_laws.specs.Letters.{letters_of}
 use Rattle.text_wrapping.specs.Blocks.{Block, padded, lines_behind, lines_of, took_all, added, ended_lines}
 use Rattle.text_wrapping.specs.NormalBlocks.{normal_block}
 

@@ -5,7 +5,7 @@ use Rattle.text_pieces.specs.Sources.{Source}
 use Rattle.text_pieces.specs.Modes.{is_preserved, is_wrapped}
 use Rattle.preserved_text.specs.Preserved.{preserved_lines, preserved_waiting, is_too_wide as is_wide_source}
 use Rattle.text_pieces.specs.declared.white_space.WhiteSpace.{WhiteSpace}
-use Rattle.normal_text.specs.Riders.{normal_lines, normal_waiting, has_wide_text}
+use Rattle.wrapping_laws.specs.Riders.{normal_lines, normal_waiting, has_wide_text}
 
 -- the lines of a text, or of a source line where white space is preserved
 abbrev pub lines_in : {S : Type 0} → WhiteSpace → ℕ → List (Source S) → List (List (Item S))

@@ -22,7 +22,7 @@ pub use preserved_text::{
 pub use text_block::TextBlock;
 pub use text_pieces::{BlockError, TooNarrow, WhiteSpace};
 pub use wrapping_laws::{
-    fewest_lines, letters_of_texts, lines_keep_the_width, normal_lines_are_fullest,
-    normal_lines_keep_markers, normal_lines_keep_the_width, one_fullest_layout,
-    wide_text_never_fits,
+    fewest_lines, letters_of_texts, lines_keep_the_width, markers_change_no_line,
+    normal_lines_are_fullest, normal_lines_keep_markers, normal_lines_keep_the_width,
+    normal_lines_show_each_character, one_fullest_layout, wide_text_never_fits,
 };

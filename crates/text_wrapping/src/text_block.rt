@@ -11,11 +11,11 @@ use crate::copies::{clone_lines, clone_pieces};
 use crate::one_tag::push_tagged;
 use crate::padding::pad_lines;
 use crate::showing::{ends_in_columns, has_visible, have_columns};
-use normal_text::{lay_normal, lay_owned};
 use preserved_text::lay_preserved;
 use std::alloc::{AllocError, Global};
 use tagged_lines::{EqualCopy, TaggedLine};
 use text_pieces::{BlockError, LaidText, Piece, WhiteSpace, cut_at, push_text};
+use wrapping_laws::{lay_normal, lay_owned};
 
 /// A `WrappedBlock` that keeps no note of refusals: for who lets it go once a call was refused.
 #[derive(Drop)]

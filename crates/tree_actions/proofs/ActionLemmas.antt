@@ -5,8 +5,8 @@ use Rattle.std.proofs.lemmas.List.{reverse-append, append-nil}
 use Rattle.html_forest.specs.Forest.{Forest, element_of, kind_at, name_of}
 use Rattle.html_lexemes.specs.declared.names.QualName.{QualName}
 use Rattle.html_lexemes.specs.declared.token.Tag.{Tag}
-use Rattle.html_tree_state.specs.Building.{Building, are_counted}
-use Rattle.html_tree_state.specs.Formatting.{inserted_for, inserted_formatting}
+use Rattle.tree_rules.specs.Building.{Building, are_counted}
+use Rattle.tree_rules.specs.Formatting.{inserted_for, inserted_formatting}
 use Rattle.name_sets.specs.Counts.{counts_of}
 use Rattle.name_sets.specs.Sets.{is_one_of}
 use Rattle.name_sets.specs.TagSets.{formatting}

@@ -4,8 +4,8 @@ use Rattle.std.proofs.Common.{MatchOption, Bor, HoldsAt, map, option_copied, opt
 use Rattle.std.proofs.Common.{refl, sym, ap, ◌∙◌, subst}
 use Rattle.std.proofs.lemmas.List.{reverse-append}
 use Rattle.html_forest.specs.Forest.{is_in}
-use Rattle.html_tree_state.specs.Building.{stack_of}
-use Rattle.html_tree_state.proofs.OpenLemmas.{is_in_of}
+use Rattle.tree_rules.specs.Building.{stack_of}
+use Rattle.tree_rules.proofs.OpenLemmas.{is_in_of}
 use Rattle.tree_rules.specs.Asking.{first_opened, second_opened}
 
 first_last : (ns : List ℕ) (n : ℕ) → first_opened (ns ++ n ∷ []) ≡ Some n

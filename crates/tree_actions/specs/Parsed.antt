@@ -4,7 +4,7 @@ use Rattle.html_forest.specs.Forest.{Forest}
 use Rattle.html_forest.specs.declared.sink.QuirksMode.{QuirksMode}
 use Rattle.tree_actions.specs.declared.kept.Kept.{Kept}
 use Rattle.tree_actions.specs.declared.parse.Parse.{Parse}
-use Rattle.html_tree_state.specs.Building.{Parts, seen}
+use Rattle.tree_rules.specs.Building.{Parts, seen}
 use Rattle.tree_rules.specs.State.{State}
 
 abbrev pub parsed : {H S : Type 0} → (H → ℕ) → (S → Forest) → (S → QuirksMode) → Kept H → Parts H → S → State

@@ -12,8 +12,9 @@ ghost use Rattle.name_sets.specs.Sets.{is_ascii_word};
 use crate::parse::Parse;
 use html_forest::{QuirksMode, TreeSink};
 use html_lexemes::{Attributes, Doctype, LocalName, Namespace, ParseFault, QualName, Tag, Text};
-use html_tree_state::{InsertionPoint, PushFlag};
-use tree_rules::{Target, actions_keep_what_is_ready, open_elements_are_elements};
+use tree_rules::{
+    InsertionPoint, PushFlag, Target, actions_keep_what_is_ready, open_elements_are_elements,
+};
 
 impl<S: TreeSink> Parse<S> {
     /// An element is inserted for a tag ("insert an HTML element").

@@ -2,7 +2,7 @@
 ghost use Rattle.std.specs.Prelude.{◌≡◌, IfErr, IfSome, OnOk, option_map};
 ghost use Rattle.html_forest.specs.Forest.{IsElement};
 ghost use Rattle.html_lexemes.specs.declared.fault.ParseFault.TheVariants.{Memory};
-ghost use Rattle.html_tree_state.specs.Foreign.{adjusted_current};
+ghost use Rattle.tree_rules.specs.Foreign.{adjusted_current};
 ghost use Rattle.tree_actions.specs.Parsed.{state_of};
 ghost use Rattle.tree_rules.specs.Settling.{Ready};
 ghost use Rattle.tree_rules.specs.Actions.{act, break_out, close_foreign, insert_foreign, take_out};
@@ -10,8 +10,7 @@ ghost use Rattle.tree_rules.specs.Actions.{act, break_out, close_foreign, insert
 use crate::parse::Parse;
 use html_forest::{TreeSink, what_was_not_named_stays};
 use html_lexemes::{LocalName, Namespace, ParseFault, QualName, Tag};
-use html_tree_state::PushFlag;
-use tree_rules::{actions_keep_what_is_ready, adjusted_current_nodes_are_elements};
+use tree_rules::{PushFlag, actions_keep_what_is_ready, adjusted_current_nodes_are_elements};
 
 impl<S: TreeSink> Parse<S> {
     /// The adjusted current node: a fragment's context while no more than its root is open, else the current node

@@ -1,7 +1,7 @@
 //! Elements that are inserted, and the forms that they belong to (WHATWG HTML, 13.2.6.1).
 ghost use Rattle.std.specs.Prelude.{◌≡◌, IfErr, OnOk, option_map};
 ghost use Rattle.html_lexemes.specs.declared.fault.ParseFault.TheVariants.{Memory};
-ghost use Rattle.html_tree_state.specs.Insertions.{here, inserted_by};
+ghost use Rattle.tree_rules.specs.Insertions.{here, inserted_by};
 ghost use Rattle.tree_actions.specs.Forms.{form_owner, is_listed, names_form, takes_form};
 ghost use Rattle.tree_actions.specs.Parsed.{state_of};
 ghost use Rattle.tree_rules.specs.Actions.{with_tree};
@@ -10,8 +10,8 @@ ghost use Rattle.tree_rules.specs.Settling.{Ready};
 use crate::parse::Parse;
 use html_forest::TreeSink;
 use html_lexemes::{Attributes, ParseFault, QualName};
-use html_tree_state::{InsertionPoint, PushFlag};
 use name_sets::is_html;
+use tree_rules::{InsertionPoint, PushFlag};
 use tree_words::value_of;
 
 impl<S: TreeSink> Parse<S> {

@@ -2,7 +2,7 @@
 
 use crate::kept::Kept;
 use html_forest::TreeSink;
-use html_tree_state::Construction;
+use tree_rules::Construction;
 
 /// A page that is being parsed: what is kept, and its tree.
 pub struct Parse<S: TreeSink> {

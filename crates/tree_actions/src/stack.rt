@@ -15,9 +15,8 @@ ghost use Rattle.name_sets.specs.Wanted.{elements_of};
 use crate::parse::Parse;
 use html_forest::TreeSink;
 use html_lexemes::{LocalName, ParseFault, Tag};
-use html_tree_state::words_keep_a_tree_sound;
 use name_sets::{ElementSet, Scope};
-use tree_rules::actions_keep_what_is_ready;
+use tree_rules::{actions_keep_what_is_ready, words_keep_a_tree_sound};
 
 impl<S: TreeSink> Parse<S> {
     /// The current node is popped.

@@ -11,4 +11,5 @@ mod sink;
 pub use builder::TreeBuilder;
 pub use fragment::context_state;
 pub use refusals::{ends_twice, tells_twice};
+pub use tree_actions::Parse;
 pub use tree_rules::TreeBuilderOpts;

@@ -3,7 +3,7 @@
 use Rattle.std.proofs.Common.{ℕ, Bool, true, false, List, [], ◌∷◌, Option, None, Some, codes}
 use Rattle.formatting_list.specs.Entries.{last_named}
 use Rattle.html_lexemes.specs.declared.token.Tag.{Tag}
-use Rattle.meta_encodings.specs.Encodings.{named_encoding}
+use Rattle.tree_rules.specs.Encodings.{named_encoding}
 use Rattle.name_sets.specs.ElementSets.{headings}
 use Rattle.name_sets.specs.Wanted.{one}
 use Rattle.tag_groups.specs.declared.group.TagGroup.{TagGroup}

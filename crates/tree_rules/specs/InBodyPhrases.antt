@@ -1,7 +1,7 @@
 -- Start tags of formatting, of elements without contents and of controls in the "in body" insertion mode (WHATWG HTML,
 -- 13.2.6.4.7).
 use Rattle.std.specs.Prelude.{ℕ, List, [], ◌∷◌, ◌++◌, Option, None, Some, codes, if◌then◌else◌}
-use Rattle.formatting_list.specs.Entries.{last_named}
+use Rattle.html_tree_state.specs.Entries.{last_named}
 use Rattle.html_lexemes.specs.declared.names.Namespace.TheVariants.{MathMl, Svg}
 use Rattle.html_lexemes.specs.declared.states.RawKind.TheVariants.{Rawtext, Rcdata}
 use Rattle.html_lexemes.specs.declared.token.Tag.{Tag}

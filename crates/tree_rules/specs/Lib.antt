@@ -30,3 +30,8 @@ pub mod State
 pub mod Table
 pub mod TextMode
 pub mod Welcome
+pub use Rattle.meta_encodings.specs.Encodings
+pub use Rattle.html_tree_state.specs.Building
+pub use Rattle.html_tree_state.specs.Formatting
+pub use Rattle.html_tree_state.specs.Foreign
+pub use Rattle.html_tree_state.specs.Insertions

@@ -7,6 +7,7 @@ mod options;
 mod target;
 mod text_modes;
 
+pub use html_tree_state::{Construction, InsertionPoint, PushFlag, words_keep_a_tree_sound};
 pub use laws::{
     actions_keep_what_is_ready, adjusted_current_nodes_are_elements, open_elements_are_elements,
     texts_join,

@@ -6,7 +6,7 @@ use Rattle.html_lexemes.specs.declared.token.TokenSinkResult.TheVariants.{Contin
 use Rattle.tree_actions.specs.Outcomes.{Outcome, came_to, finished, goes_on, outcome}
 use Rattle.tree_actions.specs.declared.flow.Flow.{Flow}
 use Rattle.tree_actions.specs.declared.flow.Flow.TheVariants as flows
-use Rattle.tree_ranks.specs.Falls.{Falls}
+use Rattle.tree_texts.specs.Falls.{Falls}
 use Rattle.tree_rules.specs.Actions.{act_all}
 use Rattle.tree_rules.specs.Rank.{rank}
 use Rattle.tree_rules.specs.Rows.{Row, again, asks, done}

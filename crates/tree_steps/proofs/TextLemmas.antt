@@ -3,7 +3,7 @@ use Rattle.std.proofs.Common.{◌≡◌, ℕ, ◌<◌, Bool, true, false, ◌&&�
 use Rattle.std.proofs.Common.{arith, chars, refl, sym, ap, ◌∙◌, subst}
 use Rattle.std.proofs.lemmas.Str.{chars-nil}
 use Rattle.html_grammar.specs.Slices.{first_passes, front_while, rest_while}
-use Rattle.html_tree_state.specs.Insertions.{said}
+use Rattle.tree_actions.specs.Insertions.{said}
 use Rattle.tree_actions.specs.Outcomes.{Outcome, came_to, finished, goes_on, outcome}
 use Rattle.tree_actions.specs.declared.flow.Flow.{Flow}
 use Rattle.tree_actions.specs.declared.flow.Flow.TheVariants as flows

@@ -6,12 +6,12 @@ ghost use Rattle.tree_actions.specs.Parsed.{state_of};
 ghost use Rattle.tree_rules.specs.Settling.{Ready};
 ghost use Rattle.tree_rules.specs.Table.{comment_row, doctype_row, end_of_file_row};
 
-use body_rules::{
+use html_forest::TreeSink;
+use html_lexemes::{Doctype, ParseFault, Text};
+use page_rules::body_rules::{
     close_head, close_noscript, initial_comment, initial_doctype, initial_other, make_body,
     make_head, make_html,
 };
-use html_forest::TreeSink;
-use html_lexemes::{Doctype, ParseFault, Text};
 use page_rules::{
     after_after_body_comment, after_after_body_end_of_file, after_after_frameset_comment,
     after_body_comment, after_body_end_of_file, end_of_file, frameset_end_of_file,

@@ -13,7 +13,7 @@ use html_forest::TreeSink;
 use html_lexemes::{Doctype, ParseFault, Tag, Text, TokenSinkResult};
 use tag_groups::TagGroup;
 use tree_actions::{Flow, Parse};
-use tree_ranks::{a_mark_comes_to_what_its_rule_gives, the_rank_falls};
+use tree_texts::{a_mark_comes_to_what_its_rule_gives, the_rank_falls};
 
 /// A tag.
 pub fn take_tag<S: TreeSink>(

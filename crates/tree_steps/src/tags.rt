@@ -7,13 +7,13 @@ ghost use Rattle.tree_actions.specs.Parsed.{state_of};
 ghost use Rattle.tree_rules.specs.Settling.{Ready};
 ghost use Rattle.tree_rules.specs.Table.{end_row, start_row};
 
-use body_rules::{
+use html_forest::TreeSink;
+use html_lexemes::{ParseFault, Tag};
+use page_rules::body_rules::{
     after_head_end, after_head_start, before_head_end, before_head_start, before_html_end,
     before_html_start, in_body_end, in_body_start, in_head_end, in_head_noscript_end,
     in_head_noscript_start, in_head_start, initial_other,
 };
-use html_forest::TreeSink;
-use html_lexemes::{ParseFault, Tag};
 use page_rules::{
     after_after_body_end, after_body_end, after_body_start, after_frameset_end,
     after_frameset_start, in_frameset_end, in_frameset_start, in_template_end, in_template_start,

@@ -9,10 +9,12 @@ ghost use Rattle.std.specs.Prelude.{false};
 ghost use Rattle.tree_rules.specs.Rows.{for_null};
 ghost use Rattle.tree_rules.specs.Table.{text_row};
 
-use body_rules::{close_head, close_noscript, initial_other, make_body, make_head, make_html};
 use html_forest::TreeSink;
 use html_lexemes::ParseFault;
 use page_rules::body_again;
+use page_rules::body_rules::{
+    close_head, close_noscript, initial_other, make_body, make_head, make_html,
+};
 use table_rules::{collect_text, past_column_group};
 use tree_actions::{Flow, Parse};
 use tree_words::InsertionMode;

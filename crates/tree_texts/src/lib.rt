@@ -7,3 +7,4 @@ mod text_class;
 
 pub use laws::runs_of_text;
 pub use text_class::TextClass;
+pub use tree_ranks::{a_mark_comes_to_what_its_rule_gives, the_rank_falls};

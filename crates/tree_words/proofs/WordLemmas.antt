@@ -9,7 +9,7 @@ use Rattle.std.proofs.lemmas.Bool.{and_parts, ltb-true, false_from_ne_true, ne_e
 use Rattle.std.proofs.lemmas.List.{append_cancel_left, nil_from_length, take-append-drop, take_at}
 use Rattle.std.proofs.lemmas.Slice.Eq.{bytes_eq-Decides}
 use Rattle.std.proofs.lemmas.Str.{chars-IsAscii, chars-nil, chars_past_char, IsUtf8-from_ascii, IsUtf8-past_char}
-use Rattle.reference_tables.proofs.NameTests.{some_chars}
+use Rattle.html_lexemes.proofs.NameTests.{some_chars}
 use Rattle.owned_texts.proofs.Utf8Order.{same_by_bytes}
 use Rattle.name_sets.specs.Sets.{is_ascii_word}
 use Rattle.tree_words.specs.Attributes.{in_lower_case}

@@ -3,3 +3,4 @@ pub mod Foreign
 pub mod Modes
 pub mod Quirks
 pub mod RowWords
+pub use Rattle.html_lexemes.specs.declared.names.Attribute

@@ -12,3 +12,4 @@ mod TableStates
 mod TableWidthLemmas
 mod ValueWidthLemmas
 mod WidthLemmas
+pub use Rattle.layout_laws.proofs.OptionLemmas

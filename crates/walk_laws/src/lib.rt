@@ -4,3 +4,5 @@
 mod laws;
 
 pub use laws::{values_keep_the_width, values_with_room_are_laid};
+pub use render_walk::lay_tree;
+pub use renderer_laws::{renderers_keep_the_width, renderers_with_room_never_refuse};

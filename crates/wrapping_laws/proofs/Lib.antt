@@ -5,3 +5,4 @@ pub mod MarkedKept
 pub mod MarkedShown
 pub mod NotesAside
 pub mod MarkersAside
+pub use Rattle.normal_text.proofs.WordLemmas

@@ -12,3 +12,4 @@ pub use laws::{
     normal_lines_keep_the_width, normal_lines_show_each_character, wide_text_never_fits,
 };
 pub use layout_laws::{fewest_lines, lines_keep_the_width, one_fullest_layout};
+pub use normal_text::{lay_normal, lay_owned};

@@ -19,9 +19,9 @@ use Rattle.article_values.specs.declared.error.ArticleError.TheVariants.{Forbidd
 use Rattle.article_values.specs.declared.error.ArticleError.TheVariants.{TooDeep}
 use Rattle.html_forest.specs.Forest.{is_in}
 use Rattle.name_sets.specs.Sets.{is_one_of}
-use Rattle.rebuilt_documents.specs.Contents.{IsBlocks, IsInlines, in_no_namespace, marks, none}
-use Rattle.rebuilt_documents.specs.Contents.{span, texts_of_blocks}
-use Rattle.rebuilt_documents.specs.Contents as kinds
+use Rattle.written_trees.specs.Contents.{IsBlocks, IsInlines, in_no_namespace, marks, none}
+use Rattle.written_trees.specs.Contents.{span, texts_of_blocks}
+use Rattle.written_trees.specs.Contents as kinds
 use Rattle.written_articles.specs.Contents.{content_of_blocks, content_of_inlines, content_of_items, heading_name}
 use Rattle.written_articles.specs.Contents.{style_name}
 use Rattle.written_trees.specs.Documents.{IsTitleWithout, IsWithout}

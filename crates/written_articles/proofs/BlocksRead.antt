@@ -14,7 +14,7 @@ use Rattle.article_values.specs.Faults.{fault_of_blocks, fault_of_inlines, fault
 use Rattle.html_forest.specs.Forest.{is_in}
 use Rattle.html_lexemes.specs.declared.names.Attribute.{Attribute}
 use Rattle.name_sets.specs.Sets.{is_one_of}
-use Rattle.rebuilt_documents.specs.Contents.{Content, none, say, span}
+use Rattle.written_trees.specs.Contents.{Content, none, say, span}
 use Rattle.written_articles.proofs.Accepted.{both_none, break_passed, decimal_without, heading_passed, held_passed}
 use Rattle.written_articles.proofs.Accepted.{link_passed, list_passed, span_passed, word_passed}
 use Rattle.written_articles.specs.Contents.{NumbersFit, ItemsFit, content_of_blocks, content_of_inlines}

@@ -7,7 +7,7 @@ use Rattle.article_values.specs.Articles.{Blocks, Inlines, Items, Style, bold, b
 use Rattle.article_values.specs.Articles.{heading, italic, item, line_break, link, no_blocks, no_inlines, no_items}
 use Rattle.article_values.specs.Articles.{numbers, paragraph, quote, strong, words}
 use Rattle.article_values.specs.Articles as articles
-use Rattle.rebuilt_documents.specs.Contents.{Content, in_no_namespace, none, say, span}
+use Rattle.written_trees.specs.Contents.{Content, in_no_namespace, none, say, span}
 use Rattle.html_forest.specs.Forest.{Forest}
 use Rattle.written_trees.specs.Documents.{document_text}
 use Rattle.written_trees.specs.Trees.{whole_tree}

@@ -11,10 +11,10 @@ ghost use Rattle.html_forest.specs.declared.sink.QuirksMode.TheVariants.{NoQuirk
 ghost use Rattle.reference_tables.specs.References.{References};
 ghost use Rattle.html_serializer.specs.Walks.{walk_text};
 ghost use Rattle.html_serializer.specs.declared.options.TraversalScope.TheVariants.{ChildrenOnly};
-ghost use Rattle.html_tree_builder.specs.Defaults.{default_parse};
-ghost use Rattle.html_tree_builder.specs.Grown.{IsTreeOfPage, beginning};
+ghost use Rattle.page_reading.specs.Defaults.{default_parse};
+ghost use Rattle.page_reading.specs.Grown.{IsTreeOfPage, beginning};
 ghost use Rattle.page_reading.specs.PageTrees.{IsTreeOfBytes};
-ghost use Rattle.rebuilt_documents.specs.Contents.{IsBlocks};
+ghost use Rattle.written_trees.specs.Contents.{IsBlocks};
 ghost use Rattle.utf8_decoding.specs.ReplacedText.{replaced_text};
 ghost use Rattle.written_articles.specs.Contents.{NumbersFit, article_text, article_tree, content_of_blocks};
 ghost use Rattle.written_trees.specs.Documents.{HoldsNoNul, HoldsNoReturn};

@@ -9,3 +9,4 @@ pub use laws::{
     bytes_of_an_article_have_its_tree, first_numbers_fit, no_text_is_two_articles,
     utf8_is_read_as_its_text,
 };
+pub use written_trees::a_document_is_told;

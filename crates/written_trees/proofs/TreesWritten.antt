@@ -9,7 +9,7 @@ use Rattle.html_grammar.specs.Reading.{IsLawful, Reading}
 use Rattle.reference_tables.specs.References.{References}
 use Rattle.html_lexemes.specs.declared.states.RawKind.TheVariants.{Rcdata}
 use Rattle.html_lexemes.specs.declared.token.TokenSinkResult.TheVariants.{Continue, RawData}
-use Rattle.kept_text.specs.KeptText.{IsAtBeginning}
+use Rattle.page_laws.specs.KeptText.{IsAtBeginning}
 use Rattle.tree_rules.specs.Settling.{answer_of, meaning, step}
 use Rattle.tree_rules.specs.State.{State}
 use Rattle.tree_rules.specs.Welcome.{IsReady}

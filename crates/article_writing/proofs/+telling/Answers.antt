@@ -10,7 +10,7 @@ use Rattle.article_values.specs.Articles.{link, no_blocks, no_inlines, numbers}
 use Rattle.article_values.specs.Sizes.{inline_size, inlines_size}
 use Rattle.article_values.specs.Views.{block_view, blocks_view, held, inline_view, inlines_view, items_view}
 use Rattle.written_articles.specs.Contents.{content_of_blocks, content_of_inlines, content_of_items}
-use Rattle.written_trees.specs.Tellings.{calls_and, text_content}
+use Rattle.written_articles.specs.Tellings.{calls_and, text_content}
 use Rattle.article_writing.specs.Tells.{Tells, inner_content}
 use Rattle.article_writing.specs.declared.inner.Inner.TheVariants.{Blocks, Head}
 use Rattle.article_values.proofs.Weights.{blocks_weight, items_weight, one_of, weight, weight_of_bullets}

@@ -4,7 +4,7 @@ use Rattle.article_rendering.proofs.ArticlesRendered.{laid_as}
 use Rattle.article_rendering.proofs.laws.articles_are_laid.Goals as goal
 use Rattle.article_rendering.specs.ArticlesLaid.{options_by}
 use Rattle.article_walk.specs.Measures.{plain_measure}
-use Rattle.render_walk.specs.Lay.{laid_parts}
+use Rattle.html_render_tree.specs.Lay.{laid_parts}
 use Rattle.renderer_calls.specs.Renderers.{new_sub}
 use Rattle.renderer_calls.specs.declared.options.RenderOptions.{RenderOptions}
 use Rattle.text_block_renderer.specs.Parts.{whole_page}

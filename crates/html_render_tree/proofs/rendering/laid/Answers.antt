@@ -2,7 +2,7 @@ use Rattle.std.proofs.Common.{◌≡◌, [], Err, ap, sym, ◌∙◌}
 use Rattle.block_renderer.specs.Seen.{marking}
 use Rattle.render_conversion.specs.declared.error.RenderError.TheVariants.{TooNarrow}
 use Rattle.render_sizes.specs.Extents.{extents, measure_of}
-use Rattle.render_walk.specs.Lay.{laid_parts}
+use Rattle.walk_laws.specs.Lay.{laid_parts}
 use Rattle.renderer_calls.specs.Renderers.{new_sub}
 use Rattle.text_block_renderer.specs.Parts.{depth_of, whole_page}
 use Rattle.html_render_tree.specs.PageLines.{prefix_columns}

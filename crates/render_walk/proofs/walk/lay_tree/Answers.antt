@@ -6,7 +6,7 @@ use Rattle.render_sizes.specs.Extents.{extents}
 use Rattle.render_values.proofs.ArenaLemmas.{flat_by}
 use Rattle.render_values.specs.Arena.{values_of}
 use Rattle.render_values.specs.Reading.{read_back}
-use Rattle.text_block_renderer.specs.SeenParts.{parts_of}
+use Rattle.render_laying.specs.SeenParts.{parts_of}
 use Rattle.render_walk.proofs.WalkLemmas.{laid_by, never_laid, none_below}
 use Rattle.render_walk.proofs.walk.lay_tree.Goals as goal
 

@@ -1,6 +1,6 @@
 use Rattle.std.proofs.Common.{chars, refl, sym, ap, ◌∙◌}
 use Rattle.std.specs.Prelude.{None, Some}
-use Rattle.normal_text.proofs.WordLemmas.{empty_text, some_text}
+use Rattle.block_layout.proofs.WordLemmas.{empty_text, some_text}
 use Rattle.renderer_calls.specs.declared.options.ImageRenderMode.TheVariants.{IgnoreEmpty, Replace, Filename}
 use Rattle.renderer_calls.proofs.ImageLemmas.{titled, untitled}
 use Rattle.renderer_calls.proofs.images.shown_title.Goals as goal

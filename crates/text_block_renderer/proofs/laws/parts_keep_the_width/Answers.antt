@@ -2,7 +2,7 @@ use Rattle.std.specs.Prelude.{⊤}
 use Rattle.std.proofs.lemmas.List.Elements.{All-nil}
 use Rattle.std.proofs.lemmas.Option.{MatchOption-at_some}
 use Rattle.text_marks.specs.Marks.{link_start, link_end}
-use Rattle.layout_laws.proofs.OptionLemmas.{known}
+use Rattle.renderer_laws.proofs.OptionLemmas.{known}
 use Rattle.renderer_calls.specs.Renderers.{add_inline, begin_link, finish_link}
 use Rattle.renderer_calls.specs.Calls.{adds_text, starts_link, ends_link}
 use Rattle.renderer_laws.specs.RendererLaws.{IsKeptWithin, StaysWithin}

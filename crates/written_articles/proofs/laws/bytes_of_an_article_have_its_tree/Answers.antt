@@ -1,7 +1,7 @@
 use Rattle.std.proofs.Common.{subst, ◌∙◌}
 use Rattle.html_render_dom.specs.Numbers.{handle_of}
-use Rattle.html_tree_builder.specs.Defaults.{default_parse}
-use Rattle.html_tree_builder.specs.Grown.{IsTreeOfPage}
+use Rattle.page_reading.specs.Defaults.{default_parse}
+use Rattle.page_reading.specs.Grown.{IsTreeOfPage}
 use Rattle.page_reading.specs.PageTrees.{first_of_page}
 use Rattle.written_articles.proofs.laws.bytes_of_an_article_have_its_tree.Goals as goal
 

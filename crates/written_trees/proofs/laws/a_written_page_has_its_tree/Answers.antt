@@ -2,7 +2,7 @@ use Rattle.std.proofs.Common.{true, None, refl, subst, ◌∙◌}
 use Rattle.html_forest.specs.Forest.{page_alone}
 use Rattle.html_forest.specs.declared.sink.QuirksMode.TheVariants.{NoQuirks}
 use Rattle.html_grammar.specs.Reading.{Reading}
-use Rattle.tree_builder.specs.Begun.{begun}
+use Rattle.page_laws.specs.Begun.{begun}
 use Rattle.tree_rules.specs.Defaults.{default_options}
 use Rattle.tree_rules.specs.Settling.{meaning}
 use Rattle.written_trees.specs.Written.{ordinary}

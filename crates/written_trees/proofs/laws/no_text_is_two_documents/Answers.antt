@@ -4,7 +4,7 @@ use Rattle.html_forest.specs.declared.sink.QuirksMode.TheVariants.{NoQuirks}
 use Rattle.html_grammar.proofs.Readings.{some}
 use Rattle.html_grammar.specs.Reading.{Reading}
 use Rattle.reference_tables.specs.References.{basic}
-use Rattle.tree_builder.specs.Begun.{begun}
+use Rattle.page_laws.specs.Begun.{begun}
 use Rattle.tree_rules.specs.Defaults.{default_options}
 use Rattle.tree_rules.specs.Settling.{meaning}
 use Rattle.written_trees.proofs.SameTrees.{same_whole}

@@ -6,7 +6,7 @@ use Rattle.html_serializer.specs.Calls.{reply_of}
 use Rattle.html_serializer.specs.Told.{IsTold}
 use Rattle.article_values.specs.Views.{blocks_view}
 use Rattle.written_articles.specs.Contents.{content_of_blocks}
-use Rattle.written_trees.specs.Tellings.{document_calls}
+use Rattle.written_articles.specs.Tellings.{document_calls}
 use Rattle.article_writing.proofs.Documents.{document_told, document_refused}
 use Rattle.article_writing.proofs.writing.SerializableArticleSerialize.serialize.Goals as goal
 

@@ -1,7 +1,7 @@
 use Rattle.std.proofs.Common.{sym, subst, ap, ◌∙◌}
 use Rattle.html_lexemes.specs.declared.token.Tag.{Tag}
-use Rattle.html_tree_state.specs.Building.{Building, seen}
-use Rattle.html_tree_state.specs.Formatting.{inserted_formatting}
+use Rattle.tree_rules.specs.Building.{Building, seen}
+use Rattle.tree_rules.specs.Formatting.{inserted_formatting}
 use Rattle.tree_actions.specs.Parsed.{parsed}
 use Rattle.tree_actions.proofs.ActionLemmas.{formatting_listed}
 use Rattle.tree_rules.specs.Actions.{act}
