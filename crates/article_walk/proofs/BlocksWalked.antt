@@ -12,13 +12,13 @@ use Rattle.article_values.specs.Articles.{Blocks, Inlines, Items, bullets, divis
 use Rattle.article_values.specs.Articles.{numbers, paragraph, quote}
 use Rattle.block_layout.specs.Laid.{Laid, end_block, flush, nothing_laid, start_block}
 use Rattle.block_layout.specs.declared.measure.Measure.{Measure}
-use Rattle.render_laying.specs.Begins.{begins, ends, following, leading, style_begins, style_ends}
-use Rattle.render_laying.specs.Items.{item_columns, item_mark, last_mark, next_mark, padded, spaces}
-use Rattle.render_laying.specs.Laying.{Step, behind_prefix, goes_on, mark_of}
-use Rattle.render_laying.specs.Laying as laying_of
-use Rattle.render_laying.specs.declared.around.Around.TheVariants.{Flow, Items as InItems}
-use Rattle.render_laying.specs.declared.around.ItemMark.{ItemMark}
-use Rattle.render_laying.specs.declared.around.ItemMark.TheVariants.{Bullet, Number}
+use Rattle.render_walk.specs.Begins.{begins, ends, following, leading, style_begins, style_ends}
+use Rattle.render_walk.specs.Items.{item_columns, item_mark, last_mark, next_mark, padded, spaces}
+use Rattle.render_walk.specs.Laying.{Step, behind_prefix, goes_on, mark_of}
+use Rattle.render_walk.specs.Laying as laying_of
+use Rattle.render_walk.specs.Around.TheVariants.{Flow, Items as InItems}
+use Rattle.render_walk.specs.ItemMark.{ItemMark}
+use Rattle.render_walk.specs.ItemMark.TheVariants.{Bullet, Number}
 use Rattle.render_sizes.specs.Extents.{capped, extent_of, number}
 use Rattle.render_values.specs.Looks.{plain}
 use Rattle.render_values.specs.Plain.{plain_head}

@@ -10,9 +10,9 @@ use Rattle.article_values.specs.Articles.{Inlines, Style, bold, code, emphasis, 
 use Rattle.article_values.specs.Articles.{span, strong, words}
 use Rattle.block_layout.specs.Laid.{Laid, break_line}
 use Rattle.block_layout.specs.declared.measure.Measure.{Measure}
-use Rattle.render_laying.specs.Begins.{begins, ends, following, leading, style_begins, style_ends}
-use Rattle.render_laying.specs.Laying.{Step, begins_link, ends_link}
-use Rattle.render_laying.specs.Laying as laying_of
+use Rattle.render_walk.specs.Begins.{begins, ends, following, leading, style_begins, style_ends}
+use Rattle.render_walk.specs.Laying.{Step, begins_link, ends_link}
+use Rattle.render_walk.specs.Laying as laying_of
 use Rattle.render_values.specs.Looks.{plain}
 use Rattle.render_values.specs.Plain.{plain_head}
 use Rattle.render_values.specs.Values.{Values, joined, none, value}

@@ -8,7 +8,7 @@ use Rattle.article_layout.specs.Layouts.{mark_of, room_of_numbers}
 use Rattle.article_values.specs.Articles.{Blocks, Inlines, Items, Style, bold, bullets, code, division, emphasis}
 use Rattle.article_values.specs.Articles.{heading, italic, item, line_break, link, no_blocks, no_inlines, no_items}
 use Rattle.article_values.specs.Articles.{numbers, paragraph, quote, span, strong, words}
-use Rattle.render_laying.specs.Items.{number_after}
+use Rattle.render_walk.specs.Items.{number_after}
 use Rattle.render_sizes.specs.Extents.{Measure, capped, extent, extent_of, number}
 use Rattle.render_values.specs.Plain.{plain_head}
 use Rattle.render_values.specs.Values.{Values, joined, none, value}

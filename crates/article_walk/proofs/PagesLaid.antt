@@ -9,7 +9,7 @@ use Rattle.article_layout.specs.Layouts.{Options, Tag, number_mark, outermost, w
 use Rattle.block_layout.specs.Laid.{Laid, add_text, break_line, end_block, flush, start_block}
 use Rattle.block_layout.specs.declared.measure.Measure.{Measure}
 use Rattle.link_targets.specs.Targets.{last_number}
-use Rattle.render_laying.specs.Laying.{Laying, begins_link, ends_link, in_current, in_parts, says}
+use Rattle.render_walk.specs.Laying.{Laying, begins_link, ends_link, in_current, in_parts, says}
 use Rattle.renderer_calls.specs.Calls.{adds_text, breaks_line, ends_block, ends_line, ends_mark, starts_block}
 use Rattle.renderer_calls.specs.Calls.{starts_mark}
 use Rattle.renderer_calls.specs.Renderers.{Sub, add_inline, on_laid, popped, with_laid}

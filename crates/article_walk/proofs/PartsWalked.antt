@@ -10,9 +10,9 @@ use Rattle.block_layout.specs.Laid.{Laid, Running, add_text_line, add_text_lines
 use Rattle.block_layout.specs.Laid.{has_content, laid_text, nothing_laid, parted, start_block, started, text_laid}
 use Rattle.block_layout.specs.Laid.{without_running}
 use Rattle.block_layout.specs.declared.measure.Measure.{Measure}
-use Rattle.render_laying.specs.Laying.{Step, behind_prefix, in_around, in_current, in_part, part_begun, part_ended}
-use Rattle.render_laying.specs.Laying.{says}
-use Rattle.render_laying.specs.declared.around.Around.{Around}
+use Rattle.render_walk.specs.Laying.{Step, behind_prefix, in_around, in_current, in_part, part_begun, part_ended}
+use Rattle.render_walk.specs.Laying.{says}
+use Rattle.render_walk.specs.Around.{Around}
 use Rattle.renderer_calls.specs.Renderers.{with_block, with_laid}
 use Rattle.renderer_calls.specs.declared.options.RenderOptions.{RenderOptions}
 use Rattle.tagged_lines.specs.Tagged.{Item}

@@ -1,6 +1,6 @@
 -- What the values of articles are measured by.
 use Rattle.article_layout.specs.Layouts.{Options}
-use Rattle.render_laying.specs.Items.{prefix_columns}
+use Rattle.render_walk.specs.Items.{prefix_columns}
 use Rattle.render_sizes.specs.Extents.{Measure, measure_of}
 use Rattle.text_decorators.specs.Texts.{plain_text}
 

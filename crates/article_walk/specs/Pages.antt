@@ -4,8 +4,8 @@ use Rattle.article_layout.specs.Layouts.{Options, Tag}
 use Rattle.article_values.specs.Articles.{Blocks, Inlines, Items, bullets, division, heading, item, line_break, link}
 use Rattle.article_values.specs.Articles.{no_blocks, no_inlines, no_items, numbers, paragraph, quote, span, words}
 use Rattle.block_layout.specs.Laid.{Laid}
-use Rattle.render_laying.specs.Laying.{Laying, outside}
-use Rattle.render_laying.specs.declared.around.Around.TheVariants.{Flow}
+use Rattle.render_walk.specs.Laying.{Laying, outside}
+use Rattle.render_walk.specs.Around.TheVariants.{Flow}
 use Rattle.renderer_calls.specs.Renderers.{Sub, new_sub}
 use Rattle.renderer_calls.specs.declared.options.RenderOptions.{RenderOptions}
 use Rattle.text_block_renderer.specs.Parts.{Parts, whole_page}

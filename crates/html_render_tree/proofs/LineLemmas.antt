@@ -9,7 +9,7 @@ use Rattle.link_targets.specs.Targets.{noted_targets}
 use Rattle.renderer_calls.specs.Renderers.{Marking, Sub, with_block_started}
 use Rattle.tagged_lines.specs.Tagged.{Item}
 use Rattle.tagged_lines.specs.declared.tagged_line.TaggedLine.{TaggedLine}
-use Rattle.text_block_renderer.specs.Parts.{Parts}
+use Rattle.walk_laws.specs.Parts.{Parts}
 use Rattle.html_render_tree.specs.PageLines.{IsNoted, NeverNoted, Setting, noted, with_notes}
 
 pub notes_are : {H A : Type 0} (notes : List (List (Item A))) (s : Sub H A) → (notes ≡ [] → ⊥)

@@ -11,8 +11,8 @@ use Rattle.renderer_calls.specs.Renderers.{Marking, Sub, lines_of_sub, with_bloc
 use Rattle.walk_laws.specs.RendererLaws.{CallFits, HasRoom, IsKeptWithin, StaysWithin}
 use Rattle.tagged_lines.specs.Tagged.{Item, line_columns, line_items}
 use Rattle.tagged_lines.specs.declared.tagged_line.TaggedLine.{TaggedLine}
-use Rattle.text_block_renderer.specs.PartLaws.{HaveRoom, PartsStayWithin}
-use Rattle.text_block_renderer.specs.Parts.{Parts, whole_page}
+use Rattle.walk_laws.specs.PartLaws.{HaveRoom, PartsStayWithin}
+use Rattle.walk_laws.specs.Parts.{Parts, whole_page}
 use Rattle.text_borders.specs.Lines.{BlockLine, line_shown}
 use Rattle.text_marks.specs.Marks.{page_end}
 use Rattle.render_values.specs.Values.{Values}

@@ -5,5 +5,8 @@ pub mod PlainText
 pub mod RichText
 pub mod Settings
 pub use Rattle.walk_laws.specs.WalkLaws
-pub use Rattle.text_block_renderer.specs.Parts
+pub use Rattle.walk_laws.specs.Parts
 pub use Rattle.walk_laws.specs.Lay
+pub use Rattle.walk_laws.specs.Begins
+pub use Rattle.walk_laws.specs.Laying
+pub use Rattle.walk_laws.specs.Around

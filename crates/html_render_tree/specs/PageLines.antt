@@ -8,7 +8,7 @@ use Rattle.renderer_calls.specs.declared.options.RenderOptions.{RenderOptions}
 use Rattle.renderer_calls.specs.Texts.{text_of_lines}
 use Rattle.tagged_lines.specs.Tagged.{Item, line_items}
 use Rattle.tagged_lines.specs.declared.tagged_line.TaggedLine.{TaggedLine}
-use Rattle.text_block_renderer.specs.Parts.{Parts, whole_page}
+use Rattle.walk_laws.specs.Parts.{Parts, whole_page}
 use Rattle.text_borders.specs.Lines.{BlockLine, line_shown}
 use Rattle.text_marks.specs.Marks.{page_end}
 use Rattle.render_sizes.specs.Extents.{measure_of}

@@ -7,8 +7,8 @@ ghost use Rattle.link_targets.specs.Targets.{noted_targets};
 ghost use Rattle.renderer_calls.specs.Renderers.{lines_of_sub};
 ghost use Rattle.tagged_lines.specs.Tagged.{line_items};
 ghost use Rattle.text_pieces.specs.Sources.{names};
-ghost use Rattle.text_block_renderer.specs.Parts.{depth_of};
-ghost use Rattle.text_block_renderer.specs.SeenParts.{parts_of};
+ghost use Rattle.walk_laws.specs.Parts.{depth_of};
+ghost use Rattle.walk_laws.specs.SeenParts.{parts_of};
 ghost use Rattle.text_borders.specs.Lines.{line_shown, render_line_of};
 ghost use Rattle.text_pieces.specs.declared.fault.BlockError.TheVariants as errors;
 
@@ -16,9 +16,9 @@ use block_renderer::{RenderLine, Renderer, SubRenderer};
 use link_targets::LinkTargets;
 use std::alloc::{AllocError, Global};
 use tagged_lines::TaggedLine;
-use text_block_renderer::TextRenderer;
 use text_marks::TextDecorator;
 use text_pieces::BlockError;
+use walk_laws::TextRenderer;
 
 // lines behind the page, as a block of their own
 fn add_notes<D: TextDecorator + Drop>(

@@ -8,11 +8,10 @@ ghost use Rattle.style_cascade.specs.declared.rules.StyleRule.{StyleRule as Seen
 ghost use Rattle.text_marks.specs.Marks.{Mark};
 ghost use Rattle.walk_laws.specs.WalkLaws.{AreNumbered};
 
-use text_block_renderer::{parts_keep_the_width, parts_with_room_never_refuse};
 use text_marks::TextDecorator;
 use walk_laws::{
-    renderers_keep_the_width, renderers_with_room_never_refuse, values_keep_the_width,
-    values_with_room_are_laid,
+    parts_keep_the_width, parts_with_room_never_refuse, renderers_keep_the_width,
+    renderers_with_room_never_refuse, values_keep_the_width, values_with_room_are_laid,
 };
 
 /// No line of a page passes its width, of two columns or more, where prefixes are steady, no part may pass it and links

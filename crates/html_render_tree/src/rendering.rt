@@ -4,8 +4,8 @@ ghost use Rattle.block_renderer.specs.Seen.{IsTagging, marking};
 ghost use Rattle.html_render_tree.specs.PageLines.{laid_page, prefix_columns};
 ghost use Rattle.render_conversion.specs.declared.error.RenderError.TheVariants as errors;
 ghost use Rattle.render_sizes.specs.Extents.{Measure, measure_of};
-ghost use Rattle.text_block_renderer.specs.Parts.{depth_of};
-ghost use Rattle.text_block_renderer.specs.SeenParts.{parts_of};
+ghost use Rattle.walk_laws.specs.Parts.{depth_of};
+ghost use Rattle.walk_laws.specs.SeenParts.{parts_of};
 
 use crate::prefixes::DecoratorPrefixes;
 use block_renderer::{RenderOptions, SubRenderer};
@@ -13,10 +13,9 @@ use render_conversion::RenderError;
 use render_sizes::measured;
 use render_values::RenderTree;
 use std::alloc::Global;
-use text_block_renderer::TextRenderer;
 use text_marks::TextDecorator;
 use text_pieces::BlockError;
-use walk_laws::lay_tree;
+use walk_laws::{TextRenderer, lay_tree};
 
 // behind a refusal for want of memory nothing is called
 pub(crate) fn refusal(error: BlockError) -> RenderError

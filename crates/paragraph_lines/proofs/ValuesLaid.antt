@@ -8,9 +8,9 @@ use Rattle.render_sizes.specs.Extents.{Measure, measure_of}
 use Rattle.render_values.specs.Looks.{plain}
 use Rattle.render_values.specs.Values.{Values, none}
 use Rattle.render_values.specs.declared.info.RenderInfo.TheVariants as infos
-use Rattle.render_laying.specs.Begins.{begins, ends, following, leading, style_begins, style_ends}
-use Rattle.render_laying.specs.Laying.{Laying, Step, in_current, in_turn, outside, says}
-use Rattle.render_laying.specs.declared.around.Around.TheVariants.{Flow}
+use Rattle.html_render_tree.specs.Begins.{begins, ends, following, leading, style_begins, style_ends}
+use Rattle.html_render_tree.specs.Laying.{Laying, Step, in_current, in_turn, outside, says}
+use Rattle.html_render_tree.specs.Around.TheVariants.{Flow}
 use Rattle.html_render_tree.specs.Lay.{Content, content_of, holds, laid, laid_parts, lay}
 use Rattle.renderer_calls.specs.Calls.{adds_text, ends_block, starts_block}
 use Rattle.renderer_calls.specs.Defaults.{default_options}

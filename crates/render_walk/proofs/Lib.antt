@@ -3,8 +3,5 @@ pub mod OpenLemmas
 pub mod SegmentLemmas
 pub mod StepLemmas
 pub mod TableOpenLemmas
-pub mod TableSlotLemmas
-pub mod TableStepLemmas
-pub mod TableWidthLemmas
 pub mod ValueLemmas
 pub mod WalkLemmas

@@ -17,7 +17,7 @@ use Rattle.render_walk.specs.Lay.{Content, behind_mark, holds, item_laid, listed
 use Rattle.render_laying.specs.Laying.{Laying, Step, behind_prefix, goes_on, in_around, in_turn, mark_of, part_begun}
 use Rattle.render_laying.specs.Laying.{part_ended}
 use Rattle.render_walk.specs.Seen.{where_entered}
-use Rattle.render_walk.specs.Tables.{table_laid}
+use Rattle.table_laying.specs.Tables.{table_laid}
 use Rattle.render_walk.specs.Waiting.{Waiting, item_ends, list_ends, look_ends, part_ends, undone, unwound, value_ends}
 use Rattle.render_laying.specs.declared.around.Around.TheVariants.{Flow, Items}
 use Rattle.render_laying.specs.declared.around.ItemMark.{ItemMark}

@@ -15,10 +15,10 @@ use Rattle.render_values.specs.declared.info.RenderInfo.TheVariants as infos
 use Rattle.render_values.specs.declared.style.RenderStyle.{RenderStyle}
 use Rattle.render_walk.specs.Lay.{Content, among_cells, among_rows, laid, laid_at, styled}
 use Rattle.render_walk.specs.Seen.{maybe, where_entered}
-use Rattle.render_walk.specs.Tables.{cell_begun, cell_ended, cell_laid, empties_before, empty_slots, from_cell}
-use Rattle.render_walk.specs.Tables.{in_cell, in_slot}
-use Rattle.render_walk.specs.Tables.{row_ended}
-use Rattle.render_walk.specs.Tables.{slot_width, table_ended}
+use Rattle.table_laying.specs.Tables.{cell_begun, cell_ended, cell_laid, empties_before, empty_slots, from_cell}
+use Rattle.table_laying.specs.Tables.{in_cell, in_slot}
+use Rattle.table_laying.specs.Tables.{row_ended}
+use Rattle.table_laying.specs.Tables.{slot_width, table_ended}
 use Rattle.render_walk.specs.Waiting.{Waiting, cell_ends, row_ends, table_ends, unwound}
 use Rattle.renderer_calls.specs.Renderers.{Marking, Sub}
 use Rattle.table_rows.specs.Slots.{has_columns}

@@ -19,7 +19,7 @@ use Rattle.render_values.specs.declared.info.Head.{Head}
 use Rattle.render_values.specs.declared.info.RenderInfo.{RenderInfo}
 use Rattle.render_values.specs.declared.info.RenderInfo.TheVariants as infos
 use Rattle.render_values.specs.declared.style.RenderStyle.{RenderStyle}
-use Rattle.render_walk.specs.Tables.{cell_laid, row_begun, row_ended, table_laid}
+use Rattle.table_laying.specs.Tables.{cell_laid, row_begun, row_ended, table_laid}
 use Rattle.table_rows.specs.Slots.{Table, is_shown, no_table}
 use Rattle.table_rows.specs.declared.slot.Slot.{Slot}
 

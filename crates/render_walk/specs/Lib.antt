@@ -1,4 +1,9 @@
 pub mod Lay
 pub mod Seen
-pub mod Tables
 pub mod Waiting
+pub use Rattle.table_laying.specs.Tables
+pub use Rattle.render_laying.specs.Laying
+pub use Rattle.render_laying.specs.declared.around.Around
+pub use Rattle.render_laying.specs.Items
+pub use Rattle.render_laying.specs.Begins
+pub use Rattle.render_laying.specs.declared.around.ItemMark

@@ -12,7 +12,7 @@ use Rattle.render_values.specs.declared.style.RenderStyle.{RenderStyle}
 use Rattle.render_laying.specs.Begins.{ends, style_ends}
 use Rattle.render_walk.specs.Lay.{lay}
 use Rattle.render_laying.specs.Laying.{Step, TablePlace, goes_on, in_turn, part_ended}
-use Rattle.render_walk.specs.Tables.{cell_ended, row_ended, table_ended}
+use Rattle.table_laying.specs.Tables.{cell_ended, row_ended, table_ended}
 use Rattle.table_rows.specs.declared.slot.Slot.{Slot}
 use Rattle.render_laying.specs.declared.around.Around.{Around}
 use Rattle.render_laying.specs.declared.around.Around.TheVariants.{Flow}

@@ -1,72 +1,28 @@
 //! Cells of tables.
 ghost use Rattle.std.specs.Prelude.{◌≡◌, ◌⊎◌, Err, IfErr, IfOk, IfSome, List, OnOk, false};
 ghost use Rattle.std.specs.Option.{is_some};
-ghost use Rattle.block_renderer.specs.Seen.{has_failed, sub_of};
 ghost use Rattle.render_laying.specs.Laying.{in_table};
-ghost use Rattle.render_laying.specs.Seen.{Comes, Fails, IsWorking, laying_of, made_of, place_of, slots_left};
+ghost use Rattle.render_laying.specs.Seen.{IsWorking, made_of, place_of, slots_left};
 ghost use Rattle.render_laying.specs.Seen.{widths_seen};
 ghost use Rattle.render_laying.specs.declared.place.TablePlace.TheVariants.{Cells};
 ghost use Rattle.render_values.specs.declared.node.RenderNode.{RenderNode};
 ghost use Rattle.render_walk.specs.Lay.{among_cells, in_its_slot};
 ghost use Rattle.render_walk.specs.Seen.{IsOpened, NeverOpens, OpensWhere, WorksOutside, maybe};
-ghost use Rattle.render_walk.specs.Tables.{cell_begun, cell_laid, in_slot, start_all};
+ghost use Rattle.table_laying.specs.Tables.{cell_laid, in_slot};
 ghost use Rattle.table_rows.specs.Tables.{rows_left};
 ghost use Rattle.text_pieces.specs.declared.fault.BlockError.TheVariants as errors;
 
 use crate::looking::open_look;
-use crate::slots::{push_empties, slot_width};
 use crate::values::push_some;
 use crate::waiting::{OpenCell, Waiting};
 use block_renderer::{Renderer, SubRenderer};
-use html_lexemes::Text;
 use render_laying::{Laying, SlotsLeft, TablePlace, TableRows};
 use render_values::{Head, RenderInfo};
 use std::alloc::Global;
 use std::mem;
+use table_laying::{begin_cell, push_empties, slot_width};
 use text_marks::TextDecorator;
 use text_pieces::BlockError;
-
-// fragments start, one after another
-fn start_all<D: TextDecorator + Drop>(
-    laying: &mut Laying<D>,
-    names: &[Text],
-) -> Result<(), BlockError>
-    requires { IsWorking D.Annotation.seen D.held laying.old }
-    ensures done { OnOk result (Comes D.Annotation.seen D.held D.text D.gives D.marks D.after D.pops D.sub
-        (λ m. start_all m names.now) laying.old laying.new) }
-    ensures works { OnOk result (IsWorking D.Annotation.seen D.held laying.new) }
-    ensures narrow { result ≡ Err errors.TooNarrow → Fails D.Annotation.seen D.held D.text D.gives D.marks D.after
-        D.pops D.sub (λ m. start_all m names.now) laying.old }
-    ensures kinds { IfErr result (λ e. (e ≡ errors.TooNarrow) ⊎ (e ≡ errors.Memory)) }
-{
-    'names: for name in names {
-        laying.start_fragment(name.as_str())?;
-    }
-    Ok(())
-}
-
-// text goes to a renderer of a cell from here on, and fragments start there; the renderer outside is given
-fn begin_cell<D: TextDecorator + Drop>(
-    laying: &mut Laying<D>,
-    width: usize,
-    names: &[Text],
-) -> Result<SubRenderer<D>, BlockError>
-    requires { IsWorking D.Annotation.seen D.held laying.old }
-    ensures done { OnOk result (Comes D.Annotation.seen D.held D.text D.gives D.marks D.after D.pops D.sub
-        (λ m. cell_begun m width names.now) laying.old laying.new) }
-    ensures outer { IfOk result (λ outer. sub_of D.Annotation.seen D.held outer
-        ≡ (laying_of D.Annotation.seen D.held laying.old).parts.current) }
-    ensures outer_works { IfOk result (λ outer. has_failed outer ≡ false) }
-    ensures works { OnOk result (IsWorking D.Annotation.seen D.held laying.new) }
-    ensures narrow { result ≡ Err errors.TooNarrow → Fails D.Annotation.seen D.held D.text D.gives D.marks D.after
-        D.pops D.sub (λ m. cell_begun m width names.now) laying.old }
-    ensures kinds { IfErr result (λ e. (e ≡ errors.TooNarrow) ⊎ (e ≡ errors.Memory)) }
-{
-    let outer = laying.enter_part(width)?;
-    laying.table = TablePlace::Outside { in_cell: true };
-    start_all(laying, names)?;
-    Ok(outer)
-}
 
 // A cell begins in the first of the slots that are left, where it has a column.
 fn open_slot<D: TextDecorator + Drop>(

@@ -6,7 +6,6 @@ mod content;
 mod lists;
 mod looking;
 mod parts;
-mod slots;
 mod tables;
 mod values;
 mod waiting;

@@ -1,10 +1,10 @@
 //! Tables, their rows and cells.
-ghost use Rattle.std.specs.Prelude.{◌≡◌, ◌⊎◌, ℕ, ◌++◌, Err, IfErr, IfOk, IfSome, List, None, OnOk, Option};
+ghost use Rattle.std.specs.Prelude.{◌≡◌, ◌⊎◌, Err, IfErr, IfOk, IfSome, List, None, OnOk, Option};
 ghost use Rattle.std.specs.Prelude.{false, true};
-ghost use Rattle.std.specs.Option.{is_some, option_to_list};
+ghost use Rattle.std.specs.Option.{is_some};
 ghost use Rattle.block_renderer.specs.Seen.{has_failed, sub_of};
 ghost use Rattle.column_shares.specs.Shares.{AreSized};
-ghost use Rattle.render_laying.specs.Laying.{Step, in_table, in_turn, says};
+ghost use Rattle.render_laying.specs.Laying.{Step, in_table, in_turn};
 ghost use Rattle.render_laying.specs.Seen.{Comes, Fails, IsWorking, laying_of, made_of, place_of, slots_left};
 ghost use Rattle.render_laying.specs.Seen.{widths_seen};
 ghost use Rattle.render_laying.specs.declared.place.TablePlace.TheVariants.{Rows};
@@ -12,107 +12,27 @@ ghost use Rattle.render_values.specs.declared.node.RenderNode.{RenderNode};
 ghost use Rattle.render_walk.specs.Lay.{Content, among_rows, in_its_group, in_its_row, laid, styled};
 ghost use Rattle.render_walk.specs.Seen.{IsOpened, NeverOpens, OpensWhere, StandsOutside, WorksOutside, maybe};
 ghost use Rattle.render_walk.specs.Seen.{where_entered};
-ghost use Rattle.render_walk.specs.Tables.{cell_ended, fence, is_fenced, row_call, row_ended, rows_of, table_ended};
-ghost use Rattle.render_walk.specs.Tables.{table_laid, table_widths, top_border};
+ghost use Rattle.table_laying.specs.Tables.{cell_ended, fence, is_fenced, row_ended, rows_of, table_ended};
+ghost use Rattle.table_laying.specs.Tables.{table_laid, table_widths, top_border};
 ghost use Rattle.renderer_calls.specs.Renderers.{Marking};
 ghost use Rattle.table_rows.specs.Tables.{rows_left, table_seen};
 ghost use Rattle.text_pieces.specs.declared.fault.BlockError.TheVariants as errors;
 
 use crate::cells::open_among_cells;
 use crate::looking::open_look;
-use crate::slots::{push_rest, renderers_of, separated};
 use crate::values::push_some;
 use crate::waiting::{OpenCell, OpenTable, Waiting};
-use block_renderer::{Renderer, SubRenderer};
-use column_shares::widths_across;
-use html_lexemes::Text;
+use block_renderer::Renderer;
 use render_laying::{Laying, SlotsLeft, TablePlace, TableRows};
 use render_values::{Head, RenderInfo};
-use renderer_calls::RenderOptions;
 use std::alloc::{AllocError, Global};
 use std::mem;
-use table_grid::Column;
-use table_rows::{RowsLeft, Table, is_shown};
+use table_laying::{fence, is_fenced, push_name, rows_of, table_widths, top_border};
+use table_rows::{Table, is_shown};
 use text_marks::TextDecorator;
 use text_pieces::BlockError;
 
 // ---- the table
-
-// the widths of a table's columns where its rows lie across
-fn table_widths(
-    alloc: Global,
-    options: &RenderOptions,
-    width: usize,
-    columns: &[Column],
-) -> Result<Option<Vec<usize>>, AllocError>
-    requires sized { AreSized columns.now }
-    ensures { IfOk result (λ r. widths_seen r ≡ table_widths options.now width columns.now) }
-{
-    if options.raw {
-        return Ok(None);
-    }
-    widths_across(alloc, columns, width)
-}
-
-// the rows of a table, across or with cells below one another
-fn rows_of(alloc: Global, widths: &Option<Vec<usize>>, table: Table) -> RowsLeft
-    ensures { rows_left result ≡ rows_of (widths_seen widths.now) (table_seen table) }
-{
-    match widths {
-        None => table.rows_below(alloc),
-        Some(_) => table.rows_across(alloc),
-    }
-}
-
-// only a table that stands in no cell of another is fenced
-fn is_fenced<D: TextDecorator>(options: &RenderOptions, place: &TablePlace<D>) -> bool
-    ensures { result ≡ is_fenced options.now (place_of D.Annotation.seen D.held place.now) }
-{
-    match place {
-        TablePlace::Outside { in_cell } => options.fence_tables && !*in_cell,
-        _ => false,
-    }
-}
-
-// the line above a table that is fenced, and the one below it
-fn fence<D: TextDecorator + Drop>(laying: &mut Laying<D>, fenced: bool) -> Result<(), BlockError>
-    requires { IsWorking D.Annotation.seen D.held laying.old }
-    ensures done { OnOk result (Comes D.Annotation.seen D.held D.text D.gives D.marks D.after D.pops D.sub
-        (λ m. fence m fenced) laying.old laying.new) }
-    ensures works { OnOk result (IsWorking D.Annotation.seen D.held laying.new) }
-    ensures narrow { result ≡ Err errors.TooNarrow → Fails D.Annotation.seen D.held D.text D.gives D.marks D.after
-        D.pops D.sub (λ m. fence m fenced) laying.old }
-    ensures kinds { IfErr result (λ e. (e ≡ errors.TooNarrow) ⊎ (e ≡ errors.Memory)) }
-{
-    if !fenced {
-        return Ok(());
-    }
-    laying.add_text("```")?;
-    laying.end_line()
-}
-
-// the border above the first row
-fn top_border<D: TextDecorator + Drop>(
-    laying: &mut Laying<D>,
-    options: &RenderOptions,
-    widths: &Option<Vec<usize>>,
-) -> Result<(), BlockError>
-    requires { IsWorking D.Annotation.seen D.held laying.old }
-    ensures done { OnOk result (Comes D.Annotation.seen D.held D.text D.gives D.marks D.after D.pops D.sub
-        (λ m. top_border m options.now (widths_seen widths.now)) laying.old laying.new) }
-    ensures works { OnOk result (IsWorking D.Annotation.seen D.held laying.new) }
-    ensures narrow { result ≡ Err errors.TooNarrow → Fails D.Annotation.seen D.held D.text D.gives D.marks D.after
-        D.pops D.sub (λ m. top_border m options.now (widths_seen widths.now)) laying.old }
-    ensures kinds { IfErr result (λ e. (e ≡ errors.TooNarrow) ⊎ (e ≡ errors.Memory)) }
-{
-    if !options.draw_borders {
-        return Ok(());
-    }
-    match widths {
-        None => laying.add_border(),
-        Some(widths) => laying.add_border_of(separated(widths.as_slice())),
-    }
-}
 
 /// A table begins; one without a column is left out.
 pub(crate) fn hold_table<D: TextDecorator + Drop>(
@@ -174,16 +94,6 @@ pub(crate) fn end_table<D: TextDecorator + Drop>(
 }
 
 // ---- its rows
-
-// the name of a fragment behind others, if there is one
-fn push_name(names: &mut Vec<Text>, name: &Option<Text>) -> Result<(), AllocError>
-    ensures { OnOk result (names.new.items ≡ names.old.items ++ option_to_list name.now) }
-{
-    if let Some(name) = name {
-        names.push(name.try_clone()?)?;
-    }
-    Ok(())
-}
 
 /// A group of rows begins.
 fn begin_group<D: TextDecorator + Drop>(
@@ -290,62 +200,6 @@ fn open_row<D: TextDecorator + Drop>(
     push_some(waiting, look)?;
     waiting.push(Waiting::RowEnds)?;
     Ok(true)
-}
-
-// the renderers that stand in a row go below one another, or side by side
-fn add_row<D: TextDecorator + Drop>(
-    laying: &mut Laying<D>,
-    alloc: Global,
-    is_across: bool,
-    made: Vec<(SubRenderer<D>, usize)>,
-) -> Result<(), BlockError>
-    requires { IsWorking D.Annotation.seen D.held laying.old }
-    ensures done { (widths : Option (List ℕ)) → is_some widths ≡ is_across → OnOk result (Comes D.Annotation.seen
-        D.held D.text D.gives D.marks D.after D.pops D.sub (λ m. says m (row_call widths
-        (made_of D.Annotation.seen D.held made.items))) laying.old laying.new) }
-    ensures works { OnOk result (IsWorking D.Annotation.seen D.held laying.new) }
-    ensures narrow { result ≡ Err errors.TooNarrow → (widths : Option (List ℕ)) → is_some widths ≡ is_across
-        → Fails D.Annotation.seen D.held D.text D.gives D.marks D.after D.pops D.sub (λ m. says m (row_call widths
-        (made_of D.Annotation.seen D.held made.items))) laying.old }
-    ensures kinds { IfErr result (λ e. (e ≡ errors.TooNarrow) ⊎ (e ≡ errors.Memory)) }
-{
-    if is_across {
-        return laying.add_cells(made);
-    }
-    laying.add_rows_below(renderers_of(alloc, made)?)
-}
-
-/// A row ends.
-pub(crate) fn end_row<D: TextDecorator + Drop>(
-    laying: &mut Laying<D>,
-    alloc: Global,
-) -> Result<(), BlockError>
-    requires { IsWorking D.Annotation.seen D.held laying.old }
-    ensures done { OnOk result (Comes D.Annotation.seen D.held D.text D.gives D.marks D.after D.pops D.sub
-        (λ m. row_ended m) laying.old laying.new) }
-    ensures works { OnOk result (IsWorking D.Annotation.seen D.held laying.new) }
-    ensures narrow { result ≡ Err errors.TooNarrow → Fails D.Annotation.seen D.held D.text D.gives D.marks D.after
-        D.pops D.sub (λ m. row_ended m) laying.old }
-    ensures kinds { IfErr result (λ e. (e ≡ errors.TooNarrow) ⊎ (e ≡ errors.Memory)) }
-{
-    match mem::replace(&mut laying.table, TablePlace::Outside { in_cell: true }) {
-        TablePlace::Cells {
-            rows,
-            slots,
-            mut made,
-        } => {
-            let mut rows = rows;
-            push_rest(laying, &rows.widths, &slots, &mut made)?;
-            let is_across = rows.widths.is_some();
-            rows.fragments = Vec::new(alloc);
-            laying.table = TablePlace::Rows(rows);
-            add_row(laying, alloc, is_across, made)
-        }
-        place => {
-            laying.table = place;
-            Ok(())
-        }
-    }
 }
 
 // ---- its cells

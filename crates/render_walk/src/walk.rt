@@ -24,13 +24,14 @@ ghost use Rattle.render_walk.specs.Lay.{content_of, table_of};
 ghost use Rattle.table_rows.specs.Tables.{table_seen};
 
 use crate::content::Content;
-use crate::tables::{end_cell, end_row, end_table};
+use crate::tables::{end_cell, end_table};
 use crate::values::open_value;
 use crate::waiting::{OpenItem, OpenPart, Waiting};
 use render_laying::{Around, Laying, TablePlace, TextRenderer};
 use render_sizes::{Extent, number, table_among};
 use render_values::{Head, RenderInfo, RenderNode, RenderTree};
 use std::alloc::{AllocError, Global};
+use table_laying::end_row;
 use table_rows::Table;
 use text_marks::TextDecorator;
 use text_pieces::BlockError;

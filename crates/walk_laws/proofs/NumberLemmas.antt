@@ -8,7 +8,7 @@ use Rattle.std.proofs.lemmas.Int.{ints}
 use Rattle.std.proofs.lemmas.List.Folds.{sum_by-replicate}
 use Rattle.std.proofs.lemmas.List.Sums.{sum_by-append}
 use Rattle.tagged_lines.specs.Columns.{columns_of-one, text_columns, width_of}
-use Rattle.render_laying.specs.Items.{number_after, padded, spaces}
+use Rattle.render_walk.specs.Items.{number_after, padded, spaces}
 
 -- ---- columns of spaces
 

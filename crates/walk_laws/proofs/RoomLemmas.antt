@@ -15,14 +15,14 @@ use Rattle.render_values.specs.declared.info.Head.{Head}
 use Rattle.render_values.specs.declared.info.RenderInfo.{RenderInfo}
 use Rattle.render_values.specs.declared.info.RenderInfo.TheVariants as infos
 use Rattle.render_values.specs.declared.style.RenderStyle.{RenderStyle}
-use Rattle.render_laying.specs.Begins.{begins, ends, fragment_leads, following, leading, named, style_begins}
-use Rattle.render_laying.specs.Begins.{style_ends}
-use Rattle.render_laying.specs.Items.{next_mark}
-use Rattle.render_laying.specs.Laying.{Laying, Step, TablePlace, begins_link, behind_prefix, cells, ends_link, for_some}
-use Rattle.render_laying.specs.Laying.{goes_on, goes_to, in_current, in_part, in_parts, in_turn, outside, part_begun}
-use Rattle.render_laying.specs.Laying.{part_ended, rows, says}
-use Rattle.render_laying.specs.declared.around.Around.{Around}
-use Rattle.render_laying.specs.declared.around.Around.TheVariants.{Flow, Items}
+use Rattle.render_walk.specs.Begins.{begins, ends, fragment_leads, following, leading, named, style_begins}
+use Rattle.render_walk.specs.Begins.{style_ends}
+use Rattle.render_walk.specs.Items.{next_mark}
+use Rattle.render_walk.specs.Laying.{Laying, Step, TablePlace, begins_link, behind_prefix, cells, ends_link, for_some}
+use Rattle.render_walk.specs.Laying.{goes_on, goes_to, in_current, in_part, in_parts, in_turn, outside, part_begun}
+use Rattle.render_walk.specs.Laying.{part_ended, rows, says}
+use Rattle.render_walk.specs.Around.{Around}
+use Rattle.render_walk.specs.Around.TheVariants.{Flow, Items}
 use Rattle.render_walk.specs.Lay.{placed, styled}
 
 -- what the crates below say of renderers

@@ -5,8 +5,8 @@ use Rattle.renderer_calls.specs.Calls as calls
 use Rattle.renderer_calls.specs.Renderers.{Marking, Sub}
 use Rattle.renderer_laws.specs.RendererLaws.{StaysWithin}
 use Rattle.table_rows.specs.declared.slot.Slot.{Slot}
-use Rattle.render_laying.specs.Laying.{Laying, cells, in_current, in_table, rows}
-use Rattle.render_laying.specs.declared.around.Around.TheVariants.{Flow}
+use Rattle.render_walk.specs.Laying.{Laying, cells, in_current, in_table, rows}
+use Rattle.render_walk.specs.Around.TheVariants.{Flow}
 use Rattle.render_walk.specs.Tables.{end_of_row, row_call, row_ended}
 use Rattle.walk_laws.proofs.RowFitLemmas.{seats_of}
 use Rattle.walk_laws.proofs.TableStates.{FitsCells, row_call_fits, row_leaves, row_made}

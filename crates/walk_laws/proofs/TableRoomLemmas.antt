@@ -18,8 +18,8 @@ use Rattle.render_values.specs.Values.{Values, none, value}
 use Rattle.render_values.specs.declared.info.Head.{Head}
 use Rattle.render_values.specs.declared.info.RenderInfo.{RenderInfo}
 use Rattle.render_values.specs.declared.info.RenderInfo.TheVariants as infos
-use Rattle.render_laying.specs.Begins.{following, named}
-use Rattle.render_laying.specs.Laying.{Laying, Step, TablePlace, cells, goes_to, in_turn, outside, rows, says}
+use Rattle.render_walk.specs.Begins.{following, named}
+use Rattle.render_walk.specs.Laying.{Laying, Step, TablePlace, cells, goes_to, in_turn, outside, rows, says}
 use Rattle.render_walk.specs.Lay.{Content, among_cells, among_rows, content_of, holds, in_its_group, in_its_row}
 use Rattle.render_walk.specs.Lay.{in_its_slot, laid, laid_at, lay, on_page, shown, styled}
 use Rattle.render_walk.specs.Tables.{border_call, cell_begun, cell_ended, cell_laid, columns_laid, empties_before}

@@ -20,9 +20,9 @@ use Rattle.text_marks.specs.Marks.{Mark, preformat_first, preformat_further}
 use Rattle.table_grid.specs.declared.columns.Column.{Column}
 use Rattle.table_rows.specs.Slots.{Table}
 use Rattle.table_rows.specs.declared.slot.Slot.{Slot}
-use Rattle.render_laying.specs.Laying.{Laying, Step, TablePlace, cells, goes_to, in_current, in_turn, outside, rows}
-use Rattle.render_laying.specs.Laying.{says}
-use Rattle.render_laying.specs.declared.around.Around.TheVariants.{Flow}
+use Rattle.render_walk.specs.Laying.{Laying, Step, TablePlace, cells, goes_to, in_current, in_turn, outside, rows}
+use Rattle.render_walk.specs.Laying.{says}
+use Rattle.render_walk.specs.Around.TheVariants.{Flow}
 use Rattle.render_walk.specs.Tables.{border_call, columns_laid, fence, is_fenced, rows_laid, rows_of, separated}
 use Rattle.render_walk.specs.Tables.{table_begun, table_ended, table_laid, table_widths, top_border}
 use Rattle.walk_laws.proofs.RowFitLemmas.{seats_of, some_known}

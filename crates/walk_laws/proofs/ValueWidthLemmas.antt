@@ -16,12 +16,12 @@ use Rattle.render_values.specs.Values.{Values, none, value}
 use Rattle.render_values.specs.declared.info.Head.{Head}
 use Rattle.render_values.specs.declared.info.RenderInfo.{RenderInfo}
 use Rattle.render_values.specs.declared.info.RenderInfo.TheVariants as infos
-use Rattle.render_laying.specs.Begins.{following, fragment_leads, named}
-use Rattle.render_laying.specs.Items.{spaces}
-use Rattle.render_laying.specs.Laying.{Laying, Step, cells, goes_to, in_table, in_turn, rows, says}
-use Rattle.render_laying.specs.declared.around.Around.{Around}
-use Rattle.render_laying.specs.declared.around.Around.TheVariants.{Flow}
-use Rattle.render_laying.specs.declared.around.ItemMark.TheVariants.{Bullet, Number}
+use Rattle.render_walk.specs.Begins.{following, fragment_leads, named}
+use Rattle.render_walk.specs.Items.{spaces}
+use Rattle.render_walk.specs.Laying.{Laying, Step, cells, goes_to, in_table, in_turn, rows, says}
+use Rattle.render_walk.specs.Around.{Around}
+use Rattle.render_walk.specs.Around.TheVariants.{Flow}
+use Rattle.render_walk.specs.ItemMark.TheVariants.{Bullet, Number}
 use Rattle.render_walk.specs.Lay.{Content, among_cells, among_rows, content_of, holds, in_its_group, in_its_row, laid}
 use Rattle.render_walk.specs.Lay.{laid_at, lay, on_page, placed, shown, styled}
 use Rattle.render_walk.specs.Tables.{row_begun, row_ended}

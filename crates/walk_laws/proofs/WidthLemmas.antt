@@ -26,16 +26,16 @@ use Rattle.render_values.specs.declared.info.Head.{Head}
 use Rattle.render_values.specs.declared.info.RenderInfo.{RenderInfo}
 use Rattle.render_values.specs.declared.info.RenderInfo.TheVariants as infos
 use Rattle.render_values.specs.declared.style.RenderStyle.{RenderStyle}
-use Rattle.render_laying.specs.Begins.{begins, ends, following, fragment_leads, leading, named, style_begins}
-use Rattle.render_laying.specs.Begins.{style_ends}
-use Rattle.render_laying.specs.Items.{item_columns, item_mark, last_mark, next_mark, number_after, padded, spaces}
-use Rattle.render_laying.specs.Laying.{Laying, Step, begins_link, behind_prefix, ends_link, for_some, goes_on}
-use Rattle.render_laying.specs.Laying.{in_current, in_part, in_parts, in_turn, mark_of, outside, part_begun, part_ended}
-use Rattle.render_laying.specs.Laying.{says}
-use Rattle.render_laying.specs.declared.around.Around.{Around}
-use Rattle.render_laying.specs.declared.around.Around.TheVariants.{Flow, Items}
-use Rattle.render_laying.specs.declared.around.ItemMark.{ItemMark}
-use Rattle.render_laying.specs.declared.around.ItemMark.TheVariants.{Bullet, Number}
+use Rattle.render_walk.specs.Begins.{begins, ends, following, fragment_leads, leading, named, style_begins}
+use Rattle.render_walk.specs.Begins.{style_ends}
+use Rattle.render_walk.specs.Items.{item_columns, item_mark, last_mark, next_mark, number_after, padded, spaces}
+use Rattle.render_walk.specs.Laying.{Laying, Step, begins_link, behind_prefix, ends_link, for_some, goes_on}
+use Rattle.render_walk.specs.Laying.{in_current, in_part, in_parts, in_turn, mark_of, outside, part_begun, part_ended}
+use Rattle.render_walk.specs.Laying.{says}
+use Rattle.render_walk.specs.Around.{Around}
+use Rattle.render_walk.specs.Around.TheVariants.{Flow, Items}
+use Rattle.render_walk.specs.ItemMark.{ItemMark}
+use Rattle.render_walk.specs.ItemMark.TheVariants.{Bullet, Number}
 use Rattle.render_walk.specs.Lay.{behind_mark, listed, placed, styled}
 use Rattle.walk_laws.proofs.NumberLemmas.{Reaches, first_reaches, next_above, next_reaches, number_fits, padded_fits}
 use Rattle.walk_laws.proofs.NumberLemmas.{spaces_fit, up_to_last}

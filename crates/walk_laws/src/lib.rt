@@ -6,3 +6,4 @@ mod laws;
 pub use laws::{values_keep_the_width, values_with_room_are_laid};
 pub use render_walk::lay_tree;
 pub use renderer_laws::{renderers_keep_the_width, renderers_with_room_never_refuse};
+pub use text_block_renderer::{TextRenderer, parts_keep_the_width, parts_with_room_never_refuse};

@@ -1,5 +1,5 @@
 use Rattle.block_renderer.specs.Seen.{marking, sub_of}
-use Rattle.text_block_renderer.specs.SeenParts.{parts_of}
+use Rattle.walk_laws.specs.SeenParts.{parts_of}
 use Rattle.html_render_tree.proofs.LineLemmas.{noted_behind_as, if_ok_by, never_noted_as, noted_as}
 use Rattle.html_render_tree.proofs.closing.closed_page.Goals as goal
 

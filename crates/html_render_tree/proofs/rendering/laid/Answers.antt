@@ -4,7 +4,7 @@ use Rattle.render_conversion.specs.declared.error.RenderError.TheVariants.{TooNa
 use Rattle.render_sizes.specs.Extents.{extents, measure_of}
 use Rattle.walk_laws.specs.Lay.{laid_parts}
 use Rattle.renderer_calls.specs.Renderers.{new_sub}
-use Rattle.text_block_renderer.specs.Parts.{depth_of, whole_page}
+use Rattle.walk_laws.specs.Parts.{depth_of, whole_page}
 use Rattle.html_render_tree.specs.PageLines.{prefix_columns}
 use Rattle.html_render_tree.proofs.rendering.laid.Goals as goal
 

@@ -5,7 +5,7 @@ use Rattle.std.specs.Option.{is_some}
 use Rattle.block_renderer.specs.Seen.{marking}
 use Rattle.render_laying.specs.Seen.{made_of, slots_left, widths_seen}
 use Rattle.render_walk.specs.Seen.{WorksOutside, maybe, waiting_of}
-use Rattle.render_walk.specs.Tables.{cell_laid}
+use Rattle.table_laying.specs.Tables.{cell_laid}
 use Rattle.table_rows.specs.Tables.{rows_left}
 use Rattle.render_walk.proofs.TableOpenLemmas.{all_both, cell_opens, left_out, let_in, no_cell_look, no_cell_name}
 use Rattle.render_walk.proofs.TableOpenLemmas.{pushed_both, some_all, some_few, whichever_measure}

@@ -5,7 +5,7 @@ use Rattle.text_pieces.specs.declared.fault.BlockError.TheVariants.{TooNarrow}
 use Rattle.block_renderer.specs.Seen.{marking, sub_of}
 use Rattle.render_laying.specs.Seen.{laying_of, made_of, slots_left, widths_seen}
 use Rattle.render_walk.specs.Seen.{open_cell_of}
-use Rattle.render_walk.specs.Tables.{slot_width}
+use Rattle.table_laying.specs.Tables.{slot_width}
 use Rattle.table_rows.specs.Slots.{has_columns}
 use Rattle.table_rows.specs.Tables.{rows_left}
 use Rattle.table_rows.specs.declared.slot.Slot.{Slot}

@@ -4,8 +4,8 @@ use Rattle.render_laying.specs.Seen.{laying_of, made_of, slots_left, widths_seen
 use Rattle.table_rows.specs.Tables.{rows_left}
 use Rattle.render_walk.specs.Seen.{open_cell_of}
 use Rattle.render_walk.proofs.OpenLemmas.{unboxed}
-use Rattle.render_walk.proofs.TableSlotLemmas.{made_more}
-use Rattle.render_walk.proofs.TableStepLemmas.{cell_ends_as}
+use Rattle.table_laying.proofs.TableSlotLemmas.{made_more}
+use Rattle.table_laying.proofs.TableStepLemmas.{cell_ends_as}
 use Rattle.render_walk.proofs.ValueLemmas.{any_measure}
 use Rattle.render_walk.proofs.tables.end_cell.Goals as goal
 

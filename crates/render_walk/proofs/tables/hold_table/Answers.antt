@@ -6,16 +6,16 @@ use Rattle.text_pieces.specs.declared.fault.BlockError.TheVariants.{TooNarrow}
 use Rattle.block_renderer.specs.Seen.{marking, sub_of}
 use Rattle.render_laying.specs.Seen.{laying_of, place_of, widths_seen}
 use Rattle.render_sizes.specs.Extents.{capped}
-use Rattle.render_walk.proofs.TableStepLemmas.{width_capped}
-use Rattle.render_walk.specs.Tables.{rows_of, table_widths}
+use Rattle.table_laying.proofs.TableStepLemmas.{width_capped}
+use Rattle.table_laying.specs.Tables.{rows_of, table_widths}
 use Rattle.table_grid.specs.declared.columns.Column.{Column}
 use Rattle.table_rows.specs.Tables.{table_seen}
 use Rattle.render_walk.specs.Seen.{open_table_of}
 use Rattle.render_walk.proofs.OpenLemmas.{box_waits}
 use Rattle.render_walk.proofs.StepLemmas.{nothing_waits}
 use Rattle.render_walk.proofs.TableOpenLemmas.{table_waits}
-use Rattle.render_walk.proofs.TableStepLemmas.{border_keeps, fence_keeps, never_bordered, never_fenced, never_starts}
-use Rattle.render_walk.proofs.TableStepLemmas.{no_table, says_keeps, table_begins, table_by}
+use Rattle.table_laying.proofs.TableStepLemmas.{border_keeps, fence_keeps, never_bordered, never_fenced, never_starts}
+use Rattle.table_laying.proofs.TableStepLemmas.{no_table, says_keeps, table_begins, table_by}
 use Rattle.render_walk.proofs.tables.hold_table.Goals as goal
 
 pub returns-then-is_empty-clause-opened : goal.returns-then-is_empty-clause-opened

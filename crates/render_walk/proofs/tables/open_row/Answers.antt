@@ -7,7 +7,7 @@ use Rattle.block_renderer.specs.Seen.{marking}
 use Rattle.render_laying.specs.Laying.{in_turn}
 use Rattle.render_walk.specs.Lay.{styled}
 use Rattle.render_walk.specs.Seen.{WorksOutside, maybe, waiting_of}
-use Rattle.render_walk.specs.Tables.{row_ended}
+use Rattle.table_laying.specs.Tables.{row_ended}
 use Rattle.render_walk.specs.declared.waiting.Waiting.TheVariants.{RowEnds}
 use Rattle.render_walk.proofs.TableOpenLemmas.{all_and_one, pushed_both, row_left_out, row_let_in, row_opens, some_all}
 use Rattle.render_walk.proofs.TableOpenLemmas.{some_few}

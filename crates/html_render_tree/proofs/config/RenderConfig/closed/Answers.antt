@@ -1,7 +1,7 @@
 use Rattle.std.proofs.Common.{◌≡◌, Err, ap, inr, sym, ◌∙◌}
 use Rattle.block_renderer.specs.Seen.{marking}
 use Rattle.render_conversion.specs.declared.error.RenderError.TheVariants.{TooNarrow}
-use Rattle.text_block_renderer.specs.SeenParts.{parts_of}
+use Rattle.walk_laws.specs.SeenParts.{parts_of}
 use Rattle.html_render_tree.specs.PageLines.{laid_page}
 use Rattle.html_render_tree.specs.Settings.{setting_of}
 use Rattle.html_render_tree.proofs.LineLemmas.{by_decorator}

@@ -1,0 +1,3 @@
+pub mod TableSlotLemmas
+pub mod TableStepLemmas
+pub mod TableWidthLemmas
