@@ -14,7 +14,6 @@ use text_cells::{HangingCell, LaidLine};
 use text_pieces::{BlockError, LaidText, has_text};
 
 /// A block of lines, and the text that runs behind them. A call that is refused leaves a part of what it was to add.
-#[derive(Drop)]
 pub struct BlockLayout<T> {
     pub(crate) lines: LaidLines<T>,
     pub(crate) running: Option<Running<T>>,
@@ -24,6 +23,19 @@ pub struct BlockLayout<T> {
     pub(crate) markers: Vec<String>,
     /// The cells that go on from the last row.
     pub(crate) hanging: Vec<HangingCell<T>>,
+}
+
+impl<T: Drop> Drop for BlockLayout<T> {
+    // One call wherever a block is dropped, whatever it holds.
+    fn drop(self) {
+        let BlockLayout {
+            lines: _,
+            running: _,
+            awaits: _,
+            markers: _,
+            hanging: _,
+        } = self;
+    }
 }
 
 impl<T: EqualCopy + Drop> BlockLayout<T> {
@@ -270,7 +282,13 @@ impl<T: EqualCopy + Drop> BlockLayout<T> {
         ensures lines { map (laid_line_of T.seen) result.items ≡ (laid_of T.seen self).lines }
         ensures joined { HasJoinedTexts T.seen self → AreLinesJoined T.seen result.items }
     {
-        let BlockLayout { lines, .. } = self;
+        let BlockLayout {
+            lines,
+            running: _,
+            awaits: _,
+            markers: _,
+            hanging: _,
+        } = self;
         lines.into_vec()
     }
 }

@@ -12,7 +12,6 @@ use text_marks::TextDecorator;
 use text_pieces::{BlockError, TooNarrow, WhiteSpace};
 
 /// A renderer of a block of lines, whose text a decorator marks.
-#[derive(Drop)]
 pub struct SubRenderer<D: TextDecorator> {
     /// How text is rendered.
     pub options: RenderOptions,
@@ -25,6 +24,23 @@ pub struct SubRenderer<D: TextDecorator> {
     pub(crate) annotations: Vec<D::Annotation>,
     pub(crate) strikeouts: usize,
     pub(crate) failed: bool,
+}
+
+impl<D: TextDecorator + Drop> Drop for SubRenderer<D> {
+    // One call wherever a renderer is dropped, whatever it holds.
+    fn drop(self) {
+        let SubRenderer {
+            options: _,
+            width: _,
+            decorator: _,
+            laid: _,
+            modes: _,
+            preformats: _,
+            annotations: _,
+            strikeouts: _,
+            failed: _,
+        } = self;
+    }
 }
 
 impl<D: TextDecorator + Drop> SubRenderer<D> {
@@ -295,9 +311,15 @@ impl<D: TextDecorator + Drop> SubRenderer<D> {
         }
         let measure = self.measure();
         let SubRenderer {
+            options: _,
+            width: _,
+            decorator: _,
             laid,
+            modes: _,
+            preformats: _,
             annotations,
-            ..
+            strikeouts: _,
+            failed: _,
         } = self;
         laid.into_lines(measure, &annotations)
     }

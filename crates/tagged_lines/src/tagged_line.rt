@@ -16,11 +16,21 @@ use std::alloc::{AllocError, Global};
 use std::{slice, vec};
 
 /// A line of tagged text. What is pushed joins the text before it where their tags are equal.
-#[derive(Drop, PartialEq)]
+#[derive(PartialEq)]
 pub struct TaggedLine<T> {
     elements: Vec<TaggedLineElement<T>>,
     columns: usize,
     ghost counted: { columns ≡ text_columns (elements_text elements.items) },
+}
+
+impl<T: Drop> Drop for TaggedLine<T> {
+    // One call wherever a line is dropped, whatever its texts are made of.
+    fn drop(self) {
+        let TaggedLine {
+            elements: _,
+            columns: _,
+        } = self;
+    }
 }
 
 impl<T: EqualCopy + Drop> TaggedLine<T> {

@@ -15,13 +15,24 @@ use text_wrapping::BlockError;
 
 /// A renderer of a page: one of the whole, and above it those of the parts that have begun, to the last of which text
 /// goes; and the targets of the links so far.
-#[derive(Drop)]
 pub struct TextRenderer<D: TextDecorator> {
     /// Those below the current one, the whole page's first.
     below: Vec<SubRenderer<D>>,
     current: SubRenderer<D>,
     links: LinkTargets,
     failed: bool,
+}
+
+impl<D: TextDecorator + Drop> Drop for TextRenderer<D> {
+    // One call wherever a page's renderer is dropped, whatever it holds.
+    fn drop(self) {
+        let TextRenderer {
+            below: _,
+            current: _,
+            links: _,
+            failed: _,
+        } = self;
+    }
 }
 
 impl<D: TextDecorator + Drop> TextRenderer<D> {
@@ -145,7 +156,12 @@ impl<D: TextDecorator + Drop> TextRenderer<D> {
         ensures links { all_targets result.1 ≡ (parts_of D.Annotation.seen D.held self).targets }
         ensures failed { has_failed result.0 ≡ current_has_failed self }
     {
-        let TextRenderer { current, links, .. } = self;
+        let TextRenderer {
+            below: _,
+            current,
+            links,
+            failed: _,
+        } = self;
         (current, links)
     }
 
