@@ -68,7 +68,8 @@ impl<D: TextDecorator + Drop> Renderer for SubRenderer<D> {
         if self.failed {
             return Err(BlockError::Failed);
         }
-        let result = self.put_empty_line();
+        let measure = self.measure();
+        let result = self.laid.add_empty_line(measure, &self.annotations);
         self.failed = result.is_err();
         result
     }
@@ -77,7 +78,8 @@ impl<D: TextDecorator + Drop> Renderer for SubRenderer<D> {
         if self.failed {
             return Err(BlockError::Failed);
         }
-        let result = self.open_block();
+        let measure = self.measure();
+        let result = self.laid.start_block(measure, &self.annotations);
         self.failed = result.is_err();
         result
     }
@@ -86,7 +88,8 @@ impl<D: TextDecorator + Drop> Renderer for SubRenderer<D> {
         if self.failed {
             return Err(BlockError::Failed);
         }
-        let result = self.open_table();
+        let measure = self.measure();
+        let result = self.laid.start_table(measure, &self.annotations);
         self.failed = result.is_err();
         result
     }
@@ -104,7 +107,8 @@ impl<D: TextDecorator + Drop> Renderer for SubRenderer<D> {
         if self.failed {
             return Err(BlockError::Failed);
         }
-        let result = self.break_line();
+        let measure = self.measure();
+        let result = self.laid.break_line(measure, &self.annotations);
         self.failed = result.is_err();
         result
     }
@@ -122,18 +126,17 @@ impl<D: TextDecorator + Drop> Renderer for SubRenderer<D> {
         if self.failed {
             return Err(BlockError::Failed);
         }
-        let result = self.begin_preformat();
-        self.failed = result.is_err();
-        result
+        self.preformats = self.preformats.saturating_add(1);
+        Ok(())
     }
 
     fn push_ws(&mut self, ws: WhiteSpace) -> Result<(), BlockError> {
         if self.failed {
             return Err(BlockError::Failed);
         }
-        let result = self.begin_mode(ws);
+        let result = self.modes.push(ws);
         self.failed = result.is_err();
-        result
+        Ok(result?)
     }
 
     fn add_inline_text(&mut self, text: &str) -> Result<(), BlockError> {
@@ -149,108 +152,137 @@ impl<D: TextDecorator + Drop> Renderer for SubRenderer<D> {
         if self.failed {
             return Err(BlockError::Failed);
         }
-        let result = self.begin_link(target);
-        self.failed = result.is_err();
-        result
+        let alloc = self.alloc();
+        match self.decorator.decorate_link_start(alloc, target) {
+            Ok((text, annotation)) => self.begin(text.as_str(), annotation),
+            Err(error) => self.refuse(error),
+        }
     }
 
     fn end_link(&mut self) -> Result<(), BlockError> {
         if self.failed {
             return Err(BlockError::Failed);
         }
-        let result = self.finish_link();
-        self.failed = result.is_err();
-        result
+        let alloc = self.alloc();
+        match self.decorator.decorate_link_end(alloc) {
+            Ok(text) => self.finish(text.as_str()),
+            Err(error) => self.refuse(error),
+        }
     }
 
     fn start_emphasis(&mut self) -> Result<(), BlockError> {
         if self.failed {
             return Err(BlockError::Failed);
         }
-        let result = self.begin_emphasis();
-        self.failed = result.is_err();
-        result
+        let alloc = self.alloc();
+        match self.decorator.decorate_em_start(alloc) {
+            Ok((text, annotation)) => self.begin(text.as_str(), annotation),
+            Err(error) => self.refuse(error),
+        }
     }
 
     fn end_emphasis(&mut self) -> Result<(), BlockError> {
         if self.failed {
             return Err(BlockError::Failed);
         }
-        let result = self.finish_emphasis();
-        self.failed = result.is_err();
-        result
+        let alloc = self.alloc();
+        match self.decorator.decorate_em_end(alloc) {
+            Ok(text) => self.finish(text.as_str()),
+            Err(error) => self.refuse(error),
+        }
     }
 
     fn start_strong(&mut self) -> Result<(), BlockError> {
         if self.failed {
             return Err(BlockError::Failed);
         }
-        let result = self.begin_strong();
-        self.failed = result.is_err();
-        result
+        let alloc = self.alloc();
+        match self.decorator.decorate_strong_start(alloc) {
+            Ok((text, annotation)) => self.begin(text.as_str(), annotation),
+            Err(error) => self.refuse(error),
+        }
     }
 
     fn end_strong(&mut self) -> Result<(), BlockError> {
         if self.failed {
             return Err(BlockError::Failed);
         }
-        let result = self.finish_strong();
-        self.failed = result.is_err();
-        result
+        let alloc = self.alloc();
+        match self.decorator.decorate_strong_end(alloc) {
+            Ok(text) => self.finish(text.as_str()),
+            Err(error) => self.refuse(error),
+        }
     }
 
     fn start_strikeout(&mut self) -> Result<(), BlockError> {
         if self.failed {
             return Err(BlockError::Failed);
         }
-        let result = self.begin_strikeout();
-        self.failed = result.is_err();
-        result
+        let alloc = self.alloc();
+        match self.decorator.decorate_strikeout_start(alloc) {
+            Ok((text, annotation)) => {
+                self.begin(text.as_str(), annotation)?;
+                self.strikeouts = self.strikeouts.saturating_add(1);
+                Ok(())
+            }
+            Err(error) => self.refuse(error),
+        }
     }
 
     fn end_strikeout(&mut self) -> Result<(), BlockError> {
         if self.failed {
             return Err(BlockError::Failed);
         }
-        let result = self.finish_strikeout();
-        self.failed = result.is_err();
-        result
+        self.strikeouts = self.strikeouts.saturating_sub(1);
+        let alloc = self.alloc();
+        match self.decorator.decorate_strikeout_end(alloc) {
+            Ok(text) => self.finish(text.as_str()),
+            Err(error) => self.refuse(error),
+        }
     }
 
     fn start_code(&mut self) -> Result<(), BlockError> {
         if self.failed {
             return Err(BlockError::Failed);
         }
-        let result = self.begin_code();
-        self.failed = result.is_err();
-        result
+        let alloc = self.alloc();
+        match self.decorator.decorate_code_start(alloc) {
+            Ok((text, annotation)) => self.begin(text.as_str(), annotation),
+            Err(error) => self.refuse(error),
+        }
     }
 
     fn end_code(&mut self) -> Result<(), BlockError> {
         if self.failed {
             return Err(BlockError::Failed);
         }
-        let result = self.finish_code();
-        self.failed = result.is_err();
-        result
+        let alloc = self.alloc();
+        match self.decorator.decorate_code_end(alloc) {
+            Ok(text) => self.finish(text.as_str()),
+            Err(error) => self.refuse(error),
+        }
     }
 
     fn start_superscript(&mut self) -> Result<(), BlockError> {
         if self.failed {
             return Err(BlockError::Failed);
         }
-        let result = self.begin_superscript();
-        self.failed = result.is_err();
-        result
+        let alloc = self.alloc();
+        match self.decorator.decorate_superscript_start(alloc) {
+            Ok((text, annotation)) => self.begin(text.as_str(), annotation),
+            Err(error) => self.refuse(error),
+        }
     }
 
     fn end_superscript(&mut self) -> Result<(), BlockError> {
         if self.failed {
             return Err(BlockError::Failed);
         }
-        let result = self.finish_superscript();
-        self.failed = result.is_err();
-        result
+        let alloc = self.alloc();
+        match self.decorator.decorate_superscript_end(alloc) {
+            Ok(text) => self.finish(text.as_str()),
+            Err(error) => self.refuse(error),
+        }
     }
 
     fn add_image(&mut self, src: &str, title: &str) -> Result<(), BlockError> {
@@ -266,7 +298,10 @@ impl<D: TextDecorator + Drop> Renderer for SubRenderer<D> {
         if self.failed {
             return Err(BlockError::Failed);
         }
-        let result = self.begin_fragment(name);
+        let measure = self.measure();
+        let result = self
+            .laid
+            .record_frag_start(measure, &self.annotations, name);
         self.failed = result.is_err();
         result
     }

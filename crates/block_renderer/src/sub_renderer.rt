@@ -44,10 +44,7 @@ impl<D: TextDecorator + Drop> Drop for SubRenderer<D> {
 }
 
 impl<D: TextDecorator + Drop> SubRenderer<D> {
-    ghost use Rattle.renderer_calls.specs.Renderers.{new_sub, measure_of, mode_of, flush_sub};
-    ghost use Rattle.renderer_calls.specs.Renderers.{with_empty_line, with_block_started, with_table_started};
-    ghost use Rattle.renderer_calls.specs.Renderers.{with_line_broken, with_border_of, with_fragment};
-    ghost use Rattle.renderer_calls.specs.Renderers.{with_preformat, with_mode};
+    ghost use Rattle.renderer_calls.specs.Renderers.{new_sub, measure_of, mode_of, flush_sub, with_border_of};
     ghost use Rattle.renderer_calls.specs.Outcomes.{IsAnswered};
     ghost use Rattle.block_renderer.specs.NewParts.{part_of};
     ghost use Rattle.block_renderer.specs.Seen.{sub_of, has_failed, IsJoinedSub};
@@ -117,58 +114,6 @@ impl<D: TextDecorator + Drop> SubRenderer<D> {
         self.laid.flush(measure, &self.annotations)
     }
 
-    /// Adds an empty line.
-    pub(crate) fn put_empty_line(&mut self) -> Result<(), BlockError>
-        ensures kinds { IfErr result (λ e. (e ≡ errors.TooNarrow) ⊎ (e ≡ errors.Memory)) }
-        ensures done { OnOk result (with_empty_line (sub_of D.Annotation.seen D.held self.old)
-            ≡ Some (sub_of D.Annotation.seen D.held self.new)) }
-        ensures narrow { result ≡ Err errors.TooNarrow
-            → with_empty_line (sub_of D.Annotation.seen D.held self.old) ≡ None }
-        ensures joined { IsJoinedSub D.Annotation.seen self.old → IsJoinedSub D.Annotation.seen self.new }
-    {
-        let measure = self.measure();
-        self.laid.add_empty_line(measure, &self.annotations)
-    }
-
-    /// Starts a block.
-    pub(crate) fn open_block(&mut self) -> Result<(), BlockError>
-        ensures kinds { IfErr result (λ e. (e ≡ errors.TooNarrow) ⊎ (e ≡ errors.Memory)) }
-        ensures done { OnOk result (with_block_started (sub_of D.Annotation.seen D.held self.old)
-            ≡ Some (sub_of D.Annotation.seen D.held self.new)) }
-        ensures narrow { result ≡ Err errors.TooNarrow
-            → with_block_started (sub_of D.Annotation.seen D.held self.old) ≡ None }
-        ensures joined { IsJoinedSub D.Annotation.seen self.old → IsJoinedSub D.Annotation.seen self.new }
-    {
-        let measure = self.measure();
-        self.laid.start_block(measure, &self.annotations)
-    }
-
-    /// Starts a table.
-    pub(crate) fn open_table(&mut self) -> Result<(), BlockError>
-        ensures kinds { IfErr result (λ e. (e ≡ errors.TooNarrow) ⊎ (e ≡ errors.Memory)) }
-        ensures done { OnOk result (with_table_started (sub_of D.Annotation.seen D.held self.old)
-            ≡ Some (sub_of D.Annotation.seen D.held self.new)) }
-        ensures narrow { result ≡ Err errors.TooNarrow
-            → with_table_started (sub_of D.Annotation.seen D.held self.old) ≡ None }
-        ensures joined { IsJoinedSub D.Annotation.seen self.old → IsJoinedSub D.Annotation.seen self.new }
-    {
-        let measure = self.measure();
-        self.laid.start_table(measure, &self.annotations)
-    }
-
-    /// Ends a line that has columns, or adds an empty one.
-    pub(crate) fn break_line(&mut self) -> Result<(), BlockError>
-        ensures kinds { IfErr result (λ e. (e ≡ errors.TooNarrow) ⊎ (e ≡ errors.Memory)) }
-        ensures done { OnOk result (with_line_broken (sub_of D.Annotation.seen D.held self.old)
-            ≡ Some (sub_of D.Annotation.seen D.held self.new)) }
-        ensures narrow { result ≡ Err errors.TooNarrow
-            → with_line_broken (sub_of D.Annotation.seen D.held self.old) ≡ None }
-        ensures joined { IsJoinedSub D.Annotation.seen self.old → IsJoinedSub D.Annotation.seen self.new }
-    {
-        let measure = self.measure();
-        self.laid.break_line(measure, &self.annotations)
-    }
-
     /// Adds a border of so many columns.
     pub(crate) fn put_border(&mut self, width: usize) -> Result<(), BlockError>
         ensures kinds { IfErr result (λ e. (e ≡ errors.TooNarrow) ⊎ (e ≡ errors.Memory)) }
@@ -181,46 +126,6 @@ impl<D: TextDecorator + Drop> SubRenderer<D> {
         let measure = self.measure();
         self.laid
             .add_horizontal_border(measure, &self.annotations, width)
-    }
-
-    /// A fragment starts.
-    pub(crate) fn begin_fragment(&mut self, name: &str) -> Result<(), BlockError>
-        ensures kinds { IfErr result (λ e. (e ≡ errors.TooNarrow) ⊎ (e ≡ errors.Memory)) }
-        ensures done { OnOk result (with_fragment (chars name.now) (sub_of D.Annotation.seen D.held self.old)
-            ≡ Some (sub_of D.Annotation.seen D.held self.new)) }
-        ensures narrow { result ≡ Err errors.TooNarrow
-            → with_fragment (chars name.now) (sub_of D.Annotation.seen D.held self.old) ≡ None }
-        ensures joined { IsJoinedSub D.Annotation.seen self.old → IsJoinedSub D.Annotation.seen self.new }
-    {
-        let measure = self.measure();
-        self.laid
-            .record_frag_start(measure, &self.annotations, name)
-    }
-
-    /// A preformatted part begins.
-    pub(crate) fn begin_preformat(&mut self) -> Result<(), BlockError>
-        ensures kinds { IfErr result (λ e. (e ≡ errors.TooNarrow) ⊎ (e ≡ errors.Memory)) }
-        ensures done { OnOk result (with_preformat (sub_of D.Annotation.seen D.held self.old)
-            ≡ Some (sub_of D.Annotation.seen D.held self.new)) }
-        ensures narrow { result ≡ Err errors.TooNarrow
-            → with_preformat (sub_of D.Annotation.seen D.held self.old) ≡ None }
-        ensures joined { IsJoinedSub D.Annotation.seen self.old → IsJoinedSub D.Annotation.seen self.new }
-    {
-        self.preformats = self.preformats.saturating_add(1);
-        Ok(())
-    }
-
-    /// A part with a mode of white space begins.
-    pub(crate) fn begin_mode(&mut self, mode: WhiteSpace) -> Result<(), BlockError>
-        ensures kinds { IfErr result (λ e. (e ≡ errors.TooNarrow) ⊎ (e ≡ errors.Memory)) }
-        ensures done { OnOk result (with_mode mode (sub_of D.Annotation.seen D.held self.old)
-            ≡ Some (sub_of D.Annotation.seen D.held self.new)) }
-        ensures narrow { result ≡ Err errors.TooNarrow
-            → with_mode mode (sub_of D.Annotation.seen D.held self.old) ≡ None }
-        ensures joined { IsJoinedSub D.Annotation.seen self.old → IsJoinedSub D.Annotation.seen self.new }
-    {
-        self.modes.push(mode)?;
-        Ok(())
     }
 
     /// An empty renderer for a part of the block.
