@@ -25,7 +25,7 @@ impl<D: TextDecorator + Drop> SubRenderer<D> {
         ensures joined { IsJoinedSub D.Annotation.seen self.old → IsJoinedSub D.Annotation.seen self.new }
     {
         if let Err(error) = self.annotations.push(annotation) {
-            return self.refuse(error);
+            return self.refuse(error.into());
         }
         let result = self.add_inline(text);
         self.failed = result.is_err();

@@ -1,14 +1,14 @@
 //! Other blocks in the block of a renderer.
 ghost use Rattle.std.specs.Prelude.{◌≡◌, ◌⊎◌, None, Some, [], map, chars, Err, IfOk, IfErr, OnOk};
 ghost use Rattle.std.specs.Option.{option_map};
-ghost use Rattle.text_cells.specs.Cells.{cell_of, laid_line_of};
+ghost use Rattle.text_cells.specs.Cells.{cell_of};
 ghost use Rattle.renderer_calls.specs.Renderers.{cells_of_subs};
 ghost use Rattle.block_renderer.specs.Seen.{sub_of, tags_seen};
 ghost use Rattle.text_pieces.specs.declared.fault.BlockError.TheVariants as errors;
 
 use crate::sub_renderer::SubRenderer;
 use std::alloc::{AllocError, Global};
-use text_cells::{LaidLine, LineSet};
+use text_cells::LineSet;
 use text_marks::TextDecorator;
 use text_pieces::BlockError;
 
@@ -95,25 +95,6 @@ impl<D: TextDecorator + Drop> SubRenderer<D> {
             rows,
             lines: cell.into_laid_lines(),
         })
-    }
-
-    /// The lines that are laid out.
-    fn into_laid_lines(self) -> Vec<LaidLine<Vec<D::Annotation>>>
-        ensures lines { map (laid_line_of (tags_seen D.Annotation.seen)) result.items
-            ≡ (sub_of D.Annotation.seen D.held self).laid.lines }
-    {
-        let SubRenderer {
-            options: _,
-            width: _,
-            decorator: _,
-            laid,
-            modes: _,
-            preformats: _,
-            annotations: _,
-            strikeouts: _,
-            failed: _,
-        } = self;
-        laid.into_laid_lines()
     }
 
     /// Adds cells below one another.

@@ -8,6 +8,7 @@ use renderer_calls::RenderOptions;
 use std::alloc::{AllocError, Global};
 use tagged_lines::EqualCopy;
 use text_borders::RenderLine;
+use text_cells::LaidLine;
 use text_marks::TextDecorator;
 use text_pieces::{BlockError, TooNarrow, WhiteSpace};
 
@@ -194,6 +195,7 @@ impl<D: TextDecorator + Drop> SubRenderer<D> {
 impl<D: TextDecorator + Drop> SubRenderer<D> {
     ghost use Rattle.std.specs.Prelude.{map, All};
     ghost use Rattle.text_borders.specs.Lines.{render_line_of, IsJoinedText};
+    ghost use Rattle.text_cells.specs.Cells.{laid_line_of};
     ghost use Rattle.renderer_calls.specs.Renderers.{lines_of_sub, room_behind};
     ghost use Rattle.block_renderer.specs.Seen.{sub_of, tags_seen, has_failed, IsJoinedSub};
 
@@ -227,6 +229,25 @@ impl<D: TextDecorator + Drop> SubRenderer<D> {
             failed: _,
         } = self;
         laid.into_lines(measure, &annotations)
+    }
+
+    /// The lines that are laid out.
+    pub(crate) fn into_laid_lines(self) -> Vec<LaidLine<Vec<D::Annotation>>>
+        ensures lines { map (laid_line_of (tags_seen D.Annotation.seen)) result.items
+            ≡ (sub_of D.Annotation.seen D.held self).laid.lines }
+    {
+        let SubRenderer {
+            options: _,
+            width: _,
+            decorator: _,
+            laid,
+            modes: _,
+            preformats: _,
+            annotations: _,
+            strikeouts: _,
+            failed: _,
+        } = self;
+        laid.into_laid_lines()
     }
 
     /// The columns that are left behind a prefix of `prefix_len` columns, at least `max(1, min_width - prefix_len)`.

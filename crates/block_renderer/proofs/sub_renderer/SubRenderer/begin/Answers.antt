@@ -9,13 +9,13 @@ pub returns-clause-done : goal.returns-clause-done
 returns-clause-done g c =
     let seen = g.D.Annotation.EqualCopy.seen in
     let d = g.D.TextDecorator in
-    on_ok_weaker c.add_inline.result (λ h. λ tag p.
+    on_ok_weaker c.add_inline-result.result (λ h. λ tag p.
     ap (λ tags. add_inline (marking d.text tag d.marks d.after d.pops d.sub) (chars c.args.text.now)
     (record (sub_of seen d.held c.args.self.now) { annotations = tags }))
     (mapped_more seen c.args.self.now.annotations.items c.push.new.self.items c.args.annotation
-    c.in_ok-push.ensures.items)
+    c.in_default.ensures.items)
     ∙ h tag p)
-    c.add_inline.ensures.done
+    c.add_inline-result.ensures.done
 
 pub returns-clause-narrow : goal.returns-clause-narrow
 returns-clause-narrow g c = λ e. λ tag p.
@@ -24,5 +24,5 @@ returns-clause-narrow g c = λ e. λ tag p.
     ap (λ tags. add_inline (marking d.text tag d.marks d.after d.pops d.sub) (chars c.args.text.now)
     (record (sub_of seen d.held c.args.self.now) { annotations = tags }))
     (mapped_more seen c.args.self.now.annotations.items c.push.new.self.items c.args.annotation
-    c.in_ok-push.ensures.items)
-    ∙ c.add_inline.ensures.narrow e tag p
+    c.in_default.ensures.items)
+    ∙ c.add_inline-result.ensures.narrow e tag p
