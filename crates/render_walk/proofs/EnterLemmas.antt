@@ -14,17 +14,17 @@ use Rattle.render_values.specs.Values.{Values, value}
 use Rattle.render_values.specs.declared.info.Head.{Head}
 use Rattle.render_values.specs.declared.node.RenderNode.{RenderNode}
 use Rattle.render_values.specs.Arena.{values_of}
-use Rattle.render_walk.specs.Lay.{Content, content_of, laid, lay, table_of}
+use Rattle.value_openings.specs.Lay.{Content, content_of, laid, lay, table_of}
 use Rattle.table_rows.specs.Slots.{Table}
 use Rattle.render_laying.specs.Laying.{Laying, Step}
-use Rattle.render_walk.specs.Seen.{IsReady, IsSound, WorksOutside, load, rest_of, rest_where, waiting_of, weight}
-use Rattle.render_walk.specs.Seen.{where_entered}
-use Rattle.render_walk.specs.Waiting.{Waiting, segment, unwound}
-use Rattle.render_walk.specs.declared.waiting.Waiting.{Waiting as CodeWaiting}
-use Rattle.render_walk.specs.declared.waiting.Waiting.TheVariants.{Rest, ValueEnds, LookEnds, PartEnds, ItemEnds}
-use Rattle.render_walk.specs.declared.waiting.Waiting.TheVariants.{CellEnds, ListEnds, RowEnds, TableEnds}
+use Rattle.value_openings.specs.Seen.{IsReady, IsSound, WorksOutside, load, rest_of, rest_where, waiting_of, weight}
+use Rattle.value_openings.specs.Seen.{where_entered}
+use Rattle.value_openings.specs.Waiting.{Waiting, segment, unwound}
+use Rattle.value_openings.specs.declared.waiting.Waiting.{Waiting as CodeWaiting}
+use Rattle.value_openings.specs.declared.waiting.Waiting.TheVariants.{Rest, ValueEnds, LookEnds, PartEnds, ItemEnds}
+use Rattle.value_openings.specs.declared.waiting.Waiting.TheVariants.{CellEnds, ListEnds, RowEnds, TableEnds}
 use Rattle.render_walk.proofs.SegmentLemmas.{none_sound, nothing_here}
-use Rattle.render_walk.proofs.ValueLemmas.{all_on}
+use Rattle.value_openings.proofs.ValueLemmas.{all_on}
 use Rattle.render_walk.proofs.WalkLemmas.{enters}
 
 pub entered : {X H A : Type 0} (f : X → Waiting H A) (m : Marking H A) (w : Measure) (old one rests items new : List X)

@@ -10,8 +10,8 @@ use Rattle.render_values.specs.Arena.{IsFlat, behind, first, values_of}
 use Rattle.render_values.specs.Values.{none, value}
 use Rattle.render_values.specs.declared.node.RenderNode.{RenderNode}
 use Rattle.render_values.proofs.ArenaLemmas.{below_fits, length_flat, next_flat, next_values}
-use Rattle.render_walk.specs.Seen.{IsSound}
-use Rattle.render_walk.specs.Waiting.{info_at, segment}
+use Rattle.value_openings.specs.Seen.{IsSound}
+use Rattle.value_openings.specs.Waiting.{info_at, segment}
 
 drop_none : {X : Type 0} (n : ℕ) → ◌≡◌ {A = List X} (drop n []) []
 drop_none zero = refl

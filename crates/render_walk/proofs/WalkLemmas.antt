@@ -7,11 +7,11 @@ use Rattle.render_sizes.specs.Extents.{Measure}
 use Rattle.render_values.specs.Values.{Values, none, value}
 use Rattle.render_values.specs.declared.info.Head.{Head}
 use Rattle.render_laying.specs.Parts.{Parts}
-use Rattle.render_walk.specs.Lay.{Content, content_of, laid, laid_parts, lay, on_page}
+use Rattle.value_openings.specs.Lay.{Content, content_of, laid, laid_parts, lay, on_page}
 use Rattle.render_laying.specs.Laying.{Laying, Step}
-use Rattle.render_walk.specs.Waiting.{Waiting, undone, unwound}
+use Rattle.value_openings.specs.Waiting.{Waiting, undone, unwound}
 use Rattle.render_laying.proofs.StepLemmas.{then_same, then_some}
-use Rattle.render_walk.proofs.StepLemmas.{all_wait, unwound_on}
+use Rattle.value_openings.proofs.StepLemmas.{all_wait, unwound_on}
 
 -- a value begins: what comes of what stands in it is next, and what stands behind it waits
 pub enters : {H A : Type 0} (m : Marking H A) (w : Measure) (before behind pushed : List (Waiting H A))

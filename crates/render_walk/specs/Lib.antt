@@ -1,7 +1,5 @@
-pub mod Lay
-pub mod Seen
-pub mod Waiting
-pub use Rattle.table_laying.specs.Tables
+pub use Rattle.value_openings.specs.Lay
+pub use Rattle.value_openings.specs.Tables
 pub use Rattle.render_laying.specs.Laying
 pub use Rattle.render_laying.specs.declared.around.Around
 pub use Rattle.render_laying.specs.Items

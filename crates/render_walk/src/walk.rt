@@ -2,13 +2,13 @@
 ghost use Rattle.std.specs.Prelude.{◌≡◌, ◌⊎◌, ◌+◌, ◌*◌, ◌-◌, ◌<◌, ◌≤◌, ◌++◌, All, Err, IfErr, IfOk, List, None, OnOk};
 ghost use Rattle.std.specs.Prelude.{chars, false, length, string_bytes, if◌then◌else◌};
 ghost use Rattle.block_renderer.specs.Seen.{has_failed};
-ghost use Rattle.render_walk.specs.Seen.{weight};
-ghost use Rattle.render_walk.specs.Waiting.{segment};
+ghost use Rattle.value_openings.specs.Seen.{weight};
+ghost use Rattle.value_openings.specs.Waiting.{segment};
 ghost use Rattle.text_pieces.specs.declared.fault.BlockError.TheVariants as errors;
 ghost use Rattle.render_sizes.specs.Extents.{Measure, extent_of, extents};
 ghost use Rattle.render_sizes.specs.declared.extent.Extent.{Extent as SeenExtent};
 ghost use Rattle.render_values.specs.Arena.{IsFlat, values_of};
-ghost use Rattle.render_walk.specs.Lay.{laid_parts, lay};
+ghost use Rattle.value_openings.specs.Lay.{laid_parts, lay};
 ghost use Rattle.render_laying.specs.Parts.{depth_of};
 ghost use Rattle.render_laying.specs.SeenParts.{PartsCome, PartsFail, current_has_failed, page_has_failed};
 ghost use Rattle.render_laying.specs.SeenParts.{parts_of};
@@ -16,25 +16,23 @@ ghost use Rattle.block_renderer.specs.Seen.{IsTagging, marking, sub_of};
 ghost use Rattle.render_laying.specs.Begins.{ends};
 ghost use Rattle.render_laying.specs.Laying.{goes_on, in_turn, part_ended};
 ghost use Rattle.render_laying.specs.Seen.{Comes, Fails, IsWorking, laying_of};
-ghost use Rattle.render_walk.specs.Seen.{GoesOn, IsReady, IsSound, NeverGoes};
-ghost use Rattle.render_walk.specs.Seen.{content_seen, load, rest_of, waiting_of};
-ghost use Rattle.render_walk.specs.Waiting.{info_at, undone};
+ghost use Rattle.value_openings.specs.Seen.{GoesOn, IsReady, IsSound, NeverGoes};
+ghost use Rattle.value_openings.specs.Seen.{content_seen, load, rest_of, waiting_of};
+ghost use Rattle.value_openings.specs.Waiting.{info_at, undone};
 ghost use Rattle.column_shares.specs.Shares.{AreSized};
-ghost use Rattle.render_walk.specs.Lay.{content_of, table_of};
+ghost use Rattle.value_openings.specs.Lay.{content_of, table_of};
 ghost use Rattle.table_rows.specs.Tables.{table_seen};
 
-use crate::content::Content;
-use crate::tables::{end_cell, end_table};
-use crate::values::open_value;
-use crate::waiting::{OpenItem, OpenPart, Waiting};
 use render_laying::{Around, Laying, TablePlace, TextRenderer};
 use render_sizes::{Extent, number, table_among};
 use render_values::{Head, RenderInfo, RenderNode, RenderTree};
 use std::alloc::{AllocError, Global};
-use table_laying::end_row;
 use table_rows::Table;
 use text_marks::TextDecorator;
 use text_pieces::BlockError;
+use value_openings::{
+    Content, OpenItem, OpenPart, Waiting, end_cell, end_row, end_table, open_value,
+};
 
 // The next node, and the end of the values that are laid out one behind another.
 #[derive(Clone, Copy)]

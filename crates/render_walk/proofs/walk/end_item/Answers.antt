@@ -4,9 +4,9 @@ use Rattle.text_pieces.specs.declared.fault.BlockError.TheVariants.{TooNarrow}
 use Rattle.block_renderer.specs.Seen.{marking, sub_of}
 use Rattle.render_laying.specs.Laying.{goes_on, part_ended}
 use Rattle.render_laying.proofs.StepLemmas.{turn_off, turn_on}
-use Rattle.render_walk.specs.Seen.{open_item_of}
-use Rattle.render_walk.proofs.OpenLemmas.{part_by, unboxed}
-use Rattle.render_walk.proofs.ValueLemmas.{any_measure}
+use Rattle.value_openings.specs.Seen.{open_item_of}
+use Rattle.value_openings.proofs.OpenLemmas.{part_by, unboxed}
+use Rattle.value_openings.proofs.ValueLemmas.{any_measure}
 use Rattle.render_walk.proofs.walk.end_item.Goals as goal
 
 pub returns-clause-done : goal.returns-clause-done

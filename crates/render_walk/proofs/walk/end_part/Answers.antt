@@ -1,8 +1,8 @@
 use Rattle.std.proofs.lemmas.Result.{on_ok_weaker}
 use Rattle.block_renderer.specs.Seen.{marking}
-use Rattle.render_walk.specs.Seen.{open_part_of}
-use Rattle.render_walk.proofs.OpenLemmas.{part_by, unboxed}
-use Rattle.render_walk.proofs.ValueLemmas.{any_measure}
+use Rattle.value_openings.specs.Seen.{open_part_of}
+use Rattle.value_openings.proofs.OpenLemmas.{part_by, unboxed}
+use Rattle.value_openings.proofs.ValueLemmas.{any_measure}
 use Rattle.render_walk.proofs.walk.end_part.Goals as goal
 
 pub returns-clause-done : goal.returns-clause-done

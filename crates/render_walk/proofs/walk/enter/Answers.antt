@@ -7,7 +7,7 @@ use Rattle.render_sizes.specs.declared.extent.Extent.{Extent}
 use Rattle.render_values.specs.Arena.{IsFlat, values_of}
 use Rattle.render_values.specs.declared.node.RenderNode.{RenderNode}
 use Rattle.render_laying.specs.Seen.{laying_of}
-use Rattle.render_walk.specs.Seen.{all_waiting, content_seen, rest_of, waiting_of}
+use Rattle.value_openings.specs.Seen.{all_waiting, content_seen, rest_of, waiting_of}
 use Rattle.render_walk.proofs.EnterLemmas.{entered, entered_load, entered_ready, goes_in, known_in, rest_waits}
 use Rattle.render_walk.proofs.EnterLemmas.{short_in, sound_in}
 use Rattle.render_walk.proofs.SegmentLemmas.{first_node}

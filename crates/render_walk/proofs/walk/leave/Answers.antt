@@ -3,9 +3,9 @@ use Rattle.std.proofs.lemmas.Result.{err_from_is_err_and}
 use Rattle.text_pieces.specs.declared.fault.BlockError.TheVariants.{TooNarrow}
 use Rattle.block_renderer.specs.Seen.{marking}
 use Rattle.render_laying.specs.Seen.{laying_of}
-use Rattle.render_walk.specs.Lay.{lay}
-use Rattle.render_walk.specs.Seen.{waiting_of}
-use Rattle.render_walk.specs.Waiting.{undone}
+use Rattle.value_openings.specs.Lay.{lay}
+use Rattle.value_openings.specs.Seen.{waiting_of}
+use Rattle.value_openings.specs.Waiting.{undone}
 use Rattle.render_walk.proofs.SegmentLemmas.{nothing_here}
 use Rattle.render_walk.proofs.walk.leave.Goals as goal
 

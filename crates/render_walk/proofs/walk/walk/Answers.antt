@@ -7,10 +7,10 @@ use Rattle.std.proofs.lemmas.Result.{err_from_is_err_and}
 use Rattle.text_pieces.specs.declared.fault.BlockError.TheVariants.{TooNarrow}
 use Rattle.block_renderer.specs.Seen.{marking}
 use Rattle.render_values.specs.Arena.{values_of}
-use Rattle.render_walk.specs.Lay.{lay}
+use Rattle.value_openings.specs.Lay.{lay}
 use Rattle.render_laying.specs.Seen.{laying_of}
-use Rattle.render_walk.specs.Seen.{IsReady, all_waiting, waiting_of}
-use Rattle.render_walk.specs.Waiting.{segment, unwound}
+use Rattle.value_openings.specs.Seen.{IsReady, all_waiting, waiting_of}
+use Rattle.value_openings.specs.Waiting.{segment, unwound}
 use Rattle.render_walk.proofs.EnterLemmas.{front_ready, left_load}
 use Rattle.render_walk.proofs.SegmentLemmas.{all_here, all_sound, nothing_here}
 use Rattle.render_walk.proofs.WalkLemmas.{begins_here, ends_here, leaves, never_leaves, nothing_popped}

@@ -2,9 +2,9 @@ use Rattle.std.proofs.Common.{◌≡◌, ◌+◌, ◌-◌, ◌*◌}
 use Rattle.std.specs.Prelude.{All}
 use Rattle.block_renderer.specs.Seen.{IsTagging, marking}
 use Rattle.render_values.specs.Arena.{values_of}
-use Rattle.render_walk.specs.Lay.{lay}
+use Rattle.value_openings.specs.Lay.{lay}
 use Rattle.render_laying.specs.Seen.{IsWorking, laying_of}
-use Rattle.render_walk.specs.Seen.{IsReady, IsSound, left, load}
+use Rattle.value_openings.specs.Seen.{IsReady, IsSound, left, load}
 use Rattle.render_walk.proofs.walk.walk.Given as goal
 
 abbrev pub invariant-nodes : goal.invariant-nodes

@@ -1,0 +1,4 @@
+pub mod OpenLemmas
+pub mod StepLemmas
+pub mod TableOpenLemmas
+pub mod ValueLemmas
