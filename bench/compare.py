@@ -2,8 +2,8 @@
 
 Usage: python3 bench/compare.py PROGRAM PAGES TEXTS
 
-The model finds the fullest layout by trying all layouts. Its characters and their columns are those of a short list. The decoded texts
-are compared with Python's own decoder.
+The model finds the fullest layout by trying all layouts. Its characters and their columns are those of a short list.
+The decoded texts are compared with Python's own decoder.
 """
 import random
 import subprocess
@@ -79,13 +79,15 @@ def fullest_layout(text, width):
 
     @lru_cache(None)
     def is_legal(unit, offset):
-        return (unit, offset) == (len(stretch), 0) or any(is_legal(*rest) for _, _, rest in next_lines(stretch, width, unit, offset))
+        at_end = (unit, offset) == (len(stretch), 0)
+        return at_end or any(is_legal(*rest) for _, _, rest in next_lines(stretch, width, unit, offset))
 
     place, lines = (0, 0), []
     if not is_legal(*place):
         return None
     while place != (len(stretch), 0):
-        _, line, place = max((it for it in next_lines(stretch, width, *place) if is_legal(*it[2])), key=lambda it: it[0])
+        legal = (it for it in next_lines(stretch, width, *place) if is_legal(*it[2]))
+        _, line, place = max(legal, key=lambda it: it[0])
         lines.append(line)
     return lines
 
@@ -109,7 +111,9 @@ def run(program, page, width):
 def compare_pages(program, count, chosen):
     wrong = 0
     for _ in range(count):
-        paragraphs = ["".join(chosen.choice(ALPHABET) for _ in range(chosen.randint(0, 12))) for _ in range(chosen.randint(0, 3))]
+        paragraphs = [
+            "".join(chosen.choice(ALPHABET) for _ in range(chosen.randint(0, 12))) for _ in range(chosen.randint(0, 3))
+        ]
         width = chosen.randint(0, 6)
         page = "".join(f"<p>{it}</p>" for it in paragraphs)
         ran, wanted = run(program, page.encode(), width), page_lines(paragraphs, width)

@@ -1,8 +1,9 @@
-"""Writes a page of so many parts of a kind to standard output: pages on which a tree builder could take more than its time."""
+"""Writes a page of so many parts of a kind to standard output: pages on which a tree builder could take more than its
+time."""
 import sys
 
-# of each kind: what stands before the parts, a part by its number, and what stands behind them; of ENDS that as often as
-# there are parts
+# of each kind: what stands before the parts, a part by its number, and what stands behind them; of ENDS that as often
+# as there are parts
 KINDS = {
     "div": ("<!DOCTYPE html>", lambda n: "<div>", ""),
     "i": ("<!DOCTYPE html>", lambda n: "<i>", ""),

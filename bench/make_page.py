@@ -2,7 +2,9 @@
 import random
 import sys
 
-WORDS = ["the", "quick", "brown", "fox", "jumps", "over", "lazy", "dogs", "wrapping", "paragraphs", "&amp;", "naïve", "漢字", "information", "a", "of", "to", "and"]
+WORDS = (
+    "the quick brown fox jumps over lazy dogs wrapping paragraphs &amp; naïve 漢字 information a of to and".split()
+)
 
 
 def main():

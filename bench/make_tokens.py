@@ -2,7 +2,7 @@
 import random
 import sys
 
-WORDS = ["the", "quick", "brown", "fox", "jumps", "over", "lazy", "dogs", "wrapping", "paragraphs", "naïve", "漢字", "information", "a", "of", "to", "and"]
+WORDS = "the quick brown fox jumps over lazy dogs wrapping paragraphs naïve 漢字 information a of to and".split()
 
 
 def words(chosen, count):
@@ -14,7 +14,8 @@ def markup(chosen, number):
     image = f'<img src="/images/{number}.png" alt="{words(chosen, 2)}" width=640 />' if number % 4 == 0 else ""
     ampersand = " &amp; " if number % 3 == 0 else " "
     return (
-        f'<li class="item item-{number % 7}">{image}<a href="/pages/{number}?from=list" title="{words(chosen, 3)}">{words(chosen, 4)}</a>\n'
+        f'<li class="item item-{number % 7}">{image}'
+        f'<a href="/pages/{number}?from=list" title="{words(chosen, 3)}">{words(chosen, 4)}</a>\n'
         f"<p>{words(chosen, 25)}{ampersand}<em>{words(chosen, 3)}</em> {words(chosen, 10)}.</p></li>\n"
     )
 
@@ -24,7 +25,10 @@ def text(chosen, _number):
 
 
 def references(chosen, number):
-    return f"{words(chosen, 2)}&amp;{words(chosen, 1)}&#{65 + number % 26};&lt;{words(chosen, 1)}&#x{97 + number % 26:x};&nbsp;"
+    return (
+        f"{words(chosen, 2)}&amp;{words(chosen, 1)}&#{65 + number % 26};&lt;"
+        f"{words(chosen, 1)}&#x{97 + number % 26:x};&nbsp;"
+    )
 
 
 def comment(chosen, _number):
@@ -36,7 +40,10 @@ def attributes(chosen, number):
 
 
 def script(chosen, number):
-    return f"  if (count_{number} < limit && items[{number}] !== null) {{ add('<b>{words(chosen, 2)}</b>'); total -= {number}; }}\n"
+    return (
+        f"  if (count_{number} < limit && items[{number}] !== null) {{ "
+        f"add('<b>{words(chosen, 2)}</b>'); total -= {number}; }}\n"
+    )
 
 
 # of each kind: what stands before and behind the parts, and a part

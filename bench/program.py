@@ -3,8 +3,8 @@
 
     bench/program.py PROGRAM
 
-A line says the seconds of processor time of the best of five runs at width 72, what that is a second, the peak of memory,
-and how many lines came or what the page was refused for.
+A line says the seconds of processor time of the best of five runs at width 72, what that is a second, the peak of
+memory, and how many lines came or what the page was refused for.
 """
 
 import os

@@ -1,7 +1,7 @@
 #!/usr/bin/env bash
-# Runs the built page_tokens, page_trees and named_references with each request for memory refused in turn: page_tokens on
-# every thirtieth of its cases, page_trees on every forty-sixth, named_references on a table of three names. A run must
-# write what the unhindered run writes; or a beginning of it, say that memory ran out, and end with status 1.
+# Runs the built page_tokens, page_trees and named_references with each request for memory refused in turn: page_tokens
+# on every thirtieth of its cases, page_trees on every forty-sixth, named_references on a table of three names. A run
+# must write what the unhindered run writes; or a beginning of it, say that memory ran out, and end with status 1.
 set -eu
 here=$(cd "$(dirname "$0")" && pwd)
 room=$(mktemp -d)
@@ -23,14 +23,16 @@ refuse() {
     REFUSE=$number LD_PRELOAD=$room/refuse.so "$built" "$@" <"$room/$program.in" >"$room/out" 2>"$room/err" || status=$?
     if [ "$status" = 0 ] && cmp -s "$room/out" "$room/whole"; then
       whole=$((whole + 1))
-    elif [ "$status" = 1 ] && cmp -s -n "$(stat -c %s "$room/out")" "$room/out" "$room/whole" && [ "$(wc -l <"$room/err")" = 1 ] && grep -qi 'memory\|read or write failed' "$room/err"; then
+    elif [ "$status" = 1 ] && cmp -s -n "$(stat -c %s "$room/out")" "$room/out" "$room/whole" &&
+      [ "$(wc -l <"$room/err")" = 1 ] && grep -qi 'memory\|read or write failed' "$room/err"; then
       memory=$((memory + 1))
     else
       other=$((other + 1))
       echo "$program, request $number: status $status, $(head -c 200 "$room/err")"
     fi
   done
-  echo "$program: $memory refused runs wrote a beginning and said that memory ran out, $whole wrote it all, $other did anything else"
+  echo "$program: $memory refused runs wrote a beginning and said that memory ran out, $whole wrote it all," \
+    "$other did anything else"
 }
 
 refuse page_tokens

@@ -10,7 +10,8 @@ build_program "$here" render_trees \
 
 tell() {
   read -r nodes converted sized copied dropped < <("$crate/out/render_trees" <"$folder/page")
-  python3 -c "print(f'$1: $nodes nodes, converted in {$converted / 1000:.1f} ms, measured in {$sized / 1000:.1f} ms, copied in {$copied / 1000:.1f} ms, dropped in {$dropped / 1000:.1f} ms')"
+  python3 -c "print(f'$1: $nodes nodes, converted in {$converted / 1000:.1f} ms, measured in {$sized / 1000:.1f} ms, '
+    f'copied in {$copied / 1000:.1f} ms, dropped in {$dropped / 1000:.1f} ms')"
 }
 
 for kind in i flat; do

@@ -10,5 +10,6 @@ for size in 1 2 4 8 10; do
   python3 "$here/make_page.py" "$size" >"$room/page"
   /usr/bin/time -f '%e %M' "$program" --width 72 <"$room/page" 2>"$room/time" >/dev/null
   read -r seconds kilobytes <"$room/time"
-  python3 -c "print(f'{$size} MB: {$seconds} s, {$size / max($seconds, 0.005):.0f} MB/s, peak {$kilobytes / 1000:.0f} MB')"
+  python3 -c "print(f'{$size} MB: {$seconds} s, {$size / max($seconds, 0.005):.0f} MB/s, '
+    f'peak {$kilobytes / 1000:.0f} MB')"
 done

@@ -1,7 +1,7 @@
 #!/usr/bin/env bash
-# Times the tokenizer, with a sink that only counts, on pages of six kinds and four sizes, fed in pieces of so many kilobytes (64
-# without a word). The program is no crate of the repository, so it is proved and built in a copy of the crates that it
-# stands on, in the folder BENCH, which is kept: the first time that takes minutes.
+# Times the tokenizer, with a sink that only counts, on pages of six kinds and four sizes, fed in pieces of so many
+# kilobytes (64 without a word). The program is no crate of the repository, so it is proved and built in a copy of the
+# crates that it stands on, in the folder BENCH, which is kept: the first time that takes minutes.
 set -eu
 here=$(cd "$(dirname "$0")" && pwd)
 . "$here/copy.sh"
@@ -29,11 +29,13 @@ for kind in markup text references comment attributes script; do
     rm -f "$folder/times.new"
     # the program takes the time itself, and tells the best of its readings in microseconds
     for _ in 1 2 3 4; do
-      /usr/bin/time -f %M -o "$folder/memory" "$crate/out/count_tokens" "$piece" "$state" 8 <"$folder/page" >>"$folder/times.new"
+      /usr/bin/time -f %M -o "$folder/memory" \
+        "$crate/out/count_tokens" "$piece" "$state" 8 <"$folder/page" >>"$folder/times.new"
     done
     mv "$folder/times.new" "$folder/times"
     read -r tokens microseconds < <(sort -n -k 2 "$folder/times")
     read -r kilobytes <"$folder/memory"
-    python3 -c "print(f'{\"$kind\":10} {$size} MB: {$tokens:8} tokens, {$microseconds / 1000:6.1f} ms, {$size * 1e6 / $microseconds:4.0f} MB/s, peak {$kilobytes / 1000:5.1f} MB')"
+    python3 -c "print(f'{\"$kind\":10} {$size} MB: {$tokens:8} tokens, {$microseconds / 1000:6.1f} ms, '
+      f'{$size * 1e6 / $microseconds:4.0f} MB/s, peak {$kilobytes / 1000:5.1f} MB')"
   done
 done

@@ -1,5 +1,5 @@
-// Under LD_PRELOAD: makes one read or write fail, and all behind it, as a device that went away does. FAIL_READ=N is the
-// Nth read, FAIL_WRITE=N the Nth write; ERRNO says how, 5 (an I/O error) where it isn't given.
+// Under LD_PRELOAD: makes one read or write fail, and all behind it, as a device that went away does. FAIL_READ=N is
+// the Nth read, FAIL_WRITE=N the Nth write; ERRNO says how, 5 (an I/O error) where it isn't given.
 #define _GNU_SOURCE
 #include <dlfcn.h>
 #include <errno.h>

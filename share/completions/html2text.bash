@@ -16,7 +16,8 @@ _html2text() {
         ;;
     *)
         if [[ $word == -* ]]; then
-            COMPREPLY=($(compgen -W '--width --rich --no-decorate --footnotes --shared-footnotes --references --max-bytes --help' -- "$word"))
+            local options='--width --rich --no-decorate --footnotes --shared-footnotes --references --max-bytes --help'
+            COMPREPLY=($(compgen -W "$options" -- "$word"))
         else
             COMPREPLY=($(compgen -f -- "$word"))
         fi
