@@ -1,15 +1,14 @@
 //! The "in body" insertion mode (WHATWG HTML, 13.2.6.4.7).
 ghost use Rattle.std.specs.Prelude.{◌≡◌, IfErr, IfOk, OnOk};
 ghost use Rattle.html_lexemes.specs.declared.fault.ParseFault.TheVariants.{Memory};
-ghost use Rattle.tree_actions.specs.Outcomes.{came_to, outcome};
-ghost use Rattle.tree_actions.specs.Parsed.{state_of};
-ghost use Rattle.tree_rules.specs.Settling.{Ready};
+ghost use Rattle.head_rules.specs.Outcomes.{came_to, outcome};
+ghost use Rattle.head_rules.specs.Parsed.{state_of};
+ghost use Rattle.head_rules.specs.Settling.{Ready};
 ghost use Rattle.tag_groups.specs.Groups.{tag_group};
-ghost use Rattle.tree_rules.specs.InBody.{in_body_start};
-ghost use Rattle.tree_rules.specs.InBodyEnds.{in_body_end};
-ghost use Rattle.tree_rules.specs.InBodyPhrases.{in_body_phrase};
+ghost use Rattle.head_rules.specs.InBody.{in_body_start};
+ghost use Rattle.head_rules.specs.InBodyEnds.{in_body_end};
+ghost use Rattle.head_rules.specs.InBodyPhrases.{in_body_phrase};
 
-use crate::html_tag::html_start;
 use crate::in_body_blocks::{
     block_start, body_start, button_start, definition_start, form_start, frameset_start,
     heading_start, list_item_start, plaintext_start, preformatted_start, table_start,
@@ -24,12 +23,10 @@ use crate::in_body_phrases::{
     other_start, ruby_base_start, ruby_text_start, rule_start, select_start, svg_start,
     textarea_start, void_phrase_start, void_source_start, xmp_start,
 };
-use crate::in_head::{in_head_start, template_end};
+use head_rules::{Flow, Parse, Target, html_start, in_head_start, template_end};
 use html_forest::TreeSink;
 use html_lexemes::{ParseFault, Tag};
 use tag_groups::{TagGroup, formatting_groups_are_formatting};
-use tree_actions::{Flow, Parse};
-use tree_rules::Target;
 
 /// A start tag.
 pub fn in_body_start<S: TreeSink>(

@@ -1,17 +1,17 @@
 //! Start tags of blocks, lists and forms in the "in body" insertion mode (WHATWG HTML, 13.2.6.4.7).
 ghost use Rattle.std.specs.Prelude.{◌≡◌, IfErr, IfOk, OnOk};
 ghost use Rattle.html_lexemes.specs.declared.fault.ParseFault.TheVariants.{Memory};
-ghost use Rattle.tree_actions.specs.Outcomes.{came_to, outcome};
-ghost use Rattle.tree_actions.specs.Parsed.{state_of};
-ghost use Rattle.tree_rules.specs.Settling.{Ready};
-ghost use Rattle.tree_rules.specs.InBodyBlocks.{block_start, body_start, button_start, definition_start, form_start};
-ghost use Rattle.tree_rules.specs.InBodyBlocks.{frameset_start, heading_start};
-ghost use Rattle.tree_rules.specs.InBodyBlocks.{list_item_start, plaintext_start, preformatted_start, table_start};
+ghost use Rattle.head_rules.specs.Outcomes.{came_to, outcome};
+ghost use Rattle.head_rules.specs.Parsed.{state_of};
+ghost use Rattle.head_rules.specs.Settling.{Ready};
+ghost use Rattle.head_rules.specs.InBodyBlocks.{block_start, body_start, button_start, definition_start, form_start};
+ghost use Rattle.head_rules.specs.InBodyBlocks.{frameset_start, heading_start};
+ghost use Rattle.head_rules.specs.InBodyBlocks.{list_item_start, plaintext_start, preformatted_start, table_start};
 
+use head_rules::{Flow, Parse};
 use html_forest::{QuirksMode, TreeSink};
 use html_lexemes::{ParseFault, Tag, TokenSinkResult};
 use name_sets::ElementSet;
-use tree_actions::{Flow, Parse};
 use tree_words::InsertionMode;
 
 /// "address" to "ul".

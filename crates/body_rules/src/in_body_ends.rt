@@ -1,19 +1,19 @@
 //! End tags in the "in body" insertion mode (WHATWG HTML, 13.2.6.4.7).
 ghost use Rattle.std.specs.Prelude.{◌≡◌, IfErr, IfOk, OnOk};
 ghost use Rattle.html_lexemes.specs.declared.fault.ParseFault.TheVariants.{Memory};
-ghost use Rattle.tree_actions.specs.Outcomes.{came_to, outcome};
-ghost use Rattle.tree_actions.specs.Parsed.{state_of};
-ghost use Rattle.tree_rules.specs.Settling.{Ready};
+ghost use Rattle.head_rules.specs.Outcomes.{came_to, outcome};
+ghost use Rattle.head_rules.specs.Parsed.{state_of};
+ghost use Rattle.head_rules.specs.Settling.{Ready};
 ghost use Rattle.std.specs.Prelude.{[], ◌∷◌};
-ghost use Rattle.tree_rules.specs.Actions.{adopt, close_other};
-ghost use Rattle.tree_rules.specs.InBodyEnds.{block_end, body_end, definition_end, form_end, heading_end, html_end};
-ghost use Rattle.tree_rules.specs.InBodyEnds.{line_break_end, list_item_end, marked_end, p_end};
-ghost use Rattle.tree_rules.specs.Rows.{done};
+ghost use Rattle.head_rules.specs.Actions.{adopt, close_other};
+ghost use Rattle.head_rules.specs.InBodyEnds.{block_end, body_end, definition_end, form_end, heading_end, html_end};
+ghost use Rattle.head_rules.specs.InBodyEnds.{line_break_end, list_item_end, marked_end, p_end};
+ghost use Rattle.head_rules.specs.Rows.{done};
 
+use head_rules::{Flow, Parse};
 use html_forest::TreeSink;
 use html_lexemes::{ParseFault, Tag};
 use name_sets::ElementSet;
-use tree_actions::{Flow, Parse};
 use tree_words::InsertionMode;
 
 /// "body".

@@ -2,26 +2,25 @@
 //! 13.2.6.4.7).
 ghost use Rattle.std.specs.Prelude.{◌≡◌, IfErr, IfOk, OnOk};
 ghost use Rattle.html_lexemes.specs.declared.fault.ParseFault.TheVariants.{Memory};
-ghost use Rattle.tree_actions.specs.Outcomes.{came_to, outcome};
-ghost use Rattle.tree_actions.specs.Parsed.{state_of};
-ghost use Rattle.tree_rules.specs.Settling.{Ready};
+ghost use Rattle.head_rules.specs.Outcomes.{came_to, outcome};
+ghost use Rattle.head_rules.specs.Parsed.{state_of};
+ghost use Rattle.head_rules.specs.Settling.{Ready};
 ghost use Rattle.std.specs.Prelude.{true};
 ghost use Rattle.name_sets.specs.Sets.{is_one_of};
 ghost use Rattle.name_sets.specs.TagSets.{formatting};
-ghost use Rattle.tree_rules.specs.InBodyPhrases.{anchor_start, formatting_start, iframe_start, image_start};
-ghost use Rattle.tree_rules.specs.InBodyPhrases.{input_start};
-ghost use Rattle.tree_rules.specs.InBodyPhrases.{marked_start, math_start, no_break_start, noembed_start};
-ghost use Rattle.tree_rules.specs.InBodyPhrases.{noscript_in_body};
-ghost use Rattle.tree_rules.specs.InBodyPhrases.{option_group_start, option_start, other_start, ruby_base_start};
-ghost use Rattle.tree_rules.specs.InBodyPhrases.{ruby_text_start, rule_start, select_start, textarea_start};
-ghost use Rattle.tree_rules.specs.InBodyPhrases.{svg_start, void_phrase_start, void_source_start, xmp_start};
+ghost use Rattle.head_rules.specs.InBodyPhrases.{anchor_start, formatting_start, iframe_start, image_start};
+ghost use Rattle.head_rules.specs.InBodyPhrases.{input_start};
+ghost use Rattle.head_rules.specs.InBodyPhrases.{marked_start, math_start, no_break_start, noembed_start};
+ghost use Rattle.head_rules.specs.InBodyPhrases.{noscript_in_body};
+ghost use Rattle.head_rules.specs.InBodyPhrases.{option_group_start, option_start, other_start, ruby_base_start};
+ghost use Rattle.head_rules.specs.InBodyPhrases.{ruby_text_start, rule_start, select_start, textarea_start};
+ghost use Rattle.head_rules.specs.InBodyPhrases.{svg_start, void_phrase_start, void_source_start, xmp_start};
 
-use crate::raw_text::read_raw;
+use head_rules::{Flow, Parse, read_raw};
 use html_forest::TreeSink;
 use html_lexemes::states::RawKind;
 use html_lexemes::{Namespace, ParseFault, Tag};
 use name_sets::ElementSet;
-use tree_actions::{Flow, Parse};
 use tree_words::is_hidden;
 
 /// "a": one that is listed behind the last marker is closed.

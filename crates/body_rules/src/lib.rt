@@ -1,24 +1,19 @@
-//! The insertion modes up to "in body" (WHATWG HTML, 13.2.6.4.1 to 13.2.6.4.7), over any sink of trees; a part of
-//! `html_tree_builder`.
+//! The insertion mode "in body" (WHATWG HTML, 13.2.6.4.7), over any sink of trees, with those before it, of
+//! `head_rules`; a part of `html_tree_builder`.
 #![tactic(auto)]
 
-mod after_head;
-mod before_head;
-mod before_html;
-mod html_tag;
 mod in_body;
 mod in_body_blocks;
 mod in_body_ends;
 mod in_body_phrases;
-mod in_head;
-mod in_head_noscript;
-mod initial;
-mod raw_text;
 
-pub use after_head::{after_head_end, after_head_start, make_body};
-pub use before_head::{before_head_end, before_head_start, make_head};
-pub use before_html::{before_html_end, before_html_start, make_html};
-pub use html_tag::html_start;
+pub use head_rules::{
+    after_head_end, after_head_start, before_head_end, before_head_start, before_html_end,
+    before_html_start, close_head, close_noscript, html_start, in_head_end, in_head_noscript_end,
+    in_head_noscript_start, in_head_start, initial_comment, initial_doctype, initial_other,
+    make_body, make_head, make_html, meta_start, noscript_in_head, raw_start, read_raw,
+    template_end, template_start,
+};
 pub use in_body::{in_body_end, in_body_start, phrase_start};
 pub use in_body_blocks::{
     block_start, body_start, button_start, definition_start, form_start, frameset_start,
@@ -34,10 +29,3 @@ pub use in_body_phrases::{
     other_start, ruby_base_start, ruby_text_start, rule_start, select_start, svg_start,
     textarea_start, void_phrase_start, void_source_start, xmp_start,
 };
-pub use in_head::{
-    close_head, in_head_end, in_head_start, meta_start, noscript_in_head, raw_start, template_end,
-    template_start,
-};
-pub use in_head_noscript::{close_noscript, in_head_noscript_end, in_head_noscript_start};
-pub use initial::{initial_comment, initial_doctype, initial_other};
-pub use raw_text::read_raw;

@@ -4,9 +4,9 @@ use Rattle.std.proofs.Common.{if◌then◌else◌}
 use Rattle.html_forest.specs.Forest.{Forest, is_in, name_of}
 use Rattle.name_sets.specs.ElementSets.{special_elements}
 use Rattle.name_sets.specs.Sets.{is_element_of}
-use Rattle.html_tree_state.specs.Adoption.{farther, last_special, nearer, or_itself}
-use Rattle.html_tree_state.specs.OpenElements.{first_of}
-use Rattle.html_tree_state.proofs.OpenLemmas.{if_other, other_way, rest_false}
+use Rattle.tree_building.specs.Adoption.{farther, last_special, nearer, or_itself}
+use Rattle.tree_building.specs.OpenElements.{first_of}
+use Rattle.tree_building.proofs.OpenLemmas.{if_other, other_way, rest_false}
 
 -- what was found farther, else what was found nearer
 abbrev pub or_nearer : Option ℕ → Option ℕ → Option ℕ

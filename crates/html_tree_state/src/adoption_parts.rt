@@ -3,21 +3,19 @@ ghost use Rattle.std.specs.Prelude.{◌≡◌, IfErr, IfOk, IfSome, OnErr, OnOk,
 ghost use Rattle.html_forest.specs.Forest.{nodes};
 ghost use Rattle.html_forest.specs.Orders.{IsForest, IsIn};
 ghost use Rattle.html_lexemes.specs.declared.fault.ParseFault.TheVariants.{Memory};
-ghost use Rattle.html_tree_state.specs.Adoption.{ancestor_of, copied, placed, taken_over};
-ghost use Rattle.html_tree_state.specs.Building.{seen};
-ghost use Rattle.html_tree_state.specs.CanAdopt.{CanCopy, CanTakeOver, IsAncestor};
-ghost use Rattle.html_tree_state.specs.Formatting.{made_for};
-ghost use Rattle.html_tree_state.specs.Insertions.{place_for};
-ghost use Rattle.html_tree_state.specs.Points.{place_of};
-ghost use Rattle.html_tree_state.specs.Sound.{Sound};
+ghost use Rattle.tree_building.specs.Adoption.{ancestor_of, copied, placed, taken_over};
+ghost use Rattle.tree_building.specs.Building.{seen};
+ghost use Rattle.tree_building.specs.CanAdopt.{CanCopy, CanTakeOver, IsAncestor};
+ghost use Rattle.tree_building.specs.Formatting.{made_for};
+ghost use Rattle.tree_building.specs.Insertions.{place_for};
+ghost use Rattle.tree_building.specs.Points.{place_of};
+ghost use Rattle.tree_building.specs.Sound.{Sound};
 
-use crate::adopting::{adopting_keeps_sound, adopting_may_be_done};
 use crate::construction::Construction;
-use crate::insertion::InsertionPoint;
-use crate::laws::laws_of_forests;
 use html_forest::{NodeOrText, TreeSink};
 use html_lexemes::{Namespace, ParseFault, QualName, Tag};
-use tree_words::element_flags;
+use tree_building::tree_words::element_flags;
+use tree_building::{InsertionPoint, adopting_keeps_sound, adopting_may_be_done, laws_of_forests};
 
 impl<S: TreeSink> Construction<S> {
     // makes an HTML element for a tag, which stands nowhere yet

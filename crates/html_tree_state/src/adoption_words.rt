@@ -1,18 +1,18 @@
 //! What the adoption agency asks of the open elements (WHATWG HTML, 13.2.6.4.7).
 ghost use Rattle.std.specs.Prelude.{◌≡◌, ◌<◌, ℕ, List, ◌∷◌, ◌++◌, IfSome, length, option_map};
-ghost use Rattle.formatting_list.specs.Entries.{last_named};
+ghost use Rattle.tree_building.specs.Entries.{last_named};
 ghost use Rattle.html_forest.specs.Forest.{IsElement, is_in};
 ghost use Rattle.name_sets.specs.ElementSets.{scope_barriers};
-ghost use Rattle.html_tree_state.specs.Adoption.{farther, furthest_block as furthest_block_of};
-ghost use Rattle.html_tree_state.specs.Building.{seen};
-ghost use Rattle.html_tree_state.specs.OpenElements.{first_of, up_to};
-ghost use Rattle.html_tree_state.specs.Sound.{Sound};
+ghost use Rattle.tree_building.specs.Adoption.{farther, furthest_block as furthest_block_of};
+ghost use Rattle.tree_building.specs.Building.{seen};
+ghost use Rattle.tree_building.specs.OpenElements.{first_of, up_to};
+ghost use Rattle.tree_building.specs.Sound.{Sound};
 
 use crate::construction::Construction;
-use crate::held::{last_element, position};
 use html_forest::TreeSink;
 use html_lexemes::LocalName;
 use name_sets::{Scope, is_special};
+use tree_building::{last_element, position};
 
 impl<S: TreeSink> Construction<S> {
     /// Whether an element is open.

@@ -5,17 +5,15 @@ ghost use Rattle.html_forest.specs.Forest.{IsElement};
 ghost use Rattle.html_forest.specs.Orders.{IsForest};
 ghost use Rattle.html_forest.specs.Places.{below};
 ghost use Rattle.html_lexemes.specs.declared.fault.ParseFault.TheVariants.{Memory};
-ghost use Rattle.html_tree_state.specs.Building.{seen};
-ghost use Rattle.html_tree_state.specs.Insertions.{commented_at, here, root_of, with_attributes_of, with_doctype_of};
-ghost use Rattle.html_tree_state.specs.Points.{place_of};
-ghost use Rattle.html_tree_state.specs.Sound.{Sound};
+ghost use Rattle.tree_building.specs.Building.{seen};
+ghost use Rattle.tree_building.specs.Insertions.{commented_at, here, root_of, with_attributes_of, with_doctype_of};
+ghost use Rattle.tree_building.specs.Points.{place_of};
+ghost use Rattle.tree_building.specs.Sound.{Sound};
 
 use crate::construction::Construction;
-use crate::held::first_element;
-use crate::insertion::InsertionPoint;
-use crate::laws::laws_of_forests;
 use html_forest::{NodeOrText, QuirksMode, TreeSink};
 use html_lexemes::{Attributes, Doctype, ParseFault, Text};
+use tree_building::{InsertionPoint, first_element, laws_of_forests};
 
 impl<S: TreeSink> Construction<S> {
     /// Inserts a comment at the appropriate place ("insert a comment").
@@ -69,7 +67,7 @@ impl<S: TreeSink> Construction<S> {
         ensures memory { IfErr result (λ e. e ≡ Memory) }
     {
         laws_of_forests();
-        let alloc = *self.held.open_elements.allocator();
+        let alloc = self.held.alloc();
         let name = doctype.name.unwrap_or(Text::from(String::new(alloc)));
         let public_id = doctype.public_id.unwrap_or(Text::from(String::new(alloc)));
         let system_id = doctype.system_id.unwrap_or(Text::from(String::new(alloc)));

@@ -4,27 +4,17 @@ ghost use Rattle.html_forest.specs.Conditions.{IsPlace};
 ghost use Rattle.html_forest.specs.Forest.{nodes};
 ghost use Rattle.html_forest.specs.Orders.{IsForest};
 ghost use Rattle.html_lexemes.specs.declared.fault.ParseFault.TheVariants.{Memory};
-ghost use Rattle.html_tree_state.specs.Building.{seen};
-ghost use Rattle.html_tree_state.specs.Insertions.{here, inserted_by};
-ghost use Rattle.html_tree_state.specs.Insertions.{with_element};
-ghost use Rattle.html_tree_state.specs.Points.{place_of};
-ghost use Rattle.html_tree_state.specs.Sound.{Sound};
+ghost use Rattle.tree_building.specs.Building.{seen};
+ghost use Rattle.tree_building.specs.Insertions.{here, inserted_by};
+ghost use Rattle.tree_building.specs.Insertions.{with_element};
+ghost use Rattle.tree_building.specs.Points.{place_of};
+ghost use Rattle.tree_building.specs.Sound.{Sound};
 
 use crate::construction::Construction;
-use crate::insertion::InsertionPoint;
-use crate::laws::laws_of_forests;
 use html_forest::{NodeOrText, TreeSink};
 use html_lexemes::{Attributes, ParseFault, QualName};
-use tree_words::element_flags;
-
-/// Whether an element that is inserted becomes the current node.
-#[derive(Clone, Copy)]
-pub enum PushFlag {
-    /// It does.
-    Push,
-    /// It doesn't: it is popped at once, as one without contents is.
-    NoPush,
-}
+use tree_building::tree_words::element_flags;
+use tree_building::{InsertionPoint, PushFlag, laws_of_forests};
 
 impl<S: TreeSink> Construction<S> {
     /// Inserts an element at the appropriate place ("insert a foreign element").

@@ -2,11 +2,11 @@
 ghost use Rattle.std.specs.Prelude.{◌≡◌, IfErr, OnOk, option_map};
 ghost use Rattle.html_forest.specs.Orders.{IsForest};
 ghost use Rattle.html_lexemes.specs.declared.fault.ParseFault.TheVariants.{Memory};
-ghost use Rattle.html_tree_state.specs.Adoption.{closed_by_other_end, named_before_special, popped_with};
-ghost use Rattle.html_tree_state.specs.Building.{seen};
-ghost use Rattle.html_tree_state.specs.Scopes.{is_open};
+ghost use Rattle.tree_building.specs.Adoption.{closed_by_other_end, named_before_special, popped_with};
+ghost use Rattle.tree_building.specs.Building.{seen};
+ghost use Rattle.tree_building.specs.Scopes.{is_open};
 ghost use Rattle.name_sets.specs.Wanted.{elements_of};
-ghost use Rattle.html_tree_state.specs.Sound.{Sound};
+ghost use Rattle.tree_building.specs.Sound.{Sound};
 
 use crate::construction::Construction;
 use html_forest::TreeSink;

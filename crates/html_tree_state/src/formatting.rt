@@ -5,18 +5,16 @@ ghost use Rattle.html_forest.specs.Orders.{IsForest};
 ghost use Rattle.name_sets.specs.Sets.{is_one_of};
 ghost use Rattle.name_sets.specs.TagSets.{formatting};
 ghost use Rattle.html_lexemes.specs.declared.fault.ParseFault.TheVariants.{Memory};
-ghost use Rattle.html_tree_state.specs.Building.{seen};
-ghost use Rattle.html_tree_state.specs.Formatting.{cleared, inserted_for, inserted_formatting, marked};
-ghost use Rattle.html_tree_state.specs.Scopes.{taken_off, with_closed_p};
-ghost use Rattle.html_tree_state.specs.Sound.{Sound};
+ghost use Rattle.tree_building.specs.Building.{seen};
+ghost use Rattle.tree_building.specs.Formatting.{cleared, inserted_for, inserted_formatting, marked};
+ghost use Rattle.tree_building.specs.Scopes.{taken_off, with_closed_p};
+ghost use Rattle.tree_building.specs.Sound.{Sound};
 
-use crate::adopting::adopting_keeps_sound;
 use crate::construction::Construction;
-use crate::elements::PushFlag;
-use crate::laws::laws_of_forests;
 use html_forest::TreeSink;
 use html_lexemes::{Namespace, ParseFault, QualName, Tag};
 use name_sets::{ElementSet, Scope};
+use tree_building::{PushFlag, adopting_keeps_sound, laws_of_forests};
 
 impl<S: TreeSink> Construction<S> {
     /// Puts a marker into the list.

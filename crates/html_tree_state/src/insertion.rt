@@ -6,32 +6,16 @@ ghost use Rattle.html_forest.specs.Orders.{IsForest};
 ghost use Rattle.html_forest.specs.Places.{put};
 ghost use Rattle.html_forest.specs.Sinks.{child_of};
 ghost use Rattle.html_lexemes.specs.declared.fault.ParseFault.TheVariants.{Memory};
-ghost use Rattle.html_tree_state.specs.Building.{seen};
-ghost use Rattle.html_tree_state.specs.Insertions.{foster_place, here, inside, is_template, place_for, said};
-ghost use Rattle.html_tree_state.specs.Points.{place_of};
-ghost use Rattle.html_tree_state.specs.Sound.{Sound};
+ghost use Rattle.tree_building.specs.Building.{seen};
+ghost use Rattle.tree_building.specs.Insertions.{foster_place, here, inside, is_template, place_for, said};
+ghost use Rattle.tree_building.specs.Points.{place_of};
+ghost use Rattle.tree_building.specs.Sound.{Sound};
 
 use crate::construction::Construction;
-use crate::held::last_element;
-use crate::laws::laws_of_forests;
 use html_forest::{NodeOrText, TreeSink};
 use html_lexemes::{ParseFault, Text};
 use name_sets::{is_foster_target, is_html};
-
-/// Where a node or a text is inserted.
-#[derive(Clone, Copy)]
-pub enum InsertionPoint<H> {
-    /// Behind the children of a node.
-    LastChild(H),
-    /// Before a table that has a parent, else behind the children of what stands above the table among the open
-    /// elements.
-    TableFosterParenting {
-        /// The table.
-        element: H,
-        /// What stands above it.
-        prev_element: H,
-    },
-}
+use tree_building::{InsertionPoint, last_element, laws_of_forests};
 
 impl<S: TreeSink> Construction<S> {
     /// Where a node is inserted into an open element: behind its children, those of its contents if it is a template.

@@ -2,7 +2,6 @@
 //! any sink of trees.
 #![tactic(auto)]
 
-mod adopting;
 mod adoption;
 mod adoption_parts;
 mod adoption_words;
@@ -12,24 +11,18 @@ mod elements;
 mod ends;
 mod foreign;
 mod formatting;
-mod held;
 mod insertion;
-mod laws;
 mod pops;
 mod reconstruction;
 mod resetting;
 mod scopes;
 
 pub use construction::Construction;
-pub use elements::PushFlag;
-pub use formatting_list::{ActiveFormattingIter, FormatEntry, FormattingList};
-pub use held::Held;
 pub use html_forest;
 pub use html_forest::{ElementFlags, NodeOrText, QuirksMode, TreeSink};
 pub use html_serializer;
-pub use insertion::InsertionPoint;
-pub use laws::words_keep_a_tree_sound;
 pub use name_sets;
 pub use name_sets::{ElementSet, Scope};
 pub use resetting::html_elem;
-pub use tree_words;
+pub use tree_building::formatting_list::{ActiveFormattingIter, FormatEntry, FormattingList};
+pub use tree_building::{Held, InsertionPoint, PushFlag, tree_words, words_keep_a_tree_sound};

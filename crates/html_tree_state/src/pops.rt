@@ -2,16 +2,16 @@
 ghost use Rattle.std.specs.Prelude.{◌≡◌, IfErr, OnOk, option_map};
 ghost use Rattle.html_forest.specs.Orders.{IsForest};
 ghost use Rattle.html_lexemes.specs.declared.fault.ParseFault.TheVariants.{Memory};
-ghost use Rattle.html_tree_state.specs.Building.{seen};
-ghost use Rattle.html_tree_state.specs.OpenElements.{first_of};
-ghost use Rattle.html_tree_state.specs.Scopes.{has_item as is_item_open, implied, popped, popped_down_to, popped_to};
-ghost use Rattle.html_tree_state.specs.Scopes.{with_closed_item};
+ghost use Rattle.tree_building.specs.Building.{seen};
+ghost use Rattle.tree_building.specs.OpenElements.{first_of};
+ghost use Rattle.tree_building.specs.Scopes.{has_item as is_item_open, implied, popped, popped_down_to, popped_to};
+ghost use Rattle.tree_building.specs.Scopes.{is_item_barrier, with_closed_item};
 ghost use Rattle.name_sets.specs.Wanted.{elements_of};
-ghost use Rattle.html_tree_state.specs.Sound.{Sound};
+ghost use Rattle.tree_building.specs.Sound.{Sound};
 
 use crate::construction::Construction;
 use html_forest::TreeSink;
-use html_lexemes::ParseFault;
+use html_lexemes::{ParseFault, QualName};
 use name_sets::{ElementSet, is_address_div_or_p, is_special};
 
 impl<S: TreeSink> Construction<S> {
@@ -128,11 +128,18 @@ impl<S: TreeSink> Construction<S> {
             if set.contains(name) {
                 return true;
             }
-            if is_special(name) && !is_address_div_or_p(name) {
+            if ends_item(name) {
                 return false;
             }
             open = lower;
         }
         false
     }
+}
+
+// whether an item is not looked for above an element of that name
+fn ends_item(name: &QualName) -> bool
+    ensures { result ≡ is_item_barrier name.now }
+{
+    is_special(name) && !is_address_div_or_p(name)
 }

@@ -1,19 +1,18 @@
 //! The list of active formatting elements is made anew (WHATWG HTML, 13.2.4.3, "reconstruct the active formatting
 //! elements").
 ghost use Rattle.std.specs.Prelude.{◌≡◌, ◌+◌, ◌<◌, IfErr, OnOk, length};
-ghost use Rattle.formatting_list.specs.Entries.{entries_of, entry_of};
+ghost use Rattle.tree_building.specs.Entries.{entries_of, entry_of};
 ghost use Rattle.html_forest.specs.Orders.{IsForest};
 ghost use Rattle.html_lexemes.specs.declared.fault.ParseFault.TheVariants.{Memory};
-ghost use Rattle.html_tree_state.specs.Building.{seen, stack_of};
-ghost use Rattle.html_tree_state.specs.Formatting.{is_kept, made_already, made_from, reconstructed};
-ghost use Rattle.html_tree_state.specs.Sound.{Sound};
+ghost use Rattle.tree_building.specs.Building.{seen, stack_of};
+ghost use Rattle.tree_building.specs.Formatting.{is_kept, made_already, made_from, reconstructed};
+ghost use Rattle.tree_building.specs.Sound.{Sound};
 
 use crate::construction::Construction;
-use crate::held::position;
-use crate::laws::laws_of_forests;
-use formatting_list::FormatEntry;
 use html_forest::TreeSink;
 use html_lexemes::ParseFault;
+use tree_building::formatting_list::FormatEntry;
+use tree_building::{laws_of_forests, position};
 
 impl<S: TreeSink> Construction<S> {
     /// Opens anew each listed element behind the last marker, and behind the last one that is open ("reconstruct the

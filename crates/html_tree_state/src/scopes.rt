@@ -1,9 +1,9 @@
 //! Scopes (WHATWG HTML, 13.2.4.2).
 ghost use Rattle.std.specs.Prelude.{◌≡◌};
-ghost use Rattle.html_tree_state.specs.Building.{seen};
-ghost use Rattle.html_tree_state.specs.Scopes.{is_in_scope};
+ghost use Rattle.tree_building.specs.Building.{seen};
+ghost use Rattle.tree_building.specs.Scopes.{is_in_scope};
 ghost use Rattle.name_sets.specs.Wanted.{barriers_of, elements_of};
-ghost use Rattle.html_tree_state.specs.Sound.{Sound};
+ghost use Rattle.tree_building.specs.Sound.{Sound};
 
 use crate::construction::Construction;
 use html_forest::TreeSink;

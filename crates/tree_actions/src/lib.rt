@@ -16,3 +16,4 @@ mod stack;
 pub use flow::Flow;
 pub use kept::Kept;
 pub use parse::Parse;
+pub use tree_rules::Target;

@@ -1,6 +1,6 @@
 use Rattle.std.proofs.Common.{ap, subst, sym}
 use Rattle.html_forest.specs.Forest.{IsElement}
-use Rattle.tree_rules.specs.Actions.{act}
+use Rattle.head_rules.specs.Actions.{act}
 use Rattle.body_rules.proofs.in_body_phrases.anchor_start.Goals as goal
 
 pub take_off_element-requires-clause-element : goal.take_off_element-requires-clause-element

@@ -1,12 +1,11 @@
-use Rattle.std.proofs.Common.{ap, chars, sym, subst, ◌∙◌}
+use Rattle.std.proofs.Common.{ap, chars, refl, sym, subst, ◌∙◌}
 use Rattle.std.proofs.lemmas.Str.{chars-nil}
-use Rattle.html_forest.specs.Places.{with_doctype}
-use Rattle.html_tree_state.specs.Building.{seen}
-use Rattle.html_tree_state.specs.Insertions.{text_or_none}
-use Rattle.html_tree_state.specs.Sound.{Sound}
-use Rattle.html_tree_state.proofs.CountsKept.{doctype_kept}
-use Rattle.html_tree_state.proofs.SeenLemmas.{seen_changed}
-use Rattle.html_tree_state.proofs.InsertedLemmas.{doctype_is, doctyped_sound}
+use Rattle.tree_building.specs.Building.{seen}
+use Rattle.tree_building.specs.Insertions.{text_or_none}
+use Rattle.tree_building.specs.Sound.{Sound}
+use Rattle.tree_building.proofs.CountsKept.{doctype_kept}
+use Rattle.tree_building.proofs.SeenLemmas.{seen_changed}
+use Rattle.tree_building.proofs.InsertedLemmas.{doctype_is, doctyped_sound}
 use Rattle.html_tree_state.proofs.construction.Construction.append_doctype_to_document.Goals as goal
 
 pub returns-clause-seen : goal.returns-clause-seen
@@ -17,16 +16,15 @@ returns-clause-seen g c =
     let name = c.unwrap_or-name.result in
     let public_id = c.unwrap_or-public_id.result in
     let system_id = c.unwrap_or-system_id.result in
-    seen_changed tree.number tree.forest tree.quirks c.args.self.now.held _ c.args.self.now.sink
-    c.append_doctype_to_document.new.self _ (ap (λ x. x.held) c.self.view_is)
+    seen_changed tree.number tree.forest tree.quirks c.args.self.now.held c.args.self.now.held c.args.self.now.sink
+    c.append_doctype_to_document.new.self _ refl
     (c.in_ok-append_doctype_to_document.ensures.forest
-    ∙ ap (λ x. with_doctype name public_id system_id (tree.forest x.sink)) c.self.view_is
     ∙ doctype_is d name public_id system_id c.from.result c.from-2.result c.from-3.result b.forest
     c.unwrap_or-name.ensures c.unwrap_or-public_id.ensures c.unwrap_or-system_id.ensures
     (c.from.ensures ∙ ap chars c.new.ensures.bytes ∙ chars-nil)
     (c.from-2.ensures ∙ ap chars c.new-2.ensures.bytes ∙ chars-nil)
     (c.from-3.ensures ∙ ap chars c.new-3.ensures.bytes ∙ chars-nil))
-    (c.append_doctype_to_document.ensures.quirks ∙ ap (λ x. tree.quirks x.sink) c.self.view_is)
+    c.append_doctype_to_document.ensures.quirks
     (doctype_kept c.laws_of_forests.ensures c.args.self.now.held.counts b c.requires
     (text_or_none d.name) (text_or_none d.public_id) (text_or_none d.system_id))
 

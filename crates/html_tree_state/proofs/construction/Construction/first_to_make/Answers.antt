@@ -1,9 +1,9 @@
 use Rattle.std.proofs.Common.{List, ap₂, length, ◌∙◌}
-use Rattle.formatting_list.specs.Entries.{entries_of}
-use Rattle.formatting_list.specs.declared.entry.FormatEntry.{FormatEntry}
-use Rattle.html_tree_state.specs.Building.{seen, stack_of}
-use Rattle.html_tree_state.specs.Formatting.{made_already}
-use Rattle.html_tree_state.proofs.MadeAnewLemmas.{made_from_first}
+use Rattle.tree_building.specs.Entries.{entries_of}
+use Rattle.tree_building.specs.FormatEntry.{FormatEntry}
+use Rattle.tree_building.specs.Building.{seen, stack_of}
+use Rattle.tree_building.specs.Formatting.{made_already}
+use Rattle.tree_building.proofs.MadeAnewLemmas.{made_from_first}
 use Rattle.html_tree_state.proofs.construction.Construction.first_to_make.Goals as goal
 
 pub returns : goal.returns

@@ -1,6 +1,6 @@
 use Rattle.std.proofs.Common.{sym, ◌∙◌}
-use Rattle.html_tree_state.specs.Building.{stack_of}
-use Rattle.html_tree_state.proofs.CountedLemmas.{counts_are, names_in, none_in_scope}
+use Rattle.tree_building.specs.Building.{stack_of}
+use Rattle.tree_building.proofs.CountedLemmas.{counts_are, names_in, none_in_scope}
 use Rattle.html_tree_state.proofs.construction.Construction.in_scope.Goals as goal
 use Rattle.name_sets.specs.Wanted.{barriers_of, elements_of}
 

@@ -1,10 +1,10 @@
 use Rattle.std.proofs.Common.{sym, subst}
 use Rattle.html_forest.specs.Forest.{nodes}
-use Rattle.html_tree_state.specs.Formatting.{inserted_for}
-use Rattle.html_tree_state.specs.Building.{seen}
-use Rattle.html_tree_state.specs.Sound.{Sound}
-use Rattle.html_tree_state.proofs.ListedLemmas.{inserted_formatting_sound}
-use Rattle.html_tree_state.proofs.SeenLemmas.{seen_pushed}
+use Rattle.tree_building.specs.Formatting.{inserted_for}
+use Rattle.tree_building.specs.Building.{seen}
+use Rattle.tree_building.specs.Sound.{Sound}
+use Rattle.tree_building.proofs.ListedLemmas.{inserted_formatting_sound}
+use Rattle.tree_building.proofs.SeenLemmas.{seen_pushed}
 use Rattle.html_tree_state.proofs.construction.Construction.insert_formatting_element.Goals as goal
 
 pub returns-clause-seen : goal.returns-clause-seen

@@ -1,6 +1,6 @@
 use Rattle.std.proofs.Common.{◌∷◌, ◌++◌, sym, ap, ◌∙◌}
-use Rattle.html_tree_state.specs.Building.{stack_of}
-use Rattle.html_tree_state.proofs.CountedLemmas.{unopened}
+use Rattle.tree_building.specs.Building.{stack_of}
+use Rattle.tree_building.proofs.CountedLemmas.{unopened}
 use Rattle.html_tree_state.proofs.construction.Construction.is_element_open.Goals as goal
 use Rattle.name_sets.specs.Counts.{counts_of}
 

@@ -3,9 +3,9 @@ use Rattle.std.proofs.lemmas.Bool.Decides.{nat_tests}
 use Rattle.html_forest.specs.Forest.{name_of}
 use Rattle.html_forest.specs.Orders.{IsIn}
 use Rattle.html_lexemes.specs.declared.names.QualName.{QualName}
-use Rattle.html_tree_state.specs.Building.{stack_of}
-use Rattle.html_tree_state.proofs.Stacks.{stack_of_last}
-use Rattle.tree_words.specs.Modes.{own_mode, reset_mode}
+use Rattle.tree_building.specs.Building.{stack_of}
+use Rattle.tree_building.proofs.Stacks.{stack_of_last}
+use Rattle.tree_building.specs.Modes.{own_mode, reset_mode}
 use Rattle.html_tree_state.proofs.ResetLemmas.{reset_further, reset_own}
 use Rattle.html_tree_state.proofs.construction.Construction.reset_insertion_mode.Goals as goal
 

@@ -2,12 +2,12 @@ use Rattle.std.proofs.Common.{◌∙◌, List, ap, ap₂, arith, option_map, sub
 use Rattle.std.proofs.lemmas.Grind.{common_steps}
 use Rattle.html_forest.specs.Forest.{nodes}
 use Rattle.html_forest.specs.Orders.{IsIn}
-use Rattle.html_tree_state.specs.Building.{Parts, are_counted, seen, stack_of}
-use Rattle.html_tree_state.specs.Formatting.{made_for}
-use Rattle.html_tree_state.specs.Sound.{Sound}
-use Rattle.html_tree_state.proofs.GrownLemmas.{made_apart}
-use Rattle.html_tree_state.proofs.TakeOverLemmas.{given_is_forest, may_give, may_take, over_elements, over_kept}
-use Rattle.html_tree_state.proofs.TakeOverLemmas.{over_new, taken_is, taken_is_forest}
+use Rattle.tree_building.specs.Building.{Parts, are_counted, seen, stack_of}
+use Rattle.tree_building.specs.Formatting.{made_for}
+use Rattle.tree_building.specs.Sound.{Sound}
+use Rattle.tree_building.proofs.GrownLemmas.{made_apart}
+use Rattle.tree_building.proofs.TakeOverLemmas.{given_is_forest, may_give, may_take, over_elements, over_kept}
+use Rattle.tree_building.proofs.TakeOverLemmas.{over_new, taken_is, taken_is_forest}
 use Rattle.html_tree_state.proofs.construction.Construction.take_over.Goals as goal
 
 pub reparent_children-requires : goal.reparent_children-requires

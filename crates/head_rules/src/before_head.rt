@@ -1,0 +1,71 @@
+//! The "before head" insertion mode (WHATWG HTML, 13.2.6.4.3).
+ghost use Rattle.std.specs.Prelude.{◌≡◌, IfErr, IfOk, OnOk};
+ghost use Rattle.html_lexemes.specs.declared.fault.ParseFault.TheVariants.{Memory};
+ghost use Rattle.tree_actions.specs.Outcomes.{came_to, outcome};
+ghost use Rattle.tree_actions.specs.Parsed.{state_of};
+ghost use Rattle.tree_actions.specs.Settling.{Ready};
+ghost use Rattle.tree_actions.specs.BeforeHead.{before_head_end, before_head_start, head_made};
+ghost use Rattle.tree_actions.specs.Rows.{again};
+
+use crate::html_tag::html_start;
+use html_forest::TreeSink;
+use html_lexemes::{ParseFault, Tag};
+use tag_groups::TagGroup;
+use tree_actions::{Flow, Parse};
+use tree_words::InsertionMode;
+
+/// A start tag.
+pub fn before_head_start<S: TreeSink>(
+    page: &mut Parse<S>,
+    group: TagGroup,
+    tag: &Tag,
+) -> Result<Flow<S::Handle>, ParseFault>
+    requires ready { Ready (state_of S.number S.forest S.quirks page.old) }
+    ensures came { IfOk result (λ flow. came_to flow (state_of S.number S.forest S.quirks page.new)
+        ≡ outcome S.handle (before_head_start group tag.now (state_of S.number S.forest S.quirks page.old))
+        (state_of S.number S.forest S.quirks page.old)) }
+    ensures ready { OnOk result (Ready (state_of S.number S.forest S.quirks page.new)) }
+    ensures memory { IfErr result (λ e. e ≡ Memory) }
+{
+    match group {
+        TagGroup::Html => html_start(page, tag),
+        TagGroup::Head => {
+            page.insert(tag)?;
+            page.keep_head();
+            page.go_to(InsertionMode::InHead);
+            Ok(Flow::Done)
+        }
+        _ => make_head(page),
+    }
+}
+
+/// An end tag.
+pub fn before_head_end<S: TreeSink>(
+    page: &mut Parse<S>,
+    group: TagGroup,
+) -> Result<Flow<S::Handle>, ParseFault>
+    requires ready { Ready (state_of S.number S.forest S.quirks page.old) }
+    ensures came { IfOk result (λ flow. came_to flow (state_of S.number S.forest S.quirks page.new)
+        ≡ outcome S.handle (before_head_end group) (state_of S.number S.forest S.quirks page.old)) }
+    ensures ready { OnOk result (Ready (state_of S.number S.forest S.quirks page.new)) }
+    ensures memory { IfErr result (λ e. e ≡ Memory) }
+{
+    match group {
+        TagGroup::Head | TagGroup::Body | TagGroup::Html | TagGroup::LineBreak => make_head(page),
+        _ => Ok(Flow::Done),
+    }
+}
+
+/// Anything else: the head is made.
+pub fn make_head<S: TreeSink>(page: &mut Parse<S>) -> Result<Flow<S::Handle>, ParseFault>
+    requires ready { Ready (state_of S.number S.forest S.quirks page.old) }
+    ensures came { IfOk result (λ flow. came_to flow (state_of S.number S.forest S.quirks page.new)
+        ≡ outcome S.handle (again head_made) (state_of S.number S.forest S.quirks page.old)) }
+    ensures ready { OnOk result (Ready (state_of S.number S.forest S.quirks page.new)) }
+    ensures memory { IfErr result (λ e. e ≡ Memory) }
+{
+    page.insert_named("head")?;
+    page.keep_head();
+    page.go_to(InsertionMode::InHead);
+    Ok(Flow::Again)
+}

@@ -1,0 +1,66 @@
+//! The "before html" insertion mode (WHATWG HTML, 13.2.6.4.2).
+ghost use Rattle.std.specs.Prelude.{◌≡◌, IfErr, IfOk, OnOk};
+ghost use Rattle.html_lexemes.specs.declared.fault.ParseFault.TheVariants.{Memory};
+ghost use Rattle.tree_actions.specs.Outcomes.{came_to, outcome};
+ghost use Rattle.tree_actions.specs.Parsed.{state_of};
+ghost use Rattle.tree_actions.specs.Settling.{Ready};
+ghost use Rattle.tree_actions.specs.BeforeHtml.{before_html_end, before_html_start, html_made};
+ghost use Rattle.tree_actions.specs.Rows.{again};
+
+use html_forest::TreeSink;
+use html_lexemes::{ParseFault, Tag};
+use tag_groups::TagGroup;
+use tree_actions::{Flow, Parse};
+use tree_words::InsertionMode;
+
+/// A start tag.
+pub fn before_html_start<S: TreeSink>(
+    page: &mut Parse<S>,
+    group: TagGroup,
+    tag: &Tag,
+) -> Result<Flow<S::Handle>, ParseFault>
+    requires ready { Ready (state_of S.number S.forest S.quirks page.old) }
+    ensures came { IfOk result (λ flow. came_to flow (state_of S.number S.forest S.quirks page.new)
+        ≡ outcome S.handle (before_html_start group tag.now) (state_of S.number S.forest S.quirks page.old)) }
+    ensures ready { OnOk result (Ready (state_of S.number S.forest S.quirks page.new)) }
+    ensures memory { IfErr result (λ e. e ≡ Memory) }
+{
+    match group {
+        TagGroup::Html => {
+            page.insert(tag)?;
+            page.go_to(InsertionMode::BeforeHead);
+            Ok(Flow::Done)
+        }
+        _ => make_html(page),
+    }
+}
+
+/// An end tag.
+pub fn before_html_end<S: TreeSink>(
+    page: &mut Parse<S>,
+    group: TagGroup,
+) -> Result<Flow<S::Handle>, ParseFault>
+    requires ready { Ready (state_of S.number S.forest S.quirks page.old) }
+    ensures came { IfOk result (λ flow. came_to flow (state_of S.number S.forest S.quirks page.new)
+        ≡ outcome S.handle (before_html_end group) (state_of S.number S.forest S.quirks page.old)) }
+    ensures ready { OnOk result (Ready (state_of S.number S.forest S.quirks page.new)) }
+    ensures memory { IfErr result (λ e. e ≡ Memory) }
+{
+    match group {
+        TagGroup::Head | TagGroup::Body | TagGroup::Html | TagGroup::LineBreak => make_html(page),
+        _ => Ok(Flow::Done),
+    }
+}
+
+/// Anything else: the root is made.
+pub fn make_html<S: TreeSink>(page: &mut Parse<S>) -> Result<Flow<S::Handle>, ParseFault>
+    requires ready { Ready (state_of S.number S.forest S.quirks page.old) }
+    ensures came { IfOk result (λ flow. came_to flow (state_of S.number S.forest S.quirks page.new)
+        ≡ outcome S.handle (again html_made) (state_of S.number S.forest S.quirks page.old)) }
+    ensures ready { OnOk result (Ready (state_of S.number S.forest S.quirks page.new)) }
+    ensures memory { IfErr result (λ e. e ≡ Memory) }
+{
+    page.insert_named("html")?;
+    page.go_to(InsertionMode::BeforeHead);
+    Ok(Flow::Again)
+}
