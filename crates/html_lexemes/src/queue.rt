@@ -25,12 +25,22 @@ pub enum SetResult {
 ///
 /// A text that comes is kept as it is, behind those that wait: none is copied. It stays in memory until all of it is
 /// taken and another waits or comes. Taking is constant time for each character.
-#[derive(Drop)]
 pub struct BufferQueue {
     // nothing is left of the first only where no other waits, and none of those is empty
     first: FirstText,
     later: VecDeque<String>,
     taken: u64,
+}
+
+impl Drop for BufferQueue {
+    // One call wherever a queue is dropped.
+    fn drop(self) {
+        let BufferQueue {
+            first: _,
+            later: _,
+            taken: _,
+        } = self;
+    }
 }
 
 impl Model for BufferQueue {

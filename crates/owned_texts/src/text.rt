@@ -15,9 +15,16 @@ use std::marker::Model;
 
 /// An owned text. Contracts see it as the list of its code points; equality, order and hashing are
 /// those of that list.
-#[derive(Debug, Drop)]
+#[derive(Debug)]
 pub struct Text {
     text: String,
+}
+
+impl Drop for Text {
+    // One call wherever a text is dropped.
+    fn drop(self) {
+        let Text { text: _ } = self;
+    }
 }
 
 impl Model for Text {

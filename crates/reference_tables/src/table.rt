@@ -22,10 +22,16 @@ struct Reference {
 /// The named character references that a page may use (WHATWG HTML, 13.5), each a name and one or two
 /// characters other than NUL. A name is ASCII letters and digits, at least one, with a semicolon only
 /// last. Contracts see a finite map from names to values, both as lists of code points.
-#[derive(Drop)]
 pub struct ReferenceTable {
     // in the order of the names, each once
     references: Vec<Reference>,
+}
+
+impl Drop for ReferenceTable {
+    // One call wherever a table is dropped.
+    fn drop(self) {
+        let ReferenceTable { references: _ } = self;
+    }
 }
 
 impl Reference {
