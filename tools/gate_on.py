@@ -9,7 +9,8 @@ last of all it runs tests and programs; of crates that stand below named ones it
 is noted in the crate's out/ beside the sum of all that it stands on, and not made again until that changes: so a
 mistake high up costs what stands on it, where a kit's `rt ci` begins from nothing. What a check printed is in
 out/log-proof and out/log-tests. Each check's processor time goes to TREE/times.log (crate, kind, command, user and
-system seconds, kilobytes, seconds). RT_JOBS says how many checks at once, as many as there are processors without it.
+system seconds, kilobytes, seconds), after a line where a crate's checks of a kind begin. RT_JOBS says how many checks
+run at once, as many as there are processors without it.
 
 The verdict is `rt ci`'s alone: it also looks at the repository as a whole (HANDLES, files that no check reads), and
 trusts nothing of before.
@@ -152,6 +153,8 @@ class Gate:
             made = f"{crate.folder}/out/{crate.name}{'_tests' if kind == 'tests' else ''}"
         if self.lib.text_of(note) == wanted and (kind == "edits" or os.path.exists(made)):
             return True
+        with open(f"{os.getcwd()}/times.log", "a", encoding="utf-8") as log:
+            log.write(f"{crate.name} {kind} begins 0 0 0 0\n")
         well = self.try_edits(crate) if kind == "edits" else self.prove(crate, kind == "tests", jobs)
         if well:
             with open(note, "w", encoding="utf-8") as it:

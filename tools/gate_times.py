@@ -1,12 +1,16 @@
 #!/usr/bin/env python3
-"""Runs the gate on a copy of HEAD, and says what each crate took of the processors: its proof, its tests' proof, its
-edits; and what `rt` itself took, which reads the sources below each library before and behind its proof.
+"""What the gate takes: seconds of processor time for the proof, the tests' proof and the edits of each crate.
 
-    tools/gate_times.py [--anew] [FOLDER]
+    tools/gate_times.py [--write] [--anew] [FOLDER]     runs the gate on a copy of HEAD, and measures it
+    tools/gate_times.py [--write] --of TREE             what tools/gate_on.py measured in TREE, without a run
 
-With --anew all is proved, also what runs before kept on this machine, by a kit that keeps it (another has no such
-word). It looks at the running checks twice a second, so a number may be short by half a second a check. The gate's own
-output goes to FOLDER/gate.log (a new folder in /tmp without one); its status is this program's.
+It prints a table with a row for each crate, and what libraries, programs, tests and edits take in all; with --write it
+puts the table into docs/GATE.md in place of the one there. A crate is proved, its tests are proved and built, and its
+must-fail/ edits are checked; a program's proof includes both compilers' builds. A measured run looks at the running
+checks twice a second, so a number may be short by half a second a check; `rt` itself, which reads the sources below each
+library before and after its proof, is counted beside them. With --anew all is proved, also what earlier runs kept on
+this machine, by a kit that keeps it (another has no such word). The gate's own output goes to FOLDER/gate.log (a new
+folder in /tmp without one); its status is this program's.
 """
 
 import collections
@@ -18,6 +22,7 @@ import tempfile
 import time
 
 TICKS = os.sysconf("SC_CLK_TCK")
+HEAD = "| crate | functions | proof | tests | edits |"
 
 
 def processes():
@@ -69,12 +74,8 @@ def checks():
     return [((pid, running[pid][1]), *found[pid], spent) for pid, spent in seconds.items()]
 
 
-def main():
-    asked = subprocess.run(["git", "rev-parse", "--show-toplevel"], check=True, capture_output=True, text=True)
-    top = asked.stdout.strip()
-    words = [it for it in sys.argv[1:] if it != "--anew"]
-    gate_words = ["bash", ".ci/run", *(["--anew"] if "--anew" in sys.argv else [])]
-    room = words[0] if words else tempfile.mkdtemp(prefix="gate-times-")
+def measured(top, room, gate_words):
+    """Runs the gate on a copy of HEAD: seconds by crate and kind, functions by crate, a last line and a status."""
     tree = f"{room}/tree"
     subprocess.run(["git", "clone", "-q", top, tree], check=True)
     seen, begun, own = {}, time.time(), 0.0
@@ -91,13 +92,81 @@ def main():
         total[crate, kind] += seconds
     with open(f"{room}/gate.log", encoding="utf-8", errors="replace") as log:
         text = log.read()
-    for crate in sorted({it for it, _ in total}):
-        proof, tests, edits = (round(total[crate, kind]) for kind in ("proof", "tests", "edits"))
-        counted = re.search(rf"== {crate}\n(?:.*\n)*?logic=proved functions=(\d+)", text)
-        print(f"| {crate} | {counted[1] if counted else '?'} | {proof} | {tests} | {edits} |")
-    last, spent = text.rstrip().splitlines()[-1], sum(total.values())
-    print(f"{last}: {time.time() - begun:.0f} s, {spent:.0f} s of processor time in checks, {own:.0f} s in rt")
-    return gate.returncode
+    functions = dict(re.findall(r"== (\w+)\n(?:(?!== ).*\n)*?logic=proved functions=(\d+)", text))
+    last = f"{text.rstrip().splitlines()[-1]}: {time.time() - begun:.0f} s, of which rt itself {own:.0f} s"
+    return total, functions, last, gate.returncode
+
+
+def noted(tree):
+    """The same of what tools/gate_on.py made in a tree: each check as it was made last."""
+    total, functions = collections.Counter(), {}
+    with open(f"{tree}/times.log", encoding="utf-8") as log:
+        for line in log:
+            crate, kind, command, user, system = line.split()[:5]
+            total[crate, kind] = 0 if command == "begins" else total[crate, kind] + float(user) + float(system)
+    for crate in {it for it, _ in total}:
+        log = f"{tree}/crates/{crate}/out/log-proof"
+        if os.path.exists(log):
+            with open(log, encoding="utf-8", errors="replace") as it:
+                functions.update((crate, count) for count in re.findall(r"^logic=proved functions=(\d+)", it.read(), re.M))
+    return total, functions, f"measured in {tree}", 0
+
+
+def rows_of(top, total, functions):
+    """The table's lines, in the order of crates.txt."""
+    with open(f"{top}/crates.txt", encoding="utf-8") as it:
+        names = re.findall(r"^(\w+)[^:\n]*:", it.read(), re.M)
+    rows = [HEAD, "|---|---|---|---|---|"]
+    for crate in names:
+        cells = [crate, functions.get(crate, "")]
+        cells += [f"{total[crate, kind]:.0f}" if total[crate, kind] else "" for kind in ("proof", "tests", "edits")]
+        rows.append(f"| {' | '.join(cells)} |")
+    return rows
+
+
+def sums_of(top, total):
+    """What all libraries, programs, tests and edits take, in a line."""
+    sums = collections.Counter()
+    for (crate, kind), seconds in total.items():
+        is_program = os.path.exists(f"{top}/crates/{crate}/src/main.rt")
+        sums["programs" if kind == "proof" and is_program else "libraries" if kind == "proof" else kind] += seconds
+    parts = [f"{kind} {sums[kind] / 60:.0f}" for kind in ("libraries", "programs", "tests", "edits")]
+    return f"minutes of processor time: {', '.join(parts)}, all {sum(sums.values()) / 60:.0f}"
+
+
+def write_table(top, rows):
+    """Puts the rows in place of the table in docs/GATE.md."""
+    file = f"{top}/docs/GATE.md"
+    with open(file, encoding="utf-8") as it:
+        lines = it.read().split("\n")
+    begin = lines.index(HEAD)
+    end = next((at for at in range(begin, len(lines)) if not lines[at].startswith("|")), len(lines))
+    with open(file, "w", encoding="utf-8") as it:
+        it.write("\n".join([*lines[:begin], *rows, *lines[end:]]))
+
+
+def main():
+    words = sys.argv[1:]
+    flags = {it for it in words if it.startswith("--")}
+    words = [it for it in words if not it.startswith("--")]
+    if flags - {"--anew", "--of", "--write"} or len(words) > 1 or "--of" in flags and not words:
+        print(__doc__, file=sys.stderr)
+        return 2
+    asked = subprocess.run(["git", "rev-parse", "--show-toplevel"], check=True, capture_output=True, text=True)
+    top = asked.stdout.strip()
+    if "--of" in flags:
+        total, functions, last, status = noted(words[0])
+    else:
+        room = words[0] if words else tempfile.mkdtemp(prefix="gate-times-")
+        gate_words = ["bash", ".ci/run", *(["--anew"] if "--anew" in flags else [])]
+        total, functions, last, status = measured(top, room, gate_words)
+    rows = rows_of(top, total, functions)
+    print("\n".join(rows))
+    print(sums_of(top, total))
+    print(last)
+    if "--write" in flags and status == 0:
+        write_table(top, rows)
+    return status
 
 
 if __name__ == "__main__":

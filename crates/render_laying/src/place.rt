@@ -5,7 +5,6 @@ use table_rows::{RowsLeft, Slot};
 use text_marks::TextDecorator;
 
 /// The rows of a table that are still to come.
-#[derive(Drop)]
 pub struct TableRows {
     /// The widths of the table's columns, where its rows lie across.
     pub widths: Option<Vec<usize>>,
@@ -15,13 +14,30 @@ pub struct TableRows {
     pub fragments: Vec<Text>,
 }
 
+impl Drop for TableRows {
+    // One call wherever rows are dropped.
+    fn drop(self) {
+        let TableRows {
+            widths: _,
+            rows: _,
+            fragments: _,
+        } = self;
+    }
+}
+
 /// The slots of a row that are still to come: those from `next` on.
-#[derive(Drop)]
 pub struct SlotsLeft {
     /// All of them.
     pub slots: Vec<Slot>,
     /// The place of the first that is to come.
     pub next: usize,
+}
+
+impl Drop for SlotsLeft {
+    // One call wherever slots are dropped.
+    fn drop(self) {
+        let SlotsLeft { slots: _, next: _ } = self;
+    }
 }
 
 /// Where in a table the next value stands.
