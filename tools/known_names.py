@@ -70,7 +70,8 @@ class Files:
         self.texts[file] = text
 
     def put_table(self, file, head, lines):
-        self.put(file, rf"(^(?:pub\(crate\) )?{head}: [^\n]* = \[\n).*?(^\];)", lambda it: it[1] + "".join(lines) + it[2])
+        pattern = rf"(^(?:pub\(crate\) )?{head}: [^\n]* = \[\n).*?(^\];)"
+        self.put(file, pattern, lambda it: it[1] + "".join(lines) + it[2])
 
     def changed(self):
         """The files that differ from what they were."""

@@ -9,8 +9,8 @@ at once as processors and memory allow (or as RT_JOBS says).
 
 A crate is checked once as it is. Then edits of different functions are planted together, as many as there are
 functions, and one check says which of these functions are not proved: an edit is refused where its function's own goals
-are. Each check takes over what the ones before it proved. Alone are tried: an edit that lies in no function's body (a
-clause, a type, a definition), one whose function is proved in such a check (a caller or a law may refuse it), and one
+are. Each check takes over what the ones before it proved. Alone are tried: an edit that is no function's body (but a
+clause, a table, a definition), one whose function is proved in such a check (a caller or a law may refuse it), and one
 that the check of several says nothing of.
 
 --over TREE takes the libraries below from a clone in which tools/gate_on.py has proved them (this one without it),
@@ -46,11 +46,12 @@ LOST = re.compile(r"has no field|is not in scope|has no `|was not admitted")
 
 @dataclass(frozen=True)
 class Function:
-    """A function of a source file: its name, the block that it stands in, and the lines of its body, from 1 on."""
+    """A function of a source file: its name, the block that it stands in, its first line and those of its body."""
 
     file: str
     outer: str
     name: str
+    head: int
     first: int
     last: int
 
@@ -60,6 +61,10 @@ class Function:
     def module(self):
         path = self.file[len("src/") : -len(".rt")].split("/")
         return path[:-1] if path[-1] in ("lib", "main", "mod") else path
+
+    def is_changed(self, line, old, new):
+        """Whether an edit at this line gives it another body: it lies in the body, or puts one behind a clause."""
+        return self.first <= line <= self.last or self.head <= line < self.first and new.startswith(old)
 
     def is_printed_as(self, path):
         """Whether a check prints it with this path below the crate: a module, with the type and the trait, and it."""
@@ -127,7 +132,7 @@ def functions_of(file, text):
         end = begin
         if not lines[begin].endswith("{}"):
             end = next(it for it in range(begin + 1, len(lines)) if lines[it] == " " * indent + "}")
-        found.append(Function(file, outer, header[2], begin + 1, end + 1))
+        found.append(Function(file, outer, header[2], at + 1, begin + 1, end + 1))
     return found
 
 
@@ -163,7 +168,7 @@ def read_edit(path):
 
 def planted(edit, texts, read):
     """The texts with the edit, and the functions whose bodies it changes; or None where it does not apply to them."""
-    texts, functions, is_in_bodies = dict(texts), set(), True
+    texts, functions, has_places = dict(texts), set(), True
     for file, old, new in edit.pairs:
         text = texts[file] if file in texts else read(file)
         if text.count(old) != 1:
@@ -173,11 +178,11 @@ def planted(edit, texts, read):
         around = []
         if file.startswith("src/") and file.endswith(".rt"):
             # (of a function in a function the inner one)
-            around = [it for it in functions_of(file, text) if it.first <= line <= it.last][-1:]
-        is_in_bodies = is_in_bodies and bool(around)
+            around = [it for it in functions_of(file, text) if it.is_changed(line, old, new)][-1:]
+        has_places = has_places and bool(around)
         functions |= {it.key() for it in around}
         texts[file] = text[:at] + new + text[at + len(old) :]
-    return texts, functions if is_in_bodies else set()
+    return texts, functions if has_places else set()
 
 
 class Trial:
@@ -231,7 +236,7 @@ class Trial:
 
     def printed(self, key):
         """The names under which a check prints a function and its closures."""
-        function = Function(*key, 0, 0)
+        function = Function(*key, 0, 0, 0)
         found = [it for it in self.names if function.is_printed_as(path_of(it))]
         # (an impl may stand in another module than its type)
         found = [it for it in found if path_of(it)[:-2] == function.module()] or found
@@ -250,7 +255,7 @@ class Trial:
             alone += later
             return []
         status, lines = self.check(texts)
-        if status == 0 or not lines[-1].startswith("logic="):
+        if status == 0 or not any(it.startswith("fn ") for it in lines):
             faulty = self.at_fault(batch, texts, lines) if status else batch
             alone += faulty or batch
             return [*[it for it in batch if faulty and it not in faulty], *later]
@@ -277,7 +282,7 @@ class Trial:
         wrong = set()
         for file, line in {(it[1], int(it[2])) for it in places if it}:
             text = texts[file] if file in texts else self.read(file)
-            wrong |= {it.key() for it in functions_of(file, text) if it.first <= line <= it.last}
+            wrong |= {it.key() for it in functions_of(file, text) if it.head <= line <= it.last}
         return [it for it in batch if it.functions & wrong]
 
     def judge(self, edit, lines, calls):
@@ -287,7 +292,8 @@ class Trial:
         failed = {name: calls[name] for name in names if name in calls}
         if not failed:
             return False
-        if any("did not prove" in why for why in failed.values()):
+        # (functions that call one another have one proof, which does not say whose goal it is)
+        if any("did not prove" in why and "proofs/+" not in why for why in failed.values()):
             return True
         folders = ["/".join(["proofs", *it.split("::")[1:]]) + "/" for it in failed]
         errors = [it for it in lines if re.match(r"(?:\./)?proofs/\S+:\d+:\d+: error", it)]
