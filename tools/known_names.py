@@ -194,10 +194,25 @@ def write_hash(files, names):
         numbers[(one + two * third + three * last) % PLACES] = number
     files.put_table(FIND, "static NUMBERS", filled(map(str, numbers)))
     files.put(FIND, r"\d+ where none has it", f"{none} where none has it")
-    at = next(it for it in range(3, PLACES - 2) if numbers[it] != none != numbers[it + 1])
-    row = [str(it) for it in numbers[at - 3 : at + 3]]
-    turned = [*row[:3], row[4], row[3], row[5]]
-    write_edit(files, "known_names", "two_numbers_are_exchanged", FIND, f"{', '.join(row)},", f"{', '.join(turned)},")
+    write_exchange(files, [str(it) for it in numbers], str(none))
+
+
+def write_exchange(files, numbers, none):
+    """The edit that exchanges the first two numbers beside one another whose neighbours are with them on a line."""
+    for at in range(3, PLACES - 2):
+        row = numbers[at - 3 : at + 3]
+        old = ", ".join(row) + ","
+        if none not in row[3:5] and files.text(FIND).count(old) == 1:
+            turned = [*row[:3], row[4], row[3], row[5]]
+            write_edit(files, "known_names", "two_numbers_are_exchanged", FIND, old, ", ".join(turned) + ",")
+            return
+    raise Refused(f"no two numbers in {FIND} stand beside one another")
+
+
+def stop_on_unknown(what, held, names):
+    unknown = sorted({*held}.difference(names))
+    if unknown:
+        raise Refused(f"{what} has what is no known name: {', '.join(unknown)}")
 
 
 def write_sets(files, names, words):
@@ -205,9 +220,7 @@ def write_sets(files, names, words):
     tables = re.findall(r"static (\w+): \[bool;", files.text(TABLES))
     for table in tables:
         held = {*words.of(DEFINITIONS.get(table, table.lower()))}
-        unknown = sorted(held.difference(names))
-        if unknown:
-            raise Refused(f"{table} has what is no known name: {', '.join(unknown)}")
+        stop_on_unknown(table, held, names)
         files.put_table(TABLES, f"static {table}", filled("true" if it in held else "false" for it in names))
     for edit, (table, name) in TURNED.items():
         lines = re.search(rf"static {table}: [^\n]* = \[\n(.*?)^\];", files.text(TABLES), re.S | re.M)[1].split("\n")
@@ -224,6 +237,7 @@ def write_sets(files, names, words):
 def write_counts(files, names, words):
     """Which count each name has: its own, or one that it shares by a number that is made of its letters."""
     counted = words.of("counted_names")
+    stop_on_unknown("counted_names", counted, names)
 
     def place(name):
         share = 0
@@ -240,6 +254,7 @@ def write_groups(files, names, words):
     """The group of each name: that of the first row of `tag_groups` that has it."""
     rows = re.findall(r"\(([^(]*), groups\.(\w+)\)", files.text(GROUP_WORDS).partition("\ntag_groups =")[2])
     groups = {name: group for held, group in reversed(rows) for name in words.read(held)}
+    stop_on_unknown("tag_groups", groups, names)
     lines = [f"    TagGroup::{groups.get(it, 'Other')}, // {it}\n" for it in names]
     files.put_table(GROUPS, "static GROUPS", lines)
 
