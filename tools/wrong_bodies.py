@@ -7,15 +7,14 @@ It takes the named crates, or with --all each that has such edits; without names
 crates' files, changed since the commit (the last one without --since). It works on a copy of HEAD, on as many crates
 at once as processors and memory allow (or as RT_JOBS says).
 
-A crate is checked once as it is. Then edits of different functions are planted together, as many as there are
-functions, and one check says which of these functions are not proved: an edit is refused where its function's own goals
-are. Each check takes over what the ones before it proved. Alone are tried: an edit that is no function's body (but a
-clause, a table, a definition), one whose function is proved in such a check (a caller or a law may refuse it), and one
-that the check of several says nothing of.
+Edits of different functions are planted together, as many as there are functions, and one check says which of these
+functions are not proved: an edit is refused where its function's own goals are. Each check takes over what the ones
+before it proved. Alone are tried: an edit that is no function's body (but a clause, a table, a definition), one whose
+function is proved in such a check (a caller or a law may refuse it), and one that the check of several says nothing of.
 
 --over TREE takes the libraries below from a clone in which tools/gate_on.py has proved them (this one without it),
-where their sources are the same; what is lacking is proved first. --keep FOLDER keeps what checks prove there, for the
-next call.
+where their sources are the same; what is lacking is proved first. A crate that was not proved there itself is first
+checked as it is. --keep FOLDER keeps what checks prove there, for the next call.
 
 A line for each crate: `NAME: N refused, M let through (K checks)`, and below it a line for each edit that is let
 through, no longer applies, does not compile, or is refused only for a name that a proof of its function lost, which
@@ -209,13 +208,23 @@ class Trial:
         self.is_well = False
         self.said.append(f"{edit.name()}: {why}")
 
-    def run(self):
-        status, lines = self.check({})
-        if status:
-            self.is_well = False
-            self.said = [it[:200] for it in lines if "error" in it or "not proved" in it][:10] or lines[-3:]
-            return f"{self.crate.name}: not proved without an edit"
+    def is_proved(self, log):
+        """Whether the crate is proved as it is, by the log of its proof or by a check, and which functions it has."""
+        if log:
+            lines = log.split("\n")
+        else:
+            status, lines = self.check({})
+            if status:
+                self.is_well = False
+                told = [it[:200] for it in lines if "error" in it or "not proved" in it]
+                self.said = told[:10] or lines[-3:]
+                return False
         self.names = [it[1] for it in (re.match(r"fn (\S+): proved", line) for line in lines) if it]
+        return True
+
+    def run(self, log=""):
+        if not self.is_proved(log):
+            return f"{self.crate.name}: not proved without an edit"
         waiting, alone = [], []
         for edit in self.edits:
             _, why = self.rt.read_edit(edit.path, self.crate.folder)
@@ -259,9 +268,14 @@ class Trial:
             faulty = self.at_fault(batch, texts, lines) if status else batch
             alone += faulty or batch
             return [*[it for it in batch if faulty and it not in faulty], *later]
-        calls = calls_in(lines)
+        failed = failed_in(lines)
+        changed = {name for edit in batch for key in edit.functions for name in self.printed(key)}
+        for name in sorted(failed.keys() & {*self.names} - changed):
+            if goals_of(name, failed[name], lines):
+                self.is_well = False
+                self.said.append(f"{name}: not proved in a check of edits, though none of them changes it")
         for edit in batch:
-            is_refused = self.judge(edit, lines, calls)
+            is_refused = self.judge(edit, lines, failed)
             if is_refused:
                 self.take(edit, "refused only for a name that its proof lost" if is_refused == "lost" else "")
             elif is_refused is None and len(batch) > 1 and not edit.avoids:
@@ -285,22 +299,14 @@ class Trial:
             wrong |= {it.key() for it in functions_of(file, text) if it.head <= line <= it.last}
         return [it for it in batch if it.functions & wrong]
 
-    def judge(self, edit, lines, calls):
-        """Whether the goals of the edit's functions are refused (`lost` where only names are): None where the check
-        does not say, since a function that they call is not proved."""
+    def judge(self, edit, lines, failed):
+        """Whether goals of the edit's functions are refused (`lost` where only names are): None where the check does
+        not say, since a function that they call is not proved."""
         names = {name for key in edit.functions for name in self.printed(key)}
-        failed = {name: calls[name] for name in names if name in calls}
-        if not failed:
+        found = {goals_of(it, failed[it], lines) for it in names & failed.keys()}
+        if not found:
             return False
-        # (functions that call one another have one proof, which does not say whose goal it is)
-        if any("did not prove" in why and "proofs/+" not in why for why in failed.values()):
-            return True
-        folders = ["/".join(["proofs", *it.split("::")[1:]]) + "/" for it in failed]
-        errors = [it for it in lines if re.match(r"(?:\./)?proofs/\S+:\d+:\d+: error", it)]
-        own = [it for it in errors if any(it.removeprefix("./").startswith(folder) for folder in folders)]
-        if own:
-            return True if any(not LOST.search(it) for it in own) else "lost"
-        return None
+        return next((it for it in (True, "lost") if it in found), None)
 
     def try_alone(self, edit):
         """Tries one edit as the gate tries its own."""
@@ -313,17 +319,26 @@ class Trial:
             self.through += 1
             self.fails(edit, "let through")
         else:
-            self.fails(edit, "does not compile: " + " ".join(said.partition("BAD EDIT: ")[2].split("\n"))[:300])
+            why = said.partition("BAD EDIT: ")[2].removeprefix("it did not reach the prover; ")
+            self.fails(edit, "does not compile: " + " ".join(why.split("\n"))[:300])
 
 
-def calls_in(lines):
+def failed_in(lines):
     """What a check says of each function that is not proved."""
-    found = {}
-    for line in lines:
-        it = re.match(r"fn (\S+): (not proved|no proof|could not tell)(.*)", line)
-        if it:
-            found[it[1]] = it[2] + it[3]
-    return found
+    found = (re.match(r"fn (\S+): ((?:not proved|no proof|could not tell).*)", it) for it in lines)
+    return {it[1]: it[2] for it in found if it}
+
+
+def goals_of(name, why, lines):
+    """Whether a function that is not proved has goals of its own that are not (`lost` where only names are)."""
+    # (functions that call one another have one proof, which does not say whose goal it is)
+    if "did not prove" in why and "proofs/+" not in why:
+        return True
+    folder = "/".join(["proofs", *name.split("::")[1:]]) + "/"
+    own = [it for it in lines if re.match(rf"(?:\./)?{re.escape(folder)}\S+:\d+:\d+: error", it)]
+    if not own:
+        return None
+    return "lost" if all(LOST.search(it) for it in own) else True
 
 
 def stop(why):
@@ -374,10 +389,16 @@ def wanted(gate, given, names):
     return [it for it in have if is_changed & {dep.name for dep in [it, *gate.below(it)]}]
 
 
-def take_over(gate, crate, tree):
-    """Takes a library from a tree in which it is proved, by links, where its sources are the same."""
+def proved_in(gate, crate, tree):
+    """The folder with what a tree keeps of a crate's proof, where it is proved there with the same sources."""
     made = f"{tree}/crates/{crate.name}/out"
-    if gate.lib.text_of(f"{made}/passed-proof") != gate.stamp(crate) or not os.path.isdir(f"{made}/rlib"):
+    return made if gate.lib.text_of(f"{made}/passed-proof") == gate.stamp(crate) else ""
+
+
+def take_over(gate, crate, tree):
+    """Takes a library from a tree in which it is proved, by links."""
+    made = proved_in(gate, crate, tree)
+    if not made or not os.path.isdir(f"{made}/rlib"):
         return
     os.makedirs(f"{crate.folder}/out", exist_ok=True)
     same_disk = os.stat(made).st_dev == os.stat(crate.folder).st_dev
@@ -408,7 +429,8 @@ def main():
             kept = f"{given['--keep'] or room}/{crate.name}"
             os.makedirs(kept, exist_ok=True)
             trial = Trial(rt, crate, f"{crate.folder}/wrong-bodies", kept, jobs)
-            line = trial.run()
+            made = proved_in(gate, crate, given["--over"])
+            line = trial.run(gate.lib.text_of(f"{made}/log-proof") if made else "")
             with gate_on.PRINTING:
                 print("\n".join([line, *[f"  {it}" for it in trial.said]]), flush=True)
             return trial.is_well
