@@ -1,7 +1,7 @@
 #!/usr/bin/env python3
 """Tries the wrong bodies of crates: the prover must refuse each edit of crates/NAME/wrong-bodies/.
 
-    tools/wrong_bodies.py [--all | --since COMMIT | NAME..] [--over TREE] [--keep FOLDER]
+    tools/wrong_bodies.py [--all | --since COMMIT | NAME..] [--over TREE] [--keep FOLDER] [--applies]
 
 It takes the named crates, or with --all each that has such edits; without names those whose files, or whose lower
 crates' files, changed since the commit (the last one without --since). It works on a copy of HEAD, on as many crates
@@ -14,7 +14,8 @@ function is proved in such a check (a caller or a law may refuse it), and one th
 
 --over TREE takes the libraries below from a clone in which tools/gate_on.py has proved them (this one without it),
 where their sources are the same; what is lacking is proved first. A crate that was not proved there itself is first
-checked as it is. --keep FOLDER keeps what checks prove there, for the next call.
+checked as it is. --keep FOLDER keeps what checks prove there, for the next call. --applies checks nothing, and says of
+which edits the text that they change is no longer there once.
 
 A line for each crate: `NAME: N refused, M let through (K checks)`, and below it a line for each edit that is let
 through, no longer applies, does not compile, or is refused only for a name that a proof of its function lost, which
@@ -26,6 +27,7 @@ import io
 import os
 import re
 import shutil
+import signal
 import subprocess
 import sys
 import tarfile
@@ -165,6 +167,10 @@ def read_edit(path):
     return Edit(path, pairs)
 
 
+def edits_in(folder):
+    return [read_edit(f"{folder}/{it}") for it in sorted(os.listdir(folder)) if it.endswith(".edit")]
+
+
 def planted(edit, texts, read):
     """The texts with the edit, and the functions whose bodies it changes; or None where it does not apply to them."""
     texts, functions, has_places = dict(texts), set(), True
@@ -190,10 +196,7 @@ class Trial:
     def __init__(self, rt, crate, folder, kept, jobs):
         self.rt, self.crate, self.kept, self.flags = rt, crate, kept, ["--jobs", str(jobs)]
         self.checks, self.refused, self.through, self.said, self.names = 0, 0, 0, [], []
-        self.is_well, self.edits = True, []
-        for name in sorted(os.listdir(folder)):
-            if name.endswith(".edit"):
-                self.edits.append(read_edit(f"{folder}/{name}"))
+        self.is_well, self.edits = True, edits_in(folder)
 
     def read(self, file):
         with open(f"{self.crate.folder}/{file}", encoding="utf-8") as it:
@@ -360,7 +363,7 @@ def options():
         word = words.pop(0)
         if word in given and words:
             given[word] = words.pop(0)
-        elif word == "--all":
+        elif word in ("--all", "--applies"):
             given[word] = True
         elif word.startswith("-"):
             print(__doc__, file=sys.stderr)
@@ -406,8 +409,57 @@ def take_over(gate, crate, tree):
     shutil.copy2(f"{made}/passed-proof", f"{crate.folder}/out/passed-proof")
 
 
+def attempt(rt, gate, crate, given, room, jobs):
+    """Tries the edits of a crate, and says how they went."""
+    kept = f"{given['--keep'] or room}/{crate.name}"
+    os.makedirs(kept, exist_ok=True)
+    trial = Trial(rt, crate, f"{crate.folder}/wrong-bodies", kept, jobs)
+    made = proved_in(gate, crate, given["--over"])
+    line = trial.run(gate.lib.text_of(f"{made}/log-proof") if made else "")
+    with gate_on.PRINTING:
+        print("\n".join([line, *[f"  {it}" for it in trial.said]]), flush=True)
+    return trial.is_well
+
+
+def tasks_of(rt, gate, crates, given, room):
+    """What is to be proved below the crates, and their edits, for the kit to run side by side."""
+    tasks = {}
+    for crate in gate.crates:
+        waits, lines = [(it.name, "proof") for it in gate.below(crate)], crate.count(rb"\n")
+
+        def prove(before, jobs, crate=crate):
+            return gate.work(crate, "proof", before, jobs)
+
+        def edits(before, jobs, crate=crate):
+            if all(before[it.name, "proof"] for it in gate.below(crate)):
+                return attempt(rt, gate, crate, given, room, jobs)
+            print(f"{crate.name}: a crate below is not proved", flush=True)
+            return False
+
+        if any(crate in gate.below(it) for it in crates):
+            take_over(gate, crate, given["--over"])
+            tasks[crate.name, "proof"] = waits, lines, rt.need(crate), prove
+        if crate in crates:
+            tasks[crate.name, "bodies"] = waits, lines, rt.need(crate), edits
+    return tasks
+
+
+def apply_alone(rt, crates):
+    """Says which edits no longer apply."""
+    is_well = True
+    for crate in crates:
+        edits = edits_in(f"{crate.folder}/wrong-bodies")
+        faults = [(it.name(), rt.read_edit(it.path, crate.folder)[1]) for it in edits]
+        faults = [it for it in faults if it[1]]
+        print("\n  ".join([f"{crate.name}: {len(edits) - len(faults)} apply", *map(": ".join, faults)]))
+        is_well = is_well and not faults
+    return is_well
+
+
 def main():
     given, names = options()
+    # (so that a run that is ended leaves no copy)
+    signal.signal(signal.SIGTERM, lambda *_: sys.exit(1))
     with tempfile.TemporaryDirectory(prefix="wrong-bodies-") as room:
         tree = f"{room}/tree"
         with tarfile.open(fileobj=io.BytesIO(git("archive", "HEAD"))) as it:
@@ -417,35 +469,9 @@ def main():
         rt = gate_on.load_rt()
         gate = gate_on.Gate(rt, tree)
         crates = wanted(gate, given, names)
-        below = [it for it in gate.crates if any(it in gate.below(crate) for crate in crates)]
-        for crate in below:
-            take_over(gate, crate, given["--over"])
-        failed = []
-
-        def attempt(crate, jobs, given_before):
-            if not all(given_before[dep.name, "proof"] for dep in gate.below(crate)):
-                print(f"{crate.name}: a crate below is not proved", flush=True)
-                return False
-            kept = f"{given['--keep'] or room}/{crate.name}"
-            os.makedirs(kept, exist_ok=True)
-            trial = Trial(rt, crate, f"{crate.folder}/wrong-bodies", kept, jobs)
-            made = proved_in(gate, crate, given["--over"])
-            line = trial.run(gate.lib.text_of(f"{made}/log-proof") if made else "")
-            with gate_on.PRINTING:
-                print("\n".join([line, *[f"  {it}" for it in trial.said]]), flush=True)
-            return trial.is_well
-
-        tasks = {}
-        for crate in gate.crates:
-            waits, lines = [(it.name, "proof") for it in gate.below(crate)], crate.count(rb"\n")
-            if crate in below:
-                call = lambda given, jobs, crate=crate: gate.work(crate, "proof", given, jobs)
-                tasks[crate.name, "proof"] = waits, lines, rt.need(crate), call
-            if crate in crates:
-                call = lambda before, jobs, crate=crate: attempt(crate, jobs, before)
-                tasks[crate.name, "bodies"] = waits, lines, rt.need(crate), call
-        failed = [key for key, well in rt.in_lanes(tasks).items() if not well]
-    return 1 if failed else 0
+        if given.get("--applies"):
+            return 0 if apply_alone(rt, crates) else 1
+        return 0 if all(rt.in_lanes(tasks_of(rt, gate, crates, given, room)).values()) else 1
 
 
 if __name__ == "__main__":
