@@ -41,7 +41,7 @@ case ${DESTDIR:-} in '' | /*) ;; *) DESTDIR=$PWD/$DESTDIR ;; esac
 to=${DESTDIR:-}$prefix
 top=$(cd -P -- "$(dirname -- "${BASH_SOURCE[0]}")/.." && pwd)
 if ! command -v rt >/dev/null; then
-  echo "tools/install.sh: the program is built by Rattle's kit, and its command rt is not on PATH" >&2
+  echo "tools/install.sh: Rattle's kit is needed, and its command rt is not on PATH" >&2
   exit 127
 fi
 

@@ -17,12 +17,14 @@ stop() {
 top=$(cd -P -- "$(dirname -- "${BASH_SOURCE[0]}")/.." && pwd)
 case ${XDG_CACHE_HOME:-} in
 /*) cache=$XDG_CACHE_HOME/sofagoose ;;
-*) cache=${HOME:?set it or XDG_CACHE_HOME, where html2text is kept}/.cache/sofagoose ;;
+*) cache=${HOME:-}/.cache/sofagoose ;;
 esac
-rt=$(type -P rt) || stop "the program is built by Rattle's kit, and its command rt is not on PATH"
+case $cache in /.cache/*) stop 'neither HOME nor XDG_CACHE_HOME says where it can be kept' ;; esac
+rt=$(type -P rt) || stop "Rattle's kit is needed to build it, and its command rt is not on PATH"
 kit=$(dirname -- "$(rt doc)")
 programs=$cache/programs noted=$cache/trees$top/.inputs
-mkdir -p -- "$programs" "${noted%/*}" || stop "$cache can't be made: set XDG_CACHE_HOME to another folder"
+mkdir -p -- "$programs" "${noted%/*}" 2>/dev/null ||
+  stop "can't be kept in $cache: set XDG_CACHE_HOME to another folder"
 room=$(mktemp -d) new=
 trap 'rm -rf -- "$room" ${new:+"$new"}' EXIT
 trap 'exit 130' INT
@@ -44,7 +46,7 @@ awk -v program=html2text_program '
   }
   END { take(program) }' "$top/crates.txt" >"$room/tree/crates.txt"
 mapfile -t sources < <(sed 's|[ :].*||; s|.*|crates/&/src|' "$room/tree/crates.txt")
-scripts=(bench/bare_module.py bench/unproved.sh tools/kept_html2text.sh)
+scripts=(bench/bare_module.py bench/unproved.sh)
 cd -- "$top"
 find "${sources[@]}" -name '*.rt' -print0 | xargs -0 cp --parents -t "$room/tree"
 cp --parents -t "$room/tree" "${scripts[@]}"
