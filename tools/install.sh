@@ -68,5 +68,5 @@ install -D -m 644 -- completions/_html2text "$share/zsh/site-functions/_html2tex
 install -D -m 644 -- completions/html2text.fish "$share/fish/vendor_completions.d/html2text.fish"
 echo "$to/bin/html2text"
 if [ -n "$unproved" ]; then
-  echo 'tools/install.sh: this program is not proved: no contract of the repository is known to hold of it' >&2
+  echo 'tools/install.sh: it is not proved: no contract is known to hold of it, and it checks nothing as it runs' >&2
 fi
