@@ -8,7 +8,7 @@ Proves the program and what it stands on, builds it, and puts it into PREFIX/bin
 name html2text, with its manual page, the table of references of the standard, and completions for bash, zsh and fish
 under PREFIX/share. The proofs take hours; they go on where an earlier run was stopped.
 
-  --unproved  builds the program without proof, in two minutes, and only where tools/html2text has not yet done so
+  --unproved  builds the program without proof, in some minutes, where tools/html2text has not yet done so
   --help      prints this and ends
 
 With DESTDIR set, the files go to $DESTDIR/PREFIX.'

@@ -63,7 +63,7 @@ if [ ! -x "$program" ]; then
   fi
 fi
 if [ ! -x "$program" ]; then
-  echo "html2text: is built without proof, which takes two minutes, once for these sources; kept in $programs/$sum" >&2
+  echo "html2text: is built without proof, which takes some minutes, once for these sources; kept in $programs/$sum" >&2
   new=$(mktemp -d -- "$programs/new.XXXXXX")
   if ! bench/unproved.sh crates/html2text_program "$new/html2text" 2>"$room/why" 9>&-; then
     sed "s|$room/tree|$top|g" "$room/why" >&2
