@@ -1,9 +1,9 @@
 #!/usr/bin/env python3
-"""Times the built program page_lines on pages that nest, long lists and paragraphs.
+"""Times the built program stored_rows on pages that nest, long lists and paragraphs.
 
     bench/page_lines.py PROGRAM
 
-The program renders each page twice, as a whole and a byte at a time, compares both and tells the lines of one. A line
+The program renders each page twice, as a whole and a byte at a time, compares both and writes the lines of one. A line
 says the seconds of processor time of the best of three runs, the peak of memory, and what the page came to.
 """
 
@@ -50,7 +50,7 @@ def main():
     resource.setrlimit(resource.RLIMIT_STACK, (1 << 20, 1 << 20))
     print("| page | bytes | seconds | memory | came to |\n|---|---|---|---|---|")
     for name, page in pages():
-        runs = [run(sys.argv[1], f"plain\t72\t\t{page}\n") for _ in range(3)]
+        runs = [run(sys.argv[1], f"page\tplain\t72\t\t{page}\n\n") for _ in range(3)]
         seconds, memory = min(r[0] for r in runs), min(r[1] for r in runs)
         lines = runs[0][2].splitlines()
         came = f"{len(lines) - 1:,} lines" if lines[0] != "TooNarrow" else "`TooNarrow`"

@@ -61,6 +61,8 @@ run 3 '' 'html2text: bad reference table\n' --references bytes.json nowhere
 run 3 '' 'html2text: bad reference table\n' --references nowhere page
 run 3 '' 'html2text: bad reference table\n' --references . page
 
+status=0; printf '<p>\346\274\242</p>' | "$program" --width 1 >out 2>err || status=$?
+judge 'no column is wide enough' "$status" 1 '' 'html2text: output width not wide enough\n'
 status=0; "$program" <page >/dev/full 2>err || status=$?; : >out
 judge 'a full disk' "$status" 1 '' 'html2text: read or write failed\n'
 status=0; "$program" <page >&- 2>err || status=$?; : >out

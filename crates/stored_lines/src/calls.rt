@@ -1,0 +1,131 @@
+//! The blocks of a script, one within the other.
+use crate::block::{Answer, Block, Pieces};
+use anyhow::{Result, bail};
+use renderer_calls::Renderer;
+use row_fields::unescaped;
+use std::alloc::Global;
+use std::mem;
+
+/// The block that calls go to, and those around it.
+#[derive(Drop)]
+pub(crate) struct Blocks<R> {
+    /// Those around the running one, the outermost first.
+    around: Vec<Block<R>>,
+    running: Block<R>,
+    /// The renderers of those that are over and stand nowhere yet.
+    pile: Vec<R>,
+    pieces: Pieces,
+}
+
+impl<R: Renderer + Drop> Blocks<R> {
+    /// The block of that renderer alone.
+    pub(crate) fn new(alloc: Global, renderer: R, pieces: Pieces) -> Blocks<R> {
+        Blocks {
+            around: Vec::new(alloc),
+            running: Block::new(alloc, renderer, pieces),
+            pile: Vec::new(alloc),
+            pieces,
+        }
+    }
+
+    /// Does what a line says: a word, and up to two fields behind tabs.
+    pub(crate) fn perform(&mut self, line: &str) -> Answer {
+        let Some((word, fields)) = line.split_once('\t') else {
+            return match line {
+                "pop" => self.pop(),
+                _ => self.running.perform(line),
+            };
+        };
+        match (word, fields.split_once('\t')) {
+            ("push", None) => self.push(fields.parse()?),
+            ("columns", None) => self.add_columns(fields.parse()?),
+            ("below", None) => self.add_below(fields.parse()?),
+            (_, None) => self.running.perform_with(word, fields),
+            ("append", Some((first, following))) => self.append(first, following),
+            (_, Some((first, second))) => self.running.perform_with_two(word, first, second),
+        }
+    }
+
+    /// The renderer of the outermost block, to which each part must have come back.
+    pub(crate) fn into_renderer(self) -> Result<R> {
+        let Blocks {
+            around,
+            running,
+            ..
+        } = self;
+        if !around.is_empty() {
+            bail!("a push without a pop");
+        }
+        let Block { renderer, .. } = running;
+        Ok(renderer)
+    }
+
+    fn alloc(&self) -> Global {
+        *self.pile.allocator()
+    }
+
+    /// A part of the block begins: the next calls go to a renderer of so many columns.
+    fn push(&mut self, width: usize) -> Answer {
+        match self.running.renderer.new_sub_renderer(width) {
+            Ok(renderer) => {
+                let part = Block::new(self.alloc(), renderer, self.pieces);
+                let outer = mem::replace(&mut self.running, part);
+                self.around.push(outer)?;
+                Ok(Ok(()))
+            }
+            Err(error) => Ok(Err(error)),
+        }
+    }
+
+    /// The part is over, and lies on the pile.
+    fn pop(&mut self) -> Answer {
+        let Some(outer) = self.around.pop() else {
+            bail!("a pop without a push");
+        };
+        let Block { renderer, .. } = mem::replace(&mut self.running, outer);
+        self.pile.push(renderer)?;
+        Ok(Ok(()))
+    }
+
+    /// The last of the pile is appended behind prefixes.
+    fn append(&mut self, first: &str, following: &str) -> Answer {
+        let alloc = self.alloc();
+        let first = unescaped(alloc, first)?;
+        let following = unescaped(alloc, following)?;
+        let Some(part) = self.pile.pop() else {
+            bail!("none lies on the pile");
+        };
+        Ok(
+            self.running
+                .renderer
+                .append_subrender(part, first.as_str(), following.as_str()),
+        )
+    }
+
+    /// The last of the pile, so many, are a row of cells.
+    fn add_columns(&mut self, count: usize) -> Answer {
+        let mut cells = Vec::new(self.alloc());
+        for cell in self.taken(count)? {
+            cells.push((cell, 1))?;
+        }
+        Ok(
+            self.running
+                .renderer
+                .append_columns_with_borders(cells, true),
+        )
+    }
+
+    /// The last of the pile, so many, are rows below one another.
+    fn add_below(&mut self, count: usize) -> Answer {
+        let cells = self.taken(count)?;
+        Ok(self.running.renderer.append_vert_row(cells))
+    }
+
+    /// Takes the last of the pile, so many, in order.
+    fn taken(&mut self, count: usize) -> Result<Vec<R>> {
+        let Some(at) = self.pile.len().checked_sub(count) else {
+            bail!("too few lie on the pile");
+        };
+        Ok(self.pile.split_off(at)?)
+    }
+}

@@ -1,0 +1,94 @@
+//! Options of a configuration.
+use anyhow::{Result, bail};
+use html_render_tree::RenderConfig;
+use renderer_calls::ImageRenderMode;
+use std::num::NonZeroUsize;
+use text_decorators::TextDecorator;
+
+/// What a configuration has beside its decorator.
+#[derive(Clone, Copy)]
+pub(crate) enum PageOption {
+    /// So wide, in columns, may text be wrapped.
+    MaxWrapWidth(NonZeroUsize),
+    /// So narrow, in columns, may text be wrapped.
+    MinWrapWidth(NonZeroUsize),
+    /// Lines are filled with spaces.
+    PadBlockWidth,
+    /// Tables stand between fences.
+    FenceTables,
+    /// The targets of links are not cut at the width.
+    NoLinkWrapping,
+    /// Struck text is marked without U+0336.
+    NoUnicodeStrikeout,
+    /// Parts may pass the width.
+    AllowWidthOverflow,
+    /// Whether the cells of tables stand below one another.
+    RawMode(bool),
+    /// Tables have no borders.
+    NoTableBorders,
+    /// How an image with an empty title is rendered.
+    EmptyImgMode(ImageRenderMode),
+    /// Whether the targets of links stand behind the page.
+    LinkFootnotes(bool),
+    /// Whether links to equal targets share a footnote.
+    SharedFootnotes(bool),
+}
+
+impl PageOption {
+    /// The configuration with this option.
+    pub(crate) fn applied<D: TextDecorator + Drop>(
+        self,
+        config: RenderConfig<D>,
+    ) -> RenderConfig<D> {
+        match self {
+            PageOption::MaxWrapWidth(columns) => config.max_wrap_width(columns.get()),
+            PageOption::MinWrapWidth(columns) => config.min_wrap_width(columns.get()),
+            PageOption::PadBlockWidth => config.pad_block_width(),
+            PageOption::FenceTables => config.fence_tables(),
+            PageOption::NoLinkWrapping => config.no_link_wrapping(),
+            PageOption::NoUnicodeStrikeout => config.unicode_strikeout(false),
+            PageOption::AllowWidthOverflow => config.allow_width_overflow(),
+            PageOption::RawMode(raw) => config.raw_mode(raw),
+            PageOption::NoTableBorders => config.no_table_borders(),
+            PageOption::EmptyImgMode(mode) => config.empty_img_mode(mode),
+            PageOption::LinkFootnotes(include) => config.link_footnotes(include),
+            PageOption::SharedFootnotes(shared) => config.shared_footnotes(shared),
+        }
+    }
+}
+
+/// The option that a word names. `empty_img_mode=Replace,R S` is two words, of which the second names none.
+pub(crate) fn option_of(word: &str) -> Result<Option<PageOption>> {
+    let option = match word.split_once('=') {
+        Some((name, value)) => option_with(name, value)?,
+        None => match word {
+            "" | "S" => return Ok(None),
+            "pad_block_width" => PageOption::PadBlockWidth,
+            "fence_tables" => PageOption::FenceTables,
+            "no_link_wrapping" => PageOption::NoLinkWrapping,
+            "no_unicode_strikeout" => PageOption::NoUnicodeStrikeout,
+            "allow_width_overflow" => PageOption::AllowWidthOverflow,
+            "no_table_borders" => PageOption::NoTableBorders,
+            _ => bail!("no option has the name {word}"),
+        },
+    };
+    Ok(Some(option))
+}
+
+fn option_with(name: &str, value: &str) -> Result<PageOption> {
+    match (name, value) {
+        ("max_wrap_width", columns) => Ok(PageOption::MaxWrapWidth(columns.parse()?)),
+        ("min_wrap_width", columns) => Ok(PageOption::MinWrapWidth(columns.parse()?)),
+        ("raw_mode", raw) => Ok(PageOption::RawMode(raw.parse()?)),
+        ("link_footnotes", include) => Ok(PageOption::LinkFootnotes(include.parse()?)),
+        ("shared_footnotes", shared) => Ok(PageOption::SharedFootnotes(shared.parse()?)),
+        ("empty_img_mode", "ShowAlways") => {
+            Ok(PageOption::EmptyImgMode(ImageRenderMode::ShowAlways))
+        }
+        ("empty_img_mode", "Filename") => Ok(PageOption::EmptyImgMode(ImageRenderMode::Filename)),
+        ("empty_img_mode", "Replace,R") => {
+            Ok(PageOption::EmptyImgMode(ImageRenderMode::Replace("R S")))
+        }
+        _ => bail!("no option has the name {name} and the value {value}"),
+    }
+}
