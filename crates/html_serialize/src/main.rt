@@ -3,39 +3,26 @@
 //! the basic one.
 #![tactic(auto)]
 
-mod error;
-
+use anyhow::{Result, bail};
 use dom_serializer::html_render_dom::{Handle, RcDom};
 use dom_serializer::html_serializer::{SerializeOpts, TraversalScope, serialize};
 use dom_serializer::{SerializableHandle, SerializeDom};
-use error::Error;
 use html_tree_builder::html_lexemes::{
-    Attributes, Device, LocalName, Namespace, QualName, ReferenceTable,
+    Attributes, Device, LocalName, Namespace, ParseFault, QualName, ReferenceTable,
 };
 use html_tree_builder::{ParseOpts, parse_fragment_pieces, parse_pieces};
 use std::alloc::{AllocError, Global};
 use std::io::{BufWriter, Write};
-use std::process::ExitCode;
 use std::rt::Env;
 use std::{env, io};
 
 /// Ends with status 0 where the whole tree was written, and else 1 with a text on standard error.
-fn main(rt: HostRuntime) -> ExitCode {
-    match rewrite(&rt) {
-        Ok(()) => ExitCode::from(0),
-        Err(error) => {
-            let _ = eprintln!(&rt; "html_serialize: {error}");
-            ExitCode::from(1)
-        }
-    }
-}
-
-fn rewrite<R: Env + Input + Print + AllocGlobal>(rt: &R) -> Result<(), Error> {
+fn main(rt: HostRuntime) -> Result<()> {
     let alloc = rt.alloc();
-    let context = context_of(rt)?;
+    let context = context_of(&rt)?;
     let page = io::read_to_string(alloc, rt.reader())?;
     let pieces = alone(alloc, page)?;
-    let mut output = Device::new(BufWriter::new(alloc, io::writer(rt))?);
+    let mut output = Device::new(BufWriter::new(alloc, io::writer(&rt))?);
     match context {
         None => write_page(alloc, pieces, &mut output)?,
         Some(name) => write_fragment(alloc, name, pieces, &mut output)?,
@@ -50,26 +37,22 @@ fn alone(alloc: Global, page: String) -> Result<Vec<String>, AllocError> {
 }
 
 /// The name of the element that a fragment stands in, where the command line has one.
-fn context_of<R: Env + AllocGlobal>(rt: &R) -> Result<Option<QualName>, Error> {
+fn context_of<R: Env + AllocGlobal>(rt: &R) -> Result<Option<QualName>> {
     let mut words = env::args(rt)?.skip(1);
     let Some(option) = words.next() else {
         return Ok(None);
     };
     if option.as_str() != "--fragment" {
-        return Err(Error::Words);
+        bail!("no option has the name {option}");
     }
     let (Some(name), None) = (words.next(), words.next()) else {
-        return Err(Error::Words);
+        bail!("--fragment has one name behind it");
     };
     let local = LocalName::from_str(rt.alloc(), name.as_str())?;
     Ok(Some(QualName::new(Namespace::Html, local)))
 }
 
-fn write_page<W: Write>(
-    alloc: Global,
-    pieces: Vec<String>,
-    output: &mut Device<W>,
-) -> Result<(), Error> {
+fn write_page<W: Write>(alloc: Global, pieces: Vec<String>, output: &mut Device<W>) -> Result<()> {
     let table = ReferenceTable::basic(alloc)?;
     let sink = RcDom::new(alloc)?;
     let dom = parse_pieces(alloc, sink, ParseOpts::default(), table, pieces)?;
@@ -83,7 +66,7 @@ fn write_fragment<W: Write>(
     name: QualName,
     pieces: Vec<String>,
     output: &mut Device<W>,
-) -> Result<(), Error> {
+) -> Result<()> {
     let mut opts = SerializeOpts::default();
     opts.traversal_scope = TraversalScope::ChildrenOnly(Some(name.try_clone()?));
     let dom = tree_of_fragment(alloc, name, pieces)?;
@@ -92,13 +75,17 @@ fn write_fragment<W: Write>(
     Ok(())
 }
 
-fn tree_of_fragment(alloc: Global, name: QualName, pieces: Vec<String>) -> Result<RcDom, Error> {
+fn tree_of_fragment(
+    alloc: Global,
+    name: QualName,
+    pieces: Vec<String>,
+) -> Result<RcDom, ParseFault> {
     let table = ReferenceTable::basic(alloc)?;
     let sink = RcDom::new(alloc)?;
     let attrs = Attributes::new(alloc);
     let opts = ParseOpts::default();
     let scripting = opts.tree_builder.scripting_enabled;
-    Ok(parse_fragment_pieces(alloc, sink, opts, table, name, attrs, scripting, pieces)?)
+    parse_fragment_pieces(alloc, sink, opts, table, name, attrs, scripting, pieces)
 }
 
 /// The root, which is the document's one child.

@@ -10,6 +10,7 @@ use token_lines::{Listed, Told, lines_of};
 use token_sinks::KeptTokens;
 
 /// How a text is read, and what of it has lines.
+#[derive(Drop)]
 struct Tokenizing<'a> {
     /// Whether its tokens, its errors or both.
     told: Told,

@@ -12,6 +12,7 @@ use tree_lines::{lines_below, lines_of};
 const MOST_CUT: usize = 64;
 
 /// How a page or a fragment is parsed.
+#[derive(Clone, Copy)]
 struct Parsing<'a> {
     /// The name of a fragment's context, behind `svg:` or `mathml:` where it is an element of these; `\N` of a page.
     context: &'a str,
