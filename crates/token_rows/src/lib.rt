@@ -1,12 +1,23 @@
-//! What a tokenizer tells a sink that chooses kinds of text, pauses, states and refusals. It has tests alone; rows of
-//! pages are told by the stored run of page_tokens.
+//! Tests alone, with answers from outside: calls of the lowest layers, the parse errors of lexemes, and what a tokenizer
+//! tells a sink that chooses kinds of text, pauses, states and refusals. Rows of pages are told by the stored run of
+//! page_tokens.
 #![tactic(auto)]
 
 #[cfg(test)]
 mod checks;
 #[cfg(test)]
+mod device_tests;
+#[cfg(test)]
+mod error_tests;
+#[cfg(test)]
 mod feeding;
+#[cfg(test)]
+mod names_tests;
+#[cfg(test)]
+mod page_tests;
+#[cfg(test)]
+mod queue_tests;
 #[cfg(test)]
 mod sinks;
 #[cfg(test)]
-mod tests;
+mod table_tests;

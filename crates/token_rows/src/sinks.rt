@@ -12,12 +12,19 @@ use token_lines::{Listed, Told};
 /// The handle of each script element.
 pub(crate) const SCRIPT_HANDLE: u32 = 7;
 
-/// Writes lines; has the text behind the start tags of three names, and behind the end tags of two, read as text of a
-/// kind; and asks for a pause at the end tag of a script element, and at a start tag that names an encoding.
+/// The encoding that start tags name.
+pub(crate) const ENCODING: &str = "latin1";
+
+/// Writes lines; has the text after the start tags of three names, and after the end tags of two, read as text of a
+/// kind; and asks for a pause at the end tag of a script element, and at a start tag that names an encoding. It takes a
+/// number of tokens, and refuses the next.
 #[derive(Drop)]
 pub(crate) struct Switching {
-    /// What was told.
+    /// The tokens' lines.
     pub(crate) told: Listed,
+    /// The line of the last tag, and 0 before the first.
+    pub(crate) tag_line: u64,
+    left: u64,
     rcdata: LocalName,
     script: LocalName,
     plaintext: LocalName,
@@ -26,15 +33,17 @@ pub(crate) struct Switching {
 }
 
 impl Switching {
-    /// No lines yet, the names `title`, `script`, `plaintext` and `meta`, and an encoding.
-    pub(crate) fn new(alloc: Global, encoding: &str) -> Result<Switching, AllocError> {
+    /// Takes so many tokens. The names are `title`, `script`, `plaintext` and `meta`, the encoding is `latin1`.
+    pub(crate) fn new(alloc: Global, left: u64) -> Result<Switching, AllocError> {
         Ok(Switching {
             told: Listed::new(alloc, Told::Tokens, false),
+            tag_line: 0,
+            left,
             rcdata: LocalName::from_str(alloc, "title")?,
             script: LocalName::from_str(alloc, "script")?,
             plaintext: LocalName::from_str(alloc, "plaintext")?,
             meta: LocalName::from_str(alloc, "meta")?,
-            encoding: Text::from_str(alloc, encoding)?,
+            encoding: Text::from_str(alloc, ENCODING)?,
         })
     }
 
@@ -106,8 +115,15 @@ impl TokenSink for Switching {
         token: Token,
         line: u64,
     ) -> Result<TokenSinkResult<u32>, ParseFault> {
+        let Some(left) = self.left.checked_sub(1) else {
+            return Err(ParseFault::Memory);
+        };
+        self.left = left;
         let answer = match &token {
-            Token::TagToken(tag) => self.asked_by(tag)?,
+            Token::TagToken(tag) => {
+                self.tag_line = line;
+                self.asked_by(tag)?
+            }
             _ => TokenSinkResult::Continue,
         };
         self.told.process_token(token, line)?;
@@ -116,72 +132,6 @@ impl TokenSink for Switching {
 
     fn end(&mut self) -> Result<(), ParseFault> {
         self.told.end()
-    }
-
-    fn adjusted_current_node_present_but_not_in_html_namespace(&self) -> bool {
-        false
-    }
-}
-
-/// Takes a number of tokens, and refuses the next. It keeps the line of the last tag.
-#[derive(Drop)]
-pub(crate) struct Counting {
-    /// The line of the last tag, and 0 before the first.
-    pub(crate) tag_line: u64,
-    left: u64,
-}
-
-impl Counting {
-    /// Takes so many tokens.
-    pub(crate) fn new(left: u64) -> Counting {
-        Counting { tag_line: 0, left }
-    }
-}
-
-impl TokenSink for Counting {
-    type Handle = u32;
-
-    ghost Abstract = { Unit {0} };
-
-    ghost state = { λ _. tt };
-
-    ghost means = { record { step = λ s _. s; reply = λ _ _. Continue; foreign = λ _. false } };
-
-    ghost ready = { λ _. Unit {0} };
-
-    ghost welcomes = { λ _ _. Unit {0} };
-
-    ghost close = { λ s. s };
-
-    ghost lawful = { record {
-      joins = λ _ _ _. refl;
-      skips = λ _. refl;
-      answers = λ _ _ _. refl;
-      keeps = λ _ _ r. r;
-      forgets = λ _ _ _. refl;
-      still_answers = λ _ _. refl;
-      still_foreign = λ _. refl;
-    } };
-
-    ghost hearing = { record { goes_on = λ _ _ _ _ _ h. h; asks = λ _ _ _ _ _. tt } };
-
-    fn process_token(
-        &mut self,
-        token: Token,
-        line: u64,
-    ) -> Result<TokenSinkResult<u32>, ParseFault> {
-        let Some(left) = self.left.checked_sub(1) else {
-            return Err(ParseFault::Memory);
-        };
-        self.left = left;
-        if let Token::TagToken(_) = token {
-            self.tag_line = line;
-        }
-        Ok(TokenSinkResult::Continue)
-    }
-
-    fn end(&mut self) -> Result<(), ParseFault> {
-        Ok(())
     }
 
     fn adjusted_current_node_present_but_not_in_html_namespace(&self) -> bool {

@@ -3,7 +3,7 @@ ghost use Rattle.std.specs.Prelude.{◌≡◌, IfOk, OnOk, false, true};
 ghost use Rattle.html_forest.specs.Forest.{page_alone};
 ghost use Rattle.tree_rows.specs.Pages.{one_element, point_page, template_page, with_both};
 
-use crate::outline::PLAIN;
+use crate::words::PLAIN;
 use html_lexemes::{Attributes, ErrorMessage, ParseFault, QualName};
 use html_render_dom::html_forest::{ElementFlags, NodeOrText, QuirksMode, TreeSink};
 use std::alloc::Global;

@@ -3,7 +3,7 @@ ghost use Rattle.std.specs.Prelude.{◌≡◌, OnOk};
 ghost use Rattle.html_forest.specs.Forest.{page_alone};
 ghost use Rattle.tree_rows.specs.Pages.{fostered, given_page, moved, refilled_page, reparented_page};
 
-use crate::outline::PLAIN;
+use crate::words::PLAIN;
 use html_lexemes::{Attributes, ParseFault, QualName};
 use html_render_dom::html_forest::{NodeOrText, TreeSink};
 use std::alloc::Global;

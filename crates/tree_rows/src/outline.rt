@@ -3,14 +3,9 @@ ghost use Rattle.std.specs.Prelude.{◌≡◌, OnOk};
 ghost use Rattle.html_forest.specs.Forest.{page_alone};
 ghost use Rattle.tree_rows.specs.Pages.{outline, with_remarks};
 
+use crate::words::PLAIN;
 use html_lexemes::{Attributes, ParseFault, QualName, Text};
-use html_render_dom::html_forest::{ElementFlags, NodeOrText, TreeSink};
-
-/// No template, and no integration point.
-pub(crate) const PLAIN: ElementFlags = ElementFlags {
-    template: false,
-    mathml_annotation_xml_integration_point: false,
-};
+use html_render_dom::html_forest::{NodeOrText, TreeSink};
 
 /// What a doctype says.
 #[derive(Drop)]

@@ -3,7 +3,7 @@ ghost use Rattle.std.specs.Prelude.{◌≡◌, IfOk, OnOk, codes};
 ghost use Rattle.html_forest.specs.Forest.{page_alone};
 ghost use Rattle.tree_rows.specs.Pages.{said_page};
 
-use crate::outline::PLAIN;
+use crate::words::PLAIN;
 use html_lexemes::{Attributes, ParseFault, QualName, Text};
 use html_render_dom::html_forest::{NodeOrText, TreeSink};
 use std::alloc::{AllocError, Global};

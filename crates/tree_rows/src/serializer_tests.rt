@@ -1,7 +1,7 @@
 //! What a serializer writes, with texts written down from the standard (WHATWG HTML, 13.3).
 use crate::checks::{holds, told};
-use crate::parsing::html_name;
-use html_lexemes::{Attribute, Device, LocalName, Namespace, QualName, Text};
+use crate::words::{attributes, html_name};
+use html_lexemes::Device;
 use html_serializer::{HtmlSerializer, SerializeFault, SerializeOpts, Serializer};
 use std::alloc::Global;
 use std::io;
@@ -49,10 +49,8 @@ fn tell<S: Serializer>(
     match *call {
         Call::Start(word, None) => serializer.start_elem(&html_name(alloc, word)?, &[]),
         Call::Start(word, Some(value)) => {
-            let nowhere = Namespace::Other(Text::from_str(alloc, "")?);
-            let name = QualName::new(nowhere, LocalName::from_str(alloc, "x")?);
-            let value = Text::from_str(alloc, value)?;
-            serializer.start_elem(&html_name(alloc, word)?, &[Attribute { name, value }])
+            let attrs = attributes(alloc, &[("x", value)])?;
+            serializer.start_elem(&html_name(alloc, word)?, attrs.as_slice())
         }
         Call::Text(text) => serializer.write_text(text),
         Call::End(word) => serializer.end_elem(&html_name(alloc, word)?),
@@ -95,40 +93,34 @@ const ANCHOR: &[Call] = &[
 
 const ANCHOR_TEXT: &str = "<a x=\"&quot;&lt;&amp;&gt;\">&lt;&gt;\"&amp;&nbsp;</a>";
 
-// calls, how many are done before one finds no parent, and what is written
-type Row = (&'static [Call], usize, &'static str);
-
-static CALLS: [Row; 3] = [
-    (ANCHOR, 3, ANCHOR_TEXT),
-    (
-        &[
-            Call::Doctype("html"),
-            Call::Comment("a<b"),
-            Call::Instruction("t", "c"),
-            Call::Start("style", None),
-            Call::Text("a<b"),
-            Call::End("style"),
-            Call::Start("br", None),
-            Call::End("br"),
-        ],
-        8,
-        "<!DOCTYPE html><!--a<b--><?t c><style>a<b</style><br>",
-    ),
-    // the one entry that a new serializer has is closed by the first end tag
-    (
-        &[
-            Call::End("p"),
-            Call::End("p"),
-            Call::Text("a"),
-            Call::Start("p", None),
-        ],
-        1,
-        "</p>",
-    ),
+const PARTS: &[Call] = &[
+    Call::Doctype("html"),
+    Call::Comment("a<b"),
+    Call::Instruction("t", "c"),
+    Call::Start("style", None),
+    Call::Text("a<b"),
+    Call::End("style"),
+    Call::Start("br", None),
+    Call::End("br"),
 ];
 
-fn is_written(alloc: Global, row: &Row) -> Result<bool, SerializeFault> {
-    let (calls, most, text) = *row;
+const PARTS_TEXT: &str = "<!DOCTYPE html><!--a<b--><?t c><style>a<b</style><br>";
+
+// the one entry that a new serializer has is closed by the first end tag
+const ENDS: &[Call] = &[
+    Call::End("p"),
+    Call::End("p"),
+    Call::Text("a"),
+    Call::Start("p", None),
+];
+
+// whether this is written, and so many calls are done, and each of the others finds no parent
+fn is_written(
+    alloc: Global,
+    calls: &[Call],
+    most: usize,
+    text: &str,
+) -> Result<bool, SerializeFault> {
     let (done, refused, bytes) = written(alloc, usize::MAX, calls, SerializeFault::NoParent)?;
     let is_told = done == most && done.saturating_add(refused) == calls.len();
     Ok(is_told && bytes.as_slice() == text.as_bytes())
@@ -136,9 +128,9 @@ fn is_written(alloc: Global, row: &Row) -> Result<bool, SerializeFault> {
 
 #[test]
 fn each_call_writes_its_text(rt: HostRuntime) {
-    for (row, calls) in CALLS.iter().enumerate() {
-        told(&rt, is_written(rt.alloc(), calls), row);
-    }
+    told(&rt, is_written(rt.alloc(), ANCHOR, 3, ANCHOR_TEXT), 0);
+    told(&rt, is_written(rt.alloc(), PARTS, 8, PARTS_TEXT), 1);
+    told(&rt, is_written(rt.alloc(), ENDS, 1, "</p>"), 2);
 }
 
 // whether a beginning of the text is written where so many writes are done

@@ -4,10 +4,9 @@ ghost use Rattle.html_forest.specs.Forest.{page_alone};
 ghost use Rattle.html_tree_state.specs.Building.{seen};
 ghost use Rattle.html_tree_state.specs.Sound.{Sound};
 
+use crate::words::attributes;
 use html_forest::{QuirksMode, TreeSink, a_page_alone_is_a_forest};
-use html_lexemes::{
-    Attribute, Attributes, LocalName, Namespace, ParseFault, QualName, Tag, TagKind, Text,
-};
+use html_lexemes::{Attributes, LocalName, Namespace, ParseFault, QualName, Tag, TagKind, Text};
 use html_tree_state::{Construction, ElementSet, Held, PushFlag};
 use name_sets::is_formatting_tag;
 use std::alloc::{AllocError, Global};
@@ -192,16 +191,4 @@ pub(crate) fn start_tag(alloc: Global, name: &str, attrs: Attributes) -> Result<
         attrs,
         had_duplicate_attributes: false,
     })
-}
-
-// attributes in no namespace
-fn attributes(alloc: Global, told: &[(&str, &str)]) -> Result<Attributes, AllocError> {
-    let mut all = Attributes::new(alloc);
-    for (name, value) in told {
-        let ns = Namespace::Other(Text::from_str(alloc, "")?);
-        let name = QualName::new(ns, LocalName::from_str(alloc, name)?);
-        let value = Text::from_str(alloc, value)?;
-        all.push(Attribute { name, value })?;
-    }
-    Ok(all)
 }

@@ -18,8 +18,8 @@ const BOLD: Step = Step::Format("b", &[]);
 
 const FOUR: &[Step] = &[BOLD, BOLD, BOLD, BOLD];
 
-/// Steps before and behind, and the lines of the tree.
-pub(crate) static PAGES: [(&[Step], &[Step], &str); 6] = [
+/// Steps that begin a page, those that follow, and what holds then.
+pub(crate) static ROWS: [(&[Step], &[Step], &[Fact]); 26] = [
     // a text joins the text right before it (13.2.6.1); an attribute that is there keeps its value
     (
         BODY,
@@ -35,7 +35,8 @@ pub(crate) static PAGES: [(&[Step], &[Step], &str); 6] = [
             Step::Add(&[("lang", "en")]),
             Step::Mode(QuirksMode::LimitedQuirks),
         ],
-        "quirks\tLimitedQuirks
+        &[Fact::Lines(
+            "quirks\tLimitedQuirks
 element\thtml\thtml
  element\thtml\thead
  element\thtml\tbody
@@ -47,6 +48,7 @@ element\thtml\thtml
     comment\tc
 comment\td
 ",
+        )],
     ),
     // "close a p element" pops up to it (13.2.6.4.7); a button ends button scope (13.2.4.2)
     (
@@ -61,7 +63,8 @@ comment\td
             Step::ClosePInButtonScope,
             Step::Say("y"),
         ],
-        "quirks\tNoQuirks
+        &[Fact::Lines(
+            "quirks\tNoQuirks
 element\thtml\thtml
  element\thtml\thead
  element\thtml\tbody
@@ -72,6 +75,7 @@ element\thtml\thtml
    element\thtml\tbutton
     text\ty
 ",
+        )],
     ),
     // with the table current all goes before it, and what is in an `i` into that (13.2.6.1)
     (
@@ -87,7 +91,8 @@ element\thtml\thtml
             Step::Say("z"),
             Step::Open("tbody"),
         ],
-        "quirks\tNoQuirks
+        &[Fact::Lines(
+            "quirks\tNoQuirks
 element\thtml\thtml
  element\thtml\thead
  element\thtml\tbody
@@ -98,6 +103,7 @@ element\thtml\thtml
    text\tz
    element\thtml\ttbody
 ",
+        )],
     ),
     // the end tags of `p` and `li` are implied, that of `ul` isn't (13.2.6.3)
     (
@@ -121,7 +127,8 @@ element\thtml\thtml
             Step::PopTo("h1"),
             Step::Say("v"),
         ],
-        "quirks\tNoQuirks
+        &[Fact::Lines(
+            "quirks\tNoQuirks
 element\thtml\thtml
  element\thtml\thead
  element\thtml\tbody
@@ -138,6 +145,7 @@ element\thtml\thtml
    element\thtml\ti
   text\tv
 ",
+        )],
     ),
     // an end tag closes up to its element, and is ignored where a special one stands before it (13.2.6.4.7)
     (
@@ -152,7 +160,8 @@ element\thtml\thtml
             Step::End("em"),
             Step::Say("y"),
         ],
-        "quirks\tNoQuirks
+        &[Fact::Lines(
+            "quirks\tNoQuirks
 element\thtml\thtml
  element\thtml\thead
  element\thtml\tbody
@@ -163,6 +172,7 @@ element\thtml\thtml
    element\thtml\tdiv
     text\ty
 ",
+        )],
     ),
     // `desc` is an HTML integration point, `svg` and `g` are popped (13.2.6.5)
     (
@@ -177,7 +187,8 @@ element\thtml\thtml
             Step::BreakOut,
             Step::Say("y"),
         ],
-        "quirks\tNoQuirks
+        &[Fact::Lines(
+            "quirks\tNoQuirks
 element\thtml\thtml
  element\thtml\thead
  element\thtml\tbody
@@ -187,11 +198,8 @@ element\thtml\thtml
    element\tsvg\tg
   text\ty
 ",
+        )],
     ),
-];
-
-/// Steps before and behind, and what holds then.
-pub(crate) static ASKED: [(&[Step], &[Step], &[Fact]); 20] = [
     // scope, list item scope, button scope and table scope end at other elements (13.2.4.2)
     (
         BODY,

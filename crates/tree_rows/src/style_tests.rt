@@ -172,15 +172,18 @@ const CLASS: Specificity = Specificity {
 // the value behind two declarations
 fn behind(first: Specificity, second: Specificity) -> Option<u8> {
     let mut property = WithSpec::default();
-    for (specificity, val) in [(first, 1), (second, 2)] {
-        property.maybe_update(Declared {
-            importance: NORMAL,
-            origin: StyleOrigin::Author,
-            specificity,
-            val,
-        });
-    }
+    property.maybe_update(declared(first, 1));
+    property.maybe_update(declared(second, 2));
     property.val().copied()
+}
+
+fn declared(specificity: Specificity, val: u8) -> Declared<u8> {
+    Declared {
+        importance: NORMAL,
+        origin: StyleOrigin::Author,
+        specificity,
+        val,
+    }
 }
 
 // a class goes over any names, a count that is full stays, and specificities are in order

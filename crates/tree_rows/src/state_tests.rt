@@ -2,35 +2,29 @@
 ghost use Rattle.html_tree_state.specs.Building.{seen};
 ghost use Rattle.html_tree_state.specs.Sound.{Sound};
 
+use crate::checks::told;
 use crate::fact::{Fact, is_so};
 use crate::lists::is_listed;
-use crate::rows::{ASKED, PAGES};
+use crate::rows::ROWS;
 use crate::step::{Step, begun, take_all};
+use formatting_list::FormattingList;
 use html_forest::TreeSink;
 use html_lexemes::ParseFault;
 use html_render_dom::RcDom;
 use html_tree_state::Construction;
 use std::alloc::Global;
-use std::process::Abort;
-use tree_lines::lines_of;
 
-// whether all of these hold behind steps, and the lines of the tree are these, where they are told
+// whether all of these hold after steps
 fn is_built(
     alloc: Global,
     first: &[Step],
     steps: &[Step],
     facts: &[Fact],
-    lines: Option<&str>,
 ) -> Result<bool, ParseFault> {
     let mut tree = begun(alloc, RcDom::new(alloc)?);
     let answer = are_so(&mut tree, alloc, first, steps, facts);
-    let Construction { held: _, sink } = tree;
-    let told = lines_of(alloc, &sink)?;
-    let is_told = match lines {
-        Some(lines) => told.as_str() == lines,
-        None => true,
-    };
-    Ok(answer? && is_told)
+    let Construction { held: _, sink: _ } = tree;
+    answer
 }
 
 fn are_so(
@@ -53,31 +47,20 @@ fn are_so(
     Ok(true)
 }
 
-/// Ends the test where something does not hold, or was refused.
-fn told<R: Abort>(rt: &R, answer: Result<bool, ParseFault>, row: usize) {
-    let is_so = answer.unwrap_or(false);
-    assert!(rt; is_so, "in row {row}");
-}
-
 #[test]
-fn pages_are_built(rt: HostRuntime) {
-    for (row, (first, steps, lines)) in PAGES.iter().enumerate() {
-        told(
-            &rt,
-            is_built(rt.alloc(), first, steps, &[], Some(lines)),
-            row,
-        );
+fn trees_are_built_step_by_step(rt: HostRuntime) {
+    for (row, (first, steps, facts)) in ROWS.iter().enumerate() {
+        told(&rt, is_built(rt.alloc(), first, steps, facts), row);
     }
 }
 
-#[test]
-fn what_is_asked_is_so(rt: HostRuntime) {
-    for (row, (first, steps, facts)) in ASKED.iter().enumerate() {
-        told(&rt, is_built(rt.alloc(), first, steps, facts, None), row);
-    }
+fn is_changed(alloc: Global) -> Result<bool, ParseFault> {
+    let mut dom = RcDom::new(alloc)?;
+    let mut list = FormattingList::new(alloc);
+    is_listed(alloc, &mut dom, &mut list)
 }
 
 #[test]
 fn a_list_is_changed(rt: HostRuntime) {
-    told(&rt, is_listed(rt.alloc()), 0);
+    told(&rt, is_changed(rt.alloc()), 0);
 }

@@ -1,6 +1,6 @@
 use Rattle.html_tree_state.specs.Building.{seen}
 use Rattle.html_tree_state.specs.Sound.{Sound}
-use Rattle.state_rows.proofs.step.take_all.Given as goal
+use Rattle.tree_rows.proofs.step.take_all.Given as goal
 
 abbrev pub invariant-steps : goal.invariant-steps
 invariant-steps g l =

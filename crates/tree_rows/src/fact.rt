@@ -3,11 +3,13 @@ ghost use Rattle.html_tree_state.specs.Building.{seen};
 ghost use Rattle.html_tree_state.specs.Sound.{Sound};
 
 use crate::step::set_of;
+use crate::words::html_name;
 use html_forest::TreeSink;
-use html_lexemes::{LocalName, Namespace, ParseFault, QualName};
+use html_lexemes::ParseFault;
 use html_render_dom::RcDom;
 use html_tree_state::{Construction, Scope, html_elem};
 use std::alloc::Global;
+use tree_lines::lines_of;
 use tree_words::InsertionMode;
 
 /// What should hold. A node is told by the path that leads to it from the document.
@@ -26,6 +28,8 @@ pub(crate) enum Fact {
     Root(usize, &'static [usize]),
     /// How many elements are listed behind the last marker, and how many entries there are.
     Listed(usize, usize),
+    /// The lines of the tree.
+    Lines(&'static str),
 }
 
 /// Whether it holds.
@@ -38,6 +42,33 @@ pub(crate) fn is_so(
         tree.now.held tree.now.sink) }
 {
     let dom = &tree.sink;
+    match *fact {
+        Fact::Current(current, adjusted) => {
+            let document = dom.document();
+            let is_current = tree.adjusted_current_node(None) == dom.get_node_by_path(current);
+            let node = dom.get_node_by_path(adjusted);
+            Ok(is_current && tree.adjusted_current_node(Some(document)) == node)
+        }
+        Fact::Root(count, root) => {
+            let open = tree.held.open_elements();
+            let is_so = !open.is_empty()
+                && open.len() == count
+                && Some(*html_elem(open)) == dom.get_node_by_path(root);
+            Ok(is_so)
+        }
+        Fact::Lines(lines) => Ok(lines_of(alloc, dom)?.as_str() == lines),
+        _ => is_asked(tree, alloc, fact),
+    }
+}
+
+// whether what is asked without a path holds
+fn is_asked<S: TreeSink>(
+    tree: &Construction<S>,
+    alloc: Global,
+    fact: &Fact,
+) -> Result<bool, ParseFault>
+    requires { Sound (seen S.number S.forest S.quirks tree.now.held tree.now.sink) }
+{
     Ok(match *fact {
         Fact::Scopes(name, default, list_item, button, table) => {
             let set = set_of(name);
@@ -51,26 +82,16 @@ pub(crate) fn is_so(
             tree.reset_insertion_mode(None, true, Some(InsertionMode::InTableBody)) == told
         }
         Fact::RootMode(Some(name), has_head, told) => {
-            let context = QualName::new(Namespace::Html, LocalName::from_str(alloc, name)?);
+            let context = html_name(alloc, name)?;
             tree.reset_insertion_mode(Some(&context), has_head, None) == told
         }
         Fact::RootMode(None, has_head, told) => {
             tree.reset_insertion_mode(None, has_head, None) == told
         }
-        Fact::Current(current, adjusted) => {
-            tree.adjusted_current_node(None) == dom.get_node_by_path(current)
-                && tree.adjusted_current_node(Some(dom.document()))
-                    == dom.get_node_by_path(adjusted)
-        }
-        Fact::Root(count, root) => {
-            let open = tree.held.open_elements();
-            !open.is_empty()
-                && open.len() == count
-                && Some(*html_elem(open)) == dom.get_node_by_path(root)
-        }
         Fact::Listed(behind, count) => {
             let list = tree.held.formatting();
             list.iter_to_marker().count() == behind && list.as_slice().len() == count
         }
+        _ => false,
     })
 }

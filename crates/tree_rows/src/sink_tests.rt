@@ -2,19 +2,18 @@
 ghost use Rattle.std.specs.Prelude.{◌≡◌};
 ghost use Rattle.html_forest.specs.Forest.{page_alone};
 
+use crate::checks::told;
 use crate::crowds::crowd;
 use crate::elements::{add_twice, ask, fill_template, tell_all};
 use crate::finished::finished;
 use crate::moves::{foster, give_children, move_siblings, refill, wrap_children};
 use crate::outline::{Declared, build_outline, build_remarks};
 use crate::texts::say_around;
-use html_lexemes::{
-    Attribute, Attributes, ErrorMessage, LocalName, Namespace, ParseFault, QualName, Text,
-};
+use crate::words::{attributes, html_name, html_names};
+use html_lexemes::{Attributes, ErrorMessage, LocalName, Namespace, ParseFault, QualName, Text};
 use html_render_dom::html_forest::{QuirksMode, TreeSink};
 use html_render_dom::{Handle, NodeData, RcDom};
-use std::alloc::{AllocError, Global};
-use std::process::Abort;
+use std::alloc::Global;
 use tree_lines::lines_of;
 
 /// What is built.
@@ -118,29 +117,13 @@ element\thtml\ttemplate
     ),
 ];
 
-fn html(alloc: Global, name: &str) -> Result<QualName, AllocError> {
-    Ok(QualName::new(Namespace::Html, LocalName::from_str(alloc, name)?))
-}
-
-// attributes in no namespace
-fn attributes(alloc: Global, told: &[(&str, &str)]) -> Result<Attributes, AllocError> {
-    let mut all = Attributes::new(alloc);
-    for (name, value) in told {
-        let ns = Namespace::Other(Text::from_str(alloc, "")?);
-        let name = QualName::new(ns, LocalName::from_str(alloc, name)?);
-        let value = Text::from_str(alloc, value)?;
-        all.push(Attribute { name, value })?;
-    }
-    Ok(all)
-}
-
 // a doctype, and two elements below one that has attributes
-fn outline(
+fn outline<S: TreeSink>(
     alloc: Global,
-    dom: &mut RcDom,
+    sink: &mut S,
     names: (QualName, QualName, QualName),
 ) -> Result<(), ParseFault>
-    requires { ⟦<RcDom as TreeSink>⟧.forest dom.old ≡ page_alone }
+    requires { S.forest sink.old ≡ page_alone }
 {
     let doctype = Declared {
         name: Text::from_str(alloc, "html")?,
@@ -149,50 +132,55 @@ fn outline(
     };
     let lang = attributes(alloc, &[("lang", "en"), ("id", "")])?;
     let attrs = (lang, Attributes::new(alloc), Attributes::new(alloc));
-    build_outline(dom, doctype, names, attrs)
+    build_outline(sink, doctype, names, attrs)
 }
 
-fn built(alloc: Global, page: &Page, words: &[&str; 4]) -> Result<RcDom, ParseFault> {
-    let mut dom = RcDom::new(alloc)?;
-    let a = html(alloc, words[0])?;
-    let b = html(alloc, words[1])?;
-    let c = html(alloc, words[2])?;
+fn remarks<S: TreeSink>(alloc: Global, sink: &mut S) -> Result<(), ParseFault>
+    requires { S.forest sink.old ≡ page_alone }
+{
+    let text = Text::from_str(alloc, "x")?;
+    let target = Text::from_str(alloc, "go")?;
+    let said = Text::from_str(alloc, "y z")?;
+    build_remarks(sink, text, target, said)
+}
+
+fn added<S: TreeSink>(alloc: Global, sink: &mut S, name: QualName) -> Result<(), ParseFault>
+    requires { S.forest sink.old ≡ page_alone }
+{
+    let attrs = attributes(alloc, &[("a", "1")])?;
+    let more = attributes(alloc, &[("b", "2"), ("a", "3")])?;
+    let most = attributes(alloc, &[("a", "4"), ("c", "5"), ("b", "6")])?;
+    add_twice(sink, name, attrs, more, most)
+}
+
+fn build<S: TreeSink>(
+    alloc: Global,
+    sink: &mut S,
+    page: &Page,
+    words: &[&str; 4],
+) -> Result<(), ParseFault>
+    requires { S.forest sink.old ≡ page_alone }
+{
+    let (a, b, c, d) = html_names(alloc, words)?;
     match page {
-        Page::Outline => outline(alloc, &mut dom, (a, b, c))?,
-        Page::Remarks => build_remarks(
-            &mut dom,
-            Text::from_str(alloc, "x")?,
-            Text::from_str(alloc, "go")?,
-            Text::from_str(alloc, "y z")?,
-        )?,
-        Page::Moved => move_siblings(alloc, &mut dom, a, b, c)?,
-        Page::Fostered => foster(alloc, &mut dom, a, b, c)?,
-        Page::Wrapped => wrap_children(alloc, &mut dom, a, b, c, html(alloc, words[3])?)?,
-        Page::Given => give_children(alloc, &mut dom, a, b, c, html(alloc, words[3])?)?,
-        Page::Refilled => refill(alloc, &mut dom, a, b, c)?,
-        Page::Added => add_twice(
-            &mut dom,
-            a,
-            attributes(alloc, &[("a", "1")])?,
-            attributes(alloc, &[("b", "2"), ("a", "3")])?,
-            attributes(alloc, &[("a", "4"), ("c", "5"), ("b", "6")])?,
-        )?,
-        Page::Filled => fill_template(alloc, &mut dom, a, b, c)?,
-        Page::Said => say_around(alloc, &mut dom, a)?,
+        Page::Outline => outline(alloc, sink, (a, b, c)),
+        Page::Remarks => remarks(alloc, sink),
+        Page::Moved => move_siblings(alloc, sink, a, b, c),
+        Page::Fostered => foster(alloc, sink, a, b, c),
+        Page::Wrapped => wrap_children(alloc, sink, a, b, c, d),
+        Page::Given => give_children(alloc, sink, a, b, c, d),
+        Page::Refilled => refill(alloc, sink, a, b, c),
+        Page::Added => added(alloc, sink, a),
+        Page::Filled => fill_template(alloc, sink, a, b, c),
+        Page::Said => say_around(alloc, sink, a),
     }
-    Ok(finished(dom))
 }
 
 // whether the lines of the tree are those of its row
 fn is_built(alloc: Global, row: &Row) -> Result<bool, ParseFault> {
-    let dom = built(alloc, &row.0, &row.1)?;
-    Ok(lines_of(alloc, &dom)?.as_str() == row.2)
-}
-
-/// Ends the test where something does not hold, or was refused.
-fn told<R: Abort, E: Drop>(rt: &R, answer: Result<bool, E>, row: usize) {
-    let is_so = answer.unwrap_or(false);
-    assert!(rt; is_so, "in row {row}");
+    let mut dom = RcDom::new(alloc)?;
+    build(alloc, &mut dom, &row.0, &row.1)?;
+    Ok(lines_of(alloc, &finished(dom))?.as_str() == row.2)
 }
 
 #[test]
@@ -201,15 +189,6 @@ fn trees_are_built(rt: HostRuntime) {
         told(&rt, is_built(rt.alloc(), page), row);
     }
 }
-
-/// Modes, and the lines of a tree.
-static MODES: [(QuirksMode, &str); 2] = [
-    (
-        QuirksMode::LimitedQuirks,
-        "quirks\tLimitedQuirks\nelement\thtml\thtml\n",
-    ),
-    (QuirksMode::Quirks, "quirks\tQuirks\nelement\thtml\thtml\n"),
-];
 
 // a handle whose number a tree has not has nothing there
 fn is_foreign(dom: &RcDom, page: &RcDom) -> bool {
@@ -223,7 +202,7 @@ fn is_foreign(dom: &RcDom, page: &RcDom) -> bool {
 // the tree to which all is told that changes none, and whether a shadow root was attached
 fn told_all(alloc: Global, mode: QuirksMode) -> Result<(RcDom, bool), ParseFault> {
     let mut dom = RcDom::new(alloc)?;
-    let name = html(alloc, "html")?;
+    let name = html_name(alloc, "html")?;
     let message = ErrorMessage::Fixed("e");
     let is_attached = tell_all(alloc, &mut dom, name, message, mode)?;
     Ok((dom, is_attached))
@@ -240,9 +219,14 @@ fn is_kept(alloc: Global, mode: QuirksMode, lines: &str) -> Result<bool, ParseFa
 
 #[test]
 fn what_is_told_is_kept(rt: HostRuntime) {
-    for (row, (mode, lines)) in MODES.iter().enumerate() {
-        told(&rt, is_kept(rt.alloc(), *mode, lines), row);
-    }
+    let lines = "quirks\tLimitedQuirks\nelement\thtml\thtml\n";
+    told(
+        &rt,
+        is_kept(rt.alloc(), QuirksMode::LimitedQuirks, lines),
+        0,
+    );
+    let lines = "quirks\tQuirks\nelement\thtml\thtml\n";
+    told(&rt, is_kept(rt.alloc(), QuirksMode::Quirks, lines), 1);
 }
 
 // two elements of other namespaces are told as they were made, and stand nowhere

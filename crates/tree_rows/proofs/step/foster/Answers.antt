@@ -1,4 +1,4 @@
-use Rattle.state_rows.proofs.step.foster.Goals as goal
+use Rattle.tree_rows.proofs.step.foster.Goals as goal
 
 pub returns : goal.returns
 returns g c = rw (c.set_fostering.ensures) (record {
