@@ -80,11 +80,11 @@ fn has(sink: Switching, held: &Held) -> Result<bool, ParseFault> {
 }
 
 // of a page that is read plainly
-fn is_read(alloc: Global, page: &str, held: &Held) -> Result<bool, ParseFault> {
+fn is_read(alloc: Global, page: &str, log: &str) -> Result<bool, ParseFault> {
     let mut sink = Switching::new(alloc, u64::MAX)?;
     let table = ReferenceTable::basic(alloc)?;
     read_plainly(alloc, &mut sink, options(), &table, page)?;
-    has(sink, held)
+    Ok(sink.told.into_text()?.as_str() == log)
 }
 
 // of a page that is fed in pieces
@@ -101,7 +101,12 @@ fn is_told(alloc: Global, page: &str, held: &Held) -> Result<bool, ParseFault> {
             return Ok(false);
         }
     }
-    Ok(is_fed(alloc, characters(alloc, page)?, held)? && is_read(alloc, page, held)?)
+    let are_fed = is_fed(alloc, characters(alloc, page)?, held)?;
+    match *held {
+        Held::Log(log) => Ok(are_fed && is_read(alloc, page, log)?),
+        // the plain reader counts no lines
+        Held::TagLine(_) => Ok(are_fed),
+    }
 }
 
 #[test]
