@@ -180,7 +180,8 @@ fn build<S: TreeSink>(
 fn is_built(alloc: Global, row: &Row) -> Result<bool, ParseFault> {
     let mut dom = RcDom::new(alloc)?;
     build(alloc, &mut dom, &row.0, &row.1)?;
-    Ok(lines_of(alloc, &finished(dom))?.as_str() == row.2)
+    let tree = finished(dom);
+    Ok(lines_of(alloc, &tree)?.as_str() == row.2)
 }
 
 #[test]

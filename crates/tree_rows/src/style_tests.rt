@@ -172,12 +172,12 @@ const CLASS: Specificity = Specificity {
 // the value behind two declarations
 fn behind(first: Specificity, second: Specificity) -> Option<u8> {
     let mut property = WithSpec::default();
-    property.maybe_update(declared(first, 1));
-    property.maybe_update(declared(second, 2));
+    property.maybe_update(of_author(first, 1));
+    property.maybe_update(of_author(second, 2));
     property.val().copied()
 }
 
-fn declared(specificity: Specificity, val: u8) -> Declared<u8> {
+fn of_author(specificity: Specificity, val: u8) -> Declared<u8> {
     Declared {
         importance: NORMAL,
         origin: StyleOrigin::Author,
