@@ -21,7 +21,7 @@ pub(crate) fn is_listed<S: TreeSink>(
     list.push_marker()?;
     let is_behind = list.last_named(&name).is_some();
     list.clear_to_marker();
-    Ok(is_told && !is_behind && is_changed(sink, list, [first, second, third, other])?)
+    Ok(is_told && !is_behind && is_changed(sink, list, first, second, third, other)?)
 }
 
 fn made<S: TreeSink>(alloc: Global, sink: &mut S, word: &str) -> Result<S::Handle, ParseFault> {
@@ -66,45 +66,49 @@ fn tells<S: TreeSink>(
 fn is_changed<S: TreeSink>(
     sink: &S,
     list: &mut FormattingList<S::Handle>,
-    elements: [S::Handle; 4],
+    first: S::Handle,
+    second: S::Handle,
+    third: S::Handle,
+    other: S::Handle,
 ) -> Result<bool, ParseFault> {
-    let [first, second, third, other] = elements;
     list.move_behind(sink, first, other, second)?;
-    let is_moved = holds_all(
-        sink,
-        list,
-        &[Some((second, "b")), Some((other, "a")), Some((third, "i"))],
-    );
+    let is_moved = holds_three(sink, list, (second, "b"), (other, "a"), Some((third, "i")));
     list.hand_over(sink, second, first);
-    let is_handed = holds_all(
-        sink,
-        list,
-        &[Some((first, "b")), Some((other, "a")), Some((third, "i"))],
-    );
+    let is_handed = holds_three(sink, list, (first, "b"), (other, "a"), Some((third, "i")));
     list.remove(sink, third);
     list.push_marker()?;
-    let is_removed = holds_all(sink, list, &[Some((first, "b")), Some((other, "a")), None]);
+    let is_removed = holds_three(sink, list, (first, "b"), (other, "a"), None);
     Ok(is_moved && is_handed && is_removed)
 }
 
-// whether a list has these elements with tags of these names; none for a marker
-fn holds_all<S: TreeSink>(
+// whether a list has these elements alone, with tags of these names; none for a marker
+fn holds_three<S: TreeSink>(
     sink: &S,
     list: &FormattingList<S::Handle>,
-    wanted: &[Option<(S::Handle, &str)>],
+    first: (S::Handle, &str),
+    second: (S::Handle, &str),
+    third: Option<(S::Handle, &str)>,
 ) -> bool {
-    let entries = list.as_slice();
-    for (entry, wanted) in entries.iter().zip(wanted) {
-        let is_so = match (entry, wanted) {
-            (FormatEntry::Marker, None) => true,
-            (FormatEntry::Element(handle, tag), Some((element, name))) => {
-                sink.same_node(*handle, *element) && tag.name.as_str() == *name
-            }
-            _ => false,
-        };
-        if !is_so {
-            return false;
+    match list.as_slice() {
+        [a, b, c] => {
+            is_entry(sink, a, Some(first))
+                && is_entry(sink, b, Some(second))
+                && is_entry(sink, c, third)
         }
+        _ => false,
     }
-    entries.len() == wanted.len()
+}
+
+fn is_entry<S: TreeSink>(
+    sink: &S,
+    entry: &FormatEntry<S::Handle>,
+    wanted: Option<(S::Handle, &str)>,
+) -> bool {
+    match (entry, wanted) {
+        (FormatEntry::Marker, None) => true,
+        (FormatEntry::Element(handle, tag), Some((element, name))) => {
+            sink.same_node(*handle, element) && tag.name.as_str() == name
+        }
+        _ => false,
+    }
 }

@@ -161,7 +161,7 @@ fn build<S: TreeSink>(
 ) -> Result<(), ParseFault>
     requires { S.forest sink.old ≡ page_alone }
 {
-    let (a, b, c, d) = html_names(alloc, words)?;
+    let ((a, b), (c, d)) = html_names(alloc, words)?;
     match page {
         Page::Outline => outline(alloc, sink, (a, b, c)),
         Page::Remarks => remarks(alloc, sink),

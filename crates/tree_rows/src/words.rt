@@ -18,11 +18,14 @@ pub(crate) fn html_name(alloc: Global, word: &str) -> Result<QualName, AllocErro
 pub(crate) fn html_names(
     alloc: Global,
     words: &[&str; 4],
-) -> Result<(QualName, QualName, QualName, QualName), AllocError> {
-    let a = html_name(alloc, words[0])?;
-    let b = html_name(alloc, words[1])?;
-    let c = html_name(alloc, words[2])?;
-    Ok((a, b, c, html_name(alloc, words[3])?))
+) -> Result<((QualName, QualName), (QualName, QualName)), AllocError> {
+    let first = html_pair(alloc, words[0], words[1])?;
+    Ok((first, html_pair(alloc, words[2], words[3])?))
+}
+
+fn html_pair(alloc: Global, a: &str, b: &str) -> Result<(QualName, QualName), AllocError> {
+    let a = html_name(alloc, a)?;
+    Ok((a, html_name(alloc, b)?))
 }
 
 /// A name in no namespace, as an attribute's.
