@@ -1,4 +1,4 @@
-//! Each call that finds parse errors. What is found in lexemes and texts is told by the stored run of page_tokens.
+//! Each call that finds parse errors. What is found in lexemes and texts stands in the cases `tokens` of stored_rows.
 use crate::checks::{holds, told};
 use html_lexemes::states::{RawKind, ScriptEscapeKind, State};
 use html_lexemes::{ReferenceTable, TableError, TagKind};
