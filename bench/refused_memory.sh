@@ -37,9 +37,7 @@ try_tests() {
   python3 "$here/refused_tests.py" "$here/../crates/$1/out/$1_tests" "${@:2}" || true
 }
 try_tests page_rows page_rows::a_refused_growth_is_told word_rows::reads_lines_or_refuses \
-  decoder_rows::replaces_in_single_bytes_or_refuses
-try_tests refused_rows refused_tests::pages_are_answered_or_refused \
-  refused_tests::tables_have_their_fault_or_are_refused refused_tests::a_refused_page_goes_no_further
-try_tests article_rows fault_tests::a_refused_growth_changes_no_answer
-try_tests article_pages written_tests::a_refused_growth_is_told
-try_tests article_layout_rows layout_tests::an_article_is_laid_out_or_refused
+  decoder_rows::replaces_in_single_bytes_or_refuses refused_rows::pages_are_answered_or_refused \
+  refused_rows::tables_have_their_fault_or_are_refused refused_rows::a_refused_page_goes_no_further
+try_tests article_rows fault_tests::a_refused_growth_changes_no_answer written_tests::a_refused_growth_is_told \
+  layout_tests::an_article_is_laid_out_or_refused

@@ -1,9 +1,9 @@
-//! Values told in steps, from inside out.
-use article_values::{Block, Inline};
+//! Articles built in steps, from inside out.
+use article_values::{Article, ArticleError, Block, Inline};
 use std::alloc::{AllocError, Global};
 use std::mem;
 
-/// A step behind others. What holds inlines or blocks takes all that were told so far and are held by none.
+/// A step after others. What holds inlines or blocks takes all that were built so far and are held by none.
 pub(crate) enum Step {
     Text(&'static str),
     Break,
@@ -26,42 +26,28 @@ pub(crate) enum Step {
     NoNumbers,
 }
 
-fn inline_of(
-    step: &Step,
-    alloc: Global,
-    inlines: &mut Vec<Inline>,
-) -> Result<Option<Inline>, AllocError> {
-    Ok(match step {
-        Step::Text(text) => Some(Inline::Text(String::from_str(alloc, text)?)),
-        Step::Break => Some(Inline::Break),
-        Step::Italic => Some(Inline::Italic(mem::replace(inlines, Vec::new(alloc)))),
-        Step::Emphasis => Some(Inline::Emphasis(mem::replace(inlines, Vec::new(alloc)))),
-        Step::Code => Some(Inline::Code(mem::replace(inlines, Vec::new(alloc)))),
+fn times(step: &Step) -> usize {
+    match step {
+        Step::Bolds(times) | Step::Divisions(times) | Step::Bullets(times) => *times,
+        _ => 1,
+    }
+}
+
+fn put_inline(alloc: Global, step: &Step, inlines: &mut Vec<Inline>) -> Result<(), AllocError> {
+    let inline = match step {
+        Step::Text(text) => Inline::Text(String::from_str(alloc, text)?),
+        Step::Break => Inline::Break,
+        Step::Bolds(_) => Inline::Bold(mem::replace(inlines, Vec::new(alloc))),
+        Step::Italic => Inline::Italic(mem::replace(inlines, Vec::new(alloc))),
+        Step::Emphasis => Inline::Emphasis(mem::replace(inlines, Vec::new(alloc))),
+        Step::Code => Inline::Code(mem::replace(inlines, Vec::new(alloc))),
         Step::Link(target) => {
             let target = String::from_str(alloc, target)?;
-            Some(Inline::Link(target, mem::replace(inlines, Vec::new(alloc))))
+            Inline::Link(target, mem::replace(inlines, Vec::new(alloc)))
         }
-        _ => None,
-    })
-}
-
-fn put_in_bold(alloc: Global, inlines: &mut Vec<Inline>, times: usize) -> Result<(), AllocError> {
-    for _time in 0..times {
-        let inner = mem::replace(inlines, Vec::new(alloc));
-        inlines.push(Inline::Bold(inner))?;
-    }
-    Ok(())
-}
-
-fn put_in_divisions(
-    alloc: Global,
-    blocks: &mut Vec<Block>,
-    times: usize,
-) -> Result<(), AllocError> {
-    for _time in 0..times {
-        let inner = mem::replace(blocks, Vec::new(alloc));
-        blocks.push(Block::Division(inner))?;
-    }
+        _ => return Ok(()),
+    };
+    inlines.push(inline)?;
     Ok(())
 }
 
@@ -72,50 +58,48 @@ fn one_item(alloc: Global, blocks: &mut Vec<Block>) -> Result<Vec<Vec<Block>>, A
     Ok(items)
 }
 
-fn put_in_lists(alloc: Global, blocks: &mut Vec<Block>, times: usize) -> Result<(), AllocError> {
-    for _time in 0..times {
-        let items = one_item(alloc, blocks)?;
-        blocks.push(Block::Bullets(items))?;
-    }
+fn put_block(
+    alloc: Global,
+    step: &Step,
+    inlines: &mut Vec<Inline>,
+    blocks: &mut Vec<Block>,
+) -> Result<(), AllocError> {
+    let block = match step {
+        Step::Paragraph => Block::Paragraph(mem::replace(inlines, Vec::new(alloc))),
+        Step::Heading(level) => Block::Heading(*level, mem::replace(inlines, Vec::new(alloc))),
+        Step::Divisions(_) => Block::Division(mem::replace(blocks, Vec::new(alloc))),
+        Step::Bullets(_) => Block::Bullets(one_item(alloc, blocks)?),
+        Step::Numbers => Block::Numbers(1, one_item(alloc, blocks)?),
+        Step::NoBullets => Block::Bullets(Vec::new(alloc)),
+        Step::NoNumbers => Block::Numbers(1, Vec::new(alloc)),
+        _ => return Ok(()),
+    };
+    blocks.push(block)?;
     Ok(())
 }
 
-fn block_of(
-    step: &Step,
-    alloc: Global,
-    inlines: &mut Vec<Inline>,
-    blocks: &mut Vec<Block>,
-) -> Result<Option<Block>, AllocError> {
-    Ok(match step {
-        Step::Paragraph => Some(Block::Paragraph(mem::replace(inlines, Vec::new(alloc)))),
-        Step::Heading(level) => Some(Block::Heading(
-            *level,
-            mem::replace(inlines, Vec::new(alloc)),
-        )),
-        Step::Numbers => Some(Block::Numbers(1, one_item(alloc, blocks)?)),
-        Step::NoBullets => Some(Block::Bullets(Vec::new(alloc))),
-        Step::NoNumbers => Some(Block::Numbers(1, Vec::new(alloc))),
-        _ => None,
-    })
-}
-
-/// The blocks that the steps tell.
-pub(crate) fn built(alloc: Global, steps: &[Step]) -> Result<Vec<Block>, AllocError> {
+fn built(alloc: Global, steps: &[Step]) -> Result<Vec<Block>, AllocError> {
     let mut inlines = Vec::new(alloc);
     let mut blocks = Vec::new(alloc);
     for step in steps {
-        if let Some(inline) = inline_of(step, alloc, &mut inlines)? {
-            inlines.push(inline)?;
-        }
-        if let Some(block) = block_of(step, alloc, &mut inlines, &mut blocks)? {
-            blocks.push(block)?;
-        }
-        match step {
-            Step::Bolds(times) => put_in_bold(alloc, &mut inlines, *times)?,
-            Step::Divisions(times) => put_in_divisions(alloc, &mut blocks, *times)?,
-            Step::Bullets(times) => put_in_lists(alloc, &mut blocks, *times)?,
-            _ => {}
+        for _time in 0..times(step) {
+            put_inline(alloc, step, &mut inlines)?;
+            put_block(alloc, step, &mut inlines, &mut blocks)?;
         }
     }
     Ok(blocks)
+}
+
+/// The article of a title and the blocks that the steps build, or its first fault.
+pub(crate) fn article_of(
+    alloc: Global,
+    title: Option<&str>,
+    steps: &[Step],
+) -> Result<Result<Article, ArticleError>, AllocError> {
+    let title = match title {
+        Some(title) => Some(String::from_str(alloc, title)?),
+        None => None,
+    };
+    let blocks = built(alloc, steps)?;
+    Ok(Article::new(title, blocks))
 }

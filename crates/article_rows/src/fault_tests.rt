@@ -1,14 +1,14 @@
 //! Which values are articles, and which fault of the others is the first.
-use crate::building::{Step, built};
-use article_values::{Article, ArticleError, Block};
+use crate::building::{Step, article_of};
+use crate::checks::{holds, told};
+use article_values::{ArticleError, Block};
 use std::alloc::{AllocError, Global};
-use std::process::Abort;
-use std::test::Fail;
 
+/// A title, the steps that build the blocks, and the first fault.
 type Row = (Option<&'static str>, &'static [Step], Option<ArticleError>);
 
-// what is written, and the fault that is told
-const ONE_FAULT: [Row; 22] = [
+/// Values that take little memory.
+static SMALL: [Row; 25] = [
     (
         None,
         &[Step::Text("a"), Step::Text("b"), Step::Paragraph],
@@ -71,6 +71,52 @@ const ONE_FAULT: [Row; 22] = [
         &[Step::Text("a"), Step::Heading(7)],
         Some(ArticleError::BadLevel),
     ),
+    (None, &[], None),
+    (Some(""), &[], None),
+    (
+        Some("a <b> \n"),
+        &[Step::Text("a <b> \n"), Step::Paragraph],
+        None,
+    ),
+    (None, &[Step::Paragraph], None),
+    (None, &[Step::Heading(1), Step::Heading(6)], None),
+    (None, &[Step::Divisions(1)], None),
+    (None, &[Step::Bullets(1)], None),
+    (None, &[Step::Bullets(1), Step::Numbers], None),
+    (
+        None,
+        &[
+            Step::Text("a"),
+            Step::Break,
+            Step::Text("b"),
+            Step::Paragraph,
+        ],
+        None,
+    ),
+    (
+        None,
+        &[
+            Step::Text("a"),
+            Step::Emphasis,
+            Step::Text("b"),
+            Step::Paragraph,
+        ],
+        None,
+    ),
+    (
+        None,
+        &[
+            Step::Text("a"),
+            Step::Link(""),
+            Step::Text("b"),
+            Step::Paragraph,
+        ],
+        None,
+    ),
+];
+
+/// Deep values, and values with more faults than one.
+static OTHERS: [Row; 26] = [
     (
         None,
         &[Step::NoBullets, Step::Numbers, Step::Divisions(3)],
@@ -108,10 +154,6 @@ const ONE_FAULT: [Row; 22] = [
         &[Step::Bolds(1000000), Step::Paragraph],
         Some(ArticleError::TooDeep),
     ),
-];
-
-// more faults than one
-const FIRST_FAULTS: [Row; 15] = [
     (
         Some("\0"),
         &[Step::NoBullets],
@@ -207,51 +249,6 @@ const FIRST_FAULTS: [Row; 15] = [
         &[Step::NoNumbers, Step::Bullets(1), Step::Divisions(255)],
         Some(ArticleError::EmptyList),
     ),
-];
-
-const ARTICLES: [Row; 14] = [
-    (None, &[], None),
-    (Some(""), &[], None),
-    (
-        Some("a <b> \n"),
-        &[Step::Text("a <b> \n"), Step::Paragraph],
-        None,
-    ),
-    (None, &[Step::Paragraph], None),
-    (None, &[Step::Heading(1), Step::Heading(6)], None),
-    (None, &[Step::Divisions(1)], None),
-    (None, &[Step::Bullets(1)], None),
-    (None, &[Step::Bullets(1), Step::Numbers], None),
-    (
-        None,
-        &[
-            Step::Text("a"),
-            Step::Break,
-            Step::Text("b"),
-            Step::Paragraph,
-        ],
-        None,
-    ),
-    (
-        None,
-        &[
-            Step::Text("a"),
-            Step::Emphasis,
-            Step::Text("b"),
-            Step::Paragraph,
-        ],
-        None,
-    ),
-    (
-        None,
-        &[
-            Step::Text("a"),
-            Step::Link(""),
-            Step::Text("b"),
-            Step::Paragraph,
-        ],
-        None,
-    ),
     (None, &[Step::Divisions(256)], None),
     (
         None,
@@ -270,60 +267,44 @@ const ARTICLES: [Row; 14] = [
     ),
 ];
 
-// Ends the test where something does not hold, and says in which row.
-fn holds<R: Abort>(rt: &R, is_so: bool, row: usize) {
-    assert!(rt; is_so, "in row {row}");
-}
-
-fn title_of(alloc: Global, title: Option<&str>) -> Result<Option<String>, AllocError> {
-    Ok(match title {
-        Some(title) => Some(String::from_str(alloc, title)?),
-        None => None,
-    })
-}
-
-fn fault_of(alloc: Global, row: &Row) -> Result<Option<ArticleError>, AllocError> {
-    let title = title_of(alloc, row.0)?;
-    let blocks = built(alloc, row.1)?;
-    Ok(match Article::new(title, blocks) {
-        Ok(_) => None,
-        Err(fault) => Some(fault),
-    })
-}
-
-fn tell_their_fault<R: Abort>(rt: &R, alloc: Global, rows: &[Row]) -> Result<(), AllocError> {
-    for (at, row) in rows.iter().enumerate() {
-        let is_so = fault_of(alloc, row)? == row.2;
-        holds(rt, is_so, at);
+// whether a value has the fault of its row; with `may_lack` also whether there is no memory for it
+fn is_answered(alloc: Global, row: &Row, may_lack: bool) -> bool {
+    match article_of(alloc, row.0, row.1) {
+        Ok(article) => article.err() == row.2,
+        Err(AllocError) => may_lack,
     }
-    Ok(())
 }
 
 #[test]
-fn each_fault_is_told(rt: HostRuntime) -> Result<(), Fail> {
-    tell_their_fault(&rt, rt.alloc(), ONE_FAULT.as_slice())?;
-    Ok(())
+fn a_fault_is_told(rt: HostRuntime) {
+    for (at, row) in SMALL.iter().enumerate() {
+        holds(&rt, is_answered(rt.alloc(), row, false), at);
+    }
 }
 
 #[test]
-fn the_first_fault_is_told(rt: HostRuntime) -> Result<(), Fail> {
-    tell_their_fault(&rt, rt.alloc(), FIRST_FAULTS.as_slice())?;
-    Ok(())
+fn the_first_fault_is_told(rt: HostRuntime) {
+    for (at, row) in OTHERS.iter().enumerate() {
+        holds(&rt, is_answered(rt.alloc(), row, false), at);
+    }
 }
 
+/// This one holds also where a request for memory is refused, each in turn: `rt try --test --fail-alloc N`. An article
+/// takes no memory of its own, so that what was built has its own answer.
 #[test]
-fn what_has_no_fault_is_an_article(rt: HostRuntime) -> Result<(), Fail> {
-    tell_their_fault(&rt, rt.alloc(), ARTICLES.as_slice())?;
-    Ok(())
+fn a_refused_growth_changes_no_answer(rt: HostRuntime) {
+    for (at, row) in SMALL.iter().enumerate() {
+        holds(&rt, is_answered(rt.alloc(), row, true), at);
+    }
 }
+
+static PARTS: [Step; 3] = [Step::Text("b"), Step::Heading(3), Step::Paragraph];
 
 fn is_kept(alloc: Global) -> Result<bool, AllocError> {
-    let blocks = built(alloc, &[Step::Text("b"), Step::Heading(3), Step::Paragraph])?;
-    let title = title_of(alloc, Some("a"))?;
-    let Ok(article) = Article::new(title, blocks) else {
+    let Ok(article) = article_of(alloc, Some("a"), &PARTS)? else {
         return Ok(false)
     };
-    let Ok(nameless) = Article::new(None, Vec::new(alloc)) else {
+    let Ok(nameless) = article_of(alloc, None, &[])? else {
         return Ok(false)
     };
     let [first, second] = article.blocks() else {
@@ -338,38 +319,13 @@ fn is_kept(alloc: Global) -> Result<bool, AllocError> {
     )
 }
 
-#[test]
-fn an_article_keeps_its_parts(rt: HostRuntime) -> Result<(), Fail> {
-    let is_so = is_kept(rt.alloc())?;
-    holds(&rt, is_so, 0);
-    Ok(())
+fn has_text(alloc: Global) -> Result<bool, AllocError> {
+    let text = ArticleError::BadLevel.to_string(alloc)?;
+    Ok(text.as_str() == "a heading's level is not 1 to 6")
 }
 
 #[test]
-fn a_fault_has_a_text(rt: HostRuntime) -> Result<(), Fail> {
-    let text = ArticleError::BadLevel.to_string(rt.alloc())?;
-    holds(&rt, text.as_str() == "a heading's level is not 1 to 6", 0);
-    Ok(())
-}
-
-/// This one holds also where a request for memory is refused, each in turn: `rt try --test --fail-alloc N`. An article
-/// takes no memory of its own, so that what was built has its own answer.
-#[test]
-fn a_refused_growth_changes_no_answer(rt: HostRuntime) {
-    for (at, row) in ONE_FAULT.iter().take(14).enumerate() {
-        let fault = fault_of(rt.alloc(), row);
-        holds(&rt, is_answer(fault, row), at);
-    }
-    for (at, row) in ARTICLES.iter().take(11).enumerate() {
-        let fault = fault_of(rt.alloc(), row);
-        holds(&rt, is_answer(fault, row), at);
-    }
-}
-
-// whether it is the answer of the row, or the row could not be built
-fn is_answer(fault: Result<Option<ArticleError>, AllocError>, row: &Row) -> bool {
-    match fault {
-        Ok(fault) => fault == row.2,
-        Err(AllocError) => true,
-    }
+fn articles_have_parts_and_faults_a_text(rt: HostRuntime) {
+    told(&rt, is_kept(rt.alloc()), 0);
+    told(&rt, has_text(rt.alloc()), 1);
 }

@@ -1,10 +1,14 @@
-//! Tests alone: pages that come in bytes, whole and a byte at a time, rendered as lines that were worked out by hand;
-//! what a reader of a page answers behind a refusal, and where a device fails.
+//! Tests alone: pages as render trees, by the rules that mark texts and by others, how many columns their values take,
+//! and as text; what a reader of a page answers after a refusal, and where a device fails. The answers are from outside
+//! or worked out by hand. The lines of pages stand in the stored run of pages, and each row of the table of conversion
+//! is computed on its definitions in `render_conversion`.
 #![tactic(auto)]
 
 #[cfg(test)]
-mod laid;
+mod checks;
 #[cfg(test)]
-mod line_tests;
+mod conversion_tests;
 #[cfg(test)]
-mod reader_tests;
+mod page_tests;
+#[cfg(test)]
+mod size_tests;

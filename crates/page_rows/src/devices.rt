@@ -2,8 +2,8 @@
 
 ghost use Rattle.std.specs.Prelude.{None};
 
-use html2text::{DeviceFault, FileOpener, OpenedFile};
-use std::alloc::Global;
+use html2text::{Device, DeviceFault, FileOpener, OpenedFile};
+use std::alloc::{AllocError, Global};
 use std::io;
 use std::io::{ErrorKind, Read, Write};
 
@@ -26,6 +26,12 @@ impl Read for Pieces<'_> {
     }
 }
 
+/// A device that gives a page, up to so many bytes at a time.
+pub(crate) fn page_by(bytes: &[u8], most: usize) -> Device<Pieces<'_>> {
+    let reads = usize::MAX;
+    Device::new(Pieces { bytes, most, reads })
+}
+
 /// Takes bytes while the count of writes lasts, and then fails, or takes none; it may refuse to pass them on.
 #[derive(Drop)]
 pub(crate) struct Taker {
@@ -37,15 +43,15 @@ pub(crate) struct Taker {
 }
 
 impl Taker {
-    /// A writer that takes all and never fails.
-    pub(crate) fn new(alloc: Global) -> Taker {
-        Taker {
-            taken: Vec::new(alloc),
+    /// A writer that takes all and never fails, and asks for no memory for the first bytes.
+    pub(crate) fn new(alloc: Global) -> Result<Taker, AllocError> {
+        Ok(Taker {
+            taken: Vec::with_capacity(alloc, 64)?,
             most: usize::MAX,
             writes: usize::MAX,
             takes_none: false,
             is_stuck: false,
-        }
+        })
     }
 }
 

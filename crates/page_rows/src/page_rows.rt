@@ -1,20 +1,23 @@
 //! Pages from outside, through the public calls. Readers and writers are in memory.
-use crate::checks::{holds, is_answer};
-use crate::devices::{Pieces, Taker};
-use html2text::{Config, Device, Error, PlainDecorator, ReferenceTable, from_read, run};
-use std::alloc::Global;
-use std::io;
-use std::test::Fail;
+use crate::checks::{holds, is_answer, plain, told};
+use crate::devices::{Pieces, Taker, page_by};
+use html2text::{Device, Error, PlainLine, ReferenceTable, from_read, run};
+use std::alloc::{AllocError, Global};
 
-fn plain(alloc: Global) -> Result<Config<PlainDecorator>, Error> {
-    Config::plain(alloc, ReferenceTable::basic(alloc)?)
-}
+/// So many bytes come at a time.
+static CUTS: [usize; 4] = [1, 2, 7, 8192];
 
-/// The text of a page whose bytes come `most` at a time.
-fn text_of(alloc: Global, bytes: &[u8], most: usize, width: usize) -> Result<String, Error> {
-    let reads = usize::MAX;
-    let mut input = Device::new(Pieces { bytes, most, reads });
-    from_read(alloc, &mut input, width, ReferenceTable::basic(alloc)?)
+/// The text of a page that may have so many bytes, which come `most` at a time.
+fn text_of(
+    alloc: Global,
+    bytes: &[u8],
+    most: usize,
+    longest: usize,
+    width: usize,
+) -> Result<String, Error> {
+    let mut input = page_by(bytes, most);
+    let config = plain(alloc)?.max_bytes(longest);
+    config.string_from_read(alloc, &mut input, width)
 }
 
 pub(crate) const FIRST_PAGE: &[u8] = b"<p>Hello, world.  Superlongwordreally</p>";
@@ -97,14 +100,13 @@ static PAGES: [(usize, &[u8], Result<&str, Error>); 48] = [
 ];
 
 #[test]
-fn pages_have_their_lines_however_cut(rt: HostRuntime) -> Result<(), Fail> {
-    for (width, bytes, wanted) in PAGES {
-        for most in [1, 2, 7, 8192] {
-            let found = text_of(rt.alloc(), bytes, most, width);
-            holds(&rt, is_answer(found, wanted), name_of(bytes));
+fn pages_have_their_lines_however_cut(rt: HostRuntime) {
+    for (width, bytes, wanted) in &PAGES {
+        for most in &CUTS {
+            let found = text_of(rt.alloc(), bytes, *most, usize::MAX, *width);
+            holds(&rt, is_answer(found, *wanted), name_of(bytes));
         }
     }
-    Ok(())
 }
 
 /// What a page is called where its text is not what was wanted.
@@ -123,140 +125,164 @@ static LENGTHS: [(&[u8], usize, Result<&str, Error>); 6] = [
 ];
 
 #[test]
-fn a_page_is_as_long_as_allowed(rt: HostRuntime) -> Result<(), Fail> {
-    let alloc = rt.alloc();
-    for (bytes, longest, wanted) in LENGTHS {
-        for most in [1, 8192] {
-            let reads = usize::MAX;
-            let mut input = Device::new(Pieces { bytes, most, reads });
-            let config = plain(alloc)?.max_bytes(longest);
-            let found = config.string_from_read(alloc, &mut input, 20);
-            holds(&rt, is_answer(found, wanted), name_of(bytes));
+fn a_page_is_as_long_as_allowed(rt: HostRuntime) {
+    for (bytes, longest, wanted) in &LENGTHS {
+        for most in &CUTS {
+            let found = text_of(rt.alloc(), bytes, *most, *longest, 20);
+            holds(&rt, is_answer(found, *wanted), name_of(bytes));
         }
     }
-    Ok(())
 }
 
-#[test]
-fn lines_are_given_one_by_one(rt: HostRuntime) -> Result<(), Fail> {
-    let alloc = rt.alloc();
-    let mut input = Device::new(b"<p>a b</p>".as_slice());
+fn is_column(line: &PlainLine, text: &str) -> bool {
+    let is_text = match line.tagged_strings().next() {
+        Some(string) => string.s.as_str() == text,
+        None => false,
+    };
+    is_text && line.width() == 1
+}
+
+fn are_columns(alloc: Global) -> Result<bool, Error> {
+    let mut input = page_by(b"<p>a b</p>", 8192);
     let lines = plain(alloc)?.lines_from_read(alloc, &mut input, 1)?;
-    let mut text = String::new(alloc);
-    for line in &lines {
-        holds(&rt, line.width() == 1, "a line");
-        for string in line.tagged_strings() {
-            text.push_str(string.s.as_str())?;
-        }
-        text.push('|')?;
-    }
-    holds(&rt, text.as_str() == "a|b|", "two lines");
-    Ok(())
+    let [first, second] = lines.as_slice() else {
+        return Ok(false);
+    };
+    Ok(is_column(first, "a") && is_column(second, "b"))
 }
 
 #[test]
-fn a_page_is_written(rt: HostRuntime) -> Result<(), Fail> {
-    let alloc = rt.alloc();
-    let mut input = Device::new(FIRST_PAGE);
-    let mut output = Device::new(Taker::new(alloc));
-    run(alloc, &mut input, &mut output, plain(alloc)?, 8)?;
+fn lines_are_given_one_by_one(rt: HostRuntime) {
+    told(&rt, are_columns(rt.alloc()), "two lines");
+}
+
+/// What came of a page that was written.
+#[derive(Drop)]
+struct Written {
+    answer: Result<(), Error>,
+    taken: Vec<u8>,
+}
+
+fn write_page(
+    alloc: Global,
+    input: Pieces<'_>,
+    output: Taker,
+    width: usize,
+) -> Result<Written, Error> {
+    let config = plain(alloc)?;
+    let mut input = Device::new(input);
+    let mut output = Device::new(output);
+    let answer = run(alloc, &mut input, &mut output, config, width);
     let taken = output.into_inner().taken;
-    let is_so = taken.as_slice() == FIRST_TEXT.as_bytes();
-    holds(&rt, is_so, "the first page");
-    Ok(())
+    Ok(Written { answer, taken })
+}
+
+// whether a page is written that takes five reads, and nothing is where a reader fails before
+fn is_read_or_nothing(alloc: Global, reads: usize) -> Result<bool, Error> {
+    let input = Pieces {
+        bytes: b"<p>a",
+        most: 1,
+        reads,
+    };
+    let found = write_page(alloc, input, Taker::new(alloc)?, 20)?;
+    if reads == 5 {
+        return Ok(found.answer == Ok(()) && found.taken.as_slice() == b"a\n".as_slice());
+    }
+    Ok(found.answer == Err(Error::IoError) && found.taken.is_empty())
 }
 
 // The reader fails at each read of the page, the one at its end among them, up to a run in which it does not.
 #[test]
-fn a_reader_that_fails_leaves_nothing_written(rt: HostRuntime) -> Result<(), Fail> {
-    let alloc = rt.alloc();
+fn a_reader_that_fails_leaves_nothing_written(rt: HostRuntime) {
     for reads in 0..6 {
-        let mut input = Device::new(Pieces {
-            bytes: b"<p>a",
-            most: 1,
-            reads,
-        });
-        let mut output = Device::new(Taker::new(alloc));
-        let answer = run(alloc, &mut input, &mut output, plain(alloc)?, 20);
-        let (wanted, text) = match reads {
-            5 => (Ok(()), b"a\n".as_slice()),
-            _ => (Err(Error::IoError), b"".as_slice()),
-        };
-        holds(&rt, answer == wanted, "a reader that fails");
-        let is_so = output.into_inner().taken.as_slice() == text;
-        holds(&rt, is_so, "what is written then");
+        told(
+            &rt,
+            is_read_or_nothing(rt.alloc(), reads),
+            "a reader that fails",
+        );
     }
-    Ok(())
+}
+
+fn first_page() -> Pieces<'static> {
+    Pieces {
+        bytes: FIRST_PAGE,
+        most: 8192,
+        reads: usize::MAX,
+    }
+}
+
+fn is_beginning(alloc: Global, case: usize) -> Result<bool, Error> {
+    let mut taker = Taker::new(alloc)?;
+    taker.takes_none = case % 2 == 0;
+    taker.most = [1, 2, 64][case / 2 % 3];
+    taker.writes = case / 6;
+    let found = write_page(alloc, first_page(), taker, 8)?;
+    let taken = found.taken.as_slice();
+    let wanted = if taken.len() == FIRST_TEXT.len() {
+        Ok(())
+    } else {
+        Err(Error::IoError)
+    };
+    let is_beginning = FIRST_TEXT.as_bytes().starts_with(taken) && taken.len() >= case / 6;
+    Ok(is_beginning && found.answer == wanted)
 }
 
 // The writer fails at each write, or takes none, up to runs in which it does not: as many writes as the text has bytes.
 #[test]
-fn a_writer_that_fails_has_a_beginning(rt: HostRuntime) -> Result<(), Fail> {
-    let alloc = rt.alloc();
+fn a_writer_that_fails_has_a_beginning(rt: HostRuntime) {
     for case in 0..6 * 37 {
-        let mut input = Device::new(FIRST_PAGE);
-        let mut taker = Taker::new(alloc);
-        taker.takes_none = case % 2 == 0;
-        taker.most = [1, 2, 64][case / 2 % 3];
-        taker.writes = case / 6;
-        let mut output = Device::new(taker);
-        let answer = run(alloc, &mut input, &mut output, plain(alloc)?, 8);
-        let taken = output.into_inner().taken;
-        let is_beginning = FIRST_TEXT.as_bytes().starts_with(taken.as_slice());
-        holds(&rt, is_beginning, "what a writer that fails has");
-        holds(&rt, taken.len() >= case / 6, "what it took before");
-        let is_whole = taken.len() == FIRST_TEXT.len();
-        let wanted = if is_whole {
-            Ok(())
-        } else {
-            Err(Error::IoError)
-        };
-        holds(&rt, answer == wanted, "a writer that fails");
+        told(&rt, is_beginning(rt.alloc(), case), "a writer that fails");
     }
-    Ok(())
+}
+
+// whether the first page is written whole, or nothing is for want of memory
+fn is_written_or_refused(alloc: Global) -> bool {
+    let Ok(taker) = Taker::new(alloc) else {
+        return true;
+    };
+    match write_page(alloc, first_page(), taker, 8) {
+        Ok(found) => match found.answer {
+            Ok(()) => found.taken.as_slice() == FIRST_TEXT.as_bytes(),
+            Err(error) => error == Error::Memory && found.taken.is_empty(),
+        },
+        Err(error) => error == Error::Memory,
+    }
+}
+
+// whether the first page has its text, or is refused for want of memory
+fn is_read_or_refused(alloc: Global) -> bool {
+    let Ok(table) = ReferenceTable::basic(alloc) else {
+        return true;
+    };
+    let mut input = page_by(FIRST_PAGE, 8192);
+    match from_read(alloc, &mut input, 8, table) {
+        Ok(text) => text.as_str() == FIRST_TEXT,
+        Err(error) => error == Error::Memory,
+    }
 }
 
 /// This one holds also where a request for memory is refused, each in turn: `rt try --test --fail-alloc N`.
 #[test]
-fn a_refused_growth_is_told(rt: HostRuntime) -> Result<(), Fail> {
-    let alloc = rt.alloc();
-    let found = text_of(alloc, FIRST_PAGE, 8192, 8);
-    let is_refused = matches!(found, Err(Error::Memory));
-    holds(
-        &rt,
-        is_refused || is_answer(found, Ok(FIRST_TEXT)),
-        "the first page",
-    );
-    let Ok(config) = plain(alloc) else {
-        return Ok(());
-    };
-    let mut input = Device::new(FIRST_PAGE);
-    let mut buffer = [0; 64];
-    let mut output = Device::new(io::Cursor::new(buffer.as_mut_slice()));
-    let written = run(alloc, &mut input, &mut output, config, 8);
-    let length = output.into_inner().position();
-    match written {
-        Ok(()) => holds(&rt, length == FIRST_TEXT.len() as u64, "the text written"),
-        Err(error) => {
-            holds(&rt, error == Error::Memory, "what a refused growth is");
-            holds(&rt, length == 0, "what is written then");
-        }
-    }
-    Ok(())
+fn a_refused_growth_is_told(rt: HostRuntime) {
+    holds(&rt, is_read_or_refused(rt.alloc()), "the first page");
+    holds(&rt, is_written_or_refused(rt.alloc()), "the text written");
+}
+
+static ERRORS: [(Error, &str); 5] = [
+    (Error::TooNarrow, "output width not wide enough"),
+    (Error::Fail, "nothing to render"),
+    (Error::IoError, "read or write failed"),
+    (Error::TooLong, "page too long"),
+    (Error::Memory, "out of memory"),
+];
+
+fn is_text(alloc: Global, error: &Error, text: &str) -> Result<bool, AllocError> {
+    Ok(error.to_string(alloc)?.as_str() == text && error.text() == text)
 }
 
 #[test]
-fn errors_are_told(rt: HostRuntime) -> Result<(), Fail> {
-    let texts = [
-        (Error::TooNarrow, "output width not wide enough"),
-        (Error::Fail, "nothing to render"),
-        (Error::IoError, "read or write failed"),
-        (Error::TooLong, "page too long"),
-        (Error::Memory, "out of memory"),
-    ];
-    for (error, wanted) in texts {
-        holds(&rt, error.to_string(rt.alloc())?.as_str() == wanted, wanted);
-        holds(&rt, error.text() == wanted, wanted);
+fn errors_are_told(rt: HostRuntime) {
+    for (error, text) in &ERRORS {
+        told(&rt, is_text(rt.alloc(), error, text), text);
     }
-    Ok(())
 }

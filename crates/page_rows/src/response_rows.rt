@@ -1,14 +1,13 @@
 //! Command lines with a page, and what the program answers: its status, and what it writes to which stream.
 
-use crate::checks::holds;
-use crate::devices::{Shelf, Taker};
+use crate::checks::{holds, told};
+use crate::devices::{Shelf, Taker, page_by};
 use crate::page_rows::{FIRST_PAGE, FIRST_TEXT};
 use crate::word_rows::words_of;
 use html2text::{Device, Error, Outcome, Request, WordFault, carry_out, request_of, respond};
 use std::alloc::{AllocError, Global};
 use std::io;
 use std::io::ErrorKind;
-use std::test::Fail;
 
 /// A line of words, or why there is none; a page, the status, and the texts on standard output (none: some text) and on
 /// standard error (none: one that begins with the program's name).
@@ -183,76 +182,96 @@ fn words_or_fault(
     }
 }
 
-#[test]
-fn lines_are_answered(rt: HostRuntime) -> Result<(), Fail> {
-    let alloc = rt.alloc();
-    for (line, page, wanted, text, complaint) in ROWS {
-        let mut input = Device::new(page);
-        let mut output = Device::new(Taker::new(alloc));
-        let mut errors = Device::new(Taker::new(alloc));
-        let words = words_or_fault(alloc, line)?;
-        let status = respond(alloc, words, &Shelf, &mut input, &mut output, &mut errors);
-        let at = line.unwrap_or("no words");
-        holds(&rt, status == wanted, at);
-        let written = output.into_inner().taken;
-        let is_written = match text {
-            Some(text) => written.as_slice() == text.as_bytes(),
-            None => !written.is_empty(),
-        };
-        holds(&rt, is_written, at);
-        let told = errors.into_inner().taken;
-        let is_told = match complaint {
-            Some(complaint) => told.as_slice() == complaint.as_bytes(),
-            None => told.as_slice().starts_with(b"html2text: "),
-        };
-        holds(&rt, is_told, at);
-    }
-    Ok(())
+/// A status, and what is written on standard output and on standard error.
+#[derive(Drop)]
+struct Answer {
+    status: u8,
+    written: Vec<u8>,
+    told: Vec<u8>,
+}
+
+fn answer_to(
+    alloc: Global,
+    line: Result<&str, ErrorKind>,
+    page: &[u8],
+    output: Taker,
+) -> Result<Answer, AllocError> {
+    let words = words_or_fault(alloc, line)?;
+    let mut input = page_by(page, 8192);
+    let mut output = Device::new(output);
+    let mut errors = Device::new(Taker::new(alloc)?);
+    let status = respond(alloc, words, &Shelf, &mut input, &mut output, &mut errors);
+    let written = output.into_inner().taken;
+    let told = errors.into_inner().taken;
+    Ok(Answer {
+        status,
+        written,
+        told,
+    })
+}
+
+fn is_answered(alloc: Global, row: &Row) -> Result<bool, AllocError> {
+    let (line, page, status, text, complaint) = *row;
+    let found = answer_to(alloc, line, page, Taker::new(alloc)?)?;
+    let is_written = match text {
+        Some(text) => found.written.as_slice() == text.as_bytes(),
+        None => !found.written.is_empty(),
+    };
+    let is_told = match complaint {
+        Some(complaint) => found.told.as_slice() == complaint.as_bytes(),
+        None => found.told.as_slice().starts_with(b"html2text: "),
+    };
+    Ok(found.status == status && is_written && is_told)
 }
 
 #[test]
-fn a_refused_flush_is_told(rt: HostRuntime) -> Result<(), Fail> {
-    let alloc = rt.alloc();
-    for line in ["html2text --width 8", "html2text --help"] {
-        let words = Ok(words_of(alloc, line)?);
-        let mut input = Device::new(FIRST_PAGE);
-        let mut taker = Taker::new(alloc);
-        taker.is_stuck = true;
-        let mut output = Device::new(taker);
-        let mut errors = Device::new(Taker::new(alloc));
-        let status = respond(alloc, words, &Shelf, &mut input, &mut output, &mut errors);
-        holds(&rt, status == 1, line);
-        holds(&rt, !output.into_inner().taken.is_empty(), line);
-        let told = errors.into_inner().taken;
-        let complaint = b"html2text: read or write failed\n".as_slice();
-        holds(&rt, told.as_slice() == complaint, line);
+fn lines_are_answered(rt: HostRuntime) {
+    for row in &ROWS {
+        told(
+            &rt,
+            is_answered(rt.alloc(), row),
+            row.0.unwrap_or("no words"),
+        );
     }
-    Ok(())
+}
+
+static STUCK: [&str; 2] = ["html2text --width 8", "html2text --help"];
+
+fn is_stuck(alloc: Global, line: &str) -> Result<bool, AllocError> {
+    let mut taker = Taker::new(alloc)?;
+    taker.is_stuck = true;
+    let found = answer_to(alloc, Ok(line), FIRST_PAGE, taker)?;
+    let complaint = b"html2text: read or write failed\n".as_slice();
+    Ok(found.status == 1 && !found.written.is_empty() && found.told.as_slice() == complaint)
 }
 
 #[test]
-fn a_fault_of_standard_error_changes_nothing_else(rt: HostRuntime) -> Result<(), Fail> {
-    let alloc = rt.alloc();
-    let mut input = Device::new(b"<p>\xE6\xBC\xA2".as_slice());
-    let mut output = Device::new(Taker::new(alloc));
-    let mut taker = Taker::new(alloc);
+fn a_refused_flush_is_told(rt: HostRuntime) {
+    for line in &STUCK {
+        told(&rt, is_stuck(rt.alloc(), line), line);
+    }
+}
+
+// whether a page that is refused is, where standard error takes no more than the program's name
+fn is_refused(alloc: Global) -> Result<bool, AllocError> {
+    let mut input = page_by(b"<p>\xE6\xBC\xA2", 8192);
+    let mut output = Device::new(Taker::new(alloc)?);
+    let mut taker = Taker::new(alloc)?;
     taker.most = 4;
     taker.writes = 3;
     let mut errors = Device::new(taker);
     let request = request_of(alloc, Ok(words_of(alloc, "html2text --width 1")?));
-    let is_so = matches!(request, Ok(Request { width: 1, .. }));
-    holds(&rt, is_so, "the words");
+    let is_one = matches!(request, Ok(Request { width: 1, .. }));
     let outcome = carry_out(alloc, request, &Shelf, &mut input, &mut output, &mut errors);
-    holds(
-        &rt,
-        outcome == Outcome::Page(Error::TooNarrow),
-        "the outcome",
-    );
     let told = errors.into_inner().taken;
-    let is_so = told.as_slice() == b"html2text: ".as_slice();
-    holds(&rt, is_so, "what was told");
+    let is_begun = told.as_slice() == b"html2text: ".as_slice();
+    Ok(is_one && is_begun && outcome == Outcome::Page(Error::TooNarrow))
+}
+
+#[test]
+fn a_fault_of_standard_error_changes_nothing_else(rt: HostRuntime) {
+    told(&rt, is_refused(rt.alloc()), "the outcome");
     let text = WordFault::NotUtf8.text();
     let is_so = text == "a word of the command line is not UTF-8";
     holds(&rt, is_so, "a text of words");
-    Ok(())
 }

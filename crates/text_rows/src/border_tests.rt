@@ -198,13 +198,13 @@ static CHOPPED: [(BorderSegHoriz, char, char, char); 12] = [
 
 #[test]
 fn segments_lose_an_arm(rt: HostRuntime) {
-    for (segment, whole, left_off, right_off) in CHOPPED {
-        let mut left = segment;
+    for (segment, whole, left_off, right_off) in &CHOPPED {
+        let mut left = *segment;
         left.chop_left();
-        let mut right = segment;
+        let mut right = *segment;
         right.chop_right();
-        let glyphs = (segment.glyph(), left.glyph(), right.glyph());
-        holds(&rt, glyphs == (whole, left_off, right_off), "a segment");
+        let is_so = segment.glyph() == *whole && left.glyph() == *left_off;
+        holds(&rt, is_so && right.glyph() == *right_off, "a segment");
     }
 }
 

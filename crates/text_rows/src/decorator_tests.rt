@@ -1,8 +1,6 @@
-use crate::checks::holds;
+use crate::checks::{holds, told};
 use link_counting::{LinkCounter, LinkNote, counted_links, link, two_links};
 use std::alloc::{AllocError, Global};
-use std::process::Abort;
-use std::test::Fail;
 use text_decorators::{
     Colour, PlainDecorator, RichAnnotation, RichDecorator, TextDecorator, TrivialDecorator,
 };
@@ -107,64 +105,77 @@ fn lines_behind<D: TextDecorator>(alloc: Global, decorator: &mut D) -> Result<St
     Ok(text)
 }
 
-// Asks the sub-decorator of a clone for marks, prefixes and annotations, and whether its colours end.
-fn answers_are<R: AllocGlobal + Abort, D: TextDecorator + Clone + Drop>(
-    rt: &R,
+// Whether the sub-decorator of a clone gives these marks, prefixes and annotations, and ends its colours.
+fn answers_are<D: TextDecorator + Clone + Drop>(
+    alloc: Global,
     decorator: &D,
     marks: &str,
     prefixes: &str,
     notes: &[D::Annotation],
     ends_colours: bool,
-) -> Result<(), AllocError> {
-    let alloc = rt.alloc();
+) -> Result<bool, AllocError> {
     let mut sub = decorator.clone()?.make_subblock_decorator(alloc)?;
     let mut text = String::new(alloc);
     let mut given = Vec::new(alloc);
     add_marks(alloc, &mut sub, &mut text, &mut given)?;
     add_notes(alloc, &mut sub, &mut given)?;
-    holds(rt, text.as_str() == marks, marks);
-    holds(rt, given.as_slice() == notes, "notes");
-    let text = prefixes_of(alloc, &sub)?;
-    holds(rt, text.as_str() == prefixes, prefixes);
-    let ends = (sub.pop_colour(), sub.pop_bgcolour());
-    holds(rt, ends == (ends_colours, ends_colours), "colours that end");
-    let text = lines_behind(alloc, &mut sub)?;
-    holds(rt, text.as_str() == "[1]: u|[2]: v|", "footnotes");
-    Ok(())
+    let is_so = text.as_str() == marks && given.as_slice() == notes;
+    let is_so = is_so && prefixes_of(alloc, &sub)?.as_str() == prefixes;
+    let is_so = is_so && sub.pop_colour() == ends_colours && sub.pop_bgcolour() == ends_colours;
+    Ok(is_so && lines_behind(alloc, &mut sub)?.as_str() == "[1]: u|[2]: v|")
+}
+
+const PREFIXES: &str = "# |### |> |* |10. |-7. |";
+
+const BARE: &str = "x x x x x ^{x} t";
+
+fn is_rich(alloc: Global) -> Result<bool, AllocError> {
+    let notes = rich_notes(alloc)?;
+    answers_are(alloc, &RichDecorator::new(), BARE, PREFIXES, &notes, true)
+}
+
+fn is_plain(alloc: Global) -> Result<bool, AllocError> {
+    let marks = "[x] x x x x ^{x} [t]";
+    answers_are(
+        alloc,
+        &PlainDecorator::new(),
+        marks,
+        PREFIXES,
+        &[(); 9],
+        false,
+    )
+}
+
+fn is_trivial(alloc: Global) -> Result<bool, AllocError> {
+    answers_are(
+        alloc,
+        &TrivialDecorator::new(),
+        BARE,
+        "||||||",
+        &[(); 9],
+        false,
+    )
+}
+
+fn is_counter(alloc: Global) -> Result<bool, AllocError> {
+    let marks = "[x][1] x x x x ^{x} [t]";
+    let mut notes = [LinkNote::Outside; 9];
+    notes[0] = LinkNote::Link(1);
+    answers_are(alloc, &LinkCounter::new(), marks, PREFIXES, &notes, false)
 }
 
 // The answers of html2text; the counter marks links and notes in its own way, and the rest as plain text does.
 #[test]
-fn answers_of_each_decorator(rt: HostRuntime) -> Result<(), Fail> {
-    let prefixes = "# |### |> |* |10. |-7. |";
-    let plain = "[x] x x x x ^{x} [t]";
-    answers_are(
-        &rt,
-        &PlainDecorator::new(),
-        plain,
-        prefixes,
-        &[(); 9],
-        false,
-    )?;
-    let bare = "x x x x x ^{x} t";
-    answers_are(
-        &rt,
-        &TrivialDecorator::new(),
-        bare,
-        "||||||",
-        &[(); 9],
-        false,
-    )?;
-    let notes = rich_notes(rt.alloc())?;
-    answers_are(&rt, &RichDecorator::new(), bare, prefixes, &notes, true)?;
-    let counted = "[x][1] x x x x ^{x} [t]";
-    let mut notes = [LinkNote::Outside; 9];
-    notes[0] = LinkNote::Link(1);
-    answers_are(&rt, &LinkCounter::new(), counted, prefixes, &notes, false)?;
-    Ok(())
+fn answers_of_each_decorator(rt: HostRuntime) {
+    let alloc = rt.alloc();
+    told(&rt, is_plain(alloc), "plain");
+    told(&rt, is_trivial(alloc), "trivial");
+    told(&rt, is_rich(alloc), "rich");
+    told(&rt, is_counter(alloc), "a counter");
 }
 
-fn rich_notes(alloc: Global) -> Result<Vec<RichAnnotation>, AllocError> {
+/// The annotations that rich text gives to a link, inline parts, an image, texts as they are laid out, and colours.
+pub(crate) fn rich_notes(alloc: Global) -> Result<Vec<RichAnnotation>, AllocError> {
     let notes = vec![in alloc;
         RichAnnotation::Link(String::from_str(alloc, "u")?),
         RichAnnotation::Emphasis,
@@ -181,25 +192,36 @@ fn rich_notes(alloc: Global) -> Result<Vec<RichAnnotation>, AllocError> {
     Ok(notes)
 }
 
-#[test]
-fn a_second_link(rt: HostRuntime) -> Result<(), Fail> {
-    let alloc = rt.alloc();
-    let plain = two_links(alloc, &mut PlainDecorator::new(), "u", "a")?;
-    holds(&rt, are(&plain, "[a]", "[a]"), "plain");
-    let rich = two_links(alloc, &mut RichDecorator::new(), "u", "a")?;
-    holds(&rt, are(&rich, "a", "a"), "rich");
-    let counted = counted_links(alloc, "u", "a")?;
-    holds(&rt, are(&counted, "[a][1]", "[a][2]"), "a counter");
+/// The texts of two links.
+type Links = Result<(String, String), AllocError>;
+
+// links by a counter and by its sub-decorator
+fn links_of_a_part(alloc: Global) -> Links {
     let mut counter = LinkCounter::new();
     let first = link(alloc, &mut counter, "u", "a")?;
     let mut sub = counter.make_subblock_decorator(alloc)?;
     let second = link(alloc, &mut sub, "v", "b")?;
-    holds(&rt, are(&(first, second), "[a][1]", "[b][2]"), "a part's");
-    Ok(())
+    Ok((first, second))
 }
 
-fn are(links: &(String, String), first: &str, second: &str) -> bool {
-    links.0.as_str() == first && links.1.as_str() == second
+fn are(links: Links, first: &str, second: &str) -> bool {
+    match links {
+        Ok((one, other)) => one.as_str() == first && other.as_str() == second,
+        Err(_error) => false,
+    }
+}
+
+#[test]
+fn a_second_link(rt: HostRuntime) {
+    let alloc = rt.alloc();
+    let plain = two_links(alloc, &mut PlainDecorator::new(), "u", "a");
+    holds(&rt, are(plain, "[a]", "[a]"), "plain");
+    let rich = two_links(alloc, &mut RichDecorator::new(), "u", "a");
+    holds(&rt, are(rich, "a", "a"), "rich");
+    let counted = counted_links(alloc, "u", "a");
+    holds(&rt, are(counted, "[a][1]", "[a][2]"), "a counter");
+    let of_a_part = links_of_a_part(alloc);
+    holds(&rt, are(of_a_part, "[a][1]", "[b][2]"), "a part's");
 }
 
 /// This one holds also where a request for memory is refused, each in turn: `rt try --test --fail-alloc N`.

@@ -1,5 +1,5 @@
 //! Tests alone: lines, blocks and renderers, borders and rows of cells, and what decorators answer, with texts that are
-//! worked out by hand or from elsewhere. What the calls of a renderer give is told by the program block_calls.
+//! worked out by hand or from elsewhere. What the calls of a renderer give stands in the cases `blocks` of stored_rows.
 #![tactic(auto)]
 
 #[cfg(test)]
@@ -14,8 +14,6 @@ mod checks;
 mod decorator_tests;
 #[cfg(test)]
 mod line_tests;
-#[cfg(test)]
-mod mark;
 #[cfg(test)]
 mod renderer_tests;
 #[cfg(test)]

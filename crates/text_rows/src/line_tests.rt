@@ -1,7 +1,11 @@
 use crate::checks::told;
-use crate::mark::Mark;
+use link_counting::LinkNote;
 use std::alloc::{AllocError, Global};
 use text_decorators::{EqualCopy, TaggedLine, TaggedLineElement, TaggedString};
+
+const PLAIN: LinkNote = LinkNote::Outside;
+
+const STRONG: LinkNote = LinkNote::Link(1);
 
 /// Whether a line has these texts, each ended by `/`, and so many columns.
 fn is_line<T: EqualCopy + Drop>(
@@ -19,12 +23,12 @@ fn is_line<T: EqualCopy + Drop>(
 }
 
 /// `a漢b` of one tag, and `c` of another.
-fn two_tags(alloc: Global) -> Result<TaggedLine<Mark>, AllocError> {
+fn two_tags(alloc: Global) -> Result<TaggedLine<LinkNote>, AllocError> {
     let mut line = TaggedLine::new(alloc);
-    line.push_str("a漢", &Mark::Plain)?;
-    line.push_char('b', &Mark::Plain)?;
-    line.push_str("", &Mark::Strong)?;
-    line.push_char('c', &Mark::Strong)?;
+    line.push_str("a漢", &PLAIN)?;
+    line.push_char('b', &PLAIN)?;
+    line.push_str("", &STRONG)?;
+    line.push_char('c', &STRONG)?;
     Ok(line)
 }
 
@@ -35,8 +39,8 @@ fn do_equal_tags_join(alloc: Global) -> Result<bool, AllocError> {
     Ok(is_so && line.is_empty() && line.width() == 0)
 }
 
-fn line_of(alloc: Global, text: &str) -> Result<TaggedLine<Mark>, AllocError> {
-    TaggedLine::from_string(alloc, String::from_str(alloc, text)?, &Mark::Plain)
+fn line_of(alloc: Global, text: &str) -> Result<TaggedLine<LinkNote>, AllocError> {
+    TaggedLine::from_string(alloc, String::from_str(alloc, text)?, &PLAIN)
 }
 
 fn do_lines_join(alloc: Global) -> Result<bool, AllocError> {
@@ -45,15 +49,15 @@ fn do_lines_join(alloc: Global) -> Result<bool, AllocError> {
     let is_copied = other.try_clone()? == other && line != other;
     line.push_line(&other)?;
     let is_joined = is_line(alloc, &line, "abcd/", 4)?;
-    other.push_char('漢', &Mark::Strong)?;
+    other.push_char('漢', &STRONG)?;
     line.push_line(&other)?;
     line.push_line(&other)?;
     Ok(is_copied && is_joined && is_line(alloc, &line, "abcdcd/漢/cd/漢/", 12)?)
 }
 
-fn are_plain(line: &TaggedLine<Mark>) -> bool {
+fn are_plain(line: &TaggedLine<LinkNote>) -> bool {
     for string in line.tagged_strings() {
-        if string.tag != Mark::Plain {
+        if string.tag != PLAIN {
             return false;
         }
     }
@@ -61,7 +65,7 @@ fn are_plain(line: &TaggedLine<Mark>) -> bool {
 }
 
 fn do_tags_change_alone(alloc: Global) -> Result<bool, AllocError> {
-    let plain = two_tags(alloc)?.map_tag(&|_| Mark::Plain)?;
+    let plain = two_tags(alloc)?.map_tag(&|_| PLAIN)?;
     let is_so = is_line(alloc, &plain, "a漢b/c/", 5)? && are_plain(&plain);
     Ok(is_so && plain.into_iter().count() == 2)
 }
@@ -69,19 +73,19 @@ fn do_tags_change_alone(alloc: Global) -> Result<bool, AllocError> {
 fn is_string(alloc: Global) -> Result<bool, AllocError> {
     let string = TaggedString {
         s: String::from_str(alloc, "漢")?,
-        tag: Mark::Plain,
+        tag: PLAIN,
     };
     let is_copy = string.try_clone()? == string && string.width() == 2;
-    Ok(is_copy && string.map_tag(&|_| Mark::Strong).tag == Mark::Strong)
+    Ok(is_copy && string.map_tag(&|_| STRONG).tag == STRONG)
 }
 
 fn is_element(alloc: Global) -> Result<bool, AllocError> {
     let element = TaggedLineElement::Str(TaggedString {
         s: String::from_str(alloc, "漢")?,
-        tag: Mark::Plain,
+        tag: PLAIN,
     });
     let is_copy = element.try_clone()? == element && element.width() == 2;
-    Ok(is_copy && element.map_tag(&|_| Mark::Strong).as_str() == "漢")
+    Ok(is_copy && element.map_tag(&|_| STRONG).as_str() == "漢")
 }
 
 fn are_lists_tags(alloc: Global) -> Result<bool, AllocError> {

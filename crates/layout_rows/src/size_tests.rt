@@ -1,9 +1,8 @@
-use crate::checks::holds;
-use crate::page_tests::tree_of;
+use crate::checks::{told, tree_of};
+use html_render_tree::RenderError;
 use render_conversion::dom_to_render_tree;
 use render_sizes::{Prefixes, measured};
 use std::alloc::{AllocError, Global};
-use std::test::Fail;
 
 // prefixes of so many columns: one more than the level before a heading, two before a quote and an item, three before
 // an item with a number
@@ -37,7 +36,7 @@ impl Prefixes for Steady {
 }
 
 // of each node in order its columns on one line and at least, where text may be three columns narrow
-const SIZES: [(&str, &str); 4] = [
+static SIZES: [(&str, &str); 4] = [
     (
         "<p>ab c<a href=u>de</a><br>",
         "12 3\n12 3\n12 3\n12 3\n4 3\n7 2\n2 2\n1 1\n",
@@ -53,22 +52,22 @@ const SIZES: [(&str, &str); 4] = [
     ),
 ];
 
-fn sizes_of(alloc: Global, page: &str) -> Result<String, Fail> {
-    let dom = tree_of(alloc, page)?;
+fn are_sizes(alloc: Global, page: &str, wanted: &str) -> Result<bool, RenderError> {
+    let Ok(dom) = tree_of(alloc, page) else {
+        return Ok(false);
+    };
     let tree = dom_to_render_tree(alloc, &dom, &[])?;
     let mut lines = String::new(alloc);
     let sizes = measured(alloc, &Steady, 3, &tree)?;
     for size in sizes.iter() {
         write!(lines, "{} {}\n", size.size, size.least)?;
     }
-    Ok(lines)
+    Ok(lines.as_str() == wanted)
 }
 
 #[test]
-fn values_have_sizes(rt: HostRuntime) -> Result<(), Fail> {
-    let alloc = rt.alloc();
+fn values_have_sizes(rt: HostRuntime) {
     for (row, (page, lines)) in SIZES.iter().enumerate() {
-        holds(&rt, sizes_of(alloc, page)?.as_str() == *lines, row);
+        told(&rt, are_sizes(rt.alloc(), page, lines), row);
     }
-    Ok(())
 }

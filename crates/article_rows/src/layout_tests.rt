@@ -1,20 +1,14 @@
 //! The lines of an article where memory is refused.
+use crate::building::{Step, article_of};
+use crate::checks::holds;
 use article_answers::{ArticleLine, Config, Error, LayArticle};
-use article_values::{Article, ArticleError, Block, Inline};
+use article_values::Article;
 use html_lexemes::ReferenceTable;
-use std::alloc::{AllocError, Global};
+use std::alloc::Global;
 use text_decorators::PlainDecorator;
 
-// a paragraph with a link
-fn linked(alloc: Global) -> Result<Result<Article, ArticleError>, AllocError> {
-    let mut inner = Vec::new(alloc);
-    inner.push(Inline::Text(String::from_str(alloc, "Hi")?))?;
-    let mut contents = Vec::new(alloc);
-    contents.push(Inline::Link(String::from_str(alloc, "x\"y")?, inner))?;
-    let mut blocks = Vec::new(alloc);
-    blocks.push(Block::Paragraph(contents))?;
-    Ok(Article::new(None, blocks))
-}
+/// A paragraph with a link.
+static LINKED: [Step; 3] = [Step::Text("Hi"), Step::Link("x\"y"), Step::Paragraph];
 
 // whether a line begins with that text, in the first paragraph or in none
 fn is_line(line: &ArticleLine, text: &str, paragraph: Option<usize>) -> bool {
@@ -52,12 +46,15 @@ fn lines_of(
     first
 }
 
-// whether the article has its lines, or there is no memory for a configuration
-fn is_answered(alloc: Global, article: &Article) -> bool {
+// whether the article has its lines, or there is no memory for it or for a configuration
+fn is_laid_or_refused(alloc: Global) -> bool {
+    let Ok(Ok(article)) = article_of(alloc, None, &LINKED) else {
+        return true;
+    };
     let Ok(config) = plain(alloc) else {
         return true;
     };
-    match lines_of(alloc, article, &config) {
+    match lines_of(alloc, &article, &config) {
         Ok(lines) => is_laid(&lines),
         Err(_) => false,
     }
@@ -66,9 +63,5 @@ fn is_answered(alloc: Global, article: &Article) -> bool {
 /// This one holds also where a request for memory is refused, each in turn: `rt try --test --fail-alloc N`.
 #[test]
 fn an_article_is_laid_out_or_refused(rt: HostRuntime) {
-    let alloc = rt.alloc();
-    let Ok(Ok(article)) = linked(alloc) else {
-        return;
-    };
-    assert!(rt; is_answered(alloc, &article));
+    holds(&rt, is_laid_or_refused(rt.alloc()), 0);
 }

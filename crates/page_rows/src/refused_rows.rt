@@ -1,13 +1,10 @@
 //! Rows that hold also where a request for memory is refused, each in turn: `rt try --test --fail-alloc N`. What stands
-//! behind a refusal is asked again, where it answers as if there had been none.
-use html2text::{Config, Device, Error, Page, PlainDecorator, RcDom, ReferenceTable, TableError};
+//! after a refusal is asked again, where it answers as if there had been none.
+use crate::checks::{holds, is_answer, plain};
+use crate::devices::page_by;
+use crate::piece_rows::tree_of;
+use html2text::{Config, Error, PlainDecorator, RcDom, ReferenceTable, TableError};
 use std::alloc::Global;
-use std::process::Abort;
-
-// ends the test where something does not hold, and says at what
-fn holds<R: Abort>(rt: &R, is_so: bool, at: &str) {
-    assert!(rt; is_so, "at {at}");
-}
 
 const NAMES: &str = "{\"&not\":{\"codepoints\":[172]},\"&notin;\":{\"codepoints\":[8713]}}";
 
@@ -55,7 +52,7 @@ fn text_of_row(alloc: Global, row: &Row) -> Result<String, Error> {
     } else {
         Config::plain_no_decorate(alloc, table)
     };
-    let mut input = Device::new(row.3);
+    let mut input = page_by(row.3, 8192);
     config.string_from_read(alloc, &mut input, row.2)
 }
 
@@ -102,28 +99,9 @@ fn has_fault(alloc: Global, json: &str, wanted: &str) -> bool {
 
 #[test]
 fn tables_have_their_fault_or_are_refused(rt: HostRuntime) {
-    for (json, wanted) in TABLES {
+    for (json, wanted) in &TABLES {
         holds(&rt, has_fault(rt.alloc(), json, wanted), json);
     }
-}
-
-// the tree of a page that comes by single bytes; behind a refusal the page takes no more
-fn tree_of<R: Abort>(
-    rt: &R,
-    alloc: Global,
-    config: &Config<PlainDecorator>,
-) -> Result<RcDom, Error> {
-    let mut page = Page::new(alloc, config)?;
-    for byte in SPANNED {
-        if let Err(error) = page.push(&[*byte]) {
-            let later = page.push(b"");
-            holds(rt, later == Err(Error::Fail), "a piece behind a refusal");
-            let end = page.finish().err();
-            holds(rt, end == Some(Error::Fail), "the end behind a refusal");
-            return Err(error);
-        }
-    }
-    page.finish()
 }
 
 fn text_of(alloc: Global, config: &Config<PlainDecorator>, dom: &RcDom) -> Result<String, Error> {
@@ -131,31 +109,19 @@ fn text_of(alloc: Global, config: &Config<PlainDecorator>, dom: &RcDom) -> Resul
     config.render_to_string(alloc, tree, 20)
 }
 
-// whether an answer is that text
-fn is_text(found: Result<String, Error>, wanted: &str) -> bool {
-    match found {
-        Ok(text) => text.as_str() == wanted,
-        Err(_error) => false,
-    }
-}
-
 #[test]
 fn a_refused_page_goes_no_further(rt: HostRuntime) {
     let alloc = rt.alloc();
-    let Ok(table) = ReferenceTable::basic(alloc) else {
+    let Ok(config) = plain(alloc) else {
         return;
     };
-    let Ok(config) = Config::plain(alloc, table) else {
-        return;
-    };
-    match tree_of(&rt, alloc, &config) {
+    match tree_of(&rt, alloc, &config, SPANNED) {
         Ok(dom) => {
             let mut text = text_of(alloc, &config, &dom);
             if text == Err(Error::Memory) {
                 text = text_of(alloc, &config, &dom);
             }
-            let is_so = is_text(text, SPANNED_TEXT);
-            holds(&rt, is_so, "a tree that stands");
+            holds(&rt, is_answer(text, Ok(SPANNED_TEXT)), "a tree that stands");
         }
         Err(error) => holds(&rt, error == Error::Memory, "a page that is refused"),
     }
