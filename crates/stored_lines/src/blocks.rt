@@ -1,6 +1,6 @@
 //! Lines that scripts of renderer calls give.
 use crate::block::Pieces;
-use crate::calls::Blocks;
+use crate::calls::performed;
 use crate::elements::{Named, push_elements};
 use anyhow::{Result, bail};
 use block_renderer::SubRenderer;
@@ -114,11 +114,8 @@ fn lines_of<D: TextDecorator + Drop>(
     pieces: Pieces,
 ) -> Result<Result<Vec<RenderLine<Vec<D::Annotation>>>, BlockError>> {
     let renderer = SubRenderer::new(alloc, script.width, script.options, decorator);
-    let mut blocks = Blocks::new(alloc, renderer, pieces);
-    for call in script.calls.lines() {
-        if let Err(error) = blocks.perform(call)? {
-            return Ok(Err(error));
-        }
-    }
-    Ok(blocks.into_renderer()?.into_lines())
+    Ok(match performed(alloc, renderer, script.calls, pieces)? {
+        Ok(renderer) => renderer.into_lines(),
+        Err(error) => Err(error),
+    })
 }

@@ -5,10 +5,27 @@ use renderer_calls::Renderer;
 use row_fields::unescaped;
 use std::alloc::Global;
 use std::mem;
+use text_pieces::BlockError;
+
+/// The renderer that has taken the calls of a script, a line each, or what it answered to one that it refused.
+pub(crate) fn performed<R: Renderer + Drop>(
+    alloc: Global,
+    renderer: R,
+    calls: &str,
+    pieces: Pieces,
+) -> Result<Result<R, BlockError>> {
+    let mut blocks = Blocks::new(alloc, renderer, pieces);
+    for call in calls.lines() {
+        if let Err(error) = blocks.perform(call)? {
+            return Ok(Err(error));
+        }
+    }
+    Ok(Ok(blocks.into_renderer()?))
+}
 
 /// The block that calls go to, and those around it.
 #[derive(Drop)]
-pub(crate) struct Blocks<R> {
+struct Blocks<R> {
     /// Those around the running one, the outermost first.
     around: Vec<Block<R>>,
     running: Block<R>,
@@ -19,7 +36,7 @@ pub(crate) struct Blocks<R> {
 
 impl<R: Renderer + Drop> Blocks<R> {
     /// The block of that renderer alone.
-    pub(crate) fn new(alloc: Global, renderer: R, pieces: Pieces) -> Blocks<R> {
+    fn new(alloc: Global, renderer: R, pieces: Pieces) -> Blocks<R> {
         Blocks {
             around: Vec::new(alloc),
             running: Block::new(alloc, renderer, pieces),
@@ -29,7 +46,7 @@ impl<R: Renderer + Drop> Blocks<R> {
     }
 
     /// Does what a line says: a word, and up to two fields behind tabs.
-    pub(crate) fn perform(&mut self, line: &str) -> Answer {
+    fn perform(&mut self, line: &str) -> Answer {
         let Some((word, fields)) = line.split_once('\t') else {
             return match line {
                 "pop" => self.pop(),
@@ -47,7 +64,7 @@ impl<R: Renderer + Drop> Blocks<R> {
     }
 
     /// The renderer of the outermost block, to which each part must have come back.
-    pub(crate) fn into_renderer(self) -> Result<R> {
+    fn into_renderer(self) -> Result<R> {
         let Blocks {
             around,
             running,

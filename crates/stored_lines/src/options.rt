@@ -2,6 +2,7 @@
 use anyhow::{Result, bail};
 use html_render_tree::RenderConfig;
 use renderer_calls::ImageRenderMode;
+use std::alloc::Global;
 use std::num::NonZeroUsize;
 use text_decorators::TextDecorator;
 
@@ -57,22 +58,35 @@ impl PageOption {
     }
 }
 
-/// The option that a word names. `empty_img_mode=Replace,R S` is two words, of which the second names none.
-pub(crate) fn option_of(word: &str) -> Result<Option<PageOption>> {
-    let option = match word.split_once('=') {
-        Some((name, value)) => option_with(name, value)?,
-        None => match word {
-            "" | "S" => return Ok(None),
-            "pad_block_width" => PageOption::PadBlockWidth,
-            "fence_tables" => PageOption::FenceTables,
-            "no_link_wrapping" => PageOption::NoLinkWrapping,
-            "no_unicode_strikeout" => PageOption::NoUnicodeStrikeout,
-            "allow_width_overflow" => PageOption::AllowWidthOverflow,
-            "no_table_borders" => PageOption::NoTableBorders,
-            _ => bail!("no option has the name {word}"),
-        },
-    };
-    Ok(Some(option))
+/// The options of a field, with a space between them. `empty_img_mode=Replace,R S` is two words, of which the second
+/// names none.
+pub(crate) fn options_of(alloc: Global, field: &str) -> Result<Vec<PageOption>> {
+    let mut options = Vec::new(alloc);
+    for word in field.split(' ') {
+        if !matches!(word, "" | "S") {
+            options.push(option_of(word)?)?;
+        }
+    }
+    Ok(options)
+}
+
+fn option_of(word: &str) -> Result<PageOption> {
+    match word.split_once('=') {
+        Some((name, value)) => option_with(name, value),
+        None => bare_option(word),
+    }
+}
+
+fn bare_option(name: &str) -> Result<PageOption> {
+    match name {
+        "pad_block_width" => Ok(PageOption::PadBlockWidth),
+        "fence_tables" => Ok(PageOption::FenceTables),
+        "no_link_wrapping" => Ok(PageOption::NoLinkWrapping),
+        "no_unicode_strikeout" => Ok(PageOption::NoUnicodeStrikeout),
+        "allow_width_overflow" => Ok(PageOption::AllowWidthOverflow),
+        "no_table_borders" => Ok(PageOption::NoTableBorders),
+        _ => bail!("no option has the name {name}"),
+    }
 }
 
 fn option_with(name: &str, value: &str) -> Result<PageOption> {

@@ -1,6 +1,6 @@
 //! Lines of pages by a configuration.
 use crate::elements::{Named, push_elements};
-use crate::options::option_of;
+use crate::options::{PageOption, options_of};
 use crate::rules::rule_of;
 use anyhow::{Result, bail};
 use html_lexemes::ReferenceTable;
@@ -16,11 +16,10 @@ use text_decorators::{PlainDecorator, RichDecorator, TextDecorator, TrivialDecor
 
 /// A page, and how it is rendered, but for its decorator.
 #[derive(Drop)]
-struct Case<'a> {
+struct Case {
     /// The width of a line, in columns.
     width: usize,
-    /// With a space between them.
-    options: &'a str,
+    options: Vec<PageOption>,
     rules: Vec<StyleRule>,
     text: String,
 }
@@ -53,7 +52,7 @@ pub fn answer(alloc: Global, row: &str) -> Result<String> {
     }
 }
 
-fn case_of(alloc: Global, fields: &str) -> Result<Case<'_>> {
+fn case_of(alloc: Global, fields: &str) -> Result<Case> {
     let mut fields = fields.split('\t');
     let (Some(width), Some(options), Some(text)) = (fields.next(), fields.next(), fields.next())
     else {
@@ -65,7 +64,7 @@ fn case_of(alloc: Global, fields: &str) -> Result<Case<'_>> {
     }
     Ok(Case {
         width: width.parse()?,
-        options,
+        options: options_of(alloc, options)?,
         rules,
         text: unescaped(alloc, text)?,
     })
@@ -74,27 +73,40 @@ fn case_of(alloc: Global, fields: &str) -> Result<Case<'_>> {
 /// The lines by a configuration that lacks the options and rules.
 fn lines_by<D: TextDecorator + Drop>(
     alloc: Global,
-    case: Case<'_>,
+    case: Case,
     config: RenderConfig<D>,
 ) -> Result<String>
 where
     D::Annotation: Named,
 {
+    let Case {
+        width,
+        options,
+        rules,
+        text,
+    } = case;
     let mut config = config;
-    for word in case.options.split(' ') {
-        if let Some(option) = option_of(word)? {
-            config = option.applied(config);
-        }
+    for option in options.iter() {
+        config = option.applied(config);
     }
-    let config = config.style_rules(case.rules)?;
-    let page = case.text.as_bytes();
-    let lines = lines_shown(
-        alloc,
-        &config,
-        &tree_of(alloc, page, page.len())?,
-        case.width,
-    )?;
-    if lines_shown(alloc, &config, &tree_of(alloc, page, 1)?, case.width)? != lines {
+    let config = config.style_rules(rules)?;
+    lines_however_read(alloc, &config, text.as_bytes(), width)
+}
+
+/// The lines of a page, which are the same however its bytes come.
+fn lines_however_read<D: TextDecorator + Drop>(
+    alloc: Global,
+    config: &RenderConfig<D>,
+    page: &[u8],
+    width: usize,
+) -> Result<String>
+where
+    D::Annotation: Named,
+{
+    let whole = tree_of(alloc, page, page.len())?;
+    let lines = lines_shown(alloc, config, &whole, width)?;
+    let by_bytes = tree_of(alloc, page, 1)?;
+    if lines_shown(alloc, config, &by_bytes, width)? != lines {
         bail!("other lines, a byte at a time");
     }
     Ok(lines)
