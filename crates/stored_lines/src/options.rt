@@ -28,7 +28,7 @@ pub(crate) enum PageOption {
     /// Tables have no borders.
     NoTableBorders,
     /// How an image with an empty title is rendered.
-    EmptyImgMode(ImageRenderMode),
+    EmptyImgMode(EmptyImage),
     /// Whether the targets of links stand behind the page.
     LinkFootnotes(bool),
     /// Whether links to equal targets share a footnote.
@@ -51,9 +51,30 @@ impl PageOption {
             PageOption::AllowWidthOverflow => config.allow_width_overflow(),
             PageOption::RawMode(raw) => config.raw_mode(raw),
             PageOption::NoTableBorders => config.no_table_borders(),
-            PageOption::EmptyImgMode(mode) => config.empty_img_mode(mode),
+            PageOption::EmptyImgMode(image) => config.empty_img_mode(image.render_mode()),
             PageOption::LinkFootnotes(include) => config.link_footnotes(include),
             PageOption::SharedFootnotes(shared) => config.shared_footnotes(shared),
+        }
+    }
+}
+
+/// How an image with an empty title is rendered.
+#[derive(Clone, Copy)]
+pub(crate) enum EmptyImage {
+    /// As it is.
+    Shown,
+    /// By the end of its source.
+    Named,
+    /// By the one text that rows name.
+    Replaced,
+}
+
+impl EmptyImage {
+    fn render_mode(self) -> ImageRenderMode {
+        match self {
+            EmptyImage::Shown => ImageRenderMode::ShowAlways,
+            EmptyImage::Named => ImageRenderMode::Filename,
+            EmptyImage::Replaced => ImageRenderMode::Replace("R S"),
         }
     }
 }
@@ -63,9 +84,10 @@ impl PageOption {
 pub(crate) fn options_of(alloc: Global, field: &str) -> Result<Vec<PageOption>> {
     let mut options = Vec::new(alloc);
     for word in field.split(' ') {
-        if !matches!(word, "" | "S") {
-            options.push(option_of(word)?)?;
+        if word.is_empty() || word == "S" {
+            continue;
         }
+        options.push(option_of(word)?)?;
     }
     Ok(options)
 }
@@ -96,13 +118,9 @@ fn option_with(name: &str, value: &str) -> Result<PageOption> {
         ("raw_mode", raw) => Ok(PageOption::RawMode(raw.parse()?)),
         ("link_footnotes", include) => Ok(PageOption::LinkFootnotes(include.parse()?)),
         ("shared_footnotes", shared) => Ok(PageOption::SharedFootnotes(shared.parse()?)),
-        ("empty_img_mode", "ShowAlways") => {
-            Ok(PageOption::EmptyImgMode(ImageRenderMode::ShowAlways))
-        }
-        ("empty_img_mode", "Filename") => Ok(PageOption::EmptyImgMode(ImageRenderMode::Filename)),
-        ("empty_img_mode", "Replace,R") => {
-            Ok(PageOption::EmptyImgMode(ImageRenderMode::Replace("R S")))
-        }
+        ("empty_img_mode", "ShowAlways") => Ok(PageOption::EmptyImgMode(EmptyImage::Shown)),
+        ("empty_img_mode", "Filename") => Ok(PageOption::EmptyImgMode(EmptyImage::Named)),
+        ("empty_img_mode", "Replace,R") => Ok(PageOption::EmptyImgMode(EmptyImage::Replaced)),
         _ => bail!("no option has the name {name} and the value {value}"),
     }
 }
