@@ -16,6 +16,7 @@ The verdict is `rt ci`'s alone: it also looks at the repository as a whole (HAND
 trusts nothing of before.
 """
 
+import atexit
 import copy
 import hashlib
 import importlib.machinery
@@ -91,7 +92,9 @@ class Gate:
     def __init__(self, rt, top):
         self.rt, self.lib = rt, rt.rtlib
         self.lib.stop = rt.stop
-        timed = f"{tempfile.mkdtemp(prefix='gate-on-')}/rattle"
+        room = tempfile.mkdtemp(prefix="gate-on-")
+        atexit.register(shutil.rmtree, room, ignore_errors=True)
+        timed = f"{room}/rattle"
         with open(timed, "w", encoding="utf-8") as it:
             it.write(TIMED.format(rattle=self.lib.RATTLE, times=f"{top}/times.log"))
         os.chmod(timed, 0o755)

@@ -7,8 +7,8 @@
 It prints a table with a row for each crate, and what libraries, programs, tests and edits take in all; with --write it
 puts the table into docs/GATE.md in place of the one there. A crate is proved, its tests are proved and built, and its
 must-fail/ edits are checked; a program's proof includes both compilers' builds. A measured run looks at the running
-checks twice a second, so a number may be short by half a second a check; `rt` itself, which reads the sources below each
-library before and after its proof, is counted beside them. With --anew all is proved, also what earlier runs kept on
+checks twice a second, so a number may be short by half a second a check; `rt` itself, which reads the sources below
+each library before and after its proof, is counted beside them. With --anew all is proved, also what earlier runs kept on
 this machine, by a kit that keeps it (another has no such word). The gate's own output goes to FOLDER/gate.log (a new
 folder in /tmp without one); its status is this program's.
 """
@@ -108,7 +108,8 @@ def noted(tree):
         log = f"{tree}/crates/{crate}/out/log-proof"
         if os.path.exists(log):
             with open(log, encoding="utf-8", errors="replace") as it:
-                functions.update((crate, count) for count in re.findall(r"^logic=proved functions=(\d+)", it.read(), re.M))
+                counts = re.findall(r"^logic=proved functions=(\d+)", it.read(), re.M)
+            functions.update((crate, count) for count in counts)
     return total, functions, f"measured in {tree}", 0
 
 

@@ -1,5 +1,5 @@
-//! Tests alone: values with each fault and values with none, an article that is written, by a writer that fails too, and
-//! one that is laid out; each of them also where memory is refused.
+//! Tests alone: values with each fault and values with none, an article that is written, by a writer that fails too,
+//! and one that is laid out; each of them also where memory is refused.
 #![tactic(auto)]
 
 #[cfg(test)]

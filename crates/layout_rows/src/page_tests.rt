@@ -97,8 +97,8 @@ impl Read for Pieces<'_> {
     }
 }
 
-/// How often a device that has a page of five bytes may be read, how many bytes the page may have, and what it shows, or
-/// why it shows nothing.
+/// How often a device that has a page of five bytes may be read, how many bytes the page may have, and what it shows,
+/// or why it shows nothing.
 static READS: [(usize, usize, &str, Option<ReadFault>); 3] = [
     (9, 5, "ab\n", None),
     (9, 4, "", Some(ReadFault::TooLong)),

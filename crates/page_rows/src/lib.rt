@@ -1,5 +1,5 @@
-//! Pages, configurations and command lines from outside, through the public calls of `html2text`, where devices fail and
-//! memory is refused too. Beside tests it has one theorem, on whole runs of the decoder.
+//! Pages, configurations and command lines from outside, through the public calls of `html2text`, where devices fail
+//! and memory is refused too. Beside tests it has one theorem, on whole runs of the decoder.
 #![tactic(auto)]
 
 mod decoded;

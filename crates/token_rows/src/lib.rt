@@ -1,6 +1,6 @@
-//! Tests alone, with answers from outside: calls of the lowest layers, the parse errors of lexemes, and what a tokenizer
-//! emits to a sink that chooses kinds of text, pauses, states and refusals. Rows of pages stand in the cases `tokens` of
-//! stored_rows.
+//! Tests alone, with answers from outside: calls of the lowest layers, the parse errors of lexemes, and what a
+//! tokenizer emits to a sink that chooses kinds of text, pauses, states and refusals. Rows of pages stand in the cases
+//! `tokens` of stored_rows.
 #![tactic(auto)]
 
 #[cfg(test)]

@@ -1,6 +1,6 @@
 //! Tests alone, with answers from outside: trees that are built by every call of a tree sink and by the calls of tree
-//! construction; each call of a parser; trees as lines and as HTML, what is asked of their nodes, and the styles of their
-//! elements; what a serializer writes, with a writer that fails and memory that is refused. What trees pages and
+//! construction; each call of a parser; trees as lines and as HTML, what is asked of their nodes, and the styles of
+//! their elements; what a serializer writes, with a writer that fails and memory that is refused. What trees pages and
 //! fragments have stands in the cases `tree` of stored_rows.
 #![tactic(auto)]
 
