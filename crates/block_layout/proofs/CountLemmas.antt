@@ -42,6 +42,22 @@ counted_behind (m ∷ lines) l =
     let e = counted_behind lines l in
     more (if m.content then 1 else 0) (content_count (lines ++ l ∷ [])) (content_count lines) (content_count (l ∷ [])) e
 
+all_behind : {T : Type 0} (lines more : List (LaidLine T))
+    → content_count (lines ++ more) ≡ content_count lines + content_count more
+all_behind [] more = sym (none_more (content_count more))
+all_behind (m ∷ lines) more =
+    shifted (if m.content then 1 else 0) (content_count (lines ++ more)) (content_count lines) (content_count more)
+    (all_behind lines more) where
+      shifted : (a n m k : ℕ) → n ≡ m + k → a + n ≡ (a + m) + k
+      shifted a n m k e = omega arith
+
+-- so many more
+pub counted_all_more : {T : Type 0} (lines more new : List (LaidLine T)) (n k m : ℕ) → n ≡ content_count lines
+    → k ≡ content_count more → m ≡ n + k → new ≡ lines ++ more → m ≡ content_count new
+counted_all_more lines more new n k m e f g h =
+    g ∙ sums n k (content_count lines) (content_count more) e f ∙ sym (all_behind lines more)
+    ∙ ap (λ ls. content_count ls) (sym h)
+
 -- one more, and one less
 pub counted_more : {T : Type 0} (lines new : List (LaidLine T)) (l : LaidLine T) (n k m : ℕ)
     → n ≡ content_count lines → k ≡ content_count (l ∷ []) → m ≡ n + k → new ≡ lines ++ l ∷ []

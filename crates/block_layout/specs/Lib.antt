@@ -2,3 +2,4 @@ pub mod Counts
 pub mod Laid
 pub mod LaidRows
 pub mod Seen
+pub mod Whole

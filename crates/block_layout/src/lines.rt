@@ -57,6 +57,20 @@ impl<T: EqualCopy + Drop> LaidLines<T> {
         Ok(())
     }
 
+    /// Moves lines to the end.
+    pub(crate) fn append(&mut self, lines: Vec<LaidLine<T>>) -> Result<(), AllocError>
+        ensures lines { OnOk result (lines_of T.seen self.new
+            ≡ lines_of T.seen self.old ++ map (laid_line_of T.seen) lines.items) }
+        ensures joined { HoldsJoinedLines T.seen self.old → AreLinesJoined T.seen lines.items
+            → HoldsJoinedLines T.seen self.new }
+    {
+        let mut lines = lines;
+        let filled = sum(self.filled, count(&lines)?)?;
+        self.lines.append(&mut lines)?;
+        self.filled = filled;
+        Ok(())
+    }
+
     /// Takes the last line off.
     pub(crate) fn pop(&mut self) -> Option<LaidLine<T>>
         ensures last { IfSome result (λ l. lines_of T.seen self.old
@@ -86,6 +100,18 @@ fn sum(count: usize, more: usize) -> Result<usize, AllocError>
     ensures { IfOk result (λ n. n ≡ count + more) }
 {
     count.checked_add(more).ok_or(AllocError)
+}
+
+fn count<T>(lines: &[LaidLine<T>]) -> Result<usize, AllocError>
+    ensures { IfOk result (λ n. n ≡ content_count lines.now) }
+{
+    let mut count = 0;
+    let mut rest = lines;
+    while let Some((line, others)) = rest.split_first() {
+        count = sum(count, weight(line))?;
+        rest = others;
+    }
+    Ok(count)
 }
 
 fn weight<T>(line: &LaidLine<T>) -> usize

@@ -1,16 +1,19 @@
 //! Lines of other blocks.
-ghost use Rattle.std.specs.Prelude.{◌≡◌, ◌⊎◌, ◌++◌, ◌||◌, None, Some, chars, map, IfErr, OnOk, IfOk};
+ghost use Rattle.std.specs.Prelude.{◌≡◌, ◌⊎◌, ◌++◌, ◌||◌, None, Some, chars, map, IfErr, OnOk, IfOk, IsTrue};
 ghost use Rattle.tagged_lines.specs.Tagged.{line_items, tagged, IsJoined};
-ghost use Rattle.text_borders.specs.Lines.{render_line_of};
+ghost use Rattle.text_borders.specs.Lines.{render_line_of, IsJoinedText};
 ghost use Rattle.text_cells.specs.Cells.{laid_line_of};
 ghost use Rattle.text_pieces.specs.Sources.{is_filled};
 ghost use Rattle.block_layout.specs.Laid.{content_as_text};
+ghost use Rattle.block_layout.specs.Seen.{AreLinesJoined};
+ghost use Rattle.block_layout.specs.Whole.{IsText, TakesAll, settled, with_texts};
 ghost use Rattle.text_pieces.specs.declared.fault.BlockError.TheVariants as errors;
 
 use crate::block::BlockLayout;
 use crate::measure::Measure;
 use crate::texts::{finished, holds_text};
 use std::alloc::{AllocError, Global};
+use std::mem;
 use tagged_lines::{EqualCopy, TaggedLine};
 use text_borders::{BorderHoriz, RenderLine};
 use text_cells::LaidLine;
@@ -78,6 +81,26 @@ impl<T: EqualCopy + Drop> BlockLayout<T> {
             (chars following.now) (map (laid_line_of T.seen) lines.items) (laid_of T.seen self.old)) }
         ensures joined { HasJoinedTexts T.seen self.old → HasJoinedTexts T.seen self.new }
     {
+        if self.takes_all(measure, first, following) {
+            return self.take_all(other, tag, lines);
+        }
+        self.add_each(other, measure, tag, first, following, lines)
+    }
+
+    // Adds lines of another block one by one.
+    fn add_each(
+        &mut self,
+        other: Measure,
+        measure: Measure,
+        tag: &T,
+        first: &str,
+        following: &str,
+        lines: Vec<LaidLine<T>>,
+    ) -> Result<(), AllocError>
+        ensures laid { OnOk result (laid_of T.seen self.new ≡ add_block other measure (T.seen tag.now) (chars first.now)
+            (chars following.now) (map (laid_line_of T.seen) lines.items) (laid_of T.seen self.old)) }
+        ensures joined { HasJoinedTexts T.seen self.old → HasJoinedTexts T.seen self.new }
+    {
         let mut lines = lines.into_iter();
         let Some(line) = lines.next() else {
             return Ok(());
@@ -87,6 +110,32 @@ impl<T: EqualCopy + Drop> BlockLayout<T> {
             self.add_prefixed(other, measure, tag, following, line)?;
         }
         Ok(())
+    }
+
+    // Whether lines of another block stand in this one as texts of it.
+    fn takes_all(&self, measure: Measure, first: &str, following: &str) -> bool
+        ensures { IsTrue result → TakesAll measure (chars first.now) (chars following.now) (laid_of T.seen self.now) }
+    {
+        if measure.pads || holds_text(first) || holds_text(following) {
+            return false;
+        }
+        self.markers.is_empty()
+    }
+
+    // Adds lines of another block as texts.
+    fn take_all(
+        &mut self,
+        other: Measure,
+        tag: &T,
+        lines: Vec<LaidLine<T>>,
+    ) -> Result<(), AllocError>
+        ensures laid { OnOk result (laid_of T.seen self.new ≡ with_texts other (T.seen tag.now)
+            (map (laid_line_of T.seen) lines.items) (laid_of T.seen self.old)) }
+        ensures joined { HasJoinedTexts T.seen self.old → HasJoinedTexts T.seen self.new }
+    {
+        let alloc = *self.markers.allocator();
+        let settled = settle_all(alloc, other, tag, lines)?;
+        self.lines.append(settled)
     }
 
     fn add_prefixed(
@@ -104,7 +153,7 @@ impl<T: EqualCopy + Drop> BlockLayout<T> {
         let content = has_content_behind(prefix, content_as_text(&line.line, line.content));
         let alloc = *self.markers.allocator();
         let text = finished(other, line.line)?.into_text(alloc, tag)?;
-        let prefixed = behind_prefix(alloc, prefix, tag, &text)?;
+        let prefixed = behind_prefix(alloc, prefix, tag, text)?;
         self.add_line(measure, tag, content, prefixed)
     }
 }
@@ -114,16 +163,71 @@ fn behind_prefix<T: EqualCopy + Drop>(
     alloc: Global,
     prefix: &str,
     tag: &T,
-    line: &TaggedLine<T>,
+    line: TaggedLine<T>,
 ) -> Result<TaggedLine<T>, AllocError>
     ensures items { IfOk result (λ prefixed. line_items T.seen prefixed
-        ≡ tagged (chars prefix.now) (T.seen tag.now) ++ line_items T.seen line.now) }
+        ≡ tagged (chars prefix.now) (T.seen tag.now) ++ line_items T.seen line) }
     ensures joined { IfOk result (IsJoined T.seen) }
 {
+    let mut line = line;
     let mut prefixed = TaggedLine::new(alloc);
     prefixed.push_str(prefix, tag)?;
-    prefixed.push_line(line)?;
+    prefixed.append(&mut line)?;
     Ok(prefixed)
+}
+
+// Makes texts of lines of another block, where they stand.
+fn settle_all<T: EqualCopy + Drop>(
+    alloc: Global,
+    other: Measure,
+    tag: &T,
+    mut lines: Vec<LaidLine<T>>,
+) -> Result<Vec<LaidLine<T>>, AllocError>
+    ensures lines { IfOk result (λ all. map (laid_line_of T.seen) all.items
+        ≡ map (settled other (T.seen tag.now)) (map (laid_line_of T.seen) lines.items)) }
+    ensures joined { IfOk result (λ all. AreLinesJoined T.seen all.items) }
+{
+    for line in lines.iter_mut() {
+        settle(alloc, other, tag, line)?;
+    }
+    Ok(lines)
+}
+
+// Makes a text of a line of another block, where it stands.
+fn settle<T: EqualCopy + Drop>(
+    alloc: Global,
+    other: Measure,
+    tag: &T,
+    line: &mut LaidLine<T>,
+) -> Result<(), AllocError>
+    ensures line { OnOk result (laid_line_of T.seen line.new
+        ≡ settled other (T.seen tag.now) (laid_line_of T.seen line.old)) }
+    ensures joined { OnOk result (IsJoinedText T.seen line.new.line) }
+{
+    // The common case.
+    if is_joined_text(&line.line) {
+        return Ok(());
+    }
+    let content = content_as_text(&line.line, line.content);
+    let empty = RenderLine::Text(TaggedLine::new(alloc));
+    let drawn = mem::replace(&mut line.line, empty);
+    let mut text = finished(other, drawn)?.into_text(alloc, tag)?;
+    let mut joined = TaggedLine::new(alloc);
+    joined.append(&mut text)?;
+    line.line = RenderLine::Text(joined);
+    line.content = content;
+    Ok(())
+}
+
+// Whether the line is a text that is joined.
+fn is_joined_text<T: EqualCopy + Drop>(line: &RenderLine<T>) -> bool
+    ensures text { IsTrue result → IsText (render_line_of T.seen line.now) }
+    ensures joined { IsTrue result → IsJoinedText T.seen line.now }
+{
+    match line {
+        RenderLine::Text(line) => line.is_joined(),
+        RenderLine::Line(_) => false,
+    }
 }
 
 /// Whether a line that is made text has content.

@@ -1,2 +1,3 @@
 pub mod CutLemmas
+pub mod RunLemmas
 pub mod WidthLemmas

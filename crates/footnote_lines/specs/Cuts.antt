@@ -1,6 +1,6 @@
 -- Lines that are cut at a width, where there is one.
-use Rattle.std.specs.Prelude.{ℕ, ◌+◌, ◌==◌, nat_le, Bool, true, false, not, ◌||◌, List, [], ◌∷◌, ◌++◌, Option, None}
-use Rattle.std.specs.Prelude.{Some, map, Vec, All, if◌then◌else◌}
+use Rattle.std.specs.Prelude.{ℕ, ◌+◌, ◌<◌, ◌≤◌, ◌==◌, nat_le, Bool, true, false, not, ◌||◌, List, [], ◌∷◌, ◌++◌}
+use Rattle.std.specs.Prelude.{Option, None, Some, map, Vec, All, if◌then◌else◌}
 use Rattle.std.specs.Global.{Global}
 use Rattle.tagged_lines.specs.Columns.{width_of}
 use Rattle.tagged_lines.specs.Tagged.{Item, character, marker, line_items, line_columns, IsJoined}
@@ -27,6 +27,15 @@ lines_within (Some width) items = footnote_lines true width items
 abbrev pub has_room : {S : Type 0} → Option ℕ → List (Item S) → ℕ → Bool
 has_room None line c = true
 has_room (Some width) line c = nat_le (line_columns line + width_of c) width || not (has_text line)
+
+-- the line has room for so many columns
+abbrev pub HasRoomFor : {S : Type 0} → Option ℕ → List (Item S) → ℕ → Type 0
+HasRoomFor None line n = Unit {0}
+HasRoomFor (Some width) line n = 0 < n → line_columns line + n ≤ width
+
+-- printable ASCII: a character that takes one column, and a byte
+abbrev pub IsPrintable : ℕ → Type 0
+IsPrintable c = (0x20 ≤ c) × (c ≤ 0x7E)
 
 -- the line at hand is done, where it has no room for the character
 abbrev pub with_room : {S : Type 0} → Option ℕ → ℕ → Cut S → Cut S

@@ -1,8 +1,9 @@
 //! Lines that are cut.
-ghost use Rattle.std.specs.Prelude.{◌≡◌, ◌+◌, nat_le, fold, map, chars, All, OnOk, IfOk};
+ghost use Rattle.std.specs.Prelude.{◌≡◌, ◌+◌, ◌≤◌, nat_le, fold, map, take, chars, All, OnOk, IfOk, IsTrue};
+ghost use Rattle.std.specs.Str.{IsCharBoundary};
 ghost use Rattle.tagged_lines.specs.Tagged.{line_items, character, marker, tagged, IsJoined};
 ghost use Rattle.footnote_lines.specs.Footnotes.{nothing_cut, all_lines};
-ghost use Rattle.footnote_lines.specs.Cuts.{spaced, has_room};
+ghost use Rattle.footnote_lines.specs.Cuts.{spaced, has_room, HasRoomFor, IsPrintable};
 
 use std::alloc::{AllocError, Global};
 use std::mem;
@@ -61,10 +62,53 @@ impl<T: EqualCopy + Drop> CutLines<T> {
             ≡ fold (placed_spaced width) (cut_of T.seen self.old) (tagged (chars text.now) (T.seen tag.now))) }
         ensures joined { HasJoinedTexts T.seen self.old → HasJoinedTexts T.seen self.new }
     {
+        let rest = self.push_run(width, text, tag)?;
+        self.push_characters(width, rest, tag)
+    }
+
+    /// Adds what stands in front of a text and goes on the line at hand as it is; the text behind it.
+    fn push_run<'t>(
+        &mut self,
+        width: Option<usize>,
+        text: &'t str,
+        tag: &T,
+    ) -> Result<&'t str, AllocError>
+        ensures placed { IfOk result (λ rest. fold (placed_spaced width) (cut_of T.seen self.new)
+            (tagged (chars rest.now) (T.seen tag.now))
+            ≡ fold (placed_spaced width) (cut_of T.seen self.old) (tagged (chars text.now) (T.seen tag.now))) }
+        ensures joined { HasJoinedTexts T.seen self.old → HasJoinedTexts T.seen self.new }
+    {
+        let count = run_length(text, self.room(width));
+        let (run, rest) = text.split_at(count);
+        self.line.push_counted(run, count, tag)?;
+        Ok(rest)
+    }
+
+    /// Adds characters one by one.
+    fn push_characters(
+        &mut self,
+        width: Option<usize>,
+        text: &str,
+        tag: &T,
+    ) -> Result<(), AllocError>
+        ensures placed { OnOk result (cut_of T.seen self.new
+            ≡ fold (placed_spaced width) (cut_of T.seen self.old) (tagged (chars text.now) (T.seen tag.now))) }
+        ensures joined { HasJoinedTexts T.seen self.old → HasJoinedTexts T.seen self.new }
+    {
         for c in text.chars() {
             self.push_character(width, spaced(c), tag)?;
         }
         Ok(())
+    }
+
+    /// How many columns the line at hand has room for.
+    fn room(&self, width: Option<usize>) -> usize
+        ensures { HasRoomFor width (line_items T.seen self.now.line) result }
+    {
+        match width {
+            Some(width) => width.saturating_sub(self.line.width()),
+            None => usize::MAX,
+        }
     }
 
     /// Adds a character, to the line that it begins where the line at hand has no room for it.
@@ -100,6 +144,26 @@ impl<T: EqualCopy + Drop> CutLines<T> {
             None => true,
         }
     }
+}
+
+/// How many characters of printable ASCII stand in front of a text, at most so many.
+fn run_length(text: &str, most: usize) -> usize
+    ensures boundary { IsCharBoundary text.now result }
+    ensures within { result ≤ most }
+    ensures printable { All IsPrintable (take result text.now) }
+{
+    let bytes = text.as_bytes();
+    let mut at = 0;
+    while at < bytes.len() && at < most && is_printable(bytes[at]) {
+        at += 1;
+    }
+    at
+}
+
+fn is_printable(byte: u8) -> bool
+    ensures { IsTrue result → IsPrintable byte }
+{
+    matches!(byte, b' '..=b'~')
 }
 
 /// Whether a line takes so many columns more.

@@ -7,7 +7,8 @@ use Rattle.std.proofs.Common.{length-append, arith}
 use Rattle.std.proofs.lemmas.List.{take-append-le}
 use Rattle.forest_trees.specs.Trees.{node, steps, trees}
 use Rattle.html_forest.specs.Forest.{Forest, Kind, children_at, kind_at}
-use Rattle.html_render_dom.specs.Numbers.{number_of}
+use Rattle.html_render_dom.specs.ChildNodes.{children_left}
+use Rattle.html_render_dom.specs.Numbers.{handle_of, number_of}
 use Rattle.html_render_dom.specs.declared.node.Handle.{Handle}
 use Rattle.render_values.specs.Arena.{IsFlat, flat, values_of}
 use Rattle.render_values.specs.Closing.{closed, closed_at, ended_first, ending_first}
@@ -20,15 +21,18 @@ use Rattle.render_values.specs.declared.closing.Outcome.{Outcome}
 use Rattle.render_values.specs.declared.closing.Outcome.TheVariants.{Fragment, Goes, Raised, Stays}
 use Rattle.render_values.specs.declared.info.Head.{Head}
 use Rattle.render_values.specs.declared.node.RenderNode.{RenderNode}
+use Rattle.render_values.specs.declared.style.RenderStyle.{RenderStyle}
+use Rattle.std.specs.Prelude.{Option, None, Some}
 use Rattle.render_values.proofs.ArenaLemmas.{flat_by, flat_is, flat_joined}
-use Rattle.render_conversion.specs.Conversion.{around, content, value_before, valued, values}
+use Rattle.render_conversion.specs.Conversion.{around, content, content_by, value_before, valued, values}
 use Rattle.render_conversion.specs.Heads.{head_of}
 use Rattle.render_conversion.specs.Meanings.{meaning}
 use Rattle.render_conversion.specs.Places.{is_guarded, is_seen}
 use Rattle.render_conversion.specs.Styles.{Parts, Styles, parts_of}
-use Rattle.render_conversion.specs.Turns.{AreOpen, IsDone, later, visits, weight}
+use Rattle.render_conversion.specs.Turns.{AreOpen, IsDone, behinds, later, visits, weight}
 use Rattle.render_conversion.specs.declared.meaning.Meaning.{Meaning}
 use Rattle.render_conversion.specs.declared.place.Place.{Place}
+use Rattle.render_conversion.specs.declared.place.Place.TheVariants.{Cells, Flow, Groups, Items, Nowhere, Rows}
 use Rattle.render_conversion.specs.declared.turns.Turn.{Turn}
 use Rattle.render_conversion.specs.declared.turns.Turn.TheVariants.{Behind, Close, Row, Visit}
 
@@ -361,9 +365,75 @@ visit_done styles f n place m guarded ts xs law seen shown means guards h k =
       falls = omega arith;
     }
 
+-- ---- where no text stands behind the children
+
+said_none : (place : Place) (look : RenderStyle) → content_by place look None ≡ none
+said_none Nowhere look = refl
+said_none Flow look = refl
+said_none Items look = refl
+said_none Groups look = refl
+said_none Rows look = refl
+said_none Cells look = refl
+
+shown_none : (hidden : Bool) (place : Place) (look : RenderStyle)
+    → (if hidden then none else content_by place look None) ≡ none
+shown_none true place look = refl
+shown_none false place look = said_none place look
+
+-- a turn that says nothing
+later_behind : (styles : Styles) (f : Forest) (n : Handle) (place : Place) (ts : List Turn) (xs : List RenderNode)
+    → content place (parts_of styles (kind_at (number_of n) f)).after ≡ none
+    → later styles f (Behind n place ∷ ts) xs ≡ later styles f ts xs
+later_behind styles f n place ts xs e =
+    ap (λ vs. later styles f ts (xs ++ flat vs)) e ∙ ap (later styles f ts) (append-nil xs)
+
+later_but : (styles : Styles) (f : Forest) (place : Place) (ns : List ℕ) (n : Handle) (behind : Place)
+    (ts : List Turn) (xs : List RenderNode)
+    → content behind (parts_of styles (kind_at (number_of n) f)).after ≡ none
+    → later styles f (visits place ns ++ ts) xs ≡ later styles f (visits place ns ++ Behind n behind ∷ ts) xs
+later_but styles f place [] n behind ts xs e = sym (later_behind styles f n behind ts xs e)
+later_but styles f place (m ∷ ns) n behind ts xs e =
+    sym (later_behind styles f n behind ts
+    (xs ++ flat (values styles place (trees f (number_of (handle_of m) ∷ children_left ns)))) e)
+
+open_but : (place : Place) (ns : List ℕ) (n : Handle) (behind : Place) (ts : List Turn) (xs : List RenderNode)
+    → AreOpen xs (visits place ns ++ Behind n behind ∷ ts) → AreOpen xs (visits place ns ++ ts)
+open_but place [] n behind ts xs h = h
+open_but place (m ∷ ns) n behind ts xs h = h
+
+lighter : (f : Forest) (place : Place) (ns : List ℕ) (n : Handle) (behind : Place) (ts : List Turn) (most : ℕ)
+    → weight f (visits place ns ++ Behind n behind ∷ ts) < most → weight f (visits place ns ++ ts) < most
+lighter f place [] n behind ts most h = omega arith
+lighter f place (m ∷ ns) n behind ts most h = omega arith
+
+but_behind : (styles : Styles) (f : Forest) (place : Place) (ns : List ℕ) (n : Handle) (ts old : List Turn)
+    (xs zs : List RenderNode) (style : Parts) → style ≡ parts_of styles (kind_at (number_of n) f)
+    → style.after.content ≡ None → IsDone styles f old xs (visits place ns ++ Behind n place ∷ ts) zs
+    → IsDone styles f old xs (visits place ns ++ ts) zs
+but_behind styles f place ns n ts old xs zs style is e done =
+    let p = (parts_of styles (kind_at (number_of n) f)).after in
+    let q : p.content ≡ None = ap (λ (s : Parts). s.after.content) (sym is) ∙ e in
+    let says : content place p ≡ none =
+    ap (λ c. if p.hidden then none else content_by place p.look c) q ∙ shown_none p.hidden place p.look in
+    record {
+      same = later_but styles f place ns n place ts zs says ∙ done.same;
+      opened = open_but place ns n place ts zs done.opened;
+      flat = done.flat;
+      falls = lighter f place ns n place ts (weight f old) done.falls;
+    }
+
+by_behind : (styles : Styles) (f : Forest) (place : Place) (ns : List ℕ) (n : Handle) (ts old : List Turn)
+    (xs zs : List RenderNode) (style : Parts) (text : Option (List ℕ))
+    → style ≡ parts_of styles (kind_at (number_of n) f) → style.after.content ≡ text
+    → IsDone styles f old xs (visits place ns ++ Behind n place ∷ ts) zs
+    → IsDone styles f old xs (visits place ns ++ (behinds n place text ++ ts)) zs
+by_behind styles f place ns n ts old xs zs style None is e done =
+    but_behind styles f place ns n ts old xs zs style is e done
+by_behind styles f place ns n ts old xs zs style (Some text) is e done = done
+
 -- ---- at calls that may be refused
 
-pub visit_ok : {A : Type 0} {E : Type 0} (r : Result A E) (styles : Styles) (f : Forest) (n : Handle)
+visit_ok : {A : Type 0} {E : Type 0} (r : Result A E) (styles : Styles) (f : Forest) (n : Handle)
     (place : Place) (m : Meaning) (guarded : Bool) (at : ℕ) (ts one more new : List Turn)
     (xs ys zs : List RenderNode) (children : List ℕ) (style : Parts) → Law f
     → is_seen place (kind_at (number_of n) f) ≡ true → style ≡ parts_of styles (kind_at (number_of n) f)
@@ -399,6 +469,29 @@ visit_ok (Ok v) styles f n place m guarded at ts one more new xs ys zs children 
     ++ flat (content m.inner s.before))) (sym turns)
     (visit_done styles f n place m guarded ts xs law seen
     (sym (ap (λ (p : Parts). p.itself.hidden) is) ∙ shown) means guards h k))
+
+pub visit_behind : {A : Type 0} {E : Type 0} (r : Result A E) (styles : Styles) (f : Forest) (n : Handle)
+    (place : Place) (m : Meaning) (guarded : Bool) (at : ℕ) (ts one more new : List Turn)
+    (xs ys zs : List RenderNode) (children : List ℕ) (style : Parts) → Law f
+    → is_seen place (kind_at (number_of n) f) ≡ true → style ≡ parts_of styles (kind_at (number_of n) f)
+    → style.itself.hidden ≡ false → m ≡ meaning_at place f (number_of n)
+    → guarded ≡ is_guarded place (kind_at (number_of n) f) → AreOpen xs ts → IsFlat xs → at ≡ length xs
+    → children ≡ children_at (number_of n) f
+    → ys ≡ xs ++ record { head = head_of m.info style.itself.look (kind_at (number_of n) f); below = 0 } ∷ []
+    → zs ≡ ys ++ flat (content m.inner style.before)
+    → one ≡ Close (record { at = at; condition = m.condition; guarded = guarded }) ∷ ts
+    → more ≡ behinds n m.inner style.after.content ++ one → OnOk r (new ≡ visits m.inner children ++ more)
+    → OnOk r (IsDone styles f (Visit n place ∷ ts) xs new zs)
+visit_behind (Err e) styles f n place m guarded at ts one more new xs ys zs children style law seen is shown means
+    guards h k size kids made says closes behinds done = tt
+visit_behind {E = E} (Ok v) styles f n place m guarded at ts one more new xs ys zs children style law seen is shown
+    means guards h k size kids made says closes behind done =
+    subst (λ l. IsDone styles f (Visit n place ∷ ts) xs l zs)
+    (sym (done ∙ ap (λ l. visits m.inner children ++ l) behind))
+    (by_behind styles f m.inner children n one (Visit n place ∷ ts) xs zs style style.after.content is refl
+    (visit_ok {E = E} (Ok v) styles f n place m guarded at ts one (Behind n m.inner ∷ one)
+    (visits m.inner children ++ Behind n m.inner ∷ one) xs ys zs children style law seen is shown means guards h k
+    size kids made says closes refl refl))
 
 pub behind_ok : {A : Type 0} {E : Type 0} (r : Result A E) (styles : Styles) (f : Forest) (n : Handle)
     (place : Place) (ts : List Turn) (xs ys : List RenderNode) (style : Parts) → AreOpen xs ts → IsFlat xs

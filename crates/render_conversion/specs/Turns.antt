@@ -1,9 +1,10 @@
 -- What is still to be done while a page is converted.
-use Rattle.std.specs.Prelude.{◌≡◌, ℕ, ◌+◌, ◌<◌, List, [], ◌∷◌, ◌++◌, length, take}
+use Rattle.std.specs.Prelude.{◌≡◌, ℕ, ◌+◌, ◌<◌, List, [], ◌∷◌, ◌++◌, Option, None, Some, length, take}
 use Rattle.forest_trees.specs.Trees.{steps, trees}
 use Rattle.html_forest.specs.Forest.{Forest, kind_at}
 use Rattle.html_render_dom.specs.ChildNodes.{children_left}
 use Rattle.html_render_dom.specs.Numbers.{handle_of, number_of}
+use Rattle.html_render_dom.specs.declared.node.Handle.{Handle}
 use Rattle.render_values.specs.Arena.{IsFlat, flat}
 use Rattle.render_values.specs.Closing.{closed}
 use Rattle.render_values.specs.declared.node.RenderNode.{RenderNode}
@@ -45,6 +46,11 @@ weight f (Close opened ∷ ts) = 1 + weight f ts
 abbrev pub visits : Place → List ℕ → List Turn
 visits place [] = []
 visits place (n ∷ ns) = Row (handle_of n) ns place ∷ []
+
+-- a text that is to be put behind a node's children, where there is one
+abbrev pub behinds : Handle → Place → Option (List ℕ) → List Turn
+behinds n place None = []
+behinds n place (Some text) = Behind n place ∷ []
 
 -- a turn was done: with what is left the nodes come to the same
 pub record IsDone (styles : Styles) (f : Forest) (old : List Turn) (before : List RenderNode) (new : List Turn)

@@ -1,5 +1,5 @@
 //! What rules of style say of nodes.
-ghost use Rattle.std.specs.Prelude.{◌≡◌, ℕ, List, Option, chars, is_some, option_map};
+ghost use Rattle.std.specs.Prelude.{◌≡◌, ℕ, List, [], Option, IsTrue, chars, false, is_some, option_map};
 ghost use Rattle.html_forest.specs.Forest.{kind_at};
 ghost use Rattle.html_lexemes.specs.declared.names.QualName.{QualName};
 ghost use Rattle.html_render_dom.specs.Numbers.{number_of};
@@ -11,9 +11,9 @@ ghost use Rattle.style_cascade.specs.declared.rules.StylePlace.{StylePlace};
 ghost use Rattle.style_cascade.specs.declared.rules.StyleRule.{StyleRule};
 ghost use Rattle.render_conversion.specs.Heads.{look_of};
 ghost use Rattle.render_conversion.specs.Seen.{seen_part, seen_parts};
-ghost use Rattle.render_conversion.specs.Styles.{declared, part_at, parts_by, parts_of, styles_of};
+ghost use Rattle.render_conversion.specs.Styles.{all_unset, declared, part_at, parts_by, parts_of, styles_of, unset};
 
-use html_lexemes::Text;
+use html_lexemes::{LocalName, Text};
 use html_render_dom::{Handle, RcDom};
 use render_values::{RenderInfo, RenderStyle};
 use style_cascade::{ComputedStyle, Display, PlaceStyle, StyleRule, the_cascade_is_a_function};
@@ -110,10 +110,63 @@ fn parts<'a>(style: &ComputedStyle<'a>) -> NodeStyle<'a>
     }
 }
 
+// Whether a rule is for elements of the name.
+fn is_named(rules: &[StyleRule], name: &LocalName) -> bool
+    ensures { result ≡ false → (place : StylePlace) → declared_at name.now place rules.now ≡ [] }
+{
+    let mut rest = rules;
+    while let Some((rule, others)) = rest.split_first() {
+        if rule.element == *name {
+            return true;
+        }
+        rest = others;
+    }
+    false
+}
+
+// Whether rules say nothing of a node.
+fn is_unset(dom: &RcDom, node: Handle, rules: &[StyleRule]) -> bool
+    ensures { IsTrue result
+        → parts_of (styles_of rules.now) (kind_at (number_of node) dom.now.forest) ≡ all_unset }
+{
+    match dom.element_name(node) {
+        Some(name) => !is_named(rules, &name.local),
+        None => true,
+    }
+}
+
+fn unset_part<'a>() -> PartStyle<'a>
+    ensures { seen_part result ≡ unset }
+{
+    PartStyle {
+        look: RenderStyle {
+            colour: None,
+            background: None,
+            white_space: None,
+        },
+        hidden: false,
+        content: None,
+    }
+}
+
+fn all_unset<'a>() -> NodeStyle<'a>
+    ensures { seen_parts result ≡ all_unset }
+{
+    NodeStyle {
+        itself: unset_part(),
+        before: unset_part(),
+        after: unset_part(),
+    }
+}
+
 /// What rules say of a node.
 pub(crate) fn style_of<'a>(dom: &RcDom, node: Handle, rules: &'a [StyleRule]) -> NodeStyle<'a>
     ensures { seen_parts result ≡ parts_of (styles_of rules.now) (kind_at (number_of node) dom.now.forest) }
 {
+    // The common case makes no styles.
+    if is_unset(dom, node, rules) {
+        return all_unset();
+    }
     parts(&dom.computed_style(node, rules))
 }
 

@@ -6,14 +6,15 @@ ghost use Rattle.html_render_dom.specs.Numbers.{number_of};
 ghost use Rattle.render_values.specs.Arena.{IsFlat};
 ghost use Rattle.render_conversion.specs.Heads.{head_of};
 ghost use Rattle.render_conversion.specs.Styles.{styles_of};
-ghost use Rattle.render_conversion.specs.Turns.{AreOpen, IsDone, later};
+ghost use Rattle.render_conversion.specs.Seen.{seen_part};
+ghost use Rattle.render_conversion.specs.Turns.{AreOpen, IsDone, behinds, later};
 ghost use Rattle.render_conversion.specs.declared.turns.Turn.TheVariants.{Behind, Row, Visit};
 
 use crate::contents::say;
 use crate::fragments::fragment_of;
 use crate::meaning::meaning_of;
 use crate::place::{Place, is_guarded, is_seen};
-use crate::styles::{look_of, style_of};
+use crate::styles::{PartStyle, look_of, style_of};
 use crate::turns::{Turn, Turns, push_visits};
 use forest_trees::a_tree_goes_one_step_on;
 use html_render_dom::{ChildNodes, Handle, RcDom};
@@ -148,8 +149,23 @@ fn visit<'a>(
     push_head(dom, node, meaning.info, style.itself.look, nodes)?;
     say(alloc, nodes, inner, style.before)?;
     turns.push(Turn::Close(opened))?;
-    turns.push(Turn::Behind(node, inner))?;
+    push_behind(turns, node, inner, style.after)?;
     push_visits(turns, dom.children(node), inner)
+}
+
+// a turn for the text that a rule puts behind a node's children, where there is one
+fn push_behind<'a>(
+    turns: &mut Turns<'a>,
+    node: Handle,
+    place: Place,
+    after: PartStyle<'_>,
+) -> Result<(), AllocError>
+    ensures { OnOk result (turns.new ≡ behinds node place (seen_part after.entry).content ++ turns.old) }
+{
+    if after.content.is_none() {
+        return Ok(());
+    }
+    turns.push(Turn::Behind(node, place))
 }
 
 // puts a text behind a node's children

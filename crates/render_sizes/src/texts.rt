@@ -1,5 +1,5 @@
 //! How many columns a text takes on one line.
-ghost use Rattle.std.specs.Prelude.{◌≡◌, chars, false};
+ghost use Rattle.std.specs.Prelude.{◌≡◌, IsTrue, chars, false};
 ghost use Rattle.std.specs.Char.{is_whitespace};
 ghost use Rattle.tagged_lines.specs.Columns.{width_of};
 ghost use Rattle.render_sizes.specs.Extents.{capped};
@@ -24,6 +24,57 @@ fn gap_columns(gap: bool) -> usize
 }
 
 fn size_of_words(text: &str) -> usize
+    ensures { result ≡ capped (size_behind false (chars text.now)) }
+{
+    // The common case.
+    if text.is_ascii() {
+        return size_of_bytes(text.as_bytes());
+    }
+    size_of_characters(text)
+}
+
+// of characters that are a byte each
+fn size_of_bytes(bytes: &[u8]) -> usize
+    ensures { result ≡ capped (size_behind false bytes.now) }
+{
+    let mut columns: usize = 0;
+    let mut gap = false;
+    let mut rest = bytes;
+    while let Some((byte, others)) = rest.split_first() {
+        columns = columns.saturating_add(added_by(gap, *byte));
+        gap = is_space(*byte);
+        rest = others;
+    }
+    columns
+}
+
+// what a character of one byte adds behind white space or none
+#[inline(always)]
+fn added_by(gap: bool, byte: u8) -> usize
+    ensures { result ≡ capped (added gap (is_whitespace byte) byte) }
+{
+    // The common case.
+    if is_graphic(byte) {
+        return gap_columns(gap) + 1;
+    }
+    added(gap, is_space(byte), char::from(byte))
+}
+
+#[inline(always)]
+fn is_space(byte: u8) -> bool
+    ensures { result ≡ is_whitespace byte }
+{
+    char::from(byte).is_whitespace()
+}
+
+#[inline(always)]
+fn is_graphic(byte: u8) -> bool
+    ensures { IsTrue result → (is_whitespace byte ≡ false) × (width_of byte ≡ 1) }
+{
+    matches!(byte, b'!'..=b'~')
+}
+
+fn size_of_characters(text: &str) -> usize
     ensures { result ≡ capped (size_behind false (chars text.now)) }
 {
     let mut columns: usize = 0;

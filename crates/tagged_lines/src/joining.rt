@@ -3,7 +3,8 @@
 ghost use Rattle.std.specs.Prelude.{◌≡◌, ◌≢◌, ◌<◌, ◌≤◌, ◌↔◌, [], ◌∷◌, ◌++◌, chars, string_bytes, vec_len, vec_capacity};
 ghost use Rattle.std.specs.Prelude.{IfOk, OnOk, OnErr, IsTrue};
 ghost use Rattle.tagged_lines.specs.Elements.{element_items, elements_items, tagged, marker, AreJoined, EndsWithTag};
-ghost use Rattle.tagged_lines.specs.Elements.{MeetWithTag, IsApart};
+ghost use Rattle.std.specs.Prelude.{false};
+ghost use Rattle.tagged_lines.specs.Elements.{MeetWithTag, IsApart, BeginsWithTag};
 
 use crate::equal_copy::EqualCopy;
 use crate::tagged_string::{TaggedLineElement, TaggedString, roomy_copy};
@@ -212,6 +213,41 @@ fn meet_with_tag<T: EqualCopy>(
     match others.first() {
         Some(TaggedLineElement::Str(first)) => ends_with_tag(elements, &first.tag),
         _ => false,
+    }
+}
+
+/// Whether no text is empty, and none stands next to one with an equal tag.
+pub(crate) fn are_joined<T: EqualCopy>(elements: &[TaggedLineElement<T>]) -> bool
+    ensures { IsTrue result → AreJoined T.seen elements.now }
+{
+    let mut rest = elements;
+    while let Some((first, others)) = rest.split_first() {
+        if joins(first, others) {
+            return false;
+        }
+        rest = others;
+    }
+    true
+}
+
+// Whether the element is an empty text, or one that is followed by a text with an equal tag.
+fn joins<T: EqualCopy>(element: &TaggedLineElement<T>, others: &[TaggedLineElement<T>]) -> bool
+    ensures { result ≡ false → AreJoined T.seen others.now
+        → AreJoined T.seen (element.now ∷ others.now) }
+{
+    match element {
+        TaggedLineElement::Str(text) => text.s.is_empty() || begins_with_tag(others, &text.tag),
+        TaggedLineElement::FragmentStart(_) => false,
+    }
+}
+
+// Whether the first element is a text with an equal tag.
+fn begins_with_tag<T: EqualCopy>(elements: &[TaggedLineElement<T>], tag: &T) -> bool
+    ensures { IsTrue result ↔ BeginsWithTag T.seen (T.seen tag.now) elements.now }
+{
+    match elements.first() {
+        Some(first) => first.has_tag(tag),
+        None => false,
     }
 }
 

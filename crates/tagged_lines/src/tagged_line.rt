@@ -7,7 +7,7 @@ ghost use Rattle.tagged_lines.specs.Elements.{elements_text};
 use crate::columns::{Columns, UnicodeColumns};
 use crate::equal_copy::EqualCopy;
 use crate::joining::{
-    move_elements, push_character, push_elements, push_marker, push_string, push_text,
+    are_joined, move_elements, push_character, push_elements, push_marker, push_string, push_text,
 };
 use crate::line_iterators::{LineChars, TaggedStrings};
 use crate::spaces::{MOST_SPACES, spaces};
@@ -65,6 +65,13 @@ impl<T: EqualCopy + Drop> TaggedLine<T> {
         ensures { IsTrue result ↔ (line_items T.seen self.now ≡ []) }
     {
         self.elements.iter().all(|element| element.is_empty())
+    }
+
+    /// Where this holds, no text is empty, and none stands next to one with an equal tag.
+    pub fn is_joined(&self) -> bool
+        ensures { IsTrue result → IsJoined T.seen self.now }
+    {
+        are_joined(&self.elements)
     }
 
     /// The columns of the line's text, the sum over its characters.

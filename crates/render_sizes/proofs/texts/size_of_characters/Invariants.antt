@@ -1,7 +1,7 @@
 use Rattle.std.proofs.Common.{◌≡◌, ◌+◌, ◌-◌, ◌^◌, ◌≤◌, chars, drop, false, length}
 use Rattle.render_sizes.specs.Extents.{capped}
 use Rattle.render_sizes.specs.TextSizes.{size_behind}
-use Rattle.render_sizes.proofs.texts.size_of_words.Given as goal
+use Rattle.render_sizes.proofs.texts.size_of_characters.Given as goal
 
 -- with what is left it is the size of all
 abbrev pub invariant-loop-c : goal.invariant-loop-c

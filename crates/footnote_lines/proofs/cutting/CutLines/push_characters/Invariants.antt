@@ -1,7 +1,7 @@
 use Rattle.std.proofs.Common.{◌≡◌, fold, length, take, chars}
 use Rattle.tagged_lines.specs.Tagged.{tagged}
 use Rattle.footnote_lines.specs.Cuts.{cut_of, HasJoinedTexts, placed_spaced}
-use Rattle.footnote_lines.proofs.cutting.CutLines.push_text.Given as goal
+use Rattle.footnote_lines.proofs.cutting.CutLines.push_characters.Given as goal
 
 abbrev pub invariant-loop-c : goal.invariant-loop-c
 invariant-loop-c g l =

@@ -3,7 +3,7 @@ use Rattle.std.specs.Vec.Iter.{into_iter_items}
 use Rattle.text_cells.specs.Cells.{laid_line_of}
 use Rattle.block_layout.specs.Laid.{add_block, add_prefixed}
 use Rattle.block_layout.specs.Seen.{laid_of, HasJoinedTexts}
-use Rattle.block_layout.proofs.block.BlockLayout.add_block.Given as goal
+use Rattle.block_layout.proofs.block.BlockLayout.add_each.Given as goal
 
 abbrev pub invariant-loop-line : goal.invariant-loop-line
 invariant-loop-line g l =

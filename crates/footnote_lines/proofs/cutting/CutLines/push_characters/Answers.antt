@@ -4,7 +4,7 @@ use Rattle.std.proofs.lemmas.Iterator.Consumers.{YieldsList-turn, YieldsList-end
 use Rattle.tagged_lines.specs.Tagged.{character}
 use Rattle.footnote_lines.specs.Cuts.{cut_of, placed_spaced, placed_within}
 use Rattle.footnote_lines.proofs.CutLemmas.{next_letter, all_letters}
-use Rattle.footnote_lines.proofs.cutting.CutLines.push_text.Goals as goal
+use Rattle.footnote_lines.proofs.cutting.CutLines.push_characters.Goals as goal
 
 pub loop-c-preserved : goal.loop-c-preserved
 loop-c-preserved g c =
