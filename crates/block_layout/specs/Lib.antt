@@ -1,5 +1,6 @@
 pub mod Counts
 pub mod Laid
 pub mod LaidRows
+pub mod Retagged
 pub mod Seen
 pub mod Whole

@@ -1,3 +1,4 @@
+pub mod LaidRetagged
 pub mod OptionLemmas
 pub mod OverflowLemmas
 pub mod RowWidths

@@ -19,7 +19,8 @@ use Rattle.normal_text.proofs.LayoutFilling.{filled_is_fullest, letters_there}
 use Rattle.normal_text.proofs.UnitsLetters.{units_have_letters}
 use Rattle.normal_text.proofs.UnitsReading.{read_is_units}
 use Rattle.normal_text.proofs.NormalFinal.{lines_are, wider_never}
-use Rattle.normal_text.proofs.Retagging.{retag, remark, reitem, lines_retagged, items_retagged}
+use Rattle.text_pieces.specs.Retagged.{reitem}
+use Rattle.normal_text.proofs.Retagging.{retag, remark, lines_retagged, items_retagged}
 
 -- ---- letters
 

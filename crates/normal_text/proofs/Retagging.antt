@@ -5,7 +5,8 @@ use Rattle.std.specs.Prelude.{Option, None, Some, is_some, fold, filter, if◌th
 use Rattle.std.specs.Option.{option_map}
 use Rattle.std.proofs.lemmas.List.{map-append}
 use Rattle.tagged_lines.specs.Columns.{columns_of, width_of}
-use Rattle.tagged_lines.specs.Tagged.{Item, character, marker}
+use Rattle.tagged_lines.specs.Tagged.{character}
+use Rattle.text_pieces.specs.Retagged.{reitem}
 use Rattle.normal_text.specs.Units.{Letter, Piece, piece, letters_columns, has_columns, is_break_point, is_white_space}
 use Rattle.normal_text.specs.Units.{has_letters, with_front, space_of, first_of, pieces_after, joining, joined, units}
 use Rattle.normal_text.specs.Layout.{Joint, opens, starts, inside, cuttable, Mark, mark, marked, gap, following_columns}
@@ -29,10 +30,6 @@ remark f m = mark (retag f m.letter) (rejoint f m.joint)
 
 abbrev pub refilled : {A B : Type 0} → (A → B) → Filled A → Filled B
 refilled f x = filled (map (map (remark f)) x.done) (map (remark f) x.line)
-
-abbrev pub reitem : {A B : Type 0} → (A → B) → Item A → Item B
-reitem f (character c tag) = character c (f tag)
-reitem f (marker name) = marker name
 
 -- ---- pieces
 

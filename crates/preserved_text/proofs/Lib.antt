@@ -5,6 +5,7 @@ pub mod LayingCharacters
 pub mod LayingKept
 pub mod LayingMarkers
 pub mod LayingPlain
+pub mod LayingRetagged
 pub mod LayingWidth
 mod FrontLemmas
 mod WordLemmas

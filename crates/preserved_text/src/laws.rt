@@ -1,7 +1,8 @@
 //! Laws of preserved source lines: each is the contract of a function that does nothing.
-ghost use Rattle.std.specs.Prelude.{◌≡◌, ℕ, ◌≤◌, Bool, false, List, ◌++◌, All, filter, flat_map};
+ghost use Rattle.std.specs.Prelude.{◌≡◌, ℕ, ◌≤◌, Bool, false, List, ◌++◌, All, filter, flat_map, map};
 ghost use Rattle.tagged_lines.specs.Tagged.{line_columns, characters};
 ghost use Rattle.text_pieces.specs.Sources.{Source};
+ghost use Rattle.text_pieces.specs.Retagged.{reitem, resource};
 ghost use Rattle.preserved_text.specs.Preserved.{preserved_lines, preserved_waiting, is_too_wide, trimmed, markers_of};
 ghost use Rattle.preserved_text.specs.Preserved.{names_of};
 ghost use Rattle.preserved_text.specs.LawWords.{is_shown, codes_of, ArePlain, source_columns, as_it_stands, one_line};
@@ -33,4 +34,15 @@ pub fn a_line_that_fits_is_itself<T: EqualCopy>()
     ensures { (width : ℕ) (wraps : Bool) (line : List (Source T.Seen)) → ArePlain width wraps line
         → source_columns (trimmed width wraps line) ≤ width
         → preserved_lines width wraps line ≡ one_line (as_it_stands (trimmed width wraps line)) }
+{}
+
+/// Tags have no say in a layout: the same source line under other tags stands on the same lines, with those tags.
+pub fn preserved_lines_heed_no_tags<T: EqualCopy, U: EqualCopy>()
+    ensures lines { (f : T.Seen → U.Seen) (width : ℕ) (wraps : Bool) (line : List (Source T.Seen))
+        → preserved_lines width wraps (map (resource f) line)
+        ≡ map (map (reitem f)) (preserved_lines width wraps line) }
+    ensures waiting { (f : T.Seen → U.Seen) (width : ℕ) (wraps : Bool) (line : List (Source T.Seen))
+        → preserved_waiting width wraps (map (resource f) line) ≡ preserved_waiting width wraps line }
+    ensures wide { (f : T.Seen → U.Seen) (width : ℕ) (wraps : Bool) (line : List (Source T.Seen))
+        → is_too_wide width wraps (map (resource f) line) ≡ is_too_wide width wraps line }
 {}

@@ -12,7 +12,7 @@ mod rows;
 mod source_line;
 
 pub use laws::{
-    a_line_that_fits_is_itself, preserved_lines_keep_markers, preserved_lines_keep_the_width,
-    preserved_lines_show_each_character,
+    a_line_that_fits_is_itself, preserved_lines_heed_no_tags, preserved_lines_keep_markers,
+    preserved_lines_keep_the_width, preserved_lines_show_each_character,
 };
 pub use preserved::lay_preserved;

@@ -1,3 +1,4 @@
+pub mod Bare
 pub mod Calls
 pub mod Defaults
 pub mod Outcomes

@@ -1,3 +1,5 @@
+pub mod BareLemmas
+pub mod BareNoteLemmas
 pub mod KeptLemmas
 pub mod RoomLemmas
 pub mod PrefixLemmas

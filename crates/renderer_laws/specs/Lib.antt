@@ -1,3 +1,4 @@
+pub mod BareNotes
 pub mod RendererLaws
 pub use Rattle.block_renderer.specs.LaidRows
 pub use Rattle.block_renderer.specs.Seen

@@ -1,8 +1,10 @@
 //! What holds of every renderer, said without what its calls do: laws, beside `block_renderer`.
 #![tactic(auto)]
 
+mod bare;
 mod laws;
 
+pub use bare::annotations_change_no_text;
 pub use block_renderer::{
     BorderHoriz, BorderSegHoriz, ImageRenderMode, LineSet, RenderLine, RenderOptions, Renderer,
     SubRenderer,

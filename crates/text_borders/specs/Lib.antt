@@ -3,5 +3,6 @@ pub mod AcrossLaws
 pub mod BorderLaws
 pub mod Borders
 pub mod Lines
+pub mod Retagged
 pub mod RowWords
 pub mod Segments

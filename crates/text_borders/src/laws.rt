@@ -7,6 +7,9 @@ ghost use Rattle.text_borders.specs.Borders.{Border, merged_above, merged_below,
 ghost use Rattle.text_borders.specs.BorderLaws.{IsChangedWhereAsked, AreInOrder, IsSound};
 ghost use Rattle.text_borders.specs.Across.{Cell, Hanging, seated, across, width_across};
 ghost use Rattle.text_borders.specs.AcrossLaws.{CellFits, cells_width, AreSeatedIn, seat_of, seats_behind};
+ghost use Rattle.text_borders.specs.Across.{as_text};
+ghost use Rattle.text_borders.specs.Lines.{BlockLine, line_shown};
+ghost use Rattle.text_borders.specs.Retagged.{reitem, reborder, reline, recell, rehanging, rerow};
 
 use tagged_lines::EqualCopy;
 
@@ -110,4 +113,18 @@ pub fn cells_keep_their_places<T: EqualCopy>()
         (hanging : List (Hanging T.Seen)) →
         map (seat_of {S = T.Seen}) (across draws collapse tag above cells hanging).hanging
         ≡ seats_behind 0 (seated 0 cells hanging) }
+{}
+
+/// Tags have no say in borders and rows: under other tags they are the same, with those tags.
+pub fn rows_heed_no_tags<T: EqualCopy, U: EqualCopy>()
+    ensures across { (f : T.Seen → U.Seen) (draws collapse : Bool) (tag : T.Seen) (above : Option (Border T.Seen))
+        (cells : List (Cell T.Seen)) (hanging : List (Hanging T.Seen))
+        → across draws collapse (f tag) (option_map (reborder f) above) (map (recell f) cells)
+        (map (rehanging f) hanging) ≡ rerow f (across draws collapse tag above cells hanging) }
+    ensures text { (f : T.Seen → U.Seen) (tag : T.Seen) (line : BlockLine T.Seen)
+        → as_text (f tag) (reline f line) ≡ map (reitem f) (as_text tag line) }
+    ensures shown { (f : T.Seen → U.Seen) (line : BlockLine T.Seen)
+        → line_shown (reline f line) ≡ map (reitem f) (line_shown line) }
+    ensures filled { (f : T.Seen → U.Seen) (width : ℕ) (b : Border T.Seen)
+        → filled_to width (reborder f b) ≡ reborder f (filled_to width b) }
 {}

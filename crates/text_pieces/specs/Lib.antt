@@ -3,5 +3,6 @@ pub mod Faults
 pub mod Items
 pub mod Joins
 pub mod Modes
+pub mod Retagged
 pub mod Sources
 pub use Rattle.tagged_lines.specs.Columns

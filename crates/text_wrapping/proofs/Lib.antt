@@ -1,6 +1,7 @@
 pub mod BlockLemmas
 pub mod NormalBlocks
 pub mod NormalPadding
+pub mod BlockRetagged
 pub mod BlockLaws
 pub mod BlockWidths
 pub mod ShowingLemmas

@@ -2,3 +2,4 @@ pub mod Blocks
 pub mod LawWords
 pub mod Lines
 pub mod NormalBlocks
+pub mod Retagged

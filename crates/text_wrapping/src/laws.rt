@@ -1,7 +1,7 @@
 //! Laws of blocks and their lines: each is the contract of a function that does nothing.
 ghost use Rattle.std.specs.Prelude.{◌≡◌, ℕ, ◌+◌, ◌≤◌, All, Bool, true, false, List, [], ◌++◌, length, Option, None};
 ghost use Rattle.std.specs.Prelude.{Some};
-ghost use Rattle.std.specs.Option.{option_and_then};
+ghost use Rattle.std.specs.Option.{option_and_then, option_map};
 ghost use Rattle.text_pieces.specs.Modes.{is_preserved};
 ghost use Rattle.text_pieces.specs.Sources.{Source, sourced};
 ghost use Rattle.tagged_lines.specs.Tagged.{Item, line_columns};
@@ -11,6 +11,9 @@ ghost use Rattle.text_wrapping.specs.Blocks.{Block, empty_block, added, ended, e
 ghost use Rattle.text_wrapping.specs.LawWords.{line_ends, IsWithin};
 ghost use Rattle.text_pieces.specs.declared.white_space.WhiteSpace.{WhiteSpace as SeenMode};
 ghost use Rattle.text_wrapping.specs.NormalBlocks.{normal_block};
+ghost use Rattle.text_wrapping.specs.Blocks.{fragments_taken, broken, has_columns};
+ghost use Rattle.text_wrapping.specs.Retagged.{reitem, reblock, reblocked};
+ghost use Rattle.std.specs.Prelude.{map};
 
 use preserved_text::preserved_lines_keep_the_width;
 use tagged_lines::EqualCopy;
@@ -80,3 +83,20 @@ pub fn blocks_keep_the_width<T: EqualCopy>()
     preserved_lines_keep_the_width::<T>();
     normal_lines_keep_the_width::<T>();
 }
+
+/// Tags have no say in a block: what a call makes of it under other tags is what it makes of it, under those.
+pub fn blocks_heed_no_tags<T: EqualCopy, U: EqualCopy>()
+    ensures added { (f : T.Seen → U.Seen) (mode : SeenMode) (cs : List ℕ) (main further : T.Seen) (b : Block T.Seen)
+        → added mode cs (f main) (f further) (reblock f b) ≡ option_map (reblock f) (added mode cs main further b) }
+    ensures marked { (f : T.Seen → U.Seen) (name : List ℕ) (b : Block T.Seen)
+        → marked_by name (reblock f b) ≡ reblock f (marked_by name b) }
+    ensures ended { (f : T.Seen → U.Seen) (b : Block T.Seen)
+        → ended (reblock f b) ≡ option_map (reblock f) (ended b) }
+    ensures taken { (f : T.Seen → U.Seen) (b : Block T.Seen)
+        → fragments_taken (reblock f b) ≡ option_map (reblocked f) (fragments_taken b) }
+    ensures broken { (f : T.Seen → U.Seen) (b : Block T.Seen)
+        → broken (reblock f b) ≡ option_map (reblocked f) (broken b) }
+    ensures columns { (f : T.Seen → U.Seen) (b : Block T.Seen) → has_columns (reblock f b) ≡ has_columns b }
+    ensures lines { (f : T.Seen → U.Seen) (b : Block T.Seen)
+        → ended_lines (reblock f b) ≡ option_map (map (map (reitem f))) (ended_lines b) }
+{}

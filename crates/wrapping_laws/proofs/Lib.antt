@@ -4,5 +4,6 @@ pub mod MarkedWidth
 pub mod MarkedKept
 pub mod MarkedShown
 pub mod NotesAside
+pub mod NormalRetagged
 pub mod MarkersAside
 pub use Rattle.normal_text.proofs.WordLemmas

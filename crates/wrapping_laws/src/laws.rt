@@ -3,6 +3,7 @@ ghost use Rattle.std.specs.Prelude.{◌≡◌, ℕ, ◌≤◌, All, flat_map, fi
 ghost use Rattle.tagged_lines.specs.Tagged.{line_columns, characters};
 ghost use Rattle.text_pieces.specs.Sources.{Source, sourced};
 ghost use Rattle.text_pieces.specs.Sources.{names_of};
+ghost use Rattle.text_pieces.specs.Retagged.{reitem, resource};
 ghost use Rattle.text_pieces.specs.Items.{markers_of};
 ghost use Rattle.normal_text.specs.Units.{lettered};
 ghost use Rattle.normal_text.specs.Layout.{AreLinesOf, NeverFits};
@@ -62,4 +63,14 @@ pub fn markers_change_no_line<T: EqualCopy>()
     ensures { (width : ℕ) (source : List (Source T.Seen)) → has_wide_text width source ≡ false
         → map (characters {S = T.Seen}) (normal_lines width source)
         ≡ map (characters {S = T.Seen}) (normal_lines width (texts_of source)) }
+{}
+
+/// Tags have no say in a layout: the same text under other tags stands on the same lines, with those tags.
+pub fn normal_lines_heed_no_tags<T: EqualCopy, U: EqualCopy>()
+    ensures lines { (f : T.Seen → U.Seen) (width : ℕ) (source : List (Source T.Seen))
+        → normal_lines width (map (resource f) source) ≡ map (map (reitem f)) (normal_lines width source) }
+    ensures waiting { (f : T.Seen → U.Seen) (width : ℕ) (source : List (Source T.Seen))
+        → normal_waiting width (map (resource f) source) ≡ normal_waiting width source }
+    ensures wide { (f : T.Seen → U.Seen) (width : ℕ) (source : List (Source T.Seen))
+        → has_wide_text width (map (resource f) source) ≡ has_wide_text width source }
 {}
