@@ -67,7 +67,7 @@ two_at_most : (o : Option ℕ) → IfSome o (λ n. n ≤ 2) → unwrap_or o 0 �
 two_at_most None h = omega arith
 two_at_most (Some n) h = h
 
-width_of-two : (c : ℕ) → width_of c ≤ 2
+pub width_of-two : (c : ℕ) → width_of c ≤ 2
 unfolding width_of
 width_of-two c = two_at_most (columns_of c) (columns_of-at_most_two c)
 

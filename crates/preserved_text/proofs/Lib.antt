@@ -7,6 +7,7 @@ pub mod LayingMarkers
 pub mod LayingPlain
 pub mod LayingRetagged
 pub mod LayingWidth
+mod PlainLemmas
 mod FrontLemmas
 mod WordLemmas
 mod WordsRead

@@ -1,6 +1,7 @@
 pub mod Fronts
 pub mod LawWords
 pub mod Pass
+pub mod PlainLines
 pub mod Preserved
 pub mod RowWords
 pub mod Rows

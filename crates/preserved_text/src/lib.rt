@@ -6,6 +6,7 @@ mod fronts;
 mod kinds;
 mod laws;
 mod laying;
+mod plain_lines;
 mod preserved;
 mod reading;
 mod rows;
@@ -15,4 +16,5 @@ pub use laws::{
     a_line_that_fits_is_itself, preserved_lines_heed_no_tags, preserved_lines_keep_markers,
     preserved_lines_keep_the_width, preserved_lines_show_each_character,
 };
+pub use plain_lines::lay_line;
 pub use preserved::lay_preserved;

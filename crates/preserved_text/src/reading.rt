@@ -240,7 +240,7 @@ fn has_solid<T: EqualCopy>(piece: &Piece<T>, width: usize, wraps: bool) -> bool
 }
 
 /// The text without the characters at its end that are not shown.
-fn solid_front(text: &str, width: usize, wraps: bool) -> &str
+pub(crate) fn solid_front(text: &str, width: usize, wraps: bool) -> &str
     ensures front { chars result.now ≡ solid_text width wraps (chars text.now) }
     ensures some { is_filled result.now ≡ has_solid_text width wraps (chars text.now) }
 {

@@ -6,5 +6,4 @@ pub mod Joined
 pub mod Joins
 pub mod Widths
 pub mod Yielding
-mod Moves
 mod SpacesPushed

@@ -65,13 +65,6 @@ MeetWithTag seen es [] = ⊥
 MeetWithTag seen es (Str string ∷ fs) = EndsWithTag seen (seen string.tag) es
 MeetWithTag seen es (FragmentStart name ∷ fs) = ⊥
 
--- the others are one text, which is not empty, and the last of some elements is no text with its tag
-abbrev pub IsApart : {T S : Type 0} → (T → S) → List (TaggedLineElement T) → List (TaggedLineElement T) → Type 0
-IsApart seen es [] = ⊥
-IsApart seen es (Str string ∷ []) = (string_bytes string.s ≢ []) × ¬ EndsWithTag seen (seen string.tag) es
-IsApart seen es (Str string ∷ f ∷ fs) = ⊥
-IsApart seen es (FragmentStart name ∷ fs) = ⊥
-
 -- no text is empty, and none stands next to a text with an equal tag
 abbrev pub AreJoined : {T S : Type 0} → (T → S) → List (TaggedLineElement T) → Type 0
 AreJoined seen [] = Unit {0}

@@ -4,7 +4,7 @@ ghost use Rattle.std.specs.Prelude.{◌≡◌, ◌≢◌, ◌<◌, ◌≤◌, �
 ghost use Rattle.std.specs.Prelude.{IfOk, OnOk, OnErr, IsTrue};
 ghost use Rattle.tagged_lines.specs.Elements.{element_items, elements_items, tagged, marker, AreJoined, EndsWithTag};
 ghost use Rattle.std.specs.Prelude.{false};
-ghost use Rattle.tagged_lines.specs.Elements.{MeetWithTag, IsApart, BeginsWithTag};
+ghost use Rattle.tagged_lines.specs.Elements.{MeetWithTag, BeginsWithTag};
 
 use crate::equal_copy::EqualCopy;
 use crate::tagged_string::{TaggedLineElement, TaggedString, roomy_copy};
@@ -140,29 +140,15 @@ pub(crate) fn move_elements<T: EqualCopy + Drop>(
     ensures kept { OnErr result (others.new.items ≡ others.old.items) }
     ensures joined { AreJoined T.seen elements.old.items → AreJoined T.seen elements.new.items }
 {
-    // The common case copies nothing.
-    if is_apart(elements, others) {
+    // The common case copies no more than a text that joins.
+    if are_joined(others) {
         elements.reserve(others.len())?;
+        join_first(elements, others)?;
         return elements.append(others);
     }
     push_elements(elements, others)?;
     others.clear();
     Ok(())
-}
-
-// Whether the others are one text that joins none.
-fn is_apart<T: EqualCopy>(
-    elements: &[TaggedLineElement<T>],
-    others: &[TaggedLineElement<T>],
-) -> bool
-    ensures { IsTrue result → IsApart T.seen elements.now others.now }
-{
-    match others {
-        [TaggedLineElement::Str(text)] => {
-            !text.s.is_empty() && !ends_with_tag(elements, &text.tag)
-        }
-        _ => false,
-    }
 }
 
 // Copies of elements, the texts joined.
@@ -192,6 +178,7 @@ fn join_first<T: EqualCopy + Drop>(
     ensures joined { AreJoined T.seen elements.old.items → AreJoined T.seen copies.old.items
         → OnOk result (AreJoined T.seen (elements.new.items ++ copies.new.items)) }
     ensures kept { AreJoined T.seen elements.old.items → AreJoined T.seen elements.new.items }
+    ensures stay { OnErr result (copies.new.items ≡ copies.old.items) }
     ensures room { (vec_len elements.new ≡ vec_len elements.old)
         × (vec_capacity elements.new ≡ vec_capacity elements.old)
         × (vec_len copies.new ≤ vec_len copies.old) }

@@ -55,8 +55,9 @@ impl<T: EqualCopy + Drop> TaggedLine<T> {
             ≡ tagged (chars (string_bytes s)) (T.seen tag.now)) }
         ensures joined { IfOk result (IsJoined T.seen) }
     {
+        let columns = columns_of(s.as_str());
         let mut line = TaggedLine::new(alloc);
-        line.push_str(s.as_str(), tag)?;
+        line.push_string(s, columns, tag.copy(alloc)?)?;
         Ok(line)
     }
 

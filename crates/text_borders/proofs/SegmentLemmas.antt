@@ -1,13 +1,14 @@
 -- Segments of borders, one and many.
 use Rattle.std.proofs.Common.{◌≡◌, ℕ, zero, suc, ◌+◌, ◌-◌, ◌<◌, ◌≤◌, List, [], ◌∷◌, ◌++◌, map, length, take, drop}
-use Rattle.std.proofs.Common.{replicate, get_or, append_assoc, ap, ◌∙◌, refl, arith}
+use Rattle.std.proofs.Common.{replicate, get_or, append_assoc, ap, sym, ◌∙◌, refl, arith}
 use Rattle.std.specs.Prelude.{Bool, true, false, ◌==◌, fold, if◌then◌else◌}
+use Rattle.std.specs.Str.{chars}
 use Rattle.std.specs.Option.{option_map}
 use Rattle.std.proofs.lemmas.Bool.Decides.{nat_tests}
 use Rattle.std.proofs.Math.ListN.{set}
 use Rattle.std.proofs.lemmas.List.{map-append, length-map, length-append, length-replicate}
 use Rattle.text_borders.specs.Segments.{Segment, segment_of, without_right}
-use Rattle.tagged_lines.specs.Tagged.{Item, line_columns}
+use Rattle.tagged_lines.specs.Tagged.{Item, line_columns, tagged}
 use Rattle.text_borders.specs.Borders.{Border, Hole, glyphs, shown_from, horizontal, stretched, change_at, change_to}
 use Rattle.text_borders.specs.Borders.{chop_before, with_segments, columns_where}
 use Rattle.text_borders.specs.declared.segment.BorderSegHoriz.{BorderSegHoriz}
@@ -154,3 +155,23 @@ more_shown tag at end rest here behind h holes old mid new here_is end_is behind
     ∙ ap (λ n. old ++ (glyphs tag (take (h.place - at) rest) ++ (h.items ++ shown_from tag n behind holes))) end_is
     ∙ ap (λ ss. old ++ (glyphs tag (take (h.place - at) rest)
     ++ (h.items ++ shown_from tag (h.place + line_columns h.items) ss holes))) behind_is
+
+-- ---- eight segments of a horizontal line at once
+
+abbrev pub rule_bytes : List ℕ
+rule_bytes = 0xE2 ∷ 0x94 ∷ 0x80 ∷ 0xE2 ∷ 0x94 ∷ 0x80 ∷ 0xE2 ∷ 0x94 ∷ 0x80 ∷ 0xE2 ∷ 0x94 ∷ 0x80
+    ∷ 0xE2 ∷ 0x94 ∷ 0x80 ∷ 0xE2 ∷ 0x94 ∷ 0x80 ∷ 0xE2 ∷ 0x94 ∷ 0x80 ∷ 0xE2 ∷ 0x94 ∷ 0x80 ∷ []
+
+pub rule_spelt : chars rule_bytes ≡ replicate 8 0x2500
+unfolding chars
+rule_spelt = refl
+
+pub rule_pushed : {S : Type 0} (old new : List (Item S)) (cs : List ℕ) (first : BorderSegHoriz)
+    (others left : List BorderSegHoriz) (tag : S) → new ≡ old ++ tagged cs tag → cs ≡ replicate 8 0x2500
+    → first ∷ others ≡ replicate 8 Horiz ++ left
+    → new ++ glyphs tag (map segment_of left) ≡ old ++ glyphs tag (map segment_of (first ∷ others))
+rule_pushed old new cs first others left tag pushed spelt rule =
+    ap (λ items. items ++ glyphs tag (map segment_of left)) pushed
+    ∙ append_assoc old (tagged cs tag) (glyphs tag (map segment_of left))
+    ∙ ap (λ ds. old ++ (tagged ds tag ++ glyphs tag (map segment_of left))) spelt
+    ∙ ap (λ ss. old ++ glyphs tag (map segment_of ss)) (sym rule)

@@ -1,5 +1,5 @@
 //! Borders.
-ghost use Rattle.std.specs.Prelude.{◌≡◌, ◌+◌, [], ◌∷◌, ◌++◌, map, length, take, drop, replicate, OnOk, IfOk};
+ghost use Rattle.std.specs.Prelude.{◌≡◌, ◌+◌, ◌≤◌, [], ◌∷◌, ◌++◌, map, length, take, drop, replicate, OnOk, IfOk, IfSome};
 ghost use Rattle.tagged_lines.specs.Tagged.{line_items, line_columns, tagged, IsJoined};
 ghost use Rattle.text_borders.specs.Segments.{segment_of};
 ghost use Rattle.text_borders.specs.Borders.{hole_of, shown_from, glyphs, line_above};
@@ -382,10 +382,59 @@ fn push_glyphs<T: EqualCopy + Drop>(
 {
     let mut rest = segments;
     while let Some((segment, others)) = rest.split_first() {
-        line.push_char(segment.glyph(), tag)?;
-        rest = others;
+        rest = push_next(line, segment, others, tag)?;
     }
     Ok(())
+}
+
+/// Adds the character of the first segment, or those of the first eight where they are a horizontal line; what follows
+/// them is left.
+fn push_next<'a, T: EqualCopy + Drop>(
+    line: &mut TaggedLine<T>,
+    first: &BorderSegHoriz,
+    others: &'a [BorderSegHoriz],
+    tag: &T,
+) -> Result<&'a [BorderSegHoriz], AllocError>
+    ensures items { IfOk result (λ left. line_items T.seen line.new
+        ++ glyphs (T.seen tag.now) (map segment_of left.now) ≡ line_items T.seen line.old
+        ++ glyphs (T.seen tag.now) (map segment_of (first.now ∷ others.now))) }
+    ensures shorter { IfOk result (λ left. length left.now ≤ length others.now) }
+    ensures joined { IsJoined T.seen line.old → IsJoined T.seen line.new }
+{
+    if let Some(left) = after_rule(first, others) {
+        line.push_str(RULE, tag)?;
+        return Ok(left);
+    }
+    line.push_char(first.glyph(), tag)?;
+    Ok(others)
+}
+
+/// Eight segments of a horizontal line.
+const RULE: &str = "────────";
+
+/// What follows the first eight segments, where these are a horizontal line.
+fn after_rule<'a>(
+    first: &BorderSegHoriz,
+    others: &'a [BorderSegHoriz],
+) -> Option<&'a [BorderSegHoriz]>
+    ensures rule { IfSome result (λ left. first.now ∷ others.now ≡ replicate 8 segments.Horiz ++ left.now) }
+{
+    if *first != BorderSegHoriz::Horiz {
+        return None;
+    }
+    match others {
+        [
+            BorderSegHoriz::Horiz,
+            BorderSegHoriz::Horiz,
+            BorderSegHoriz::Horiz,
+            BorderSegHoriz::Horiz,
+            BorderSegHoriz::Horiz,
+            BorderSegHoriz::Horiz,
+            BorderSegHoriz::Horiz,
+            left @ ..,
+        ] => Some(left),
+        _ => None,
+    }
 }
 
 /// Adds `│` where a vertical line comes down to a segment from above, else a space.

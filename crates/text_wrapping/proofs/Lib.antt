@@ -7,4 +7,5 @@ pub mod BlockWidths
 pub mod ShowingLemmas
 pub mod CopyLemmas
 pub mod NothingLemmas
+mod WholeLines
 pub use Rattle.wrapping_laws.proofs.WordLemmas

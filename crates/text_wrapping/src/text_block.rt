@@ -1,6 +1,6 @@
 //! Blocks of text of which no call was refused.
 ghost use Rattle.std.specs.Prelude.{◌≡◌, ◌⊎◌, ◌++◌, [], true, false, None, Some, map, chars, All, IsTrue, IfOk, IfErr};
-ghost use Rattle.std.specs.Prelude.{OnOk, if◌then◌else◌};
+ghost use Rattle.std.specs.Prelude.{◌∷◌, IfSome, OnOk, if◌then◌else◌};
 ghost use Rattle.text_pieces.specs.Sources.{sources_of, piece_sources, names};
 ghost use Rattle.preserved_text.specs.Preserved.{names_of};
 ghost use Rattle.text_pieces.specs.Modes.{is_preserved, is_same_mode};
@@ -11,7 +11,7 @@ use crate::copies::{clone_lines, clone_pieces};
 use crate::one_tag::push_tagged;
 use crate::padding::pad_lines;
 use crate::showing::{ends_in_columns, has_visible, have_columns};
-use preserved_text::lay_preserved;
+use preserved_text::{lay_line, lay_preserved};
 use std::alloc::{AllocError, Global};
 use tagged_lines::{EqualCopy, TaggedLine};
 use text_pieces::{BlockError, LaidText, Piece, WhiteSpace, cut_at, push_text};
@@ -184,11 +184,69 @@ impl<T: EqualCopy + Drop> TextBlock<T> {
     {
         let mut rest = text;
         while let Some((line, behind)) = cut_at(rest, '\n') {
-            self.take_run(line, main_tag, wrap_tag)?;
-            self.end_line()?;
+            self.take_line(line, main_tag, wrap_tag)?;
             rest = behind;
         }
         self.take_run(rest, main_tag, wrap_tag)
+    }
+
+    /// Takes the rest of a source line, and ends it.
+    fn take_line(&mut self, text: &str, main_tag: &T, wrap_tag: &T) -> Result<(), BlockError>
+        ensures kinds { IfErr result (λ e. (e ≡ BlockError.TooNarrow) ⊎ (e ≡ BlockError.Memory)) }
+        ensures ended { OnOk result (line_ended (behind_sources (sourced (chars text.now) (T.seen main_tag.now)
+            (T.seen wrap_tag.now)) (text_of T.seen self.old)) ≡ Some (text_of T.seen self.new)) }
+        ensures narrow { result ≡ Err BlockError.TooNarrow → line_ended (behind_sources (sourced (chars text.now)
+            (T.seen main_tag.now) (T.seen wrap_tag.now)) (text_of T.seen self.old)) ≡ None }
+        ensures joined { AreJoinedLines T.seen self.old → AreJoinedLines T.seen self.new }
+    {
+        // The common case holds no text.
+        if let Some(line) = self.whole_line(text, main_tag)? {
+            return Ok(self.put_line(line)?);
+        }
+        self.end_line_behind(text, main_tag, wrap_tag)
+    }
+
+    /// The line of a source line that begins and ends with the text, where it is seen to have one line.
+    fn whole_line(&self, text: &str, main_tag: &T) -> Result<Option<TaggedLine<T>>, AllocError>
+        ensures line { IfOk result (λ found. IfSome found (λ line. (further : T.Seen)
+            → line_ended (behind_sources (sourced (chars text.now) (T.seen main_tag.now) further)
+            (text_of T.seen self.now))
+            ≡ Some (with_lines (line_items T.seen line ∷ []) (text_of T.seen self.now)))) }
+        ensures joined { IfOk result (λ found. IfSome found (IsJoined T.seen)) }
+    {
+        if !self.mode.preserve_whitespace() || !self.pieces.is_empty() {
+            return Ok(None);
+        }
+        let alloc = *self.lines.allocator();
+        lay_line(alloc, self.width, self.mode.do_wrap(), text, main_tag)
+    }
+
+    /// Adds a line, filled where lines are to be.
+    fn put_line(&mut self, line: TaggedLine<T>) -> Result<(), AllocError>
+        ensures put { OnOk result (text_of T.seen self.new
+            ≡ with_lines (line_items T.seen line ∷ []) (text_of T.seen self.old)) }
+        ensures joined { AreJoinedLines T.seen self.old → IsJoined T.seen line → AreJoinedLines T.seen self.new }
+    {
+        if !self.pad_blocks {
+            self.lines.push(line)?;
+            return Ok(());
+        }
+        let mut lines = Vec::new(*self.lines.allocator());
+        lines.push(line)?;
+        self.put_lines(lines)
+    }
+
+    /// Adds text to the source line at hand, and ends it.
+    fn end_line_behind(&mut self, text: &str, main_tag: &T, wrap_tag: &T) -> Result<(), BlockError>
+        ensures kinds { IfErr result (λ e. (e ≡ BlockError.TooNarrow) ⊎ (e ≡ BlockError.Memory)) }
+        ensures ended { OnOk result (line_ended (behind_sources (sourced (chars text.now) (T.seen main_tag.now)
+            (T.seen wrap_tag.now)) (text_of T.seen self.old)) ≡ Some (text_of T.seen self.new)) }
+        ensures narrow { result ≡ Err BlockError.TooNarrow → line_ended (behind_sources (sourced (chars text.now)
+            (T.seen main_tag.now) (T.seen wrap_tag.now)) (text_of T.seen self.old)) ≡ None }
+        ensures joined { AreJoinedLines T.seen self.old → AreJoinedLines T.seen self.new }
+    {
+        self.take_run(text, main_tag, wrap_tag)?;
+        self.end_line()
     }
 
     /// Takes text that ends nothing.

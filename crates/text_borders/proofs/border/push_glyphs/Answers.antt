@@ -1,22 +1,18 @@
 use Rattle.std.proofs.Common.{sym, ap, ◌∙◌, ◌++◌, map, append-nil}
-use Rattle.tagged_lines.specs.Tagged.{line_items, tagged, character}
+use Rattle.tagged_lines.specs.Tagged.{line_items, tagged}
 use Rattle.text_borders.specs.Segments.{segment_of, glyph_of}
-use Rattle.text_borders.proofs.SegmentLemmas.{nothing_left, more_pushed}
+use Rattle.text_borders.proofs.SegmentLemmas.{nothing_left}
 use Rattle.text_borders.proofs.border.push_glyphs.Goals as goal
 
 pub loop-segment-preserved : goal.loop-segment-preserved
 loop-segment-preserved g c =
     let seen = g.T.EqualCopy.seen in
-    let tag = seen c.args.tag.now in
     record {
-      items = more_pushed (line_items seen c.loop-segment.line) _ _
-          (character (glyph_of (segment_of c.in-Some.segment.now)) tag)
-          (tagged (map glyph_of (map segment_of c.in-Some.others.now)) tag) c.in_ok-push_char.ensures.ok
-          (ap (λ code. character code tag) c.glyph.ensures)
-          ∙ ap (λ ss. line_items seen c.loop-segment.line ++ tagged (map glyph_of (map segment_of ss)) tag)
-          (sym c.in-Some.ensures.cases.0)
+      items = c.in_ok-rest.ensures.items
+          ∙ ap (λ ss. line_items seen c.loop-segment.line
+          ++ tagged (map glyph_of (map segment_of ss)) (seen c.args.tag.now)) (sym c.in-Some.ensures.cases.0)
           ∙ c.loop-segment.invariant.items;
-      joined = λ h. c.push_char.ensures.joined (c.loop-segment.invariant.joined h);
+      joined = λ h. c.push_next.ensures.joined (c.loop-segment.invariant.joined h);
     }
 
 pub returns-clause-items : goal.returns-clause-items

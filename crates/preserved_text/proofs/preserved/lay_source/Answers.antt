@@ -4,7 +4,7 @@ use Rattle.preserved_text.specs.Pass.{left_markers}
 use Rattle.preserved_text.specs.SourceLines.{pass_of}
 use Rattle.preserved_text.proofs.ReadingLemmas.{line_passed, if_ok_map, refused_is_wide, has_room}
 use Rattle.preserved_text.proofs.PassLaw.{pass_lines, pass_waiting, pass_wide}
-use Rattle.preserved_text.proofs.preserved.lay_preserved.Goals as goal
+use Rattle.preserved_text.proofs.preserved.lay_source.Goals as goal
 
 pub returns-then-is_refused-clause-narrow : goal.returns-then-is_refused-clause-narrow
 returns-then-is_refused-clause-narrow g c = λ e.
