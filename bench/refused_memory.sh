@@ -39,5 +39,5 @@ try_tests() {
 try_tests page_rows page_rows::a_refused_growth_is_told word_rows::reads_lines_or_refuses \
   decoder_rows::replaces_in_single_bytes_or_refuses refused_rows::pages_are_answered_or_refused \
   refused_rows::tables_have_their_fault_or_are_refused refused_rows::a_refused_page_goes_no_further
-try_tests article_rows fault_tests::a_refused_growth_changes_no_answer written_tests::a_refused_growth_is_told \
-  layout_tests::an_article_is_laid_out_or_refused
+try_tests page_rows fault_rows::a_refused_growth_changes_no_answer written_rows::a_refused_growth_is_told \
+  article_rows::an_article_is_laid_out_or_refused

@@ -132,17 +132,27 @@ fn config_of(alloc: Global, look: &Look) -> Result<Config<PlainDecorator>, Error
     }
 }
 
-// the text of a page that is parsed from a reader and rendered from its tree, and read by single bytes at once
-fn text_by<D: TextDecorator + Drop>(
+// the text of a page that is parsed from a reader and rendered from its tree
+fn rendered<D: TextDecorator + Drop>(
     alloc: Global,
-    config: Config<D>,
+    config: &Config<D>,
     page: &[u8],
     width: usize,
 ) -> Result<String, Error> {
     let mut input = page_by(page, 8192);
     let dom = config.parse_html(alloc, &mut input)?;
     let tree = config.dom_to_render_tree(alloc, &dom)?;
-    let text = config.render_to_string(alloc, tree, width)?;
+    config.render_to_string(alloc, tree, width)
+}
+
+// the same, which is to be the text of the page that is read by single bytes at once
+fn text_by<D: TextDecorator + Drop>(
+    alloc: Global,
+    config: Config<D>,
+    page: &[u8],
+    width: usize,
+) -> Result<String, Error> {
+    let text = rendered(alloc, &config, page, width)?;
     let mut again = page_by(page, 1);
     if config.string_from_read(alloc, &mut again, width)? != text {
         return Err(Error::Fail);

@@ -62,7 +62,7 @@ pub fn push_elements<A: Named>(
             }
             TaggedLineElement::FragmentStart(name) => {
                 lines.push('#')?;
-                lines.push_str(name.as_str())?;
+                push_escaped(lines, name.as_str())?;
             }
         }
     }

@@ -1,4 +1,4 @@
-use crate::checks::{told, tree_of};
+use crate::trees::{told, tree_of};
 use html_render_tree::RenderError;
 use render_conversion::dom_to_render_tree;
 use render_sizes::{Prefixes, measured};

@@ -1,4 +1,4 @@
-//! What each test asks, and the trees of pages.
+//! What each test of numbered rows asks, and the trees of pages.
 use html_lexemes::ReferenceTable;
 use html_render_dom::RcDom;
 use page_reading::{PageFault, PageReader, ParseOpts};

@@ -1,6 +1,6 @@
 //! Which values are articles, and which fault of the others is the first.
-use crate::building::{Step, article_of};
-use crate::checks::{holds, told};
+use crate::articles::{Step, article_of};
+use crate::trees::{holds, told};
 use article_values::{ArticleError, Block};
 use std::alloc::{AllocError, Global};
 

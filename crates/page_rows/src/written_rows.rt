@@ -1,7 +1,7 @@
 //! An article that is written where there is room for it, where there is less, and where memory is refused. What is
 //! written of others stands in the stored run of articles.
-use crate::building::{Step, article_of};
-use crate::checks::holds;
+use crate::articles::{Step, article_of};
+use crate::trees::holds;
 use article_values::Article;
 use article_writing::WriteArticle;
 use html_lexemes::Device;

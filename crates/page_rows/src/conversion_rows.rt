@@ -1,5 +1,5 @@
 //! Pages as render trees.
-use crate::checks::{told, tree_of};
+use crate::trees::{told, tree_of};
 use html_lexemes::LocalName;
 use html_render_tree::{RenderError, decorating_rules};
 use render_conversion::dom_to_render_tree;

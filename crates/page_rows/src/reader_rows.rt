@@ -1,12 +1,11 @@
 //! Pages as text, and what a reader of pages answers.
-use crate::checks::{holds, told, tree_of};
+use crate::devices::Pieces;
+use crate::trees::{holds, told, tree_of};
 use html_lexemes::{Device, ReferenceTable};
 use html_render_dom::RcDom;
 use html_render_tree::{RenderConfig, RenderError};
 use page_reading::{PageFault, PageReader, ParseOpts, ReadFault, read_page};
 use std::alloc::Global;
-use std::io;
-use std::io::{ErrorKind, Read};
 use text_decorators::PlainDecorator;
 
 /// Pages, their width, whether lines may pass it, and their text.
@@ -79,24 +78,6 @@ fn pages_have_a_text(rt: HostRuntime) {
     }
 }
 
-// gives its bytes a few at a time, and fails where the count of reads is used up
-#[derive(Drop)]
-struct Pieces<'a> {
-    bytes: &'a [u8],
-    reads: usize,
-}
-
-impl Read for Pieces<'_> {
-    fn read(&mut self, buf: &mut [u8]) -> io::Result<usize> {
-        if self.reads == 0 {
-            return Err(io::Error::from(ErrorKind::Interrupted));
-        }
-        self.reads -= 1;
-        let most = buf.len().min(2);
-        (&mut self.bytes).read(&mut buf[..most])
-    }
-}
-
 /// How often a device that has a page of five bytes may be read, how many bytes the page may have, and what it shows,
 /// or why it shows nothing.
 static READS: [(usize, usize, &str, Option<ReadFault>); 3] = [
@@ -110,7 +91,11 @@ fn tree_read(alloc: Global, reads: usize, most: usize) -> Result<RcDom, ReadFaul
         return Err(ReadFault::Memory);
     };
     let bytes = b"<p>ab".as_slice();
-    let mut input = Device::new(Pieces { bytes, reads });
+    let mut input = Device::new(Pieces {
+        bytes,
+        most: 2,
+        reads,
+    });
     read_page(alloc, &mut input, table, ParseOpts::default(), most)
 }
 

@@ -1,6 +1,6 @@
 //! The lines of an article where memory is refused.
-use crate::building::{Step, article_of};
-use crate::checks::holds;
+use crate::articles::{Step, article_of};
+use crate::trees::holds;
 use article_answers::{ArticleLine, Config, Error, LayArticle};
 use article_values::Article;
 use html_lexemes::ReferenceTable;
