@@ -13,7 +13,6 @@ whether both write the same. Four pages are counted at a time, where there are s
 
 import os
 import re
-import resource
 import subprocess
 import sys
 from concurrent.futures import ThreadPoolExecutor
@@ -108,7 +107,6 @@ def main(words):
     if len(words) < 2:
         print(__doc__, file=sys.stderr)
         return 2
-    resource.setrlimit(resource.RLIMIT_STACK, (resource.RLIM_INFINITY, resource.RLIM_INFINITY))
     pages = pages_of(words[0])
     print("| page | bytes | program | instructions a byte | requests | peak KB | of the first | text |")
     print("|---|---|---|---|---|---|---|---|")
