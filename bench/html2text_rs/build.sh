@@ -1,37 +1,5 @@
 #!/usr/bin/env bash
 # Builds the Rust crate html2text as a program: bench/html2text_rs/build.sh PROGRAM
-#
-# It needs cargo and Debian's package librust-html2text-dev, and no network. Of one of that package's crates a copy is
-# built in which a struct isn't packed, since today's compiler refuses references to a packed struct's fields.
 set -eu
 here=$(cd "$(dirname "$0")" && pwd)
-program=$(realpath "$1")
-registry=/usr/share/cargo/registry
-room=$(mktemp -d)
-trap 'rm -rf "$room"' EXIT
-mkdir -p "$room/src" "$room/.cargo"
-cp -r "$registry"/tendril-0.4.0 "$room/tendril"
-rm "$room/tendril/.cargo-checksum.json"
-sed -i 's/^#\[repr(packed)\]/#[repr(C)]/' "$room/tendril/src/tendril.rs"
-cp "$here/main.rs" "$room/src/main.rs"
-cat >"$room/Cargo.toml" <<'END'
-[package]
-name = "html2text_rs"
-version = "0.1.0"
-edition = "2021"
-
-[dependencies]
-html2text = "0.4"
-
-[patch.crates-io]
-tendril = { path = "tendril" }
-END
-cat >"$room/.cargo/config.toml" <<'END'
-[source.crates-io]
-replace-with = "debian"
-
-[source.debian]
-directory = "/usr/share/cargo/registry"
-END
-(cd "$room" && cargo build --release --offline --quiet 2>"$room/log") || { tail -n 20 "$room/log"; exit 1; }
-cp "$room/target/release/html2text_rs" "$program"
+exec "$here/../rust_peer.sh" html2text 0.4 "$here/main.rs" "$1"
