@@ -1,25 +1,25 @@
 -- A source line of printable ASCII that fits on a line is that line.
-use Rattle.std.proofs.Common.{◌≡◌, ℕ, ◌+◌, ◌≤◌, inl, inr, Bool, true, false, List, [], ◌∷◌, ◌++◌, refl, sym, ap, ◌∙◌, arith}
+use Rattle.std.proofs.Common.{◌≡◌, ℕ, ◌≤◌, inl, inr, Bool, true, false, List, [], ◌∷◌, ◌++◌, refl, sym, ap, ◌∙◌, arith}
 use Rattle.std.proofs.Common.{subst, chars, get_or, ◌<◌}
 use Rattle.std.specs.Prelude.{◌⊎◌, ◌||◌, nat_lt, All, flat_map}
-use Rattle.std.proofs.lemmas.Bool.Decides.{nat_tests}
 use Rattle.std.proofs.lemmas.List.Elements.{All-from_get_or, All-get_or, All-head, All-tail}
 use Rattle.std.proofs.lemmas.List.Sums.{sum_by-cons}
 use Rattle.std.proofs.lemmas.Str.{chars-IsAscii}
 use Rattle.std.proofs.lemmas.Str.Ascii.{IsAscii-from_all}
 use Rattle.tagged_lines.specs.Columns.{text_columns, width_of}
-use Rattle.tagged_lines.specs.Tagged.{Item, character, tagged}
+use Rattle.tagged_lines.specs.Tagged.{character, marker, tagged}
 use Rattle.text_pieces.specs.Sources.{Source, letter, fragment, sourced, is_filled, names_of}
 use Rattle.text_pieces.specs.Items.{markers_of}
 use Rattle.preserved_text.specs.Preserved.{kind_of, solid, trimmed, Part, blank, stop, body, parts, has_wide_letter}
 use Rattle.preserved_text.specs.Preserved.{has_wide_body, preserved_lines, preserved_waiting, is_too_wide}
+use Rattle.preserved_text.specs.Fronts.{BeginsSolid}
 use Rattle.preserved_text.specs.LawWords.{ArePlain, source_columns, as_it_stands, one_line}
 use Rattle.preserved_text.specs.PlainLines.{IsOnlyLine, IsPrintable, IsPlainFront}
 use Rattle.preserved_text.proofs.CharacterLemmas.{visible_is_solid}
 use Rattle.preserved_text.proofs.ColumnLemmas.{lt_is_false}
 use Rattle.preserved_text.proofs.FrontLemmas.{width_of-two}
 use Rattle.preserved_text.proofs.LayingMarkers.{lines_keep_markers}
-use Rattle.preserved_text.proofs.LayingPlain.{a_line_that_fits}
+use Rattle.preserved_text.proofs.LayingPlain.{a_line_that_fits, a_marked_line_that_fits}
 use Rattle.preserved_text.proofs.TrimLemmas.{sourced_trimmed}
 
 plain_one : (width : ℕ) (wraps : Bool) (c : ℕ) → IsPrintable c → (kind_of width wraps c ≡ solid) ⊎ (c ≡ 0x20)
@@ -113,3 +113,26 @@ only {S = S} width wraps text front main further p fits =
           ∙ lines_keep_markers width wraps source ∙ no_names text main further;
       fits = never_wide width wraps source p.wide;
     }
+
+-- behind a marker, where the line begins with a character that is shown
+pub only_marked : {S : Type 0} (width : ℕ) (wraps : Bool) (name text front : List ℕ) (main further : S)
+    → IsPlainFront width wraps text front → BeginsSolid width wraps front → text_columns front ≤ width
+    → IsOnlyLine width wraps (fragment name ∷ sourced text main further) (marker name ∷ tagged front main)
+only_marked {S = S} width wraps name text front main further p begins fits =
+    let source : List (Source S) = sourced text main further in
+    let trims : trimmed width wraps source ≡ sourced front main further =
+    sourced_trimmed width wraps text main further ∙ ap (λ cs. sourced cs main further) (sym p.is) in
+    let lines : preserved_lines width wraps (fragment name ∷ source) ≡ (marker name ∷ tagged front main) ∷ [] =
+    a_marked_line_that_fits width wraps name source begins.first main further (sourced begins.after main further)
+    (are_plain width wraps text main further p.printable)
+    (trims ∙ ap (λ cs. sourced cs main further) begins.whole) begins.is_solid
+    (omega (arith, ap source_columns trims, counted front main further, fits))
+    ∙ ap (λ l. (marker name ∷ as_it_stands l) ∷ []) trims
+    ∙ ap (λ items. (marker name ∷ items) ∷ []) (stands front main further) in
+    let rest : List (List ℕ) = preserved_waiting width wraps (fragment name ∷ source) in
+    let all : name ∷ rest ≡ name ∷ [] =
+    sym (ap (λ m. ((name ∷ m) ++ []) ++ rest) (no_markers front main))
+    ∙ sym (ap (λ ls. flat_map (markers_of {S = S}) ls ++ rest) lines)
+    ∙ lines_keep_markers width wraps (fragment name ∷ source)
+    ∙ ap (λ ns. name ∷ ns) (no_names text main further) in
+    record { lines = lines; waiting = cc all; fits = never_wide width wraps (fragment name ∷ source) p.wide }

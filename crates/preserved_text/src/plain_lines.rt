@@ -1,9 +1,11 @@
 //! Source lines that are one line, as they stand.
 ghost use Rattle.std.specs.Prelude.{◌≡◌, ◌⊎◌, ◌≤◌, ◌∷◌, [], true, All, chars, map, IfOk, IfSome, IsTrue, IsUtf8};
 ghost use Rattle.tagged_lines.specs.Tagged.{line_items, IsJoined};
-ghost use Rattle.text_pieces.specs.Sources.{sourced, sources_of, names};
+ghost use Rattle.text_pieces.specs.Sources.{fragment, sourced, sources_of, names};
+ghost use Rattle.preserved_text.specs.Fronts.{BeginsSolid};
 ghost use Rattle.preserved_text.specs.PlainLines.{IsOnlyLine, IsPlainFront, IsPrintable};
 
+use crate::fronts::begins_solid;
 use crate::reading::solid_front;
 use std::alloc::{AllocError, Global};
 use tagged_lines::{EqualCopy, TaggedLine, columns_of};
@@ -32,6 +34,46 @@ pub fn lay_line<T: EqualCopy + Drop>(
     let mut line = TaggedLine::new(alloc);
     line.push_counted(front, columns, tag)?;
     Ok(Some(line))
+}
+
+/// The same after a marker, where the text begins with a character that is shown.
+fn lay_marked_line<T: EqualCopy + Drop>(
+    alloc: Global,
+    width: usize,
+    wraps: bool,
+    name: &str,
+    text: &str,
+    tag: &T,
+) -> Result<Option<TaggedLine<T>>, AllocError>
+    ensures line { IfOk result (λ found. IfSome found (λ line. (further : T.Seen) → IsOnlyLine width wraps
+        (fragment (chars name.now) ∷ sourced (chars text.now) (T.seen tag.now) further) (line_items T.seen line))) }
+    ensures joined { IfOk result (λ found. IfSome found (IsJoined T.seen)) }
+{
+    let Some(front) = shown_front(text, width, wraps) else {
+        return Ok(None);
+    };
+    let columns = columns_of(front);
+    if columns > width {
+        return Ok(None);
+    }
+    let mut line = TaggedLine::new(alloc);
+    line.push_marker(name)?;
+    line.push_counted(front, columns, tag)?;
+    Ok(Some(line))
+}
+
+/// The text as `plain_front` gives it, where it begins with a character that is shown.
+fn shown_front(text: &str, width: usize, wraps: bool) -> Option<&str>
+    ensures front { IfSome result (λ front. IsPlainFront width wraps (chars text.now) (chars front.now)) }
+    ensures begins { IfSome result (λ front. BeginsSolid width wraps (chars front.now)) }
+{
+    let Some(front) = plain_front(text, width, wraps) else {
+        return None;
+    };
+    if begins_solid(front, width, wraps) {
+        return Some(front);
+    }
+    None
 }
 
 /// The text without the spaces at its end, where it is printable ASCII, something is left, and no character can be
@@ -66,7 +108,7 @@ fn is_printable_byte(byte: u8) -> bool
     byte == b' ' || matches!(byte, b'!'..=b'~')
 }
 
-/// The line of a source line as `lay_line` gives it, where the source line is one text.
+/// The line of a source line as `lay_line` gives it, where the source line is one text, or a marker and a text.
 pub(crate) fn only_line<T: EqualCopy + Drop>(
     alloc: Global,
     width: usize,
@@ -80,6 +122,10 @@ pub(crate) fn only_line<T: EqualCopy + Drop>(
     match pieces {
         [Piece::Text(piece)] => {
             lay_line(alloc, width, wraps, piece.text.as_str(), &piece.main_tag)
+        }
+        [Piece::Fragment(name), Piece::Text(piece)] => {
+            let text = piece.text.as_str();
+            lay_marked_line(alloc, width, wraps, name.as_str(), text, &piece.main_tag)
         }
         _ => Ok(None),
     }
