@@ -1,11 +1,12 @@
 -- The segments of borders that change, and the columns of what is shown.
 use Rattle.std.proofs.Common.{◌≡◌, ℕ, zero, suc, ◌+◌, ◌-◌, ◌<◌, ◌≤◌, Bool, true, false, List, [], ◌∷◌, ◌++◌, length}
-use Rattle.std.proofs.Common.{take, drop, replicate, if◌then◌else◌, sym, ap, ◌∙◌, refl, inl, inr, arith}
+use Rattle.std.proofs.Common.{take, drop, map, replicate, if◌then◌else◌, sym, ap, ◌∙◌, refl, inl, inr, arith}
 use Rattle.std.specs.Prelude.{◌==◌, ◌||◌, ◌&&◌, nat_le, fold, max, unwrap_or, Some, None}
 use Rattle.std.specs.Option.{option_map}
 use Rattle.std.proofs.lemmas.Bool.Decides.{nat_tests}
 use Rattle.std.proofs.lemmas.List.{length-append, length-replicate, length-take, length-drop}
-use Rattle.tagged_lines.specs.Columns.{width_of, columns_of-one, IsOfOneColumn}
+use Rattle.std.proofs.lemmas.List.Sums.{sum_by-cons}
+use Rattle.tagged_lines.specs.Columns.{width_of, columns_of-one, text_columns, IsOfOneColumn}
 use Rattle.tagged_lines.specs.Tagged.{Item, character, line_columns}
 use Rattle.text_pieces.proofs.ItemColumns.{line_columns-append, line_columns-cons}
 use Rattle.text_borders.specs.Segments.{Segment, glyph, glyph_of, with_up, with_down, without_left, without_right}
@@ -278,6 +279,15 @@ glyph_column false false false false = one_column 0x20 (inr (omega arith, omega 
 segment_column : (s : Segment) → width_of (glyph_of s) ≡ 1
 segment_column None = one_column 0x2F (inl refl)
 segment_column (Some a) = glyph_column a.up a.down a.left a.right
+
+pub glyph_columns : (ss : List Segment) → text_columns (map glyph_of ss) ≡ length ss
+glyph_columns [] = refl
+glyph_columns (s ∷ ss) = omega (
+  arith,
+  sum_by-cons width_of (glyph_of s) (map glyph_of ss),
+  segment_column s,
+  glyph_columns ss,
+)
 
 glyphs_columns : {S : Type 0} (tag : S) (ss : List Segment) → line_columns (glyphs tag ss) ≡ length ss
 glyphs_columns tag [] = refl

@@ -7,8 +7,8 @@ use Rattle.std.specs.Option.{option_map}
 use Rattle.std.proofs.lemmas.Bool.Decides.{nat_tests}
 use Rattle.std.proofs.Math.ListN.{set}
 use Rattle.std.proofs.lemmas.List.{map-append, length-map, length-append, length-replicate}
-use Rattle.text_borders.specs.Segments.{Segment, segment_of, without_right}
-use Rattle.tagged_lines.specs.Tagged.{Item, line_columns, tagged}
+use Rattle.text_borders.specs.Segments.{Segment, glyph_of, segment_of, without_right}
+use Rattle.tagged_lines.specs.Tagged.{Item, line_columns}
 use Rattle.text_borders.specs.Borders.{Border, Hole, glyphs, shown_from, horizontal, stretched, change_at, change_to}
 use Rattle.text_borders.specs.Borders.{chop_before, with_segments, columns_where}
 use Rattle.text_borders.specs.declared.segment.BorderSegHoriz.{BorderSegHoriz}
@@ -166,12 +166,18 @@ pub rule_spelt : chars rule_bytes ≡ replicate 8 0x2500
 unfolding chars
 rule_spelt = refl
 
-pub rule_pushed : {S : Type 0} (old new : List (Item S)) (cs : List ℕ) (first : BorderSegHoriz)
-    (others left : List BorderSegHoriz) (tag : S) → new ≡ old ++ tagged cs tag → cs ≡ replicate 8 0x2500
-    → first ∷ others ≡ replicate 8 Horiz ++ left
-    → new ++ glyphs tag (map segment_of left) ≡ old ++ glyphs tag (map segment_of (first ∷ others))
-rule_pushed old new cs first others left tag pushed spelt rule =
-    ap (λ items. items ++ glyphs tag (map segment_of left)) pushed
-    ∙ append_assoc old (tagged cs tag) (glyphs tag (map segment_of left))
-    ∙ ap (λ ds. old ++ (tagged ds tag ++ glyphs tag (map segment_of left))) spelt
-    ∙ ap (λ ss. old ++ glyphs tag (map segment_of ss)) (sym rule)
+pub rule_pushed : (old new : List ℕ) (first : BorderSegHoriz) (others left : List BorderSegHoriz)
+    → new ≡ old ++ replicate 8 0x2500 → first ∷ others ≡ replicate 8 Horiz ++ left
+    → new ++ map glyph_of (map segment_of left) ≡ old ++ map glyph_of (map segment_of (first ∷ others))
+rule_pushed old new first others left pushed rule =
+    ap (λ cs. cs ++ map glyph_of (map segment_of left)) pushed
+    ∙ append_assoc old (replicate 8 0x2500) (map glyph_of (map segment_of left))
+    ∙ ap (λ ss. old ++ map glyph_of (map segment_of ss)) (sym rule)
+
+pub glyph_pushed : (old new : List ℕ) (first : BorderSegHoriz) (others : List BorderSegHoriz) (c : ℕ)
+    → new ≡ old ++ c ∷ [] → c ≡ glyph_of (segment_of first)
+    → new ++ map glyph_of (map segment_of others) ≡ old ++ map glyph_of (map segment_of (first ∷ others))
+glyph_pushed old new first others c pushed is =
+    ap (λ cs. cs ++ map glyph_of (map segment_of others)) pushed
+    ∙ append_assoc old (c ∷ []) (map glyph_of (map segment_of others))
+    ∙ ap (λ d. old ++ d ∷ map glyph_of (map segment_of others)) is

@@ -1,7 +1,8 @@
 //! Borders.
 ghost use Rattle.std.specs.Prelude.{◌≡◌, ◌+◌, ◌≤◌, [], ◌∷◌, ◌++◌, map, length, take, drop, replicate, OnOk, IfOk, IfSome};
+ghost use Rattle.std.specs.Prelude.{chars, string_bytes};
 ghost use Rattle.tagged_lines.specs.Tagged.{line_items, line_columns, tagged, IsJoined};
-ghost use Rattle.text_borders.specs.Segments.{segment_of};
+ghost use Rattle.text_borders.specs.Segments.{glyph_of, segment_of};
 ghost use Rattle.text_borders.specs.Borders.{hole_of, shown_from, glyphs, line_above};
 ghost use Rattle.text_borders.specs.declared.segment.BorderSegHoriz.TheVariants as segments;
 
@@ -55,7 +56,7 @@ impl<T: EqualCopy + Drop> BorderHoriz<T> {
     ) -> Result<BorderHoriz<T>, AllocError>
         ensures { IfOk result (λ border. border_of T.seen border ≡ plain (segment_of segment) width (T.seen tag)) }
     {
-        let mut segments = Vec::new(alloc);
+        let mut segments = Vec::with_capacity(alloc, width)?;
         push_segments(&mut segments, width, segment)?;
         Ok(BorderHoriz {
             segments,
@@ -280,8 +281,9 @@ impl<T: EqualCopy + Drop> BorderHoriz<T> {
         ensures items { IfOk result (λ line. line_items T.seen line ≡ shown (border_of T.seen self)) }
         ensures joined { IfOk result (IsJoined T.seen) }
     {
-        let mut line = TaggedLine::new(*self.segments.allocator());
-        push_shown(&mut line, &self.segments, &self.holes, &self.tag)?;
+        let alloc = *self.segments.allocator();
+        let mut line = TaggedLine::new(alloc);
+        push_shown(&mut line, alloc, &self.segments, &self.holes, &self.tag)?;
         Ok(line)
     }
 
@@ -313,6 +315,7 @@ impl<T: EqualCopy + Drop> BorderHoriz<T> {
 /// Adds what is shown of segments, with texts that stand in place of some.
 fn push_shown<T: EqualCopy + Drop>(
     line: &mut TaggedLine<T>,
+    alloc: Global,
     segments: &[BorderSegHoriz],
     holes: &[Hole<T>],
     tag: &T,
@@ -325,14 +328,15 @@ fn push_shown<T: EqualCopy + Drop>(
     let mut rest = segments;
     let mut left = holes;
     while let Some((hole, others)) = left.split_first() {
-        push_glyphs(line, front_of(rest, hole.place.saturating_sub(at)), tag)?;
+        let front = front_of(rest, hole.place.saturating_sub(at));
+        push_glyphs(line, alloc, front, tag)?;
         line.push_line(&hole.line)?;
         let end = hole.end()?;
         rest = behind_of(rest, end.saturating_sub(at));
         at = end;
         left = others;
     }
-    push_glyphs(line, rest, tag)
+    push_glyphs(line, alloc, rest, tag)
 }
 
 impl<T: EqualCopy + Drop> Hole<T> {
@@ -373,6 +377,7 @@ fn behind_of(segments: &[BorderSegHoriz], count: usize) -> &[BorderSegHoriz]
 /// Adds the characters of segments.
 fn push_glyphs<T: EqualCopy + Drop>(
     line: &mut TaggedLine<T>,
+    alloc: Global,
     segments: &[BorderSegHoriz],
     tag: &T,
 ) -> Result<(), AllocError>
@@ -380,33 +385,46 @@ fn push_glyphs<T: EqualCopy + Drop>(
         ++ glyphs (T.seen tag.now) (map segment_of segments.now)) }
     ensures joined { IsJoined T.seen line.old → IsJoined T.seen line.new }
 {
+    let text = glyphs_of(alloc, segments)?;
+    line.push_string(text, segments.len(), tag.copy(alloc)?)
+}
+
+/// The characters of segments, each of one column and three bytes.
+fn glyphs_of(alloc: Global, segments: &[BorderSegHoriz]) -> Result<String, AllocError>
+    ensures { IfOk result (λ text. chars (string_bytes text) ≡ map glyph_of (map segment_of segments.now)) }
+{
+    let mut text = String::with_capacity(alloc, segments.len().saturating_mul(3))?;
     let mut rest = segments;
     while let Some((segment, others)) = rest.split_first() {
-        rest = push_next(line, segment, others, tag)?;
+        rest = push_next(&mut text, segment, others)?;
     }
-    Ok(())
+    Ok(text)
 }
 
 /// Adds the character of the first segment, or those of the first eight where they are a horizontal line; what follows
 /// them is left.
-fn push_next<'a, T: EqualCopy + Drop>(
-    line: &mut TaggedLine<T>,
+fn push_next<'a>(
+    text: &mut String,
     first: &BorderSegHoriz,
     others: &'a [BorderSegHoriz],
-    tag: &T,
 ) -> Result<&'a [BorderSegHoriz], AllocError>
-    ensures items { IfOk result (λ left. line_items T.seen line.new
-        ++ glyphs (T.seen tag.now) (map segment_of left.now) ≡ line_items T.seen line.old
-        ++ glyphs (T.seen tag.now) (map segment_of (first.now ∷ others.now))) }
+    ensures text { IfOk result (λ left. chars (string_bytes text.new) ++ map glyph_of (map segment_of left.now)
+        ≡ chars (string_bytes text.old) ++ map glyph_of (map segment_of (first.now ∷ others.now))) }
     ensures shorter { IfOk result (λ left. length left.now ≤ length others.now) }
-    ensures joined { IsJoined T.seen line.old → IsJoined T.seen line.new }
 {
     if let Some(left) = after_rule(first, others) {
-        line.push_str(RULE, tag)?;
+        text.push_str(RULE)?;
         return Ok(left);
     }
-    line.push_char(first.glyph(), tag)?;
+    push_character(text, first.glyph())?;
     Ok(others)
+}
+
+fn push_character(text: &mut String, c: char) -> Result<(), AllocError>
+    ensures { OnOk result (chars (string_bytes text.new) ≡ chars (string_bytes text.old) ++ c ∷ []) }
+{
+    text.push(c)?;
+    Ok(())
 }
 
 /// Eight segments of a horizontal line.

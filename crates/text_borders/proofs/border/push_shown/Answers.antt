@@ -14,7 +14,7 @@ loop-hole-preserved g c =
     record {
       items = more_shown tag c.loop-hole.at c.in_ok-end.end (map segment_of c.loop-hole.rest.now) _ _ h
           (map (hole_of seen) c.in-Some.others.now) old _ _
-          (front_is _ _ c.front_of.result.now c.loop-hole.rest.now c.front_of.ensures c.saturating_sub.ensures)
+          (front_is _ _ c.front_of-front.result.now c.loop-hole.rest.now c.front_of-front.ensures c.saturating_sub.ensures)
           c.in_ok-end.ensures
           (rest_is _ _ c.behind_of-rest.result.now c.loop-hole.rest.now c.behind_of-rest.ensures
           (c.saturating_sub-in-Some.ensures ∙ ap (λ n. n - c.loop-hole.at) c.in_ok-end.ensures))

@@ -13,5 +13,5 @@ returns g c =
       holes = map (hole_of seen) hs;
     }) c.new.ensures.items
     ∙ ap (λ ss. record { segments = ss; tag = seen c.args.tag; holes = [] })
-    (some_alike c.new-segments.result.items c.push_segments.new.segments.items c.args.width c.args.segment
-    c.new-segments.ensures.items c.in_ok-push_segments.ensures)
+    (some_alike c.in_ok-segments.segments.items c.push_segments.new.segments.items c.args.width c.args.segment
+    c.in_ok-segments.ensures.items c.in_ok-push_segments.ensures)
