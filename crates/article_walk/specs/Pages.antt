@@ -1,5 +1,5 @@
 -- Renderers of plain text in which what a paragraph says is laid out.
-use Rattle.std.specs.Prelude.{◌≡◌, ℕ, Bool, false, List, [], ◌∷◌, fold, refl}
+use Rattle.std.specs.Prelude.{◌≡◌, ℕ, Bool, false, true, List, [], ◌∷◌, fold, refl}
 use Rattle.article_layout.specs.Layouts.{Options, Tag}
 use Rattle.article_values.specs.Articles.{Blocks, Inlines, Items, bullets, division, heading, item, line_break, link}
 use Rattle.article_values.specs.Articles.{no_blocks, no_inlines, no_items, numbers, paragraph, quote, span, words}
@@ -44,6 +44,7 @@ renderer_at given held p tag b = record {
   modes = p.modes;
   preformats = 0;
   annotations = tag;
+  keeps = true;
   strikeouts = 0;
 }
 

@@ -13,7 +13,7 @@ use Rattle.block_layout.specs.declared.measure.Measure.{Measure}
 use Rattle.block_layout.specs.Laid.{Laid, is_ignored, start_awaited, start_block, add_text}
 use Rattle.block_layout.specs.LaidRows.{before_last}
 use Rattle.renderer_calls.specs.Renderers.{Marking, Sub, measure_of, mode_of, with_laid, on_laid, struck, struck_text}
-use Rattle.renderer_calls.specs.Renderers.{preformatted_added, tagged_added, text_added, add_inline}
+use Rattle.renderer_calls.specs.Renderers.{one_under, preformatted_added, tagged_added, text_added, add_inline}
 
 other_branch : {B : Type 0} (b : Bool) (x y : B) → b ≡ false → (if b then x else y) ≡ y
 other_branch true x y e = cc
@@ -67,8 +67,8 @@ pub empty_is : {H A : Type 0} (m : Marking H A) (cs : List ℕ) (s : Sub H A) (m
     → ((mode : WhiteSpace) (main further : List A) → add_text measure s.annotations mode [] main further s.laid
     ≡ Some laid) → on_laid s (preformatted_added m cs s s.laid) ≡ Some (with_laid s laid)
 empty_is m cs s measure laid none is added =
-    let main = s.annotations ++ m.mark_tag s.held preformat_first ∷ [] in
-    let further = s.annotations ++ m.mark_tag s.held preformat_further ∷ [] in
+    let main = one_under (m.mark_tag s.held preformat_first) s in
+    let further = one_under (m.mark_tag s.held preformat_further) s in
     ap (λ ds. on_laid s (preformatted_added m ds s s.laid)) none
     ∙ ap (λ k. on_laid s (add_text k s.annotations (mode_of s) [] main further s.laid)) (sym is)
     ∙ ap (on_laid s) (added (mode_of s) main further)

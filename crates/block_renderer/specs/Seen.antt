@@ -19,6 +19,7 @@ sub_of seen held s = record {
   modes = s.modes.items;
   preformats = s.preformats;
   annotations = map seen s.annotations.items;
+  keeps = s.keeps_annotations;
   strikeouts = s.strikeouts;
 }
 

@@ -9,7 +9,7 @@ impl<D: TextDecorator + Drop> Renderer for SubRenderer<D> {
     ghost use Rattle.std.specs.Prelude.{◌≡◌, true};
     ghost use Rattle.renderer_calls.specs.Calls.{step, call_of, adds_cells, adds_rows_below};
     ghost use Rattle.renderer_calls.specs.Outcomes.{IsOutcome};
-    ghost use Rattle.renderer_calls.specs.Renderers.{new_sub};
+    ghost use Rattle.renderer_calls.specs.Renderers.{new_part};
     ghost use Rattle.block_renderer.specs.Seen.{sub_of, has_failed, Comes, Fails, IsJoinedSub};
     ghost use Rattle.block_layout.specs.Laid.{is_nothing};
 
@@ -27,8 +27,8 @@ impl<D: TextDecorator + Drop> Renderer for SubRenderer<D> {
 
     ghost prefix = { λ s kind. D.text (sub_of D.Annotation.seen D.held s).held kind };
 
-    ghost is_part = { λ s width part. sub_of D.Annotation.seen D.held part ≡ new_sub width s.options
-        (D.sub (sub_of D.Annotation.seen D.held s).held) (sub_of D.Annotation.seen D.held s).annotations };
+    ghost is_part = { λ s width part. sub_of D.Annotation.seen D.held part
+        ≡ new_part D.sub width (sub_of D.Annotation.seen D.held s) };
 
     ghost is_joined = { IsJoinedSub D.Annotation.seen };
 

@@ -128,6 +128,11 @@ impl<D: TextDecorator + Drop> SubRenderer<D> {
         if text.is_empty() {
             return Ok(self.laid.begin_text(measure, &self.annotations)?);
         }
+        if !self.keeps_annotations {
+            let mode = self.mode();
+            let tags = &self.annotations;
+            return self.laid.add_text(measure, tags, mode, text, tags, tags);
+        }
         let alloc = self.alloc();
         let first = self.decorator.decorate_preformat_first(alloc)?;
         let first = with_annotation(&self.annotations, first)?;

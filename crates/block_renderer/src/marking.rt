@@ -24,8 +24,8 @@ impl<D: TextDecorator + Drop> SubRenderer<D> {
             D.pops D.sub (λ m s. add_inline m (chars text.now) (pushed (D.Annotation.seen annotation) s)) self.old }
         ensures joined { IsJoinedSub D.Annotation.seen self.old → IsJoinedSub D.Annotation.seen self.new }
     {
-        if let Err(error) = self.annotations.push(annotation) {
-            return self.refuse(error.into());
+        if let Err(error) = self.push_annotation(annotation) {
+            return self.refuse(error);
         }
         let result = self.add_inline(text);
         self.failed = result.is_err();
@@ -57,6 +57,18 @@ impl<D: TextDecorator + Drop> SubRenderer<D> {
     {
         self.failed = true;
         Err(BlockError::from(error))
+    }
+
+    /// The annotation stands from here on, where annotations are kept.
+    fn push_annotation(&mut self, annotation: D::Annotation) -> Result<(), AllocError>
+        ensures pushed { OnOk result (sub_of D.Annotation.seen D.held self.new
+            ≡ pushed (D.Annotation.seen annotation) (sub_of D.Annotation.seen D.held self.old)) }
+        ensures joined { IsJoinedSub D.Annotation.seen self.old → IsJoinedSub D.Annotation.seen self.new }
+    {
+        if self.keeps_annotations {
+            self.annotations.push(annotation)?;
+        }
+        Ok(())
     }
 
     pub(crate) fn pop_annotation(&mut self)
@@ -109,7 +121,7 @@ impl<D: TextDecorator + Drop> SubRenderer<D> {
     {
         let alloc = self.alloc();
         if let Some(annotation) = self.decorator.push_colour(alloc, colour)? {
-            self.annotations.push(annotation)?;
+            self.push_annotation(annotation)?;
         }
         Ok(())
     }
@@ -125,7 +137,7 @@ impl<D: TextDecorator + Drop> SubRenderer<D> {
     {
         let alloc = self.alloc();
         if let Some(annotation) = self.decorator.push_bgcolour(alloc, colour)? {
-            self.annotations.push(annotation)?;
+            self.push_annotation(annotation)?;
         }
         Ok(())
     }

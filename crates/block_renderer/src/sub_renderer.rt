@@ -23,6 +23,8 @@ pub struct SubRenderer<D: TextDecorator> {
     pub(crate) modes: Vec<WhiteSpace>,
     pub(crate) preformats: usize,
     pub(crate) annotations: Vec<D::Annotation>,
+    /// Whether annotations are kept.
+    pub(crate) keeps_annotations: bool,
     pub(crate) strikeouts: usize,
     pub(crate) failed: bool,
 }
@@ -38,6 +40,7 @@ impl<D: TextDecorator + Drop> Drop for SubRenderer<D> {
             modes: _,
             preformats: _,
             annotations: _,
+            keeps_annotations: _,
             strikeouts: _,
             failed: _,
         } = self;
@@ -45,7 +48,8 @@ impl<D: TextDecorator + Drop> Drop for SubRenderer<D> {
 }
 
 impl<D: TextDecorator + Drop> SubRenderer<D> {
-    ghost use Rattle.renderer_calls.specs.Renderers.{new_sub, measure_of, mode_of, flush_sub, with_border_of};
+    ghost use Rattle.renderer_calls.specs.Bare.{bare_of};
+    ghost use Rattle.renderer_calls.specs.Renderers.{new_sub, new_part, measure_of, mode_of, flush_sub, with_border_of};
     ghost use Rattle.renderer_calls.specs.Outcomes.{IsAnswered};
     ghost use Rattle.block_renderer.specs.NewParts.{part_of};
     ghost use Rattle.block_renderer.specs.Seen.{sub_of, has_failed, IsJoinedSub};
@@ -64,9 +68,29 @@ impl<D: TextDecorator + Drop> SubRenderer<D> {
             modes: Vec::new(alloc),
             preformats: 0,
             annotations: Vec::new(alloc),
+            keeps_annotations: true,
             strikeouts: 0,
             failed: false,
         }
+    }
+
+    /// An empty renderer of a block of so many columns that keeps no annotations: each string of its lines stands under
+    /// none, but for those after the page. Their text is that of a renderer that keeps them, with fewer requests for
+    /// memory.
+    pub fn without_annotations(
+        alloc: Global,
+        width: usize,
+        options: RenderOptions,
+        decorator: D,
+    ) -> SubRenderer<D>
+        ensures sub { sub_of D.Annotation.seen D.held result
+            ≡ bare_of (new_sub width options (D.held decorator) []) }
+        ensures works { has_failed result ≡ false }
+        ensures joined { IsJoinedSub D.Annotation.seen result }
+    {
+        let mut sub = SubRenderer::new(alloc, width, options, decorator);
+        sub.keeps_annotations = false;
+        sub
     }
 
     /// How text is rendered in the block.
@@ -131,8 +155,8 @@ impl<D: TextDecorator + Drop> SubRenderer<D> {
 
     /// An empty renderer for a part of the block.
     pub(crate) fn part(&self, width: usize) -> Result<SubRenderer<D>, AllocError>
-        ensures part { IfOk result (λ part. sub_of D.Annotation.seen D.held part ≡ new_sub width self.now.options
-            (D.sub (D.held self.now.decorator)) (sub_of D.Annotation.seen D.held self.now).annotations) }
+        ensures part { IfOk result (λ part. sub_of D.Annotation.seen D.held part
+            ≡ new_part D.sub width (sub_of D.Annotation.seen D.held self.now)) }
         ensures works { IfOk result (λ part. has_failed part ≡ false) }
         ensures joined { IfOk result (IsJoinedSub D.Annotation.seen) }
     {
@@ -141,6 +165,7 @@ impl<D: TextDecorator + Drop> SubRenderer<D> {
         let annotations = self.annotations.copy(alloc)?;
         let mut part = SubRenderer::new(alloc, width, self.options, decorator);
         part.annotations = annotations;
+        part.keeps_annotations = self.keeps_annotations;
         Ok(part)
     }
 
@@ -225,6 +250,7 @@ impl<D: TextDecorator + Drop> SubRenderer<D> {
             modes: _,
             preformats: _,
             annotations,
+            keeps_annotations: _,
             strikeouts: _,
             failed: _,
         } = self;
@@ -244,6 +270,7 @@ impl<D: TextDecorator + Drop> SubRenderer<D> {
             modes: _,
             preformats: _,
             annotations: _,
+            keeps_annotations: _,
             strikeouts: _,
             failed: _,
         } = self;

@@ -1,12 +1,12 @@
 -- What was written of a page's lines.
-use Rattle.std.proofs.Common.{ℕ, Bool, List, Vec, Global, map, Option, None, Some, IfSome, chars}
+use Rattle.std.proofs.Common.{ℕ, Bool, List, Vec, Global, map, Option, None, Some, IfSome, chars, ◌∙◌}
 use Rattle.std.specs.Io.KnownBytes.{Appends}
 use Rattle.block_renderer.specs.Seen.{tags_seen}
 use Rattle.byte_devices.specs.KnownPart.{AppendsPart}
 use Rattle.html2text.proofs.LinesTextLemmas.{chars-lines_bytes, lines_utf8}
 use Rattle.html2text.specs.LinesText.{lines_bytes}
 use Rattle.html2text.specs.Written.{Gains, GainsPart}
-use Rattle.page_config.specs.PageAnswers.{Answers, IsTold, lines}
+use Rattle.page_config.specs.PageAnswers.{IsTold, lines_text}
 use Rattle.page_config.specs.Settings.{PageSetting}
 use Rattle.tagged_lines.specs.Tagged.{line_items}
 use Rattle.tagged_lines.specs.declared.tagged_line.TaggedLine.{TaggedLine}
@@ -15,19 +15,18 @@ use Rattle.text_marks.specs.Marks.{Mark}
 module _ {T H A : Type 0} (seen : T → A) (text : H → Mark → List ℕ) (gives : H → Mark → T → Type 0)
     (marks : H → Mark → Bool) (after : H → Mark → H) (pops : H → Mark → Bool) (sub : H → H)
     (closes : H → List (List ℕ) → List (TaggedLine T) → Type 0) (c : PageSetting H) (width : ℕ) where
-  abbrev pub HasLines : List (TaggedLine (Vec T Global)) → List ℕ → Type 0
-  HasLines shown bytes = Answers seen text gives marks after pops sub closes c width bytes
-      (lines (map (line_items (tags_seen seen)) shown))
-
   abbrev pub IsTextOf : List ℕ → List ℕ → Type 0
   IsTextOf bytes told = IsTold seen text gives marks after pops sub closes c width bytes told
+
+  abbrev pub HasLines : List (TaggedLine (Vec T Global)) → List ℕ → Type 0
+  HasLines shown bytes = IsTextOf bytes (lines_text (map (line_items (tags_seen seen)) shown))
 
   told_of : (bytes : List ℕ) (shown : List (TaggedLine (Vec T Global))) → HasLines shown bytes
       → IsTextOf bytes (chars (lines_bytes shown))
   told_of bytes shown has = λ tag p. record {
-    shown = map (line_items (tags_seen seen)) shown;
-    answer = has tag p;
-    told = chars-lines_bytes (tags_seen seen) shown;
+    shown = (has tag p).shown;
+    answer = (has tag p).answer;
+    told = chars-lines_bytes (tags_seen seen) shown ∙ (has tag p).told;
   }
 
   pub written_page : (all old new : Option (List ℕ)) (shown : List (TaggedLine (Vec T Global)))

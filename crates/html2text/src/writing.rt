@@ -51,7 +51,7 @@ pub fn run<R: ByteReader, W: ByteWriter, D: TextDecorator + Drop>(
         (λ bytes. GainsPart (IsTold D.Annotation.seen D.text D.gives D.marks D.after D.pops D.sub D.closes
         (page_setting D.held D.sub config) width bytes) (W.contents writer.old) (W.contents writer.new)))) }
 {
-    let lines = config.lines_from_read(alloc, reader, width)?;
+    let lines = config.text_lines_from_read(alloc, reader, width)?;
     write_lines(writer, &lines)?;
     Ok(())
 }

@@ -1,3 +1,4 @@
+mod BareLemmas
 mod ColouredLemmas
 pub mod LineLemmas
 mod PageLemmas

@@ -1,12 +1,13 @@
 -- The lines of a page.
-use Rattle.std.specs.Prelude.{◌≡◌, ◌⊎◌, ℕ, List, [], ◌∷◌, Option, None, Some, if◌then◌else◌, map}
+use Rattle.std.specs.Prelude.{◌≡◌, ◌⊎◌, ℕ, Bool, List, [], ◌∷◌, ◌++◌, Option, None, Some, if◌then◌else◌, flat_map, map}
 use Rattle.std.specs.Option.{option_and_then, option_map}
 use Rattle.block_renderer.specs.Footnotes.{add_footnotes}
 use Rattle.link_targets.specs.Targets.{noted_targets}
+use Rattle.renderer_calls.specs.Bare.{bare_of}
 use Rattle.renderer_calls.specs.Renderers.{Marking, Sub, lines_of_sub, new_sub, with_block_started, with_held}
 use Rattle.renderer_calls.specs.declared.options.RenderOptions.{RenderOptions}
 use Rattle.renderer_calls.specs.Texts.{text_of_lines}
-use Rattle.tagged_lines.specs.Tagged.{Item, line_items}
+use Rattle.tagged_lines.specs.Tagged.{Item, characters, line_items}
 use Rattle.tagged_lines.specs.declared.tagged_line.TaggedLine.{TaggedLine}
 use Rattle.walk_laws.specs.Parts.{Parts, whole_page}
 use Rattle.text_borders.specs.Lines.{BlockLine, line_shown}
@@ -22,10 +23,19 @@ pub record Setting (H : Type 0) : Type 0 where
   pub min_wrap : ℕ
   pub held : H
 
+-- a renderer that keeps its annotations or doesn't
+abbrev pub begun_as : {H A : Type 0} → (keeps : Bool) → Sub H A → Sub H A
+begun_as keeps s = if keeps then s else bare_of s
+
 -- the renderers of a page of so many columns behind its last value
 abbrev pub laid_page : {H A : Type 0} → Marking H A → Setting H → ℕ → Values → Option (Parts H A)
 laid_page m c width values = laid_parts m (measure_of c.min_wrap (prefix_columns (m.mark_text c.held))) values
     (whole_page (new_sub width c.options c.held []))
+
+-- the same in renderers that keep annotations or don't
+abbrev pub laid_as : {H A : Type 0} → (keeps : Bool) → Marking H A → Setting H → ℕ → Values → Option (Parts H A)
+laid_as keeps m c width values = laid_parts m (measure_of c.min_wrap (prefix_columns (m.mark_text c.held))) values
+    (whole_page (begun_as keeps (new_sub width c.options c.held [])))
 
 -- the targets that stand behind the page: each once, where links to equal targets share a footnote
 abbrev pub noted : {H A : Type 0} → Parts H A → List (List ℕ)
@@ -66,6 +76,18 @@ pub record IsShown {H A : Type 0} (s : Sub H A) (lines : List (List (Item (List 
   pub blocks : List (BlockLine (List A))
   pub given : lines_of_sub s ≡ Some blocks
   pub shown : lines ≡ map line_shown blocks
+
+-- the text of lines: the characters of each, and a line end
+abbrev pub lines_text : {S : Type 0} → List (List (Item S)) → List ℕ
+lines_text shown = flat_map (λ line. characters line ++ 0xA ∷ []) shown
+
+-- A renderer is that of a page that is closed, but for annotations.
+pub record IsClosedBare {T H A : Type 0} (m : Marking H A) (seen : T → A)
+    (closes : H → List (List ℕ) → List (TaggedLine T) → Type 0) (c : Setting H) (width : ℕ) (values : Values)
+    (s : Sub H A) : Type 0 where
+  pub whole : Sub H A
+  pub closed : IsClosed m seen closes c width values whole
+  pub same : bare_of s ≡ bare_of whole
 
 -- These are its lines.
 pub record IsRendered {T H A : Type 0} (m : Marking H A) (seen : T → A)

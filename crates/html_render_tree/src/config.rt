@@ -1,6 +1,6 @@
 //! How pages are rendered.
 ghost use Rattle.std.specs.Prelude.{◌≡◌, ◌≢◌, ◌⊎◌, ◌<◌, ◌≤◌, ◌++◌, [], Err};
-ghost use Rattle.std.specs.Prelude.{IfErr, IfOk, Some, chars, map, string_bytes, true, false};
+ghost use Rattle.std.specs.Prelude.{IfErr, IfOk, None, Some, chars, map, string_bytes, true, false};
 
 use crate::closing::{closed_page, lines_of};
 use crate::laws::{pages_are_numbered, pages_keep_the_width, pages_with_room_are_never_too_narrow};
@@ -15,6 +15,7 @@ use std::alloc::Global;
 use style_cascade::StyleRule;
 use tagged_lines::TaggedLine;
 use text_marks::TextDecorator;
+use walk_laws::{TextRenderer, annotations_change_no_page, annotations_change_no_text};
 
 /// How narrow text may be wrapped where nothing else was said, in columns.
 const MIN_WRAP_WIDTH: usize = 3;
@@ -40,7 +41,10 @@ impl<D: TextDecorator + Drop> RenderConfig<D> {
     ghost use Rattle.text_marks.specs.Marks.{IsSteady};
     ghost use Rattle.walk_laws.specs.WalkLaws.{AreNumbered};
     ghost use Rattle.html_render_tree.specs.PageLaws.{AreWithin};
-    ghost use Rattle.html_render_tree.specs.PageLines.{IsClosed, IsPrinted, IsRendered, IsTooNarrow, NeverCloses};
+    ghost use Rattle.html_render_tree.specs.PageLines.{IsClosed, IsClosedBare, IsPrinted, IsRendered, IsTooNarrow};
+    ghost use Rattle.html_render_tree.specs.PageLines.{NeverCloses, laid_as, lines_text};
+    ghost use Rattle.walk_laws.specs.Parts.{depth_of};
+    ghost use Rattle.walk_laws.specs.SeenParts.{parts_of};
     ghost use Rattle.html_render_tree.specs.Settings.{IsDecorated, rules_of, setting_of, with_options};
 
     /// As text is rendered by a decorator: no rules of style, and the options as they are by default.
@@ -287,6 +291,40 @@ impl<D: TextDecorator + Drop> RenderConfig<D> {
         render_conversion::dom_to_render_tree(alloc, dom, self.rules.as_slice())
     }
 
+    // the renderers of the page behind its last value, which keep annotations or don't
+    fn laid(
+        &self,
+        alloc: Global,
+        tree: &RenderTree,
+        width: usize,
+        keeps: bool,
+    ) -> Result<TextRenderer<D>, RenderError>
+        ensures laid { IfOk result (λ text. (tag : _) → IsTagging D.Annotation.seen D.gives tag
+            → laid_as keeps (marking D.text tag D.marks D.after D.pops D.sub) (setting_of D.held D.sub self.now) width
+            tree.now ≡ Some (parts_of D.Annotation.seen D.held text)) }
+        ensures whole { IfOk result (λ text. depth_of (parts_of D.Annotation.seen D.held text) ≡ 1) }
+        ensures wide { IfOk result (λ text. 0 < width) }
+        ensures narrow { result ≡ Err errors.TooNarrow → (width ≡ 0) ⊎ ((tag : _)
+            → IsTagging D.Annotation.seen D.gives tag → laid_as keeps
+            (marking D.text tag D.marks D.after D.pops D.sub) (setting_of D.held D.sub self.now) width tree.now
+            ≡ None) }
+        ensures kinds { result ≢ Err errors.Fail }
+    {
+        if width == 0 {
+            return Err(RenderError::TooNarrow);
+        }
+        let decorator = self.decorator.make_subblock_decorator(alloc)?;
+        laid(
+            alloc,
+            decorator,
+            self.options,
+            self.min_wrap_width,
+            tree,
+            width,
+            keeps,
+        )
+    }
+
     // the renderer of the page, laid out and closed
     fn closed(
         &self,
@@ -303,18 +341,32 @@ impl<D: TextDecorator + Drop> RenderConfig<D> {
             D.Annotation.seen D.closes (setting_of D.held D.sub self.now) width tree.now) }
         ensures kinds { result ≢ Err errors.Fail }
     {
-        if width == 0 {
-            return Err(RenderError::TooNarrow);
+        let text = self.laid(alloc, tree, width, true)?;
+        match closed_page(alloc, text) {
+            Ok(sub) => Ok(sub),
+            Err(error) => Err(refusal(error)),
         }
-        let decorator = self.decorator.make_subblock_decorator(alloc)?;
-        let text = laid(
-            alloc,
-            decorator,
-            self.options,
-            self.min_wrap_width,
-            tree,
-            width,
-        )?;
+    }
+
+    // the same, but for annotations
+    fn closed_bare(
+        &self,
+        alloc: Global,
+        tree: &RenderTree,
+        width: usize,
+    ) -> Result<SubRenderer<D>, RenderError>
+        ensures closed { IfOk result (λ s. (tag : _) → IsTagging D.Annotation.seen D.gives tag
+            → IsClosedBare (marking D.text tag D.marks D.after D.pops D.sub) D.Annotation.seen D.closes
+            (setting_of D.held D.sub self.now) width tree.now (sub_of D.Annotation.seen D.held s)) }
+        ensures wide { IfOk result (λ s. 0 < width) }
+        ensures narrow { result ≡ Err errors.TooNarrow → (width ≡ 0) ⊎ ((tag : _)
+            → IsTagging D.Annotation.seen D.gives tag → NeverCloses (marking D.text tag D.marks D.after D.pops D.sub)
+            D.Annotation.seen D.closes (setting_of D.held D.sub self.now) width tree.now) }
+        ensures kinds { result ≢ Err errors.Fail }
+    {
+        annotations_change_no_text::<D>();
+        annotations_change_no_page::<D>();
+        let text = self.laid(alloc, tree, width, false)?;
         match closed_page(alloc, text) {
             Ok(sub) => Ok(sub),
             Err(error) => Err(refusal(error)),
@@ -355,6 +407,36 @@ impl<D: TextDecorator + Drop> RenderConfig<D> {
         }
     }
 
+    /// Lines with the text of a render tree's lines, without annotations but for those of lines after the page. Refused
+    /// as `render_to_lines`.
+    pub fn render_to_text_lines(
+        &self,
+        alloc: Global,
+        tree: RenderTree,
+        width: usize,
+    ) -> Result<Vec<TaggedLine<Vec<D::Annotation>>>, RenderError>
+        ensures text { IfOk result (λ lines. (tag : _) → IsTagging D.Annotation.seen D.gives tag
+            → IsPrinted (marking D.text tag D.marks D.after D.pops D.sub) D.Annotation.seen D.closes
+            (setting_of D.held D.sub self.now) width tree
+            (lines_text (map (line_items (tags_seen D.Annotation.seen)) lines.items))) }
+        ensures wide { IfOk result (λ lines. 0 < width) }
+        ensures narrow { result ≡ Err errors.TooNarrow → (width ≡ 0) ⊎ ((tag : _)
+            → IsTagging D.Annotation.seen D.gives tag → IsTooNarrow (marking D.text tag D.marks D.after D.pops D.sub)
+            D.Annotation.seen D.closes (setting_of D.held D.sub self.now) width tree) }
+        ensures kinds { result ≢ Err errors.Fail }
+        ensures roomy { (tag : _) → IsTagging D.Annotation.seen D.gives tag
+            → (setting_of D.held D.sub self.now).options.allow_width_overflow ≡ true → 0 < width
+            → result ≢ Err errors.TooNarrow }
+    {
+        annotations_change_no_text::<D>();
+        pages_with_room_are_never_too_narrow::<D>();
+        let sub = self.closed_bare(alloc, &tree, width)?;
+        match lines_of(alloc, sub) {
+            Ok(lines) => Ok(lines),
+            Err(error) => Err(refusal(error)),
+        }
+    }
+
     /// The text of a render tree: the characters of its lines, a line end behind each. Refused as `render_to_lines`.
     pub fn render_to_string(
         &self,
@@ -374,8 +456,9 @@ impl<D: TextDecorator + Drop> RenderConfig<D> {
             → (setting_of D.held D.sub self.now).options.allow_width_overflow ≡ true → 0 < width
             → result ≢ Err errors.TooNarrow }
     {
+        annotations_change_no_text::<D>();
         pages_with_room_are_never_too_narrow::<D>();
-        let sub = self.closed(alloc, &tree, width)?;
+        let sub = self.closed_bare(alloc, &tree, width)?;
         match sub.into_string() {
             Ok(text) => Ok(text),
             Err(error) => Err(refusal(error)),

@@ -1,9 +1,10 @@
 //! A render tree as lines.
-ghost use Rattle.std.specs.Prelude.{◌≡◌, ◌≢◌, Err, IfOk, None, Some};
-ghost use Rattle.block_renderer.specs.Seen.{IsTagging, marking};
-ghost use Rattle.html_render_tree.specs.PageLines.{laid_page, prefix_columns};
+ghost use Rattle.std.specs.Prelude.{◌≡◌, ◌≢◌, [], Err, IfOk, None, Some, false};
+ghost use Rattle.block_renderer.specs.Seen.{IsTagging, has_failed, marking, sub_of};
+ghost use Rattle.html_render_tree.specs.PageLines.{begun_as, laid_as, prefix_columns};
 ghost use Rattle.render_conversion.specs.declared.error.RenderError.TheVariants as errors;
 ghost use Rattle.render_sizes.specs.Extents.{Measure, measure_of};
+ghost use Rattle.renderer_calls.specs.Renderers.{new_sub};
 ghost use Rattle.walk_laws.specs.Parts.{depth_of};
 ghost use Rattle.walk_laws.specs.SeenParts.{parts_of};
 
@@ -28,7 +29,25 @@ pub(crate) fn refusal(error: BlockError) -> RenderError
     }
 }
 
-// a render tree laid out at a width, which is not 0
+// an empty renderer, which keeps annotations or doesn't
+fn begun<D: TextDecorator + Drop>(
+    alloc: Global,
+    width: usize,
+    options: RenderOptions,
+    decorator: D,
+    keeps: bool,
+) -> SubRenderer<D>
+    ensures sub { sub_of D.Annotation.seen D.held result
+        ≡ begun_as keeps (new_sub width options (D.held decorator) []) }
+    ensures works { has_failed result ≡ false }
+{
+    if keeps {
+        return SubRenderer::new(alloc, width, options, decorator);
+    }
+    SubRenderer::without_annotations(alloc, width, options, decorator)
+}
+
+// a render tree laid out at a width, which is not 0, in renderers that keep annotations or don't
 pub(crate) fn laid<D: TextDecorator + Drop>(
     alloc: Global,
     decorator: D,
@@ -36,22 +55,23 @@ pub(crate) fn laid<D: TextDecorator + Drop>(
     min_wrap_width: usize,
     tree: &RenderTree,
     width: usize,
+    keeps: bool,
 ) -> Result<TextRenderer<D>, RenderError>
     ghost w: { Measure }
     requires { w ≡ measure_of min_wrap_width (prefix_columns (D.text (D.held decorator))) }
     ensures laid { IfOk result (λ text. (tag : _) → IsTagging D.Annotation.seen D.gives tag
-        → laid_page (marking D.text tag D.marks D.after D.pops D.sub)
+        → laid_as keeps (marking D.text tag D.marks D.after D.pops D.sub)
         (record { options = options; min_wrap = min_wrap_width; held = D.held decorator }) width tree.now
         ≡ Some (parts_of D.Annotation.seen D.held text)) }
     ensures whole { IfOk result (λ text. depth_of (parts_of D.Annotation.seen D.held text) ≡ 1) }
     ensures narrow { result ≡ Err errors.TooNarrow → (tag : _) → IsTagging D.Annotation.seen D.gives tag
-        → laid_page (marking D.text tag D.marks D.after D.pops D.sub)
+        → laid_as keeps (marking D.text tag D.marks D.after D.pops D.sub)
         (record { options = options; min_wrap = min_wrap_width; held = D.held decorator }) width tree.now ≡ None }
     ensures kinds { result ≢ Err errors.Fail }
 {
     let prefixes = DecoratorPrefixes::new(alloc, decorator);
     let sizes = measured(alloc, &prefixes, min_wrap_width, tree)?;
-    let sub = SubRenderer::new(alloc, width, options, prefixes.into_decorator());
+    let sub = begun(alloc, width, options, prefixes.into_decorator(), keeps);
     match lay_tree(alloc, tree, sizes.as_slice(), TextRenderer::new(alloc, sub)) {
         Ok(text) => Ok(text),
         Err(error) => Err(refusal(error)),

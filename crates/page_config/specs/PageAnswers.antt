@@ -1,14 +1,15 @@
 -- What is answered of a page: a function of its bytes, a width, and what a configuration says.
-use Rattle.std.specs.Prelude.{◌≡◌, ◌≢◌, ◌⊎◌, ℕ, ◌<◌, Bool, List, [], ◌∷◌, ◌++◌, flat_map, Some}
+use Rattle.std.specs.Prelude.{◌≡◌, ◌≢◌, ◌⊎◌, ℕ, ◌<◌, Bool, List, Some}
 use Rattle.block_renderer.specs.Seen.{IsTagging, marking}
 use Rattle.html_forest.specs.Forest.{Forest}
 use Rattle.html_forest.specs.declared.sink.QuirksMode.{QuirksMode}
+pub use Rattle.html_render_tree.specs.PageLines.{lines_text}
 use Rattle.html_render_tree.specs.PageLines.{IsRendered, IsTooNarrow, Setting, laid_page, noted}
 use Rattle.page_reading.specs.PageTrees.{IsTreeOfBytes}
 use Rattle.render_conversion.specs.Conversion.{document_values}
 use Rattle.render_values.specs.Values.{Values, none}
 use Rattle.renderer_calls.specs.Renderers.{Marking}
-use Rattle.tagged_lines.specs.Tagged.{Item, characters}
+use Rattle.tagged_lines.specs.Tagged.{Item}
 use Rattle.tagged_lines.specs.declared.tagged_line.TaggedLine.{TaggedLine}
 use Rattle.html_render_tree.specs.Parts.{Parts}
 use Rattle.text_marks.specs.Marks.{Mark}
@@ -57,10 +58,6 @@ abbrev pub HasSomeAnswer : {T H A : Type 0} → Marking H A → (T → A)
     → (H → List (List ℕ) → List (TaggedLine T) → Type 0) → PageSetting H → ℕ → (bytes : List ℕ) → Type 0
 HasSomeAnswer {A = A} m seen closes c width bytes = (answer : PageAnswer A)
     × HasAnswer m seen closes c width bytes answer
-
--- the text of lines: the characters of each, and a newline
-abbrev pub lines_text : {S : Type 0} → List (List (Item S)) → List ℕ
-lines_text shown = flat_map (λ line. characters line ++ 10 ∷ []) shown
 
 -- The text of a page of these bytes: that of its lines.
 pub record HasText {T H A : Type 0} (m : Marking H A) (seen : T → A)

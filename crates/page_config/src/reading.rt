@@ -17,7 +17,7 @@ use text_marks::TextDecorator;
 
 impl<D: TextDecorator + Drop> Config<D> {
     ghost use Rattle.html_render_tree.specs.Settings.{setting_of};
-    ghost use Rattle.page_config.specs.PageAnswers.{Answers, ArePageValues, IsTold, fail, lines, too_narrow};
+    ghost use Rattle.page_config.specs.PageAnswers.{Answers, ArePageValues, IsTold, fail, lines, lines_text, too_narrow};
     ghost use Rattle.page_config.specs.Settings.{max_bytes_of, page_setting};
     ghost use Rattle.page_reading.specs.PageTrees.{IsTreeOfBytes};
     ghost use Rattle.render_values.specs.Values.{none};
@@ -127,6 +127,41 @@ impl<D: TextDecorator + Drop> Config<D> {
     {
         let (rendering, tree) = self.tree_from_read(alloc, input)?;
         Ok(rendering.render_to_lines(alloc, tree, width)?)
+    }
+
+    /// Lines with the text of those lines, without annotations but for those of lines after the page, which takes fewer
+    /// requests for memory. Refused as `lines_from_read`.
+    pub fn text_lines_from_read<R: ByteReader>(
+        self,
+        alloc: Global,
+        input: &mut R,
+        width: usize,
+    ) -> Result<Vec<TaggedLine<Vec<D::Annotation>>>, Error>
+        ensures text { IfOk result (λ shown. IfSome (R.remaining input.old) (λ bytes.
+            IsTold D.Annotation.seen D.text D.gives D.marks D.after D.pops D.sub D.closes
+            (page_setting D.held D.sub self) width bytes
+            (lines_text (map (line_items (tags_seen D.Annotation.seen)) shown.items)))) }
+        ensures narrow { result ≡ Err Error.TooNarrow → IfSome (R.remaining input.old) (λ bytes.
+            Answers D.Annotation.seen D.text D.gives D.marks D.after D.pops D.sub D.closes
+            (page_setting D.held D.sub self) width bytes too_narrow) }
+        ensures fail { result ≡ Err Error.Fail → IfSome (R.remaining input.old) (λ bytes.
+            Answers D.Annotation.seen D.text D.gives D.marks D.after D.pops D.sub D.closes
+            (page_setting D.held D.sub self) width bytes fail) }
+        ensures roomy { (tag : _) → IsTagging D.Annotation.seen D.gives tag
+            → (page_setting D.held D.sub self).rendering.options.allow_width_overflow ≡ true → 0 < width
+            → result ≢ Err Error.TooNarrow }
+        ensures short { IsAnswer result → IfSome (R.remaining input.old) (λ bytes. length bytes ≤ max_bytes_of self) }
+        ensures at_most { R.count input.new ≤ R.count input.old + max_bytes_of self + 1 }
+        ensures io { result ≡ Err Error.IoError → R.has_failed input.new ≡ true }
+        ensures too_long { result ≡ Err Error.TooLong → R.count input.old + max_bytes_of self < R.count input.new }
+        ensures long { result ≡ Err Error.TooLong → IfSome (R.remaining input.old)
+            (λ bytes. max_bytes_of self < length bytes) }
+        ensures stays { R.has_failed input.old ≡ true → R.has_failed input.new ≡ true }
+        ensures works { IsAnswer result → R.has_failed input.new ≡ false }
+        ensures end { IsAnswer result → IsAtEnd (R.remaining input.new) }
+    {
+        let (rendering, tree) = self.tree_from_read(alloc, input)?;
+        Ok(rendering.render_to_text_lines(alloc, tree, width)?)
     }
 
     /// The text of those lines: the characters of each, and a newline. Refused as `lines_from_read`.

@@ -55,6 +55,7 @@ module _ (links shared : Bool) (held : Unit {0}) (width : ℕ) where
     modes = [];
     preformats = 0;
     annotations = [];
+    keeps = true;
     strikeouts = 0;
   }
 

@@ -1,7 +1,7 @@
 -- A renderer of a block: what it holds, and what each call makes of it. Where a call comes to no renderer, a character
 -- is wider than the lines at which its text wraps.
-use Rattle.std.specs.Prelude.{ℕ, ◌+◌, ◌-◌, ◌==◌, nat_lt, nat_le, min, max, Bool, List, [], ◌∷◌, ◌++◌, Option, None}
-use Rattle.std.specs.Prelude.{Some, fold, flat_map, replicate, unwrap_or, chars, if◌then◌else◌}
+use Rattle.std.specs.Prelude.{ℕ, ◌+◌, ◌-◌, ◌==◌, nat_lt, nat_le, min, max, Bool, true, List, [], ◌∷◌, ◌++◌, Option}
+use Rattle.std.specs.Prelude.{None, Some, fold, flat_map, replicate, unwrap_or, chars, if◌then◌else◌}
 use Rattle.std.specs.Option.{option_map, option_and_then}
 use Rattle.tagged_lines.specs.Columns.{width_of}
 use Rattle.text_marks.specs.Marks.{Mark, strikeout_start, strikeout_end, preformat_first, preformat_further, image}
@@ -32,8 +32,8 @@ pub record Marking (H A : Type 0) : Type 0 where
   pub sub : H → H
 
 -- The columns and the options; what the decorator holds; the lines and the text that runs; the modes of white space,
--- the last of which counts; how many parts around are preformatted; the annotations that stand; the strikeouts that
--- have begun.
+-- the last of which counts; how many parts around are preformatted; the annotations that stand, and whether any are
+-- kept; the strikeouts that have begun.
 pub record Sub (H A : Type 0) : Type 0 where
   pub width : ℕ
   pub options : RenderOptions
@@ -42,6 +42,7 @@ pub record Sub (H A : Type 0) : Type 0 where
   pub modes : List WhiteSpace
   pub preformats : ℕ
   pub annotations : List A
+  pub keeps : Bool
   pub strikeouts : ℕ
 
 abbrev pub new_sub : {H A : Type 0} → ℕ → RenderOptions → H → List A → Sub H A
@@ -53,8 +54,13 @@ new_sub width options held annotations = record {
   modes = [];
   preformats = 0;
   annotations = annotations;
+  keeps = true;
   strikeouts = 0;
 }
+
+-- a renderer for a part of the block: it keeps annotations where that of the block does
+abbrev pub new_part : {H A : Type 0} → (sub : H → H) → ℕ → Sub H A → Sub H A
+new_part sub width s = record (new_sub width s.options (sub s.held) s.annotations) { keeps = s.keeps }
 
 abbrev pub measure_of : {H A : Type 0} → Sub H A → Measure
 measure_of s = record {
@@ -89,12 +95,15 @@ struck n cs = if n == 0 then cs else flat_map (struck_character n) cs
 abbrev pub struck_text : {H A : Type 0} → Sub H A → List ℕ → List ℕ
 struck_text s cs = if s.options.use_unicode_strikeout then struck s.strikeouts cs else cs
 
--- under the annotations that stand, and in a preformatted part under one more, which tells whether its line was wrapped
+-- the annotations that stand and one more, where they are kept
+abbrev pub one_under : {H A : Type 0} → A → Sub H A → List A
+one_under annotation s = if s.keeps then s.annotations ++ annotation ∷ [] else s.annotations
+
+-- under the annotations that stand, and in a preformatted part under one more, which says whether its line was wrapped
 abbrev pub preformatted_added : {H A : Type 0} → Marking H A → List ℕ → Sub H A → Laid (List A)
     → Option (Laid (List A))
 preformatted_added m cs s b = add_text (measure_of s) s.annotations (mode_of s) cs
-    (s.annotations ++ m.mark_tag s.held preformat_first ∷ [])
-    (s.annotations ++ m.mark_tag s.held preformat_further ∷ []) b
+    (one_under (m.mark_tag s.held preformat_first) s) (one_under (m.mark_tag s.held preformat_further) s) b
 
 abbrev pub tagged_added : {H A : Type 0} → Marking H A → List ℕ → Sub H A → Laid (List A) → Option (Laid (List A))
 tagged_added m cs s b =
@@ -115,7 +124,7 @@ abbrev pub with_held : {H A : Type 0} → H → Sub H A → Sub H A
 with_held held s = record s { held = held }
 
 abbrev pub pushed : {H A : Type 0} → A → Sub H A → Sub H A
-pushed annotation s = record s { annotations = s.annotations ++ annotation ∷ [] }
+pushed annotation s = record s { annotations = one_under annotation s }
 
 abbrev pub popped : {H A : Type 0} → Sub H A → Sub H A
 popped s = record s { annotations = before_last s.annotations }

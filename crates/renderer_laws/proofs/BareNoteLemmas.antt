@@ -1,87 +1,142 @@
--- Lines behind a page have the same characters in a renderer that keeps no annotations.
-use Rattle.std.proofs.Common.{◌≡◌, ℕ, ◌+◌, Bool, true, false, List, [], ◌∷◌, ◌++◌, map, sym, ap, ◌∙◌, refl}
-use Rattle.std.specs.Prelude.{fold, not, ◌||◌, nat_le}
+-- Lines after a page have the same characters in a renderer that keeps no annotations, where they stand under their own.
+use Rattle.std.proofs.Common.{◌≡◌, List, [], ◌∷◌, map, sym, ap, ◌∙◌, refl}
+use Rattle.std.specs.Prelude.{Option, None, Some, fold}
 use Rattle.std.specs.Option.{option_map}
-use Rattle.std.proofs.lemmas.List.{map-append}
-use Rattle.tagged_lines.specs.Columns.{width_of}
-use Rattle.tagged_lines.specs.Tagged.{Item, character, marker, line_columns}
-use Rattle.text_pieces.specs.Items.{has_text}
-use Rattle.text_pieces.specs.Retagged.{reitem}
-use Rattle.text_pieces.proofs.RetaggedItems.{chosen_by, folded, line_columns_retagged, has_text_retagged}
-use Rattle.text_wrapping.proofs.BlockRetagged.{map_mapped}
-use Rattle.footnote_lines.specs.Footnotes.{Cut, nothing_cut, placed, all_lines, noted, footnote_lines}
-use Rattle.block_layout.specs.Laid.{Laid, add_text_lines, flush}
-use Rattle.block_layout.specs.Retagged.{relaid}
+use Rattle.tagged_lines.specs.Tagged.{Item, character, marker}
+use Rattle.text_pieces.specs.Sources.{Source, letter, fragment}
+use Rattle.text_pieces.specs.Retagged.{reitem, resource}
+use Rattle.text_wrapping.specs.Blocks.{Block}
+use Rattle.text_wrapping.specs.Retagged.{reblock}
+use Rattle.text_borders.specs.Borders.{Border, Hole}
+use Rattle.text_borders.specs.Lines.{BlockLine, text, border}
+use Rattle.text_borders.specs.Across.{CellLine, Hanging}
+use Rattle.text_borders.specs.Retagged.{rehole, reborder, reline, recell_line, rehanging}
+use Rattle.footnote_lines.specs.Footnotes.{footnote_lines}
+use Rattle.block_layout.specs.Laid.{Running, Laid, add_text_lines, flush}
+use Rattle.block_layout.specs.Retagged.{rerunning, relaid}
 use Rattle.layout_laws.proofs.LaidRetagged.{text_lines_retagged, flush_retagged}
-use Rattle.renderer_calls.specs.Renderers.{Sub, measure_of}
+use Rattle.renderer_calls.specs.Renderers.{Sub, measure_of, with_laid, on_laid}
 use Rattle.renderer_calls.specs.Bare.{no_tag, bare_of}
 use Rattle.block_renderer.specs.Footnotes.{add_footnote, add_footnotes}
-use Rattle.renderer_laws.specs.BareNotes.{bare_noted, bare_footnote_lines, bare_footnote, bare_footnotes}
-use Rattle.renderer_laws.proofs.BareLemmas.{on_bare}
 
-abbrev recut : {A B : Type 0} → (A → B) → Cut A → Cut B
-recut f cut = record { done = map (map (reitem f)) cut.done; line = map (reitem f) cut.line }
+-- ---- what has no annotations stays as it is
 
-abbrev cut_at : {S : Type 0} → List (List (Item S)) → List (Item S) → Cut S
-cut_at done line = record { done = done; line = line }
+all_stay : {X : Type 0} (f : X → X) → ((x : X) → f (f x) ≡ f x) → (xs : List X) → map f (map f xs) ≡ map f xs
+all_stay f stays [] = refl
+all_stay f stays (x ∷ xs) = ap (λ y. y ∷ map f (map f xs)) (stays x) ∙ ap (λ ys. f x ∷ ys) (all_stay f stays xs)
 
-placed_retagged : {A B : Type 0} (f : A → B) (w : ℕ) (cut : Cut A) (item : Item A)
-    → placed w (recut f cut) (reitem f item) ≡ recut f (placed w cut item)
-placed_retagged f w cut (marker name) =
-    ap (cut_at (map (map (reitem f)) cut.done)) (sym (map-append (reitem f) cut.line (marker name ∷ [])))
-placed_retagged f w cut (character c tag) =
-    chosen_by (recut f) (nat_le (line_columns cut.line + width_of c) w || not (has_text cut.line))
-    (nat_le (line_columns (map (reitem f) cut.line) + width_of c) w || not (has_text (map (reitem f) cut.line)))
-    (cut_at cut.done (cut.line ++ character c tag ∷ [])) (cut_at (cut.done ++ cut.line ∷ []) (character c tag ∷ []))
-    (cut_at (map (map (reitem f)) cut.done) (map (reitem f) cut.line ++ character c (f tag) ∷ []))
-    (cut_at (map (map (reitem f)) cut.done ++ map (reitem f) cut.line ∷ []) (character c (f tag) ∷ []))
-    (ap (λ n. nat_le (n + width_of c) w || not (has_text (map (reitem f) cut.line))) (line_columns_retagged f cut.line)
-    ∙ ap (λ t. nat_le (line_columns cut.line + width_of c) w || not t) (has_text_retagged f cut.line))
-    (ap (cut_at (map (map (reitem f)) cut.done)) (sym (map-append (reitem f) cut.line (character c tag ∷ []))))
-    (ap (λ done. cut_at done (character c (f tag) ∷ []))
-    (sym (map-append (map (reitem f)) cut.done (cut.line ∷ []))))
+item_stays : {A : Type 0} (x : Item (List A)) → reitem no_tag (reitem no_tag x) ≡ reitem no_tag x
+item_stays (character c tag) = refl
+item_stays (marker name) = refl
 
-one_noted : {A : Type 0} (item : Item A) → bare_noted item ≡ reitem no_tag (noted item)
-one_noted (character c tag) = refl
-one_noted (marker name) = refl
+items_stay : {A : Type 0} (xs : List (Item (List A)))
+    → map (reitem no_tag) (map (reitem no_tag) xs) ≡ map (reitem no_tag) xs
+items_stay xs = all_stay (reitem no_tag) item_stays xs
 
-all_noted : {A : Type 0} (items : List (Item A)) → map bare_noted items ≡ map (reitem no_tag) (map noted items)
-all_noted [] = refl
-all_noted (item ∷ items) =
-    ap (λ x. x ∷ map bare_noted items) (one_noted item)
-    ∙ ap (λ xs. reitem no_tag (noted item) ∷ xs) (all_noted items)
+abbrev hole_with : {S : Type 0} → Hole S → List (Item S) → Hole S
+hole_with h items = record h { items = items }
 
-lines_noted : {A : Type 0} (wraps : Bool) (w : ℕ) (items : List (Item A))
-    → bare_footnote_lines wraps w items ≡ map (map (reitem no_tag)) (footnote_lines wraps w items)
-lines_noted true w items =
-    let cut = fold (placed w) nothing_cut (map noted items) in
-    ap (λ xs. all_lines (fold (placed w) nothing_cut xs)) (all_noted items)
-    ∙ ap (λ c. all_lines c) (folded (placed w) (placed w) (recut no_tag) (reitem no_tag) (placed_retagged no_tag w)
-    (map noted items) nothing_cut)
-    ∙ sym (map-append (map (reitem no_tag)) cut.done (cut.line ∷ []))
-lines_noted false w items = ap (λ xs. xs ∷ []) (all_noted items)
+hole_stays : {A : Type 0} (h : Hole (List A)) → rehole no_tag (rehole no_tag h) ≡ rehole no_tag h
+hole_stays h = ap (hole_with (rehole no_tag h)) (items_stay h.items)
 
-footnote_bare : {H A : Type 0} (s : Sub H A) (x : Laid (List A)) (items : List (Item A))
-    → bare_footnote (bare_of s) (relaid no_tag x) items ≡ relaid no_tag (add_footnote s x items)
-footnote_bare s x items =
-    ap (λ ls. add_text_lines (measure_of s) tt tt ls (relaid no_tag x)) (lines_noted s.options.wrap_links s.width items)
-    ∙ text_lines_retagged no_tag (measure_of s) s.annotations s.annotations
-    (footnote_lines s.options.wrap_links s.width items) x
+abbrev border_with : {S : Type 0} → Border S → List (Hole S) → Border S
+border_with b holes = record b { holes = holes }
 
-all_bare : {H A : Type 0} (s : Sub H A) (lines : List (List (Item A))) (x : Laid (List A))
-    → fold (bare_footnote (bare_of s)) (relaid no_tag x) lines ≡ relaid no_tag (fold (add_footnote s) x lines)
-all_bare s [] x = refl
-all_bare s (line ∷ lines) x =
-    ap (λ y. fold (bare_footnote (bare_of s)) y lines) (footnote_bare s x line)
-    ∙ all_bare s lines (add_footnote s x line)
+border_stays : {A : Type 0} (b : Border (List A)) → reborder no_tag (reborder no_tag b) ≡ reborder no_tag b
+border_stays b = ap (border_with (reborder no_tag b)) (all_stay (rehole no_tag) hole_stays b.holes)
 
-pub footnotes_bare : {H A : Type 0} (lines : List (List (Item A))) (s : Sub H A)
-    → bare_footnotes lines (bare_of s) ≡ option_map bare_of (add_footnotes lines s)
-footnotes_bare lines s =
-    let flushed = flush (measure_of s) s.annotations s.laid in
-    on_bare s (option_map (λ b. fold (add_footnote s) b lines) flushed)
-    (option_map (λ x. fold (bare_footnote (bare_of s)) x lines) (flush (measure_of s) tt (relaid no_tag s.laid)))
-    (ap (option_map (λ x. fold (bare_footnote (bare_of s)) x lines))
+line_stays : {A : Type 0} (l : BlockLine (List A)) → reline no_tag (reline no_tag l) ≡ reline no_tag l
+line_stays (text items) = ap (λ xs. text xs) (items_stay items)
+line_stays (border b) = ap (λ x. border x) (border_stays b)
+
+abbrev line_with : {S : Type 0} → CellLine S → BlockLine S → CellLine S
+line_with l line = record l { line = line }
+
+cell_line_stays : {A : Type 0} (l : CellLine (List A))
+    → recell_line no_tag (recell_line no_tag l) ≡ recell_line no_tag l
+cell_line_stays l = ap (line_with (recell_line no_tag l)) (line_stays l.line)
+
+cell_lines_stay : {A : Type 0} (ls : List (CellLine (List A)))
+    → map (recell_line no_tag) (map (recell_line no_tag) ls) ≡ map (recell_line no_tag) ls
+cell_lines_stay ls = all_stay (recell_line no_tag) cell_line_stays ls
+
+abbrev hanging_with : {S : Type 0} → Hanging S → List (CellLine S) → Hanging S
+hanging_with h lines = record h { cell = record h.cell { lines = lines } }
+
+hanging_stays : {A : Type 0} (h : Hanging (List A)) → rehanging no_tag (rehanging no_tag h) ≡ rehanging no_tag h
+hanging_stays h = ap (hanging_with (rehanging no_tag h)) (cell_lines_stay h.cell.lines)
+
+source_stays : {A : Type 0} (x : Source (List A)) → resource no_tag (resource no_tag x) ≡ resource no_tag x
+source_stays (letter c main further) = refl
+source_stays (fragment name) = refl
+
+padding_stays : {A : Type 0} (o : Option (List A)) → option_map no_tag (option_map no_tag o) ≡ option_map no_tag o
+padding_stays None = refl
+padding_stays (Some tag) = refl
+
+abbrev block_with : {S : Type 0} → Block S → Option S → List (List (Item S)) → List (Source S) → Block S
+block_with b padding lines source = record b { padding = padding; lines = lines; source = source }
+
+block_stays : {A : Type 0} (b : Block (List A)) → reblock no_tag (reblock no_tag b) ≡ reblock no_tag b
+block_stays b =
+    let once = reblock no_tag b in
+    let twice = reblock no_tag once in
+    ap (λ padding. block_with once padding twice.lines twice.source) (padding_stays b.padding)
+    ∙ ap (λ lines. block_with once once.padding lines twice.source)
+    (all_stay (map (reitem no_tag)) items_stay b.lines)
+    ∙ ap (block_with once once.padding once.lines) (all_stay (resource no_tag) source_stays b.source)
+
+abbrev running_with : {S : Type 0} → Running S → Block S → Running S
+running_with r block = record r { text = block }
+
+running_stays : {A : Type 0} (o : Option (Running (List A)))
+    → option_map (rerunning no_tag) (option_map (rerunning no_tag) o) ≡ option_map (rerunning no_tag) o
+running_stays None = refl
+running_stays (Some r) = ap (λ block. Some (running_with (rerunning no_tag r) block)) (block_stays r.text)
+
+abbrev laid_with : {S : Type 0} → Laid S → List (CellLine S) → Option (Running S) → List (Hanging S) → Laid S
+laid_with b lines running hanging = record b { lines = lines; running = running; hanging = hanging }
+
+laid_stays : {A : Type 0} (b : Laid (List A)) → relaid no_tag (relaid no_tag b) ≡ relaid no_tag b
+laid_stays b =
+    let once = relaid no_tag b in
+    let twice = relaid no_tag once in
+    ap (λ lines. laid_with once lines twice.running twice.hanging) (cell_lines_stay b.lines)
+    ∙ ap (λ running. laid_with once once.lines running twice.hanging) (running_stays b.running)
+    ∙ ap (laid_with once once.lines once.running) (all_stay (rehanging no_tag) hanging_stays b.hanging)
+
+pub bare_stays : {H A : Type 0} (s : Sub H A) → bare_of (bare_of s) ≡ bare_of s
+bare_stays s = ap (with_laid (bare_of s)) (laid_stays s.laid)
+
+-- ---- lines after a page
+
+note_added : {H A : Type 0} (s : Sub H A) (items : List (Item A)) (x y : Laid (List A))
+    → relaid no_tag x ≡ relaid no_tag y
+    → relaid no_tag (add_footnote (bare_of s) x items) ≡ relaid no_tag (add_footnote s y items)
+note_added s items x y same =
+    let lines = footnote_lines s.options.wrap_links s.width items in
+    sym (text_lines_retagged no_tag (measure_of s) [] [] lines x)
+    ∙ ap (λ b. add_text_lines (measure_of s) [] [] (map (map (reitem no_tag)) lines) b) same
+    ∙ text_lines_retagged no_tag (measure_of s) s.annotations s.annotations lines y
+
+notes_added : {H A : Type 0} (s : Sub H A) (notes : List (List (Item A))) (x y : Laid (List A))
+    → relaid no_tag x ≡ relaid no_tag y
+    → relaid no_tag (fold (add_footnote (bare_of s)) x notes) ≡ relaid no_tag (fold (add_footnote s) y notes)
+notes_added s [] x y same = same
+notes_added s (items ∷ notes) x y same =
+    notes_added s notes (add_footnote (bare_of s) x items) (add_footnote s y items) (note_added s items x y same)
+
+after_flush : {H A : Type 0} (s : Sub H A) (notes : List (List (Item A))) (o : Option (Laid (List A)))
+    → option_map bare_of
+    (on_laid (bare_of s) (option_map (λ b. fold (add_footnote (bare_of s)) b notes) (option_map (relaid no_tag) o)))
+    ≡ option_map bare_of (on_laid s (option_map (λ b. fold (add_footnote s) b notes) o))
+after_flush s notes None = refl
+after_flush s notes (Some y) =
+    ap (λ laid. Some (with_laid (bare_of s) laid)) (notes_added s notes (relaid no_tag y) y (laid_stays y))
+
+pub footnotes_bare : {H A : Type 0} (notes : List (List (Item A))) (s : Sub H A)
+    → option_map bare_of (add_footnotes notes (bare_of s)) ≡ option_map bare_of (add_footnotes notes s)
+footnotes_bare notes s =
+    ap (λ o. option_map bare_of (on_laid (bare_of s) (option_map (λ b. fold (add_footnote (bare_of s)) b notes) o)))
     (flush_retagged no_tag (measure_of s) s.annotations s.laid)
-    ∙ map_mapped (λ b. fold (add_footnote s) b lines) (λ x. fold (bare_footnote (bare_of s)) x lines) (relaid no_tag)
-    (relaid no_tag) (all_bare s lines) flushed)
+    ∙ after_flush s notes (flush (measure_of s) s.annotations s.laid)

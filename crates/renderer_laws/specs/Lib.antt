@@ -1,4 +1,3 @@
-pub mod BareNotes
 pub mod RendererLaws
 pub use Rattle.block_renderer.specs.LaidRows
 pub use Rattle.block_renderer.specs.Seen

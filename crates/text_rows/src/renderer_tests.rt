@@ -3,6 +3,7 @@ use std::alloc::{AllocError, Global};
 use text_block_renderer::{
     BlockError, PlainDecorator, RenderOptions, Renderer, SubRenderer, TextRenderer,
 };
+use text_borders::RenderLine;
 
 fn block(alloc: Global, width: usize, overflow: bool) -> SubRenderer<PlainDecorator> {
     let mut options = RenderOptions::default();
@@ -65,10 +66,29 @@ fn are_footnotes_cut(alloc: Global) -> Result<bool, BlockError> {
     Ok(block.into_string()?.as_str() == "[\n1\n]\n:\n \na\n")
 }
 
+// code and the text after it are one string where no annotations are kept
+fn is_one_string(alloc: Global) -> Result<bool, BlockError> {
+    let options = RenderOptions::default();
+    let mut block = SubRenderer::without_annotations(alloc, 20, options, PlainDecorator::new());
+    block.start_code()?;
+    block.add_inline_text("a")?;
+    block.end_code()?;
+    block.add_inline_text("b")?;
+    let lines = block.into_lines()?;
+    match lines.as_slice() {
+        [RenderLine::Text(line)] => {
+            let mut strings = line.tagged_strings();
+            Ok(strings.next().is_some() && strings.next().is_none())
+        }
+        _ => Ok(false),
+    }
+}
+
 #[test]
 fn renderers_and_pages(rt: HostRuntime) {
     let alloc = rt.alloc();
     told(&rt, is_refused_on(alloc), "a refused renderer");
     told(&rt, are_parts(alloc), "parts of a page");
     told(&rt, are_footnotes_cut(alloc), "footnotes");
+    told(&rt, is_one_string(alloc), "no annotations");
 }

@@ -7,7 +7,7 @@ use Rattle.renderer_calls.specs.Calls as calls
 use Rattle.renderer_calls.specs.Renderers.{Marking, Sub}
 use Rattle.table_rows.specs.Slots.{has_columns}
 use Rattle.table_rows.specs.declared.slot.Slot.{Slot}
-use Rattle.render_walk.specs.Laying.{Laying, Step, cells, goes_to, in_part, in_turn, rows, says}
+use Rattle.render_walk.specs.Laying.{Laying, Step, cells, goes_to, in_part, in_turn, says}
 use Rattle.render_walk.specs.Around.TheVariants.{Flow}
 use Rattle.render_walk.specs.Tables.{cell_begun, cell_ended, cell_laid, empties_before, empty_slots, from_cell, in_cell}
 use Rattle.render_walk.specs.Tables.{in_slot, slot_width, start_all}

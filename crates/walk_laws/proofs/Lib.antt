@@ -1,3 +1,5 @@
+mod BareSteps
+mod BareTables
 mod CellWidthLemmas
 mod MergedLemmas
 mod NumberLemmas

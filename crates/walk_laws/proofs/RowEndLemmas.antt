@@ -1,7 +1,6 @@
 -- The end of a row keeps the width.
 use Rattle.std.proofs.Common.{◌≡◌, ℕ, List, [], Option, Some, IfSome, refl, sym, subst}
 use Rattle.renderer_calls.specs.Calls.{step}
-use Rattle.renderer_calls.specs.Calls as calls
 use Rattle.renderer_calls.specs.Renderers.{Marking, Sub}
 use Rattle.renderer_laws.specs.RendererLaws.{StaysWithin}
 use Rattle.table_rows.specs.declared.slot.Slot.{Slot}

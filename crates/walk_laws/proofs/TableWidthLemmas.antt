@@ -1,5 +1,5 @@
 -- Tables keep the width: their rows, across and below one another, and the cells of these.
-use Rattle.std.proofs.Common.{◌≡◌, ℕ, ◌+◌, Bool, true, false, nat_lt, List, [], ◌∷◌, ◌++◌, map, Option, None, Some}
+use Rattle.std.proofs.Common.{◌≡◌, ℕ, Bool, true, false, nat_lt, List, [], ◌∷◌, map, Option, None, Some}
 use Rattle.std.proofs.Common.{IfSome, refl, sym, ap, subst, ◌∙◌, arith}
 use Rattle.std.specs.Prelude.{codes, if◌then◌else◌}
 use Rattle.std.specs.Option.{option_and_then}
@@ -12,7 +12,7 @@ use Rattle.renderer_calls.specs.Calls.{Call, step}
 use Rattle.renderer_calls.specs.Calls as calls
 use Rattle.renderer_calls.specs.Renderers.{Marking, Sub, begin_colour, finish_colour, measure_of, mode_of, on_laid}
 use Rattle.renderer_calls.specs.Renderers.{popped, preformatted_added, pushed, struck_text, text_added, with_held}
-use Rattle.renderer_calls.specs.Renderers.{with_laid}
+use Rattle.renderer_calls.specs.Renderers.{one_under, with_laid}
 use Rattle.renderer_calls.specs.declared.options.RenderOptions.{RenderOptions}
 use Rattle.renderer_laws.specs.RendererLaws.{CallFits, StaysWithin}
 use Rattle.text_borders.specs.AcrossLaws.{Seat, seat_of}
@@ -154,8 +154,7 @@ added_hangs {H} {A} {m} laws cs s b = by (nat_lt 0 s.preformats)
         else add_text (measure_of s) s.annotations (mode_of s) (struck_text s cs) s.annotations s.annotations b)
         (λ (new : Laid (List A)). new.hanging ≡ b.hanging)
     by true = laws.seats.text_hangs (measure_of s) s.annotations (mode_of s) (struck_text s cs)
-        (s.annotations ++ m.mark_tag s.held preformat_first ∷ [])
-        (s.annotations ++ m.mark_tag s.held preformat_further ∷ []) b
+        (one_under (m.mark_tag s.held preformat_first) s) (one_under (m.mark_tag s.held preformat_further) s) b
     by false = laws.seats.text_hangs (measure_of s) s.annotations (mode_of s) (struck_text s cs) s.annotations
         s.annotations b
 

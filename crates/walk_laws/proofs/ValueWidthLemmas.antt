@@ -9,7 +9,7 @@ use Rattle.renderer_calls.specs.Renderers.{Marking}
 use Rattle.text_block_renderer.specs.PartLaws.{AreKeptWithin, PartsStayWithin}
 use Rattle.text_block_renderer.specs.Parts.{Parts}
 use Rattle.text_marks.specs.Marks.{header, quote}
-use Rattle.table_rows.specs.Slots.{Table, is_shown}
+use Rattle.table_rows.specs.Slots.{is_shown}
 use Rattle.table_rows.specs.declared.slot.Slot.{Slot}
 use Rattle.render_sizes.specs.Extents.{Measure, number}
 use Rattle.render_values.specs.Values.{Values, none, value}

@@ -1,3 +1,4 @@
+pub mod BareLaws
 pub mod WalkLaws
 pub use Rattle.render_walk.specs.Around
 pub use Rattle.render_walk.specs.Begins

@@ -1,12 +1,14 @@
 //! Laws of what is laid out: each is the contract of a function that does nothing.
 ghost use Rattle.renderer_calls.specs.Renderers.{Marking};
+ghost use Rattle.walk_laws.specs.BareLaws.{AreLaidBare};
 ghost use Rattle.walk_laws.specs.WalkLaws.{KeepWidth, AreLaidWithRoom};
 
 use column_shares::widths_across_fit;
 use layout_laws::cells_hang_until_a_row;
 use render_sizes::tables_are_sound;
 use renderer_laws::{
-    a_prefix_and_its_room_are_the_width, renderers_keep_the_width, renderers_with_room_never_refuse,
+    a_prefix_and_its_room_are_the_width, annotations_change_no_text, renderers_keep_the_width,
+    renderers_with_room_never_refuse,
 };
 use text_block_renderer::{parts_keep_the_width, parts_with_room_never_refuse};
 use text_borders::cells_keep_their_places;
@@ -33,4 +35,11 @@ pub fn values_with_room_are_laid<D: TextDecorator>()
     renderers_with_room_never_refuse::<D>();
     a_prefix_and_its_room_are_the_width::<D>();
     parts_with_room_never_refuse::<D>();
+}
+
+/// Values are laid out the same in renderers that keep no annotations, and are refused where they are refused in others.
+pub fn annotations_change_no_page<D: TextDecorator>()
+    ensures { (m : Marking D.Held D.Annotation.Seen) → AreLaidBare m }
+{
+    annotations_change_no_text::<D>();
 }

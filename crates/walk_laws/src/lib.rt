@@ -3,7 +3,9 @@
 
 mod laws;
 
-pub use laws::{values_keep_the_width, values_with_room_are_laid};
+pub use laws::{annotations_change_no_page, values_keep_the_width, values_with_room_are_laid};
 pub use render_walk::lay_tree;
-pub use renderer_laws::{renderers_keep_the_width, renderers_with_room_never_refuse};
+pub use renderer_laws::{
+    annotations_change_no_text, renderers_keep_the_width, renderers_with_room_never_refuse,
+};
 pub use text_block_renderer::{TextRenderer, parts_keep_the_width, parts_with_room_never_refuse};

@@ -17,7 +17,7 @@ returns-in_err-write_lines-clause-unwritten g c =
           g.D.TextDecorator.marks g.D.TextDecorator.after g.D.TextDecorator.pops g.D.TextDecorator.sub
           g.D.TextDecorator.closes (page_setting g.D.TextDecorator.held g.D.TextDecorator.sub c.args.config)
           c.args.width (g.R.ByteReader.remaining c.args.reader.now) _ _ c.in_ok-lines.lines.items
-          c.in_ok-lines.ensures.lines (rw c.deref.ensures.value at c.in_err-write_lines.ensures.part),
+          c.in_ok-lines.ensures.text (rw c.deref.ensures.value at c.in_err-write_lines.ensures.part),
     ))
 
 pub returns-clause-written : goal.returns-clause-written
@@ -25,5 +25,5 @@ returns-clause-written g c = written_page g.D.Annotation.EqualCopy.seen g.D.Text
     g.D.TextDecorator.gives g.D.TextDecorator.marks g.D.TextDecorator.after g.D.TextDecorator.pops
     g.D.TextDecorator.sub g.D.TextDecorator.closes
     (page_setting g.D.TextDecorator.held g.D.TextDecorator.sub c.args.config) c.args.width
-    (g.R.ByteReader.remaining c.args.reader.now) _ _ c.in_ok-lines.lines.items c.in_ok-lines.ensures.lines
+    (g.R.ByteReader.remaining c.args.reader.now) _ _ c.in_ok-lines.lines.items c.in_ok-lines.ensures.text
     (rw c.deref.ensures.value at c.in_ok-write_lines.ensures.ok)

@@ -5,7 +5,7 @@ use Rattle.render_sizes.specs.Extents.{extents, measure_of}
 use Rattle.walk_laws.specs.Lay.{laid_parts}
 use Rattle.renderer_calls.specs.Renderers.{new_sub}
 use Rattle.walk_laws.specs.Parts.{depth_of, whole_page}
-use Rattle.html_render_tree.specs.PageLines.{prefix_columns}
+use Rattle.html_render_tree.specs.PageLines.{begun_as, prefix_columns}
 use Rattle.html_render_tree.proofs.rendering.laid.Goals as goal
 
 pub lay_tree-requires : goal.lay_tree-requires
@@ -14,7 +14,7 @@ lay_tree-requires g c = λ lives k. (
   (
     k.1,
     (
-      (c.new.ensures.works, c.new.ensures.current ∙ c.new-sub.ensures.works),
+      (c.new.ensures.works, c.new.ensures.current ∙ c.begun-sub.ensures.works),
       (
         ap depth_of c.new.ensures.parts,
         c.as_slice.ensures.value
@@ -31,12 +31,12 @@ pub returns-in-Ok-clause-laid : goal.returns-in-Ok-clause-laid
 returns-in-Ok-clause-laid g c = λ tag p.
     ap (λ v. laid_parts (marking g.D.TextDecorator.text tag g.D.TextDecorator.marks g.D.TextDecorator.after
     g.D.TextDecorator.pops g.D.TextDecorator.sub) v c.args.tree.now
-    (whole_page (new_sub c.args.width c.args.options (g.D.TextDecorator.held c.args.decorator) []))) (sym
+    (whole_page (begun_as c.args.keeps (new_sub c.args.width c.args.options (g.D.TextDecorator.held c.args.decorator) [])))) (sym
     c.requires.1.1)
     ∙ (ap (laid_parts (marking g.D.TextDecorator.text tag g.D.TextDecorator.marks g.D.TextDecorator.after
     g.D.TextDecorator.pops g.D.TextDecorator.sub) g.w c.args.tree.now) (sym (c.new.ensures.parts ∙ ap whole_page
-    (c.new-sub.ensures.sub
-    ∙ ap (λ d. new_sub c.args.width c.args.options (g.D.TextDecorator.held d) [])
+    (c.begun-sub.ensures.sub
+    ∙ ap (λ d. begun_as c.args.keeps (new_sub c.args.width c.args.options (g.D.TextDecorator.held d) []))
     (c.into_decorator.ensures ∙ c.new-prefixes.ensures))))
     ∙ c.in-Ok.ensures.laid tag p)
 
@@ -45,11 +45,11 @@ returns-clause-narrow g c = λ e. λ tag p.
     let narrow : c.refusal.result ≡ TooNarrow = cc e in
     ap (λ v. laid_parts (marking g.D.TextDecorator.text tag g.D.TextDecorator.marks g.D.TextDecorator.after
     g.D.TextDecorator.pops g.D.TextDecorator.sub) v c.args.tree.now
-    (whole_page (new_sub c.args.width c.args.options (g.D.TextDecorator.held c.args.decorator) []))) (sym
+    (whole_page (begun_as c.args.keeps (new_sub c.args.width c.args.options (g.D.TextDecorator.held c.args.decorator) [])))) (sym
     c.requires.1.1)
     ∙ (ap (laid_parts (marking g.D.TextDecorator.text tag g.D.TextDecorator.marks g.D.TextDecorator.after
     g.D.TextDecorator.pops g.D.TextDecorator.sub) g.w c.args.tree.now) (sym (c.new.ensures.parts ∙ ap whole_page
-    (c.new-sub.ensures.sub
-    ∙ ap (λ d. new_sub c.args.width c.args.options (g.D.TextDecorator.held d) [])
+    (c.begun-sub.ensures.sub
+    ∙ ap (λ d. begun_as c.args.keeps (new_sub c.args.width c.args.options (g.D.TextDecorator.held d) []))
     (c.into_decorator.ensures ∙ c.new-prefixes.ensures))))
     ∙ c.in-Err.ensures.narrow (ap Err (c.refusal.ensures.narrow narrow)) tag p)

@@ -1,36 +1,50 @@
-use Rattle.std.proofs.Common.{◌≡◌, Err, ap, inl, inr}
+use Rattle.std.proofs.Common.{◌≡◌, Err, ap, chars, inl, inr, string_bytes}
 use Rattle.std.proofs.lemmas.Result.{err_from_is_err_and}
 use Rattle.block_renderer.specs.Seen.{sub_of}
 use Rattle.render_conversion.specs.declared.error.RenderError.TheVariants.{TooNarrow}
 use Rattle.html_render_tree.specs.Settings.{setting_of}
+use Rattle.html_render_tree.proofs.BareLemmas.{TextLaws, lines_missing, printed_alike}
 use Rattle.html_render_tree.proofs.PageLemmas.{never_so_narrow}
 use Rattle.html_render_tree.proofs.config.RenderConfig.render_to_string.Goals as goal
 
 pub returns-in-Ok-clause-text : goal.returns-in-Ok-clause-text
-returns-in-Ok-clause-text g c = λ tag p. record {
-  whole = sub_of g.D.Annotation.EqualCopy.seen g.D.TextDecorator.held c.in_ok-sub.sub;
-  closed = c.in_ok-sub.ensures.closed tag p;
-  given = c.in-Ok.ensures.text;
-}
+returns-in-Ok-clause-text g c = λ tag p.
+    let d = g.D.TextDecorator in
+    let seen = g.D.Annotation.EqualCopy.seen in
+    let laws : TextLaws d.Held g.D.Annotation.EqualCopy.Seen = record {
+      lines = λ s. c.annotations_change_no_text.ensures.lines s;
+      text = λ s. c.annotations_change_no_text.ensures.text s;
+    } in
+    printed_alike laws seen d.closes (setting_of d.held d.sub c.args.self.now) c.args.width c.args.tree
+    (sub_of seen d.held c.in_ok-sub.sub) (chars (string_bytes c.in-Ok.text)) (c.in_ok-sub.ensures.closed tag p)
+    c.in-Ok.ensures.text
 
 pub returns-clause-narrow : goal.returns-clause-narrow
 returns-clause-narrow g c = λ e.
     let narrow : c.refusal.result ≡ TooNarrow = cc e in
-    inr (λ tag p. inr (record {
-      whole = sub_of g.D.Annotation.EqualCopy.seen g.D.TextDecorator.held c.in_ok-sub.sub;
-      closed = c.in_ok-sub.ensures.closed tag p;
-      never = c.in-Err.ensures.narrow (ap Err (c.refusal.ensures.narrow narrow));
-    }))
+    let d = g.D.TextDecorator in
+    let seen = g.D.Annotation.EqualCopy.seen in
+    let laws : TextLaws d.Held g.D.Annotation.EqualCopy.Seen = record {
+      lines = λ s. c.annotations_change_no_text.ensures.lines s;
+      text = λ s. c.annotations_change_no_text.ensures.text s;
+    } in
+    inr (λ tag p. inr (lines_missing laws seen d.closes (setting_of d.held d.sub c.args.self.now) c.args.width
+    c.args.tree (sub_of seen d.held c.in_ok-sub.sub) (c.in_ok-sub.ensures.closed tag p)
+    (c.in-Err.ensures.narrow (ap Err (c.refusal.ensures.narrow narrow)))))
 
 pub returns-clause-roomy : goal.returns-clause-roomy
 returns-clause-roomy g c = λ tag p on wide e.
     let narrow : c.refusal.result ≡ TooNarrow = cc e in
-    c.pages_with_room_are_never_too_narrow.ensures tag
-    (setting_of g.D.TextDecorator.held g.D.TextDecorator.sub c.args.self.now) c.args.width c.args.tree on (inr (record {
-      whole = sub_of g.D.Annotation.EqualCopy.seen g.D.TextDecorator.held c.in_ok-sub.sub;
-      closed = c.in_ok-sub.ensures.closed tag p;
-      never = c.in-Err.ensures.narrow (ap Err (c.refusal.ensures.narrow narrow));
-    }))
+    let d = g.D.TextDecorator in
+    let seen = g.D.Annotation.EqualCopy.seen in
+    let laws : TextLaws d.Held g.D.Annotation.EqualCopy.Seen = record {
+      lines = λ s. c.annotations_change_no_text.ensures.lines s;
+      text = λ s. c.annotations_change_no_text.ensures.text s;
+    } in
+    c.pages_with_room_are_never_too_narrow.ensures tag (setting_of d.held d.sub c.args.self.now) c.args.width
+    c.args.tree on (inr (lines_missing laws seen d.closes (setting_of d.held d.sub c.args.self.now) c.args.width
+    c.args.tree (sub_of seen d.held c.in_ok-sub.sub) (c.in_ok-sub.ensures.closed tag p)
+    (c.in-Err.ensures.narrow (ap Err (c.refusal.ensures.narrow narrow)))))
 
 pub returns-in_err-sub-clause-roomy : goal.returns-in_err-sub-clause-roomy
 returns-in_err-sub-clause-roomy g c = λ tag p on wide e.

@@ -1,6 +1,6 @@
 use Rattle.render_sizes.specs.Extents.{measure_of}
 use Rattle.html_render_tree.specs.PageLines.{prefix_columns}
-use Rattle.html_render_tree.proofs.config.RenderConfig.closed.Given as goal
+use Rattle.html_render_tree.proofs.config.RenderConfig.laid.Given as goal
 
 abbrev pub ghost-laid : goal.ghost-laid
 ghost-laid g a =
