@@ -77,7 +77,7 @@ last_changed seen (Str s ∷ x ∷ front) e f text extends joined =
     (joined.0, joined.1, last_changed seen (x ∷ front) e f text extends joined.2)
 last_changed seen (FragmentStart n ∷ front) e f text extends joined = last_changed seen front e f text extends joined
 
-last_extends : {T S : Type 0} (seen : T → S) (es : List (TaggedLineElement T)) (i : ℕ) (e f : TaggedLineElement T)
+pub last_extends : {T S : Type 0} (seen : T → S) (es : List (TaggedLineElement T)) (i : ℕ) (e f : TaggedLineElement T)
     (text : List ℕ) → i + 1 ≡ length es → e ≡ get_or es i e → Extends e f text → AreJoined seen es
     → AreJoined seen (set es i f)
 last_extends seen es i e f text last read extends joined =

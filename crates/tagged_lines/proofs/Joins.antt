@@ -1,7 +1,8 @@
 -- Texts and markers that are added at the end of a line's elements.
 use Rattle.std.proofs.Common.{◌≡◌, ℕ, ◌+◌, ◌-◌, ◌<◌, subst, List, [], ◌∷◌, ◌++◌, length, get_or, set, take, sym, ap}
-use Rattle.std.proofs.Common.{◌∙◌, refl, append_assoc, arith}
+use Rattle.std.proofs.Common.{◌∙◌, refl, append_assoc, arith, add-zero}
 use Rattle.std.specs.Prelude.{Option, None, Some, chars, string_bytes, IsSomeAnd, slice_get}
+use Rattle.std.specs.Prelude.{Result, Ok, Err, OnOk, OnErr}
 use Rattle.std.proofs.lemmas.Str.{chars-append, chars-nil, chars_past_char, IsUtf8-encode, IsUtf8-string_bytes}
 use Rattle.std.specs.Char.{IsScalar}
 use lib.Utf8.{encode}
@@ -35,12 +36,12 @@ items_pushed seen xs ys e same = ap (elements_items seen) same ∙ elements_item
 
 -- ---- the characters
 
-characters-append : {S : Type 0} (xs ys : List (Item S)) → characters (xs ++ ys) ≡ characters xs ++ characters ys
+pub characters-append : {S : Type 0} (xs ys : List (Item S)) → characters (xs ++ ys) ≡ characters xs ++ characters ys
 characters-append [] ys = refl
 characters-append (character c tag ∷ xs) ys = ap (λ rest. c ∷ rest) (characters-append xs ys)
 characters-append (marker name ∷ xs) ys = characters-append xs ys
 
-characters-tagged : {S : Type 0} (cs : List ℕ) (tag : S) → characters (tagged cs tag) ≡ cs
+pub characters-tagged : {S : Type 0} (cs : List ℕ) (tag : S) → characters (tagged cs tag) ≡ cs
 characters-tagged [] tag = refl
 characters-tagged (c ∷ cs) tag = ap (λ rest. c ∷ rest) (characters-tagged cs tag)
 
@@ -93,6 +94,15 @@ line_added seen old new others given n m total same all counted rest sum =
     more_columns seen old new (elements_items seen others) n m total
     (same ∙ ap (λ es. elements_items seen old ++ elements_items seen es) all) counted
     (rest ∙ ap text_columns (sym (elements_characters seen others))) sum
+
+-- a marker has no columns, and a refused one isn't there
+pub marker_added : {T S E : Type 0} (seen : T → S) (r : Result (Unit {0}) E) (old new : List (TaggedLineElement T))
+    (name : List ℕ) (n : ℕ) → OnOk r (elements_items seen new ≡ elements_items seen old ++ marker name ∷ [])
+    → OnErr r (new ≡ old) → n ≡ text_columns (elements_text old) → n ≡ text_columns (elements_text new)
+marker_added seen (Ok x) old new name n ok err counted =
+    more_columns seen old new (marker name ∷ []) n 0 n ok counted refl (sym (add-zero n))
+marker_added seen (Err e) old new name n ok err counted =
+    same_columns seen old new n (ap (elements_items seen) err) counted
 
 -- ---- the last element
 

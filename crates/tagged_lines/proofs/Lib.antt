@@ -2,6 +2,7 @@ pub mod Alike
 pub mod Copying
 pub mod Elementwise
 pub mod Emptiness
+pub mod Fronts
 pub mod Joined
 pub mod Joins
 pub mod Widths

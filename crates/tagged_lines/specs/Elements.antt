@@ -79,6 +79,18 @@ Extends (Str old) (FragmentStart new) text = ⊥
 Extends (FragmentStart old) (Str new) text = ⊥
 Extends (FragmentStart old) (FragmentStart new) text = new ≡ old
 
+-- one text
+abbrev pub IsOnlyText : {T : Type 0} → List (TaggedLineElement T) → Type 0
+IsOnlyText (Str string ∷ []) = Unit {0}
+IsOnlyText _ = ⊥
+
+-- the element with the text added in front of its own
+abbrev pub Precedes : {T : Type 0} → TaggedLineElement T → TaggedLineElement T → List ℕ → Type 0
+Precedes (Str old) (Str new) text = (string_bytes new.s ≡ text ++ string_bytes old.s) × (new.tag ≡ old.tag)
+Precedes (Str old) (FragmentStart new) text = ⊥
+Precedes (FragmentStart old) (Str new) text = ⊥
+Precedes (FragmentStart old) (FragmentStart new) text = new ≡ old
+
 -- neither text nor a marker
 abbrev pub IsEmpty : {T : Type 0} → TaggedLineElement T → Type 0
 IsEmpty (Str string) = string_bytes string.s ≡ []

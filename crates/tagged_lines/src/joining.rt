@@ -1,14 +1,15 @@
-//! Adding text at the end of a line's elements.
+//! Adding text at the end of a line's elements, and in front of them.
 
 ghost use Rattle.std.specs.Prelude.{◌≡◌, ◌≢◌, ◌<◌, ◌≤◌, ◌↔◌, [], ◌∷◌, ◌++◌, chars, string_bytes, vec_len, vec_capacity};
 ghost use Rattle.std.specs.Prelude.{IfOk, OnOk, OnErr, IsTrue};
 ghost use Rattle.tagged_lines.specs.Elements.{element_items, elements_items, tagged, marker, AreJoined, EndsWithTag};
 ghost use Rattle.std.specs.Prelude.{false};
-ghost use Rattle.tagged_lines.specs.Elements.{MeetWithTag, BeginsWithTag};
+ghost use Rattle.tagged_lines.specs.Elements.{MeetWithTag, BeginsWithTag, IsOnlyText};
 
 use crate::equal_copy::EqualCopy;
 use crate::tagged_string::{TaggedLineElement, TaggedString, roomy_copy};
 use std::alloc::{AllocError, Global};
+use std::mem;
 
 /// Adds a text at the end. Where the last element is a text with an equal tag, it joins that.
 pub(crate) fn push_text<T: EqualCopy + Drop>(
@@ -28,6 +29,27 @@ pub(crate) fn push_text<T: EqualCopy + Drop>(
         extend_last(elements, text)
     } else {
         push_new(elements, text, tag)
+    }
+}
+
+/// Adds a text in front. Where the first element is a text with an equal tag, it joins that.
+pub(crate) fn push_front<T: EqualCopy + Drop>(
+    elements: &mut Vec<TaggedLineElement<T>>,
+    text: &str,
+    tag: &T,
+) -> Result<(), AllocError>
+    ensures ok { OnOk result (elements_items T.seen elements.new.items
+        ≡ tagged (chars text.now) (T.seen tag.now) ++ elements_items T.seen elements.old.items) }
+    ensures err { OnErr result (elements_items T.seen elements.new.items
+        ≡ elements_items T.seen elements.old.items) }
+    ensures joined { AreJoined T.seen elements.old.items → AreJoined T.seen elements.new.items }
+{
+    if text.is_empty() {
+        Ok(())
+    } else if begins_with_tag(elements, tag) {
+        extend_first(elements, text)
+    } else {
+        push_new_front(elements, text, tag)
     }
 }
 
@@ -81,6 +103,20 @@ pub(crate) fn push_marker<T: EqualCopy + Drop>(
     ensures joined { AreJoined T.seen elements.old.items → AreJoined T.seen elements.new.items }
 {
     let name = String::from_str(*elements.allocator(), name)?;
+    elements.push(TaggedLineElement::FragmentStart(name))?;
+    Ok(())
+}
+
+/// Moves the name of a marker to the end.
+pub(crate) fn move_marker<T: EqualCopy + Drop>(
+    elements: &mut Vec<TaggedLineElement<T>>,
+    name: String,
+) -> Result<(), AllocError>
+    ensures ok { OnOk result (elements_items T.seen elements.new.items
+        ≡ elements_items T.seen elements.old.items ++ marker (chars (string_bytes name)) ∷ []) }
+    ensures err { OnErr result (elements.new.items ≡ elements.old.items) }
+    ensures joined { AreJoined T.seen elements.old.items → AreJoined T.seen elements.new.items }
+{
     elements.push(TaggedLineElement::FragmentStart(name))?;
     Ok(())
 }
@@ -140,8 +176,17 @@ pub(crate) fn move_elements<T: EqualCopy + Drop>(
     ensures kept { OnErr result (others.new.items ≡ others.old.items) }
     ensures joined { AreJoined T.seen elements.old.items → AreJoined T.seen elements.new.items }
 {
-    // The common case copies no more than a text that joins.
+    // The common cases copy no more than a text that joins.
     if are_joined(others) {
+        if elements.is_empty() {
+            mem::swap(elements, others);
+            return Ok(());
+        }
+        if others.len() == 1 && meet_with_tag(elements, others) {
+            extend_last(elements, others[0].as_str())?;
+            others.clear();
+            return Ok(());
+        }
         elements.reserve(others.len())?;
         join_first(elements, others)?;
         return elements.append(others);
@@ -217,6 +262,13 @@ pub(crate) fn are_joined<T: EqualCopy>(elements: &[TaggedLineElement<T>]) -> boo
     true
 }
 
+/// Whether there is one element, a text.
+pub(crate) fn is_only_text<T>(elements: &[TaggedLineElement<T>]) -> bool
+    ensures { IsTrue result → IsOnlyText elements.now }
+{
+    matches!(elements, [TaggedLineElement::Str(_)])
+}
+
 // Whether the element is an empty text, or one that is followed by a text with an equal tag.
 fn joins<T: EqualCopy>(element: &TaggedLineElement<T>, others: &[TaggedLineElement<T>]) -> bool
     ensures { result ≡ false → AreJoined T.seen others.now
@@ -269,6 +321,19 @@ fn extend_last<T: EqualCopy + Drop>(
     elements[last].push_str(text)
 }
 
+/// Makes room for so many bytes more in the text of the last element.
+pub(crate) fn reserve_last<T: EqualCopy + Drop>(
+    elements: &mut Vec<TaggedLineElement<T>>,
+    bytes: usize,
+) -> Result<(), AllocError>
+    requires { 0 < vec_len elements.old }
+    ensures items { elements_items T.seen elements.new.items ≡ elements_items T.seen elements.old.items }
+    ensures joined { AreJoined T.seen elements.old.items → AreJoined T.seen elements.new.items }
+{
+    let last = elements.len() - 1;
+    elements[last].reserve(bytes)
+}
+
 // Adds the character to the text of the last element.
 fn extend_last_by<T: EqualCopy + Drop>(
     elements: &mut Vec<TaggedLineElement<T>>,
@@ -284,6 +349,22 @@ fn extend_last_by<T: EqualCopy + Drop>(
 {
     let last = elements.len() - 1;
     elements[last].push(c)
+}
+
+// Adds in front of the text of the first element.
+fn extend_first<T: EqualCopy + Drop>(
+    elements: &mut Vec<TaggedLineElement<T>>,
+    text: &str,
+) -> Result<(), AllocError>
+    requires { 0 < vec_len elements.old }
+    ensures ok { OnOk result ((tag : T.Seen) → BeginsWithTag T.seen tag elements.old.items
+        → elements_items T.seen elements.new.items
+        ≡ tagged (chars text.now) tag ++ elements_items T.seen elements.old.items) }
+    ensures err { OnErr result (elements_items T.seen elements.new.items
+        ≡ elements_items T.seen elements.old.items) }
+    ensures joined { AreJoined T.seen elements.old.items → AreJoined T.seen elements.new.items }
+{
+    elements[0].push_front(text)
 }
 
 // Adds the text as an element of its own.
@@ -302,6 +383,26 @@ fn push_new<T: EqualCopy + Drop>(
     let s = roomy_copy(alloc, text)?;
     let tag = tag.copy(alloc)?;
     push_own(elements, s, tag)
+}
+
+// Adds the text in front, as an element of its own.
+fn push_new_front<T: EqualCopy + Drop>(
+    elements: &mut Vec<TaggedLineElement<T>>,
+    text: &str,
+    tag: &T,
+) -> Result<(), AllocError>
+    ensures ok { OnOk result (elements_items T.seen elements.new.items
+        ≡ tagged (chars text.now) (T.seen tag.now) ++ elements_items T.seen elements.old.items) }
+    ensures err { OnErr result (elements.new.items ≡ elements.old.items) }
+    ensures joined { OnOk result (AreJoined T.seen elements.old.items → text.now ≢ []
+        → ¬ BeginsWithTag T.seen (T.seen tag.now) elements.old.items → AreJoined T.seen elements.new.items) }
+{
+    let alloc = *elements.allocator();
+    let s = roomy_copy(alloc, text)?;
+    let tag = tag.copy(alloc)?;
+    make_room(elements)?;
+    elements.insert(0, TaggedLineElement::Str(TaggedString { s, tag }))?;
+    Ok(())
 }
 
 // Moves the text to the end, as an element of its own.

@@ -1,4 +1,4 @@
-ghost use Rattle.std.specs.Prelude.{◌≡◌, ◌↔◌, [], ◌∷◌, ◌++◌, length, chars, string_bytes, IfOk, OnOk, OnErr, IsTrue};
+ghost use Rattle.std.specs.Prelude.{◌≡◌, ◌↔◌, [], ◌∷◌, ◌++◌, length, chars, string_bytes, IfErr, IfOk, OnOk, OnErr, IsTrue};
 ghost use Rattle.std.specs.Slice.Iter.{iter_rest};
 ghost use Rattle.std.specs.Vec.Iter.{into_iter_items, into_iter_len};
 ghost use Rattle.tagged_lines.specs.Columns.{text_columns};
@@ -7,7 +7,8 @@ ghost use Rattle.tagged_lines.specs.Elements.{elements_text};
 use crate::columns::{Columns, UnicodeColumns};
 use crate::equal_copy::EqualCopy;
 use crate::joining::{
-    are_joined, move_elements, push_character, push_elements, push_marker, push_string, push_text,
+    are_joined, is_only_text, move_elements, move_marker, push_character, push_elements,
+    push_front, push_marker, push_string, push_text, reserve_last,
 };
 use crate::line_iterators::{LineChars, TaggedStrings};
 use crate::spaces::{MOST_SPACES, spaces};
@@ -91,6 +92,17 @@ impl<T: EqualCopy + Drop> TaggedLine<T> {
         self.columns = 0;
     }
 
+    /// Makes room for so many bytes more of text at the end; the line stays as it is. The error is want of memory alone.
+    pub fn reserve(&mut self, bytes: usize) -> Result<(), AllocError>
+        ensures items { line_items T.seen self.new ≡ line_items T.seen self.old }
+        ensures joined { IsJoined T.seen self.old → IsJoined T.seen self.new }
+    {
+        if self.elements.is_empty() {
+            return Ok(());
+        }
+        reserve_last(&mut self.elements, bytes)
+    }
+
     /// Adds a text at the end. The error is want of memory alone, and leaves the line as it was.
     pub fn push_str(&mut self, text: &str, tag: &T) -> Result<(), AllocError>
         ensures ok { OnOk result (line_items T.seen self.new
@@ -99,6 +111,22 @@ impl<T: EqualCopy + Drop> TaggedLine<T> {
         ensures joined { IsJoined T.seen self.old → IsJoined T.seen self.new }
     {
         self.push_counted(text, columns_of(text), tag)
+    }
+
+    /// Adds a text in front. The error is want of memory alone, and leaves the line as it was.
+    pub fn push_front(&mut self, text: &str, tag: &T) -> Result<(), AllocError>
+        ensures ok { OnOk result (line_items T.seen self.new
+            ≡ tagged (chars text.now) (T.seen tag.now) ++ line_items T.seen self.old) }
+        ensures err { OnErr result (line_items T.seen self.new ≡ line_items T.seen self.old) }
+        ensures joined { IsJoined T.seen self.old → IsJoined T.seen self.new }
+    {
+        let wider = self
+            .columns
+            .checked_add(columns_of(text))
+            .ok_or(AllocError)?;
+        push_front(&mut self.elements, text, tag)?;
+        self.columns = wider;
+        Ok(())
     }
 
     /// Adds a character at the end. The error is want of memory alone, and leaves the line as it was.
@@ -126,6 +154,17 @@ impl<T: EqualCopy + Drop> TaggedLine<T> {
         ensures joined { IsJoined T.seen self.old → IsJoined T.seen self.new }
     {
         push_marker(&mut self.elements, name)
+    }
+
+    /// Moves a marker's name to the end, as `push_marker` adds one. The error is want of memory alone, and leaves the
+    /// line as it was.
+    pub fn append_marker(&mut self, name: String) -> Result<(), AllocError>
+        ensures ok { OnOk result (line_items T.seen self.new
+            ≡ line_items T.seen self.old ++ marker (chars (string_bytes name)) ∷ []) }
+        ensures err { OnErr result (line_items T.seen self.new ≡ line_items T.seen self.old) }
+        ensures joined { IsJoined T.seen self.old → IsJoined T.seen self.new }
+    {
+        move_marker(&mut self.elements, name)
     }
 
     /// Adds another line at the end. The error is want of memory alone, and leaves the line as it was.
@@ -172,6 +211,24 @@ impl<T: EqualCopy + Drop> TaggedLine<T> {
         self.columns = total;
         other.columns = 0;
         Ok(())
+    }
+
+    /// The text and its tag, where the line is one text; else the line.
+    pub fn into_only_text(self) -> Result<(String, T), TaggedLine<T>>
+        ensures text { IfOk result (λ t. line_items T.seen self ≡ tagged (chars (string_bytes t.0)) (T.seen t.1)) }
+        ensures line { IfErr result (λ line. line ≡ self) }
+    {
+        if !is_only_text(&self.elements) {
+            return Err(self);
+        }
+        let TaggedLine {
+            mut elements,
+            columns,
+        } = self;
+        match elements.pop() {
+            Some(TaggedLineElement::Str(string)) => Ok((string.s, string.tag)),
+            _ => Err(TaggedLine { elements, columns }),
+        }
     }
 
     /// Adds a text whose columns are known at the end. The error is want of memory alone, and leaves the line as it

@@ -58,7 +58,7 @@ pub enum TaggedLineElement<T> {
 }
 
 impl<T> TaggedLineElement<T> {
-    ghost use Rattle.tagged_lines.specs.Elements.{element_text, Extends, IsEmpty, MapsTag};
+    ghost use Rattle.tagged_lines.specs.Elements.{element_text, Extends, Precedes, IsEmpty, MapsTag};
 
     /// The columns of the text, 0 for a marker.
     pub fn width(&self) -> usize
@@ -98,6 +98,17 @@ impl<T> TaggedLineElement<T> {
         }
     }
 
+    /// Adds in front of the text; a marker stays as it is.
+    pub(crate) fn push_front(&mut self, text: &str) -> Result<(), AllocError>
+        ensures ok { OnOk result (Precedes self.old self.new text.now) }
+        ensures err { OnErr result (Precedes self.old self.new []) }
+    {
+        match self {
+            TaggedLineElement::Str(string) => string.s.insert_str(0, text),
+            TaggedLineElement::FragmentStart(_) => Ok(()),
+        }
+    }
+
     /// Adds a character to the text; a marker stays as it is.
     pub(crate) fn push(&mut self, c: char) -> Result<(), AllocError>
         ensures ok { OnOk result (Extends self.old self.new (encode_utf8 c)) }
@@ -105,6 +116,16 @@ impl<T> TaggedLineElement<T> {
     {
         match self {
             TaggedLineElement::Str(string) => string.s.push(c),
+            TaggedLineElement::FragmentStart(_) => Ok(()),
+        }
+    }
+
+    /// Makes room for so many bytes more of text.
+    pub(crate) fn reserve(&mut self, bytes: usize) -> Result<(), AllocError>
+        ensures { Extends self.old self.new [] }
+    {
+        match self {
+            TaggedLineElement::Str(string) => string.s.reserve_exact(bytes),
             TaggedLineElement::FragmentStart(_) => Ok(()),
         }
     }

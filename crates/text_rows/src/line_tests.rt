@@ -99,11 +99,34 @@ fn are_lists_tags(alloc: Global) -> Result<bool, AllocError> {
     Ok(is_copied && is_line(alloc, &line, "ab/c/", 3)? && line.try_clone()? == line)
 }
 
+fn do_texts_move(alloc: Global) -> Result<bool, AllocError> {
+    let mut line = line_of(alloc, "cd")?;
+    line.reserve(8)?;
+    line.push_front("ab", &PLAIN)?;
+    let is_joined = is_line(alloc, &line, "abcd/", 4)?;
+    line.push_front("漢", &STRONG)?;
+    let is_apart = is_line(alloc, &line, "漢/abcd/", 6)?;
+    line.append_marker(String::from_str(alloc, "m")?)?;
+    let mut moved = TaggedLine::new(alloc);
+    moved.append(&mut line)?;
+    let is_empty = line.is_empty() && line.width() == 0;
+    let is_kept = match moved.into_only_text() {
+        Ok(_) => false,
+        Err(line) => is_line(alloc, &line, "漢/abcd/", 6)? && line.iter().count() == 3,
+    };
+    let is_taken = match line_of(alloc, "ab")?.into_only_text() {
+        Ok((text, tag)) => text.as_str() == "ab" && tag == PLAIN,
+        Err(_) => false,
+    };
+    Ok(is_joined && is_apart && is_empty && is_kept && is_taken)
+}
+
 #[test]
 fn lines_and_tags(rt: HostRuntime) {
     let alloc = rt.alloc();
     told(&rt, do_equal_tags_join(alloc), "equal tags");
     told(&rt, do_lines_join(alloc), "lines that join");
+    told(&rt, do_texts_move(alloc), "texts that move");
     told(&rt, do_tags_change_alone(alloc), "other tags");
     told(&rt, is_string(alloc), "a text");
     told(&rt, is_element(alloc), "an element");
