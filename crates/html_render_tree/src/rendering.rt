@@ -11,7 +11,7 @@ ghost use Rattle.walk_laws.specs.SeenParts.{parts_of};
 use crate::prefixes::DecoratorPrefixes;
 use block_renderer::{RenderOptions, SubRenderer};
 use render_conversion::RenderError;
-use render_sizes::measured;
+use render_sizes::asked_extents;
 use render_values::RenderTree;
 use std::alloc::Global;
 use text_marks::TextDecorator;
@@ -70,7 +70,7 @@ pub(crate) fn laid<D: TextDecorator + Drop>(
     ensures kinds { result ≢ Err errors.Fail }
 {
     let prefixes = DecoratorPrefixes::new(alloc, decorator);
-    let sizes = measured(alloc, &prefixes, min_wrap_width, tree)?;
+    let sizes = asked_extents(alloc, &prefixes, min_wrap_width, tree)?;
     let sub = begun(alloc, width, options, prefixes.into_decorator(), keeps);
     match lay_tree(alloc, tree, sizes.as_slice(), TextRenderer::new(alloc, sub)) {
         Ok(text) => Ok(text),

@@ -38,7 +38,7 @@ rest_values x xs h =
     let r = behind x.below (values_of xs) in
     sym (read_back (joined k r)) ∙ ap values_of (flat_joined k r ∙ rest_is x xs h)
 
-take_seam : {A : Type 0} (xs ys : List A) → take (length xs) (xs ++ ys) ≡ xs
+pub take_seam : {A : Type 0} (xs ys : List A) → take (length xs) (xs ++ ys) ≡ xs
 take_seam [] ys = refl
 take_seam (x ∷ xs) ys = ap (λ l. x ∷ l) (take_seam xs ys)
 

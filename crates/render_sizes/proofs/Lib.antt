@@ -1,3 +1,4 @@
+pub mod AskedLemmas
 pub mod ExtentLemmas
 pub mod RowLemmas
 pub mod SizeLemmas

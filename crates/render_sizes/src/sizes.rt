@@ -16,7 +16,8 @@ pub(crate) fn nodes_behind(nodes: &[RenderNode], count: usize) -> &[RenderNode]
     &nodes[count..]
 }
 
-fn first_nodes(nodes: &[RenderNode], count: usize) -> &[RenderNode]
+/// So many nodes in front.
+pub(crate) fn first_nodes(nodes: &[RenderNode], count: usize) -> &[RenderNode]
     requires { count ≤ length nodes.now }
     ensures { result.now ≡ take count nodes.now }
 {
@@ -38,8 +39,8 @@ pub(crate) fn extents_behind(extents: &[Extent], count: usize) -> &[Extent]
     &extents[count..]
 }
 
-// one more, below a number that is there
-fn one_more(count: usize, most: usize) -> usize
+/// One more, below a number that is there.
+pub(crate) fn one_more(count: usize, most: usize) -> usize
     requires { count < most }
     ensures { result ≡ count + 1 }
 {
@@ -111,8 +112,8 @@ fn measured_first<P: Prefixes>(
     }
 }
 
-// from the last node to the first
-fn all_extents<P: Prefixes>(
+/// Of each node, from the last to the first. The error is want of memory alone.
+pub(crate) fn all_extents<P: Prefixes>(
     alloc: Global,
     prefixes: &P,
     min_wrap: usize,

@@ -17,7 +17,8 @@ use Rattle.render_values.specs.Arena.{values_of}
 use Rattle.value_openings.specs.Lay.{Content, content_of, laid, lay, table_of}
 use Rattle.table_rows.specs.Slots.{Table}
 use Rattle.render_laying.specs.Laying.{Laying, Step}
-use Rattle.value_openings.specs.Seen.{IsReady, IsSound, WorksOutside, load, rest_of, rest_where, waiting_of, weight}
+use Rattle.value_openings.specs.Seen.{AreAlike, IsReady, IsSound, WorksOutside, load, rest_of, rest_where, waiting_of}
+use Rattle.value_openings.specs.Seen.{weight}
 use Rattle.value_openings.specs.Seen.{where_entered}
 use Rattle.value_openings.specs.Waiting.{Waiting, segment, unwound}
 use Rattle.value_openings.specs.declared.waiting.Waiting.{Waiting as CodeWaiting}
@@ -31,7 +32,7 @@ pub entered : {X H A : Type 0} (f : X → Waiting H A) (m : Marking H A) (w : Me
     (head : Head) (inner later vs next : Values) (c : Content) (is_entered : Bool) (before behind : Laying H A)
     → one ≡ old ++ rests → new ≡ one ++ items
     → ((l : Laying H A) → unwound m w (map f rests) l ≡ lay m w later l) → vs ≡ value head inner later
-    → c ≡ content_of w head inner
+    → AreAlike head.info c (content_of w head inner)
     → ((inside : Step H A) → laid m head c inside before
     ≡ option_and_then (unwound m w (map f items)) (where_entered is_entered inside behind))
     → where_entered is_entered (lay m w inner) behind ≡ lay m w next behind
@@ -86,22 +87,12 @@ pub short_in : (is_entered : Bool) (from behind at : ℕ) → at ≡ (if is_ente
 short_in true from behind at is = omega (arith, is)
 short_in false from behind at is = omega (arith, is)
 
--- what is known of what stands in a value, its parts being known
-abbrev content : ℕ → ℕ → Table → Content
-content items least table = record { items = items; least = least; table = table }
-
-pub known_as : (w : Measure) (head : Head) (inside : Values) (items least : ℕ) (table : Table) → items ≡ number inside
-    → least ≡ (extent_of w head inside).least → table ≡ table_of w head.info inside
-    → content items least table ≡ content_of w head inside
-known_as w head inside items least table many wide is =
-    ap (λ n. content n least table) many
-    ∙ (ap (λ n. content (number inside) n table) wide
-    ∙ ap (content (number inside) (extent_of w head inside).least) is)
-
 -- what was found of nodes is known of those that they are
 pub known_in : (w : Measure) (head : Head) (c : Content) (found inside : List RenderNode)
-    → c ≡ content_of w head (values_of found) → found ≡ inside → c ≡ content_of w head (values_of inside)
-known_in w head c found inside known same = known ∙ ap (λ l. content_of w head (values_of l)) same
+    → AreAlike head.info c (content_of w head (values_of found)) → found ≡ inside
+    → AreAlike head.info c (content_of w head (values_of inside))
+known_in w head c found inside known same =
+    subst (λ l. AreAlike head.info c (content_of w head (values_of l))) same known
 
 -- ---- how much is left to be done
 

@@ -1,11 +1,13 @@
 -- Nodes from a place up to another.
 use Rattle.std.proofs.Common.{◌≡◌, ℕ, zero, suc, ◌+◌, ◌-◌, ◌<◌, ◌≤◌, List, [], ◌∷◌, arith, refl, sym}
-use Rattle.std.proofs.Common.{ap, subst, ◌∙◌, drop, take, get_or, length}
+use Rattle.std.proofs.Common.{ap, inl, subst, ◌∙◌, drop, take, get_or, length}
 use Rattle.std.proofs.lemmas.List.{length-drop, length-take}
+use Rattle.render_sizes.specs.Asked.{AreMeasured, asked_of}
 use Rattle.render_sizes.specs.Extents.{Measure, extent_of, extents}
+use Rattle.render_sizes.specs.declared.asked.Asked.TheVariants.{Inside, Itself}
 use Rattle.render_sizes.specs.declared.extent.Extent.{Extent}
-use Rattle.render_sizes.proofs.ExtentLemmas.{extents_first, inner_extents, inner_flat, inner_values, length_extents}
-use Rattle.render_sizes.proofs.ExtentLemmas.{next_extents}
+use Rattle.render_sizes.proofs.AskedLemmas.{Found, found, length_measured}
+use Rattle.render_sizes.proofs.ExtentLemmas.{inner_flat, inner_values}
 use Rattle.render_values.specs.Arena.{IsFlat, behind, first, values_of}
 use Rattle.render_values.specs.Values.{none, value}
 use Rattle.render_values.specs.declared.node.RenderNode.{RenderNode}
@@ -116,12 +118,10 @@ fits nodes sizes w at end d before sound =
     length_segment xs from to = length_take (to - from) (drop from xs)
 
 -- what is known of the first node, and of those that stand in it and behind it
-record Split (nodes : List RenderNode) (sizes : List Extent) (w : Measure) (at end : ℕ) (x : RenderNode)
-    (e : Extent) : Type 0 where
+record Split (nodes : List RenderNode) (sizes : List Extent) (w : Measure) (at end : ℕ) (x : RenderNode) : Type 0 where
   nodes_are : segment nodes at end ≡ x ∷ segment nodes (at + 1) end
   flat : IsFlat (x ∷ segment nodes (at + 1) end)
-  size : e ≡ extent_of w x.head (first x.below (values_of (segment nodes (at + 1) end)))
-  sizes_are : segment sizes (at + 1) end ≡ extents w (values_of (segment nodes (at + 1) end))
+  finds : Found w x (segment nodes (at + 1) end) (segment sizes at end)
 
 some_there : {X : Type 0} (xs : List X) (at end n : ℕ) → length (segment xs at end) ≡ suc n → at < length xs
 some_there {X} [] at end n h =
@@ -133,22 +133,24 @@ some_there (x ∷ xs) (suc at) end n h =
     let e : end - suc at ≡ end - 1 - at = omega arith in
     omega (arith, some_there xs at (end - 1) n (ap (λ k. length (take k (drop at xs))) (sym e) ∙ h))
 
-heads : {X : Type 0} (x y : X) (xs ys : List X) → x ∷ xs ≡ y ∷ ys → (x ≡ y) × (xs ≡ ys)
-heads x y xs ys h = (let e : x ≡ y = cc h in e, let e : xs ≡ ys = cc h in e)
-
-split : (nodes : List RenderNode) (sizes : List Extent) (w : Measure) (at end : ℕ) (d : RenderNode) (e : Extent)
-    → at < end → IsSound nodes sizes w at end → Split nodes sizes w at end (get_or nodes at d) (get_or sizes at e)
-split nodes sizes w at end d e before sound =
+split : (nodes : List RenderNode) (sizes : List Extent) (w : Measure) (at end : ℕ) (d : RenderNode) → at < end
+    → IsSound nodes sizes w at end → Split nodes sizes w at end (get_or nodes at d)
+split nodes sizes w at end d before sound =
     let x = get_or nodes at d in
     let xs = segment nodes (at + 1) end in
     let are : segment nodes at end ≡ x ∷ xs = segment_first nodes at end d before (omega (arith, sound.within)) in
     let flat : IsFlat (x ∷ xs) = subst IsFlat are sound.flat in
-    let sized : segment sizes at end
-    ≡ extent_of w x.head (first x.below (values_of xs)) ∷ extents w (values_of xs)
-    = sound.sized ∙ (ap (λ l. extents w (values_of l)) are ∙ extents_first w (x ∷ xs) flat (omega arith)) in
-    let there = some_there sizes at end (length (extents w (values_of xs))) (ap length sized) in
-    let both = heads (get_or sizes at e) _ _ _ (sym (segment_first sizes at end e before there) ∙ sized) in
-    record { nodes_are = are; flat = flat; size = both.0; sizes_are = both.1 }
+    record {
+      nodes_are = are;
+      flat = flat;
+      finds = found w x xs (segment sizes at end) flat
+          (subst (λ l. AreMeasured w (values_of l) (segment sizes at end)) are sound.sized);
+    }
+
+pub sizes_there : (nodes : List RenderNode) (sizes : List Extent) (w : Measure) (at end : ℕ) (d : RenderNode)
+    → at < end → IsSound nodes sizes w at end → at < length sizes
+sizes_there nodes sizes w at end d before sound =
+    some_there sizes at end (length (segment nodes (at + 1) end)) (split nodes sizes w at end d before sound).finds.long
 
 pub values_here : (nodes : List RenderNode) (sizes : List Extent) (w : Measure) (at end : ℕ) (d : RenderNode)
     → at < end → IsSound nodes sizes w at end
@@ -158,7 +160,7 @@ pub values_here : (nodes : List RenderNode) (sizes : List Extent) (w : Measure) 
 values_here nodes sizes w at end d before sound =
     let x = get_or nodes at d in
     let xs = segment nodes (at + 1) end in
-    let s = split nodes sizes w at end d (record { size = 0; least = 0 }) before sound in
+    let s = split nodes sizes w at end d before sound in
     let room = fits nodes sizes w at end d before sound in
     let inner : first x.below (values_of xs) ≡ values_of (segment nodes (at + 1) (at + 1 + x.below))
     = sym (inner_values x xs s.flat) ∙ ap values_of (segment_front nodes (at + 1) x.below end room) in
@@ -168,14 +170,44 @@ values_here nodes sizes w at end d before sound =
     ∙ ap (value x.head (values_of (segment nodes (at + 1) (at + 1 + x.below)))) later)
 
 pub size_here : (nodes : List RenderNode) (sizes : List Extent) (w : Measure) (at end : ℕ) (d : RenderNode)
-    (e : Extent) → at < end → IsSound nodes sizes w at end
+    → at < end → IsSound nodes sizes w at end → asked_of (get_or nodes at d).head.info ≡ Itself → (e : Extent)
     → get_or sizes at e ≡ extent_of w (get_or nodes at d).head
     (values_of (segment nodes (at + 1) (at + 1 + (get_or nodes at d).below)))
-size_here nodes sizes w at end d e before sound =
+size_here nodes sizes w at end d before sound asks e =
     let x = get_or nodes at d in
-    let s = split nodes sizes w at end d e before sound in
-    s.size ∙ ap (extent_of w x.head) (sym (inner_values x (segment nodes (at + 1) end) s.flat)
-    ∙ ap values_of (segment_front nodes (at + 1) x.below end (fits nodes sizes w at end d before sound)))
+    let s = split nodes sizes w at end d before sound in
+    sym (ap (λ l. get_or l 0 e) (segment_first sizes at end e before (sizes_there nodes sizes w at end d before sound)))
+    ∙ (s.finds.own asks e ∙ ap (λ l. extent_of w x.head (values_of l))
+    (segment_front nodes (at + 1) x.below end (fits nodes sizes w at end d before sound)))
+
+-- the columns of the nodes that stand in the first, and of those that follow it
+sizes_in : (sizes : List Extent) (at below end : ℕ) → at + 1 + below ≤ end
+    → take below (drop 1 (segment sizes at end)) ≡ segment sizes (at + 1) (at + 1 + below)
+sizes_in sizes at below end room =
+    ap (take below) (segment_back sizes at 1 end (omega (arith, room)))
+    ∙ segment_front sizes (at + 1) below end room
+
+sizes_behind : (sizes : List Extent) (at below end : ℕ) → at + 1 + below ≤ end
+    → drop below (drop 1 (segment sizes at end)) ≡ segment sizes (at + 1 + below) end
+sizes_behind sizes at below end room =
+    ap (drop below) (segment_back sizes at 1 end (omega (arith, room)))
+    ∙ segment_back sizes (at + 1) below end room
+
+measured_by : (w : Measure) (vs us : List RenderNode) (es fs : List Extent) → vs ≡ us → es ≡ fs
+    → AreMeasured w (values_of vs) es → AreMeasured w (values_of us) fs
+measured_by w vs us es fs a b h =
+    subst (λ l. AreMeasured w (values_of l) fs) a (subst (AreMeasured w (values_of vs)) b h)
+
+pub inside_here : (nodes : List RenderNode) (sizes : List Extent) (w : Measure) (at end : ℕ) (d : RenderNode)
+    → at < end → IsSound nodes sizes w at end → asked_of (get_or nodes at d).head.info ≡ Inside
+    → segment sizes (at + 1) (at + 1 + (get_or nodes at d).below)
+    ≡ extents w (values_of (segment nodes (at + 1) (at + 1 + (get_or nodes at d).below)))
+inside_here nodes sizes w at end d before sound asks =
+    let x = get_or nodes at d in
+    let s = split nodes sizes w at end d before sound in
+    let room = fits nodes sizes w at end d before sound in
+    sym (sizes_in sizes at x.below end room)
+    ∙ (s.finds.inside asks ∙ ap (λ l. extents w (values_of l)) (segment_front nodes (at + 1) x.below end room))
 
 pub inner_sound : (nodes : List RenderNode) (sizes : List Extent) (w : Measure) (at end : ℕ) (d : RenderNode)
     → at < end → IsSound nodes sizes w at end
@@ -183,15 +215,13 @@ pub inner_sound : (nodes : List RenderNode) (sizes : List Extent) (w : Measure) 
 inner_sound nodes sizes w at end d before sound =
     let x = get_or nodes at d in
     let xs = segment nodes (at + 1) end in
-    let s = split nodes sizes w at end d (record { size = 0; least = 0 }) before sound in
+    let s = split nodes sizes w at end d before sound in
     let room = fits nodes sizes w at end d before sound in
     let cut = segment_front nodes (at + 1) x.below end room in
     record {
       within = omega (arith, room, sound.within);
       flat = subst IsFlat cut (inner_flat x xs s.flat);
-      sized = sym (segment_front sizes (at + 1) x.below end room)
-          ∙ (inner_extents w x xs (segment sizes (at + 1) end) s.flat s.sizes_are
-          ∙ ap (λ l. extents w (values_of l)) cut);
+      sized = measured_by w _ _ _ _ cut (sizes_in sizes at x.below end room) s.finds.inner;
     }
 
 pub rest_sound : (nodes : List RenderNode) (sizes : List Extent) (w : Measure) (at end : ℕ) (d : RenderNode)
@@ -200,15 +230,13 @@ pub rest_sound : (nodes : List RenderNode) (sizes : List Extent) (w : Measure) (
 rest_sound nodes sizes w at end d before sound =
     let x = get_or nodes at d in
     let xs = segment nodes (at + 1) end in
-    let s = split nodes sizes w at end d (record { size = 0; least = 0 }) before sound in
+    let s = split nodes sizes w at end d before sound in
     let room = fits nodes sizes w at end d before sound in
     let cut = segment_back nodes (at + 1) x.below end room in
     record {
       within = sound.within;
       flat = subst IsFlat cut (next_flat x xs s.flat);
-      sized = sym (segment_back sizes (at + 1) x.below end room)
-          ∙ (next_extents w x xs (segment sizes (at + 1) end) s.flat s.sizes_are
-          ∙ ap (λ l. extents w (values_of l)) cut);
+      sized = measured_by w _ _ _ _ cut (sizes_behind sizes at x.below end room) s.finds.rest;
     }
 
 -- all of it, of the node that was found there
@@ -223,18 +251,10 @@ pub record FirstNode (nodes : List RenderNode) (sizes : List Extent) (w : Measur
   pub are : values_of (segment nodes at end)
       ≡ value x.head (values_of (segment nodes (at + 1) (at + 1 + x.below)))
       (values_of (segment nodes (at + 1 + x.below) end))
-  pub size : (e : Extent) → get_or sizes at e
+  pub inside : asked_of x.head.info ≡ Inside → segment sizes (at + 1) (at + 1 + x.below)
+      ≡ extents w (values_of (segment nodes (at + 1) (at + 1 + x.below)))
+  pub size : asked_of x.head.info ≡ Itself → (e : Extent) → get_or sizes at e
       ≡ extent_of w x.head (values_of (segment nodes (at + 1) (at + 1 + x.below)))
-
-sizes_there : (nodes : List RenderNode) (sizes : List Extent) (w : Measure) (at end : ℕ) (d : RenderNode)
-    → at < end → IsSound nodes sizes w at end → at < length sizes
-sizes_there nodes sizes w at end d before sound =
-    let x = get_or nodes at d in
-    let xs = segment nodes (at + 1) end in
-    let are : segment nodes at end ≡ x ∷ xs = segment_first nodes at end d before (omega (arith, sound.within)) in
-    let flat : IsFlat (x ∷ xs) = subst IsFlat are sound.flat in
-    some_there sizes at end (length (extents w (values_of xs)))
-    (ap length (sound.sized ∙ (ap (λ l. extents w (values_of l)) are ∙ extents_first w (x ∷ xs) flat (omega arith))))
 
 long_segment : {X : Type 0} (xs : List X) (from to : ℕ) → to ≤ length xs → length (segment xs from to) ≡ to - from
 long_segment xs from to h = omega (arith, length-take (to - from) (drop from xs), length-drop from xs, h)
@@ -248,9 +268,9 @@ ends_there xs from to h long = omega (arith, length-take (to - from) (drop from 
 pub inner_there : (nodes : List RenderNode) (sizes : List Extent) (w : Measure) (from to : ℕ) → from ≤ length sizes
     → IsSound nodes sizes w from to → to ≤ length sizes
 inner_there nodes sizes w from to h sound = ends_there sizes from to h
-    (ap length sound.sized ∙ (length_extents w (values_of (segment nodes from to))
+    (length_measured w (values_of (segment nodes from to)) (segment sizes from to) sound.sized
     ∙ (sym (length_flat (values_of (segment nodes from to))) ∙ (ap length sound.flat
-    ∙ long_segment nodes from to sound.within))))
+    ∙ long_segment nodes from to sound.within)))
 
 pub first_node : (nodes : List RenderNode) (sizes : List Extent) (w : Measure) (at end : ℕ) (n : RenderNode)
     → n ≡ get_or nodes at n → at < end → IsSound nodes sizes w at end → FirstNode nodes sizes w at end n
@@ -264,7 +284,8 @@ first_node nodes sizes w at end n is before sound = subst (FirstNode nodes sizes
   inner = inner_sound nodes sizes w at end n before sound;
   rest = rest_sound nodes sizes w at end n before sound;
   are = values_here nodes sizes w at end n before sound;
-  size = λ e. size_here nodes sizes w at end n e before sound;
+  inside = inside_here nodes sizes w at end n before sound;
+  size = size_here nodes sizes w at end n before sound;
 })
 
 pub nothing_here : (nodes : List RenderNode) (at end : ℕ) → end ≤ at → values_of (segment nodes at end) ≡ none
@@ -275,22 +296,22 @@ pub none_sound : (nodes : List RenderNode) (sizes : List Extent) (w : Measure) (
 none_sound nodes sizes w at end past within = record {
   within = within;
   flat = subst IsFlat (sym (segment_none nodes at end past)) refl;
-  sized = segment_none sizes at end past ∙ ap (λ l. extents w (values_of l)) (sym (segment_none nodes at end past));
+  sized = inl (segment_none sizes at end past
+      ∙ ap (λ l. extents w (values_of l)) (sym (segment_none nodes at end past)));
 }
 
 pub all_here : (nodes : List RenderNode) → values_of (segment nodes 0 (length nodes)) ≡ values_of nodes
 all_here nodes = ap values_of (segment_all nodes)
 
 pub all_sound : (nodes : List RenderNode) (sizes : List Extent) (w : Measure) → IsFlat nodes
-    → sizes ≡ extents w (values_of nodes) → IsSound nodes sizes w 0 (length nodes)
+    → AreMeasured w (values_of nodes) sizes → IsSound nodes sizes w 0 (length nodes)
 all_sound nodes sizes w flat sized = record {
   within = omega arith;
   flat = subst IsFlat (sym (segment_all nodes)) flat;
-  sized = ap (λ n. segment sizes 0 n) (sym (long nodes sizes w flat sized))
-      ∙ (segment_all sizes ∙ (sized ∙ ap (λ l. extents w (values_of l)) (sym (segment_all nodes))));
+  sized = measured_by w nodes (segment nodes 0 (length nodes)) sizes (segment sizes 0 (length nodes))
+      (sym (segment_all nodes))
+      (sym (segment_all sizes) ∙ ap (λ n. segment sizes 0 n) long) sized;
 }
   where
-    long : (ns : List RenderNode) (es : List Extent) (m : Measure) → IsFlat ns → es ≡ extents m (values_of ns)
-        → length es ≡ length ns
-    long ns es m flat sized = ap length sized ∙ (length_extents m (values_of ns)
-        ∙ (sym (length_flat (values_of ns)) ∙ ap length flat))
+    long : length sizes ≡ length nodes
+    long = length_measured w (values_of nodes) sizes sized ∙ (sym (length_flat (values_of nodes)) ∙ ap length flat)

@@ -6,18 +6,77 @@ use Rattle.renderer_calls.specs.Renderers.{Marking}
 use Rattle.render_sizes.specs.Extents.{Measure}
 use Rattle.render_values.specs.Values.{Values, none, value}
 use Rattle.render_values.specs.declared.info.Head.{Head}
+use Rattle.render_values.specs.declared.info.RenderInfo.{RenderInfo}
+use Rattle.render_values.specs.declared.info.RenderInfo.TheVariants as infos
 use Rattle.render_laying.specs.Parts.{Parts}
-use Rattle.value_openings.specs.Lay.{Content, content_of, laid, laid_parts, lay, on_page}
-use Rattle.render_laying.specs.Laying.{Laying, Step}
+use Rattle.value_openings.specs.Lay.{Content, behind_mark, content_of, holds, laid, laid_at, laid_parts, lay, listed}
+use Rattle.value_openings.specs.Lay.{on_page, placed, styled}
+use Rattle.value_openings.specs.Seen.{AreAlike}
+use Rattle.table_laying.specs.Tables.{table_laid}
+use Rattle.text_marks.specs.Marks.{header, quote}
+use Rattle.render_laying.specs.Begins.{begins, ends, following, leading}
+use Rattle.render_laying.specs.Items.{spaces}
+use Rattle.render_laying.specs.declared.around.ItemMark.TheVariants.{Bullet, Number}
+use Rattle.render_laying.specs.Laying.{Laying, Step, TablePlace, behind_prefix, cells, in_turn, outside, rows}
 use Rattle.value_openings.specs.Waiting.{Waiting, undone, unwound}
 use Rattle.render_laying.proofs.StepLemmas.{then_same, then_some}
 use Rattle.value_openings.proofs.StepLemmas.{all_wait, unwound_on}
+
+-- ---- what a layout looks at of what stands in a value
+
+holds_alike : {H A : Type 0} (m : Marking H A) (info : RenderInfo) (c d : Content) (inside : Step H A)
+    → AreAlike info c d → holds m info c inside ≡ holds m info d inside
+unfolding holds
+holds_alike m (infos.Heading level) c d inside h = ap (λ n. behind_mark m (header level) n inside) h
+holds_alike m infos.Quote c d inside h = ap (λ n. behind_mark m quote n inside) h
+holds_alike m infos.Details c d inside h = ap (λ n. behind_prefix m 2 (spaces 2) (spaces 2) n inside) h
+holds_alike m infos.Bullets c d inside h =
+    ap (λ n. listed m Bullet n c.least inside) h.0 ∙ ap (λ n. listed m Bullet d.items n inside) h.1
+holds_alike m (infos.Numbers first) c d inside h =
+    ap (λ n. listed m (Number first) n c.least inside) h.0 ∙ ap (λ n. listed m (Number first) d.items n inside) h.1
+holds_alike m infos.Table c d inside h = ap (λ t. table_laid m t inside) h
+holds_alike m infos.Nothing c d inside h = refl
+holds_alike m (infos.Text cs) c d inside h = refl
+holds_alike m (infos.Image source title) c d inside h = refl
+holds_alike m infos.Break c d inside h = refl
+holds_alike m infos.Container c d inside h = refl
+holds_alike m (infos.Link target) c d inside h = refl
+holds_alike m infos.Emphasis c d inside h = refl
+holds_alike m infos.Strong c d inside h = refl
+holds_alike m infos.Strikeout c d inside h = refl
+holds_alike m infos.Code c d inside h = refl
+holds_alike m infos.Superscript c d inside h = refl
+holds_alike m infos.Block c d inside h = refl
+holds_alike m infos.Division c d inside h = refl
+holds_alike m infos.Preformatted c d inside h = refl
+holds_alike m infos.Descriptions c d inside h = refl
+holds_alike m infos.Term c d inside h = refl
+holds_alike m infos.TableGroup c d inside h = refl
+holds_alike m infos.TableRow c d inside h = refl
+holds_alike m (infos.TableCell columns taken) c d inside h = refl
+
+laid_alike_at : {H A : Type 0} (m : Marking H A) (head : Head) (c d : Content) (place : TablePlace H A)
+    (inside : Step H A) (l : Laying H A) → AreAlike head.info c d
+    → laid_at m head c place inside l ≡ laid_at m head d place inside l
+laid_alike_at m head c d (outside in_cell) inside l h =
+    ap (λ held. placed m l.around (styled m head.style (in_turn (leading m head) (in_turn (begins m head.info)
+    (in_turn held (ends m head.info))))) l)
+    (holds_alike m head.info c d (in_turn (following m head) inside) h)
+laid_alike_at m head c d (rows widths slots fragments) inside l h = refl
+laid_alike_at m head c d (cells widths more fragments slots made) inside l h = refl
+
+pub laid_alike : {H A : Type 0} (m : Marking H A) (head : Head) (c d : Content) (inside : Step H A) (l : Laying H A)
+    → AreAlike head.info c d → laid m head c inside l ≡ laid m head d inside l
+laid_alike m head c d inside l h = laid_alike_at m head c d l.table inside l h
+
+-- ---- values in turn
 
 -- a value begins: what comes of what stands in it is next, and what stands behind it waits
 pub enters : {H A : Type 0} (m : Marking H A) (w : Measure) (before behind pushed : List (Waiting H A))
     (head : Head) (inner later vs : Values) (c : Content) (old : Laying H A) (o : Option (Laying H A))
     → ((l : Laying H A) → unwound m w behind l ≡ lay m w later l) → vs ≡ value head inner later
-    → c ≡ content_of w head inner → laid m head c (lay m w inner) old ≡ option_and_then (unwound m w pushed) o
+    → AreAlike head.info c (content_of w head inner)
+    → laid m head c (lay m w inner) old ≡ option_and_then (unwound m w pushed) o
     → option_and_then (unwound m w (before ++ (behind ++ pushed))) o
     ≡ option_and_then (unwound m w before) (lay m w vs old)
 enters m w before behind pushed head inner later vs c old o waits is known opens =
@@ -25,17 +84,17 @@ enters m w before behind pushed head inner later vs c old o waits is known opens
     ∙ ap (option_and_then (unwound m w before))
     (sym (all_wait m w behind pushed o)
     ∙ (then_same (unwound m w behind) (lay m w later) (option_and_then (unwound m w pushed) o) waits
-    ∙ (ap (option_and_then (lay m w later)) (sym opens ∙ ap (λ x. laid m head x (lay m w inner) old) known)
+    ∙ (ap (option_and_then (lay m w later)) (sym opens ∙ laid_alike m head c (content_of w head inner) (lay m w inner) old known)
     ∙ ap (λ v. lay m w v old) (sym is))))
 
 pub never_enters : {H A : Type 0} (m : Marking H A) (w : Measure) (before : List (Waiting H A)) (head : Head)
     (inner later vs : Values) (c : Content) (old : Laying H A) → vs ≡ value head inner later
-    → c ≡ content_of w head inner → ((inside : Step H A) → laid m head c inside old ≡ None)
+    → AreAlike head.info c (content_of w head inner) → ((inside : Step H A) → laid m head c inside old ≡ None)
     → option_and_then (unwound m w before) (lay m w vs old) ≡ None
 never_enters m w before head inner later vs c old is known never =
     ap (λ v. option_and_then (unwound m w before) (lay m w v old)) is
     ∙ ap (λ o. option_and_then (unwound m w before) (option_and_then (lay m w later) o))
-    (ap (λ x. laid m head x (lay m w inner) old) (sym known) ∙ never (lay m w inner))
+    (sym (laid_alike m head c (content_of w head inner) (lay m w inner) old known) ∙ never (lay m w inner))
 
 -- what waited last is next
 pub leaves : {H A : Type 0} (m : Marking H A) (w : Measure) (items kept : List (Waiting H A)) (x : Waiting H A)

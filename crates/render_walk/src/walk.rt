@@ -5,6 +5,8 @@ ghost use Rattle.block_renderer.specs.Seen.{has_failed};
 ghost use Rattle.value_openings.specs.Seen.{weight};
 ghost use Rattle.value_openings.specs.Waiting.{segment};
 ghost use Rattle.text_pieces.specs.declared.fault.BlockError.TheVariants as errors;
+ghost use Rattle.render_sizes.specs.Asked.{AreMeasured, asked_of};
+ghost use Rattle.render_sizes.specs.declared.asked.Asked.TheVariants as asks;
 ghost use Rattle.render_sizes.specs.Extents.{Measure, extent_of, extents};
 ghost use Rattle.render_sizes.specs.declared.extent.Extent.{Extent as SeenExtent};
 ghost use Rattle.render_values.specs.Arena.{IsFlat, values_of};
@@ -17,11 +19,10 @@ ghost use Rattle.render_laying.specs.Begins.{ends};
 ghost use Rattle.render_laying.specs.Laying.{goes_on, in_turn, part_ended};
 ghost use Rattle.render_laying.specs.Seen.{Comes, Fails, IsWorking, laying_of};
 ghost use Rattle.value_openings.specs.Seen.{GoesOn, IsReady, IsSound, NeverGoes};
-ghost use Rattle.value_openings.specs.Seen.{content_seen, load, rest_of, waiting_of};
+ghost use Rattle.value_openings.specs.Seen.{AreAlike, content_seen, load, rest_of, waiting_of};
 ghost use Rattle.value_openings.specs.Waiting.{info_at, undone};
 ghost use Rattle.column_shares.specs.Shares.{AreSized};
-ghost use Rattle.value_openings.specs.Lay.{content_of, table_of};
-ghost use Rattle.table_rows.specs.Tables.{table_seen};
+ghost use Rattle.value_openings.specs.Lay.{content_of};
 
 use render_laying::{Around, Laying, TablePlace, TextRenderer};
 use render_sizes::{Extent, number, table_among};
@@ -59,26 +60,8 @@ fn extents_between(sizes: &[Extent], from: usize, to: usize) -> &[Extent]
     &sizes[from..to]
 }
 
-// the table that values are where they stand in one
-fn table_of(
-    alloc: Global,
-    info: &RenderInfo,
-    inside: &[RenderNode],
-    sizes: &[Extent],
-) -> Result<Table, AllocError>
-    ghost w: { Measure }
-    requires flat { IsFlat inside.now }
-    requires sized { sizes.now ≡ extents w (values_of inside.now) }
-    ensures table { IfOk result (λ t. table_seen t ≡ table_of w info.now (values_of inside.now)) }
-    ensures sized { IfOk result (λ t. AreSized t.columns.items) }
-{
-    match info {
-        RenderInfo::Table => table_among(alloc, inside, sizes),
-        _ => Ok(Table::empty(alloc)),
-    }
-}
-
-// what is to be known of what stands in a value that asks for so many columns
+// What a layout looks at of what stands in a value that asks for so many columns: a table's cells, how many items a list
+// has.
 fn content_of(
     alloc: Global,
     head: &Head,
@@ -88,13 +71,21 @@ fn content_of(
 ) -> Result<Content, AllocError>
     ghost w: { Measure }
     requires flat { IsFlat inside.now }
-    requires sized { sizes.now ≡ extents w (values_of inside.now) }
-    requires least { least ≡ (extent_of w head.now (values_of inside.now)).least }
-    ensures seen { IfOk result (λ c. content_seen c ≡ content_of w head.now (values_of inside.now)) }
+    requires sized { asked_of head.now.info ≡ asks.Inside → sizes.now ≡ extents w (values_of inside.now) }
+    requires least { asked_of head.now.info ≡ asks.Itself
+        → least ≡ (extent_of w head.now (values_of inside.now)).least }
+    ensures alike { IfOk result (λ c. AreAlike head.now.info (content_seen c)
+        (content_of w head.now (values_of inside.now))) }
     ensures sized { IfOk result (λ c. AreSized c.table.columns.items) }
 {
-    let items = number(inside);
-    let table = table_of(alloc, &head.info, inside, sizes)?;
+    let items = match &head.info {
+        RenderInfo::Bullets | RenderInfo::Numbers(_) => number(inside),
+        _ => 0,
+    };
+    let table = match &head.info {
+        RenderInfo::Table => table_among(alloc, inside, sizes)?,
+        _ => Table::empty(alloc),
+    };
     Ok(Content {
         items,
         least,
@@ -301,7 +292,7 @@ fn enter<D: TextDecorator + Drop>(
     })
 }
 
-// lays out the values of nodes, of each of which it is told how many columns it asks for
+// lays out the values of nodes with the columns that they take, or that are asked for
 fn walk<D: TextDecorator + Drop>(
     laying: &mut Laying<D>,
     alloc: Global,
@@ -311,7 +302,7 @@ fn walk<D: TextDecorator + Drop>(
     ghost w: { Measure }
     requires works { IsWorking D.Annotation.seen D.held laying.old }
     requires flat { IsFlat nodes.now }
-    requires sized { sizes.now ≡ extents w (values_of nodes.now) }
+    requires sized { AreMeasured w (values_of nodes.now) sizes.now }
     ensures done { OnOk result (Comes D.Annotation.seen D.held D.text D.gives D.marks D.after D.pops D.sub
         (λ m. lay m w (values_of nodes.now)) laying.old laying.new) }
     ensures works { OnOk result (IsWorking D.Annotation.seen D.held laying.new) }
@@ -338,9 +329,9 @@ fn walk<D: TextDecorator + Drop>(
     }
 }
 
-/// Lays out a render tree in the renderers of a page; `sizes` tells of each node how many columns its value asks for,
-/// as `w` measures them. No part may stand on the page. The error is `TooNarrow` where a part of the page lacks the
-/// columns that it asks for, or a character is wider than its line and may not stand alone, else `Memory`.
+/// Lays out a render tree in the renderers of a page; `sizes` are the columns of each node's value as `w` measures them,
+/// or those that a layout asks for. No part may stand on the page. The error is `TooNarrow` where a part of the page
+/// lacks the columns that it asks for, or a character is wider than its line and may not stand alone, else `Memory`.
 pub fn lay_tree<D: TextDecorator + Drop>(
     alloc: Global,
     tree: &RenderTree,
@@ -350,7 +341,7 @@ pub fn lay_tree<D: TextDecorator + Drop>(
     ghost w: { Measure }
     requires works { (page_has_failed text ≡ false) × (current_has_failed text ≡ false) }
     requires whole { depth_of (parts_of D.Annotation.seen D.held text) ≡ 1 }
-    requires sized { sizes.now ≡ extents w tree.now }
+    requires sized { AreMeasured w tree.now sizes.now }
     ensures laid { IfOk result (λ behind. PartsCome D.Annotation.seen D.held D.text D.gives D.marks D.after D.pops D.sub
         (λ m p. laid_parts m w tree.now p) text behind) }
     ensures works { IfOk result (λ behind. (page_has_failed behind ≡ false) × (current_has_failed behind ≡ false)) }

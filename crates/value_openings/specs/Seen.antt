@@ -6,11 +6,14 @@ use Rattle.std.specs.Option.{option_and_then}
 use Rattle.text_marks.specs.Marks.{Mark}
 use Rattle.block_renderer.specs.Seen.{IsTagging, has_failed, marking, sub_of}
 use Rattle.renderer_calls.specs.Renderers.{Marking}
-use Rattle.render_sizes.specs.Extents.{Measure, extents}
+use Rattle.render_sizes.specs.Asked.{AreMeasured}
+use Rattle.render_sizes.specs.Extents.{Measure}
 use Rattle.render_sizes.specs.declared.extent.Extent.{Extent}
 use Rattle.render_values.specs.Arena.{IsFlat, values_of}
 use Rattle.render_values.specs.declared.node.RenderNode.{RenderNode}
 use Rattle.render_values.specs.declared.info.Head.{Head}
+use Rattle.render_values.specs.declared.info.RenderInfo.{RenderInfo}
+use Rattle.render_values.specs.declared.info.RenderInfo.TheVariants as infos
 use Rattle.value_openings.specs.Lay.{Content, laid, laid_outside, lay}
 use Rattle.value_openings.specs.declared.content.Content.{Content as CodeContent}
 use Rattle.render_laying.specs.Laying.{Laying, Step}
@@ -73,11 +76,11 @@ abbrev pub maybe : {X : Type 0} → Option X → List X
 maybe None = []
 maybe (Some x) = x ∷ []
 
--- nodes in a row, each with the columns that it asks for
+-- nodes in a row, with the columns that their values take, or that a layout asks for
 pub record IsSound (nodes : List RenderNode) (sizes : List Extent) (w : Measure) (from to : ℕ) : Type 0 where
   pub within : to ≤ length nodes
   pub flat : IsFlat (segment nodes from to)
-  pub sized : segment sizes from to ≡ extents w (values_of (segment nodes from to))
+  pub sized : AreMeasured w (values_of (segment nodes from to)) (segment sizes from to)
 
 -- What waits may be done: no call of a renderer outside was refused, and nodes stand in a row.
 abbrev pub IsReady : {D T : Type 0} → List RenderNode → List Extent → Measure → CodeWaiting D T → Type 0
@@ -154,6 +157,16 @@ pub record IsOpened {D T H A : Type 0} (seen : T → A) (held : D → H) (text :
 -- what is to be known of what stands in a value
 abbrev pub content_seen : CodeContent → Content
 content_seen c = record { items = c.items; least = c.least; table = table_seen c.table }
+
+-- both are the same as far as a value's layout looks at them
+abbrev pub AreAlike : RenderInfo → Content → Content → Type 0
+AreAlike (infos.Heading level) c d = c.least ≡ d.least
+AreAlike infos.Quote c d = c.least ≡ d.least
+AreAlike infos.Details c d = c.least ≡ d.least
+AreAlike infos.Bullets c d = (c.items ≡ d.items) × (c.least ≡ d.least)
+AreAlike (infos.Numbers first) c d = (c.items ≡ d.items) × (c.least ≡ d.least)
+AreAlike infos.Table c d = c.table ≡ d.table
+AreAlike _ c d = Unit {0}
 
 -- Outside of tables a value is laid out as it is, and nothing was done yet.
 abbrev pub StandsOutside : {D T H A : Type 0} → (T → A) → (D → H) → Head → (old new : CodeLaying D T)

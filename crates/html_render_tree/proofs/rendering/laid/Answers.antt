@@ -1,7 +1,8 @@
-use Rattle.std.proofs.Common.{◌≡◌, [], Err, ap, sym, ◌∙◌}
+use Rattle.std.proofs.Common.{◌≡◌, [], Err, ap, inr, sym, ◌∙◌}
 use Rattle.block_renderer.specs.Seen.{marking}
 use Rattle.render_conversion.specs.declared.error.RenderError.TheVariants.{TooNarrow}
-use Rattle.render_sizes.specs.Extents.{extents, measure_of}
+use Rattle.render_sizes.specs.Asked.{asked_extents}
+use Rattle.render_sizes.specs.Extents.{measure_of}
 use Rattle.walk_laws.specs.Lay.{laid_parts}
 use Rattle.renderer_calls.specs.Renderers.{new_sub}
 use Rattle.walk_laws.specs.Parts.{depth_of, whole_page}
@@ -17,11 +18,11 @@ lay_tree-requires g c = λ lives k. (
       (c.new.ensures.works, c.new.ensures.current ∙ c.begun-sub.ensures.works),
       (
         ap depth_of c.new.ensures.parts,
-        c.as_slice.ensures.value
+        inr (c.as_slice.ensures.value
             ∙ (c.in_ok-sizes.ensures
-            ∙ (ap (λ d. extents (measure_of c.args.min_wrap_width (prefix_columns (g.D.TextDecorator.text
+            ∙ (ap (λ d. asked_extents (measure_of c.args.min_wrap_width (prefix_columns (g.D.TextDecorator.text
             (g.D.TextDecorator.held d)))) c.args.tree.now) c.new-prefixes.ensures
-            ∙ ap (λ v. extents v c.args.tree.now) (sym c.requires.1.1))),
+            ∙ ap (λ v. asked_extents v c.args.tree.now) (sym c.requires.1.1)))),
       ),
     ),
   ),

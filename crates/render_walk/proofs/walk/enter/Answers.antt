@@ -41,9 +41,9 @@ content_of-requires g c =
     c.index-nodes-place.is c.requires.1.1.1.0 c.requires.1.1.1.1) in (
       subst IsFlat (sym c.nodes_between-inside.ensures) n.inner.flat,
       (
-        c.extents_between-inner.ensures ∙ (n.inner.sized
+        λ asks. c.extents_between-inner.ensures ∙ (n.inside asks
             ∙ ap (λ (l : List RenderNode). extents g.w (values_of l)) (sym c.nodes_between-inside.ensures)),
-        ap (λ (e : Extent). e.least) (n.size (record { size = 0; least = 0 }))
+        λ asks. ap (λ (e : Extent). e.least) (n.size asks (record { size = 0; least = 0 }))
             ∙ ap (λ (l : List RenderNode). (extent_of g.w c.index-nodes-place.result.head (values_of l)).least)
             (sym c.nodes_between-inside.ensures),
       ),
@@ -67,7 +67,7 @@ returns-in_err-entered-clause-narrow g c = λ e. λ tag p.
     (first_node c.args.nodes.now c.args.sizes.now g.w c.args.place.at c.args.place.end c.index-nodes-place.result
     c.index-nodes-place.is c.requires.1.1.1.0 c.requires.1.1.1.1).are
     (known_in g.w c.index-nodes-place.result.head (content_seen c.in_ok-content.content) _ _
-    c.in_ok-content.ensures.seen c.nodes_between-inside.ensures)
+    c.in_ok-content.ensures.alike c.nodes_between-inside.ensures)
     (c.in_err-entered.ensures.narrow (ap Err same) tag p)
 
 pub returns-clause-goes : goal.returns-clause-goes
@@ -90,7 +90,7 @@ returns-clause-goes g c = λ tag p.
     g.D.TextDecorator.pops g.D.TextDecorator.sub) g.w (c.args.place.at + 1 + c.index-nodes-place.result.below)
     c.args.place.end) n.are
     (known_in g.w c.index-nodes-place.result.head (content_seen c.in_ok-content.content) _ _
-    c.in_ok-content.ensures.seen c.nodes_between-inside.ensures)
+    c.in_ok-content.ensures.alike c.nodes_between-inside.ensures)
     (o.opens tag p g.w)
     (goes_in (marking g.D.TextDecorator.text tag g.D.TextDecorator.marks g.D.TextDecorator.after g.D.TextDecorator.pops
     g.D.TextDecorator.sub) g.w c.args.nodes.now c.in_ok-entered.entered _ _ _ (laying_of g.D.Annotation.EqualCopy.seen

@@ -1,8 +1,8 @@
-use Rattle.std.proofs.Common.{◌≡◌, Err, ap, sym, ◌∙◌}
+use Rattle.std.proofs.Common.{◌≡◌, Err, ap, subst, sym, ◌∙◌}
 use Rattle.std.proofs.lemmas.Result.{err_from_is_err_and}
 use Rattle.text_pieces.specs.declared.fault.BlockError.TheVariants.{TooNarrow}
 use Rattle.block_renderer.specs.Seen.{marking}
-use Rattle.render_sizes.specs.Extents.{extents}
+use Rattle.render_sizes.specs.Asked.{AreMeasured}
 use Rattle.render_values.proofs.ArenaLemmas.{flat_by}
 use Rattle.render_values.specs.Arena.{values_of}
 use Rattle.render_values.specs.Reading.{read_back}
@@ -25,7 +25,8 @@ walk-requires g c = λ lives k. (
       ),
       (
         flat_by c.nodes.result.now c.args.tree.now c.nodes.ensures,
-        c.requires.1.1.1.1 ∙ ap (extents g.w) (sym (ap values_of c.nodes.ensures ∙ read_back c.args.tree.now)),
+        subst (λ v. AreMeasured g.w v c.args.sizes.now)
+            (sym (ap values_of c.nodes.ensures ∙ read_back c.args.tree.now)) c.requires.1.1.1.1,
       ),
     ),
   ),
