@@ -170,6 +170,11 @@ fn behind_prefix<T: EqualCopy + Drop>(
     ensures joined { IfOk result (IsJoined T.seen) }
 {
     let mut line = line;
+    // The common case copies the prefix alone.
+    if line.is_joined() {
+        line.push_front(prefix, tag)?;
+        return Ok(line);
+    }
     let mut prefixed = TaggedLine::new(alloc);
     prefixed.push_str(prefix, tag)?;
     prefixed.append(&mut line)?;
