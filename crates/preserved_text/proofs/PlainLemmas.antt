@@ -1,20 +1,27 @@
 -- A source line of printable ASCII that fits on a line is that line.
 use Rattle.std.proofs.Common.{◌≡◌, ℕ, ◌≤◌, inl, inr, Bool, true, false, List, [], ◌∷◌, ◌++◌, refl, sym, ap, ◌∙◌, arith}
-use Rattle.std.proofs.Common.{subst, chars, get_or, ◌<◌}
-use Rattle.std.specs.Prelude.{◌⊎◌, ◌||◌, nat_lt, All, flat_map}
+use Rattle.std.proofs.Common.{subst, chars, get_or, ◌<◌, length, take, string_bytes}
+use Rattle.std.specs.Prelude.{◌⊎◌, ◌||◌, nat_lt, All, flat_map, Option, None, Some, IsSome, option_to_list}
+use Rattle.std.specs.String.Boundary.{IsSplitPoint}
+use Rattle.std.proofs.lemmas.List.{append-nil}
 use Rattle.std.proofs.lemmas.List.Elements.{All-from_get_or, All-get_or, All-head, All-tail}
 use Rattle.std.proofs.lemmas.List.Sums.{sum_by-cons}
 use Rattle.std.proofs.lemmas.Str.{chars-IsAscii}
 use Rattle.std.proofs.lemmas.Str.Ascii.{IsAscii-from_all}
 use Rattle.tagged_lines.specs.Columns.{text_columns, width_of}
 use Rattle.tagged_lines.specs.Tagged.{character, marker, tagged}
-use Rattle.text_pieces.specs.Sources.{Source, letter, fragment, sourced, is_filled, names_of}
+use Rattle.text_pieces.specs.Sources.{Source, letter, fragment, sourced, is_filled, names_of, sources_of}
+use Rattle.text_pieces.specs.Sources.{text_sources, wrap_seen}
+use Rattle.text_pieces.specs.declared.piece.Piece.{Piece}
+use Rattle.text_pieces.specs.declared.piece.Piece.TheVariants.{Text, Fragment}
+use Rattle.text_pieces.specs.declared.piece.TextPiece.{TextPiece}
 use Rattle.text_pieces.specs.Items.{markers_of}
 use Rattle.preserved_text.specs.Preserved.{kind_of, solid, trimmed, Part, blank, stop, body, parts, has_wide_letter}
 use Rattle.preserved_text.specs.Preserved.{has_wide_body, preserved_lines, preserved_waiting, is_too_wide}
 use Rattle.preserved_text.specs.Fronts.{BeginsSolid}
 use Rattle.preserved_text.specs.LawWords.{ArePlain, source_columns, as_it_stands, one_line}
-use Rattle.preserved_text.specs.PlainLines.{IsOnlyLine, IsPrintable, IsPlainFront}
+use Rattle.preserved_text.specs.PlainLines.{IsOnlyLine, IsPrintable, IsPlainFront, IsPlainCut, MakesLine, lead_items}
+use Rattle.preserved_text.specs.Trimming.{IsFrontOf}
 use Rattle.preserved_text.proofs.CharacterLemmas.{visible_is_solid}
 use Rattle.preserved_text.proofs.ColumnLemmas.{lt_is_false}
 use Rattle.preserved_text.proofs.FrontLemmas.{width_of-two}
@@ -136,3 +143,94 @@ only_marked {S = S} width wraps name text front main further p begins fits =
     ∙ lines_keep_markers width wraps (fragment name ∷ source)
     ∙ ap (λ ns. name ∷ ns) (no_names text main further) in
     record { lines = lines; waiting = cc all; fits = never_wide width wraps (fragment name ∷ source) p.wide }
+
+-- ---- the line that is taken
+
+pub plain_cut : (width : ℕ) (wraps : Bool) (text front : List ℕ) (bytes columns : ℕ)
+    → IsPlainFront width wraps (chars text) (chars front) → IsFrontOf text front → bytes ≡ length front
+    → columns ≡ text_columns (chars front) → columns ≤ width → IsPlainCut width wraps text bytes columns
+plain_cut width wraps text front bytes columns plain f size counted fits =
+    let is : front ≡ take bytes text = sym (ap (λ n. take n text) size ∙ f.is) in
+    record {
+      front = subst (λ l. IsPlainFront width wraps (chars text) (chars l)) is plain;
+      edge = subst (IsSplitPoint text) (sym size) f.edge;
+      counted = counted ∙ ap (λ l. text_columns (chars l)) is;
+      fits = fits;
+    }
+
+pub begins_cut : (width : ℕ) (wraps : Bool) (text front : List ℕ) (bytes : ℕ) → IsFrontOf text front
+    → bytes ≡ length front → BeginsSolid width wraps (chars front)
+    → BeginsSolid width wraps (chars (take bytes text))
+begins_cut width wraps text front bytes f size begins =
+    subst (λ l. BeginsSolid width wraps (chars l)) (sym (ap (λ n. take n text) size ∙ f.is)) begins
+
+-- what is taken off the pieces behind their text
+pub record IsTaken {T S : Type 0} (seen : T → S) (width : ℕ) (wraps : Bool) (pieces rest : List (Piece T))
+    (piece : TextPiece T) (lead : Option (Piece T)) (bytes columns : ℕ) : Type 0 where
+  pub cut : IsPlainCut width wraps (string_bytes piece.text) bytes columns
+  pub line : IsOnlyLine width wraps (sources_of seen pieces)
+      (lead_items lead ++ tagged (chars (take bytes (string_bytes piece.text))) (seen piece.main_tag))
+  pub none : rest ≡ []
+
+no_lead : {A : Type 0} (rest : List A) (lead : Option A) → [] ≡ rest ++ option_to_list lead
+    → (rest ≡ []) × (lead ≡ None)
+no_lead [] None e = (refl, refl)
+no_lead [] (Some x) e = cc
+no_lead (y ∷ rest) lead e = cc
+
+one_lead : {A : Type 0} (x : A) (rest : List A) (lead : Option A) → x ∷ [] ≡ rest ++ option_to_list lead
+    → IsSome lead → (rest ≡ []) × (lead ≡ Some x)
+one_lead x [] None e some = cc
+one_lead x [] (Some y) e some = (refl, cc)
+one_lead x (y ∷ []) None e some = cc
+one_lead x (y ∷ []) (Some z) e some = cc
+one_lead x (y ∷ z ∷ rest) lead e some = cc
+
+pub line_taken : {T S : Type 0} (seen : T → S) (width : ℕ) (wraps : Bool) (pieces front rest : List (Piece T))
+    (piece : TextPiece T) (lead : Option (Piece T)) (bytes columns : ℕ) → MakesLine width wraps pieces bytes columns
+    → pieces ≡ front ++ Text piece ∷ [] → front ≡ rest ++ option_to_list lead → (0 < length front → IsSome lead)
+    → IsTaken seen width wraps pieces rest piece lead bytes columns
+line_taken seen width wraps pieces [] rest piece lead bytes columns makes split led some =
+    let cut = subst (λ ps. MakesLine width wraps ps bytes columns) split makes in
+    let none = no_lead rest lead led in
+    let front = chars (take bytes (string_bytes piece.text)) in
+    let main = seen piece.main_tag in
+    record {
+      cut = cut;
+      line = subst (λ l. IsOnlyLine width wraps (sources_of seen pieces) (lead_items l ++ tagged front main))
+          (sym none.1) (subst (λ s. IsOnlyLine width wraps s (tagged front main))
+          (sym (ap (sources_of seen) split ∙ append-nil (text_sources seen piece)))
+          (only width wraps (chars (string_bytes piece.text)) front main (wrap_seen seen piece) cut.front
+          (omega (arith, cut.counted, cut.fits))));
+      none = none.0;
+    }
+line_taken seen width wraps pieces (Fragment name ∷ []) rest piece lead bytes columns makes split led some =
+    let both = subst (λ ps. MakesLine width wraps ps bytes columns) split makes in
+    let cut = both.0 in
+    let one = one_lead (Fragment name) rest lead led (some (omega arith)) in
+    let front = chars (take bytes (string_bytes piece.text)) in
+    let main = seen piece.main_tag in
+    let title = chars (string_bytes name) in
+    record {
+      cut = cut;
+      line = subst (λ l. IsOnlyLine width wraps (sources_of seen pieces) (lead_items l ++ tagged front main))
+          (sym one.1) (subst (λ s. IsOnlyLine width wraps s (marker title ∷ tagged front main))
+          (sym (ap (sources_of seen) split
+          ∙ ap (λ s. fragment title ∷ s) (append-nil (text_sources seen piece))))
+          (only_marked width wraps title (chars (string_bytes piece.text)) front main (wrap_seen seen piece)
+          cut.front both.1 (omega (arith, cut.counted, cut.fits))));
+      none = one.0;
+    }
+line_taken seen width wraps pieces (Text other ∷ []) rest piece lead bytes columns makes split led some =
+    absurd (subst (λ ps. MakesLine width wraps ps bytes columns) split makes)
+line_taken seen width wraps pieces (Text other ∷ another ∷ more) rest piece lead bytes columns makes split led some =
+    absurd (subst (λ ps. MakesLine width wraps ps bytes columns) split makes)
+line_taken seen width wraps pieces (Fragment name ∷ Text other ∷ []) rest piece lead bytes columns makes split led
+    some =
+    absurd (subst (λ ps. MakesLine width wraps ps bytes columns) split makes)
+line_taken seen width wraps pieces (Fragment name ∷ Text other ∷ another ∷ more) rest piece lead bytes columns makes
+    split led some =
+    absurd (subst (λ ps. MakesLine width wraps ps bytes columns) split makes)
+line_taken seen width wraps pieces (Fragment name ∷ Fragment other ∷ more) rest piece lead bytes columns makes split
+    led some =
+    absurd (subst (λ ps. MakesLine width wraps ps bytes columns) split makes)

@@ -4,11 +4,11 @@ use Rattle.std.proofs.Common.{drop, sym, ap, ◌∙◌, refl, subst, append_asso
 use Rattle.std.specs.Prelude.{if◌then◌else◌}
 use Rattle.std.specs.Char.{IsScalar}
 use Rattle.std.proofs.lemmas.Bool.Decides.{nat_tests}
-use Rattle.std.proofs.lemmas.List.{append-nil, take_at, drop_at, length-append}
-use Rattle.std.proofs.lemmas.Str.{chars-nil, chars-append, chars_past_char, IsUtf8-encode}
+use Rattle.std.proofs.lemmas.List.{append-nil, take_all, take_at, take-take, drop_at, length-append}
+use Rattle.std.proofs.lemmas.Str.{chars-nil, chars-append, chars_past_char, IsCharBoundary-from_take, IsUtf8-encode}
 use Rattle.text_pieces.specs.Sources.{Source, letter, fragment, sourced, piece_sources, sources_of, is_filled}
 use Rattle.preserved_text.specs.Preserved.{kind_of, is_solid, has_solid, trimmed}
-use Rattle.preserved_text.specs.Trimming.{has_solid_text, solid_text, trimmed_each, StayWhole}
+use Rattle.preserved_text.specs.Trimming.{has_solid_text, solid_text, trimmed_each, StayWhole, IsFrontOf}
 use Rattle.text_pieces.specs.declared.piece.Piece.{Piece}
 
 -- ---- characters
@@ -79,6 +79,19 @@ bare_goes width wraps (d ∷ cs) c bare =
     ∙ ap (λ l. if is_solid (kind_of width wraps d) || has_solid_text width wraps cs then d ∷ l else l)
     (bare_goes width wraps cs c bare)
 
+pub solid_filled : (width : ℕ) (wraps : Bool) (cs : List ℕ)
+    → is_filled (solid_text width wraps cs) ≡ has_solid_text width wraps cs
+solid_filled width wraps [] = refl
+solid_filled width wraps (c ∷ cs) =
+    by_test (is_solid (kind_of width wraps c)) (has_solid_text width wraps cs) (solid_text width wraps cs)
+    (solid_filled width wraps cs)
+  where
+    by_test : (a b : Bool) (rest : List ℕ) → is_filled rest ≡ b
+        → is_filled (if a || b then c ∷ rest else rest) ≡ (a || b)
+    by_test true b rest e = refl
+    by_test false true rest e = refl
+    by_test false false rest e = e
+
 pub filled_last : (before : List ℕ) (c : ℕ) → IsScalar c → is_filled (before ++ encode_utf8 c) ≡ true
 filled_last before c scalar = filled_behind before (encode_utf8 c) (filled_char (encode_utf8 c) refl)
   where
@@ -89,6 +102,27 @@ filled_last before c scalar = filled_behind before (encode_utf8 c) (filled_char 
     filled_char : (bytes : List ℕ) → encode_utf8 c ≡ bytes → is_filled bytes ≡ true
     filled_char [] e = cc (sym (chars-encode c scalar) ∙ ap chars e ∙ chars-nil)
     filled_char (b ∷ bs) e = refl
+
+-- ---- fronts
+
+pub whole_front : (text : List ℕ) → IsFrontOf text text
+whole_front text = record {
+  is = take_all (length text) text (omega arith);
+  edge = (omega arith, λ _ inside. absurd (omega (arith, inside)));
+}
+
+-- without its last character a front is one too
+pub front_before : (text rest before : List ℕ) (c : ℕ) → IsUtf8 text → IsFrontOf text rest
+    → rest ≡ before ++ encode_utf8 c → IsUtf8 before → IsFrontOf text before
+front_before text rest before c utf8 f split ok =
+    let size : length rest ≡ length before + length (encode_utf8 c) =
+    ap length split ∙ length-append before (encode_utf8 c) in
+    let is : take (length before) text ≡ before =
+    sym (take-take (length before) (length rest) text (omega (arith, size)))
+    ∙ ap (take (length before)) (f.is ∙ split) ∙ take_at before (encode_utf8 c) (length before) refl in
+    let edge =
+    IsCharBoundary-from_take text (length before) utf8 (omega (arith, size, f.edge.0)) (subst IsUtf8 (sym is) ok) in
+    record { is = is; edge = (edge.0, λ _. edge.1) }
 
 -- ---- sources
 

@@ -1,6 +1,7 @@
 -- A source line without the white space at its end, piece by piece.
 use Rattle.std.specs.Prelude.{◌≡◌, ℕ, ◌≤◌, Bool, false, ◌||◌, List, [], ◌∷◌, ◌++◌, flat_map, length, take, drop}
 use Rattle.std.specs.Prelude.{if◌then◌else◌}
+use Rattle.std.specs.String.Boundary.{IsSplitPoint}
 use Rattle.text_pieces.specs.Sources.{Source, piece_sources, sources_of}
 use Rattle.preserved_text.specs.Preserved.{kind_of, is_solid, trimmed}
 use Rattle.text_pieces.specs.declared.piece.Piece.{Piece}
@@ -27,3 +28,8 @@ pub record StayWhole {T S : Type 0} (seen : T → S) (width : ℕ) (wraps : Bool
   pub within : n ≤ length pieces
   pub trims : trimmed width wraps (sources_of seen pieces)
       ≡ sources_of seen (take n pieces) ++ trimmed_each seen width wraps (drop n pieces)
+
+-- the text begins with the front, which ends where a character does
+pub record IsFrontOf (text front : List ℕ) : Type 0 where
+  pub is : take (length front) text ≡ front
+  pub edge : IsSplitPoint text (length front)

@@ -16,5 +16,5 @@ pub use laws::{
     a_line_that_fits_is_itself, preserved_lines_heed_no_tags, preserved_lines_keep_markers,
     preserved_lines_keep_the_width, preserved_lines_show_each_character,
 };
-pub use plain_lines::lay_line;
+pub use plain_lines::{lay_line, take_line};
 pub use preserved::lay_preserved;

@@ -1,15 +1,19 @@
 //! Source lines that are one line, as they stand.
-ghost use Rattle.std.specs.Prelude.{◌≡◌, ◌⊎◌, ◌≤◌, ◌∷◌, [], true, All, chars, map, IfOk, IfSome, IsTrue, IsUtf8};
+ghost use Rattle.std.specs.Prelude.{◌≡◌, ◌⊎◌, ◌≤◌, ◌∷◌, ◌++◌, [], true, All, None, chars, length, map, take};
+ghost use Rattle.std.specs.Prelude.{IfOk, IfSome, IsTrue, IsUtf8, OnOk};
+ghost use Rattle.tagged_lines.specs.Columns.{text_columns};
 ghost use Rattle.tagged_lines.specs.Tagged.{line_items, IsJoined};
 ghost use Rattle.text_pieces.specs.Sources.{fragment, sourced, sources_of, names};
 ghost use Rattle.preserved_text.specs.Fronts.{BeginsSolid};
-ghost use Rattle.preserved_text.specs.PlainLines.{IsOnlyLine, IsPlainFront, IsPrintable};
+ghost use Rattle.preserved_text.specs.PlainLines.{IsOnlyLine, IsPlainFront, IsPrintable, IsPlainCut, MakesLine};
+ghost use Rattle.preserved_text.specs.PlainLines.{lead_items};
+ghost use Rattle.preserved_text.specs.Trimming.{IsFrontOf};
 
 use crate::fronts::begins_solid;
 use crate::reading::solid_front;
 use std::alloc::{AllocError, Global};
 use tagged_lines::{EqualCopy, TaggedLine, columns_of};
-use text_pieces::{LaidText, Piece};
+use text_pieces::{LaidText, Piece, TextPiece};
 
 /// The line of a source line of one text, where that is printable ASCII of which all fits on one line; `None` says
 /// nothing of the text. Fails only if allocation fails.
@@ -65,6 +69,7 @@ fn lay_marked_line<T: EqualCopy + Drop>(
 /// The text as `plain_front` gives it, where it begins with a character that is shown.
 fn shown_front(text: &str, width: usize, wraps: bool) -> Option<&str>
     ensures front { IfSome result (λ front. IsPlainFront width wraps (chars text.now) (chars front.now)) }
+    ensures front_of { IfSome result (λ front. IsFrontOf text.now front.now) }
     ensures begins { IfSome result (λ front. BeginsSolid width wraps (chars front.now)) }
 {
     let Some(front) = plain_front(text, width, wraps) else {
@@ -80,6 +85,7 @@ fn shown_front(text: &str, width: usize, wraps: bool) -> Option<&str>
 /// wider than a line.
 fn plain_front(text: &str, width: usize, wraps: bool) -> Option<&str>
     ensures front { IfSome result (λ front. IsPlainFront width wraps (chars text.now) (chars front.now)) }
+    ensures front_of { IfSome result (λ front. IsFrontOf text.now front.now) }
 {
     if width < 2 || !is_printable(text) {
         return None;
@@ -129,6 +135,97 @@ pub(crate) fn only_line<T: EqualCopy + Drop>(
         }
         _ => Ok(None),
     }
+}
+
+/// Takes the line of a source line of one text, or of a marker and a text, as `lay_line` gives it: the pieces are moved
+/// into it. Where there is none, the pieces stay. Fails only if allocation fails, and may have taken the pieces then.
+pub fn take_line<T: EqualCopy + Drop>(
+    alloc: Global,
+    width: usize,
+    wraps: bool,
+    pieces: &mut Vec<Piece<T>>,
+) -> Result<Option<TaggedLine<T>>, AllocError>
+    ensures line { IfOk result (λ found. IfSome found (λ line.
+        IsOnlyLine width wraps (sources_of T.seen pieces.old.items) (line_items T.seen line))) }
+    ensures taken { IfOk result (λ found. IfSome found (λ _. pieces.new.items ≡ [])) }
+    ensures stays { IfOk result (λ found. found ≡ None → pieces.new.items ≡ pieces.old.items) }
+    ensures joined { IfOk result (λ found. IfSome found (IsJoined T.seen)) }
+{
+    let Some((length, columns)) = line_cut(pieces, width, wraps) else {
+        return Ok(None);
+    };
+    let Some(Piece::Text(piece)) = pieces.pop() else {
+        return Ok(None);
+    };
+    let TextPiece {
+        mut text,
+        main_tag,
+        wrap_tag: _,
+    } = piece;
+    let mut line = TaggedLine::new(alloc);
+    push_lead(&mut line, pieces.pop())?;
+    text.truncate(length);
+    line.push_string(text, columns, main_tag)?;
+    Ok(Some(line))
+}
+
+/// Moves the marker that stands before a line's text into the line.
+fn push_lead<T: EqualCopy + Drop>(
+    line: &mut TaggedLine<T>,
+    lead: Option<Piece<T>>,
+) -> Result<(), AllocError>
+    ensures items { OnOk result (line_items T.seen line.new ≡ line_items T.seen line.old ++ lead_items lead) }
+    ensures joined { IsJoined T.seen line.old → IsJoined T.seen line.new }
+{
+    match lead {
+        Some(Piece::Fragment(name)) => line.append_marker(name),
+        _ => Ok(()),
+    }
+}
+
+/// The bytes and the columns of the text in the line, where the source line is one text, or a marker and a text, and
+/// is seen to have one line.
+fn line_cut<T>(pieces: &[Piece<T>], width: usize, wraps: bool) -> Option<(usize, usize)>
+    ensures { IfSome result (λ cut. MakesLine width wraps pieces.now cut.0 cut.1) }
+{
+    match pieces {
+        [Piece::Text(piece)] => plain_cut(piece.text.as_str(), width, wraps),
+        [Piece::Fragment(_), Piece::Text(piece)] => shown_cut(piece.text.as_str(), width, wraps),
+        _ => None,
+    }
+}
+
+fn plain_cut(text: &str, width: usize, wraps: bool) -> Option<(usize, usize)>
+    ensures { IfSome result (λ cut. IsPlainCut width wraps text.now cut.0 cut.1) }
+{
+    let Some(front) = plain_front(text, width, wraps) else {
+        return None;
+    };
+    fitting_cut(front, width)
+}
+
+/// The same, where the text begins with a character that is shown.
+fn shown_cut(text: &str, width: usize, wraps: bool) -> Option<(usize, usize)>
+    ensures cut { IfSome result (λ cut. IsPlainCut width wraps text.now cut.0 cut.1) }
+    ensures begins { IfSome result (λ cut. BeginsSolid width wraps (chars (take cut.0 text.now))) }
+{
+    let Some(front) = shown_front(text, width, wraps) else {
+        return None;
+    };
+    fitting_cut(front, width)
+}
+
+/// The bytes and the columns of a text that fits on a line.
+fn fitting_cut(text: &str, width: usize) -> Option<(usize, usize)>
+    ensures bytes { IfSome result (λ cut. cut.0 ≡ length text.now) }
+    ensures columns { IfSome result (λ cut. cut.1 ≡ text_columns (chars text.now)) }
+    ensures fits { IfSome result (λ cut. cut.1 ≤ width) }
+{
+    let columns = columns_of(text);
+    if columns > width {
+        return None;
+    }
+    Some((text.len(), columns))
 }
 
 /// One line, and no marker that waits.

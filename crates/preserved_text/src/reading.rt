@@ -4,7 +4,7 @@ ghost use Rattle.tagged_lines.specs.Tagged.{line_items};
 ghost use Rattle.text_pieces.specs.Sources.{sourced, piece_sources, sources_of, is_filled};
 ghost use Rattle.preserved_text.specs.Preserved.{trimmed, has_solid, is_solid};
 ghost use Rattle.preserved_text.specs.Pass.{read_all};
-ghost use Rattle.preserved_text.specs.Trimming.{has_solid_text, solid_text, trimmed_each, StayWhole};
+ghost use Rattle.preserved_text.specs.Trimming.{has_solid_text, solid_text, trimmed_each, StayWhole, IsFrontOf};
 
 use crate::fronts::{begins_solid, body_front, words_front};
 use crate::kinds::is_solid;
@@ -243,6 +243,7 @@ fn has_solid<T: EqualCopy>(piece: &Piece<T>, width: usize, wraps: bool) -> bool
 pub(crate) fn solid_front(text: &str, width: usize, wraps: bool) -> &str
     ensures front { chars result.now ≡ solid_text width wraps (chars text.now) }
     ensures some { is_filled result.now ≡ has_solid_text width wraps (chars text.now) }
+    ensures front_of { IsFrontOf text.now result.now }
 {
     let mut rest = text;
     while let Some((before, c)) = last_char(rest) {

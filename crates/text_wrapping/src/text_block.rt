@@ -11,7 +11,7 @@ use crate::copies::{clone_lines, clone_pieces};
 use crate::one_tag::push_tagged;
 use crate::padding::pad_lines;
 use crate::showing::{ends_in_columns, has_visible, have_columns};
-use preserved_text::{lay_line, lay_preserved};
+use preserved_text::{lay_line, lay_preserved, take_line};
 use std::alloc::{AllocError, Global};
 use tagged_lines::{EqualCopy, TaggedLine};
 use text_pieces::{BlockError, LaidText, Piece, WhiteSpace, cut_at, push_text};
@@ -266,6 +266,35 @@ impl<T: EqualCopy + Drop> TextBlock<T> {
 
     /// Ends a source line, which is an empty line where nothing of it is shown.
     fn end_line(&mut self) -> Result<(), BlockError>
+        ensures kinds { IfErr result (λ e. (e ≡ BlockError.TooNarrow) ⊎ (e ≡ BlockError.Memory)) }
+        ensures ended { OnOk result (line_ended (text_of T.seen self.old) ≡ Some (text_of T.seen self.new)) }
+        ensures narrow { result ≡ Err BlockError.TooNarrow → line_ended (text_of T.seen self.old) ≡ None }
+        ensures joined { AreJoinedLines T.seen self.old → AreJoinedLines T.seen self.new }
+    {
+        // The common case copies no text.
+        if let Some(line) = self.take_only_line()? {
+            return Ok(self.put_line(line)?);
+        }
+        self.end_laid_line()
+    }
+
+    /// Takes the line of the source line that is held, where it is seen to have one line.
+    fn take_only_line(&mut self) -> Result<Option<TaggedLine<T>>, AllocError>
+        ensures line { IfOk result (λ found. IfSome found (λ line. line_ended (text_of T.seen self.old)
+            ≡ Some (with_lines (line_items T.seen line ∷ []) (text_of T.seen self.new)))) }
+        ensures stays { IfOk result (λ found. found ≡ None → text_of T.seen self.new ≡ text_of T.seen self.old) }
+        ensures joined { IfOk result (λ found. IfSome found (IsJoined T.seen)) }
+        ensures lines { AreJoinedLines T.seen self.old → AreJoinedLines T.seen self.new }
+    {
+        if !self.mode.preserve_whitespace() {
+            return Ok(None);
+        }
+        let alloc = *self.lines.allocator();
+        take_line(alloc, self.width, self.mode.do_wrap(), &mut self.pieces)
+    }
+
+    /// Ends a source line as `end_line` does, whatever is held.
+    fn end_laid_line(&mut self) -> Result<(), BlockError>
         ensures kinds { IfErr result (λ e. (e ≡ BlockError.TooNarrow) ⊎ (e ≡ BlockError.Memory)) }
         ensures ended { OnOk result (line_ended (text_of T.seen self.old) ≡ Some (text_of T.seen self.new)) }
         ensures narrow { result ≡ Err BlockError.TooNarrow → line_ended (text_of T.seen self.old) ≡ None }

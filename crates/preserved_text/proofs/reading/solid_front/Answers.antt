@@ -3,6 +3,7 @@ use Rattle.std.proofs.lemmas.Str.{chars-nil}
 use Rattle.text_pieces.specs.Sources.{is_filled}
 use Rattle.preserved_text.specs.Trimming.{has_solid_text, solid_text}
 use Rattle.preserved_text.proofs.TrimLemmas.{chars_last, solid_has, bare_has, solid_stays, bare_goes, filled_last}
+use Rattle.preserved_text.proofs.TrimLemmas.{whole_front, front_before}
 use Rattle.preserved_text.proofs.reading.solid_front.Goals as goal
 
 pub returns-then-is_solid-clause-front : goal.returns-then-is_solid-clause-front
@@ -22,6 +23,10 @@ returns-then-is_solid-clause-some c =
     (sym c.is_solid.ensures ∙ c.if-is_solid.true))
     ∙ ap (has_solid_text c.args.width c.args.wraps) (sym last) ∙ c.loop-before.invariant.some
 
+pub loop-before-init : goal.loop-before-init
+loop-before-init c =
+    record { text = c.utf8.text; front = refl; some = refl; front_of = whole_front c.args.text.now }
+
 pub loop-before-preserved : goal.loop-before-preserved
 loop-before-preserved c =
     let last = chars_last c.loop-before.rest.now c.in-Some.before.now c.in-Some.c c.in-Some.ensures.last
@@ -33,6 +38,8 @@ loop-before-preserved c =
           ∙ ap (solid_text c.args.width c.args.wraps) (sym last) ∙ c.loop-before.invariant.front;
       some = sym (bare_has c.args.width c.args.wraps (chars c.in-Some.before.now) c.in-Some.c bare)
           ∙ ap (has_solid_text c.args.width c.args.wraps) (sym last) ∙ c.loop-before.invariant.some;
+      front_of = front_before c.args.text.now c.loop-before.rest.now c.in-Some.before.now c.in-Some.c c.utf8.text
+          c.loop-before.invariant.front_of c.in-Some.ensures.last c.in-Some.ensures.texts.0;
     }
 
 pub returns-clause-front : goal.returns-clause-front
