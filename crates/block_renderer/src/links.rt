@@ -7,7 +7,7 @@ ghost use Rattle.text_pieces.specs.Sources.{names};
 ghost use Rattle.text_pieces.specs.declared.fault.BlockError.TheVariants as errors;
 
 use crate::sub_renderer::SubRenderer;
-use footnote_lines::footnote_lines;
+use footnote_lines::into_footnote_lines;
 use std::alloc::AllocError;
 use tagged_lines::TaggedLine;
 use text_marks::TextDecorator;
@@ -68,7 +68,7 @@ impl<D: TextDecorator + Drop> SubRenderer<D> {
         ensures joined { IsJoinedSub D.Annotation.seen self.old → IsJoinedSub D.Annotation.seen self.new }
     {
         let measure = self.measure();
-        let lines = footnote_lines(self.alloc(), self.footnote_width(), &line)?;
+        let lines = into_footnote_lines(self.alloc(), self.footnote_width(), line)?;
         self.laid
             .add_lines(measure, &self.annotations, &self.annotations, lines)
     }

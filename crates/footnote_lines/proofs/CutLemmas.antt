@@ -90,3 +90,14 @@ pub all_placed : {A : Type 0} (width : Option ℕ) (items : List (Item A))
     → all_lines (fold (placed_noted width) nothing_cut items) ≡ lines_within width items
 all_placed None items = ap all_lines (uncut items nothing_cut)
 all_placed (Some width) items = ap all_lines (placed_map width items nothing_cut)
+
+-- of a text under one annotation alone
+pub one_text_placed : {A : Type 0} (width : Option ℕ) (cs : List ℕ) (annotation : A) (tags : List A)
+    (cut new : Cut (List A)) → cut ≡ nothing_cut → tags ≡ annotation ∷ []
+    → new ≡ fold (placed_spaced width) cut (tagged cs tags)
+    → all_lines new ≡ lines_within width (tagged cs annotation)
+one_text_placed width cs annotation tags cut new none alone is =
+    ap all_lines (is ∙ (ap (λ t. fold (placed_spaced width) cut (tagged cs t)) alone
+    ∙ (noted_text width cs annotation cut
+    ∙ ap (λ k. fold (placed_noted width) k (tagged cs annotation)) none)))
+    ∙ all_placed width (tagged cs annotation)

@@ -1,5 +1,5 @@
 -- Printable ASCII that goes on the line at hand as it is.
-use Rattle.std.proofs.Common.{◌≡◌, ℕ, suc, ◌+◌, ◌<◌, ◌≤◌, ◌==◌, ◌||◌, not, nat_le, Bool, true, false}
+use Rattle.std.proofs.Common.{◌≡◌, ℕ, zero, suc, ◌+◌, ◌<◌, ◌≤◌, ◌==◌, ◌||◌, not, nat_le, Bool, true, false}
 use Rattle.std.proofs.Common.{List, [], ◌∷◌, ◌++◌}
 use Rattle.std.proofs.Common.{fold, length, take, drop, chars, IsUtf8, inr, refl, sym, ap, subst, ◌∙◌, arith}
 use Rattle.std.specs.Prelude.{All, Option, None, Some, if◌then◌else◌, unwrap_or}
@@ -8,7 +8,7 @@ use Rattle.std.proofs.lemmas.Bool.Decides.{nat_tests}
 use Rattle.std.proofs.lemmas.List.{append-nil, append_assoc, length-take-le, map-append, take-append-drop}
 use Rattle.std.proofs.lemmas.List.Elements.{All-from_get_or, All-get_or, All-head, All-tail}
 use Rattle.std.proofs.lemmas.List.Sums.{fold-append, sum_by-cons}
-use Rattle.std.proofs.lemmas.Str.{chars-IsAscii, chars-append, IsUtf8-take}
+use Rattle.std.proofs.lemmas.Str.{chars-IsAscii, chars-append, chars-nil, IsUtf8-take}
 use Rattle.std.proofs.lemmas.Str.Ascii.{IsAscii-from_all}
 use Rattle.tagged_lines.specs.Columns.{columns_of-one, text_columns, width_of}
 use Rattle.tagged_lines.specs.Tagged.{Item, character, tagged, line_columns}
@@ -134,3 +134,32 @@ behind_front width text run rest n most tag cut line utf8 at all few room front 
     ∙ ap (λ cs. tagged cs tag) (sym whole)))) where
       short : (a n m : ℕ) → a ≡ n → n ≤ m → a ≤ m
       short a n m e h = omega arith
+
+-- ---- a text that goes on the line as a whole
+
+take_whole : (n : ℕ) (xs : List ℕ) → n ≡ length xs → xs ≡ take n xs
+take_whole n [] e = ap (λ k. take k []) (sym e)
+take_whole zero (x ∷ xs) e = absurd (omega (arith, e))
+take_whole (suc n) (x ∷ xs) e = ap (λ l. x ∷ l) (take_whole n xs (omega (arith, e)))
+
+drop_whole : (n : ℕ) (xs : List ℕ) → n ≡ length xs → [] ≡ drop n xs
+drop_whole n [] e = ap (λ k. drop k []) (sym e)
+drop_whole zero (x ∷ xs) e = absurd (omega (arith, e))
+drop_whole (suc n) (x ∷ xs) e = drop_whole n xs (omega (arith, e))
+
+pub whole_columns : (text whole : List ℕ) (n : ℕ) → IsCharBoundary text n → All IsPrintable (take n text)
+    → text ≡ whole → n ≡ length whole → n ≡ text_columns (chars whole)
+whole_columns text whole n at all is long =
+    front_columns text whole n at all
+    (take_whole n whole long ∙ ap (take n) (sym is))
+
+pub whole_placed : {S : Type 0} (width : Option ℕ) (text whole : List ℕ) (n most : ℕ) (tag : S) (cut : Cut S)
+    (line : List (Item S)) → IsUtf8 text → IsCharBoundary text n → All IsPrintable (take n text) → n ≤ most
+    → HasRoomFor width cut.line most → text ≡ whole → n ≡ length whole → line ≡ cut.line ++ tagged (chars whole) tag
+    → record cut { line = line } ≡ fold (placed_spaced width) cut (tagged (chars whole) tag)
+whole_placed width text whole n most tag cut line utf8 at all few room is long put =
+    ap (λ cs. fold (placed_spaced width) (record cut { line = line }) (tagged cs tag)) (sym chars-nil)
+    ∙ (behind_front width text whole [] n most tag cut line utf8 at all few room
+    (take_whole n whole long ∙ ap (take n) (sym is))
+    (drop_whole n whole long ∙ ap (drop n) (sym is)) put
+    ∙ ap (λ bs. fold (placed_spaced width) cut (tagged (chars bs) tag)) is)

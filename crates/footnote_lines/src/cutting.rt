@@ -1,5 +1,6 @@
 //! Lines that are cut.
-ghost use Rattle.std.specs.Prelude.{◌≡◌, ◌+◌, ◌≤◌, nat_le, fold, map, take, chars, All, OnOk, IfOk, IsTrue};
+ghost use Rattle.std.specs.Prelude.{◌≡◌, ◌+◌, ◌≤◌, nat_le, fold, map, take, chars, string_bytes, All, OnOk, IfOk};
+ghost use Rattle.std.specs.Prelude.{IsTrue};
 ghost use Rattle.std.specs.Str.{IsCharBoundary};
 ghost use Rattle.tagged_lines.specs.Tagged.{line_items, character, marker, tagged, IsJoined};
 ghost use Rattle.footnote_lines.specs.Footnotes.{nothing_cut, all_lines};
@@ -64,6 +65,25 @@ impl<T: EqualCopy + Drop> CutLines<T> {
     {
         let rest = self.push_run(width, text, tag)?;
         self.push_characters(width, rest, tag)
+    }
+
+    /// Moves a text in, as `push_text` adds one.
+    pub(crate) fn push_string(
+        &mut self,
+        width: Option<usize>,
+        text: String,
+        tag: T,
+    ) -> Result<(), AllocError>
+        ensures placed { OnOk result (cut_of T.seen self.new ≡ fold (placed_spaced width) (cut_of T.seen self.old)
+            (tagged (chars (string_bytes text)) (T.seen tag))) }
+        ensures joined { HasJoinedTexts T.seen self.old → HasJoinedTexts T.seen self.new }
+    {
+        // The common case: all of it goes on the line at hand as it is.
+        let count = run_length(text.as_str(), self.room(width));
+        if count == text.len() {
+            return self.line.push_string(text, count, tag);
+        }
+        self.push_text(width, text.as_str(), &tag)
     }
 
     /// Adds what stands in front of a text and goes on the line at hand as it is; the text behind it.

@@ -23,6 +23,28 @@ pub fn footnote_lines<A: EqualCopy + Drop>(
     cut.into_lines()
 }
 
+/// The same lines, of a line whose text is moved into them where it is one. The error is want of memory alone.
+pub fn into_footnote_lines<A: EqualCopy + Drop>(
+    alloc: Global,
+    width: Option<usize>,
+    line: TaggedLine<A>,
+) -> Result<Vec<TaggedLine<Vec<A>>>, AllocError>
+    ensures lines { IfOk result (λ lines. map (line_items (tags_seen A.seen)) lines.items
+        ≡ lines_within width (line_items A.seen line)) }
+    ensures joined { IfOk result (λ lines. All (IsJoined (tags_seen A.seen)) lines.items) }
+{
+    match line.into_only_text() {
+        Ok((text, annotation)) => {
+            let mut tags = Vec::with_capacity(alloc, 1)?;
+            tags.push(annotation)?;
+            let mut cut = CutLines::new(alloc);
+            cut.push_string(width, text, tags)?;
+            cut.into_lines()
+        }
+        Err(line) => footnote_lines(alloc, width, &line),
+    }
+}
+
 fn push_line<A: EqualCopy + Drop>(
     cut: &mut CutLines<Vec<A>>,
     alloc: Global,

@@ -5,5 +5,5 @@ mod cutting;
 mod footnotes;
 mod laws;
 
-pub use footnotes::footnote_lines;
+pub use footnotes::{footnote_lines, into_footnote_lines};
 pub use laws::footnotes_keep_the_width;

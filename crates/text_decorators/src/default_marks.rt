@@ -4,6 +4,7 @@ ghost use Rattle.tagged_lines.specs.Tagged.{line_items, tagged};
 ghost use Rattle.text_decorators.specs.Texts.{AreFootnotes, footnote_text};
 
 use std::alloc::{AllocError, Global};
+use std::fmt::Write;
 use tagged_lines::{EqualCopy, TaggedLine};
 
 /// The text before a superscript, as TeX writes it, under the annotation that is the default.
@@ -56,7 +57,10 @@ fn footnote<A: EqualCopy + Drop>(
 fn footnote_text(alloc: Global, number: usize, url: &str) -> Result<String, AllocError>
     ensures { IfOk result (λ s. chars (string_bytes s) ≡ footnote_text number (chars url.now)) }
 {
-    format!(in alloc; "[{number}]: {url}")
+    // Room for a number of eight digits, so that most footnotes are one request.
+    let mut text = String::with_capacity(alloc, url.len().saturating_add(12))?;
+    write!(&mut text, "[{number}]: {url}")?;
+    Ok(text)
 }
 
 /// A text of the same characters.
