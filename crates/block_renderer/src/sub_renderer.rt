@@ -183,25 +183,36 @@ impl<D: TextDecorator + Drop> SubRenderer<D> {
         if self.failed {
             return Err(BlockError::Failed);
         }
-        match self.inner_part(width) {
-            Ok(part) => Ok(part),
-            Err(error) => {
-                self.failed = true;
-                Err(BlockError::from(error))
-            }
-        }
+        let part = self.inner_part(width);
+        self.failed = part.is_err();
+        part
     }
 
-    fn inner_part(&self, width: usize) -> Result<SubRenderer<D>, AllocError>
+    // Made in one piece, since it is large to move.
+    fn inner_part(&self, width: usize) -> Result<SubRenderer<D>, BlockError>
         ensures part { IfOk result (λ part. sub_of D.Annotation.seen D.held part
             ≡ part_of D.sub width (sub_of D.Annotation.seen D.held self.now)) }
         ensures works { IfOk result (λ part. has_failed part ≡ false) }
+        ensures kinds { IfErr result (λ e. e ≡ errors.Memory) }
         ensures joined { IfOk result (IsJoinedSub D.Annotation.seen) }
     {
-        let mut part = self.part(width)?;
-        part.modes.push(self.mode())?;
-        part.preformats = self.preformats.min(1);
-        Ok(part)
+        let alloc = self.alloc();
+        let decorator = self.decorator.make_subblock_decorator(alloc)?;
+        let annotations = self.annotations.copy(alloc)?;
+        let mut modes = Vec::new(alloc);
+        modes.push(self.mode())?;
+        Ok(SubRenderer {
+            options: self.options,
+            width,
+            decorator,
+            laid: BlockLayout::new(alloc),
+            modes,
+            preformats: self.preformats.min(1),
+            annotations,
+            keeps_annotations: self.keeps_annotations,
+            strikeouts: 0,
+            failed: false,
+        })
     }
 
     /// What a call answers that leaves the renderer as it is; a refusal is noted.

@@ -26,8 +26,8 @@ pub(crate) fn columns_of(
     requires few { count < 2 ^ 63 }
     ensures { IfOk result (λ v. v.items ≡ columns_between cells.now count) }
 {
-    let mut size_parts = Vec::new(alloc);
-    let mut least_parts = Vec::new(alloc);
+    let mut size_parts = Vec::with_capacity(alloc, cells.len())?;
+    let mut least_parts = Vec::with_capacity(alloc, cells.len())?;
     for s in cells {
         let span = s.last - s.first;
         size_parts.push(Part {
@@ -43,7 +43,7 @@ pub(crate) fn columns_of(
     }
     let sizes = greatest_parts(alloc, size_parts.as_slice(), count)?;
     let leasts = greatest_parts(alloc, least_parts.as_slice(), count)?;
-    let mut columns = Vec::new(alloc);
+    let mut columns = Vec::with_capacity(alloc, count)?;
     for at in 0..count {
         columns.push(Column {
             size: sizes[at],
@@ -72,7 +72,7 @@ pub(crate) fn counts_before(alloc: Global, columns: &[Column]) -> Result<Vec<usi
     ensures each { IfOk result (λ v. (c : ℕ) → c ≤ length columns.now
         → get_or v.items c 0 ≡ left_before columns.now c) }
 {
-    let mut counts = Vec::new(alloc);
+    let mut counts = Vec::with_capacity(alloc, columns.len() + 1)?;
     let mut count: usize = 0;
     for column in columns {
         counts.push(count)?;

@@ -20,7 +20,7 @@ pub(crate) fn edges_of(alloc: Global, placed: &[PlacedCell]) -> Result<Vec<u128>
     requires small { All (λ p. right_of p < 2 ^ 128) placed.now }
     ensures { IfOk result (λ v. AreEdges placed.now v.items) }
 {
-    let mut edges = Vec::new(alloc);
+    let mut edges = Vec::with_capacity(alloc, placed.len().saturating_mul(2))?;
     for p in placed {
         edges.push(p.left)?;
     }
@@ -53,7 +53,7 @@ pub(crate) fn span_cells(
     requires small { All (λ p. right_of p < 2 ^ 128) placed.now }
     ensures { IfOk result (λ v. v.items ≡ map (span_in edges.now) placed.now) }
 {
-    let mut spanned = Vec::new(alloc);
+    let mut spanned = Vec::with_capacity(alloc, placed.len())?;
     for p in placed {
         spanned.push(SpannedCell {
             cell: p.cell,

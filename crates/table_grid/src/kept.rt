@@ -20,7 +20,7 @@ pub(crate) fn spans_left(
     ensures { IfOk result (λ v. v.items ≡ map (span_left columns.now) cells.now) }
 {
     let counts = counts_before(alloc, columns)?;
-    let mut left = Vec::new(alloc);
+    let mut left = Vec::with_capacity(alloc, cells.len())?;
     for s in cells {
         left.push(SpannedCell {
             cell: s.cell,
@@ -54,7 +54,7 @@ pub(crate) fn grid_cells(
     requires rising { IsStrictlyIncreasing rows.now }
     ensures { IfOk result (λ v. v.items ≡ map (grid_cell rows.now) cells.now) }
 {
-    let mut grid = Vec::new(alloc);
+    let mut grid = Vec::with_capacity(alloc, cells.len())?;
     for s in cells {
         let row = s.cell.row as u128;
         let above = rank_in(rows, row);

@@ -42,19 +42,30 @@ pub(crate) fn row_lines<T: EqualCopy + Drop>(
         ≡ map (after height) (map (open_cell_of T.seen) cells.old)) }
     ensures joined { IfOk result (λ lines. All (IsJoined T.seen) lines.items) }
 {
+    let room = row_bytes(cells);
     let mut lines = Vec::with_capacity(alloc, height)?;
     for _line in 0..height {
-        lines.push(row_line(alloc, sign, tag, cells)?)?;
+        lines.push(row_line(alloc, sign, tag, cells, room)?)?;
     }
     Ok(lines)
 }
 
-/// The cells' next lines, with the sign between them.
+/// The bytes of a row's line in which each column is one, but for the signs.
+fn row_bytes<T: EqualCopy + Drop>(cells: &[OpenCell<T>]) -> usize {
+    let mut bytes: usize = 0;
+    for cell in cells {
+        bytes = bytes.saturating_add(cell.width).saturating_add(3);
+    }
+    bytes
+}
+
+/// The cells' next lines, with the sign between them; the line has room for so many bytes behind its first cell.
 fn row_line<T: EqualCopy + Drop>(
     alloc: Global,
     sign: char,
     tag: &T,
     cells: &mut [OpenCell<T>],
+    room: usize,
 ) -> Result<TaggedLine<T>, AllocError>
     ensures items { IfOk result (λ l. line_items T.seen l
         ≡ row_items sign (T.seen tag.now) 0 (map (open_cell_of T.seen) cells.old)) }
@@ -64,21 +75,24 @@ fn row_line<T: EqualCopy + Drop>(
 {
     let mut line = TaggedLine::new(alloc);
     let mut left = cells.len();
+    let mut room = room;
     for cell in cells.iter_mut() {
         left -= 1;
         let mut next = cell.take_line(alloc, tag)?;
         line.append(&mut next)?;
-        push_sign(&mut line, sign, tag, left)?;
+        push_sign(&mut line, sign, tag, left, room)?;
+        room = 0;
     }
     Ok(line)
 }
 
-/// Adds the sign where cells are left.
+/// Adds the sign where cells are left, and makes room for so many bytes before.
 fn push_sign<T: EqualCopy + Drop>(
     line: &mut TaggedLine<T>,
     sign: char,
     tag: &T,
     left: usize,
+    room: usize,
 ) -> Result<(), AllocError>
     ensures items { OnOk result (line_items T.seen line.new
         ≡ line_items T.seen line.old ++ sign_before sign (T.seen tag.now) left) }
@@ -87,5 +101,6 @@ fn push_sign<T: EqualCopy + Drop>(
     if left == 0 {
         return Ok(());
     }
+    line.reserve(room)?;
     line.push_char(sign, tag)
 }
