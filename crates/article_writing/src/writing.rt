@@ -1,8 +1,9 @@
 //! The written form of an article.
-ghost use Rattle.std.specs.Prelude.{◌≡◌, ◌≢◌, ℕ, List, Option, true, Err, OnErr, OnOk};
+ghost use Rattle.std.specs.Prelude.{◌≡◌, ◌≢◌, ℕ, List, None, Option, true, Err, OnErr, OnOk};
 ghost use Rattle.html_serializer.specs.Writing.{Grows, GrowsPart};
 ghost use Rattle.article_values.specs.Articles.{Blocks as SeenBlocks};
-ghost use Rattle.written_articles.specs.Contents.{article_text};
+ghost use Rattle.article_values.specs.Faults.{first_fault};
+ghost use Rattle.written_articles.specs.Contents.{NumbersFit, article_text};
 
 use crate::elements::tell_element;
 use crate::inner::Inner;
@@ -12,7 +13,9 @@ use html_serializer::{
     Serialize, SerializeFault, SerializeOpts, Serializer, TraversalScope, serialize,
 };
 use std::alloc::Global;
-use written_articles::{a_document_is_told, an_article_is_written_back};
+use written_articles::{
+    a_document_is_told, an_article_is_written_back, first_numbers_fit, no_text_is_two_articles,
+};
 
 /// An article, which can be told to a serializer as the page that is written of it (WHATWG HTML, 13.3).
 #[derive(Drop)]
@@ -50,11 +53,14 @@ pub trait WriteArticle {
     /// The blocks of the body.
     ghost blocks: { Self → SeenBlocks };
 
-    /// Writes the article's page (WHATWG HTML, 13.3). It doesn't flush the writer. The error is the writer's refusal or
-    /// want of memory; then a beginning is written.
+    /// Writes the article's page (WHATWG HTML, 13.3), which is that of no other article. It doesn't flush the writer. The
+    /// error is the writer's refusal, or allocation failure; then a beginning is written.
     fn write_html<W: ByteWriter>(&self, alloc: Global, writer: &mut W) -> Result<(), SerializeFault>
         ensures ok { OnOk result (Grows (article_text (title self.now) (blocks self.now)) (W.contents writer.old)
             (W.contents writer.new)) }
+        ensures alone { (another : Option (List ℕ)) (others : SeenBlocks) → first_fault another others ≡ None
+            → NumbersFit others → article_text (title self.now) (blocks self.now) ≡ article_text another others
+            → (title self.now ≡ another) × (blocks self.now ≡ others) }
         ensures part { OnErr result (GrowsPart (article_text (title self.now) (blocks self.now))
             (W.contents writer.old) (W.contents writer.new)) }
         ensures stays { W.has_failed writer.old ≡ true → W.has_failed writer.new ≡ true }
@@ -75,6 +81,8 @@ impl WriteArticle for Article {
         writer: &mut W,
     ) -> Result<(), SerializeFault> {
         an_article_is_written_back();
+        no_text_is_two_articles();
+        first_numbers_fit();
         // That an article has no fault is told by the call that lends its blocks.
         self.blocks();
         let page = SerializableArticle { article: self };

@@ -11,7 +11,7 @@ type Piece = (&'static [u8], Result<(), Error>);
 /// So many bytes may come, the pieces that do, and why there is no tree then.
 type Row = (usize, &'static [Piece], Option<Error>);
 
-static ROWS: [Row; 5] = [
+static ROWS: [Row; 6] = [
     (0, &[(b"", Ok(()))], None),
     (
         0,
@@ -39,6 +39,15 @@ static ROWS: [Row; 5] = [
             (b"a", Ok(())),
             (b"b", Err(Error::TooLong)),
             (b"c", Err(Error::Fail)),
+        ],
+        Some(Error::Fail),
+    ),
+    (
+        4,
+        &[
+            (b"<p>", Ok(())),
+            (b"ab", Err(Error::TooLong)),
+            (b"", Err(Error::Fail)),
         ],
         Some(Error::Fail),
     ),

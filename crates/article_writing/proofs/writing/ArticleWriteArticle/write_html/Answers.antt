@@ -23,3 +23,8 @@ returns-clause-part g c =
     (ap (λ (o : SerializeOpts). walk_text o.scripting_enabled o.traversal_scope 0 tree) c.default.ensures
     ∙ c.an_article_is_written_back.ensures true c.args.self.now.title (blocks_view c.args.self.now.blocks)
     c.blocks-2.ensures.faultless) c.serialize.ensures.part
+
+pub returns-clause-alone : goal.returns-clause-alone
+returns-clause-alone g c = λ another others faultless fit same.
+    c.no_text_is_two_articles.ensures c.args.self.now.title another (blocks_view c.args.self.now.blocks) others
+    c.blocks-2.ensures.faultless faultless (c.first_numbers_fit.ensures c.args.self.now.blocks) fit same
