@@ -110,15 +110,11 @@ fn do_texts_move(alloc: Global) -> Result<bool, AllocError> {
     let mut moved = TaggedLine::new(alloc);
     moved.append(&mut line)?;
     let is_empty = line.is_empty() && line.width() == 0;
-    let is_kept = match moved.into_only_text() {
-        Ok(_) => false,
-        Err(line) => is_line(alloc, &line, "漢/abcd/", 6)? && line.iter().count() == 3,
-    };
-    let is_taken = match line_of(alloc, "ab")?.into_only_text() {
-        Ok((text, tag)) => text.as_str() == "ab" && tag == PLAIN,
-        Err(_) => false,
-    };
-    Ok(is_joined && is_apart && is_empty && is_kept && is_taken)
+    let is_whole = is_line(alloc, &moved, "漢/abcd/", 6)? && moved.iter().count() == 3;
+    let kept = moved.into_only_text();
+    let taken = line_of(alloc, "ab")?.into_only_text();
+    let is_so = is_whole && kept.is_err() && taken.is_ok();
+    Ok(is_joined && is_apart && is_empty && is_so)
 }
 
 #[test]
