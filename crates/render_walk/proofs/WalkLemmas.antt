@@ -12,7 +12,6 @@ use Rattle.render_laying.specs.Parts.{Parts}
 use Rattle.value_openings.specs.Lay.{Content, behind_mark, content_of, holds, laid, laid_at, laid_parts, lay, listed}
 use Rattle.value_openings.specs.Lay.{on_page, placed, styled}
 use Rattle.value_openings.specs.Seen.{AreAlike}
-use Rattle.table_laying.specs.Tables.{table_laid}
 use Rattle.text_marks.specs.Marks.{header, quote}
 use Rattle.render_laying.specs.Begins.{begins, ends, following, leading}
 use Rattle.render_laying.specs.Items.{spaces}
@@ -34,7 +33,8 @@ holds_alike m infos.Bullets c d inside h =
     ap (λ n. listed m Bullet n c.least inside) h.0 ∙ ap (λ n. listed m Bullet d.items n inside) h.1
 holds_alike m (infos.Numbers first) c d inside h =
     ap (λ n. listed m (Number first) n c.least inside) h.0 ∙ ap (λ n. listed m (Number first) d.items n inside) h.1
-holds_alike m infos.Table c d inside h = ap (λ t. table_laid m t inside) h
+holds_alike m infos.Table c d inside h =
+    ap (λ t. holds m infos.Table (record { items = 0; least = 0; table = t }) inside) h
 holds_alike m infos.Nothing c d inside h = refl
 holds_alike m (infos.Text cs) c d inside h = refl
 holds_alike m (infos.Image source title) c d inside h = refl
