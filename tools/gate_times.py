@@ -4,8 +4,8 @@
     tools/gate_times.py [--write] [--anew] [FOLDER]     runs the gate on a copy of HEAD, and measures it
     tools/gate_times.py [--write] --of TREE             what tools/gate_on.py measured in TREE, without a run
 
-It prints a table with a row for each crate, and what libraries, programs, tests and edits take in all; with --write it
-puts the table into docs/GATE.md in place of the one there. A crate is proved, its tests are proved and built, and its
+It prints a table with a row for each crate that takes 200 seconds or more and one for the others, and what libraries,
+programs, tests and edits take in all; with --write it puts the table into docs/GATE.md in place of the one there. A crate is proved, its tests are proved and built, and its
 must-fail/ edits are checked; a program's proof includes both compilers' builds. A measured run looks at the running
 checks twice a second, so a number may be short by half a second a check; `rt` itself, which reads the sources below
 each library before and after its proof, is counted beside them. With --anew all is proved, also what earlier runs kept on
@@ -22,6 +22,7 @@ import tempfile
 import time
 
 TICKS = os.sysconf("SC_CLK_TCK")
+LEAST = 200  # seconds of a crate with a row of its own
 HEAD = "| crate | functions | proof | tests | edits |"
 
 
@@ -113,16 +114,22 @@ def noted(tree):
     return total, functions, f"measured in {tree}", 0
 
 
+def row_of(name, functions, seconds):
+    """A line of the table: what a crate, or some, take for the proof, the tests and the edits."""
+    cells = [name, functions, *(f"{it:.0f}" if it else "" for it in seconds)]
+    return f"| {' | '.join(map(str, cells))} |"
+
+
 def rows_of(top, total, functions):
-    """The table's lines, in the order of crates.txt."""
+    """The table's lines: crates that take 200 seconds or more in the order of crates.txt, and the others together."""
     with open(f"{top}/crates.txt", encoding="utf-8") as it:
         names = re.findall(r"^(\w+)[^:\n]*:", it.read(), re.M)
-    rows = [HEAD, "|---|---|---|---|---|"]
-    for crate in names:
-        cells = [crate, functions.get(crate, "")]
-        cells += [f"{total[crate, kind]:.0f}" if total[crate, kind] else "" for kind in ("proof", "tests", "edits")]
-        rows.append(f"| {' | '.join(cells)} |")
-    return rows
+    takes = {crate: [total[crate, kind] for kind in ("proof", "tests", "edits")] for crate in names}
+    others = [crate for crate in names if sum(takes[crate]) < LEAST]
+    rows = [row_of(crate, functions.get(crate, ""), takes[crate]) for crate in names if crate not in others]
+    count = sum(int(functions.get(crate, 0)) for crate in others)
+    together = [sum(it) for it in zip(*(takes[crate] for crate in others))]
+    return [HEAD, "|---|---|---|---|---|", *rows, row_of(f"{len(others)} others", count, together)]
 
 
 def sums_of(top, total):
