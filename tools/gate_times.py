@@ -4,7 +4,7 @@
     tools/gate_times.py [--write] [--anew] [FOLDER]     runs the gate on a copy of HEAD, and measures it
     tools/gate_times.py [--write] --of TREE             what tools/gate_on.py measured in TREE, without a run
 
-It prints a table with a row for each crate that takes 200 seconds or more and one for the others, and what libraries,
+It prints a table with a row for each crate that takes 400 seconds or more and one for the others, and what libraries,
 programs, tests and edits take in all; with --write it puts the table into docs/GATE.md in place of the one there. A crate is proved, its tests are proved and built, and its
 must-fail/ edits are checked; a program's proof includes both compilers' builds. A measured run looks at the running
 checks twice a second, so a number may be short by half a second a check; `rt` itself, which reads the sources below
@@ -22,7 +22,7 @@ import tempfile
 import time
 
 TICKS = os.sysconf("SC_CLK_TCK")
-LEAST = 200  # seconds of a crate with a row of its own
+LEAST = 400  # seconds of a crate with a row of its own
 HEAD = "| crate | functions | proof | tests | edits |"
 
 
@@ -121,7 +121,7 @@ def row_of(name, functions, seconds):
 
 
 def rows_of(top, total, functions):
-    """The table's lines: crates that take 200 seconds or more in the order of crates.txt, and the others together."""
+    """The table's lines: crates that take 400 seconds or more in the order of crates.txt, and the others together."""
     with open(f"{top}/crates.txt", encoding="utf-8") as it:
         names = re.findall(r"^(\w+)[^:\n]*:", it.read(), re.M)
     takes = {crate: [total[crate, kind] for kind in ("proof", "tests", "edits")] for crate in names}
