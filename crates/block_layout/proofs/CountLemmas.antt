@@ -1,13 +1,18 @@
--- The number of lines that have content.
+-- How many lines have content.
 use Rattle.std.specs.Prelude.{◌≡◌, ℕ, ◌+◌, ◌-◌, nat_lt, Bool, true, false, not, ◌||◌, ◌==◌, List, [], ◌∷◌, ◌++◌, map}
 use Rattle.std.specs.Prelude.{length, chars, IsUtf8, if◌then◌else◌, refl}
+use Rattle.std.specs.List.{list_any}
 use Rattle.std.proofs.Common.{sym, ap, ◌∙◌, arith}
 use Rattle.std.proofs.lemmas.Bool.Decides.{nat_tests}
 use Rattle.text_pieces.specs.Sources.{is_filled}
+use Rattle.text_borders.specs.Across.{CellLine}
 use Rattle.text_wrapping.proofs.WordLemmas.{empty_text, some_text}
-use Rattle.text_cells.specs.Cells.{laid_line_of}
-use Rattle.text_cells.specs.declared.cell.LaidLine.{LaidLine}
-use Rattle.block_layout.specs.Counts.{content_count}
+use Rattle.text_cells.specs.Cells.{laid_line_of, laid_text_of, text_count, content_count, texts_of, part_lines}
+use Rattle.text_cells.specs.Cells.{parts_lines, parts_content, texts_content, block_lines_of, block_content}
+use Rattle.text_cells.specs.declared.laid_line.LaidLine.{LaidLine}
+use Rattle.text_cells.specs.declared.laid_line.LaidText.{LaidText}
+use Rattle.text_cells.specs.declared.part.Part.{Part}
+use Rattle.text_cells.specs.declared.block_lines.BlockLines.{BlockLines}
 use Rattle.block_layout.specs.Laid.{has_content}
 
 none_more : (n : ℕ) → 0 + n ≡ n
@@ -20,58 +25,57 @@ some_or : (b r : Bool) (n : ℕ) → nat_lt 0 n ≡ r → nat_lt 0 ((if b then 1
 some_or true r n e = one_more n
 some_or false r n e = ap (λ k. nat_lt 0 k) (none_more n) ∙ e
 
-pub counted_content : {T S : Type 0} (seen : T → S) (lines : List (LaidLine T))
+counted_lines : {T S : Type 0} (seen : T → S) (lines : List (LaidLine T))
     → nat_lt 0 (content_count lines) ≡ has_content (map (laid_line_of seen) lines)
-counted_content seen [] = refl
-counted_content seen (l ∷ lines) =
-    some_or l.content (has_content (map (laid_line_of seen) lines)) (content_count lines) (counted_content seen lines)
+counted_lines seen [] = refl
+counted_lines seen (l ∷ lines) =
+    some_or l.content (has_content (map (laid_line_of seen) lines)) (content_count lines) (counted_lines seen lines)
 
-more : (a n m k : ℕ) → n ≡ m + k → a + n ≡ (a + m) + k
-more a n m k e = omega arith
+counted_texts : {T S : Type 0} (seen : T → S) (texts : List (LaidText T))
+    → nat_lt 0 (text_count texts) ≡ has_content (map (laid_text_of seen) texts)
+counted_texts seen [] = refl
+counted_texts seen (t ∷ texts) =
+    some_or t.content (has_content (map (laid_text_of seen) texts)) (text_count texts) (counted_texts seen texts)
 
-sums : (a b c d : ℕ) → a ≡ c → b ≡ d → a + b ≡ c + d
-sums a b c d e f = cc
+any_append : {S : Type 0} (ls ms : List (CellLine S)) → has_content (ls ++ ms) ≡ (has_content ls || has_content ms)
+any_append [] ms = refl
+any_append (l ∷ ls) ms = by l.content (any_append ls ms)
+  where
+    by : (b : Bool) {x y z : Bool} → x ≡ (y || z) → (b || x) ≡ ((b || y) || z)
+    by true e = refl
+    by false e = e
 
-less : (n k m a b : ℕ) → n ≡ a + b → k ≡ b → m ≡ n - k → m ≡ a
-less n k m a b e f g = omega arith
+either : (n m : ℕ) → nat_lt 0 (n + m) ≡ (nat_lt 0 n || nat_lt 0 m)
+either n m = grind (arith, nat_tests)
 
-pub counted_behind : {T : Type 0} (lines : List (LaidLine T)) (l : LaidLine T)
-    → content_count (lines ++ l ∷ []) ≡ content_count lines + content_count (l ∷ [])
-counted_behind [] l = sym (none_more (content_count (l ∷ [])))
-counted_behind (m ∷ lines) l =
-    let e = counted_behind lines l in
-    more (if m.content then 1 else 0) (content_count (lines ++ l ∷ [])) (content_count lines) (content_count (l ∷ [])) e
+both_counted : {S : Type 0} (n m : ℕ) (ls ms : List (CellLine S)) → nat_lt 0 n ≡ has_content ls
+    → nat_lt 0 m ≡ has_content ms → nat_lt 0 (n + m) ≡ has_content (ls ++ ms)
+both_counted n m ls ms e f =
+    either n m ∙ ap (λ b. b || nat_lt 0 m) e ∙ ap (λ b. has_content ls || b) f ∙ sym (any_append ls ms)
 
-all_behind : {T : Type 0} (lines more : List (LaidLine T))
-    → content_count (lines ++ more) ≡ content_count lines + content_count more
-all_behind [] more = sym (none_more (content_count more))
-all_behind (m ∷ lines) more =
-    shifted (if m.content then 1 else 0) (content_count (lines ++ more)) (content_count lines) (content_count more)
-    (all_behind lines more) where
-      shifted : (a n m k : ℕ) → n ≡ m + k → a + n ≡ (a + m) + k
-      shifted a n m k e = omega arith
+counted_parts : {T S : Type 0} (seen : T → S) (parts : List (Part T))
+    → nat_lt 0 (parts_content parts) ≡ has_content (parts_lines seen parts)
+counted_parts seen [] = refl
+counted_parts seen (p ∷ parts) =
+    both_counted (content_count p.before.items + texts_content p.texts) (parts_content parts) (part_lines seen p)
+    (parts_lines seen parts)
+    (both_counted (content_count p.before.items) (texts_content p.texts) (map (laid_line_of seen) p.before.items)
+    (texts_of seen p.texts) (counted_lines seen p.before.items) (counted_texts seen p.texts.lines.items))
+    (counted_parts seen parts)
 
--- so many more
-pub counted_all_more : {T : Type 0} (lines more new : List (LaidLine T)) (n k m : ℕ) → n ≡ content_count lines
-    → k ≡ content_count more → m ≡ n + k → new ≡ lines ++ more → m ≡ content_count new
-counted_all_more lines more new n k m e f g h =
-    g ∙ sums n k (content_count lines) (content_count more) e f ∙ sym (all_behind lines more)
-    ∙ ap (λ ls. content_count ls) (sym h)
+pub counted_content : {T S : Type 0} (seen : T → S) (lines : BlockLines T)
+    → nat_lt 0 (block_content lines) ≡ has_content (block_lines_of seen lines)
+counted_content seen lines =
+    both_counted (parts_content lines.parts.items) (content_count lines.lines.items)
+    (parts_lines seen lines.parts.items) (map (laid_line_of seen) lines.lines.items)
+    (counted_parts seen lines.parts.items) (counted_lines seen lines.lines.items)
 
--- one more, and one less
-pub counted_more : {T : Type 0} (lines new : List (LaidLine T)) (l : LaidLine T) (n k m : ℕ)
-    → n ≡ content_count lines → k ≡ content_count (l ∷ []) → m ≡ n + k → new ≡ lines ++ l ∷ []
-    → m ≡ content_count new
-counted_more lines new l n k m e f g h =
-    g ∙ sums n k (content_count lines) (content_count (l ∷ [])) e f ∙ sym (counted_behind lines l)
-    ∙ ap (λ ls. content_count ls) (sym h)
+-- more, and less
+pub counted_more : (n k m old more new : ℕ) → n ≡ old → k ≡ more → m ≡ n + k → new ≡ old + more → m ≡ new
+counted_more n k m old more new e f g h = omega arith
 
-pub counted_less : {T : Type 0} (old lines : List (LaidLine T)) (l : LaidLine T) (n k m : ℕ)
-    → n ≡ content_count old → k ≡ content_count (l ∷ []) → m ≡ n - k → old ≡ lines ++ l ∷ []
-    → m ≡ content_count lines
-counted_less old lines l n k m e f g h =
-    less n k m (content_count lines) (content_count (l ∷ []))
-    (e ∙ ap (λ ls. content_count ls) h ∙ counted_behind lines l) f g
+pub counted_less : (n k m old less new : ℕ) → n ≡ old → k ≡ less → m ≡ n - k → old ≡ new + less → m ≡ new
+counted_less n k m old less new e f g h = omega arith
 
 filled_none : (cs : List ℕ) → cs ≡ [] → false ≡ is_filled cs
 filled_none [] e = refl

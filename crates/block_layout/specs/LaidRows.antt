@@ -6,18 +6,11 @@ use Rattle.text_pieces.specs.Items.{has_text}
 use Rattle.text_borders.specs.Borders.{Border, plain}
 use Rattle.text_borders.specs.Lines.{BlockLine, text, border}
 use Rattle.text_borders.specs.Across.{CellLine, Cell, Row, across}
+pub use Rattle.text_cells.specs.Ends.{border_line, last_border}
 use Rattle.block_layout.specs.declared.measure.Measure.{Measure}
 use Rattle.block_layout.specs.Laid.{Laid, add_line, add_border, without_hanging, flush}
 
--- the last line, where it is a border
-abbrev pub border_line : {S : Type 0} → BlockLine S → Option (Border S)
-border_line (text items) = None
-border_line (border b) = Some b
-
-abbrev pub last_border : {S : Type 0} → List (CellLine S) → Option (Border S)
-last_border lines = fold (λ _ l. border_line l.line) None lines
-
--- the lines before it
+-- the lines before the last
 abbrev pub before_last : {A : Type 0} → List A → List A
 before_last [] = []
 before_last (x ∷ []) = []

@@ -1,4 +1,3 @@
-pub mod Counts
 pub mod Laid
 pub mod LaidRows
 pub mod Retagged

@@ -1,19 +1,17 @@
 -- What contracts see of a block of lines.
-use Rattle.std.specs.Prelude.{List, All, IfSome, map}
+use Rattle.std.specs.Prelude.{List, IfSome, map}
 use Rattle.std.specs.Option.{option_map}
 use Rattle.text_pieces.specs.Sources.{names}
 use Rattle.text_wrapping.specs.Blocks.{text_of, AreJoinedLines}
 use Rattle.text_borders.specs.Across.{CellLine}
-use Rattle.text_borders.specs.Lines.{IsJoinedText}
-use Rattle.text_cells.specs.Cells.{laid_line_of, hanging_of}
-use Rattle.text_cells.specs.declared.cell.LaidLine.{LaidLine}
+use Rattle.text_cells.specs.Cells.{block_lines_of, hanging_of, AreBlockLinesJoined}
 use Rattle.block_layout.specs.Laid.{Running as SeenRunning, Laid}
 use Rattle.block_layout.specs.declared.lines.LaidLines.{LaidLines}
 use Rattle.block_layout.specs.declared.running.Running.{Running}
 use Rattle.block_layout.specs.declared.block.BlockLayout.{BlockLayout}
 
 abbrev pub lines_of : {T S : Type 0} → (T → S) → LaidLines T → List (CellLine S)
-lines_of seen lines = map (laid_line_of seen) lines.lines.items
+lines_of seen lines = block_lines_of seen lines.lines
 
 abbrev pub running_of : {T S : Type 0} → (T → S) → Running T → SeenRunning S
 running_of seen running = record {
@@ -31,13 +29,10 @@ laid_of seen block = record {
   hanging = map (hanging_of seen) block.hanging.items;
 }
 
--- No text of the lines is empty, and none stands next to one with an equal tag. A border is joined where it is made
--- text.
-abbrev pub AreLinesJoined : {T S : Type 0} → (T → S) → List (LaidLine T) → Type 0
-AreLinesJoined seen lines = All (λ l. IsJoinedText seen l.line) lines
+pub use Rattle.text_cells.specs.Cells.{AreLinesJoined}
 
 abbrev pub HoldsJoinedLines : {T S : Type 0} → (T → S) → LaidLines T → Type 0
-HoldsJoinedLines seen lines = AreLinesJoined seen lines.lines.items
+HoldsJoinedLines seen lines = AreBlockLinesJoined seen lines.lines
 
 abbrev pub RunsJoined : {T S : Type 0} → (T → S) → Running T → Type 0
 RunsJoined seen running = AreJoinedLines seen running.text

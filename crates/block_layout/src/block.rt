@@ -10,7 +10,7 @@ use crate::texts::{behind_names, fill_line, finished_lines};
 use std::alloc::{AllocError, Global};
 use tagged_lines::{EqualCopy, TaggedLine};
 use text_borders::{BorderHoriz, RenderLine};
-use text_cells::{HangingCell, LaidLine};
+use text_cells::{BlockLines, HangingCell, LaidLine};
 use text_pieces::{BlockError, LaidText, has_text};
 
 /// A block of lines, and the text that runs behind them. A call that is refused leaves a part of what it was to add.
@@ -39,7 +39,7 @@ impl<T: Drop> Drop for BlockLayout<T> {
 }
 
 impl<T: EqualCopy + Drop> BlockLayout<T> {
-    ghost use Rattle.block_layout.specs.Seen.{laid_of, running_of, AreLinesJoined, RunsJoined, HasJoinedTexts};
+    ghost use Rattle.block_layout.specs.Seen.{laid_of, running_of, RunsJoined, HasJoinedTexts};
     ghost use Rattle.block_layout.specs.Laid.{nothing_laid, is_nothing, has_no_text, add_line, add_border};
     ghost use Rattle.block_layout.specs.Laid.{add_text_line};
     ghost use Rattle.block_layout.specs.Laid.{add_text_lines, laid_text, flush_of, flush, with_markers};
@@ -48,7 +48,7 @@ impl<T: EqualCopy + Drop> BlockLayout<T> {
     ghost use Rattle.block_layout.specs.Laid.{finished_lines};
     ghost use Rattle.text_borders.specs.Borders.{border_of};
     ghost use Rattle.text_borders.specs.Lines.{render_line_of, IsJoinedText};
-    ghost use Rattle.text_cells.specs.Cells.{laid_line_of};
+    ghost use Rattle.text_cells.specs.Cells.{block_lines_of, AreBlockLinesJoined};
     ghost use Rattle.text_pieces.specs.Sources.{names};
 
     /// A block without lines.
@@ -273,14 +273,16 @@ impl<T: EqualCopy + Drop> BlockLayout<T> {
     {
         let mut block = self;
         block.flush(measure, tag)?;
-        let lines = finished_lines(measure, block.into_laid_lines())?;
+        let alloc = *block.markers.allocator();
+        let laid = block.into_laid_lines().into_vec(alloc)?;
+        let lines = finished_lines(measure, laid)?;
         Ok(lines)
     }
 
     /// The lines that are laid out.
-    pub fn into_laid_lines(self) -> Vec<LaidLine<T>>
-        ensures lines { map (laid_line_of T.seen) result.items ≡ (laid_of T.seen self).lines }
-        ensures joined { HasJoinedTexts T.seen self → AreLinesJoined T.seen result.items }
+    pub fn into_laid_lines(self) -> BlockLines<T>
+        ensures lines { block_lines_of T.seen result ≡ (laid_of T.seen self).lines }
+        ensures joined { HasJoinedTexts T.seen self → AreBlockLinesJoined T.seen result }
     {
         let BlockLayout {
             lines,
@@ -289,6 +291,6 @@ impl<T: EqualCopy + Drop> BlockLayout<T> {
             markers: _,
             hanging: _,
         } = self;
-        lines.into_vec()
+        lines.into_lines()
     }
 }

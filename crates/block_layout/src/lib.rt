@@ -12,4 +12,4 @@ mod texts;
 
 pub use block::BlockLayout;
 pub use measure::Measure;
-pub use text_cells::{LaidLine, LineSet};
+pub use text_cells::{BlockLines, LaidLine, LineSet};

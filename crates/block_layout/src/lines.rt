@@ -2,33 +2,34 @@
 
 use std::alloc::{AllocError, Global};
 use tagged_lines::EqualCopy;
-use text_cells::LaidLine;
+use text_cells::{BlockLines, LaidLine, WideTexts};
 
 /// Lines, with the number of those that have content, so that no line is looked at again.
 #[derive(Drop)]
 pub(crate) struct LaidLines<T> {
-    lines: Vec<LaidLine<T>>,
+    lines: BlockLines<T>,
     filled: usize,
-    ghost counted: { filled ≡ content_count lines.items },
+    ghost counted: { filled ≡ block_content lines },
 }
 
 ghost use Rattle.std.specs.Prelude.{◌≡◌, ◌+◌, ◌∷◌, [], IfOk};
-ghost use Rattle.block_layout.specs.Counts.{content_count};
+ghost use Rattle.text_cells.specs.Cells.{block_content, content_count};
 
 impl<T: EqualCopy + Drop> LaidLines<T> {
-    ghost use Rattle.std.specs.Prelude.{◌∷◌, ◌++◌, [], not, map, OnOk, IfSome, IsNone};
+    ghost use Rattle.std.specs.Prelude.{◌∷◌, ◌++◌, [], not, map, None, OnOk, IfSome, IsNone};
     ghost use Rattle.text_pieces.specs.Sources.{is_filled};
     ghost use Rattle.block_layout.specs.Seen.{lines_of, AreLinesJoined, HoldsJoinedLines};
     ghost use Rattle.block_layout.specs.Laid.{has_content};
     ghost use Rattle.text_borders.specs.Lines.{IsJoinedText};
-    ghost use Rattle.text_cells.specs.Cells.{laid_line_of};
+    ghost use Rattle.text_cells.specs.Cells.{laid_line_of, texts_of, block_lines_of, AreBlockLinesJoined};
+    ghost use Rattle.text_cells.specs.Ends.{last_border};
 
     pub(crate) fn new(alloc: Global) -> LaidLines<T>
         ensures lines { lines_of T.seen result ≡ [] }
         ensures joined { HoldsJoinedLines T.seen result }
     {
         LaidLines {
-            lines: Vec::new(alloc),
+            lines: BlockLines::new(alloc),
             filled: 0,
         }
     }
@@ -64,19 +65,30 @@ impl<T: EqualCopy + Drop> LaidLines<T> {
         ensures joined { HoldsJoinedLines T.seen self.old → AreLinesJoined T.seen lines.items
             → HoldsJoinedLines T.seen self.new }
     {
-        let mut lines = lines;
         let filled = sum(self.filled, count(&lines)?)?;
-        self.lines.append(&mut lines)?;
+        self.lines.push_all(lines)?;
         self.filled = filled;
         Ok(())
     }
 
-    /// Takes the last line off.
+    /// Moves wide texts to the end.
+    pub(crate) fn push_texts(&mut self, texts: WideTexts<T>) -> Result<(), AllocError>
+        ensures lines { OnOk result (lines_of T.seen self.new
+            ≡ lines_of T.seen self.old ++ texts_of T.seen texts) }
+        ensures joined { HoldsJoinedLines T.seen self.old → HoldsJoinedLines T.seen self.new }
+    {
+        let filled = sum(self.filled, texts.filled())?;
+        self.lines.push_texts(texts)?;
+        self.filled = filled;
+        Ok(())
+    }
+
+    /// Takes the last line off, where that is none of wide texts.
     pub(crate) fn pop(&mut self) -> Option<LaidLine<T>>
         ensures last { IfSome result (λ l. lines_of T.seen self.old
             ≡ lines_of T.seen self.new ++ laid_line_of T.seen l ∷ []) }
-        ensures none { IsNone result → lines_of T.seen self.old ≡ [] }
-        ensures nothing { IsNone result → lines_of T.seen self.new ≡ [] }
+        ensures none { IsNone result → last_border (lines_of T.seen self.old) ≡ None }
+        ensures same { IsNone result → lines_of T.seen self.new ≡ lines_of T.seen self.old }
         ensures joined { HoldsJoinedLines T.seen self.old → HoldsJoinedLines T.seen self.new }
         ensures taken { HoldsJoinedLines T.seen self.old
             → IfSome result (λ l. IsJoinedText T.seen l.line) }
@@ -86,9 +98,9 @@ impl<T: EqualCopy + Drop> LaidLines<T> {
         Some(last)
     }
 
-    pub(crate) fn into_vec(self) -> Vec<LaidLine<T>>
-        ensures lines { map (laid_line_of T.seen) result.items ≡ lines_of T.seen self }
-        ensures joined { HoldsJoinedLines T.seen self → AreLinesJoined T.seen result.items }
+    pub(crate) fn into_lines(self) -> BlockLines<T>
+        ensures lines { block_lines_of T.seen result ≡ lines_of T.seen self }
+        ensures joined { HoldsJoinedLines T.seen self → AreBlockLinesJoined T.seen result }
     {
         let LaidLines { lines, .. } = self;
         lines

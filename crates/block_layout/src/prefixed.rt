@@ -1,8 +1,8 @@
 //! Lines of other blocks.
-ghost use Rattle.std.specs.Prelude.{◌≡◌, ◌⊎◌, ◌++◌, ◌||◌, None, Some, chars, map, IfErr, OnOk, IfOk, IsTrue};
+ghost use Rattle.std.specs.Prelude.{◌≡◌, ◌⊎◌, [], ◌∷◌, ◌++◌, ◌||◌, None, Some, chars, map, IfErr, OnOk, IfOk, IsTrue};
 ghost use Rattle.tagged_lines.specs.Tagged.{line_items, tagged, IsJoined};
 ghost use Rattle.text_borders.specs.Lines.{render_line_of, IsJoinedText};
-ghost use Rattle.text_cells.specs.Cells.{laid_line_of};
+ghost use Rattle.text_cells.specs.Cells.{laid_line_of, texts_of, block_lines_of};
 ghost use Rattle.text_pieces.specs.Sources.{is_filled};
 ghost use Rattle.block_layout.specs.Laid.{content_as_text};
 ghost use Rattle.block_layout.specs.Seen.{AreLinesJoined};
@@ -16,7 +16,7 @@ use std::alloc::{AllocError, Global};
 use std::mem;
 use tagged_lines::{EqualCopy, TaggedLine};
 use text_borders::{BorderHoriz, RenderLine};
-use text_cells::LaidLine;
+use text_cells::{BlockLines, LaidLine, Part, WideTexts};
 use text_pieces::BlockError;
 
 impl<T: EqualCopy + Drop> BlockLayout<T> {
@@ -75,10 +75,10 @@ impl<T: EqualCopy + Drop> BlockLayout<T> {
         tag: &T,
         first: &str,
         following: &str,
-        lines: Vec<LaidLine<T>>,
+        lines: BlockLines<T>,
     ) -> Result<(), AllocError>
         ensures laid { OnOk result (laid_of T.seen self.new ≡ add_block other measure (T.seen tag.now) (chars first.now)
-            (chars following.now) (map (laid_line_of T.seen) lines.items) (laid_of T.seen self.old)) }
+            (chars following.now) (block_lines_of T.seen lines) (laid_of T.seen self.old)) }
         ensures joined { HasJoinedTexts T.seen self.old → HasJoinedTexts T.seen self.new }
     {
         if self.takes_all(measure, first, following) {
@@ -95,13 +95,13 @@ impl<T: EqualCopy + Drop> BlockLayout<T> {
         tag: &T,
         first: &str,
         following: &str,
-        lines: Vec<LaidLine<T>>,
+        lines: BlockLines<T>,
     ) -> Result<(), AllocError>
         ensures laid { OnOk result (laid_of T.seen self.new ≡ add_block other measure (T.seen tag.now) (chars first.now)
-            (chars following.now) (map (laid_line_of T.seen) lines.items) (laid_of T.seen self.old)) }
+            (chars following.now) (block_lines_of T.seen lines) (laid_of T.seen self.old)) }
         ensures joined { HasJoinedTexts T.seen self.old → HasJoinedTexts T.seen self.new }
     {
-        let mut lines = lines.into_iter();
+        let mut lines = lines.into_vec(*self.markers.allocator())?.into_iter();
         let Some(line) = lines.next() else {
             return Ok(());
         };
@@ -127,14 +127,19 @@ impl<T: EqualCopy + Drop> BlockLayout<T> {
         &mut self,
         other: Measure,
         tag: &T,
-        lines: Vec<LaidLine<T>>,
+        lines: BlockLines<T>,
     ) -> Result<(), AllocError>
         ensures laid { OnOk result (laid_of T.seen self.new ≡ with_texts other (T.seen tag.now)
-            (map (laid_line_of T.seen) lines.items) (laid_of T.seen self.old)) }
+            (block_lines_of T.seen lines) (laid_of T.seen self.old)) }
         ensures joined { HasJoinedTexts T.seen self.old → HasJoinedTexts T.seen self.new }
     {
         let alloc = *self.markers.allocator();
-        let settled = settle_all(alloc, other, tag, lines)?;
+        if lines.are_many() {
+            return self
+                .lines
+                .push_texts(settled_texts(alloc, other, tag, lines)?);
+        }
+        let settled = settle_all(alloc, other, tag, lines.into_vec(alloc)?)?;
         self.lines.append(settled)
     }
 
@@ -179,6 +184,59 @@ fn behind_prefix<T: EqualCopy + Drop>(
     prefixed.push_str(prefix, tag)?;
     prefixed.append(&mut line)?;
     Ok(prefixed)
+}
+
+// Makes texts of many lines of another block.
+fn settled_texts<T: EqualCopy + Drop>(
+    alloc: Global,
+    other: Measure,
+    tag: &T,
+    lines: BlockLines<T>,
+) -> Result<WideTexts<T>, AllocError>
+    ensures { IfOk result (λ all. texts_of T.seen all
+        ≡ map (settled other (T.seen tag.now)) (block_lines_of T.seen lines)) }
+{
+    let (parts, last) = lines.into_parts();
+    let mut all = WideTexts::new(alloc);
+    for part in parts {
+        let Part { before, texts, .. } = part;
+        push_settled(alloc, other, tag, &mut all, before)?;
+        all = all.joined(texts)?;
+    }
+    push_settled(alloc, other, tag, &mut all, last)?;
+    Ok(all)
+}
+
+// Adds lines of another block as texts.
+fn push_settled<T: EqualCopy + Drop>(
+    alloc: Global,
+    other: Measure,
+    tag: &T,
+    all: &mut WideTexts<T>,
+    lines: Vec<LaidLine<T>>,
+) -> Result<(), AllocError>
+    ensures { OnOk result (texts_of T.seen all.new ≡ texts_of T.seen all.old
+        ++ map (settled other (T.seen tag.now)) (map (laid_line_of T.seen) lines.items)) }
+{
+    for laid in lines {
+        push_one_settled(alloc, other, tag, all, laid)?;
+    }
+    Ok(())
+}
+
+fn push_one_settled<T: EqualCopy + Drop>(
+    alloc: Global,
+    other: Measure,
+    tag: &T,
+    all: &mut WideTexts<T>,
+    laid: LaidLine<T>,
+) -> Result<(), AllocError>
+    ensures { OnOk result (texts_of T.seen all.new ≡ texts_of T.seen all.old
+        ++ settled other (T.seen tag.now) (laid_line_of T.seen laid) ∷ []) }
+{
+    let content = content_as_text(&laid.line, laid.content);
+    let text = finished(other, laid.line)?.into_text(alloc, tag)?;
+    all.push(text, content)
 }
 
 // Makes texts of lines of another block, where they stand.

@@ -1,10 +1,11 @@
 //! Rows of cells in a block.
-ghost use Rattle.std.specs.Prelude.{◌≡◌, ◌⊎◌, None, Some, map, All, IfErr, IfOk, OnOk};
+ghost use Rattle.std.specs.Prelude.{◌≡◌, ◌⊎◌, false, None, Some, map, All, IfErr, IfOk, OnOk};
 ghost use Rattle.std.specs.Option.{option_map};
 ghost use Rattle.text_borders.specs.Borders.{border_of};
 ghost use Rattle.text_borders.specs.Lines.{IsJoinedText};
 ghost use Rattle.tagged_lines.specs.Tagged.{line_items, IsJoined};
-ghost use Rattle.text_cells.specs.Cells.{cell_of, hanging_of, laid_line_of, row_of};
+ghost use Rattle.text_cells.specs.Cells.{cell_of, hanging_of, laid_line_of, row_of, row_lines_of, AreRowLines};
+ghost use Rattle.text_cells.specs.Cells.{texts_items, HaveTextContent};
 ghost use Rattle.text_pieces.specs.declared.fault.BlockError.TheVariants as errors;
 
 use crate::block::BlockLayout;
@@ -13,7 +14,7 @@ use std::alloc::AllocError;
 use std::mem;
 use tagged_lines::{EqualCopy, TaggedLine};
 use text_borders::{BorderHoriz, RenderLine};
-use text_cells::{HangingCell, LaidLine, LineSet, Row, lay_across};
+use text_cells::{HangingCell, LaidLine, LineSet, Row, RowLines, WideTexts, joined_line, lay_across};
 use text_pieces::{BlockError, has_text};
 
 impl<T: EqualCopy + Drop> BlockLayout<T> {
@@ -114,9 +115,9 @@ impl<T: EqualCopy + Drop> BlockLayout<T> {
         draws: bool,
         row: Row<T>,
     ) -> Result<(), AllocError>
-        ensures laid { OnOk result (laid_of T.seen self.new
+        ensures laid { AreRowLines T.seen row.lines → OnOk result (laid_of T.seen self.new
             ≡ with_row measure (T.seen tag.now) draws (row_of T.seen row) (laid_of T.seen self.old)) }
-        ensures joined { HasJoinedTexts T.seen self.old → All (IsJoined T.seen) row.lines.items
+        ensures joined { HasJoinedTexts T.seen self.old → AreRowLines T.seen row.lines
             → HasJoinedTexts T.seen self.new }
     {
         let Row {
@@ -149,6 +150,23 @@ impl<T: EqualCopy + Drop> BlockLayout<T> {
         &mut self,
         measure: Measure,
         tag: &T,
+        lines: RowLines<T>,
+    ) -> Result<(), AllocError>
+        ensures laid { AreRowLines T.seen lines → OnOk result (laid_of T.seen self.new
+            ≡ add_row_lines measure (T.seen tag.now) (row_lines_of T.seen lines) (laid_of T.seen self.old)) }
+        ensures joined { HasJoinedTexts T.seen self.old → AreRowLines T.seen lines
+            → HasJoinedTexts T.seen self.new }
+    {
+        match lines {
+            RowLines::Each(lines) => self.add_each_line(measure, tag, lines),
+            RowLines::Wide(texts) => self.add_texts(measure, tag, texts),
+        }
+    }
+
+    fn add_each_line(
+        &mut self,
+        measure: Measure,
+        tag: &T,
         lines: Vec<TaggedLine<T>>,
     ) -> Result<(), AllocError>
         ensures laid { OnOk result (laid_of T.seen self.new ≡ add_row_lines measure (T.seen tag.now)
@@ -161,5 +179,78 @@ impl<T: EqualCopy + Drop> BlockLayout<T> {
             self.add_line(measure, tag, content, line)?;
         }
         Ok(())
+    }
+
+    /// Adds wide texts; where lines are filled one by one.
+    fn add_texts(
+        &mut self,
+        measure: Measure,
+        tag: &T,
+        texts: WideTexts<T>,
+    ) -> Result<(), AllocError>
+        ensures laid { HaveTextContent T.seen texts → OnOk result (laid_of T.seen self.new
+            ≡ add_row_lines measure (T.seen tag.now) (texts_items T.seen texts) (laid_of T.seen self.old)) }
+        ensures joined { HasJoinedTexts T.seen self.old → HasJoinedTexts T.seen self.new }
+    {
+        if measure.pads {
+            return self.add_each_text(measure, tag, texts);
+        }
+        if self.markers.is_empty() {
+            return self.lines.push_texts(texts);
+        }
+        self.add_marked_texts(measure, tag, texts)
+    }
+
+    fn add_each_text(
+        &mut self,
+        measure: Measure,
+        tag: &T,
+        texts: WideTexts<T>,
+    ) -> Result<(), AllocError>
+        ensures laid { OnOk result (laid_of T.seen self.new ≡ add_row_lines measure (T.seen tag.now)
+            (texts_items T.seen texts) (laid_of T.seen self.old)) }
+        ensures joined { HasJoinedTexts T.seen self.old → HasJoinedTexts T.seen self.new }
+    {
+        let mut texts = texts;
+        while let Some(text) = texts.pop_first() {
+            self.add_row_text(measure, tag, text.line)?;
+        }
+        Ok(())
+    }
+
+    /// Adds the first text behind the markers that wait.
+    fn add_marked_texts(
+        &mut self,
+        measure: Measure,
+        tag: &T,
+        texts: WideTexts<T>,
+    ) -> Result<(), AllocError>
+        requires { measure.pads ≡ false }
+        ensures laid { HaveTextContent T.seen texts → OnOk result (laid_of T.seen self.new
+            ≡ add_row_lines measure (T.seen tag.now) (texts_items T.seen texts) (laid_of T.seen self.old)) }
+        ensures joined { HasJoinedTexts T.seen self.old → HasJoinedTexts T.seen self.new }
+    {
+        let mut texts = texts;
+        let Some(first) = texts.pop_first() else {
+            return Ok(());
+        };
+        self.add_row_text(measure, tag, first.line)?;
+        self.lines.push_texts(texts)
+    }
+
+    fn add_row_text(
+        &mut self,
+        measure: Measure,
+        tag: &T,
+        line: TaggedLine<T>,
+    ) -> Result<(), AllocError>
+        ensures laid { OnOk result (laid_of T.seen self.new ≡ add_row_line measure (T.seen tag.now)
+            (laid_of T.seen self.old) (line_items T.seen line)) }
+        ensures joined { HasJoinedTexts T.seen self.old → HasJoinedTexts T.seen self.new }
+    {
+        let alloc = *self.markers.allocator();
+        let line = joined_line(alloc, line)?;
+        let content = has_text(&line);
+        self.add_line(measure, tag, content, line)
     }
 }

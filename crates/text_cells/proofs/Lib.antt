@@ -1,6 +1,9 @@
+pub mod AloneLemmas
+pub mod BlockLemmas
 pub mod GoingLemmas
 pub mod JoiningLemmas
 pub mod OpeningLemmas
 pub mod RowLemmas
 pub mod SeatingLemmas
+pub mod TextLemmas
 pub mod WholeRow

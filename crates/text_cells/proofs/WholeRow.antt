@@ -6,10 +6,10 @@ use Rattle.std.proofs.lemmas.List.{take_at}
 use Rattle.tagged_lines.specs.Tagged.{Item}
 use Rattle.text_borders.specs.Segments.{with_up, with_down}
 use Rattle.text_borders.specs.Borders.{Border, horizontal, plain, stretched, change_to, with_segments}
-use Rattle.text_borders.specs.Across.{Cell, Hanging, OpenCell, seated, opened, row_width, signs, of_cells}
+use Rattle.text_borders.specs.Across.{Cell, Hanging, OpenCell, opened, row_width, signs, of_cells}
 use Rattle.text_borders.specs.Across.{joined_to_row, border_below, sign_of, row_height, row_lines, with_holes}
-use Rattle.text_borders.specs.Across.{hanging_of, row_of, is_given, row_cells, across}
-use Rattle.text_cells.specs.OpenCells.{after}
+use Rattle.text_borders.specs.Across.{hanging_of, row_of, is_given}
+use Rattle.text_cells.specs.OpenCells.{after, seated_across}
 use Rattle.text_cells.proofs.GoingLemmas.{holes_after, hanging_after}
 
 pub given_is : {A B : Type 0} (f : A → B) (o : Option A) → is_some o ≡ is_given (option_map f o)
@@ -20,13 +20,11 @@ given_is f (Some x) = refl
 pub written : {A : Type 0} (now first : List A) (n : ℕ) → length now ≡ n → take n (now ++ drop (length now) first) ≡ now
 written now first n long = take_at now (drop (length now) first) n long
 
-pub cells_are : {S : Type 0} (collapse given : Bool) (tag : S) (above : Option (Border S)) (cells : List (Cell S))
-    (hanging : List (Hanging S)) (seats : List (Cell S)) (row : List (OpenCell S)) → given ≡ is_given above
-    → seats ≡ seated 0 cells hanging → row ≡ map (opened collapse given tag) seats
-    → row ≡ row_cells collapse tag above cells hanging
-cells_are collapse given tag above cells hanging seats row given_is seats_are row_is =
-    row_is ∙ ap (map (opened collapse given tag)) seats_are
-    ∙ ap (λ b. map (opened collapse b tag) (seated 0 cells hanging)) given_is
+pub cells_are : {S : Type 0} (collapse given : Bool) (tag : S) (above : Option (Border S)) (seats : List (Cell S))
+    (row : List (OpenCell S)) → given ≡ is_given above → row ≡ map (opened collapse given tag) seats
+    → row ≡ map (opened collapse (is_given above) tag) seats
+cells_are collapse given tag above seats row given_is row_is =
+    row_is ∙ ap (λ b. map (opened collapse b tag) seats) given_is
 
 pub above_is : {S : Type 0} (above joined : Option (Border S)) (row : List (OpenCell S)) (width : ℕ) (ks : List ℕ)
     → width ≡ row_width row → ks ≡ signs 0 row
@@ -70,14 +68,14 @@ pub hanging_are : {S : Type 0} (row left : List (OpenCell S)) (height : ℕ) (ha
 hanging_are row left height hanging height_is taken are =
     are ∙ ap (hanging_of 0 0) taken ∙ hanging_after height 0 row ∙ ap (λ n. hanging_of n 0 row) height_is
 
-pub row_is : {S : Type 0} (draws collapse : Bool) (tag : S) (above : Option (Border S)) (cells : List (Cell S))
-    (hanging : List (Hanging S)) (row : List (OpenCell S)) (joined : Option (Border S)) (lines : List (List (Item S)))
-    (below : Border S) (going : List (Hanging S)) → row ≡ row_cells collapse tag above cells hanging
+pub row_is : {S : Type 0} (draws collapse : Bool) (tag : S) (above : Option (Border S)) (seats : List (Cell S))
+    (row : List (OpenCell S)) (joined : Option (Border S)) (lines : List (List (Item S)))
+    (below : Border S) (going : List (Hanging S)) → row ≡ map (opened collapse (is_given above) tag) seats
     → joined ≡ option_map (joined_to_row row) above → lines ≡ row_lines (sign_of draws) tag row 0 (row_height row)
     → below ≡ with_holes tag (row_height row) 0 row (border_below tag row) → going ≡ hanging_of (row_height row) 0 row
     → (record { above = joined; lines = lines; below = below; hanging = going })
-    ≡ across draws collapse tag above cells hanging
-row_is draws collapse tag above cells hanging row joined lines below going cells_are above_is lines_are below_is
+    ≡ seated_across draws collapse tag above seats
+row_is draws collapse tag above seats row joined lines below going cells_are above_is lines_are below_is
     hanging_are =
     ap (λ x. record { above = x; lines = lines; below = below; hanging = going }) above_is
     ∙ ap (λ x. record { above = option_map (joined_to_row row) above; lines = x; below = below; hanging = going })

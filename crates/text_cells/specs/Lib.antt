@@ -1,2 +1,4 @@
 pub mod Cells
+pub mod Ends
 pub mod OpenCells
+pub mod Texts

@@ -1,13 +1,13 @@
 -- What private contracts see of open cells, and words between the code's steps and those of the definition.
-use Rattle.std.specs.Prelude.{ℕ, ◌+◌, ◌-◌, Bool, false, nat_le, nat_lt, List, [], ◌∷◌, Option, None, Some, map, drop}
+use Rattle.std.specs.Prelude.{◌≡◌, ◌≤◌, All, length, ℕ, ◌+◌, ◌-◌, Bool, false, nat_le, nat_lt, List, [], ◌∷◌, Option, None, Some, map, drop}
 use Rattle.std.specs.Prelude.{if◌then◌else◌}
 use Rattle.std.specs.Option.{option_map}
 use Rattle.tagged_lines.specs.Tagged.{Item, character, line_items}
 use Rattle.text_borders.specs.Segments.{Segment, joins_above, joins_below}
 use Rattle.text_borders.specs.Borders.{Border, border_of, columns_where}
 use Rattle.text_borders.specs.Across.{spaces, CellLine, Cell, Hanging, empty_cell, OpenCell as SeenCell, goes_on}
-use Rattle.text_borders.specs.Across.{further}
-use Rattle.text_cells.specs.Cells.{laid_line_of}
+use Rattle.text_borders.specs.Across.{further, opened, row_of, is_given, Row}
+use Rattle.text_cells.specs.Texts.{laid_line_of}
 use Rattle.tagged_lines.specs.declared.tagged_line.TaggedLine.{TaggedLine}
 use Rattle.text_cells.specs.declared.opening.OpenCell.{OpenCell}
 
@@ -63,3 +63,24 @@ next_cell c = record { width = c.width; rows = c.rows - 1; lines = c.lines }
 -- what stands behind a cell, so many of which follow it
 abbrev pub sign_before : {S : Type 0} → ℕ → S → ℕ → List (Item S)
 sign_before sign tag count = if nat_lt 0 count then character sign tag ∷ [] else []
+
+-- a row of cells among which those that go on are seated
+abbrev pub seated_across : {S : Type 0} → Bool → Bool → S → Option (Border S) → List (Cell S) → Row S
+seated_across draws collapse tag above cells =
+    row_of draws tag above (map (opened collapse (is_given above) tag) cells)
+
+-- a cell without lines between borders that were its first and its last line
+abbrev pub bare_cell : {S : Type 0} → ℕ → ℕ → S → Option (Border S) → Option (Border S) → SeenCell S
+bare_cell width rows tag top bottom = record {
+  width = width;
+  rows = rows;
+  lines = [];
+  filler = spaces width tag;
+  asks_above = asked joins_below top;
+  asks_below = asked joins_above bottom;
+}
+
+-- a single cell that goes on into no other row
+pub record IsAlone {S : Type 0} (cells : List (Cell S)) : Type 0 where
+  pub single : length cells ≡ 1
+  pub ends : All (λ c. c.rows ≤ 1) cells

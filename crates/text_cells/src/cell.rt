@@ -1,16 +1,9 @@
 //! Cells, and what a row of them comes to.
 
+use crate::block_lines::BlockLines;
+use crate::wide_texts::WideTexts;
 use tagged_lines::TaggedLine;
-use text_borders::{BorderHoriz, RenderLine};
-
-/// A line of a block.
-#[derive(Drop)]
-pub struct LaidLine<T> {
-    /// The line.
-    pub line: RenderLine<T>,
-    /// Whether it has content: an empty line has none, and what fills a line is none.
-    pub content: bool,
-}
+use text_borders::BorderHoriz;
 
 /// The lines of a cell.
 #[derive(Drop)]
@@ -20,7 +13,7 @@ pub struct LineSet<T> {
     /// The rows that the cell still takes, the one in which it stands among them.
     pub rows: usize,
     /// Its lines, in order.
-    pub lines: Vec<LaidLine<T>>,
+    pub lines: BlockLines<T>,
 }
 
 /// A cell that goes on from the row before.
@@ -32,13 +25,22 @@ pub struct HangingCell<T> {
     pub cell: LineSet<T>,
 }
 
+/// The lines of a row.
+#[derive(Drop)]
+pub enum RowLines<T> {
+    /// Lines one by one.
+    Each(Vec<TaggedLine<T>>),
+    /// Those of a single cell with many lines.
+    Wide(WideTexts<T>),
+}
+
 /// A row of cells.
 #[derive(Drop)]
 pub struct Row<T> {
     /// The border above, joined to the row.
     pub above: Option<BorderHoriz<T>>,
     /// The lines, from above to below.
-    pub lines: Vec<TaggedLine<T>>,
+    pub lines: RowLines<T>,
     /// The border below, in which what goes on makes holes.
     pub below: BorderHoriz<T>,
     /// The cells that go on into the next row.

@@ -3,6 +3,7 @@ ghost use Rattle.std.specs.Prelude.{◌≡◌, IfOk};
 ghost use Rattle.tagged_lines.specs.Tagged.{line_items};
 ghost use Rattle.text_borders.specs.Across.{spaces};
 
+use crate::block_lines::BlockLines;
 use crate::cell::LineSet;
 use crate::opening::OpenCell;
 use std::alloc::{AllocError, Global};
@@ -79,7 +80,7 @@ impl<T: EqualCopy + Drop> OpenCell<T> {
         LineSet {
             width: self.width,
             rows: self.rows.saturating_sub(1),
-            lines: self.lines.into_vec(),
+            lines: BlockLines::of_lines(self.lines.into_vec()),
         }
     }
 }

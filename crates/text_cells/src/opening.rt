@@ -4,7 +4,8 @@ ghost use Rattle.text_borders.specs.Across.{whole, opened};
 ghost use Rattle.text_cells.specs.Cells.{cell_of};
 ghost use Rattle.text_cells.specs.OpenCells.{open_cell_of};
 
-use crate::cell::{LaidLine, LineSet};
+use crate::cell::LineSet;
+use crate::laid_line::LaidLine;
 use std::alloc::{AllocError, Global};
 use std::collections::VecDeque;
 use tagged_lines::{EqualCopy, TaggedLine};
@@ -57,7 +58,7 @@ fn opened<T: EqualCopy + Drop>(
     ensures { IfOk result (λ c. open_cell_of T.seen c
         ≡ opened collapse above (T.seen tag.now) (cell_of T.seen cell)) }
 {
-    let mut open = whole(tag.copy(alloc)?, cell);
+    let mut open = whole(alloc, tag.copy(alloc)?, cell)?;
     if !collapse {
         return Ok(open);
     }
@@ -66,19 +67,24 @@ fn opened<T: EqualCopy + Drop>(
     Ok(open)
 }
 
-/// The cell with all of its lines.
-fn whole<T: EqualCopy + Drop>(tag: T, cell: LineSet<T>) -> OpenCell<T>
-    ensures { open_cell_of T.seen result ≡ whole (T.seen tag) (cell_of T.seen cell) }
+/// The cell with all of its lines. The error is allocation failure.
+fn whole<T: EqualCopy + Drop>(
+    alloc: Global,
+    tag: T,
+    cell: LineSet<T>,
+) -> Result<OpenCell<T>, AllocError>
+    ensures { IfOk result (λ c. open_cell_of T.seen c ≡ whole (T.seen tag) (cell_of T.seen cell)) }
 {
-    OpenCell {
+    let lines = cell.lines.into_vec(alloc)?;
+    Ok(OpenCell {
         width: cell.width,
         rows: cell.rows,
-        lines: VecDeque::from_vec(cell.lines),
+        lines: VecDeque::from_vec(lines),
         filler: None,
         space_tag: tag,
         top: None,
         bottom: None,
-    }
+    })
 }
 
 impl<T: EqualCopy + Drop> OpenCell<T> {
@@ -86,7 +92,7 @@ impl<T: EqualCopy + Drop> OpenCell<T> {
     ghost use Rattle.text_borders.specs.Borders.{border_of};
     ghost use Rattle.text_borders.specs.Lines.{render_line_of, border};
     ghost use Rattle.text_borders.specs.Across.{open_first, open_line, close_last, close_line};
-    ghost use Rattle.text_cells.specs.Cells.{laid_line_of};
+    ghost use Rattle.text_cells.specs.Texts.{laid_line_of};
     ghost use Rattle.text_cells.specs.OpenCells.{with_lines};
 
     /// Takes the first line out where it is a border and one is above the row. The error is want of memory alone.

@@ -4,6 +4,7 @@ ghost use Rattle.text_borders.specs.Across.{Cell, seated, seated_behind};
 ghost use Rattle.text_cells.specs.Cells.{cell_of, hanging_of};
 ghost use Rattle.text_cells.specs.OpenCells.{hangs_at, gap};
 
+use crate::block_lines::BlockLines;
 use crate::cell::{HangingCell, LineSet};
 use crate::columns::behind;
 use std::alloc::{AllocError, Global};
@@ -99,7 +100,7 @@ fn push_gap<T: EqualCopy + Drop>(
     row.push(LineSet {
         width: place - end - 1,
         rows: 1,
-        lines: Vec::new(alloc),
+        lines: BlockLines::new(alloc),
     })?;
     Ok(())
 }

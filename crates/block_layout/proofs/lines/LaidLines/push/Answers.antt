@@ -3,6 +3,6 @@ use Rattle.block_layout.proofs.lines.LaidLines.push.Goals as goal
 
 pub invariant_of-self-2 : goal.invariant_of-self-2
 invariant_of-self-2 g c = record {
-  counted = counted_more c.args.self.now.lines.items c.push.new.self.items c.args.line _ _ _
-      c.args.self.now.counted c.weight.ensures c.in_ok-filled.ensures c.in_ok-push.ensures.items;
+  counted = counted_more _ _ _ _ _ _ c.args.self.now.counted c.weight.ensures c.in_ok-filled.ensures
+      c.in_ok-push.ensures.count;
 }

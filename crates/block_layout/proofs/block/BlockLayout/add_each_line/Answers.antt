@@ -2,7 +2,7 @@ use Rattle.std.proofs.Common.{rules}
 use Rattle.std.specs.Vec.Iter.{into_iter_items}
 use Rattle.tagged_lines.specs.Tagged.{IsJoined}
 use Rattle.block_layout.proofs.JoinedLemmas.{next_joined}
-use Rattle.block_layout.proofs.block.BlockLayout.add_row_lines.Goals as goal
+use Rattle.block_layout.proofs.block.BlockLayout.add_each_line.Goals as goal
 
 pub loop-line-preserved : goal.loop-line-preserved
 loop-line-preserved g c = record {

@@ -4,7 +4,7 @@ use Rattle.std.specs.Vec.Iter.{into_iter_items}
 use Rattle.tagged_lines.specs.Tagged.{line_items, IsJoined}
 use Rattle.block_layout.specs.LaidRows.{add_row_lines}
 use Rattle.block_layout.specs.Seen.{laid_of, HasJoinedTexts}
-use Rattle.block_layout.proofs.block.BlockLayout.add_row_lines.Given as goal
+use Rattle.block_layout.proofs.block.BlockLayout.add_each_line.Given as goal
 
 abbrev pub invariant-loop-line : goal.invariant-loop-line
 invariant-loop-line g l =

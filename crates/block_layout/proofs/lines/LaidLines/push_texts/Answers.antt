@@ -1,0 +1,8 @@
+use Rattle.block_layout.proofs.CountLemmas.{counted_more}
+use Rattle.block_layout.proofs.lines.LaidLines.push_texts.Goals as goal
+
+pub invariant_of-self-2 : goal.invariant_of-self-2
+invariant_of-self-2 g c = record {
+  counted = counted_more _ _ _ _ _ _ c.args.self.now.counted c.filled.ensures c.in_ok-filled.ensures
+      c.in_ok-push_texts.ensures.count;
+}
