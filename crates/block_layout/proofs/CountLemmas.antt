@@ -39,11 +39,12 @@ counted_texts seen (t ∷ texts) =
 
 any_append : {S : Type 0} (ls ms : List (CellLine S)) → has_content (ls ++ ms) ≡ (has_content ls || has_content ms)
 any_append [] ms = refl
-any_append (l ∷ ls) ms = by l.content (any_append ls ms)
+any_append (l ∷ ls) ms =
+    by l.content (has_content (ls ++ ms)) (has_content ls) (has_content ms) (any_append ls ms)
   where
-    by : (b : Bool) {x y z : Bool} → x ≡ (y || z) → (b || x) ≡ ((b || y) || z)
-    by true e = refl
-    by false e = e
+    by : (b x y z : Bool) → x ≡ (y || z) → (b || x) ≡ ((b || y) || z)
+    by true x y z e = refl
+    by false x y z e = e
 
 either : (n m : ℕ) → nat_lt 0 (n + m) ≡ (nat_lt 0 n || nat_lt 0 m)
 either n m = grind (arith, nat_tests)

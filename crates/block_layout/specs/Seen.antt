@@ -5,6 +5,7 @@ use Rattle.text_pieces.specs.Sources.{names}
 use Rattle.text_wrapping.specs.Blocks.{text_of, AreJoinedLines}
 use Rattle.text_borders.specs.Across.{CellLine}
 use Rattle.text_cells.specs.Cells.{block_lines_of, hanging_of, AreBlockLinesJoined}
+pub use Rattle.text_cells.specs.Cells.{AreLinesJoined}
 use Rattle.block_layout.specs.Laid.{Running as SeenRunning, Laid}
 use Rattle.block_layout.specs.declared.lines.LaidLines.{LaidLines}
 use Rattle.block_layout.specs.declared.running.Running.{Running}
@@ -28,8 +29,6 @@ laid_of seen block = record {
   markers = names block.markers.items;
   hanging = map (hanging_of seen) block.hanging.items;
 }
-
-pub use Rattle.text_cells.specs.Cells.{AreLinesJoined}
 
 abbrev pub HoldsJoinedLines : {T S : Type 0} → (T → S) → LaidLines T → Type 0
 HoldsJoinedLines seen lines = AreBlockLinesJoined seen lines.lines

@@ -33,7 +33,7 @@ impl<T: Drop> Drop for BlockLines<T> {
 }
 
 impl<T: EqualCopy + Drop> BlockLines<T> {
-    ghost use Rattle.std.specs.Prelude.{◌+◌, not, None, IfSome, IsNone};
+    ghost use Rattle.std.specs.Prelude.{◌+◌, not, None, IfSome, IsNone, OnErr};
     ghost use Rattle.text_cells.specs.Texts.{content_count};
     ghost use Rattle.text_pieces.specs.Sources.{is_filled};
     ghost use Rattle.text_cells.specs.Ends.{last_border};
@@ -80,6 +80,7 @@ impl<T: EqualCopy + Drop> BlockLines<T> {
         ensures lines { OnOk result (block_lines_of T.seen self.new
             ≡ block_lines_of T.seen self.old ++ laid_line_of T.seen line ∷ []) }
         ensures count { OnOk result (block_content self.new ≡ block_content self.old + content_count (line ∷ [])) }
+        ensures kept { OnErr result (block_content self.new ≡ block_content self.old) }
         ensures joined { AreBlockLinesJoined T.seen self.old → IsJoinedText T.seen line.line
             → AreBlockLinesJoined T.seen self.new }
     {
@@ -92,6 +93,7 @@ impl<T: EqualCopy + Drop> BlockLines<T> {
         ensures lines { OnOk result (block_lines_of T.seen self.new
             ≡ block_lines_of T.seen self.old ++ map (laid_line_of T.seen) lines.items) }
         ensures count { OnOk result (block_content self.new ≡ block_content self.old + content_count lines.items) }
+        ensures kept { OnErr result (block_content self.new ≡ block_content self.old) }
         ensures joined { AreBlockLinesJoined T.seen self.old → AreLinesJoined T.seen lines.items
             → AreBlockLinesJoined T.seen self.new }
     {
@@ -105,6 +107,7 @@ impl<T: EqualCopy + Drop> BlockLines<T> {
         ensures lines { OnOk result (block_lines_of T.seen self.new
             ≡ block_lines_of T.seen self.old ++ texts_of T.seen texts) }
         ensures count { OnOk result (block_content self.new ≡ block_content self.old + texts_content texts) }
+        ensures kept { OnErr result (block_content self.new ≡ block_content self.old) }
         ensures joined { AreBlockLinesJoined T.seen self.old → AreBlockLinesJoined T.seen self.new }
     {
         if texts.is_empty() {
@@ -112,7 +115,7 @@ impl<T: EqualCopy + Drop> BlockLines<T> {
         }
         self.parts.reserve(1)?;
         let before = mem::replace(&mut self.lines, Vec::new(*self.parts.allocator()));
-        self.parts.push(part(before, texts))?;
+        self.parts.push_reserved(part(before, texts));
         Ok(())
     }
 

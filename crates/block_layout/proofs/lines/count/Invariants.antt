@@ -1,5 +1,5 @@
 use Rattle.std.proofs.Common.{◌≡◌, ◌+◌, length}
-use Rattle.block_layout.specs.Counts.{content_count}
+use Rattle.text_cells.specs.Cells.{content_count}
 use Rattle.block_layout.proofs.lines.count.Given as goal
 
 abbrev pub invariant-loop-line : goal.invariant-loop-line

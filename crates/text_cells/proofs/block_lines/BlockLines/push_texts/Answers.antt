@@ -5,16 +5,16 @@ use Rattle.text_cells.proofs.block_lines.BlockLines.push_texts.Goals as goal
 pub returns-clause-lines : goal.returns-clause-lines
 returns-clause-lines g c =
     let self = c.args.self.now in
-    texts_added g.T.EqualCopy.seen self.parts.items c.push.new.self.items c.reserve.new.self.items c.part.result
-    self.lines.items c.replace-before.new.dest.items c.args.texts c.in_ok-push.ensures.items
+    texts_added g.T.EqualCopy.seen self.parts.items c.push_reserved.new.self.items c.reserve.new.self.items c.part.result
+    self.lines.items c.replace-before.new.dest.items c.args.texts c.push_reserved.ensures.items
     c.in_ok-reserve.ensures.items (ap (λ v. v.items) (c.part.ensures.before ∙ c.replace-before.ensures.value))
     c.part.ensures.texts (ap (λ v. v.items) c.replace-before.ensures.after ∙ c.new.ensures.items)
 
 pub returns-clause-count : goal.returns-clause-count
 returns-clause-count g c =
     let self = c.args.self.now in
-    content_texts self.parts.items c.push.new.self.items c.reserve.new.self.items c.part.result self.lines.items
-    c.replace-before.new.dest.items c.args.texts c.in_ok-push.ensures.items c.in_ok-reserve.ensures.items
+    content_texts self.parts.items c.push_reserved.new.self.items c.reserve.new.self.items c.part.result self.lines.items
+    c.replace-before.new.dest.items c.args.texts c.push_reserved.ensures.items c.in_ok-reserve.ensures.items
     (ap (λ v. v.items) (c.part.ensures.before ∙ c.replace-before.ensures.value)) c.part.ensures.texts
     (ap (λ v. v.items) c.replace-before.ensures.after ∙ c.new.ensures.items)
 
@@ -22,8 +22,8 @@ pub returns-clause-joined : goal.returns-clause-joined
 returns-clause-joined g c = λ joined.
     let self = c.args.self.now in
     let seen = g.T.EqualCopy.seen in (
-      joined_part seen self.parts.items c.push.new.self.items c.reserve.new.self.items c.part.result
-          self.lines.items c.in_ok-push.ensures.items c.in_ok-reserve.ensures.items
+      joined_part seen self.parts.items c.push_reserved.new.self.items c.reserve.new.self.items c.part.result
+          self.lines.items c.push_reserved.ensures.items c.in_ok-reserve.ensures.items
           (ap (λ v. v.items) (c.part.ensures.before ∙ c.replace-before.ensures.value)) joined.0 joined.1,
       joined_none seen c.replace-before.new.dest.items
           (ap (λ v. v.items) c.replace-before.ensures.after ∙ c.new.ensures.items),
