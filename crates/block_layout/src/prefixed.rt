@@ -2,7 +2,7 @@
 ghost use Rattle.std.specs.Prelude.{◌≡◌, ◌⊎◌, [], ◌∷◌, ◌++◌, ◌||◌, None, Some, chars, map, IfErr, OnOk, IfOk, IsTrue};
 ghost use Rattle.tagged_lines.specs.Tagged.{line_items, tagged, IsJoined};
 ghost use Rattle.text_borders.specs.Lines.{render_line_of, IsJoinedText};
-ghost use Rattle.text_cells.specs.Cells.{laid_line_of, texts_of, block_lines_of};
+ghost use Rattle.text_cells.specs.Cells.{laid_line_of, texts_of, parts_lines, block_lines_of};
 ghost use Rattle.text_pieces.specs.Sources.{is_filled};
 ghost use Rattle.block_layout.specs.Laid.{content_as_text};
 ghost use Rattle.block_layout.specs.Seen.{AreLinesJoined};
@@ -84,6 +84,7 @@ impl<T: EqualCopy + Drop> BlockLayout<T> {
         if self.takes_all(measure, first, following) {
             return self.take_all(other, tag, lines);
         }
+        let lines = lines.into_vec(*self.markers.allocator())?;
         self.add_each(other, measure, tag, first, following, lines)
     }
 
@@ -95,13 +96,13 @@ impl<T: EqualCopy + Drop> BlockLayout<T> {
         tag: &T,
         first: &str,
         following: &str,
-        lines: BlockLines<T>,
+        lines: Vec<LaidLine<T>>,
     ) -> Result<(), AllocError>
         ensures laid { OnOk result (laid_of T.seen self.new ≡ add_block other measure (T.seen tag.now) (chars first.now)
-            (chars following.now) (block_lines_of T.seen lines) (laid_of T.seen self.old)) }
+            (chars following.now) (map (laid_line_of T.seen) lines.items) (laid_of T.seen self.old)) }
         ensures joined { HasJoinedTexts T.seen self.old → HasJoinedTexts T.seen self.new }
     {
-        let mut lines = lines.into_vec(*self.markers.allocator())?.into_iter();
+        let mut lines = lines.into_iter();
         let Some(line) = lines.next() else {
             return Ok(());
         };
@@ -197,13 +198,26 @@ fn settled_texts<T: EqualCopy + Drop>(
         ≡ map (settled other (T.seen tag.now)) (block_lines_of T.seen lines)) }
 {
     let (parts, last) = lines.into_parts();
+    let mut all = settled_parts(alloc, other, tag, parts)?;
+    push_settled(alloc, other, tag, &mut all, last)?;
+    Ok(all)
+}
+
+fn settled_parts<T: EqualCopy + Drop>(
+    alloc: Global,
+    other: Measure,
+    tag: &T,
+    parts: Vec<Part<T>>,
+) -> Result<WideTexts<T>, AllocError>
+    ensures { IfOk result (λ all. texts_of T.seen all
+        ≡ map (settled other (T.seen tag.now)) (parts_lines T.seen parts.items)) }
+{
     let mut all = WideTexts::new(alloc);
     for part in parts {
         let Part { before, texts, .. } = part;
         push_settled(alloc, other, tag, &mut all, before)?;
         all = all.joined(texts)?;
     }
-    push_settled(alloc, other, tag, &mut all, last)?;
     Ok(all)
 }
 

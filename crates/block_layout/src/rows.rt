@@ -211,8 +211,8 @@ impl<T: EqualCopy + Drop> BlockLayout<T> {
             (texts_items T.seen texts) (laid_of T.seen self.old)) }
         ensures joined { HasJoinedTexts T.seen self.old → HasJoinedTexts T.seen self.new }
     {
-        let mut texts = texts;
-        while let Some(text) = texts.pop_first() {
+        let mut queue = texts.into_queue();
+        while let Some(text) = queue.pop_front() {
             self.add_row_text(measure, tag, text.line)?;
         }
         Ok(())

@@ -35,7 +35,7 @@ impl<T: EqualCopy + Drop> WideTexts<T> {
     ghost use Rattle.tagged_lines.specs.Tagged.{line_items};
     ghost use Rattle.text_borders.specs.Lines.{text};
     ghost use Rattle.text_cells.specs.Texts.{laid_text_of, in_row};
-    ghost use Rattle.text_cells.specs.Cells.{texts_of, texts_content};
+    ghost use Rattle.text_cells.specs.Cells.{texts_of, texts_content, texts_items, HaveTextContent};
 
     /// No texts.
     pub fn new(alloc: Global) -> WideTexts<T>
@@ -103,8 +103,10 @@ impl<T: EqualCopy + Drop> WideTexts<T> {
     pub fn pop_first(&mut self) -> Option<LaidText<T>>
         ensures first { IfSome result (λ t. texts_of T.seen self.old
             ≡ laid_text_of T.seen t ∷ texts_of T.seen self.new) }
-        ensures none { IsNone result → texts_of T.seen self.old ≡ [] }
-        ensures nothing { IsNone result → texts_of T.seen self.new ≡ [] }
+        ensures items { IfSome result (λ t. texts_items T.seen self.old
+            ≡ line_items T.seen t.line ∷ texts_items T.seen self.new) }
+        ensures none { IsNone result → texts_items T.seen self.old ≡ [] }
+        ensures content { HaveTextContent T.seen self.old → HaveTextContent T.seen self.new }
     {
         let first = self.lines.pop_front()?;
         self.filled = self.filled.saturating_sub(weight(first.content));
@@ -127,7 +129,8 @@ impl<T: EqualCopy + Drop> WideTexts<T> {
 
     /// The texts one by one.
     pub fn into_queue(self) -> VecDeque<LaidText<T>>
-        ensures { map (laid_text_of T.seen) result.items ≡ texts_of T.seen self }
+        ensures texts { map (laid_text_of T.seen) result.items ≡ texts_of T.seen self }
+        ensures items { map (λ t. line_items T.seen t.line) result.items ≡ texts_items T.seen self }
     {
         let WideTexts {
             lines,

@@ -1,3 +1,4 @@
+use Rattle.std.proofs.Common.{◌∙◌, sym}
 use Rattle.block_layout.proofs.CountLemmas.{counted_more}
 use Rattle.block_layout.proofs.lines.LaidLines.push.Goals as goal
 
@@ -6,3 +7,6 @@ invariant_of-self-2 g c = record {
   counted = counted_more _ _ _ _ _ _ c.args.self.now.counted c.weight.ensures c.in_ok-filled.ensures
       c.in_ok-push.ensures.count;
 }
+
+pub invariant_of-self : goal.invariant_of-self
+invariant_of-self g c = record { counted = c.args.self.now.counted ∙ sym c.in_err-push.ensures.kept }
