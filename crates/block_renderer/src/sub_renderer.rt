@@ -288,16 +288,17 @@ impl<D: TextDecorator + Drop> SubRenderer<D> {
         laid.into_laid_lines()
     }
 
-    /// The columns that are left behind a prefix of `prefix_len` columns, at least `max(1, min_width - prefix_len)`.
-    /// Where fewer are left, that least width is given if lines may pass the block's, and else refused. It is given
-    /// behind a refusal too.
+    /// The columns that are left behind a prefix of `prefix_len` columns, where these are at least `min_width` and at
+    /// least 1; `min_width` counts columns behind the prefix, those of the prefix not among them. Where fewer are left,
+    /// `min_width`, or 1 if it is 0, is given if lines may pass the block's width, and the error is else `TooNarrow`.
+    /// After a refused call the answer is the same.
     pub fn width_minus(&self, prefix_len: usize, min_width: usize) -> Result<usize, TooNarrow>
         ensures room { IfOk result (λ n. room_behind prefix_len min_width (sub_of D.Annotation.seen D.held self.now)
             ≡ Some n) }
         ensures narrow { IfErr result (λ _. room_behind prefix_len min_width
             (sub_of D.Annotation.seen D.held self.now) ≡ None) }
     {
-        let least = min_width.saturating_sub(prefix_len).max(1);
+        let least = min_width.max(1);
         let left = self.width.saturating_sub(prefix_len);
         if least <= left {
             return Ok(left);

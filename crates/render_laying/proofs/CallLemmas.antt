@@ -1,5 +1,5 @@
 -- Calls of the current renderer, as calls of the page's.
-use Rattle.std.proofs.Common.{◌≡◌, ℕ, List, None, Some, Result, Ok, Err, IfOk, ap, sym, ◌∙◌}
+use Rattle.std.proofs.Common.{◌≡◌, ℕ, ◌-◌, List, None, Some, Result, Ok, Err, IfOk, ap, sym, ◌∙◌}
 use Rattle.std.specs.Option.{option_map}
 use Rattle.block_renderer.specs.NewParts.{part_of}
 use Rattle.renderer_calls.specs.Calls.{Call, adds_block, step}
@@ -44,13 +44,13 @@ no_link_ended m l h = ap (option_map (in_parts l)) h
 -- ---- parts
 
 pub part_begins : {H A : Type 0} (m : Marking H A) (columns least width : ℕ) (l new : Laying H A)
-    → room_behind columns least l.parts.current ≡ Some width → Some (in_part m width l) ≡ Some new
+    → room_behind columns (least - columns) l.parts.current ≡ Some width → Some (in_part m width l) ≡ Some new
     → part_begun m columns least l ≡ Some new
 unfolding part_begun
 part_begins m columns least width l new h into = ap (option_map (λ n. in_part m n l)) h ∙ into
 
 pub no_part_begins : {H A : Type 0} (m : Marking H A) (columns least : ℕ) (l : Laying H A)
-    → room_behind columns least l.parts.current ≡ None → part_begun m columns least l ≡ None
+    → room_behind columns (least - columns) l.parts.current ≡ None → part_begun m columns least l ≡ None
 unfolding part_begun
 no_part_begins m columns least l h = ap (option_map (λ n. in_part m n l)) h
 

@@ -1,5 +1,5 @@
 -- A page that is laid out, and what is done to it step by step.
-use Rattle.std.specs.Prelude.{ℕ, Bool, List, Option, None, Some}
+use Rattle.std.specs.Prelude.{ℕ, ◌-◌, Bool, List, Option, None, Some}
 use Rattle.std.specs.Option.{option_map, option_and_then}
 use Rattle.block_renderer.specs.NewParts.{part_of}
 use Rattle.renderer_calls.specs.Calls.{Call, adds_block, step}
@@ -83,9 +83,11 @@ goes_to place l = Some (in_table place l)
 unfoldable pub in_part : {H A : Type 0} → Marking H A → ℕ → Laying H A → Laying H A
 in_part m width l = in_around Flow (in_current l (part_of m.sub width l.parts.current))
 
--- one of the columns that are left behind a prefix: at least one, and as many as are asked for
+-- one of the columns that are left behind a prefix: at least one, and, with those of the prefix, as many as are asked
+-- for
 unfoldable pub part_begun : {H A : Type 0} → Marking H A → (columns least : ℕ) → Step H A
-part_begun m columns least l = option_map (λ width. in_part m width l) (room_behind columns least l.parts.current)
+part_begun m columns least l =
+    option_map (λ width. in_part m width l) (room_behind columns (least - columns) l.parts.current)
 
 -- The lines of the part stand behind prefixes in the renderer outside.
 unfoldable pub part_ended : {H A : Type 0} → Marking H A → Sub H A → (first following : List ℕ) → Step H A

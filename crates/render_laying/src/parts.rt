@@ -1,5 +1,6 @@
 //! Parts of a page, each in a renderer of its own.
-ghost use Rattle.std.specs.Prelude.{◌≡◌, ◌++◌, ◌⊎◌, Err, IfErr, IfOk, OnOk, Some, None, chars, false, string_bytes};
+ghost use Rattle.std.specs.Prelude.{◌≡◌, ◌++◌, ◌-◌, ◌⊎◌, Err, IfErr, IfOk, OnOk, Some, None, chars, false};
+ghost use Rattle.std.specs.Prelude.{string_bytes};
 ghost use Rattle.text_pieces.specs.declared.fault.BlockError.TheVariants as errors;
 ghost use Rattle.render_laying.specs.Items.{spaces};
 
@@ -36,15 +37,17 @@ impl<D: TextDecorator + Drop> Laying<D> {
     ghost use Rattle.render_laying.specs.Laying.{in_part, mark_of, part_begun, part_ended};
     ghost use Rattle.render_laying.specs.Seen.{Comes, Fails, IsWorking, laying_of};
 
-    // the columns of a part behind a prefix
+    // the columns of a part behind a prefix, of which at least so many are asked for with those of the prefix
     fn room(&self, columns: usize, least: usize) -> Result<usize, BlockError>
-        ensures room { IfOk result (λ n. room_behind columns least (laying_of D.Annotation.seen D.held
+        ensures room { IfOk result (λ n. room_behind columns (least - columns) (laying_of D.Annotation.seen D.held
             self.now).parts.current
             ≡ Some n) }
         ensures narrow { IfErr result (λ e. (e ≡ errors.TooNarrow)
-            × (room_behind columns least (laying_of D.Annotation.seen D.held self.now).parts.current ≡ None)) }
+            × (room_behind columns (least - columns) (laying_of D.Annotation.seen D.held
+            self.now).parts.current ≡ None)) }
     {
-        match self.text.current().width_minus(columns, least) {
+        let behind = least.saturating_sub(columns);
+        match self.text.current().width_minus(columns, behind) {
             Ok(width) => Ok(width),
             Err(_) => Err(BlockError::TooNarrow),
         }

@@ -278,9 +278,9 @@ with_mode mode s = Some (record s { modes = s.modes ++ mode ∷ [] })
 abbrev pub lines_of_sub : {H A : Type 0} → Sub H A → Option (List (BlockLine (List A)))
 lines_of_sub s = finished_lines (measure_of s) s.annotations s.laid
 
--- the columns behind a prefix: at least so many are asked for, and one
+-- the columns behind a prefix: at least so many are asked for behind it, and one
 abbrev pub room_behind : {H A : Type 0} → ℕ → ℕ → Sub H A → Option ℕ
 room_behind prefix least s =
-    let asked = max (least - prefix) 1 in
+    let asked = max least 1 in
     if nat_le asked (s.width - prefix) then Some (s.width - prefix)
     else if s.options.allow_width_overflow then Some asked else None

@@ -52,11 +52,11 @@ pub fn renderers_with_room_never_refuse<D: TextDecorator>()
     overflow_never_refuses::<Vec<D::Annotation>>();
 }
 
-/// Where no character may overflow, a prefix and the room behind it are the width, of which at least one column is
-/// room, and the width is what was asked for, or more. Where it may, there is always room.
+/// Where no character may overflow, a prefix and the room behind it are the width, and the room is at least one column
+/// and at least what was asked for. Where it may, there is always room.
 pub fn a_prefix_and_its_room_are_the_width<D: TextDecorator>()
     ensures within { (prefix least : ℕ) (s : Sub D.Held D.Annotation.Seen) → s.options.allow_width_overflow ≡ false
-        → IfSome (room_behind prefix least s) (λ n. (prefix + n ≡ s.width) × ((1 ≤ n) × (least ≤ s.width))) }
+        → IfSome (room_behind prefix least s) (λ n. (prefix + n ≡ s.width) × ((1 ≤ n) × (least ≤ n))) }
     ensures beyond { (prefix least : ℕ) (s : Sub D.Held D.Annotation.Seen) → s.options.allow_width_overflow ≡ true
         → IsSome (room_behind prefix least s) }
 {}

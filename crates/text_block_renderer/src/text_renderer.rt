@@ -1,5 +1,6 @@
 //! Renderers of the parts of a page, one within the other.
-ghost use Rattle.std.specs.Prelude.{◌≡◌, ◌⊎◌, ◌<◌, true, false, chars, string_bytes, is_err, IfErr, IfOk, OnOk, Err};
+ghost use Rattle.std.specs.Prelude.{◌≡◌, ◌⊎◌, ◌<◌, true, false, chars, string_bytes, is_err, IfErr, IfOk, OnErr, OnOk};
+ghost use Rattle.std.specs.Prelude.{Err};
 ghost use Rattle.text_pieces.specs.declared.fault.BlockError.TheVariants as errors;
 ghost use Rattle.text_block_renderer.specs.Parts.{footnote_mark};
 ghost use Rattle.std.specs.Borrow.{sem, follows};
@@ -98,14 +99,19 @@ impl<D: TextDecorator + Drop> TextRenderer<D> {
         mem::replace(self.current_mut(), sub)
     }
 
-    /// A part begins, to whose renderer text goes from here on. The error is want of memory, or `Failed` behind a
-    /// refusal.
+    /// A part begins, to whose renderer text goes from here on. The error is `Memory` at an allocation failure, or
+    /// `Failed` after a refused call. Where it is refused, `sub` is dropped and the renderers stand as they did, but
+    /// that later calls are refused as `Failed`.
     pub fn push(&mut self, sub: SubRenderer<D>) -> Result<(), BlockError>
         ensures failed { page_has_failed self.old ≡ true → result ≡ Err errors.Failed }
         ensures refused { is_err result ≡ page_has_failed self.new }
         ensures kinds { page_has_failed self.old ≡ false → IfErr result (λ e. e ≡ errors.Memory) }
         ensures pushed { OnOk result (parts_of D.Annotation.seen D.held self.new ≡ with_part
             (sub_of D.Annotation.seen D.held sub) (parts_of D.Annotation.seen D.held self.old)) }
+        ensures taken { OnOk result (current_has_failed self.new ≡ has_failed sub) }
+        ensures kept { OnErr result (parts_of D.Annotation.seen D.held self.new
+            ≡ parts_of D.Annotation.seen D.held self.old) }
+        ensures still { OnErr result (current_has_failed self.new ≡ current_has_failed self.old) }
     {
         if self.failed {
             return Err(BlockError::Failed);
@@ -119,7 +125,12 @@ impl<D: TextDecorator + Drop> TextRenderer<D> {
         ensures kinds { IfErr result (λ e. e ≡ errors.Memory) }
         ensures pushed { OnOk result (parts_of D.Annotation.seen D.held self.new ≡ with_part
             (sub_of D.Annotation.seen D.held sub) (parts_of D.Annotation.seen D.held self.old)) }
+        ensures taken { OnOk result (current_has_failed self.new ≡ has_failed sub) }
+        ensures kept { OnErr result (parts_of D.Annotation.seen D.held self.new
+            ≡ parts_of D.Annotation.seen D.held self.old) }
+        ensures still { OnErr result (current_has_failed self.new ≡ current_has_failed self.old) }
     {
+        self.below.reserve(1)?;
         let below = mem::replace(&mut self.current, sub);
         self.below.push(below)?;
         Ok(())

@@ -28,6 +28,14 @@ fn room_behind_a_prefix(rt: HostRuntime) {
         let wide = block(rt.alloc(), 2, true).width_minus(prefix, 1);
         holds(&rt, matches!(wide, Ok(1)), "room");
     }
+    let short = block(rt.alloc(), 4, false).width_minus(2, 3);
+    holds(&rt, short.is_err(), "two columns of three");
+    let past = block(rt.alloc(), 4, true).width_minus(2, 3);
+    holds(&rt, matches!(past, Ok(3)), "three columns past the width");
+    let short = block(rt.alloc(), 10, false).width_minus(2, 9);
+    holds(&rt, short.is_err(), "eight columns of nine");
+    let past = block(rt.alloc(), 3, true).width_minus(2, 5);
+    holds(&rt, matches!(past, Ok(5)), "five columns past the width");
 }
 
 fn quote(page: &mut TextRenderer<PlainDecorator>, text: &str) -> Result<(), BlockError> {

@@ -1,5 +1,5 @@
 -- Each step makes the same of a page whose renderers keep no annotations: outside of tables.
-use Rattle.std.proofs.Common.{◌≡◌, ℕ, Bool, true, false, List, Option, None, Some, map, ap, ◌∙◌, refl}
+use Rattle.std.proofs.Common.{◌≡◌, ℕ, ◌-◌, Bool, true, false, List, Option, None, Some, map, ap, ◌∙◌, refl}
 use Rattle.std.specs.Prelude.{if◌then◌else◌}
 use Rattle.std.specs.Option.{option_map, option_and_then}
 use Rattle.renderer_calls.specs.Bare.{bare_of}
@@ -161,7 +161,7 @@ opened m l (Some width) = ap Some (part_alike m width l)
 part_begins : {H A : Type 0} (m : Marking H A) (columns least : ℕ)
     → Alike (part_begun m columns least) (part_begun m columns least)
 unfolding part_begun
-part_begins m columns least = record { at = λ l. opened m l (room_behind columns least l.parts.current) }
+part_begins m columns least = record { at = λ l. opened m l (room_behind columns (least - columns) l.parts.current) }
 
 part_ends : {H A : Type 0} {m : Marking H A} (laws : BareLaws m) (outer : Sub H A) (first further : List ℕ)
     → Alike (part_ended m (bare_of outer) first further) (part_ended m outer first further)

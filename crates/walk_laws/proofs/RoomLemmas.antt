@@ -1,5 +1,5 @@
 -- Where characters may overflow, each value is laid out.
-use Rattle.std.proofs.Common.{ℕ, Bool, true, false, List, Option, None, Some}
+use Rattle.std.proofs.Common.{ℕ, ◌-◌, Bool, true, false, List, Option, None, Some}
 use Rattle.std.specs.Prelude.{All, IsSome, IsSomeAnd, if◌then◌else◌}
 use Rattle.std.specs.Option.{option_map}
 use Rattle.layout_laws.proofs.OptionLemmas.{given_mapped, given_chained}
@@ -99,8 +99,8 @@ part_begins : {H A : Type 0} {m : Marking H A} (laws : RoomLaws m) (columns leas
     → Goes (part_begun m columns least)
 unfolding part_begun
 part_begins {m = m} laws columns least x room = opened Roomy (λ width. in_part m width x)
-    (room_behind columns least x.parts.current) (λ width. part_goes laws width x room)
-    (laws.behind columns least x.parts.current room.0.current)
+    (room_behind columns (least - columns) x.parts.current) (λ width. part_goes laws width x room)
+    (laws.behind columns (least - columns) x.parts.current room.0.current)
 
 part_ends : {H A : Type 0} {m : Marking H A} (laws : RoomLaws m) (outer : Sub H A) (first further : List ℕ)
     → HasRoom outer → Goes (part_ended m outer first further)

@@ -47,7 +47,7 @@ pub record WidthLaws {H A : Type 0} (m : Marking H A) : Type 0 where
       → StaysWithin s new
   pub part : (width : ℕ) (s : Sub H A) → IsKeptWithin s → IsKeptWithin (part_of m.sub width s)
   pub behind : (prefix least : ℕ) (s : Sub H A) → IsKeptWithin s
-      → IfSome (room_behind prefix least s) (λ n. (prefix + n ≡ s.width) × ((1 ≤ n) × (least ≤ s.width)))
+      → IfSome (room_behind prefix least s) (λ n. (prefix + n ≡ s.width) × ((1 ≤ n) × (least ≤ n)))
   pub link_begins : (target : List ℕ) (p new : Parts H A) → AreKeptWithin p → begin_part_link m target p ≡ Some new
       → PartsStayWithin p new
   pub link_ends : (p new : Parts H A) → AreKeptWithin p → finish_part_link m p ≡ Some new → PartsStayWithin p new
@@ -257,10 +257,10 @@ part_begins : {H A : Type 0} {m : Marking H A} (laws : WidthLaws m) (columns lea
     → AreSound x.parts → IfSome (part_begun m columns least x) (IsPart columns x)
 unfolding part_begun
 part_begins {m = m} laws columns least x sound =
-    mapped (λ (n : ℕ). (columns + n ≡ x.parts.current.width) × ((1 ≤ n) × (least ≤ x.parts.current.width)))
-    (IsPart columns x) (λ width. in_part m width x) (room_behind columns least x.parts.current)
+    mapped (λ (n : ℕ). (columns + n ≡ x.parts.current.width) × ((1 ≤ n) × (least - columns ≤ n)))
+    (IsPart columns x) (λ width. in_part m width x) (room_behind columns (least - columns) x.parts.current)
     (λ width h. part_is laws columns width x sound (omega (arith, h.0)))
-    (laws.behind columns least x.parts.current sound.kept.current)
+    (laws.behind columns (least - columns) x.parts.current sound.kept.current)
 
 part_stays : {H A : Type 0} (columns : ℕ) (in_cell : Bool) (x y z : Laying H A) → x.table ≡ outside in_cell
     → IsPart columns x y → Kept (At in_cell Flow) y z → IsPart columns x z
