@@ -43,9 +43,12 @@ taken_off b lines front l new e f =
     f ∙ back_by b lines front l.line l refl e (ap (λ ls. before_last ls) e ∙ front_of front l)
     (ap (λ ls. last_border ls) e ∙ last_of None front l)
 
-pub nothing_off : {S : Type 0} (b : Laid S) (lines : List (CellLine S)) → lines ≡ []
-    → record b { lines = [] } ≡ without_last_border (last_border lines) (record b { lines = lines })
-nothing_off b lines e = sym (ap (λ ls. without_last_border (last_border ls) (record b { lines = ls })) e)
+-- where the last line is no border
+pub nothing_off : {S : Type 0} (b : Laid S) (lines old : List (CellLine S)) → lines ≡ old → last_border old ≡ None
+    → record b { lines = lines } ≡ without_last_border (last_border old) (record b { lines = old })
+nothing_off b lines old e none =
+    ap (λ ls. record b { lines = ls }) e
+    ∙ sym (ap (λ above. without_last_border above (record b { lines = old })) none)
 
 pub row_is : {S : Type 0} (m : Measure) (tag : S) (draws collapse : Bool) (cells : List (Cell S)) (b mid : Laid S)
     (above : Option (Border S)) (hanging : List (Hanging S)) (row : Row S) → above ≡ last_border b.lines

@@ -4,9 +4,15 @@ use Rattle.std.specs.Prelude.{All, length, take, drop, Result, Ok, Err, OnOk}
 use Rattle.std.proofs.Common.{◌+◌, ◌<◌, ◌≤◌, suc, set, sym, ap, subst, ◌∙◌, arith}
 use Rattle.std.proofs.Math.Seq.{take-append_seam, take-suc-set}
 use Rattle.std.proofs.lemmas.List.{append-nil, append_assoc, take_all}
-use Rattle.std.proofs.lemmas.List.Elements.{All-push}
+use Rattle.std.proofs.lemmas.List.Elements.{All-push, All-head, All-tail}
 use Rattle.text_pieces.specs.Sources.{is_filled}
+use Rattle.tagged_lines.specs.Tagged.{Item, line_items}
+use Rattle.text_pieces.specs.Items.{has_text}
+use Rattle.text_borders.specs.Lines.{text}
 use Rattle.text_borders.specs.Across.{CellLine}
+use Rattle.text_cells.specs.Cells.{laid_text_of}
+use Rattle.text_cells.specs.declared.laid_line.LaidText.{LaidText}
+use Rattle.block_layout.specs.LaidRows.{add_row_line, add_row_lines}
 use Rattle.block_layout.specs.Laid.{Laid, add_block, add_prefixed, content_as_text}
 use Rattle.block_layout.specs.Whole.{TakesAll, settled, with_texts}
 use Rattle.block_layout.specs.declared.measure.Measure.{Measure}
@@ -49,6 +55,44 @@ all_taken other m tag first following ls b takes =
     ∙ (ap (λ ms. add_block other m tag [] [] ls (record b { markers = ms })) (sym takes.unmarked)
     ∙ (ap (λ cs. add_block other m tag cs [] ls b) (sym (none first takes.at_first))
     ∙ ap (λ cs. add_block other m tag first cs ls b) (sym (none following takes.behind)))))
+
+-- a text of another block stays as it is
+pub texts_settled : {T S : Type 0} (seen : T → S) (other : Measure) (tag : S) (ts : List (LaidText T))
+    → map (settled other tag) (map (laid_text_of seen) ts) ≡ map (laid_text_of seen) ts
+texts_settled seen other tag [] = refl
+texts_settled seen other tag (t ∷ ts) = ap (λ ls. laid_text_of seen t ∷ ls) (texts_settled seen other tag ts)
+
+-- ---- wide texts of a row
+
+row_one : {S : Type 0} (m : Measure) (tag : S) (b : Laid S) (lines : List (CellLine S)) (items : List (Item S))
+    → m.pads ≡ false → add_row_line m tag (plain b lines) items
+    ≡ plain b (lines ++ record { line = text items; content = has_text items } ∷ [])
+row_one m tag b lines items unfilled = rw (unfilled)
+
+rows_each : {T S : Type 0} (seen : T → S) (m : Measure) (tag : S) (b : Laid S) (lines : List (CellLine S))
+    (ts : List (LaidText T)) → m.pads ≡ false → All (λ t. t.content ≡ has_text (line_items seen t.line)) ts
+    → fold (add_row_line m tag) (plain b lines) (map (λ t. line_items seen t.line) ts)
+    ≡ plain b (lines ++ map (laid_text_of seen) ts)
+rows_each seen m tag b lines [] unfilled filled = ap (plain b) (sym (append-nil lines))
+rows_each seen m tag b lines (t ∷ ts) unfilled filled =
+    ap (λ k. fold (add_row_line m tag) k (map (λ t. line_items seen t.line) ts))
+    (row_one m tag b lines (line_items seen t.line) unfilled
+    ∙ ap (λ c. plain b (lines ++ record { line = text (line_items seen t.line); content = c } ∷ []))
+    (sym (All-head (λ t. t.content ≡ has_text (line_items seen t.line)) t ts filled)))
+    ∙ (rows_each seen m tag b (lines ++ laid_text_of seen t ∷ []) ts unfilled
+    (All-tail (λ t. t.content ≡ has_text (line_items seen t.line)) t ts filled)
+    ∙ ap (plain b) (append_assoc lines (laid_text_of seen t ∷ []) (map (laid_text_of seen) ts)))
+
+pub rows_taken : {T S : Type 0} (seen : T → S) (m : Measure) (tag : S) (b : Laid S) (ts : List (LaidText T))
+    (lines : List (CellLine S)) → m.pads ≡ false → b.markers ≡ []
+    → All (λ t. t.content ≡ has_text (line_items seen t.line)) ts → lines ≡ b.lines ++ map (laid_text_of seen) ts
+    → record b { lines = lines } ≡ add_row_lines m tag (map (λ t. line_items seen t.line) ts) b
+rows_taken seen m tag b ts lines unfilled unmarked filled is =
+    ap (λ ls. record b { lines = ls }) is
+    ∙ (ap (λ ms. record b { lines = b.lines ++ map (laid_text_of seen) ts; markers = ms }) unmarked
+    ∙ (sym (rows_each seen m tag b b.lines ts unfilled filled)
+    ∙ ap (λ ms. fold (add_row_line m tag) (record b { markers = ms }) (map (λ t. line_items seen t.line) ts))
+    (sym unmarked)))
 
 pub ok_by : {A E X : Type 0} (r : Result A E) (x : X) {y z : X} → y ≡ z → OnOk r (x ≡ y) → OnOk r (x ≡ z)
 ok_by (Ok v) x same h = h ∙ same

@@ -136,11 +136,11 @@ impl<T: EqualCopy + Drop> BlockLayout<T> {
     {
         let alloc = *self.markers.allocator();
         if lines.are_many() {
-            return self
-                .lines
-                .push_texts(settled_texts(alloc, other, tag, lines)?);
+            let texts = settled_texts(alloc, other, tag, lines)?;
+            return self.lines.push_texts(texts);
         }
-        let settled = settle_all(alloc, other, tag, lines.into_vec(alloc)?)?;
+        let few = lines.into_vec(alloc)?;
+        let settled = settle_all(alloc, other, tag, few)?;
         self.lines.append(settled)
     }
 

@@ -21,4 +21,4 @@ returns-clause-laid g c =
     ∙ same_hanging (last_border b.lines) b)
     c.in_ok-row.ensures.row
     (c.take_hanging-hanging.ensures.without ∙ ap (λ x. without_hanging x) c.in_ok-above.ensures.without))
-    c.put_row.ensures.laid
+    (c.put_row.ensures.laid c.in_ok-row.ensures.lines)
