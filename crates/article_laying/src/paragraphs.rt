@@ -80,7 +80,8 @@ pub(crate) fn paragraph_lines(
     block.flush(room.measure(), &outermost)?;
     let number = behind.paragraphs;
     behind.paragraphs = one_more(number)?;
-    let lines = numbered(alloc, block.into_laid_lines(), number)?;
+    let laid = block.into_laid_lines().into_vec(alloc)?;
+    let lines = numbered(alloc, laid, number)?;
     Ok(lines)
 }
 

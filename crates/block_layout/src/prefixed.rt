@@ -124,12 +124,7 @@ impl<T: EqualCopy + Drop> BlockLayout<T> {
     }
 
     // Adds lines of another block as texts.
-    fn take_all(
-        &mut self,
-        other: Measure,
-        tag: &T,
-        lines: BlockLines<T>,
-    ) -> Result<(), AllocError>
+    fn take_all(&mut self, other: Measure, tag: &T, lines: BlockLines<T>) -> Result<(), AllocError>
         ensures laid { OnOk result (laid_of T.seen self.new ≡ with_texts other (T.seen tag.now)
             (block_lines_of T.seen lines) (laid_of T.seen self.old)) }
         ensures joined { HasJoinedTexts T.seen self.old → HasJoinedTexts T.seen self.new }

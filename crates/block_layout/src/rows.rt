@@ -14,7 +14,9 @@ use std::alloc::AllocError;
 use std::mem;
 use tagged_lines::{EqualCopy, TaggedLine};
 use text_borders::{BorderHoriz, RenderLine};
-use text_cells::{HangingCell, LaidLine, LineSet, Row, RowLines, WideTexts, joined_line, lay_across};
+use text_cells::{
+    HangingCell, LaidLine, LineSet, Row, RowLines, WideTexts, joined_line, lay_across,
+};
 use text_pieces::{BlockError, has_text};
 
 impl<T: EqualCopy + Drop> BlockLayout<T> {

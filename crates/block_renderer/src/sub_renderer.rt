@@ -8,7 +8,7 @@ use renderer_calls::RenderOptions;
 use std::alloc::{AllocError, Global};
 use tagged_lines::EqualCopy;
 use text_borders::RenderLine;
-use text_cells::LaidLine;
+use text_cells::BlockLines;
 use text_marks::TextDecorator;
 use text_pieces::{BlockError, TooNarrow, WhiteSpace};
 
@@ -231,7 +231,7 @@ impl<D: TextDecorator + Drop> SubRenderer<D> {
 impl<D: TextDecorator + Drop> SubRenderer<D> {
     ghost use Rattle.std.specs.Prelude.{map, All};
     ghost use Rattle.text_borders.specs.Lines.{render_line_of, IsJoinedText};
-    ghost use Rattle.text_cells.specs.Cells.{laid_line_of};
+    ghost use Rattle.text_cells.specs.Cells.{block_lines_of};
     ghost use Rattle.renderer_calls.specs.Renderers.{lines_of_sub, room_behind};
     ghost use Rattle.block_renderer.specs.Seen.{sub_of, tags_seen, has_failed, IsJoinedSub};
 
@@ -269,8 +269,8 @@ impl<D: TextDecorator + Drop> SubRenderer<D> {
     }
 
     /// The lines that are laid out.
-    pub(crate) fn into_laid_lines(self) -> Vec<LaidLine<Vec<D::Annotation>>>
-        ensures lines { map (laid_line_of (tags_seen D.Annotation.seen)) result.items
+    pub(crate) fn into_laid_lines(self) -> BlockLines<Vec<D::Annotation>>
+        ensures lines { block_lines_of (tags_seen D.Annotation.seen) result
             ≡ (sub_of D.Annotation.seen D.held self).laid.lines }
     {
         let SubRenderer {

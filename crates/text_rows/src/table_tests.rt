@@ -2,8 +2,8 @@ use crate::border_tests::{Line, Step, line_made, line_of};
 use crate::checks::{holds, told};
 use std::alloc::{AllocError, Global};
 use tagged_lines::TaggedLine;
-use text_borders::BorderHoriz;
-use text_cells::{LaidLine, LineSet, Row, lay_across};
+use text_borders::{BorderHoriz, RenderLine};
+use text_cells::{BlockLines, LaidLine, LineSet, Row, RowLines, lay_across};
 
 /// A cell: its columns, the rows that it takes, and its lines.
 type Cell = (usize, usize, &'static [Line]);
@@ -110,7 +110,7 @@ fn is_shown(alloc: Global, table: &Table) -> Result<bool, AllocError> {
         if let Some(border) = joined {
             is_so = is_so && is_text(alloc, &border.into_tagged_line()?, wanted.next())?;
         }
-        for line in &lines {
+        for line in &lines_of(alloc, lines)? {
             is_so = is_so && is_text(alloc, line, wanted.next())?;
         }
         above = Some(below);
@@ -146,8 +146,65 @@ fn laid_cells(alloc: Global, cells: &[Cell]) -> Result<Vec<LineSet<()>>, AllocEr
         laid.push(LineSet {
             width: *width,
             rows: *rows,
-            lines: set,
+            lines: BlockLines::of_lines(set),
         })?;
     }
     Ok(laid)
+}
+
+/// The lines of a row, one by one.
+fn lines_of(alloc: Global, lines: RowLines<()>) -> Result<Vec<TaggedLine<()>>, AllocError> {
+    match lines {
+        RowLines::Each(lines) => Ok(lines),
+        RowLines::Wide(texts) => {
+            let mut lines = Vec::new(alloc);
+            for text in texts.into_queue().into_vec() {
+                lines.push(text.line)?;
+            }
+            Ok(lines)
+        }
+    }
+}
+
+#[test]
+fn cells_of_many_lines_are_filled(rt: HostRuntime) {
+    told(&rt, are_many_filled(rt.alloc()), "a cell of many lines");
+}
+
+/// Whether forty lines are filled in a cell of three columns, stay as they are in another, and are filled again in one
+/// of five.
+fn are_many_filled(alloc: Global) -> Result<bool, AllocError> {
+    let mut lines = BlockLines::new(alloc);
+    for _line in 0..40 {
+        let line = RenderLine::Text(line_of(alloc, "a")?);
+        lines.push(LaidLine {
+            line,
+            content: true,
+        })?;
+    }
+    for width in &[3, 3, 5] {
+        let RowLines::Wide(texts) = row_of(alloc, *width, lines)? else {
+            return Ok(false);
+        };
+        lines = BlockLines::new(alloc);
+        lines.push_texts(texts)?;
+    }
+    let shown = lines.into_vec(alloc)?;
+    let mut is_so = shown.len() == 40;
+    for laid in &shown {
+        is_so = is_so && laid.content && laid.line == RenderLine::Text(line_of(alloc, "a    ")?);
+    }
+    Ok(is_so)
+}
+
+/// A row of one cell.
+fn row_of(alloc: Global, width: usize, lines: BlockLines<()>) -> Result<RowLines<()>, AllocError> {
+    let mut cells = Vec::new(alloc);
+    cells.push(LineSet {
+        width,
+        rows: 1,
+        lines,
+    })?;
+    let hanging = Vec::new(alloc);
+    Ok(lay_across(alloc, true, true, &(), None, cells, hanging)?.lines)
 }

@@ -47,11 +47,12 @@ returns-clause-lines c =
     (all_targets c.args.behind.now.targets) (inlines_view c.args.contents.now) [] []) (tag_of c.new-outermost.result)
     (laid_of tag_of c.new-block.result) (said_of c.say_inlines.new.block c.say_inlines.new.targets)
     (laid_of tag_of c.flush.new.self)
-    (map (laid_line_of tag_of) c.into_laid_lines.result.items) (map line_of c.in_ok-lines.lines.items)
+    (map (laid_line_of tag_of) c.in_ok-laid.laid.items) (map line_of c.in_ok-lines.lines.items)
     (ap (map (λ _. tt)) c.new-outermost.ensures.items) c.new-block.ensures.laid
     c.in_ok-say_inlines.ensures.done
     (ap (λ m. flush m (tag_of c.new-outermost.result) (laid_of tag_of c.say_inlines.new.block)) (sym c.measure.ensures)
-    ∙ c.in_ok-flush.ensures.flushed) c.into_laid_lines.ensures.lines c.in_ok-lines.ensures
+    ∙ c.in_ok-flush.ensures.flushed) (c.in_ok-laid.ensures.lines ∙ c.into_laid_lines.ensures.lines)
+    c.in_ok-lines.ensures
 
 pub returns-clause-targets : goal.returns-clause-targets
 returns-clause-targets c =
