@@ -191,8 +191,9 @@ fn are_many_filled(alloc: Global) -> Result<bool, AllocError> {
     }
     let shown = lines.into_vec(alloc)?;
     let mut is_so = shown.len() == 40;
-    for laid in &shown {
-        is_so = is_so && laid.content && laid.line == RenderLine::Text(line_of(alloc, "a    ")?);
+    for laid in shown {
+        let text = laid.line.into_text(alloc, &())?;
+        is_so = is_so && laid.content && is_text(alloc, &text, Some(&"a    "))?;
     }
     Ok(is_so)
 }
