@@ -1,9 +1,8 @@
 //! The lines of an article where memory is refused.
 use crate::articles::{Step, article_of};
 use crate::trees::holds;
-use article_answers::{ArticleLine, Config, Error, LayArticle};
-use article_values::Article;
 use html_lexemes::ReferenceTable;
+use html2text::{Article, ArticleLine, Config, Error, LayArticle};
 use std::alloc::Global;
 use text_decorators::PlainDecorator;
 

@@ -1,5 +1,5 @@
 //! Articles built in steps, from inside out.
-use article_values::{Article, ArticleError, Block, Inline};
+use html2text::{Article, ArticleError, Block, Inline};
 use std::alloc::{AllocError, Global};
 use std::mem;
 

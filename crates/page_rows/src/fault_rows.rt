@@ -1,7 +1,7 @@
 //! Which values are articles, and which fault of the others is the first.
 use crate::articles::{Step, article_of};
 use crate::trees::{holds, told};
-use article_values::{ArticleError, Block};
+use html2text::{ArticleError, Block};
 use std::alloc::{AllocError, Global};
 
 /// A title, the steps that build the blocks, and the first fault.

@@ -2,10 +2,9 @@
 //! written of others stands in the stored run of articles.
 use crate::articles::{Step, article_of};
 use crate::trees::holds;
-use article_values::Article;
-use article_writing::WriteArticle;
 use html_lexemes::Device;
 use html_serializer::SerializeFault;
+use html2text::{Article, WriteArticle};
 use std::alloc::Global;
 use std::io::Cursor;
 
