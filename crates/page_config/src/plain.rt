@@ -1,6 +1,6 @@
 //! Pages as plain text.
-ghost use Rattle.std.specs.Prelude.{◌≡◌, ◌+◌, ◌<◌, ◌≤◌, true, false, Err, IfErr, IfOk, IfSome};
-ghost use Rattle.std.specs.Prelude.{chars, length, string_bytes};
+ghost use Rattle.std.specs.Prelude.{◌≡◌, true, false, Err, IfErr, IfOk, IfSome};
+ghost use Rattle.std.specs.Prelude.{chars, string_bytes};
 ghost use Rattle.std.specs.Io.KnownBytes.{IsAtEnd};
 ghost use Rattle.page_config.specs.Errors.{IsAnswer};
 ghost use Rattle.page_config.specs.PageAnswers.{Answers, IsTold, fail, too_narrow};
@@ -54,11 +54,7 @@ pub fn from_read<R: ByteReader>(
         (λ bytes. HasPlainAnswer table width bytes too_narrow) }
     ensures fail { result ≡ Err Error.Fail → IfSome (R.remaining input.old)
         (λ bytes. HasPlainAnswer table width bytes fail) }
-    ensures short { IsAnswer result → IfSome (R.remaining input.old) (λ bytes. length bytes ≤ usize.MAX) }
-    ensures at_most { R.count input.new ≤ R.count input.old + usize.MAX + 1 }
     ensures io { result ≡ Err Error.IoError → R.has_failed input.new ≡ true }
-    ensures too_long { result ≡ Err Error.TooLong → R.count input.old + usize.MAX < R.count input.new }
-    ensures long { result ≡ Err Error.TooLong → IfSome (R.remaining input.old) (λ bytes. usize.MAX < length bytes) }
     ensures stays { R.has_failed input.old ≡ true → R.has_failed input.new ≡ true }
     ensures works { IsAnswer result → R.has_failed input.new ≡ false }
     ensures end { IsAnswer result → IsAtEnd (R.remaining input.new) }
@@ -83,11 +79,7 @@ pub fn from_read_with_decorator<R: ByteReader, D: TextDecorator + Drop>(
     ensures fail { result ≡ Err Error.Fail → IfSome (R.remaining input.old) (λ bytes.
         Answers D.Annotation.seen D.text D.gives D.marks D.after D.pops D.sub D.closes
         (by_default table (D.sub (D.held decorator))) width bytes fail) }
-    ensures short { IsAnswer result → IfSome (R.remaining input.old) (λ bytes. length bytes ≤ usize.MAX) }
-    ensures at_most { R.count input.new ≤ R.count input.old + usize.MAX + 1 }
     ensures io { result ≡ Err Error.IoError → R.has_failed input.new ≡ true }
-    ensures too_long { result ≡ Err Error.TooLong → R.count input.old + usize.MAX < R.count input.new }
-    ensures long { result ≡ Err Error.TooLong → IfSome (R.remaining input.old) (λ bytes. usize.MAX < length bytes) }
     ensures stays { R.has_failed input.old ≡ true → R.has_failed input.new ≡ true }
     ensures works { IsAnswer result → R.has_failed input.new ≡ false }
     ensures end { IsAnswer result → IsAtEnd (R.remaining input.new) }

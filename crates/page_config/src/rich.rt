@@ -1,5 +1,5 @@
 //! Pages as rich text, and as render trees.
-ghost use Rattle.std.specs.Prelude.{◌≡◌, ◌≢◌, ◌+◌, ◌<◌, ◌≤◌, true, false, Err, IfOk, IfSome, length, map};
+ghost use Rattle.std.specs.Prelude.{◌≡◌, ◌≢◌, ◌≤◌, true, false, Err, IfOk, IfSome, map};
 ghost use Rattle.std.specs.Io.KnownBytes.{IsAtEnd};
 ghost use Rattle.block_renderer.specs.Seen.{tags_seen};
 ghost use Rattle.html_render_tree.specs.PageLaws.{AreWithin};
@@ -49,11 +49,7 @@ pub fn from_read_rich<R: ByteReader>(
         (λ bytes. HasRichAnswer (bare_default table) width bytes fail) }
     ensures within { IfOk result
         (λ shown. 2 ≤ width → AreWithin width (map (line_items (tags_seen rich_tag)) shown.items)) }
-    ensures short { IsAnswer result → IfSome (R.remaining input.old) (λ bytes. length bytes ≤ usize.MAX) }
-    ensures at_most { R.count input.new ≤ R.count input.old + usize.MAX + 1 }
     ensures io { result ≡ Err Error.IoError → R.has_failed input.new ≡ true }
-    ensures too_long { result ≡ Err Error.TooLong → R.count input.old + usize.MAX < R.count input.new }
-    ensures long { result ≡ Err Error.TooLong → IfSome (R.remaining input.old) (λ bytes. usize.MAX < length bytes) }
     ensures stays { R.has_failed input.old ≡ true → R.has_failed input.new ≡ true }
     ensures works { IsAnswer result → R.has_failed input.new ≡ false }
     ensures end { IsAnswer result → IsAtEnd (R.remaining input.new) }
@@ -75,11 +71,7 @@ pub fn parse<R: ByteReader>(
     ensures fail { result ≡ Err Error.Fail → IfSome (R.remaining input.old)
         (λ bytes. ArePageValues (bare_default table) bytes none) }
     ensures kinds { result ≢ Err Error.TooNarrow }
-    ensures short { IsAnswer result → IfSome (R.remaining input.old) (λ bytes. length bytes ≤ usize.MAX) }
-    ensures at_most { R.count input.new ≤ R.count input.old + usize.MAX + 1 }
     ensures io { result ≡ Err Error.IoError → R.has_failed input.new ≡ true }
-    ensures too_long { result ≡ Err Error.TooLong → R.count input.old + usize.MAX < R.count input.new }
-    ensures long { result ≡ Err Error.TooLong → IfSome (R.remaining input.old) (λ bytes. usize.MAX < length bytes) }
     ensures stays { R.has_failed input.old ≡ true → R.has_failed input.new ≡ true }
     ensures works { IsAnswer result → R.has_failed input.new ≡ false }
     ensures end { IsAnswer result → IsAtEnd (R.remaining input.new) }
