@@ -18,3 +18,5 @@ mod line_tests;
 mod renderer_tests;
 #[cfg(test)]
 mod table_tests;
+#[cfg(test)]
+mod width_tests;
