@@ -1,6 +1,6 @@
 -- A page whose renderers keep no annotations is that of renderers that keep them, but for these.
 use Rattle.std.proofs.Common.{◌≡◌, ℕ, List, [], ◌∷◌, ◌++◌, Option, None, Some, map, sym, ap, ◌∙◌, refl, subst, false}
-use Rattle.std.proofs.Common.{inr}
+use Rattle.std.proofs.Common.{◌⊎◌, inl, inr}
 use Rattle.std.specs.Option.{option_and_then, option_map}
 use Rattle.block_renderer.specs.Footnotes.{add_footnotes}
 use Rattle.renderer_calls.specs.Bare.{bare_of, no_tag}
@@ -63,6 +63,10 @@ pub never_laid : {H A : Type 0} {m : Marking H A} (laws : BareLaws m) (c : Setti
 never_laid {m = m} laws c width values is =
     none_before bare_parts (laid_page m c width values)
     (sym (laws.laid _ values (whole_page (new_sub width c.options c.held []))) ∙ is)
+
+pub or_else : {X Y Z : Type 0} → (Y → Z) → X ⊎ Y → X ⊎ Z
+or_else f (inl x) = inl x
+or_else f (inr y) = inr (f y)
 
 -- with what stands behind its values
 noted_alike : {T H A : Type 0} {m : Marking H A} (laws : BareLaws m) (seen : T → A)

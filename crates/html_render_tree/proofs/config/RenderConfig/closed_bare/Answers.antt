@@ -1,9 +1,10 @@
-use Rattle.std.proofs.Common.{◌≡◌, Err, ap, inr}
+use Rattle.std.proofs.Common.{◌≡◌, ◌∙◌, Err, ap, inl, inr}
+use Rattle.std.proofs.lemmas.Result.{err_from_is_err_and}
 use Rattle.block_renderer.specs.Seen.{marking, sub_of}
 use Rattle.render_conversion.specs.declared.error.RenderError.TheVariants.{TooNarrow}
 use Rattle.walk_laws.specs.SeenParts.{parts_of}
 use Rattle.html_render_tree.specs.Settings.{setting_of}
-use Rattle.html_render_tree.proofs.BareLemmas.{BareLaws, closed_alike, never_alike}
+use Rattle.html_render_tree.proofs.BareLemmas.{BareLaws, closed_alike, never_alike, never_laid, or_else}
 use Rattle.html_render_tree.proofs.config.RenderConfig.closed_bare.Goals as goal
 
 pub returns-in-Ok-clause-closed : goal.returns-in-Ok-clause-closed
@@ -37,3 +38,19 @@ returns-in-Err-clause-narrow g c = λ e.
     never_alike laws seen d.closes (setting_of d.held d.sub c.args.self.now) c.args.width c.args.tree.now
     (parts_of seen d.held c.in_ok-text.text) (c.in_ok-text.ensures.laid tag p)
     (c.in-Err.ensures.narrow (ap Err (c.refusal.ensures.narrow narrow)) tag p))
+
+pub returns-in_err-text-clause-narrow : goal.returns-in_err-text-clause-narrow
+returns-in_err-text-clause-narrow g c = λ e.
+    let q = err_from_is_err_and c.from_residual.result c.from_residual.ensures.1 in
+    let same : c.in_err-text.field-0.0 ≡ TooNarrow = cc (q.1, q.2, e) in
+    let d = g.D.TextDecorator in
+    or_else (λ never. λ tag p.
+    let m = marking d.text tag d.marks d.after d.pops d.sub in
+    let laws : BareLaws m = record {
+      does = λ call s. c.annotations_change_no_text.ensures.step m call s;
+      notes = λ notes s. c.annotations_change_no_text.ensures.footnotes notes s;
+      bare = λ s. c.annotations_change_no_text.ensures.bare s;
+      laid = c.annotations_change_no_page.ensures m;
+    } in
+    inl (never_laid laws (setting_of d.held d.sub c.args.self.now) c.args.width c.args.tree.now (never tag p)))
+    (c.laid.ensures.narrow (c.in_err-text.was ∙ ap Err same))
