@@ -1,8 +1,10 @@
 //! A renderer that the calls of a script go to.
 use anyhow::{Result, bail};
+use block_renderer::SubRenderer;
 use renderer_calls::Renderer;
 use row_fields::unescaped;
 use std::alloc::Global;
+use text_decorators::TextDecorator;
 use text_pieces::{BlockError, WhiteSpace};
 
 /// What a renderer answered to a line of a script; the error is a line that is no call.
@@ -27,21 +29,40 @@ enum Mark {
 }
 
 /// A renderer, and what has begun in its block and not ended.
-#[derive(Drop)]
-pub(crate) struct Block<R> {
-    pub(crate) renderer: R,
+pub(crate) struct Block<D: TextDecorator> {
+    pub(crate) renderer: SubRenderer<D>,
     begun: Vec<Mark>,
     pieces: Pieces,
 }
 
-impl<R: Renderer> Block<R> {
+impl<D: TextDecorator + Drop> Drop for Block<D> {
+    fn drop(self) {
+        let Block {
+            renderer: _,
+            begun: _,
+            pieces: _,
+        } = self;
+    }
+}
+
+impl<D: TextDecorator + Drop> Block<D> {
     /// The block of a renderer. Its texts come in such pieces.
-    pub(crate) fn new(alloc: Global, renderer: R, pieces: Pieces) -> Block<R> {
+    pub(crate) fn new(alloc: Global, renderer: SubRenderer<D>, pieces: Pieces) -> Block<D> {
         Block {
             renderer,
             begun: Vec::new(alloc),
             pieces,
         }
+    }
+
+    /// The renderer alone.
+    pub(crate) fn into_renderer(self) -> SubRenderer<D> {
+        let Block {
+            renderer,
+            begun: _,
+            pieces: _,
+        } = self;
+        renderer
     }
 
     /// Makes a call without a field.

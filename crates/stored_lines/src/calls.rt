@@ -1,19 +1,21 @@
 //! The blocks of a script, one within the other.
 use crate::block::{Answer, Block, Pieces};
 use anyhow::{Result, bail};
+use block_renderer::SubRenderer;
 use renderer_calls::Renderer;
 use row_fields::unescaped;
 use std::alloc::Global;
 use std::mem;
+use text_decorators::TextDecorator;
 use text_pieces::BlockError;
 
 /// The renderer that has taken the calls of a script, a line each, or what it answered to one that it refused.
-pub(crate) fn performed<R: Renderer + Drop>(
+pub(crate) fn performed<D: TextDecorator + Drop>(
     alloc: Global,
-    renderer: R,
+    renderer: SubRenderer<D>,
     calls: &str,
     pieces: Pieces,
-) -> Result<Result<R, BlockError>> {
+) -> Result<Result<SubRenderer<D>, BlockError>> {
     let mut blocks = Blocks::new(alloc, renderer, pieces);
     for call in calls.lines() {
         if let Err(error) = blocks.perform(call)? {
@@ -24,19 +26,29 @@ pub(crate) fn performed<R: Renderer + Drop>(
 }
 
 /// The block that calls go to, and those around it.
-#[derive(Drop)]
-struct Blocks<R> {
+struct Blocks<D: TextDecorator> {
     /// Those around the running one, the outermost first.
-    around: Vec<Block<R>>,
-    running: Block<R>,
+    around: Vec<Block<D>>,
+    running: Block<D>,
     /// The renderers of those that are over and stand nowhere yet.
-    pile: Vec<R>,
+    pile: Vec<SubRenderer<D>>,
     pieces: Pieces,
 }
 
-impl<R: Renderer + Drop> Blocks<R> {
+impl<D: TextDecorator + Drop> Drop for Blocks<D> {
+    fn drop(self) {
+        let Blocks {
+            around: _,
+            running: _,
+            pile: _,
+            pieces: _,
+        } = self;
+    }
+}
+
+impl<D: TextDecorator + Drop> Blocks<D> {
     /// The block of that renderer alone.
-    fn new(alloc: Global, renderer: R, pieces: Pieces) -> Blocks<R> {
+    fn new(alloc: Global, renderer: SubRenderer<D>, pieces: Pieces) -> Blocks<D> {
         Blocks {
             around: Vec::new(alloc),
             running: Block::new(alloc, renderer, pieces),
@@ -64,17 +76,17 @@ impl<R: Renderer + Drop> Blocks<R> {
     }
 
     /// The renderer of the outermost block, to which each part must have come back.
-    fn into_renderer(self) -> Result<R> {
+    fn into_renderer(self) -> Result<SubRenderer<D>> {
         let Blocks {
             around,
             running,
-            ..
+            pile: _,
+            pieces: _,
         } = self;
         if !around.is_empty() {
             bail!("a push without a pop");
         }
-        let Block { renderer, .. } = running;
-        Ok(renderer)
+        Ok(running.into_renderer())
     }
 
     fn alloc(&self) -> Global {
@@ -99,8 +111,8 @@ impl<R: Renderer + Drop> Blocks<R> {
         let Some(outer) = self.around.pop() else {
             bail!("a pop without a push");
         };
-        let Block { renderer, .. } = mem::replace(&mut self.running, outer);
-        self.pile.push(renderer)?;
+        let part = mem::replace(&mut self.running, outer);
+        self.pile.push(part.into_renderer())?;
         Ok(Ok(()))
     }
 
@@ -139,7 +151,7 @@ impl<R: Renderer + Drop> Blocks<R> {
     }
 
     /// Takes the last of the pile, so many, in order.
-    fn taken(&mut self, count: usize) -> Result<Vec<R>> {
+    fn taken(&mut self, count: usize) -> Result<Vec<SubRenderer<D>>> {
         let Some(at) = self.pile.len().checked_sub(count) else {
             bail!("too few lie on the pile");
         };
