@@ -125,11 +125,11 @@ def run(words, source):
 
     GNU time starts the program: the peak that the system tells of a child has that of its parent in it.
     """
-    with tempfile.TemporaryFile() as output, tempfile.TemporaryFile() as errors, tempfile.NamedTemporaryFile() as told:
+    with tempfile.TemporaryFile() as output, tempfile.TemporaryFile() as errors, tempfile.NamedTemporaryFile() as spent:
         source.seek(0)
-        command = ["/usr/bin/time", "-o", told.name, "-f", "%U %M", *words, "--width", "72"]
+        command = ["/usr/bin/time", "-o", spent.name, "-f", "%U %M", *words, "--width", "72"]
         status = subprocess.call(command, stdin=source, stdout=output, stderr=errors, preexec_fn=limits)
-        seconds, memory = told.read().split()[-2:]
+        seconds, memory = spent.read().split()[-2:]
         output.seek(0)
         errors.seek(0)
         fault = errors.read().decode().strip().removeprefix("html2text: ")

@@ -17,7 +17,7 @@ from page_lines import pages
 
 
 def run(program, page):
-    """Seconds of processor time, kilobytes of memory at most, the output and what was told of a fault."""
+    """Seconds of processor time, kilobytes of memory at most, the output and what was reported of a fault."""
     with tempfile.TemporaryFile() as source, tempfile.TemporaryFile() as output, tempfile.TemporaryFile() as errors:
         source.write(page)
         source.seek(0)
@@ -32,9 +32,9 @@ def tell(program, name, page):
     """Times a page, and tells its line."""
     runs = [run(program, page) for _ in range(5)]
     seconds, memory = min(r[0] for r in runs), min(r[1] for r in runs)
-    lines, told = runs[0][2].count(b"\n"), runs[0][3].strip()
+    lines, fault = runs[0][2].count(b"\n"), runs[0][3].strip()
     speed = f"{len(page) / max(seconds, 0.001) / 1e6:.1f} MB"
-    came = told or f"{lines:,} lines"
+    came = fault or f"{lines:,} lines"
     print(f"| {name} | {len(page):,} | {seconds:.2f} | {speed} | {memory / 1000:.0f} MB | {came} |")
 
 

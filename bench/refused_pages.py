@@ -7,8 +7,8 @@ With words, only the pages whose name has one of them. Each page is rendered at 
 request was refused must answer as the run in which none is (status, standard output and standard error), or write
 nothing, say that memory ran out, and end with status 1 (the page), 2 (the words) or 3 (the table of references). A line
 tells of a page: its bytes; the requests of its runs at the three widths, each of which was refused; how many of these
-runs ended with each status for want of memory; how many answered all the same; and how many did anything else, each of
-which is told. `refuse.c` is built by `cc` and preloaded.
+runs ended with each status after an allocation failure; how many answered all the same; and how many did anything else,
+each of which is reported. `refuse.c` is built by `cc` and preloaded.
 """
 
 import concurrent.futures
@@ -199,7 +199,7 @@ class Runs:
 
     def __init__(self, room, words, page=os.devnull):
         self.room, self.words, self.page = room, words, page
-        self.out, self.told, self.counted = (os.path.join(room, name) for name in ("out", "told", "count"))
+        self.out, self.err, self.counted = (os.path.join(room, name) for name in ("out", "err", "count"))
 
     def run(self, number):
         """Status, standard output and standard error where the request of that number is refused, and all requests."""
@@ -208,12 +208,12 @@ class Runs:
         files = [
             (os.POSIX_SPAWN_OPEN, 0, self.page, os.O_RDONLY, 0),
             (os.POSIX_SPAWN_OPEN, 1, self.out, flags, 0o600),
-            (os.POSIX_SPAWN_OPEN, 2, self.told, flags, 0o600),
+            (os.POSIX_SPAWN_OPEN, 2, self.err, flags, 0o600),
         ]
         child = os.posix_spawn(self.words[0], self.words, env, file_actions=files)
         status = os.waitstatus_to_exitcode(os.waitpid(child, 0)[1])
-        with open(self.out, "rb") as out, open(self.told, "rb") as told:
-            return status, out.read(), told.read()
+        with open(self.out, "rb") as out, open(self.err, "rb") as err:
+            return status, out.read(), err.read()
 
     def requests(self):
         """How many requests the last run made."""
@@ -233,11 +233,11 @@ def room_for(folder, program, page, words, width):
 
 
 def kind_of(answer, whole):
-    """What a run came to: a status for want of memory, an answer all the same, or anything else."""
+    """What a run came to: a status after an allocation failure, an answer all the same, or anything else."""
     if answer == whole:
         return "answered"
-    status, out, told = answer
-    return status if status in (1, 2, 3) and out == b"" and told == MEMORY else "other"
+    status, out, err = answer
+    return status if status in (1, 2, 3) and out == b"" and err == MEMORY else "other"
 
 
 def refuse_each(runs, name):

@@ -4,7 +4,7 @@
     bench/refused_tests.py PROGRAM TEST..
 
 Each is a test that holds either way. A line tells of a test: the requests of its run, each of which was refused, and
-how many of these runs failed, each of which is told.
+how many of these runs failed, each of which is reported.
 """
 
 import os
@@ -23,15 +23,15 @@ def main():
         built_library(room)
         for test in sys.argv[2:]:
             runs = Runs(room, [program, test])
-            status, _, told = runs.run(0)
+            status, _, errors = runs.run(0)
             if status != 0:
-                sys.exit(f"{test} fails where nothing is refused: {told[:200]!r}")
+                sys.exit(f"{test} fails where nothing is refused: {errors[:200]!r}")
             requests, failed = runs.requests(), 0
             for number in range(1, requests + 1):
-                status, out, told = runs.run(number)
+                status, out, errors = runs.run(number)
                 if status != 0:
                     failed += 1
-                    print(f"{test}, request {number}: status {status}, {(out + told)[-300:]!r}", flush=True)
+                    print(f"{test}, request {number}: status {status}, {(out + errors)[-300:]!r}", flush=True)
             print(f"{test}: {failed} of {requests:,} failed", flush=True)
             failed_at_all = failed_at_all or failed > 0
     sys.exit(1 if failed_at_all else 0)

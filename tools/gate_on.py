@@ -132,8 +132,8 @@ class Gate:
         say(f"{crate.name}: {kind} {'NOT proved' if status else 'proved'} in {time.time() - begun:.0f} s")
         if status:
             words = (": error", "rror[", ": not proved", "no proof", "not in the layout", "rt: ")
-            told = [it[:300] for it in said.split("\n") if any(word in it for word in words)]
-            say("\n".join(told[:30]) or said[-2000:])
+            shown = [it[:300] for it in said.split("\n") if any(word in it for word in words)]
+            say("\n".join(shown[:30]) or said[-2000:])
         return not status
 
     def try_edits(self, crate):

@@ -219,8 +219,8 @@ class Trial:
             status, lines = self.check({})
             if status:
                 self.is_well = False
-                told = [it[:200] for it in lines if "error" in it or "not proved" in it]
-                self.said = told[:10] or lines[-3:]
+                shown = [it[:200] for it in lines if "error" in it or "not proved" in it]
+                self.said = shown[:10] or lines[-3:]
                 return False
         self.names = [it[1] for it in (re.match(r"fn (\S+): proved", line) for line in lines) if it]
         return True
