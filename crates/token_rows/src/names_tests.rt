@@ -60,7 +60,7 @@ fn is_given_back(alloc: Global, word: &str) -> Result<bool, AllocError> {
     let text = Text::from(String::from_str(alloc, word)?);
     let name = LocalName::from(text.try_clone()?).try_clone()?;
     let is_name = name.as_str() == word && name == LocalName::from_str(alloc, word)?;
-    Ok(is_name && text.into_string().as_str() == word)
+    Ok(is_name && text.into_string()?.as_str() == word)
 }
 
 // whether a name is the known one that is expected

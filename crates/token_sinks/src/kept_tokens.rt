@@ -110,7 +110,7 @@ fn behind_last(tokens: &mut Vec<Token>, text: Text) -> Result<Text, AllocError>
     };
     match last {
         Token::CharacterTokens(last) => {
-            let mut joined = last.into_string();
+            let mut joined = last.into_string()?;
             joined.push_str(text.as_str())?;
             Ok(Text::from(joined))
         }
