@@ -7,6 +7,9 @@ use std::marker::Model;
 use std::mem;
 use std::rc::Rc;
 
+/// So many attributes take no more room than they need.
+const FEW: usize = 2;
+
 /// The attributes of a tag, in their order. Contracts see a list. Copies of those that are shared take no memory.
 pub struct Attributes {
     items: Items,
@@ -66,8 +69,8 @@ impl Attributes {
     {
         match &mut self.items {
             Items::Owned(items) => {
-                if items.is_empty() {
-                    // most tags have one attribute, and its list may be shared by many elements
+                if items.len() < FEW {
+                    // most tags have one attribute or two, and their list may be shared by many elements
                     items.reserve_exact(1)?;
                 }
                 items.push(attribute)?;
