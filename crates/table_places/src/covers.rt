@@ -3,7 +3,7 @@ ghost use Rattle.std.specs.Prelude.{ℕ, ◌-◌, ◌^◌, ◌<◌, ◌≤◌, A
 ghost use Rattle.table_places.specs.Covers.{AreApart, AreMerged, AreOrdered, ArePushed, EndBefore};
 ghost use Rattle.table_places.specs.Covers.{IsMergedTo, Misses, MissesOne, cover_at};
 
-use std::alloc::{AllocError, Global};
+use std::alloc::AllocError;
 
 /// Columns that cells take in a row: those from `left` to before `right`.
 #[derive(Clone, Copy)]
@@ -54,11 +54,11 @@ fn push_before(
     Ok(next)
 }
 
-/// What the cells from above and those of a row take together.
+/// What the cells from above and those of a row take together, in the memory of `merged`.
 pub(crate) fn merge_covers(
-    alloc: Global,
     covers: &[Cover],
     own: &[Cover],
+    merged: Vec<Cover>,
 ) -> Result<Vec<Cover>, AllocError>
     requires ordered { AreOrdered covers.now }
     requires own { AreOrdered own.now }
@@ -67,7 +67,8 @@ pub(crate) fn merge_covers(
     requires small_own { EndBefore own.now (2 ^ 128 - 1) }
     ensures { IfOk result (λ v. AreMerged covers.now own.now v.items) }
 {
-    let mut merged = Vec::new(alloc);
+    let mut merged = merged;
+    merged.clear();
     let mut at: usize = 0;
     for cover in own {
         at = push_before(&mut merged, covers, at, cover.left)?;

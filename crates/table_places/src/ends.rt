@@ -47,21 +47,22 @@ pub(crate) fn ends_of(alloc: Global, cells: &[Cell]) -> Result<Vec<RowEnd>, Allo
     Ok(ends)
 }
 
-/// What the cells take whose row spans end at `row` or above, of the ends from `over` on, and how many ends are passed
-/// then.
+/// What the cells take whose row spans end at `row` or above, of the ends from `over` on, in the memory of `ended`, and
+/// how many ends are passed then.
 pub(crate) fn ended_above(
-    alloc: Global,
     ends: &[RowEnd],
     over: usize,
     placed: &[PlacedCell],
     row: u128,
+    ended: Vec<Cover>,
 ) -> Result<(Vec<Cover>, usize), AllocError>
     requires within { over ≤ length ends.now }
     requires placed { All (λ e. e.bottom ≤ row → e.place < length placed.now) ends.now }
     requires small { All (λ p. right_of p < 2 ^ 128) placed.now }
     ensures { IfOk result (λ r. AreEnded ends.now over r.1 placed.now row r.0.items) }
 {
-    let mut ended = Vec::new(alloc);
+    let mut ended = ended;
+    ended.clear();
     let mut at = over;
     while at < ends.len() && ends[at].bottom <= row {
         ended.push(placed[ends[at].place].cover())?;

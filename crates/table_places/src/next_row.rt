@@ -10,6 +10,22 @@ use crate::ends::{RowEnd, ended_above};
 use crate::without::covers_without;
 use std::alloc::{AllocError, Global};
 
+/// Lists that are made anew for each row, in the memory of those of the row before.
+#[derive(Drop)]
+pub(crate) struct Scratch {
+    taken: Vec<Cover>,
+    ended: Vec<Cover>,
+}
+
+impl Scratch {
+    pub(crate) fn new(alloc: Global) -> Scratch {
+        Scratch {
+            taken: Vec::new(alloc),
+            ended: Vec::new(alloc),
+        }
+    }
+}
+
 /// What the cells so far take of the next row, by what they take of the last one (`covers` those from above, `own` its
 /// own) without those whose row spans end, and how many ends are passed then.
 pub(crate) fn next_covers(
@@ -21,7 +37,8 @@ pub(crate) fn next_covers(
     own: &[Cover],
     placed: &[PlacedCell],
     row: usize,
-) -> Result<(Vec<Cover>, usize), AllocError>
+    scratch: Scratch,
+) -> Result<(Vec<Cover>, usize, Scratch), AllocError>
     requires rows { IsNonDecreasingBy (λ c. c.row) cells.now }
     requires some { All (λ c. 0 < c.colspan) cells.now }
     requires tall { All (λ c. 0 < c.rowspan) cells.now }
@@ -31,8 +48,9 @@ pub(crate) fn next_covers(
     requires state { IsUpTo cells.now ends.now over covers.now own.now placed.now }
     ensures { IfOk result (λ r. HasNextCovers cells.now ends.now r.1 row r.0.items placed.now) }
 {
-    let taken = merge_covers(alloc, covers, own)?;
-    let (ended, passed) = ended_above(alloc, ends, over, placed, row as u128)?;
+    let Scratch { taken, ended } = scratch;
+    let taken = merge_covers(covers, own, taken)?;
+    let (ended, passed) = ended_above(ends, over, placed, row as u128, ended)?;
     let above = covers_without(alloc, taken.as_slice(), ended.as_slice())?;
-    Ok((above, passed))
+    Ok((above, passed, Scratch { taken, ended }))
 }

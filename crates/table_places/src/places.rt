@@ -7,7 +7,7 @@ ghost use Rattle.table_places.specs.Places.{ArePlaced, right_of};
 use crate::cell::{Cell, PlacedCell};
 use crate::ends::ends_of;
 use crate::gaps::{Gap, row_gaps};
-use crate::next_row::next_covers;
+use crate::next_row::{Scratch, next_covers};
 use crate::walk::place_row;
 use std::alloc::{AllocError, Global};
 
@@ -34,10 +34,11 @@ pub fn place_cells(alloc: Global, cells: &[Cell]) -> Result<Places, AllocError>
     let mut gaps = Vec::new(alloc);
     let mut covers = Vec::new(alloc);
     let mut own = Vec::new(alloc);
+    let mut scratch = Scratch::new(alloc);
     let mut over: usize = 0;
     'rows: while placed.len() < cells.len() {
         let row = cells[placed.len()].row;
-        let (above, passed) = next_covers(
+        let (above, passed, emptied) = next_covers(
             alloc,
             cells,
             ends.as_slice(),
@@ -46,10 +47,12 @@ pub fn place_cells(alloc: Global, cells: &[Cell]) -> Result<Places, AllocError>
             own.as_slice(),
             placed.as_slice(),
             row,
+            scratch,
         )?;
+        scratch = emptied;
         covers = above;
         over = passed;
-        own = place_row(alloc, cells, row, covers.as_slice(), &mut placed)?;
+        own = place_row(cells, row, covers.as_slice(), &mut placed, own)?;
         row_gaps(&mut gaps, row, covers.as_slice(), own.as_slice())?;
     }
     Ok(Places {

@@ -4,7 +4,7 @@ ghost use Rattle.table_places.specs.Covers.{AreOrdered, ArePassed, IsBehindRow, 
 
 use crate::cell::{Cell, PlacedCell};
 use crate::covers::Cover;
-use std::alloc::{AllocError, Global};
+use std::alloc::AllocError;
 
 // where a cell stands, and how many covers end there or before
 fn place(covers: &[Cover], passed: usize, behind: u128, span: u128) -> (u128, usize)
@@ -25,13 +25,13 @@ fn place(covers: &[Cover], passed: usize, behind: u128, span: u128) -> (u128, us
     (start, at)
 }
 
-/// Places the cells of the next row, and gives what they cover.
+/// Places the cells of the next row, and gives what they cover, in the memory of `own`.
 pub(crate) fn place_row(
-    alloc: Global,
     cells: &[Cell],
     row: usize,
     covers: &[Cover],
     placed: &mut Vec<PlacedCell>,
+    own: Vec<Cover>,
 ) -> Result<Vec<Cover>, AllocError>
     requires start { IsBetweenRows cells.now row covers.now placed.old.items }
     requires some { All (λ c. 0 < c.colspan) cells.now }
@@ -39,7 +39,8 @@ pub(crate) fn place_row(
     ensures { IfOk result (λ own. IsBehindRow cells.now row covers.now own.items placed.old.items
         placed.new.items) }
 {
-    let mut own = Vec::new(alloc);
+    let mut own = own;
+    own.clear();
     let mut passed: usize = 0;
     let mut behind: u128 = 0;
     while placed.len() < cells.len() && cells[placed.len()].row == row {

@@ -173,12 +173,12 @@ impl<T: EqualCopy> TaggedLineElement<T> {
     }
 }
 
-/// A copy of a text to which more is likely to be added: it has room for 24 bytes at least, which take no more memory
-/// than fewer. The error is want of memory alone.
+/// A copy of a text to which more is likely to be added: it has room for a space after it, and for 24 bytes at least,
+/// which take no more memory than fewer. The error is allocation failure alone.
 pub fn roomy_copy(alloc: Global, text: &str) -> Result<String, AllocError>
     ensures ok { IfOk result (λ copy. string_bytes copy ≡ text.now) }
 {
-    let mut copy = String::with_capacity(alloc, text.len().max(24))?;
+    let mut copy = String::with_capacity(alloc, text.len().saturating_add(1).max(24))?;
     copy.push_str(text)?;
     Ok(copy)
 }

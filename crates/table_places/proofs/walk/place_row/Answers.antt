@@ -10,7 +10,7 @@ pub loop-placed-init : goal.loop-placed-init
 loop-placed-init c = record {
   state =
       subst (λ (xs : List Cover). IsInRow c.args.cells.now c.args.row c.args.covers.now xs
-      c.args.placed.now.items 0 0) (sym c.new-own.ensures.items)
+      c.args.placed.now.items 0 0) (sym c.clear.ensures.items)
       (row_first c.args.cells.now c.args.row c.args.covers.now c.args.placed.now.items c.requires.start);
   farther = omega arith;
   stays = take_all (length c.args.placed.now.items) c.args.placed.now.items (omega arith);
