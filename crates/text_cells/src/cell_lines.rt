@@ -1,6 +1,6 @@
 //! The lines of an open cell, taken one by one.
-ghost use Rattle.std.specs.Prelude.{◌≡◌, IfOk};
-ghost use Rattle.tagged_lines.specs.Tagged.{line_items};
+ghost use Rattle.std.specs.Prelude.{◌≡◌, ◌++◌, IfOk, OnOk};
+ghost use Rattle.tagged_lines.specs.Tagged.{IsJoined, line_items};
 ghost use Rattle.text_borders.specs.Across.{spaces};
 
 use crate::block_lines::BlockLines;
@@ -39,25 +39,36 @@ impl<T: EqualCopy + Drop> OpenCell<T> {
         }
     }
 
-    /// The next line, or what fills the cell. The error is want of memory alone.
-    pub(crate) fn take_line(&mut self, alloc: Global, tag: &T) -> Result<TaggedLine<T>, AllocError>
-        ensures items { IfOk result (λ l. line_items T.seen l
-            ≡ cell_items (T.seen tag.now) 0 (open_cell_of T.seen self.old)) }
+    /// Moves the next line to the end of a line, or what fills the cell. The error is allocation failure alone.
+    pub(crate) fn move_line(
+        &mut self,
+        line: &mut TaggedLine<T>,
+        alloc: Global,
+        tag: &T,
+    ) -> Result<(), AllocError>
+        ensures items { OnOk result (line_items T.seen line.new
+            ≡ line_items T.seen line.old ++ cell_items (T.seen tag.now) 0 (open_cell_of T.seen self.old)) }
         ensures rest { open_cell_of T.seen self.new ≡ after 1 (open_cell_of T.seen self.old) }
+        ensures joined { IsJoined T.seen line.old → IsJoined T.seen line.new }
     {
         match self.lines.pop_front() {
-            Some(next) => next.line.into_widened(alloc, self.width, tag),
-            None => self.filling(alloc),
+            Some(next) => {
+                let mut text = next.line.into_widened(alloc, self.width, tag)?;
+                line.append(&mut text)
+            }
+            None => self.fill(line),
         }
     }
 
-    /// What fills the cell. The error is want of memory alone.
-    fn filling(&self, alloc: Global) -> Result<TaggedLine<T>, AllocError>
-        ensures { IfOk result (λ l. line_items T.seen l ≡ (open_cell_of T.seen self.now).filler) }
+    /// Adds what fills the cell. The error is allocation failure alone.
+    fn fill(&self, line: &mut TaggedLine<T>) -> Result<(), AllocError>
+        ensures items { OnOk result (line_items T.seen line.new
+            ≡ line_items T.seen line.old ++ (open_cell_of T.seen self.now).filler) }
+        ensures joined { IsJoined T.seen line.old → IsJoined T.seen line.new }
     {
         match &self.filler {
-            Some(filler) => filler.try_clone(),
-            None => spaces(alloc, self.width, &self.space_tag),
+            Some(filler) => line.push_line(filler),
+            None => line.push_spaces(self.width, &self.space_tag),
         }
     }
 

@@ -78,8 +78,7 @@ fn row_line<T: EqualCopy + Drop>(
     let mut room = room;
     for cell in cells.iter_mut() {
         left -= 1;
-        let mut next = cell.take_line(alloc, tag)?;
-        line.append(&mut next)?;
+        cell.move_line(&mut line, alloc, tag)?;
         push_sign(&mut line, sign, tag, left, room)?;
         room = 0;
     }

@@ -1,4 +1,4 @@
-use Rattle.std.proofs.Common.{◌≡◌, ◌+◌, ◌-◌, ◌<◌, map, length, drop, sym, ap, ◌∙◌, arith}
+use Rattle.std.proofs.Common.{◌≡◌, ◌+◌, ◌-◌, ◌<◌, ◌++◌, map, length, drop, sym, ap, refl, ◌∙◌, arith}
 use Rattle.std.proofs.lemmas.List.{length-drop, length-map}
 use Rattle.tagged_lines.specs.Tagged.{line_items}
 use Rattle.text_borders.specs.Across.{cell_items}
@@ -27,16 +27,17 @@ loop-cell-preserved g c =
     record {
       left = omega (arith, c.loop-cell.invariant.left, inside);
       items = more_text c.args.sign tag start i (c.loop-cell.left - 1)
-          (open_cell_of seen c.cell-item.result) (line_items seen c.in_ok-next.next)
-          (line_items seen c.loop-cell.line) (line_items seen c.append.new.self)
+          (open_cell_of seen c.cell-item.result) (cell_items tag 0 (open_cell_of seen c.cell-item.result))
+          (line_items seen c.loop-cell.line) (line_items seen c.move_line.new.line)
           (line_items seen c.push_sign.new.line)
           (still_there (open_cell_of seen) (after 1) first c.loop-cell.cells i c.cell-item.result inside same
           c.loop-cell.invariant.cells c.cell-item.is) left
-          (c.in_ok-next.ensures.items ∙ ap (λ x. cell_items tag 0 (open_cell_of seen x)) (sym c.cell-item.is))
-          c.in_ok-append.ensures.ok
+          refl
+          (c.in_ok-move_line.ensures.items ∙ ap (λ x. line_items seen c.loop-cell.line
+          ++ cell_items tag 0 (open_cell_of seen x)) (sym c.cell-item.is))
           c.in_ok-push_sign.ensures.items ∙ c.loop-cell.invariant.items;
       cells = changed_more (open_cell_of seen) (after 1) first c.loop-cell.cells i c.cell-item.result
-          c.take_line.new.self inside same c.loop-cell.invariant.cells c.cell-item.is
-          (c.take_line.ensures.rest ∙ ap (λ x. after 1 (open_cell_of seen x)) (sym c.cell-item.is));
-      joined = c.push_sign.ensures.joined (c.append.ensures.joined c.loop-cell.invariant.joined);
+          c.move_line.new.self inside same c.loop-cell.invariant.cells c.cell-item.is
+          (c.move_line.ensures.rest ∙ ap (λ x. after 1 (open_cell_of seen x)) (sym c.cell-item.is));
+      joined = c.push_sign.ensures.joined (c.move_line.ensures.joined c.loop-cell.invariant.joined);
     }
