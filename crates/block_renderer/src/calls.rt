@@ -1,7 +1,7 @@
 //! The calls of a renderer over a decorator.
 
 use crate::sub_renderer::SubRenderer;
-use renderer_calls::{Renderer, drop_last};
+use renderer_calls::Renderer;
 use text_marks::{Colour, TextDecorator};
 use text_pieces::{BlockError, WhiteSpace};
 
@@ -397,7 +397,7 @@ impl<D: TextDecorator + Drop> Renderer for SubRenderer<D> {
     }
 
     fn pop_ws(&mut self) {
-        drop_last(&mut self.modes);
+        self.modes.pop();
     }
 
     fn header_prefix(&mut self, level: usize) -> Result<String, BlockError> {

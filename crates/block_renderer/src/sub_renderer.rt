@@ -5,6 +5,7 @@ ghost use Rattle.text_pieces.specs.declared.fault.BlockError.TheVariants as erro
 
 use block_layout::{BlockLayout, Measure};
 use renderer_calls::RenderOptions;
+use smallvec::SmallVec;
 use std::alloc::{AllocError, Global};
 use tagged_lines::EqualCopy;
 use text_borders::RenderLine;
@@ -20,7 +21,7 @@ pub struct SubRenderer<D: TextDecorator> {
     pub(crate) decorator: D,
     pub(crate) laid: BlockLayout<Vec<D::Annotation>>,
     /// Of the parts around, the last of which counts.
-    pub(crate) modes: Vec<WhiteSpace>,
+    pub(crate) modes: SmallVec<WhiteSpace, 2>,
     pub(crate) preformats: usize,
     pub(crate) annotations: Vec<D::Annotation>,
     /// Whether annotations are kept.
@@ -65,7 +66,7 @@ impl<D: TextDecorator + Drop> SubRenderer<D> {
             width,
             decorator,
             laid: BlockLayout::new(alloc),
-            modes: Vec::new(alloc),
+            modes: SmallVec::new(alloc),
             preformats: 0,
             annotations: Vec::new(alloc),
             keeps_annotations: true,
@@ -120,7 +121,7 @@ impl<D: TextDecorator + Drop> SubRenderer<D> {
     pub(crate) fn mode(&self) -> WhiteSpace
         ensures { result ≡ mode_of (sub_of D.Annotation.seen D.held self.now) }
     {
-        match self.modes.last() {
+        match self.modes.as_slice().last() {
             Some(mode) => *mode,
             None => WhiteSpace::Normal,
         }
@@ -199,7 +200,7 @@ impl<D: TextDecorator + Drop> SubRenderer<D> {
         let alloc = self.alloc();
         let decorator = self.decorator.make_subblock_decorator(alloc)?;
         let annotations = self.annotations.copy(alloc)?;
-        let mut modes = Vec::new(alloc);
+        let mut modes = SmallVec::new(alloc);
         modes.push(self.mode())?;
         Ok(SubRenderer {
             options: self.options,

@@ -18,7 +18,7 @@ use crate::place::Place;
 use crate::titles::{is_svg, title_of};
 use html_lexemes::{Attributes, QualName, Text};
 use html_render_dom::{Handle, NodeData, RcDom};
-use render_values::{Condition, RenderInfo};
+use render_values::{Condition, RenderInfo, Title};
 use std::alloc::{AllocError, Global};
 use tree_words::value_of;
 
@@ -95,7 +95,7 @@ fn imaged(
     if source.as_str().is_empty() {
         return Ok(nothing());
     }
-    let title = copied(alloc, alternative)?;
+    let title = Title::new(alloc, copied(alloc, alternative)?)?;
     Ok(leaf(RenderInfo::Image { source, title }))
 }
 
@@ -105,6 +105,7 @@ fn pictured(alloc: Global, title: Option<Text>) -> Result<Meaning, AllocError>
     match title {
         Some(title) => {
             let source = copied(alloc, None)?;
+            let title = Title::new(alloc, title)?;
             Ok(leaf(RenderInfo::Image { source, title }))
         }
         None => Ok(nothing()),

@@ -2,6 +2,7 @@
 ghost use Rattle.std.specs.Prelude.{◌≡◌, IfOk};
 
 use crate::style::RenderStyle;
+use crate::title::Title;
 use html_lexemes::Text;
 use std::alloc::AllocError;
 use std::fmt::{Display, Error, Formatter, Write};
@@ -18,7 +19,7 @@ pub enum RenderInfo {
         /// Where it is; empty for a drawing that stands in the page.
         source: Text,
         /// The text that stands for it.
-        title: Text,
+        title: Title,
     },
     /// A line break.
     Break,

@@ -10,6 +10,7 @@ mod info;
 mod node;
 mod raising;
 mod style;
+mod title;
 mod tree;
 
 pub use closing::{Condition, Opened, Outcome, close};
@@ -17,4 +18,5 @@ pub use emptiness::{all_shallow_empty, is_white_space};
 pub use info::{Head, RenderInfo};
 pub use node::RenderNode;
 pub use style::RenderStyle;
+pub use title::Title;
 pub use tree::RenderTree;
