@@ -4,15 +4,19 @@ ghost use Rattle.text_borders.specs.Across.{row_width, signs};
 ghost use Rattle.text_cells.specs.OpenCells.{open_cell_of, ends};
 
 use crate::opening::OpenCell;
+use smallvec::SmallVec;
 use std::alloc::{AllocError, Global};
 use tagged_lines::EqualCopy;
+
+/// The signs of so many cells take no memory of their own.
+const FEW: usize = 8;
 
 /// The columns of a row.
 #[derive(Drop)]
 pub(crate) struct Columns {
     pub(crate) width: usize,
     /// The columns between cells.
-    pub(crate) signs: Vec<usize>,
+    pub(crate) signs: SmallVec<usize, FEW>,
 }
 
 /// The error is want of memory alone.
@@ -32,10 +36,10 @@ pub(crate) fn columns_of<T: EqualCopy + Drop>(
 fn ends_of<T: EqualCopy + Drop>(
     alloc: Global,
     cells: &[OpenCell<T>],
-) -> Result<Vec<usize>, AllocError>
+) -> Result<SmallVec<usize, FEW>, AllocError>
     ensures { IfOk result (λ all. all.items ≡ ends 0 (map (open_cell_of T.seen) cells.now)) }
 {
-    let mut ends = Vec::with_capacity(alloc, cells.len())?;
+    let mut ends = SmallVec::new(alloc);
     let mut at = 0;
     let mut rest = cells;
     while let Some((cell, others)) = rest.split_first() {

@@ -28,7 +28,7 @@ pub(crate) fn joined_above<T: EqualCopy + Drop>(
         return Ok(None);
     };
     border.stretch_to(columns.width)?;
-    join_signs_below(&mut border, &columns.signs)?;
+    join_signs_below(&mut border, columns.signs.as_slice())?;
     merge_tops(&mut border, cells)?;
     Ok(Some(border))
 }
@@ -94,7 +94,7 @@ pub(crate) fn border_below<T: EqualCopy + Drop>(
         (plain horizontal 0 (T.seen tag.now))) }
 {
     let mut border = BorderHoriz::new(alloc, columns.width, tag.copy(alloc)?)?;
-    join_signs_above(&mut border, &columns.signs)?;
+    join_signs_above(&mut border, columns.signs.as_slice())?;
     merge_bottoms(&mut border, cells)?;
     Ok(border)
 }
