@@ -1,8 +1,9 @@
 -- Borders that are joined to a row, and the columns of rows.
 use Rattle.std.proofs.Common.{◌≡◌, ℕ, ◌+◌, Bool, true, false, List, [], ◌∷◌, ◌++◌, map, length, if◌then◌else◌}
-use Rattle.std.proofs.Common.{append_assoc, ap, ◌∙◌, refl, sym, arith}
-use Rattle.std.specs.Prelude.{Option, None, Some, fold, unwrap_or}
+use Rattle.std.proofs.Common.{◌<◌, append_assoc, ap, ◌∙◌, refl, subst, sym, arith}
+use Rattle.std.specs.Prelude.{IsSome, Option, None, Some, fold, unwrap_or}
 use Rattle.std.specs.Option.{option_to_list}
+use Rattle.std.proofs.lemmas.Bool.{false≢true}
 use Rattle.std.proofs.lemmas.List.{same_from_push, append-nil}
 use Rattle.text_borders.specs.Segments.{Segment}
 use Rattle.text_borders.specs.Borders.{Border, change_to, columns_where, with_segments}
@@ -75,6 +76,11 @@ no_end : {S : Type 0} (cells : List (OpenCell S)) (front : List ℕ) → length 
     → ends 0 cells ≡ front ++ [] → IsRow cells front 0
 no_end [] front none is = record { signs = sym (is ∙ append-nil front); width = refl }
 no_end (c ∷ cells) front none is = absurd (omega (arith, none))
+
+-- a list of which none is the last is empty
+pub none_left : {last : Option ℕ} (all : List ℕ) → (0 < length all → IsSome last) → last ≡ None → length all ≡ 0
+none_left [] is e = refl
+none_left (x ∷ xs) is e = absurd (false≢true (subst IsSome e (is (omega arith))))
 
 -- the last end is the row's width, and the others are signs
 pub ends_are : {S : Type 0} (cells : List (OpenCell S)) (all front : List ℕ) (last : Option ℕ) → all ≡ ends 0 cells
