@@ -1,7 +1,10 @@
 //! The calls of a renderer over a decorator.
+ghost use Rattle.std.specs.Prelude.{◌≡◌};
+ghost use Rattle.block_layout.specs.LaidRows.{before_last};
 
 use crate::sub_renderer::SubRenderer;
 use renderer_calls::Renderer;
+use smallvec::SmallVec;
 use text_marks::{Colour, TextDecorator};
 use text_pieces::{BlockError, WhiteSpace};
 
@@ -397,7 +400,7 @@ impl<D: TextDecorator + Drop> Renderer for SubRenderer<D> {
     }
 
     fn pop_ws(&mut self) {
-        self.modes.pop();
+        drop_mode(&mut self.modes);
     }
 
     fn header_prefix(&mut self, level: usize) -> Result<String, BlockError> {
@@ -431,4 +434,11 @@ impl<D: TextDecorator + Drop> Renderer for SubRenderer<D> {
         let prefix = self.decorator.ordered_item_prefix(self.alloc(), i);
         self.answered(prefix)
     }
+}
+
+// Takes the last mode off, where there is one.
+fn drop_mode(modes: &mut SmallVec<WhiteSpace, 2>)
+    ensures { modes.new.items ≡ before_last modes.old.items }
+{
+    let _mode = modes.pop();
 }
