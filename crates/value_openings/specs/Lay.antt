@@ -1,5 +1,5 @@
 -- How the values of a render tree are laid out.
-use Rattle.std.specs.Prelude.{ℕ, false, List, [], ◌∷◌, Option, Some, if◌then◌else◌}
+use Rattle.std.specs.Prelude.{ℕ, false, List, [], ◌∷◌, ◌++◌, Option, Some, if◌then◌else◌}
 use Rattle.std.specs.Option.{option_map, option_to_list}
 use Rattle.renderer_calls.specs.Renderers.{Marking}
 use Rattle.tagged_lines.specs.Columns.{text_columns}
@@ -89,25 +89,25 @@ in_its_slot m head (cells widths more fragments slots made) inside = cell_laid m
     (styled m head.style (in_turn (named m head.fragment) inside))
 in_its_slot m head _ inside = Some
 
--- A row is laid out where it is shown.
+-- A row is laid out where it is shown. Fragments that start in another go on to the next row.
 abbrev pub in_its_row : {H A : Type 0} → Marking H A → Head → (widths : Option (List ℕ)) → List (List Slot)
     → (fragments : List (List ℕ)) → Step H A → Step H A
 in_its_row m head widths [] fragments inside = Some
 in_its_row m head widths (slots ∷ more) fragments inside =
     if is_shown slots then in_turn (row_begun widths more fragments slots head.fragment)
     (styled m head.style (in_turn inside (row_ended m)))
-    else goes_to (rows widths more [])
+    else goes_to (rows widths more (fragments ++ option_to_list head.fragment))
 
--- The fragment of a group of rows starts in its first row.
+-- The fragment of a group of rows starts in its first row that is shown.
 abbrev pub in_its_group : {H A : Type 0} → Marking H A → Head → (widths : Option (List ℕ)) → List (List Slot)
-    → Step H A → Step H A
-in_its_group m head widths slots inside =
-    in_turn (goes_to (rows widths slots (option_to_list head.fragment))) (styled m head.style inside)
+    → (fragments : List (List ℕ)) → Step H A → Step H A
+in_its_group m head widths slots fragments inside = in_turn
+    (goes_to (rows widths slots (fragments ++ option_to_list head.fragment))) (styled m head.style inside)
 
 -- Among rows stand groups and rows, among cells cells; nothing else is laid out there.
 abbrev pub among_rows : {H A : Type 0} → Marking H A → RenderInfo → Head → (widths : Option (List ℕ))
     → List (List Slot) → (fragments : List (List ℕ)) → Step H A → Step H A
-among_rows m infos.TableGroup head widths slots fragments inside = in_its_group m head widths slots inside
+among_rows m infos.TableGroup head widths slots fragments inside = in_its_group m head widths slots fragments inside
 among_rows m infos.TableRow head widths slots fragments inside = in_its_row m head widths slots fragments inside
 among_rows m _ head widths slots fragments inside = Some
 

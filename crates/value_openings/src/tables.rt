@@ -99,19 +99,16 @@ pub fn end_table<D: TextDecorator + Drop>(
 /// A group of rows begins.
 fn begin_group<D: TextDecorator + Drop>(
     laying: &mut Laying<D>,
-    alloc: Global,
     head: &Head,
     rows: TableRows,
 ) -> Result<(), AllocError>
     ensures begun { OnOk result ((m : Marking _ _) (inside : Step _ _) → in_its_group m head.now
-        (widths_seen rows.widths) (rows_left rows.rows) inside (laying_of D.Annotation.seen D.held laying.old)
-        ≡ styled m head.now.style inside (laying_of D.Annotation.seen D.held laying.new)) }
+        (widths_seen rows.widths) (rows_left rows.rows) rows.fragments.items inside
+        (laying_of D.Annotation.seen D.held laying.old) ≡ styled m head.now.style inside (laying_of D.Annotation.seen D.held laying.new)) }
     ensures works { OnOk result (laying.new.text ≡ laying.old.text) }
 {
     let mut rows = rows;
-    let mut fragments = Vec::new(alloc);
-    push_name(&mut fragments, &head.fragment)?;
-    rows.fragments = fragments;
+    push_name(&mut rows.fragments, &head.fragment)?;
     laying.table = TablePlace::Rows(rows);
     Ok(())
 }
@@ -119,7 +116,6 @@ fn begin_group<D: TextDecorator + Drop>(
 // the same, until it ends
 fn open_group<D: TextDecorator + Drop>(
     laying: &mut Laying<D>,
-    alloc: Global,
     head: &Head,
     rows: TableRows,
     waiting: &mut Vec<Waiting<D>>,
@@ -127,14 +123,15 @@ fn open_group<D: TextDecorator + Drop>(
     requires { IsWorking D.Annotation.seen D.held laying.old }
     ensures opened { (nodes : List RenderNode) → OnOk result (IsOpened
         D.Annotation.seen D.held D.text D.gives D.marks D.after D.pops D.sub 2 nodes true
-        (λ m. in_its_group m head.now (widths_seen rows.widths) (rows_left rows.rows)) waiting.old.items
-        waiting.new.items laying.old laying.new) }
+        (λ m. in_its_group m head.now (widths_seen rows.widths) (rows_left rows.rows) rows.fragments.items)
+        waiting.old.items waiting.new.items laying.old laying.new) }
     ensures works { OnOk result (IsWorking D.Annotation.seen D.held laying.new) }
     ensures narrow { result ≡ Err errors.TooNarrow → NeverOpens D.Annotation.seen D.held D.text D.gives D.marks
-        D.after D.pops D.sub (λ m. in_its_group m head.now (widths_seen rows.widths) (rows_left rows.rows)) laying.old }
+        D.after D.pops D.sub (λ m. in_its_group m head.now (widths_seen rows.widths) (rows_left rows.rows)
+        rows.fragments.items) laying.old }
     ensures kinds { IfErr result (λ e. (e ≡ errors.TooNarrow) ⊎ (e ≡ errors.Memory)) }
 {
-    begin_group(laying, alloc, head, rows)?;
+    begin_group(laying, head, rows)?;
     let look = open_look(laying, head.style)?;
     push_some(waiting, look)?;
     Ok(())
@@ -159,12 +156,11 @@ fn begin_row<D: TextDecorator + Drop>(
         laying.table = TablePlace::Rows(rows);
         return Ok(false);
     };
+    push_name(&mut rows.fragments, &head.fragment)?;
     if !is_shown(slots.as_slice()) {
-        rows.fragments = Vec::new(alloc);
         laying.table = TablePlace::Rows(rows);
         return Ok(false);
     }
-    push_name(&mut rows.fragments, &head.fragment)?;
     laying.table = TablePlace::Cells {
         rows,
         slots: SlotsLeft { slots, next: 0 },
@@ -263,7 +259,7 @@ fn open_among_rows<D: TextDecorator + Drop>(
 {
     match &head.info {
         RenderInfo::TableGroup => {
-            open_group(laying, alloc, head, rows, waiting)?;
+            open_group(laying, head, rows, waiting)?;
             Ok(true)
         }
         RenderInfo::TableRow => open_row(laying, alloc, head, rows, waiting),

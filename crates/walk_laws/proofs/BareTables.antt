@@ -263,26 +263,27 @@ in_row_alike laws head widths [] fragments f g same = stays
 in_row_alike {m = m} laws head widths (slots ∷ more) fragments f g same =
     let begun = row_begun widths more fragments slots head.fragment in
     either (is_shown slots) (in_turn begun (styled m head.style (in_turn f (row_ended m))))
-    (in_turn begun (styled m head.style (in_turn g (row_ended m)))) (goes_to (rows widths more []))
-    (goes_to (rows widths more []))
+    (in_turn begun (styled m head.style (in_turn g (row_ended m))))
+    (goes_to (rows widths more (fragments ++ option_to_list head.fragment)))
+    (goes_to (rows widths more (fragments ++ option_to_list head.fragment)))
     (turn begun begun _ _ (to_alike (cells widths more (fragments ++ option_to_list head.fragment) slots []))
     (styled_alike laws head.style (in_turn f (row_ended m)) (in_turn g (row_ended m))
     (turn f g (row_ended m) (row_ended m) same (row_ends laws))))
-    (to_alike (rows widths more []))
+    (to_alike (rows widths more (fragments ++ option_to_list head.fragment)))
 
 in_group_alike : {H A : Type 0} {m : Marking H A} (laws : BareLaws m) (head : Head) (widths : Option (List ℕ))
-    (slots : List (List Slot)) (f g : Step H A) → Alike f g
-    → Alike (in_its_group m head widths slots f) (in_its_group m head widths slots g)
-in_group_alike {m = m} laws head widths slots f g same =
-    let begun = goes_to (rows widths slots (option_to_list head.fragment)) in
-    turn begun begun _ _ (to_alike (rows widths slots (option_to_list head.fragment)))
+    (slots : List (List Slot)) (fragments : List (List ℕ)) (f g : Step H A) → Alike f g
+    → Alike (in_its_group m head widths slots fragments f) (in_its_group m head widths slots fragments g)
+in_group_alike {m = m} laws head widths slots fragments f g same =
+    let begun = goes_to (rows widths slots (fragments ++ option_to_list head.fragment)) in
+    turn begun begun _ _ (to_alike (rows widths slots (fragments ++ option_to_list head.fragment)))
     (styled_alike laws head.style f g same)
 
 among_alike : {H A : Type 0} {m : Marking H A} (laws : BareLaws m) (info : RenderInfo) (head : Head)
     (widths : Option (List ℕ)) (slots : List (List Slot)) (fragments : List (List ℕ)) (f g : Step H A) → Alike f g
     → Alike (among_rows m info head widths slots fragments f) (among_rows m info head widths slots fragments g)
 among_alike laws infos.TableGroup head widths slots fragments f g same =
-    in_group_alike laws head widths slots f g same
+    in_group_alike laws head widths slots fragments f g same
 among_alike laws infos.TableRow head widths slots fragments f g same =
     in_row_alike laws head widths slots fragments f g same
 among_alike laws infos.Nothing head widths slots fragments f g same = stays

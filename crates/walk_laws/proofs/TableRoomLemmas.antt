@@ -209,18 +209,19 @@ in_row_goes : {H A : Type 0} {m : Marking H A} (laws : RoomLaws m) (head : Head)
 in_row_goes laws head widths [] fragments inside goes = goes_by
 in_row_goes {H} {A} {m} laws head widths (slots ∷ more) fragments inside goes = either_goes (is_shown slots)
     (in_turn (row_begun widths more fragments slots head.fragment)
-    (styled m head.style (in_turn inside (row_ended m)))) (goes_to (rows widths more []))
+    (styled m head.style (in_turn inside (row_ended m)))) (goes_to (rows widths more (fragments ++ option_to_list head.fragment)))
     (goes_through (row_begun widths more fragments slots head.fragment) _
     (goes_there (cells widths more (fragments ++ option_to_list head.fragment) slots [])
     (All-nil (λ (c : Sub H A × ℕ). HasRoom c.0)))
     (styled_goes laws head.style (in_turn inside (row_ended m)) (goes_through _ _ goes (row_ends laws))))
-    (goes_there (rows widths more []) tt)
+    (goes_there (rows widths more (fragments ++ option_to_list head.fragment)) tt)
 
 in_group_goes : {H A : Type 0} {m : Marking H A} (laws : RoomLaws m) (head : Head) (widths : Option (List ℕ))
-    (slots : List (List Slot)) (inside : Step H A) → Goes inside → Goes (in_its_group m head widths slots inside)
-in_group_goes laws head widths slots inside goes =
-    goes_through (goes_to (rows widths slots (option_to_list head.fragment))) _
-    (goes_there (rows widths slots (option_to_list head.fragment)) tt)
+    (slots : List (List Slot)) (fragments : List (List ℕ)) (inside : Step H A) → Goes inside
+    → Goes (in_its_group m head widths slots fragments inside)
+in_group_goes laws head widths slots fragments inside goes =
+    goes_through (goes_to (rows widths slots (fragments ++ option_to_list head.fragment))) _
+    (goes_there (rows widths slots (fragments ++ option_to_list head.fragment)) tt)
     (styled_goes laws head.style inside goes)
 
 among_go : {H A : Type 0} {m : Marking H A} (laws : RoomLaws m) (info : RenderInfo) (head : Head)
@@ -249,7 +250,7 @@ among_go laws infos.Details head widths slots fragments inside goes = goes_by
 among_go laws infos.Term head widths slots fragments inside goes = goes_by
 among_go laws infos.Table head widths slots fragments inside goes = goes_by
 among_go laws infos.TableGroup head widths slots fragments inside goes =
-    in_group_goes laws head widths slots inside goes
+    in_group_goes laws head widths slots fragments inside goes
 among_go laws infos.TableRow head widths slots fragments inside goes =
     in_row_goes laws head widths slots fragments inside goes
 among_go laws (infos.TableCell columns taken) head widths slots fragments inside goes = goes_by

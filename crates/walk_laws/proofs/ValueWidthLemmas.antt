@@ -128,8 +128,8 @@ row_keeps {H} {A} {m} laws head widths (row ∷ more) fragments inside x does so
     begun = in_table (cells widths more (fragments ++ option_to_list head.fragment) row []) x
 
     by : (b : Bool) → is_shown row ≡ b → IfSome ((if b then in_turn (row_begun widths more fragments row head.fragment)
-        (styled m head.style (in_turn inside (row_ended m))) else goes_to (rows widths more [])) x)
-        (Kept (InRows widths) x)
+        (styled m head.style (in_turn inside (row_ended m)))
+        else goes_to (rows widths more (fragments ++ option_to_list head.fragment))) x) (Kept (InRows widths) x)
     by true e = styled_steps (InCells widths) (InRows widths) (cells_calm laws widths) (rows_calm laws widths)
         head.style (in_turn inside (row_ended m))
         (steps_through (InCells widths) (InCells widths) (InRows widths) inside (row_ended m) does
@@ -147,7 +147,7 @@ row_keeps {H} {A} {m} laws head widths (row ∷ more) fragments inside x does so
       stays x.parts sound.kept,
       record {
         slots = more;
-        fragments = [];
+        fragments = fragments ++ option_to_list head.fragment;
         flows = flows;
         is = refl;
         fits = hidden_fits widths row more x.parts.current.width (seats_of x.parts.current) fits e;
@@ -155,13 +155,20 @@ row_keeps {H} {A} {m} laws head widths (row ∷ more) fragments inside x does so
     )
 
 group_keeps : {H A : Type 0} {m : Marking H A} (laws : WidthLaws m) (head : Head) (widths : Option (List ℕ))
-    (slots : List (List Slot)) (inside : Step H A) (x : Laying H A) → Steps (InRows widths) (InRows widths) inside
-    → AreSound x.parts → x.around ≡ Flow → FitsRows widths slots x.parts.current.width (seats_of x.parts.current)
-    → IfSome (in_its_group m head widths slots inside x) (Kept (InRows widths) x)
-group_keeps laws head widths slots inside x does sound flows fits =
+    (slots : List (List Slot)) (fragments : List (List ℕ)) (inside : Step H A) (x : Laying H A)
+    → Steps (InRows widths) (InRows widths) inside → AreSound x.parts → x.around ≡ Flow
+    → FitsRows widths slots x.parts.current.width (seats_of x.parts.current)
+    → IfSome (in_its_group m head widths slots fragments inside x) (Kept (InRows widths) x)
+group_keeps laws head widths slots fragments inside x does sound flows fits =
     styled_steps (InRows widths) (InRows widths) (rows_calm laws widths) (rows_calm laws widths) head.style inside does
-    (in_table (rows widths slots (option_to_list head.fragment)) x) sound
-    (record { slots = slots; fragments = option_to_list head.fragment; flows = flows; is = refl; fits = fits })
+    (in_table (rows widths slots (fragments ++ option_to_list head.fragment)) x) sound
+    (record {
+      slots = slots;
+      fragments = fragments ++ option_to_list head.fragment;
+      flows = flows;
+      is = refl;
+      fits = fits;
+    })
 
 among_keeps : {H A : Type 0} {m : Marking H A} (laws : WidthLaws m) (info : RenderInfo) (head : Head)
     (items : ℕ) (inside : Step H A) (widths : Option (List ℕ)) (x : Laying H A) → KeepsInside m items inside
@@ -190,7 +197,7 @@ among_keeps laws infos.Details head items inside widths x keeps sound at = (stay
 among_keeps laws infos.Term head items inside widths x keeps sound at = (stays x.parts sound.kept, at)
 among_keeps laws infos.Table head items inside widths x keeps sound at = (stays x.parts sound.kept, at)
 among_keeps laws infos.TableGroup head items inside widths x keeps sound at =
-    group_keeps laws head widths at.slots inside x (keeps.among widths) sound at.flows at.fits
+    group_keeps laws head widths at.slots at.fragments inside x (keeps.among widths) sound at.flows at.fits
 among_keeps laws infos.TableRow head items inside widths x keeps sound at =
     row_keeps laws head widths at.slots at.fragments inside x (keeps.in_row widths) sound at.flows at.is at.fits
 among_keeps laws (infos.TableCell columns taken) head items inside widths x keeps sound at =
