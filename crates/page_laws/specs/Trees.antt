@@ -4,9 +4,12 @@ use Rattle.html_forest.specs.Forest.{Forest}
 use Rattle.html_forest.specs.Orders.{IsForest}
 use Rattle.html_forest.specs.declared.sink.QuirksMode.{QuirksMode}
 use Rattle.html_tree_builder.specs.Grown.{Beginning, IsTreeOfPage}
+use Rattle.html_tree_builder.specs.declared.options.ParseOpts.{ParseOpts}
 use Rattle.kept_text.specs.KeptText.{TellsPlainTags, in_texts, in_told, is_kept}
 use Rattle.kept_text.specs.PageTexts.{items_of}
+use Rattle.page_reading.specs.PageTrees.{IsTreeOfBytes}
 use Rattle.page_skeleton.specs.Skeleton.{IsSkeleton, TellsNoFrames, child_elements}
+use Rattle.reference_tables.specs.References.{References}
 
 -- text is kept, each character as often as it was told
 abbrev pub KeepsTextOfTree : {H : Type 0} → (ℕ → H) → Type 0
@@ -21,3 +24,14 @@ HasSkeletonOfTree handle = (from : Beginning) (text : List ℕ) (forest : Forest
     (tree : IsTreeOfPage handle from text forest quirks) → IsForest from.forest →
     child_elements 0 from.forest ≡ [] →
     (is_framed : Bool) → (is_framed ≡ false → TellsNoFrames (items_of tree.reading)) → IsSkeleton is_framed forest
+
+-- the same of a page that comes in bytes
+abbrev pub KeepsTextOfBytes : Type 0
+KeepsTextOfBytes = (table : References) (options : ParseOpts) (bytes : List ℕ) (forest : Forest) (quirks : QuirksMode)
+    (tree : IsTreeOfBytes table options bytes forest quirks) → TellsPlainTags (items_of tree.reading) → (c : ℕ) →
+    is_kept c ≡ true → in_texts c forest ≡ in_told c (items_of tree.reading)
+
+abbrev pub HasSkeletonOfBytes : Type 0
+HasSkeletonOfBytes = (table : References) (options : ParseOpts) (bytes : List ℕ) (forest : Forest)
+    (quirks : QuirksMode) (tree : IsTreeOfBytes table options bytes forest quirks) → (is_framed : Bool) →
+    (is_framed ≡ false → TellsNoFrames (items_of tree.reading)) → IsSkeleton is_framed forest

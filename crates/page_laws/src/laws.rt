@@ -3,11 +3,12 @@ ghost use Rattle.html_forest.specs.Forest.{Forest};
 ghost use Rattle.html_forest.specs.Orders.{IsForest};
 ghost use Rattle.html_forest.specs.declared.sink.QuirksMode.{QuirksMode as Quirks};
 ghost use Rattle.kept_text.specs.KeptText.{IsAtBeginning};
-ghost use Rattle.page_laws.specs.Trees.{HasSkeletonOfTree, KeepsTextOfTree};
+ghost use Rattle.page_laws.specs.Trees.{HasSkeletonOfBytes, HasSkeletonOfTree, KeepsTextOfBytes, KeepsTextOfTree};
 ghost use Rattle.html_tree_builder.specs.Begun.{begun};
 ghost use Rattle.tree_rules.specs.declared.options.TreeBuilderOpts.{TreeBuilderOpts as Options};
 
 use html_forest::TreeSink;
+use html_render_dom::RcDom;
 use kept_text::the_text_of_a_page_is_kept;
 use page_skeleton::a_page_has_its_skeleton;
 
@@ -31,4 +32,20 @@ pub fn a_tree_has_its_skeleton<S: TreeSink>()
     ensures { HasSkeletonOfTree S.handle }
 {
     a_page_has_its_skeleton::<S::Handle>();
+}
+
+/// Where no token of a page that comes in bytes is a start tag of a template or a frameset, each character of its
+/// character tokens, but white space and U+FFFD, stands in its tree as often as in these tokens.
+pub fn the_text_of_bytes_is_kept()
+    ensures { KeepsTextOfBytes }
+{
+    a_tree_keeps_the_text_of_its_page::<RcDom>();
+}
+
+/// The document of a page that comes in bytes has one child element, `html`, whose first two are `head`, and then `body`
+/// or, where a start tag `frameset` is among the tokens, `frameset` (WHATWG HTML, 4.1.1).
+pub fn bytes_have_the_skeleton_of_a_page()
+    ensures { HasSkeletonOfBytes }
+{
+    a_tree_has_its_skeleton::<RcDom>();
 }
