@@ -162,7 +162,7 @@ lines_missing laws seen closes c width values s closed never = record {
       ∙ ap (option_map (map (reline no_tag))) never);
 }
 
-shown_text : {S : Type 0} (blocks : List (BlockLine S)) → text_of_lines blocks ≡ lines_text (map line_shown blocks)
+pub shown_text : {S : Type 0} (blocks : List (BlockLine S)) → text_of_lines blocks ≡ lines_text (map line_shown blocks)
 shown_text [] = refl
 shown_text (block ∷ blocks) = ap (λ text. (characters (line_shown block) ++ 0xA ∷ []) ++ text) (shown_text blocks)
 

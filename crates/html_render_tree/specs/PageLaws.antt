@@ -1,12 +1,13 @@
 -- Words of the laws on the lines of a page.
-use Rattle.std.specs.Prelude.{◌≡◌, ℕ, ◌≤◌, All, List, false, true}
+use Rattle.std.specs.Prelude.{◌≡◌, ℕ, ◌≤◌, ◌++◌, All, List, [], ◌∷◌, false, flat_map, true}
 use Rattle.renderer_calls.specs.Renderers.{Marking}
+use Rattle.tagged_lines.specs.Columns.{text_columns}
 use Rattle.tagged_lines.specs.Tagged.{Item, line_columns}
 use Rattle.tagged_lines.specs.declared.tagged_line.TaggedLine.{TaggedLine}
 use Rattle.text_marks.specs.Marks.{IsSteady}
 use Rattle.render_values.specs.Values.{Values}
 use Rattle.walk_laws.specs.WalkLaws.{AreNumbered}
-use Rattle.html_render_tree.specs.PageLines.{IsRendered, IsTooNarrow, Setting}
+use Rattle.html_render_tree.specs.PageLines.{IsPrinted, IsRendered, IsTooNarrow, Setting}
 
 -- no line passes so many columns
 abbrev pub AreWithin : {A : Type 0} → ℕ → List (List (Item A)) → Type 0
@@ -19,6 +20,19 @@ PagesKeepWidth {T} {H} {A} m seen closes = (c : Setting H) (width : ℕ) (values
     (lines : List (List (Item (List A)))) → IsSteady m.mark_text → AreNumbered values
     → c.options.allow_width_overflow ≡ false → c.options.wrap_links ≡ true → 2 ≤ width
     → IsRendered m seen closes c width values lines → AreWithin width lines
+
+-- A text is one of lines, a line end after each, of which none passes so many columns.
+pub record IsTextWithin (width : ℕ) (text : List ℕ) : Type 0 where
+  pub lines : List (List ℕ)
+  pub given : text ≡ flat_map (λ line. line ++ 0xA ∷ []) lines
+  pub within : All (λ line. text_columns line ≤ width) lines
+
+-- the same of the text of a page
+abbrev pub TextsKeepWidth : {T H A : Type 0} → Marking H A → (T → A)
+    → (H → List (List ℕ) → List (TaggedLine T) → Type 0) → Type 0
+TextsKeepWidth {T} {H} {A} m seen closes = (c : Setting H) (width : ℕ) (values : Values) (text : List ℕ)
+    → IsSteady m.mark_text → AreNumbered values → c.options.allow_width_overflow ≡ false
+    → c.options.wrap_links ≡ true → 2 ≤ width → IsPrinted m seen closes c width values text → IsTextWithin width text
 
 -- Where parts may pass the width, no width is too narrow for a page.
 abbrev pub PagesHaveRoom : {T H A : Type 0} → Marking H A → (T → A)

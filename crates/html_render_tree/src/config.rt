@@ -3,7 +3,10 @@ ghost use Rattle.std.specs.Prelude.{◌≡◌, ◌≢◌, ◌⊎◌, ◌<◌, �
 ghost use Rattle.std.specs.Prelude.{IfErr, IfOk, None, Some, chars, map, string_bytes, true, false};
 
 use crate::closing::{closed_page, lines_of};
-use crate::laws::{pages_are_numbered, pages_keep_the_width, pages_with_room_are_never_too_narrow};
+use crate::laws::{
+    pages_are_numbered, pages_keep_the_width, pages_with_room_are_never_too_narrow,
+    texts_keep_the_width,
+};
 use crate::rendering::{laid, refusal};
 use crate::rules::joined;
 use block_renderer::SubRenderer;
@@ -40,7 +43,7 @@ impl<D: TextDecorator + Drop> RenderConfig<D> {
     ghost use Rattle.tagged_lines.specs.Tagged.{line_items};
     ghost use Rattle.text_marks.specs.Marks.{IsSteady};
     ghost use Rattle.walk_laws.specs.WalkLaws.{AreNumbered};
-    ghost use Rattle.html_render_tree.specs.PageLaws.{AreWithin};
+    ghost use Rattle.html_render_tree.specs.PageLaws.{AreWithin, IsTextWithin};
     ghost use Rattle.html_render_tree.specs.PageLines.{IsClosed, IsClosedBare, IsPrinted, IsRendered, IsTooNarrow};
     ghost use Rattle.html_render_tree.specs.PageLines.{NeverCloses, laid_as, lines_text};
     ghost use Rattle.walk_laws.specs.Parts.{depth_of};
@@ -424,11 +427,16 @@ impl<D: TextDecorator + Drop> RenderConfig<D> {
             → IsTagging D.Annotation.seen D.gives tag → IsTooNarrow (marking D.text tag D.marks D.after D.pops D.sub)
             D.Annotation.seen D.closes (setting_of D.held D.sub self.now) width tree) }
         ensures kinds { result ≢ Err errors.Fail }
+        ensures within { IfOk result (λ lines. (tag : _) → IsTagging D.Annotation.seen D.gives tag → IsSteady D.text
+            → AreNumbered tree → (setting_of D.held D.sub self.now).options.allow_width_overflow ≡ false
+            → (setting_of D.held D.sub self.now).options.wrap_links ≡ true → 2 ≤ width
+            → IsTextWithin width (lines_text (map (line_items (tags_seen D.Annotation.seen)) lines.items))) }
         ensures roomy { (tag : _) → IsTagging D.Annotation.seen D.gives tag
             → (setting_of D.held D.sub self.now).options.allow_width_overflow ≡ true → 0 < width
             → result ≢ Err errors.TooNarrow }
     {
         annotations_change_no_text::<D>();
+        texts_keep_the_width::<D>();
         pages_with_room_are_never_too_narrow::<D>();
         let sub = self.closed_bare(alloc, &tree, width)?;
         match lines_of(alloc, sub) {
@@ -452,11 +460,16 @@ impl<D: TextDecorator + Drop> RenderConfig<D> {
             → IsTagging D.Annotation.seen D.gives tag → IsTooNarrow (marking D.text tag D.marks D.after D.pops D.sub)
             D.Annotation.seen D.closes (setting_of D.held D.sub self.now) width tree) }
         ensures kinds { result ≢ Err errors.Fail }
+        ensures within { IfOk result (λ text. (tag : _) → IsTagging D.Annotation.seen D.gives tag → IsSteady D.text
+            → AreNumbered tree → (setting_of D.held D.sub self.now).options.allow_width_overflow ≡ false
+            → (setting_of D.held D.sub self.now).options.wrap_links ≡ true → 2 ≤ width
+            → IsTextWithin width (chars (string_bytes text))) }
         ensures roomy { (tag : _) → IsTagging D.Annotation.seen D.gives tag
             → (setting_of D.held D.sub self.now).options.allow_width_overflow ≡ true → 0 < width
             → result ≢ Err errors.TooNarrow }
     {
         annotations_change_no_text::<D>();
+        texts_keep_the_width::<D>();
         pages_with_room_are_never_too_narrow::<D>();
         let sub = self.closed_bare(alloc, &tree, width)?;
         match sub.into_string() {

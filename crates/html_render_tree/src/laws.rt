@@ -2,7 +2,7 @@
 ghost use Rattle.std.specs.Prelude.{List};
 ghost use Rattle.block_renderer.specs.Seen.{marking};
 ghost use Rattle.html_forest.specs.Forest.{Forest};
-ghost use Rattle.html_render_tree.specs.PageLaws.{PagesHaveRoom, PagesKeepWidth};
+ghost use Rattle.html_render_tree.specs.PageLaws.{PagesHaveRoom, PagesKeepWidth, TextsKeepWidth};
 ghost use Rattle.render_conversion.specs.Conversion.{document_values};
 ghost use Rattle.style_cascade.specs.declared.rules.StyleRule.{StyleRule as SeenRule};
 ghost use Rattle.text_marks.specs.Marks.{Mark};
@@ -23,6 +23,14 @@ pub fn pages_keep_the_width<D: TextDecorator>()
     renderers_keep_the_width::<D>();
     parts_keep_the_width::<D>();
     values_keep_the_width::<D>();
+}
+
+/// So does no line of the text of a page.
+pub fn texts_keep_the_width<D: TextDecorator>()
+    ensures { (tag : D.Held → Mark → D.Annotation.Seen) → TextsKeepWidth
+        (marking D.text tag D.marks D.after D.pops D.sub) D.Annotation.seen D.closes }
+{
+    pages_keep_the_width::<D>();
 }
 
 /// Where parts may pass the width, no width is too narrow for a page.

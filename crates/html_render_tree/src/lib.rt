@@ -9,7 +9,11 @@ mod prefixes;
 mod rendering;
 mod rules;
 
+pub use column_widths::{ColumnShare, column_widths};
 pub use config::RenderConfig;
-pub use laws::{pages_are_numbered, pages_keep_the_width, pages_with_room_are_never_too_narrow};
+pub use laws::{
+    pages_are_numbered, pages_keep_the_width, pages_with_room_are_never_too_narrow,
+    texts_keep_the_width,
+};
 pub use render_conversion::{RenderError, decorating_rules};
 pub use render_values::RenderTree;

@@ -27,7 +27,7 @@ pub struct Config<D: TextDecorator> {
 
 impl<D: TextDecorator + Drop> Config<D> {
     ghost use Rattle.block_renderer.specs.Seen.{IsTagging, marking, tags_seen};
-    ghost use Rattle.html_render_tree.specs.PageLaws.{AreWithin};
+    ghost use Rattle.html_render_tree.specs.PageLaws.{AreWithin, IsTextWithin};
     ghost use Rattle.html_render_tree.specs.Settings.{IsDecorated};
     ghost use Rattle.html_render_tree.specs.PageLines.{IsPrinted, IsRendered, IsTooNarrow};
     ghost use Rattle.page_config.specs.Settings.{by_default, max_bytes_of, page_setting, rendered_with};
@@ -370,6 +370,10 @@ impl<D: TextDecorator + Drop> Config<D> {
         ensures narrow { result ≡ Err errors.TooNarrow → (width ≡ 0) ⊎ ((tag : _)
             → IsTagging D.Annotation.seen D.gives tag → IsTooNarrow (marking D.text tag D.marks D.after D.pops D.sub)
             D.Annotation.seen D.closes (page_setting D.held D.sub self.now).rendering width tree) }
+        ensures within { IfOk result (λ text. (tag : _) → IsTagging D.Annotation.seen D.gives tag → IsSteady D.text
+            → AreNumbered tree → (page_setting D.held D.sub self.now).rendering.options.allow_width_overflow ≡ false
+            → (page_setting D.held D.sub self.now).rendering.options.wrap_links ≡ true → 2 ≤ width
+            → IsTextWithin width (chars (string_bytes text))) }
         ensures roomy { (tag : _) → IsTagging D.Annotation.seen D.gives tag
             → (page_setting D.held D.sub self.now).rendering.options.allow_width_overflow ≡ true → 0 < width
             → result ≢ Err errors.TooNarrow }

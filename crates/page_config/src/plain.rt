@@ -1,11 +1,14 @@
 //! Pages as plain text.
-ghost use Rattle.std.specs.Prelude.{◌≡◌, true, false, Err, IfErr, IfOk, IfSome};
+ghost use Rattle.std.specs.Prelude.{◌≡◌, ◌≤◌, true, false, Err, IfErr, IfOk, IfSome};
 ghost use Rattle.std.specs.Prelude.{chars, string_bytes};
 ghost use Rattle.std.specs.Io.KnownBytes.{IsAtEnd};
+ghost use Rattle.block_renderer.specs.Seen.{IsTagging};
+ghost use Rattle.html_render_tree.specs.PageLaws.{IsTextWithin};
 ghost use Rattle.page_config.specs.Errors.{IsAnswer};
 ghost use Rattle.page_config.specs.PageAnswers.{Answers, IsTold, fail, too_narrow};
 ghost use Rattle.page_config.specs.PlainPages.{HasPlainAnswer, HasPlainText, IsPlain};
 ghost use Rattle.page_config.specs.Settings.{bare_setting, by_default, max_bytes_of};
+ghost use Rattle.text_marks.specs.Marks.{IsSteady};
 
 use crate::config::Config;
 use crate::error::Error;
@@ -54,6 +57,7 @@ pub fn from_read<R: ByteReader>(
         (λ bytes. HasPlainAnswer table width bytes too_narrow) }
     ensures fail { result ≡ Err Error.Fail → IfSome (R.remaining input.old)
         (λ bytes. HasPlainAnswer table width bytes fail) }
+    ensures within { IfOk result (λ text. 2 ≤ width → IsTextWithin width (chars (string_bytes text))) }
     ensures io { result ≡ Err Error.IoError → R.has_failed input.new ≡ true }
     ensures stays { R.has_failed input.old ≡ true → R.has_failed input.new ≡ true }
     ensures works { IsAnswer result → R.has_failed input.new ≡ false }
@@ -79,6 +83,8 @@ pub fn from_read_with_decorator<R: ByteReader, D: TextDecorator + Drop>(
     ensures fail { result ≡ Err Error.Fail → IfSome (R.remaining input.old) (λ bytes.
         Answers D.Annotation.seen D.text D.gives D.marks D.after D.pops D.sub D.closes
         (by_default table (D.sub (D.held decorator))) width bytes fail) }
+    ensures within { IfOk result (λ text. (tag : _) → IsTagging D.Annotation.seen D.gives tag → IsSteady D.text
+        → 2 ≤ width → IsTextWithin width (chars (string_bytes text))) }
     ensures io { result ≡ Err Error.IoError → R.has_failed input.new ≡ true }
     ensures stays { R.has_failed input.old ≡ true → R.has_failed input.new ≡ true }
     ensures works { IsAnswer result → R.has_failed input.new ≡ false }

@@ -23,7 +23,7 @@ impl<D: TextDecorator + Drop> Config<D> {
     ghost use Rattle.render_values.specs.Values.{none};
     ghost use Rattle.tagged_lines.specs.Tagged.{line_items};
     ghost use Rattle.block_renderer.specs.Seen.{IsTagging, tags_seen};
-    ghost use Rattle.html_render_tree.specs.PageLaws.{AreWithin};
+    ghost use Rattle.html_render_tree.specs.PageLaws.{AreWithin, IsTextWithin};
     ghost use Rattle.text_marks.specs.Marks.{IsSteady};
     ghost use Rattle.html_render_tree.specs.WalkLaws.{AreNumbered};
 
@@ -147,6 +147,10 @@ impl<D: TextDecorator + Drop> Config<D> {
         ensures fail { result ≡ Err Error.Fail → IfSome (R.remaining input.old) (λ bytes.
             Answers D.Annotation.seen D.text D.gives D.marks D.after D.pops D.sub D.closes
             (page_setting D.held D.sub self) width bytes fail) }
+        ensures within { IfOk result (λ shown. (tag : _) → IsTagging D.Annotation.seen D.gives tag → IsSteady D.text
+            → (page_setting D.held D.sub self).rendering.options.allow_width_overflow ≡ false
+            → (page_setting D.held D.sub self).rendering.options.wrap_links ≡ true → 2 ≤ width
+            → IsTextWithin width (lines_text (map (line_items (tags_seen D.Annotation.seen)) shown.items))) }
         ensures roomy { (tag : _) → IsTagging D.Annotation.seen D.gives tag
             → (page_setting D.held D.sub self).rendering.options.allow_width_overflow ≡ true → 0 < width
             → result ≢ Err Error.TooNarrow }
@@ -180,6 +184,10 @@ impl<D: TextDecorator + Drop> Config<D> {
         ensures fail { result ≡ Err Error.Fail → IfSome (R.remaining input.old) (λ bytes.
             Answers D.Annotation.seen D.text D.gives D.marks D.after D.pops D.sub D.closes
             (page_setting D.held D.sub self) width bytes fail) }
+        ensures within { IfOk result (λ text. (tag : _) → IsTagging D.Annotation.seen D.gives tag → IsSteady D.text
+            → (page_setting D.held D.sub self).rendering.options.allow_width_overflow ≡ false
+            → (page_setting D.held D.sub self).rendering.options.wrap_links ≡ true → 2 ≤ width
+            → IsTextWithin width (chars (string_bytes text))) }
         ensures roomy { (tag : _) → IsTagging D.Annotation.seen D.gives tag
             → (page_setting D.held D.sub self).rendering.options.allow_width_overflow ≡ true → 0 < width
             → result ≢ Err Error.TooNarrow }

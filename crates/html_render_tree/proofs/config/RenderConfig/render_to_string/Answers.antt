@@ -19,6 +19,20 @@ returns-in-Ok-clause-text g c = λ tag p.
     (sub_of seen d.held c.in_ok-sub.sub) (chars (string_bytes c.in-Ok.text)) (c.in_ok-sub.ensures.closed tag p)
     c.in-Ok.ensures.text
 
+pub returns-in-Ok-clause-within : goal.returns-in-Ok-clause-within
+returns-in-Ok-clause-within g c = λ tag p steady numbered off wraps wide.
+    let d = g.D.TextDecorator in
+    let seen = g.D.Annotation.EqualCopy.seen in
+    let laws : TextLaws d.Held g.D.Annotation.EqualCopy.Seen = record {
+      lines = λ s. c.annotations_change_no_text.ensures.lines s;
+      text = λ s. c.annotations_change_no_text.ensures.text s;
+    } in
+    c.texts_keep_the_width.ensures tag (setting_of d.held d.sub c.args.self.now) c.args.width c.args.tree
+    (chars (string_bytes c.in-Ok.text)) steady numbered off wraps wide
+    (printed_alike laws seen d.closes (setting_of d.held d.sub c.args.self.now) c.args.width c.args.tree
+    (sub_of seen d.held c.in_ok-sub.sub) (chars (string_bytes c.in-Ok.text)) (c.in_ok-sub.ensures.closed tag p)
+    c.in-Ok.ensures.text)
+
 pub returns-clause-narrow : goal.returns-clause-narrow
 returns-clause-narrow g c = λ e.
     let narrow : c.refusal.result ≡ TooNarrow = cc e in

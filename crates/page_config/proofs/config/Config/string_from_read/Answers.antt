@@ -1,4 +1,4 @@
-use Rattle.std.proofs.Common.{◌≡◌, Err, ap, chars, string_bytes}
+use Rattle.std.proofs.Common.{◌≡◌, Err, ap, chars, string_bytes, ◌∙◌}
 use Rattle.std.proofs.lemmas.Result.{err_from_is_err_and}
 use Rattle.html_render_tree.specs.Settings.{setting_of}
 use Rattle.page_config.proofs.ReadingLemmas.{narrow_error, narrow_read, text_read}
@@ -16,6 +16,12 @@ returns-clause-text g c = text_read g.D.Annotation.EqualCopy.seen g.D.TextDecora
     (chars (string_bytes c.in_ok-render_to_string.field-0)) c.in_ok-rendering.ensures.tree
     c.in_ok-rendering.ensures.rendering c.in_ok-rendering.ensures.some c.in_ok-render_to_string.ensures.wide
     c.in_ok-render_to_string.ensures.text
+
+pub returns-clause-within : goal.returns-clause-within
+returns-clause-within g c = λ tag p steady off wraps wide. c.in_ok-render_to_string.ensures.within tag p steady
+    c.in_ok-rendering.ensures.numbered
+    (ap (λ s. s.options.allow_width_overflow) c.in_ok-rendering.ensures.rendering ∙ off)
+    (ap (λ s. s.options.wrap_links) c.in_ok-rendering.ensures.rendering ∙ wraps) wide
 
 pub returns-in_err-render_to_string-clause-narrow : goal.returns-in_err-render_to_string-clause-narrow
 returns-in_err-render_to_string-clause-narrow g c = λ e.

@@ -1,4 +1,4 @@
-use Rattle.std.proofs.Common.{◌≡◌, Err, ap, map}
+use Rattle.std.proofs.Common.{◌≡◌, Err, ap, map, ◌∙◌}
 use Rattle.std.proofs.lemmas.Result.{err_from_is_err_and}
 use Rattle.block_renderer.specs.Seen.{tags_seen}
 use Rattle.html_render_tree.specs.PageLines.{lines_text}
@@ -19,6 +19,12 @@ returns-clause-text g c = text_read g.D.Annotation.EqualCopy.seen g.D.TextDecora
     (lines_text (map (line_items (tags_seen g.D.Annotation.EqualCopy.seen)) c.in_ok-render_to_text_lines.field-0.items)) c.in_ok-rendering.ensures.tree
     c.in_ok-rendering.ensures.rendering c.in_ok-rendering.ensures.some c.in_ok-render_to_text_lines.ensures.wide
     c.in_ok-render_to_text_lines.ensures.text
+
+pub returns-clause-within : goal.returns-clause-within
+returns-clause-within g c = λ tag p steady off wraps wide. c.in_ok-render_to_text_lines.ensures.within tag p steady
+    c.in_ok-rendering.ensures.numbered
+    (ap (λ s. s.options.allow_width_overflow) c.in_ok-rendering.ensures.rendering ∙ off)
+    (ap (λ s. s.options.wrap_links) c.in_ok-rendering.ensures.rendering ∙ wraps) wide
 
 pub returns-in_err-render_to_text_lines-clause-narrow : goal.returns-in_err-render_to_text_lines-clause-narrow
 returns-in_err-render_to_text_lines-clause-narrow g c = λ e.
