@@ -24,8 +24,8 @@ pub use outcome::{Outcome, exit_status};
 pub use page_config::{
     Config, Error, Page, ParseOpts, PlainLine, RenderTree, RichLine, a_page_has_an_answer,
     a_page_has_one_answer, a_page_has_one_text, a_page_keeps_its_width,
-    a_page_with_room_is_never_too_narrow, from_read, from_read_rich, from_read_with_decorator,
-    parse,
+    a_page_with_room_is_never_too_narrow, a_plain_text_keeps_its_width, a_text_keeps_its_width,
+    from_read, from_read_rich, from_read_with_decorator, parse,
 };
 pub use page_laws;
 pub use program::{Served, serve};

@@ -2,5 +2,5 @@ mod BareLemmas
 mod ColouredLemmas
 pub mod LineLemmas
 mod PageLemmas
-mod TextWidths
+pub mod TextWidths
 pub mod NumberLemmas

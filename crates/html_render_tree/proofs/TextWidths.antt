@@ -17,7 +17,7 @@ some_mapped : {X Y : Type 0} (f : X → Y) (o : Option X) (y : Y) → option_map
 some_mapped f None y e = absurd (cc e)
 some_mapped f (Some x) y e = (x, (refl, cc e))
 
-as_lines : {S : Type 0} (shown : List (List (Item S)))
+pub as_lines : {S : Type 0} (shown : List (List (Item S)))
     → lines_text shown ≡ flat_map (λ line. line ++ 0xA ∷ []) (map characters shown)
 as_lines [] = refl
 as_lines (line ∷ rest) = ap (λ l. (characters line ++ 0xA ∷ []) ++ l) (as_lines rest)

@@ -1,14 +1,17 @@
 -- The lines of a page keep its width.
-use Rattle.std.proofs.Common.{◌≡◌, inl, inr, ℕ, ◌<◌, ◌≤◌, true, false, List, arith, subst}
+use Rattle.std.proofs.Common.{◌≡◌, ◌∙◌, inl, inr, ℕ, ◌<◌, ◌≤◌, true, false, List, arith, map, subst}
+use Rattle.std.proofs.lemmas.List.Elements.{All-map}
 use Rattle.html_forest.specs.Forest.{Forest}
-use Rattle.html_render_tree.specs.PageLaws.{AreWithin, PagesHaveRoom, PagesKeepWidth}
-use Rattle.page_config.specs.PageAnswers.{HasAnswer, IsAnswerOf, lines, too_narrow}
+use Rattle.html_render_tree.specs.PageLaws.{AreWithin, IsTextWithin, PagesHaveRoom, PagesKeepWidth}
+use Rattle.html_render_tree.proofs.TextWidths.{as_lines}
+use Rattle.page_config.specs.PageAnswers.{HasAnswer, HasText, IsAnswerOf, lines, too_narrow}
 use Rattle.page_config.specs.Settings.{PageSetting}
 use Rattle.render_conversion.specs.Conversion.{document_values}
 use Rattle.render_values.specs.Values.{Values}
 use Rattle.renderer_calls.specs.Renderers.{Marking}
 use Rattle.style_cascade.specs.declared.rules.StyleRule.{StyleRule}
-use Rattle.tagged_lines.specs.Tagged.{Item}
+use Rattle.tagged_lines.specs.Columns.{text_columns}
+use Rattle.tagged_lines.specs.Tagged.{Item, characters}
 use Rattle.tagged_lines.specs.declared.tagged_line.TaggedLine.{TaggedLine}
 use Rattle.text_marks.specs.Marks.{IsSteady}
 use Rattle.html_render_tree.specs.WalkLaws.{AreNumbered}
@@ -24,6 +27,18 @@ module _ {T H A : Type 0} (m : Marking H A) (seen : T → A) (closes : H → Lis
         keeps c.rendering width has.values shown
         steady (subst AreNumbered has.page.same (numbered c.rules has.page.forest)) off wrapped wide
         has.answered.1.1
+
+    pub text_within : ((rules : List StyleRule) (f : Forest) → AreNumbered (document_values rules f))
+        → PagesKeepWidth m seen closes → (c : PageSetting H) (width : ℕ) (bytes text : List ℕ)
+        → IsSteady m.mark_text → c.rendering.options.allow_width_overflow ≡ false
+        → c.rendering.options.wrap_links ≡ true → 2 ≤ width → HasText m seen closes c width bytes text
+        → IsTextWithin width text
+    text_within numbered keeps c width bytes text steady off wrapped wide has = record {
+      lines = map characters has.shown;
+      given = has.told ∙ as_lines has.shown;
+      within = All-map (λ line. text_columns line ≤ width) characters has.shown
+          (within_width numbered keeps c width bytes has.shown steady off wrapped wide has.answer);
+    }
 
     wide_enough : PagesHaveRoom m seen closes → (c : PageSetting H) (width : ℕ) (values : Values)
         → c.rendering.options.allow_width_overflow ≡ true → 0 < width

@@ -1,10 +1,12 @@
 //! Laws of what is answered of pages.
 ghost use Rattle.std.specs.Prelude.{◌≡◌, ℕ, ◌<◌, ◌≤◌, List, true, false};
 ghost use Rattle.block_renderer.specs.Seen.{marking};
-ghost use Rattle.html_render_tree.specs.PageLaws.{AreWithin};
+ghost use Rattle.html_render_tree.specs.PageLaws.{AreWithin, IsTextWithin};
 ghost use Rattle.page_config.specs.PageAnswers.{HasAnswer, HasSomeAnswer, HasText, IsAlwaysClosed};
 ghost use Rattle.page_config.specs.PageAnswers.{PageAnswer, lines, too_narrow};
+ghost use Rattle.page_config.specs.PlainPages.{HasPlainText};
 ghost use Rattle.page_config.specs.Settings.{PageSetting};
+ghost use Rattle.reference_tables.specs.References.{References};
 ghost use Rattle.tagged_lines.specs.Tagged.{Item};
 ghost use Rattle.text_marks.specs.Marks.{IsSteady, Mark};
 
@@ -12,6 +14,7 @@ use html_render_tree::{
     pages_are_numbered, pages_keep_the_width, pages_with_room_are_never_too_narrow,
 };
 use page_reading::{a_page_has_a_tree_of_bytes, a_page_has_one_tree_of_bytes};
+use text_decorators::PlainDecorator;
 use text_marks::TextDecorator;
 
 /// A page has one answer: of equal bytes, read and rendered by equal configurations at equal widths, however they were
@@ -56,6 +59,26 @@ pub fn a_page_keeps_its_width<D: TextDecorator>()
 {
     pages_are_numbered();
     pages_keep_the_width::<D>();
+}
+
+/// So does no line of a page's text.
+pub fn a_text_keeps_its_width<D: TextDecorator>()
+    ensures { (tag : D.Held → Mark → D.Annotation.Seen) (c : PageSetting D.Held) (width : ℕ) (bytes text : List ℕ)
+        → IsSteady D.text → c.rendering.options.allow_width_overflow ≡ false
+        → c.rendering.options.wrap_links ≡ true → 2 ≤ width
+        → HasText (marking D.text tag D.marks D.after D.pops D.sub) D.Annotation.seen D.closes c width bytes text
+        → IsTextWithin width text }
+{
+    pages_are_numbered();
+    pages_keep_the_width::<D>();
+}
+
+/// And of its plain text.
+pub fn a_plain_text_keeps_its_width()
+    ensures { (table : References) (width : ℕ) (bytes text : List ℕ) → 2 ≤ width
+        → HasPlainText table width bytes text → IsTextWithin width text }
+{
+    a_text_keeps_its_width::<PlainDecorator>();
 }
 
 /// Where parts may pass the width, no width but 0 is too narrow for a page.
