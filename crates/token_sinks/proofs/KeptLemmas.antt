@@ -1,8 +1,7 @@
 -- A text behind tokens, as items.
-use Rattle.std.proofs.Common.{◌≡◌, ℕ, ◌<◌, List, [], ◌∷◌, ◌++◌, length, map, IsUtf8, chars, refl, sym, ap, ◌∙◌}
+use Rattle.std.proofs.Common.{◌≡◌, ℕ, ◌<◌, List, [], ◌∷◌, ◌++◌, length, map, refl, sym, ap, ◌∙◌}
 use Rattle.std.proofs.Common.{append_assoc, arith}
 use Rattle.std.proofs.lemmas.List.{map-append}
-use Rattle.std.proofs.lemmas.Str.{chars-append}
 use Rattle.html_lexemes.specs.declared.token.Token.{Token}
 use Rattle.html_lexemes.specs.declared.token.Token.TheVariants.{DoctypeToken, TagToken, CommentToken, CharacterTokens}
 use Rattle.html_lexemes.specs.declared.token.Token.TheVariants.{NullCharacterToken, EOFToken, ParseError}
@@ -54,12 +53,6 @@ behind_other whole new front last cs e f h =
     ∙ sym (ap (λ l. with_text (map item_of l) cs) e
     ∙ (ap (λ l. with_text l cs) items ∙ (at_last (map item_of front) (item_of last) cs ∙
     ap (λ l. map item_of front ++ l) (after last cs h))))
-
--- two texts joined by their bytes
-pub joined : (old more new ds cs whole : List ℕ)
-    → IsUtf8 old → new ≡ old ++ more → chars old ≡ ds → chars more ≡ cs → whole ≡ chars new → whole ≡ ds ++ cs
-joined old more new ds cs whole u e f g h =
-    h ∙ (ap chars e ∙ (chars-append old more u ∙ (ap (λ l. l ++ chars more) f ∙ ap (λ l. ds ++ l) g)))
 
 pub nothing_kept : (items : List Item) (cs : List ℕ) → cs ≡ [] → items ≡ kept items (characters cs)
 nothing_kept items cs e = sym (ap (λ l. kept items (characters l)) e)

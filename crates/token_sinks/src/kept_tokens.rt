@@ -109,10 +109,9 @@ fn behind_last(tokens: &mut Vec<Token>, text: Text) -> Result<Text, AllocError>
         return Ok(text);
     };
     match last {
-        Token::CharacterTokens(last) => {
-            let mut joined = last.into_string()?;
-            joined.push_str(text.as_str())?;
-            Ok(Text::from(joined))
+        Token::CharacterTokens(mut last) => {
+            last.push_str(text.as_str())?;
+            Ok(last)
         }
         last => {
             tokens.push(last)?;

@@ -11,6 +11,6 @@ returns-then-is_empty c =
 pub returns : goal.returns
 returns c =
     image_made c.leaf.result _ c.in_ok-source.source c.in_ok-title.title _ c.leaf.ensures c.in_ok-source.ensures
-    c.in_ok-title.ensures
+    (c.in_ok-title.ensures ∙ c.in_ok-copied.ensures)
     (λ none. some_text c.as_str.result.now c.as_str.utf8 (sym c.is_empty.ensures ∙ c.if-is_empty.false)
     (c.as_str.ensures ∙ none))

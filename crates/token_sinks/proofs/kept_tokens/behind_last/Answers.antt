@@ -1,16 +1,14 @@
-use Rattle.std.proofs.Common.{◌++◌, ◌∷◌, [], ap, ◌∙◌, string_bytes}
-use Rattle.std.proofs.lemmas.Str.{IsUtf8-string_bytes}
+use Rattle.std.proofs.Common.{◌++◌, ◌∷◌, [], ap, ◌∙◌}
 use Rattle.html_lexemes.specs.declared.token.Token.{Token}
-use Rattle.token_sinks.proofs.KeptLemmas.{behind_text, behind_other, joined}
+use Rattle.token_sinks.proofs.KeptLemmas.{behind_text, behind_other}
 use Rattle.token_sinks.proofs.kept_tokens.behind_last.Goals as goal
 
 pub returns-in_ok-push_str-in-CharacterTokens : goal.returns-in_ok-push_str-in-CharacterTokens
 returns-in_ok-push_str-in-CharacterTokens c =
-    behind_text c.args.tokens.now.items c.pop.new.self.items c.in-CharacterTokens.last c.args.text c.from.result
+    let ds = c.in-CharacterTokens.last in
+    behind_text c.args.tokens.now.items c.pop.new.self.items ds c.args.text c.push_str.new.self
     (c.in-Some.ensures.items ∙ ap (λ (token : Token). c.pop.new.self.items ++ token ∷ []) c.in-CharacterTokens.is)
-    (joined (string_bytes c.into_string-joined.result) c.as_str.result.now _ _ _ _
-    (IsUtf8-string_bytes c.into_string-joined.result) c.in_ok-push_str-in-CharacterTokens.ensures.bytes
-    c.into_string-joined.ensures c.as_str.ensures c.from.ensures)
+    (c.in_ok-push_str-in-CharacterTokens.ensures.ok ∙ ap (λ l. ds ++ l) c.as_str.ensures)
 
 pub returns-in_ok-push-in_default-last : goal.returns-in_ok-push-in_default-last
 returns-in_ok-push-in_default-last c =
