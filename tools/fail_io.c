@@ -32,7 +32,7 @@ ssize_t write(int fd, const void *buffer, size_t count) {
         next = dlsym(RTLD_NEXT, "write");
         failing = number_in("FAIL_WRITE", 0);
     }
-    // What is wrong is told on standard error, which stays.
+    // What is wrong is written to standard error, which stays.
     if (fd != 2 && failing && ++writes >= failing) {
         errno = (int)number_in("ERRNO", EIO);
         return -1;

@@ -242,7 +242,7 @@ fn main() {
     let times: usize = words[3].parse().unwrap();
     let mut page = String::new();
     std::io::stdin().read_to_string(&mut page).unwrap();
-    let (mut best, mut told) = (Duration::MAX, 0);
+    let (mut best, mut count) = (Duration::MAX, 0);
     for _ in 0..times {
         let pieces = pieces(&page, size);
         let start = Instant::now();
@@ -254,7 +254,7 @@ fn main() {
                 let _ = tokenizer.feed(&mut queue);
             }
             tokenizer.end();
-            told = tokenizer.sink.0;
+            count = tokenizer.sink.0;
         } else {
             let mut dom = Dom(Vec::new());
             dom.add(Data::Document);
@@ -262,9 +262,9 @@ fn main() {
             for piece in pieces {
                 parser.process(piece);
             }
-            told = parser.finish().0.len();
+            count = parser.finish().0.len();
         }
         best = best.min(start.elapsed());
     }
-    println!("{told} {}", best.as_micros());
+    println!("{count} {}", best.as_micros());
 }
