@@ -1,13 +1,16 @@
 //! The lines of an open cell, taken one by one.
 ghost use Rattle.std.specs.Prelude.{◌≡◌, ◌++◌, IfOk, OnOk};
 ghost use Rattle.tagged_lines.specs.Tagged.{IsJoined, line_items};
-ghost use Rattle.text_borders.specs.Across.{spaces};
+ghost use Rattle.text_borders.specs.Across.{spaces, widened};
+ghost use Rattle.text_borders.specs.Borders.{border_of};
+ghost use Rattle.text_borders.specs.Lines.{text, border};
 
 use crate::block_lines::BlockLines;
 use crate::cell::LineSet;
 use crate::opening::OpenCell;
 use std::alloc::{AllocError, Global};
 use tagged_lines::{EqualCopy, TaggedLine};
+use text_borders::{BorderHoriz, RenderLine};
 
 /// A text of so many spaces. The error is want of memory alone.
 pub(crate) fn spaces<T: EqualCopy + Drop>(
@@ -20,6 +23,41 @@ pub(crate) fn spaces<T: EqualCopy + Drop>(
     let mut line = TaggedLine::new(alloc);
     line.push_spaces(count, tag)?;
     Ok(line)
+}
+
+/// Moves a text to the end of a line, which gets room for so many bytes first, and fills it with spaces.
+fn move_text<T: EqualCopy + Drop>(
+    line: &mut TaggedLine<T>,
+    next: TaggedLine<T>,
+    width: usize,
+    tag: &T,
+    room: usize,
+) -> Result<(), AllocError>
+    ensures items { OnOk result (line_items T.seen line.new ≡ line_items T.seen line.old
+        ++ widened width (T.seen tag.now) (text (line_items T.seen next))) }
+    ensures joined { IsJoined T.seen line.old → IsJoined T.seen line.new }
+{
+    let mut next = next;
+    let columns = next.width();
+    line.append(&mut next)?;
+    line.reserve(room.saturating_sub(columns))?;
+    line.push_spaces(width.saturating_sub(columns), tag)
+}
+
+/// Moves a border to the end of a line, with `─` up to the width.
+fn move_border<T: EqualCopy + Drop>(
+    line: &mut TaggedLine<T>,
+    drawn: BorderHoriz<T>,
+    alloc: Global,
+    width: usize,
+    tag: &T,
+) -> Result<(), AllocError>
+    ensures items { OnOk result (line_items T.seen line.new ≡ line_items T.seen line.old
+        ++ widened width (T.seen tag.now) (border (border_of T.seen drawn))) }
+    ensures joined { IsJoined T.seen line.old → IsJoined T.seen line.new }
+{
+    let mut text = RenderLine::Line(drawn).into_widened(alloc, width, tag)?;
+    line.append(&mut text)
 }
 
 impl<T: EqualCopy + Drop> OpenCell<T> {
@@ -39,12 +77,14 @@ impl<T: EqualCopy + Drop> OpenCell<T> {
         }
     }
 
-    /// Moves the next line to the end of a line, or what fills the cell. The error is allocation failure alone.
+    /// Moves the next line to the end of a line, or what fills the cell. A line that was empty has room for so many
+    /// bytes then, where a text is moved. The error is allocation failure alone.
     pub(crate) fn move_line(
         &mut self,
         line: &mut TaggedLine<T>,
         alloc: Global,
         tag: &T,
+        room: usize,
     ) -> Result<(), AllocError>
         ensures items { OnOk result (line_items T.seen line.new
             ≡ line_items T.seen line.old ++ cell_items (T.seen tag.now) 0 (open_cell_of T.seen self.old)) }
@@ -52,10 +92,10 @@ impl<T: EqualCopy + Drop> OpenCell<T> {
         ensures joined { IsJoined T.seen line.old → IsJoined T.seen line.new }
     {
         match self.lines.pop_front() {
-            Some(next) => {
-                let mut text = next.line.into_widened(alloc, self.width, tag)?;
-                line.append(&mut text)
-            }
+            Some(next) => match next.line {
+                RenderLine::Text(text) => move_text(line, text, self.width, tag, room),
+                RenderLine::Line(border) => move_border(line, border, alloc, self.width, tag),
+            },
             None => self.fill(line),
         }
     }

@@ -59,7 +59,7 @@ fn row_bytes<T: EqualCopy + Drop>(cells: &[OpenCell<T>]) -> usize {
     bytes
 }
 
-/// The cells' next lines, with the sign between them; the line has room for so many bytes behind its first cell.
+/// The cells' next lines, with the sign between them; a line that begins with a text has room for so many bytes.
 fn row_line<T: EqualCopy + Drop>(
     alloc: Global,
     sign: char,
@@ -78,20 +78,19 @@ fn row_line<T: EqualCopy + Drop>(
     let mut room = room;
     for cell in cells.iter_mut() {
         left -= 1;
-        cell.move_line(&mut line, alloc, tag)?;
-        push_sign(&mut line, sign, tag, left, room)?;
+        cell.move_line(&mut line, alloc, tag, room)?;
+        push_sign(&mut line, sign, tag, left)?;
         room = 0;
     }
     Ok(line)
 }
 
-/// Adds the sign where cells are left, and makes room for so many bytes before.
+/// Adds the sign where cells are left.
 fn push_sign<T: EqualCopy + Drop>(
     line: &mut TaggedLine<T>,
     sign: char,
     tag: &T,
     left: usize,
-    room: usize,
 ) -> Result<(), AllocError>
     ensures items { OnOk result (line_items T.seen line.new
         ≡ line_items T.seen line.old ++ sign_before sign (T.seen tag.now) left) }
@@ -100,6 +99,5 @@ fn push_sign<T: EqualCopy + Drop>(
     if left == 0 {
         return Ok(());
     }
-    line.reserve(room)?;
     line.push_char(sign, tag)
 }
