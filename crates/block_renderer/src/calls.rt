@@ -1,5 +1,7 @@
 //! The calls of a renderer over a decorator.
 ghost use Rattle.std.specs.Prelude.{◌≡◌};
+ghost use Rattle.std.specs.List.{list_any};
+ghost use Rattle.block_renderer.specs.Seen.{has_failed};
 ghost use Rattle.block_layout.specs.LaidRows.{before_last};
 
 use crate::sub_renderer::SubRenderer;
@@ -9,7 +11,7 @@ use text_marks::{Colour, TextDecorator};
 use text_pieces::{BlockError, WhiteSpace};
 
 impl<D: TextDecorator + Drop> Renderer for SubRenderer<D> {
-    ghost use Rattle.std.specs.Prelude.{◌≡◌, true};
+    ghost use Rattle.std.specs.Prelude.{◌≡◌, true, ◌||◌};
     ghost use Rattle.renderer_calls.specs.Calls.{step, call_of, adds_cells, adds_rows_below};
     ghost use Rattle.renderer_calls.specs.Outcomes.{IsOutcome};
     ghost use Rattle.renderer_calls.specs.Renderers.{new_part};
@@ -333,7 +335,8 @@ impl<D: TextDecorator + Drop> Renderer for SubRenderer<D> {
         first: &str,
         following: &str,
     ) -> Result<(), BlockError> {
-        if self.failed {
+        if self.failed || other.failed {
+            self.failed = true;
             return Err(BlockError::Failed);
         }
         let result = self.add_sub(other, first, following);
@@ -346,7 +349,8 @@ impl<D: TextDecorator + Drop> Renderer for SubRenderer<D> {
         cells: Vec<(SubRenderer<D>, usize)>,
         collapse: bool,
     ) -> Result<(), BlockError>
-        ensures outcome { IsOutcome result (has_failed self.old) (has_failed self.new)
+        ensures outcome { IsOutcome result
+            (has_failed self.old || list_any (λ cell. has_failed cell.0) cells.items) (has_failed self.new)
             (Comes D.Annotation.seen D.held D.text D.gives D.marks D.after D.pops D.sub
             (λ m s. step m (call_of (sub_of D.Annotation.seen D.held) (adds_cells cells.items collapse)) s)
             self.old self.new)
@@ -354,7 +358,8 @@ impl<D: TextDecorator + Drop> Renderer for SubRenderer<D> {
             (λ m s. step m (call_of (sub_of D.Annotation.seen D.held) (adds_cells cells.items collapse)) s) self.old) }
         ensures joined { IsJoinedSub D.Annotation.seen self.old → IsJoinedSub D.Annotation.seen self.new }
     {
-        if self.failed {
+        if self.failed || has_failed_cell(&cells) {
+            self.failed = true;
             return Err(BlockError::Failed);
         }
         let result = self.add_cells(cells, collapse);
@@ -363,7 +368,8 @@ impl<D: TextDecorator + Drop> Renderer for SubRenderer<D> {
     }
 
     fn append_vert_row(&mut self, cells: Vec<SubRenderer<D>>) -> Result<(), BlockError>
-        ensures outcome { IsOutcome result (has_failed self.old) (has_failed self.new)
+        ensures outcome { IsOutcome result (has_failed self.old || list_any has_failed cells.items)
+            (has_failed self.new)
             (Comes D.Annotation.seen D.held D.text D.gives D.marks D.after D.pops D.sub
             (λ m s. step m (call_of (sub_of D.Annotation.seen D.held) (adds_rows_below cells.items)) s)
             self.old self.new)
@@ -371,7 +377,8 @@ impl<D: TextDecorator + Drop> Renderer for SubRenderer<D> {
             (λ m s. step m (call_of (sub_of D.Annotation.seen D.held) (adds_rows_below cells.items)) s) self.old) }
         ensures joined { IsJoinedSub D.Annotation.seen self.old → IsJoinedSub D.Annotation.seen self.new }
     {
-        if self.failed {
+        if self.failed || has_failed_row(&cells) {
+            self.failed = true;
             return Err(BlockError::Failed);
         }
         let result = self.add_rows_below(cells);
@@ -434,6 +441,20 @@ impl<D: TextDecorator + Drop> Renderer for SubRenderer<D> {
         let prefix = self.decorator.ordered_item_prefix(self.alloc(), i);
         self.answered(prefix)
     }
+}
+
+/// Whether a call of a cell was refused.
+fn has_failed_cell<D: TextDecorator + Drop>(cells: &[(SubRenderer<D>, usize)]) -> bool
+    ensures { result ≡ list_any (λ cell. has_failed cell.0) cells.now }
+{
+    cells.iter().any(|cell| cell.0.failed)
+}
+
+/// Whether a call of a cell was refused.
+fn has_failed_row<D: TextDecorator + Drop>(cells: &[SubRenderer<D>]) -> bool
+    ensures { result ≡ list_any has_failed cells.now }
+{
+    cells.iter().any(|cell| cell.failed)
 }
 
 // Takes the last mode off, where there is one.

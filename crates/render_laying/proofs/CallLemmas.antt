@@ -1,5 +1,5 @@
 -- Calls of the current renderer, as calls of the page's.
-use Rattle.std.proofs.Common.{◌≡◌, ℕ, ◌-◌, List, None, Some, Result, Ok, Err, IfOk, ap, sym, ◌∙◌}
+use Rattle.std.proofs.Common.{◌≡◌, ℕ, ◌-◌, List, None, Some, Result, Ok, Err, IfOk, IsOk, OnOk, ap, sym, ◌∙◌}
 use Rattle.std.specs.Option.{option_map}
 use Rattle.block_renderer.specs.NewParts.{part_of}
 use Rattle.renderer_calls.specs.Calls.{Call, adds_block, step}
@@ -98,3 +98,7 @@ marked m kind l s cs e h = h ∙ ap (λ (x : Sub _ _). m.mark_text x.held kind) 
 pub if_ok_by : {X E : Type 0} (P Q : X → Type 0) (r : Result X E) → ((x : X) → P x → Q x) → IfOk r P → IfOk r Q
 if_ok_by P Q (Ok x) f h = f x h
 if_ok_by P Q (Err e) f h = tt
+
+pub when_ok : {T E : Type 0} (P : Type 0) (r : Result T E) → IsOk r → OnOk r P → P
+when_ok P (Ok x) ok h = h
+when_ok P (Err e) ok h = cc

@@ -1,5 +1,5 @@
 //! Calls of the renderer to which a page's text goes.
-ghost use Rattle.std.specs.Prelude.{◌≡◌, ◌⊎◌, Err, IfErr, OnOk, chars, map, true};
+ghost use Rattle.std.specs.Prelude.{◌≡◌, ◌⊎◌, Err, IfErr, IsOk, OnOk, chars, map, true};
 ghost use Rattle.text_pieces.specs.declared.fault.BlockError.TheVariants as errors;
 
 use crate::laying::Laying;
@@ -375,9 +375,11 @@ impl<D: TextDecorator + Drop> Laying<D> {
             D.pops D.sub (λ m. says m (adds_cells (made_of D.Annotation.seen D.held cells.items) true)) self.old }
         ensures kinds { IfErr result (λ e. (e ≡ errors.TooNarrow) ⊎ (e ≡ errors.Memory)) }
     {
-        self.text
-            .current_mut()
-            .append_columns_with_borders(cells, true)
+        unless_failed(
+            self.text
+                .current_mut()
+                .append_columns_with_borders(cells, true),
+        )
     }
 
     pub fn add_rows_below(&mut self, cells: Vec<SubRenderer<D>>) -> Result<(), BlockError>
@@ -389,6 +391,19 @@ impl<D: TextDecorator + Drop> Laying<D> {
             D.pops D.sub (λ m. says m (adds_rows_below (map (sub_of D.Annotation.seen D.held) cells.items))) self.old }
         ensures kinds { IfErr result (λ e. (e ≡ errors.TooNarrow) ⊎ (e ≡ errors.Memory)) }
     {
-        self.text.current_mut().append_vert_row(cells)
+        unless_failed(self.text.current_mut().append_vert_row(cells))
+    }
+}
+
+/// What a renderer answers that has not failed, of whose parts none has.
+fn unless_failed(answer: Result<(), BlockError>) -> Result<(), BlockError>
+    ensures ok { OnOk result (IsOk answer) }
+    ensures narrow { result ≡ Err errors.TooNarrow → answer ≡ Err errors.TooNarrow }
+    ensures kinds { IfErr result (λ e. (e ≡ errors.TooNarrow) ⊎ (e ≡ errors.Memory)) }
+{
+    match answer {
+        Ok(()) => Ok(()),
+        Err(BlockError::TooNarrow) => Err(BlockError::TooNarrow),
+        Err(_) => Err(BlockError::Memory),
     }
 }

@@ -1,5 +1,6 @@
 //! Calls that lay out the parts of a page.
-ghost use Rattle.std.specs.Prelude.{◌≡◌, ℕ, List, Bool, false, chars, string_bytes, IfOk};
+ghost use Rattle.std.specs.Prelude.{◌≡◌, ℕ, List, Bool, false, ◌||◌, chars, string_bytes, IfOk};
+ghost use Rattle.std.specs.List.{list_any};
 ghost use Rattle.text_marks.specs.Marks.{Mark, link_start, emphasis_start, emphasis_end, strong_start, strong_end};
 ghost use Rattle.text_marks.specs.Marks.{code_start, code_end, superscript_start, superscript_end, header, quote};
 ghost use Rattle.text_marks.specs.Marks.{unordered_item, ordered_item, colour_start, colour_end, background_start};
@@ -219,7 +220,8 @@ pub trait Renderer {
             (never (starts_colour (background_start colour)) self.old) }
         ensures joined { is_joined self.old → is_joined self.new };
 
-    /// Adds the lines of another renderer behind prefixes: the first line's, and the others'.
+    /// Adds the lines of another renderer behind prefixes: the first line's, and the others'. Refused as `Failed`, also
+    /// where a call of the other was refused.
     fn append_subrender(
         &mut self,
         other: Self,
@@ -228,13 +230,13 @@ pub trait Renderer {
     ) -> Result<(), BlockError>
     where
         Self: Sized,
-        ensures outcome { IsOutcome result (has_failed self.old) (has_failed self.new)
+        ensures outcome { IsOutcome result (has_failed self.old || has_failed other) (has_failed self.new)
             (does (adds_block other (chars first.now) (chars following.now)) self.old self.new)
             (never (adds_block other (chars first.now) (chars following.now)) self.old) }
         ensures joined { is_joined self.old → is_joined self.new };
 
     /// Adds cells beside one another, each with the rows that it takes. `collapse` takes the borders that are a cell's
-    /// first and last line into those of the row.
+    /// first and last line into those of the row. Refused as `Failed`, also where a call of a cell was refused.
     fn append_columns_with_borders(
         &mut self,
         cells: Vec<(Self, usize)>,
@@ -242,17 +244,18 @@ pub trait Renderer {
     ) -> Result<(), BlockError>
     where
         Self: Sized,
-        ensures outcome { IsOutcome result (has_failed self.old) (has_failed self.new)
+        ensures outcome { IsOutcome result
+            (has_failed self.old || list_any (λ cell. has_failed cell.0) cells.items) (has_failed self.new)
             (does (adds_cells cells.items collapse) self.old self.new)
             (never (adds_cells cells.items collapse) self.old) }
         ensures joined { is_joined self.old → is_joined self.new };
 
-    /// Adds cells below one another.
+    /// Adds cells below one another. Refused as `Failed`, also where a call of a cell was refused.
     fn append_vert_row(&mut self, cells: Vec<Self>) -> Result<(), BlockError>
     where
         Self: Sized,
-        ensures outcome { IsOutcome result (has_failed self.old) (has_failed self.new)
-            (does (adds_rows_below cells.items) self.old self.new) (never (adds_rows_below cells.items) self.old) }
+        ensures outcome { IsOutcome result (has_failed self.old || list_any has_failed cells.items)
+            (has_failed self.new) (does (adds_rows_below cells.items) self.old self.new) (never (adds_rows_below cells.items) self.old) }
         ensures joined { is_joined self.old → is_joined self.new };
 
     /// A text's colour ends.

@@ -20,6 +20,37 @@ fn is_refused_on(alloc: Global) -> Result<bool, BlockError> {
     Ok(is_narrow && is_failed && matches!(block.into_lines(), Err(BlockError::Failed)))
 }
 
+/// A part of the page of which a call was refused.
+fn failed_part(
+    page: &mut SubRenderer<PlainDecorator>,
+) -> Result<SubRenderer<PlainDecorator>, BlockError> {
+    let mut part = page.new_sub_renderer(1)?;
+    part.add_inline_text("漢")?;
+    match part.new_line() {
+        Ok(()) => Err(BlockError::Memory),
+        Err(_) => Ok(part),
+    }
+}
+
+fn are_failed_parts_refused(alloc: Global) -> Result<bool, BlockError> {
+    let mut page = block(alloc, 10, false);
+    let part = failed_part(&mut page)?;
+    let behind = page.append_subrender(part, "> ", "> ");
+    let mut table = block(alloc, 10, false);
+    let mut cells = Vec::new(alloc);
+    cells.push((table.new_sub_renderer(4)?, 1))?;
+    cells.push((failed_part(&mut table)?, 1))?;
+    let beside = table.append_columns_with_borders(cells, true);
+    let mut rows = block(alloc, 10, false);
+    let mut cells = Vec::new(alloc);
+    cells.push(failed_part(&mut rows)?)?;
+    let below = rows.append_vert_row(cells);
+    let are_refused = [behind, beside, below]
+        .iter()
+        .all(|answer| matches!(answer, Err(BlockError::Failed)));
+    Ok(are_refused && page.new_line().is_err())
+}
+
 #[test]
 fn room_behind_a_prefix(rt: HostRuntime) {
     let narrow = block(rt.alloc(), 2, false).width_minus(2, 1);
@@ -97,6 +128,7 @@ fn renderers_and_pages(rt: HostRuntime) {
     let alloc = rt.alloc();
     told(&rt, is_refused_on(alloc), "a refused renderer");
     told(&rt, are_parts(alloc), "parts of a page");
+    told(&rt, are_failed_parts_refused(alloc), "parts that failed");
     told(&rt, are_footnotes_cut(alloc), "footnotes");
     told(&rt, is_one_string(alloc), "no annotations");
 }
