@@ -40,7 +40,7 @@ pub trait LayArticle {
     /// knows nothing of pages, so what `config` says of these changes no line here.
     ///
     /// It is `TooNarrow` just where the page is: where the width is 0, where a heading or an item has fewer columns
-    /// behind its prefix than it asks for, and where a character is wider than lines; else refused for want of memory.
+    /// behind its prefix than it asks for, and where a character is wider than lines; else where allocation fails.
     /// Paragraphs alone are never refused where a line of text may have two columns (`paragraphs`).
     ///
     /// What is said between two breaks shows each visible character once, in order (`shown`), on no more lines than any
@@ -116,7 +116,7 @@ fn line_options(config: &Config<PlainDecorator>) -> LineOptions
     }
 }
 
-// behind a refusal for want of memory nothing is laid out
+// after an allocation failure nothing is laid out
 fn refusal(error: BlockError) -> Error
     ensures narrow { result ≡ errors.TooNarrow → error ≡ BlockError.TooNarrow }
     ensures kinds { (result ≡ errors.TooNarrow) ⊎ (result ≡ errors.Memory) }

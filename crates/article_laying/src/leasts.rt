@@ -67,7 +67,7 @@ fn least_of_link(options: LineOptions, contents: &[Inline]) -> usize
     }
 }
 
-/// What blocks ask for. The error is want of memory.
+/// What blocks ask for. The error is allocation failure.
 #[cycle(asking)]
 pub(crate) fn least_of(
     alloc: Global,
@@ -105,7 +105,7 @@ fn least_of_block(alloc: Global, options: LineOptions, block: &Block) -> Result<
     }
 }
 
-/// What the items of a list ask for, without their prefixes. The error is want of memory.
+/// What the items of a list ask for, without their prefixes. The error is allocation failure.
 #[cycle(asking)]
 pub(crate) fn least_of_items(
     alloc: Global,

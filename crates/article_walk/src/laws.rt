@@ -62,7 +62,7 @@ pub fn values_of_blocks_are_their_calls()
 {}
 
 /// All values of an article's page, none of whose texts is empty, are laid out on a page of plain text that holds
-/// nothing: its block of lines is what the layout's calls of blocks make, or it comes to nothing where they do. The
+/// nothing: its block of lines is what the layout's calls of blocks make, or it has no result where they have none. The
 /// targets of all links are noted in order.
 pub fn values_of_a_page_are_its_calls()
     ensures { (given : RenderOptions) (decorates : Bool) (min_wrap : ℕ) (held : Unit {0}) (width : ℕ) (blocks : Blocks)

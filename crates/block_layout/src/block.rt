@@ -142,8 +142,8 @@ impl<T: EqualCopy + Drop> BlockLayout<T> {
         Ok(())
     }
 
-    /// Adds lines of text, the first behind the markers that wait, filled where lines are. The error is want of memory
-    /// alone.
+    /// Adds lines of text, the first behind the markers that wait, filled where lines are. It fails only if allocation
+    /// fails.
     pub fn add_lines(
         &mut self,
         measure: Measure,

@@ -141,7 +141,7 @@ impl<T: EqualCopy + Drop> BlockLayout<T> {
         Ok(())
     }
 
-    /// Adds an empty text, which needs no tags: where none runs, one begins to. The error is want of memory alone.
+    /// Adds an empty text, which needs no tags: where none runs, one begins to. The error is allocation failure alone.
     pub fn begin_text(&mut self, measure: Measure, tag: &T) -> Result<(), AllocError>
         ensures laid { OnOk result ((mode : SeenMode) (main further : T.Seen)
             → add_text measure (T.seen tag.now) mode [] main further (laid_of T.seen self.old)

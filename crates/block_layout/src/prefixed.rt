@@ -44,7 +44,7 @@ impl<T: EqualCopy + Drop> BlockLayout<T> {
         Ok(())
     }
 
-    /// Adds a border of so many slashes. The error is want of memory alone.
+    /// Adds a border of so many slashes. The error is allocation failure alone.
     pub fn add_slashes(&mut self, tag: &T, width: usize) -> Result<(), AllocError>
         ensures laid { OnOk result (laid_of T.seen self.new
             ≡ add_slashes width (T.seen tag.now) (laid_of T.seen self.old)) }
@@ -55,7 +55,7 @@ impl<T: EqualCopy + Drop> BlockLayout<T> {
         self.add_border(border)
     }
 
-    /// Adds a border of so many columns where no text runs. The error is want of memory alone.
+    /// Adds a border of so many columns where no text runs. The error is allocation failure alone.
     pub fn put_border(&mut self, tag: &T, width: usize) -> Result<(), AllocError>
         ensures laid { OnOk result (laid_of T.seen self.new
             ≡ add_border (plain horizontal width (T.seen tag.now)) (laid_of T.seen self.old)) }
@@ -67,7 +67,7 @@ impl<T: EqualCopy + Drop> BlockLayout<T> {
     }
 
     /// Adds the lines of another block, which has the first measure, behind prefixes: the first line's and the others'.
-    /// A border among them becomes text. The error is want of memory alone.
+    /// A border among them becomes text. The error is allocation failure alone.
     pub fn add_block(
         &mut self,
         other: Measure,

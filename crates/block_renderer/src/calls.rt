@@ -443,14 +443,14 @@ impl<D: TextDecorator + Drop> Renderer for SubRenderer<D> {
     }
 }
 
-/// Whether a call of a cell was refused.
+/// Whether a call of one of the cells was refused.
 fn has_failed_cell<D: TextDecorator + Drop>(cells: &[(SubRenderer<D>, usize)]) -> bool
     ensures { result ≡ list_any (λ cell. has_failed cell.0) cells.now }
 {
     cells.iter().any(|cell| cell.0.failed)
 }
 
-/// Whether a call of a cell was refused.
+/// Whether a call of one of the cells was refused.
 fn has_failed_row<D: TextDecorator + Drop>(cells: &[SubRenderer<D>]) -> bool
     ensures { result ≡ list_any has_failed cells.now }
 {

@@ -80,7 +80,7 @@ pub record IsRefusal (asked : Asked) (files : Files) (input : Bytes) (failed : B
   pub table : IsTableOf files asked.references names
   pub reason : IsSourceRefusal asked names files asked.file input failed before after error
 
--- why no table was had from the file that is named: it can't be opened or read, or it is no table; or want of memory
+-- why no table was had from the file that is named: it can't be opened or read, it is no table, or allocation fails
 abbrev pub IsTableRefusal : Files → Option (List ℕ) → TableFault → Type 0
 IsTableRefusal files None fault = ⊥
 IsTableRefusal files (Some name) table_faults.NotRead = ⊤

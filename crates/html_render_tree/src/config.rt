@@ -242,7 +242,7 @@ impl<D: TextDecorator + Drop> RenderConfig<D> {
     }
 
     /// `*` stands before and behind emphasis and terms, `**` before and behind strong text, and a backquote before and
-    /// behind code: ten rules of the program, before all that stand. The error is want of memory.
+    /// behind code: ten rules of the program, before all that stand. The error is allocation failure.
     pub fn do_decorate(self, alloc: Global) -> Result<RenderConfig<D>, RenderError>
         ensures setting { IfOk result (λ c. setting_of D.held D.sub c ≡ setting_of D.held D.sub self) }
         ensures rules { IfOk result (λ c. IsDecorated (rules_of self) (rules_of c)) }
@@ -262,7 +262,7 @@ impl<D: TextDecorator + Drop> RenderConfig<D> {
         })
     }
 
-    /// Further rules of style, behind all that stand. The error is want of memory.
+    /// Further rules of style, behind all that stand. The error is allocation failure.
     pub fn style_rules(self, rules: Vec<StyleRule>) -> Result<RenderConfig<D>, RenderError>
         ensures setting { IfOk result (λ c. setting_of D.held D.sub c ≡ setting_of D.held D.sub self) }
         ensures rules { IfOk result (λ c. rules_of c ≡ rules_of self ++ rules.items) }
@@ -282,7 +282,7 @@ impl<D: TextDecorator + Drop> RenderConfig<D> {
         })
     }
 
-    /// The render tree of a page. The error is `Fail` exactly where the page converts to nothing, else want of memory.
+    /// The render tree of a page. The error is `Fail` exactly where the page has none, else allocation failure.
     pub fn dom_to_render_tree(&self, alloc: Global, dom: &RcDom) -> Result<RenderTree, RenderError>
         ensures tree { IfOk result (λ tree. tree ≡ document_values (rules_of self.now) dom.now.forest) }
         ensures some { IfOk result (λ tree. tree ≢ none) }
@@ -377,7 +377,7 @@ impl<D: TextDecorator + Drop> RenderConfig<D> {
     }
 
     /// The lines of a render tree, wrapped to `width` columns. The tree is gone, also where it is refused: as
-    /// `TooNarrow` where the width is 0, or too narrow for a part of the page or a character; else for want of memory.
+    /// `TooNarrow` where the width is 0, or too narrow for a part of the page or a character; else allocation fails.
     pub fn render_to_lines(
         &self,
         alloc: Global,

@@ -18,7 +18,7 @@ use text_marks::TextDecorator;
 use text_pieces::BlockError;
 use walk_laws::{TextRenderer, lay_tree};
 
-// behind a refusal for want of memory nothing is called
+// after an allocation failure nothing is called
 pub(crate) fn refusal(error: BlockError) -> RenderError
     ensures narrow { result ≡ errors.TooNarrow → error ≡ BlockError.TooNarrow }
     ensures fail { result ≢ errors.Fail }

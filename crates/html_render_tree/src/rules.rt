@@ -5,7 +5,7 @@ ghost use Rattle.std.specs.Prelude.{◌≡◌, ◌++◌, IfOk};
 use std::alloc::AllocError;
 use style_cascade::StyleRule;
 
-/// These rules, and then those. The error is want of memory.
+/// These rules, and then those. The error is allocation failure.
 pub(crate) fn joined(
     first: Vec<StyleRule>,
     second: Vec<StyleRule>,

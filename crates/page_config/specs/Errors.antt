@@ -34,7 +34,7 @@ error_of_render rendering.Fail = errors.Fail
 error_of_render rendering.Memory = errors.Memory
 
 -- Lines, or that the page or its width is refused: what is answered of a whole page that was read, and not of a fault,
--- a page too long or want of memory.
+-- a page too long or allocation failure.
 abbrev pub IsAnswer : {T : Type 0} → Result T Error → Type 0
 IsAnswer (Ok lines) = Unit {0}
 IsAnswer (Err errors.TooNarrow) = Unit {0}

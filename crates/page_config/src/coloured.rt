@@ -15,7 +15,7 @@ use text_marks::TextDecorator;
 
 impl<D: TextDecorator + Drop> Config<D> {
     /// The text of a render tree: of each line what `colour_map` makes of its strings, each with its annotations, and
-    /// a line end. The map is to pass a want of memory on. Refused as `render_to_lines`.
+    /// a line end. The map is to pass an allocation failure on. Refused as `render_to_lines`.
     pub fn render_coloured<F: Fn(&[D::Annotation], &str) -> Result<String, AllocError>>(
         &self,
         alloc: Global,

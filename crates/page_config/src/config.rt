@@ -220,7 +220,7 @@ impl<D: TextDecorator + Drop> Config<D> {
 
     /// `*` stands before and behind emphasis and terms, `**` before and behind strong text, and a backquote before and
     /// behind code: ten rules of the program, before all that stand. Asked for again it changes nothing. The error is
-    /// want of memory.
+    /// allocation failure.
     pub fn do_decorate(self, alloc: Global) -> Result<Config<D>, Error>
         ensures setting { IfOk result (λ c. page_setting D.held D.sub c ≡ record (page_setting D.held D.sub self) {
           rules = (page_setting D.held D.sub c).rules;
@@ -273,7 +273,7 @@ impl<D: TextDecorator + Drop> Config<D> {
         self.rendering.narrowest_wrap()
     }
 
-    /// Further rules of style, behind all that stand. The error is want of memory.
+    /// Further rules of style, behind all that stand. The error is allocation failure.
     pub fn style_rules(self, rules: Vec<StyleRule>) -> Result<Config<D>, Error>
         ensures setting { IfOk result (λ c. page_setting D.held D.sub c ≡ record (page_setting D.held D.sub self) {
           rules = (page_setting D.held D.sub self).rules ++ rules.items;
@@ -315,7 +315,7 @@ impl<D: TextDecorator + Drop> Config<D> {
         Config { parsing, ..self }
     }
 
-    /// The render tree of a page. The error is `Fail` exactly where the page converts to nothing, else want of memory.
+    /// The render tree of a page. The error is `Fail` exactly where the page has none, else allocation failure.
     pub fn dom_to_render_tree(&self, alloc: Global, dom: &RcDom) -> Result<RenderTree, Error>
         ensures tree { IfOk result
             (λ tree. tree ≡ document_values (page_setting D.held D.sub self.now).rules dom.now.forest) }
@@ -329,7 +329,7 @@ impl<D: TextDecorator + Drop> Config<D> {
     }
 
     /// The lines of a render tree, wrapped to `width` columns. The tree is gone, also where it is refused: as
-    /// `TooNarrow` where the width is 0, or too narrow for a part of the page or a character; else for want of memory.
+    /// `TooNarrow` where the width is 0, or too narrow for a part of the page or a character; else allocation fails.
     pub fn render_to_lines(
         &self,
         alloc: Global,

@@ -34,7 +34,7 @@ pub enum Error {
     /// The page has more bytes than were allowed.
     #[error("{text}", text = TOO_LONG)]
     TooLong,
-    /// A growth was refused for want of memory.
+    /// Allocation failed.
     #[error("{text}", text = MEMORY)]
     Memory,
 }

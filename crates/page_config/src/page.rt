@@ -36,7 +36,7 @@ impl Page {
     ghost use Rattle.page_reading.specs.PageTrees.{IsTreeOfBytes};
     ghost use Rattle.page_reading.specs.Readers.{Comes};
 
-    /// A page of which nothing has come. The error is want of memory.
+    /// A page of which nothing has come. The error is allocation failure.
     pub fn new<D: TextDecorator + Drop>(alloc: Global, config: &Config<D>) -> Result<Page, Error>
         ensures begins { IfOk result (λ page. (bytes : List ℕ) (forest : Forest) (quirks : Quirks) →
             Comes page bytes forest quirks → IsTreeOfBytes (page_setting D.held D.sub config.now).table
@@ -53,7 +53,7 @@ impl Page {
     }
 
     /// Reads the next piece of the page. It is refused as `TooLong`, before any of it is read, where it has more bytes
-    /// than may still come; as `Fail` behind a refusal; and else for want of memory alone.
+    /// than may still come; as `Fail` behind a refusal; and else only since allocation fails.
     pub fn push(&mut self, piece: &[u8]) -> Result<(), Error>
         // What was pushed, the piece and any rest come to what all of it now and the rest come to.
         ensures reads { OnOk result ((rest : List ℕ) (forest : Forest) (quirks : Quirks) →

@@ -29,7 +29,7 @@ impl<D: TextDecorator + Drop> Config<D> {
 
     /// Reads a page to its end, and gives its tree: that of all the bytes that the reader had. It asks for one byte
     /// more than the page may have at most. The error is `IoError` where the reader failed, `TooLong` where more bytes
-    /// came than it may have, and else want of memory.
+    /// came than it may have, and else allocation failure.
     pub fn parse_html<R: ByteReader>(&self, alloc: Global, input: &mut R) -> Result<RcDom, Error>
         ensures tree { IfOk result (λ dom. IfSome (R.remaining input.old) (λ bytes.
             IsTreeOfBytes (page_setting D.held D.sub self.now).table (page_setting D.held D.sub self.now).parsing bytes
@@ -90,7 +90,7 @@ impl<D: TextDecorator + Drop> Config<D> {
     /// The lines of the page that `input` gives, wrapped to `width` columns: those of all the bytes that it has. It is
     /// refused as `TooLong` where more bytes came than it may have; as `TooNarrow` where the width is 0, or too narrow
     /// for a part of the page or a character; as `Fail` where the page converts to nothing; as `IoError` where the
-    /// reader failed; else for want of memory.
+    /// reader failed; else since allocation fails.
     pub fn lines_from_read<R: ByteReader>(
         self,
         alloc: Global,

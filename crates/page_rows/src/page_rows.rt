@@ -235,7 +235,7 @@ fn a_writer_that_fails_has_a_beginning(rt: HostRuntime) {
     }
 }
 
-// whether the first page is written whole, or nothing is for want of memory
+// whether the first page is written whole, or, where allocation fails, nothing is
 fn is_written_or_refused(alloc: Global) -> bool {
     let Ok(taker) = Taker::new(alloc) else {
         return true;
@@ -249,7 +249,7 @@ fn is_written_or_refused(alloc: Global) -> bool {
     }
 }
 
-// whether the first page has its text, or is refused for want of memory
+// whether the first page has its text, or is refused since allocation fails
 fn is_read_or_refused(alloc: Global) -> bool {
     let Ok(table) = ReferenceTable::basic(alloc) else {
         return true;

@@ -56,7 +56,7 @@ fn text_of_row(alloc: Global, row: &Row) -> Result<String, Error> {
     config.string_from_read(alloc, &mut input, row.2)
 }
 
-// whether a page has its text, or is refused for want of memory
+// whether a page has its text, or is refused since allocation fails
 fn is_answered(alloc: Global, row: &Row) -> bool {
     match text_of_row(alloc, row) {
         Ok(text) => text.as_str() == row.4,

@@ -48,7 +48,7 @@ abbrev pub Comes : {D T H A : Type 0} → (T → A) → (D → H) → (H → Mar
 Comes seen held text gives marks after pops sub does old new = (tag : _) → IsTagging seen gives tag
     → does (marking text tag marks after pops sub) (laying_of seen held old) ≡ Some (laying_of seen held new)
 
--- However they are seen, it comes to nothing.
+-- However they are seen, it has no result.
 abbrev pub Fails : {D T H A : Type 0} → (T → A) → (D → H) → (H → Mark → List ℕ) → (H → Mark → T → Type 0)
     → (H → Mark → Bool) → (H → Mark → H) → (H → Mark → Bool) → (H → H)
     → (Marking H A → Step H A) → CodeLaying D T → Type 0

@@ -395,7 +395,8 @@ impl<D: TextDecorator + Drop> Laying<D> {
     }
 }
 
-/// What a renderer answers that has not failed, of whose parts none has.
+/// The answer of a call in which neither the renderer nor a part had failed: `Failed`, which contracts do not rule out
+/// there, becomes `Memory`.
 fn unless_failed(answer: Result<(), BlockError>) -> Result<(), BlockError>
     ensures ok { OnOk result (IsOk answer) }
     ensures narrow { result ≡ Err errors.TooNarrow → answer ≡ Err errors.TooNarrow }

@@ -255,7 +255,8 @@ pub trait Renderer {
     where
         Self: Sized,
         ensures outcome { IsOutcome result (has_failed self.old || list_any has_failed cells.items)
-            (has_failed self.new) (does (adds_rows_below cells.items) self.old self.new) (never (adds_rows_below cells.items) self.old) }
+            (has_failed self.new) (does (adds_rows_below cells.items) self.old self.new)
+            (never (adds_rows_below cells.items) self.old) }
         ensures joined { is_joined self.old → is_joined self.new };
 
     /// A text's colour ends.

@@ -15,7 +15,7 @@ use std::mem;
 use text_marks::TextDecorator;
 use text_pieces::BlockError;
 
-/// The name of a fragment goes behind others, if there is one. The error is want of memory.
+/// The name of a fragment goes behind others, if there is one. The error is allocation failure.
 pub fn push_name(names: &mut Vec<Text>, name: &Option<Text>) -> Result<(), AllocError>
     ensures { OnOk result (names.new.items ≡ names.old.items ++ option_to_list name.now) }
 {

@@ -109,7 +109,7 @@ pub(crate) fn push_rest<D: TextDecorator + Drop>(
     Ok(())
 }
 
-/// Empty renderers stand in the slots before the next cell, which are taken. The error is want of memory.
+/// Empty renderers stand in the slots before the next cell, which are taken. The error is allocation failure.
 pub fn push_empties<D: TextDecorator + Drop>(
     laying: &mut Laying<D>,
     widths: &Option<Vec<usize>>,

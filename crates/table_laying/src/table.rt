@@ -17,7 +17,7 @@ use text_marks::TextDecorator;
 use text_pieces::BlockError;
 
 /// The widths of a table's columns in so many columns of text, where its rows lie across; none where raw tables are
-/// asked for, or the columns' leasts do not fit. The error is want of memory.
+/// asked for, or the columns' leasts do not fit. The error is allocation failure.
 pub fn table_widths(
     alloc: Global,
     options: &RenderOptions,

@@ -12,7 +12,7 @@ use std::alloc::{AllocError, Global};
 use tagged_lines::{EqualCopy, TaggedLine};
 use text_borders::{BorderHoriz, RenderLine};
 
-/// A text of so many spaces. The error is want of memory alone.
+/// A text of so many spaces. The error is allocation failure alone.
 pub(crate) fn spaces<T: EqualCopy + Drop>(
     alloc: Global,
     count: usize,
@@ -25,7 +25,8 @@ pub(crate) fn spaces<T: EqualCopy + Drop>(
     Ok(line)
 }
 
-/// Moves a text to the end of a line, which gets room for so many bytes first, and fills it with spaces.
+/// Moves a text to the end of a line, and fills it with spaces up to the width. `room` is the bytes that the whole line
+/// is to hold; 0 asks for none. The error is allocation failure alone.
 fn move_text<T: EqualCopy + Drop>(
     line: &mut TaggedLine<T>,
     next: TaggedLine<T>,
@@ -44,7 +45,7 @@ fn move_text<T: EqualCopy + Drop>(
     line.push_spaces(width.saturating_sub(columns), tag)
 }
 
-/// Moves a border to the end of a line, with `─` up to the width.
+/// Moves a border to the end of a line, with `─` up to the width. The error is allocation failure alone.
 fn move_border<T: EqualCopy + Drop>(
     line: &mut TaggedLine<T>,
     drawn: BorderHoriz<T>,
@@ -77,8 +78,8 @@ impl<T: EqualCopy + Drop> OpenCell<T> {
         }
     }
 
-    /// Moves the next line to the end of a line, or what fills the cell. A line that was empty has room for so many
-    /// bytes then, where a text is moved. The error is allocation failure alone.
+    /// Moves the next line to the end of a line, or what fills the cell. `room` is as of `move_text`. The error is
+    /// allocation failure alone.
     pub(crate) fn move_line(
         &mut self,
         line: &mut TaggedLine<T>,
@@ -112,7 +113,7 @@ impl<T: EqualCopy + Drop> OpenCell<T> {
         }
     }
 
-    /// The next line, or spaces: what stands in the border below. The error is want of memory alone.
+    /// The next line, or spaces: what stands in the border below. The error is allocation failure alone.
     pub(crate) fn take_hole(&mut self, alloc: Global, tag: &T) -> Result<TaggedLine<T>, AllocError>
         ensures items { IfOk result (λ l. line_items T.seen l ≡ line_or self.old.width (T.seen tag.now)
             (spaces self.old.width (T.seen tag.now)) (open_cell_of T.seen self.old).lines) }

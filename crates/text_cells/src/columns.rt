@@ -19,7 +19,7 @@ pub(crate) struct Columns {
     pub(crate) signs: SmallVec<usize, FEW>,
 }
 
-/// The error is want of memory alone.
+/// The error is allocation failure alone.
 pub(crate) fn columns_of<T: EqualCopy + Drop>(
     alloc: Global,
     cells: &[OpenCell<T>],

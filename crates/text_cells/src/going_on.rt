@@ -13,7 +13,7 @@ use tagged_lines::EqualCopy;
 use text_borders::BorderHoriz;
 
 /// The cells that go on, with the lines that are left: the next line of each makes a hole in the border below. The
-/// error is want of memory alone.
+/// error is allocation failure alone.
 pub(crate) fn going_on<T: EqualCopy + Drop>(
     alloc: Global,
     tag: &T,

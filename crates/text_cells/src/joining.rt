@@ -13,7 +13,7 @@ use tagged_lines::EqualCopy;
 use text_borders::BorderHoriz;
 
 /// The border above, stretched to the row, and joined to the signs and to the borders at the beginning of cells. The
-/// error is want of memory alone.
+/// error is allocation failure alone.
 pub(crate) fn joined_above<T: EqualCopy + Drop>(
     above: Option<BorderHoriz<T>>,
     columns: &Columns,
@@ -81,7 +81,7 @@ fn merge_top<T: EqualCopy + Drop>(
     }
 }
 
-/// The border below, joined to the signs and to the borders at the end of cells. The error is want of memory alone.
+/// The border below, joined to the signs and to the borders at the end of cells. The error is allocation failure alone.
 pub(crate) fn border_below<T: EqualCopy + Drop>(
     alloc: Global,
     tag: &T,

@@ -30,7 +30,7 @@ pub(crate) struct OpenCell<T> {
 }
 
 /// The cells without their borders, where they collapse with their table; the first line of a cell stays where no
-/// border is above the row. The error is want of memory alone.
+/// border is above the row. The error is allocation failure alone.
 pub(crate) fn opened_cells<T: EqualCopy + Drop>(
     alloc: Global,
     collapse: bool,
@@ -95,7 +95,7 @@ impl<T: EqualCopy + Drop> OpenCell<T> {
     ghost use Rattle.text_cells.specs.Texts.{laid_line_of};
     ghost use Rattle.text_cells.specs.OpenCells.{with_lines};
 
-    /// Takes the first line out where it is a border and one is above the row. The error is want of memory alone.
+    /// Takes the first line out where it is a border and one is above the row. The error is allocation failure alone.
     fn take_first(&mut self, above: bool) -> Result<(), AllocError>
         ensures { OnOk result (open_cell_of T.seen self.new ≡ (if above
             then open_first (open_cell_of T.seen self.old).lines (open_cell_of T.seen self.old)
@@ -132,7 +132,7 @@ impl<T: EqualCopy + Drop> OpenCell<T> {
         }
     }
 
-    /// Takes the last line out where it is a border. The error is want of memory alone.
+    /// Takes the last line out where it is a border. The error is allocation failure alone.
     fn take_last(&mut self, tag: &T) -> Result<(), AllocError>
         ensures { OnOk result (open_cell_of T.seen self.new ≡ close_last (T.seen tag.now)
             (open_cell_of T.seen self.old).lines (open_cell_of T.seen self.old)) }

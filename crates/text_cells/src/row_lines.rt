@@ -28,7 +28,7 @@ pub(crate) fn row_height<T: EqualCopy + Drop>(cells: &[OpenCell<T>]) -> usize
     height
 }
 
-/// So many lines of a row, taken from its cells. The error is want of memory alone.
+/// So many lines of a row, taken from its cells. The error is allocation failure alone.
 pub(crate) fn row_lines<T: EqualCopy + Drop>(
     alloc: Global,
     sign: char,
@@ -59,7 +59,7 @@ fn row_bytes<T: EqualCopy + Drop>(cells: &[OpenCell<T>]) -> usize {
     bytes
 }
 
-/// The cells' next lines, with the sign between them; a line that begins with a text has room for so many bytes.
+/// The cells' next lines, with the sign between them; one that begins with a text has room for `room` bytes.
 fn row_line<T: EqualCopy + Drop>(
     alloc: Global,
     sign: char,

@@ -12,7 +12,7 @@ use std::collections::VecDeque;
 use tagged_lines::EqualCopy;
 
 /// The cells of a row: each hanging cell stands in place of the first cell that begins at its place or behind it, or
-/// behind the row. The error is want of memory alone.
+/// behind the row. The error is allocation failure alone.
 pub(crate) fn seated<T: EqualCopy + Drop>(
     alloc: Global,
     cells: Vec<LineSet<T>>,

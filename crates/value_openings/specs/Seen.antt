@@ -131,7 +131,7 @@ OpensWhere seen held text gives marks after pops sub f entered items old new = (
     ≡ option_and_then (unwound (marking text tag marks after pops sub) w (all_waiting seen held nodes items))
     (where_entered entered inside (laying_of seen held new))
 
--- Whatever stands in it, it comes to nothing.
+-- Whatever stands in it, it has no result.
 abbrev pub NeverOpens : {D T H A : Type 0} → (T → A) → (D → H) → (H → Mark → List ℕ) → (H → Mark → T → Type 0)
     → (H → Mark → Bool) → (H → Mark → H) → (H → Mark → Bool) → (H → H)
     → (Marking H A → Step H A → Step H A) → CodeLaying D T → Type 0

@@ -74,7 +74,7 @@ pub(crate) fn hold_table<D: TextDecorator + Drop>(
 }
 
 /// A table ends: its fence below it where it has one, and the next value stands where the table does. The error is
-/// `TooNarrow` where the definition comes to nothing, else `Memory`.
+/// `TooNarrow` where the definition has no result, else `Memory`.
 pub fn end_table<D: TextDecorator + Drop>(
     laying: &mut Laying<D>,
     table: Box<OpenTable<D>>,

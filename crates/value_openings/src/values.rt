@@ -120,7 +120,7 @@ fn open_outside<D: TextDecorator + Drop>(
 }
 
 /// The value of the node at a place begins, with what stands in it; what waits for its end is pushed. Tells whether
-/// what stands in it is laid out. The error is `TooNarrow` where the definition comes to nothing, else `Memory`.
+/// what stands in it is laid out. The error is `TooNarrow` where the definition has no result, else `Memory`.
 pub fn open_value<D: TextDecorator + Drop>(
     laying: &mut Laying<D>,
     alloc: Global,
