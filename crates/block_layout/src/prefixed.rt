@@ -192,7 +192,7 @@ fn settled_texts<T: EqualCopy + Drop>(
     ensures { IfOk result (λ all. texts_of T.seen all
         ≡ map (settled other (T.seen tag.now)) (block_lines_of T.seen lines)) }
 {
-    let (parts, last) = lines.into_parts();
+    let (parts, last) = lines.into_parts()?;
     let mut all = settled_parts(alloc, other, tag, parts)?;
     push_settled(alloc, other, tag, &mut all, last)?;
     Ok(all)
