@@ -29,6 +29,13 @@ pub struct Parser<S: TreeSink> {
     pub(crate) is_over: bool,
 }
 
+impl<S: TreeSink + Drop> Drop for Parser<S> {
+    // The page isn't ended: nothing more is read, and no memory is asked for.
+    fn drop(self) {
+        let _sink = self.into_sink();
+    }
+}
+
 impl<S: TreeSink> Parser<S> {
     ghost use Rattle.html_tree_builder.specs.Parsers.{Completes, IsFit, has_failed};
 
@@ -170,10 +177,7 @@ impl<S: TreeSink + Drop> Parser<S> {
         let mut parser = self;
         match parser.process(piece) {
             Ok(()) => parser.finish(),
-            Err(fault) => {
-                let _sink = parser.into_sink();
-                Err(fault)
-            }
+            Err(fault) => Err(fault),
         }
     }
 }

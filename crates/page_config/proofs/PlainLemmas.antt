@@ -1,13 +1,24 @@
 -- What a page is as plain text, of what was made of it by the decorator of plain text.
 use Rattle.std.proofs.Common.{ℕ, false, List, Option, None, Some}
-use Rattle.std.proofs.Common.{IfOk, IfSome, Global, String, chars, refl, string_bytes}
+use Rattle.std.proofs.Common.{IfOk, IfSome, Global, String, chars, refl, string_bytes, sym, ◌∙◌}
 use Rattle.std.specs.Prelude.{Err, Ok, Result}
 use Rattle.reference_tables.specs.References.{References}
 use Rattle.html_render_tree.specs.PlainText.{plain_closes}
+use Rattle.page_config.proofs.SeenSettings.{AreAlike}
 use Rattle.page_config.specs.PageAnswers.{Answers, IsTold, PageAnswer}
 use Rattle.page_config.specs.PlainPages.{HasPlainAnswer, HasPlainText, IsPlain}
 use Rattle.page_config.specs.Settings.{PageSetting}
 use Rattle.text_decorators.specs.Texts.{plain_text}
+
+-- configurations of plain text are seen alike
+pub plain_alike : (table : References) (c d : PageSetting (Unit {0})) → IsPlain table c → IsPlain table d → AreAlike c d
+plain_alike table c d p q = record {
+  table = p.table ∙ sym q.table;
+  parsing = p.parsing ∙ sym q.parsing;
+  rules = p.rules ∙ sym q.rules;
+  options = p.options ∙ sym q.options;
+  min_wrap = p.min_wrap ∙ sym q.min_wrap;
+}
 
 -- annotations of plain text are seen in one way
 plain_told : (table : References) (c : PageSetting (Unit {0})) (width : ℕ) (all : Option (List ℕ)) (told : List ℕ)

@@ -4,7 +4,7 @@ ghost use Rattle.block_renderer.specs.Seen.{marking};
 ghost use Rattle.html_render_tree.specs.PageLaws.{AreWithin, IsTextWithin};
 ghost use Rattle.page_config.specs.PageAnswers.{HasAnswer, HasSomeAnswer, HasText, IsAlwaysClosed};
 ghost use Rattle.page_config.specs.PageAnswers.{PageAnswer, lines, too_narrow};
-ghost use Rattle.page_config.specs.PlainPages.{HasPlainText};
+ghost use Rattle.page_config.specs.PlainPages.{HasPlainAnswer, HasPlainText};
 ghost use Rattle.page_config.specs.Settings.{PageSetting};
 ghost use Rattle.reference_tables.specs.References.{References};
 ghost use Rattle.tagged_lines.specs.Tagged.{Item};
@@ -46,6 +46,23 @@ pub fn a_page_has_one_text<D: TextDecorator>()
         → one ≡ other }
 {
     a_page_has_one_tree_of_bytes();
+}
+
+/// A page has one answer as plain text, by whatever configuration of plain text: of two, the rules of style may be written
+/// otherwise, and declare the same.
+pub fn a_page_has_one_plain_answer()
+    ensures { (table : References) (width : ℕ) (bytes : List ℕ) (one other : PageAnswer (Unit {0}))
+        → HasPlainAnswer table width bytes one → HasPlainAnswer table width bytes other → one ≡ other }
+{
+    a_page_has_one_answer::<PlainDecorator>();
+}
+
+/// And one plain text.
+pub fn a_page_has_one_plain_text()
+    ensures { (table : References) (width : ℕ) (bytes one other : List ℕ)
+        → HasPlainText table width bytes one → HasPlainText table width bytes other → one ≡ other }
+{
+    a_page_has_one_text::<PlainDecorator>();
 }
 
 /// No line of a page passes its width, of two columns or more, where prefixes are steady, no part may pass it and links

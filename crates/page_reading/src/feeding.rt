@@ -51,20 +51,6 @@ where
         (Completes S.number S.handle S.forest S.quirks parser (replaced_text decoder.held))
         (S.tree output) (S.tree_quirks output)) }
 {
-    match decoder.finish(alloc) {
-        Ok(text) => parser.one(text),
-        Err(fault) => {
-            let_go(parser);
-            Err(fault)
-        }
-    }
-}
-
-/// Drops a parser, which only its end gives back.
-pub(crate) fn let_go<S: TreeSink + Drop>(parser: Parser<S>)
-where
-    S::Output: Drop,
-    requires { IsFit S.number S.forest S.quirks parser }
-{
-    let _ended = parser.finish();
+    let text = decoder.finish(alloc)?;
+    parser.one(text)
 }

@@ -7,7 +7,7 @@ ghost use Rattle.html_forest.specs.declared.sink.QuirksMode.{QuirksMode as Quirk
 ghost use Rattle.page_reading.specs.declared.fault.PageFault.TheVariants.{Failed, Memory, TooLong};
 
 use crate::fault::PageFault;
-use crate::feeding::{end, feed, let_go};
+use crate::feeding::{end, feed};
 use html_forest::a_page_alone_is_a_forest;
 use html_lexemes::ReferenceTable;
 use html_render_dom::RcDom;
@@ -49,12 +49,11 @@ impl Drop for PageReader {
     fn drop(self) {
         let PageReader {
             decoder: _,
-            parser,
+            parser: _,
             left: _,
             failed: _,
             alloc: _,
         } = self;
-        let_go(parser);
     }
 }
 
@@ -143,7 +142,6 @@ impl PageReader {
             alloc,
         } = self;
         if failed {
-            let_go(parser);
             return Err(PageFault::Failed);
         }
         Ok(end(alloc, decoder, parser)?)
