@@ -4,7 +4,8 @@ use Rattle.std.specs.Prelude.{Some}
 use Rattle.article_layout.specs.Layouts.{style_mark}
 use Rattle.article_values.specs.Articles.{Style, bold, code, emphasis, italic, strong}
 use Rattle.article_conversion.specs.ArticleValues.{AreRulesOf}
-use Rattle.paragraph_lines.proofs.QuietRules.{part_by, parts_by, same_seen, seen_at}
+use Rattle.html_render_tree.proofs.SeenRules.{part_by, same_seen, seen_at}
+use Rattle.paragraph_lines.proofs.QuietRules.{parts_by}
 use Rattle.render_conversion.specs.Decorating.{SeenRule, decorating_rules}
 use Rattle.render_conversion.specs.Styles.{Part, Parts, all_unset, part_at, styles_of, unset}
 use Rattle.render_values.specs.Looks.{plain}

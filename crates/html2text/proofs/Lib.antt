@@ -1,6 +1,7 @@
 pub mod AnswerLemmas
 pub mod EndingLemmas
 pub mod LinesTextLemmas
+pub mod OneWay
 pub mod ResponseLemmas
 pub mod SettingLemmas
 pub mod WritingLemmas

@@ -2,6 +2,7 @@
 //! ends; with the libraries that it stands on, `page_config`, `command_words` and `named_files`, and with articles.
 #![tactic(auto)]
 
+mod laws;
 mod outcome;
 mod program;
 mod response;
@@ -19,13 +20,15 @@ pub use html_lexemes::{
 pub use html_render_dom::RcDom;
 pub use html_tree_builder::html_tree_state::QuirksMode;
 pub use html_tree_builder::{TokenizerOpts, TreeBuilderOpts};
+pub use laws::a_page_is_written_in_one_way;
 pub use named_files::{FileOpener, HostFiles, OpenedFile, TableFault};
 pub use outcome::{Outcome, exit_status};
 pub use page_config::{
     Config, Error, Page, ParseOpts, PlainLine, RenderTree, RichLine, a_page_has_an_answer,
-    a_page_has_one_answer, a_page_has_one_text, a_page_keeps_its_width,
-    a_page_with_room_is_never_too_narrow, a_plain_text_keeps_its_width, a_text_keeps_its_width,
-    from_read, from_read_rich, from_read_with_decorator, parse,
+    a_page_has_one_answer, a_page_has_one_plain_answer, a_page_has_one_plain_text,
+    a_page_has_one_text, a_page_keeps_its_width, a_page_with_room_is_never_too_narrow,
+    a_plain_text_keeps_its_width, a_text_keeps_its_width, from_read, from_read_rich,
+    from_read_with_decorator, parse,
 };
 pub use page_laws;
 pub use program::{Served, serve};

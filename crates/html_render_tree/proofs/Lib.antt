@@ -4,3 +4,4 @@ pub mod LineLemmas
 mod PageLemmas
 pub mod TextWidths
 pub mod NumberLemmas
+pub mod SeenRules

@@ -2,5 +2,6 @@ pub mod AnswerLemmas
 pub mod OneAnswer
 pub mod PlainLemmas
 pub mod ReadingLemmas
+pub mod SeenSettings
 pub mod WidthLemmas
 pub mod SomeAnswer

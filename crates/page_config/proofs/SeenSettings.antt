@@ -1,90 +1,14 @@
--- Settings that are seen alike read and show pages alike: of rules of style only what they declare tells.
-use std.Path.{fun_ext}
-use Rattle.std.proofs.Common.{◌≡◌, ℕ, ◌&&◌, Bool, true, false, List, [], ◌∷◌, ◌++◌, map, refl, sym, ap, subst, ◌∙◌}
-use Rattle.std.proofs.Common.{if◌then◌else◌}
-use Rattle.std.specs.Prelude.{bytes_eq, filter, flat_map, is_some, option_map}
-use Rattle.forest_trees.specs.Trees.{trees}
-use Rattle.html_forest.specs.Forest.{Forest}
+-- Settings that are seen alike read and show pages alike.
+use Rattle.std.proofs.Common.{◌≡◌, ℕ, List, [], ◌∷◌, map, sym, ap, subst, ◌∙◌}
+use Rattle.html_render_tree.proofs.SeenRules.{values_alike}
 use Rattle.html_render_tree.specs.PageLines.{Setting}
 use Rattle.page_config.specs.PageAnswers.{HasAnswer, HasText, IsAnswerOf, PageAnswer, lines}
 use Rattle.page_config.specs.Settings.{PageSetting}
 use Rattle.page_reading.specs.PageTrees.{IsTreeOfBytes}
-use Rattle.render_conversion.specs.Conversion.{document_values, values}
-use Rattle.render_conversion.specs.Decorating.{SeenRule, seen_rule}
-use Rattle.render_conversion.specs.Styles.{Part, Parts, Styles, styles_of}
-use Rattle.render_conversion.specs.declared.place.Place.TheVariants.{Flow}
+use Rattle.render_conversion.specs.Decorating.{seen_rule}
 use Rattle.renderer_calls.specs.Renderers.{Marking}
 use Rattle.renderer_calls.specs.declared.options.RenderOptions.{RenderOptions}
-use Rattle.style_cascade.specs.Cascade.{cascade}
-use Rattle.style_cascade.specs.Styles.{background_of, colour_of, content_of, declared_at, declared_by, display_of}
-use Rattle.style_cascade.specs.Styles.{is_same_place, of_property, rule_declares, white_space_of}
-use Rattle.style_cascade.specs.declared.cascade.Declared.{Declared}
-use Rattle.style_cascade.specs.declared.rules.Style.{Style}
-use Rattle.style_cascade.specs.declared.rules.StylePlace.{StylePlace}
-use Rattle.style_cascade.specs.declared.rules.StylePlace.TheVariants.{After, Before, Itself}
-use Rattle.style_cascade.specs.declared.rules.StyleRule.{StyleRule}
 use Rattle.tagged_lines.specs.declared.tagged_line.TaggedLine.{TaggedLine}
-
--- what rules declare, by what is seen of them
-abbrev seen_declares : SeenRule → List (Declared Style)
-seen_declares rule = map (declared_by rule.origin) rule.declarations
-
-abbrev pub seen_at : List ℕ → StylePlace → List SeenRule → List (Declared Style)
-seen_at name place rules =
-    flat_map seen_declares (filter (λ rule. bytes_eq rule.element name && is_same_place rule.place place) rules)
-
-same_step : (b : Bool) (rule : StyleRule) (kept : List StyleRule) (seen : List SeenRule) →
-    flat_map rule_declares kept ≡ flat_map seen_declares seen →
-    flat_map rule_declares (if b then rule ∷ kept else kept)
-    ≡ flat_map seen_declares (if b then seen_rule rule ∷ seen else seen)
-same_step true rule kept seen e = ap (λ ds. rule_declares rule ++ ds) e
-same_step false rule kept seen e = e
-
-pub same_seen : (name : List ℕ) (place : StylePlace) (rules : List StyleRule) →
-    declared_at name place rules ≡ seen_at name place (map seen_rule rules)
-same_seen name place [] = refl
-same_seen name place (rule ∷ rules) =
-    same_step (bytes_eq rule.element name && is_same_place rule.place place) rule
-    (filter (λ rule. bytes_eq rule.element name && is_same_place rule.place place) rules)
-    (filter (λ rule. bytes_eq rule.element name && is_same_place rule.place place) (map seen_rule rules))
-    (same_seen name place rules)
-
--- ---- the styles of elements
-
-abbrev pub part_by : List (Declared Style) → Part
-part_by ds = record {
-  look = record {
-    colour = option_map (λ d. d.val) (cascade (of_property colour_of ds));
-    background = option_map (λ d. d.val) (cascade (of_property background_of ds));
-    white_space = option_map (λ d. d.val) (cascade (of_property white_space_of ds));
-  };
-  hidden = is_some (option_map (λ d. d.val) (cascade (of_property display_of ds)));
-  content = option_map (λ d. d.val) (cascade (of_property content_of ds));
-}
-
-abbrev parts_from : (StylePlace → List (Declared Style)) → Parts
-parts_from declares = record {
-  itself = part_by (declares Itself);
-  before = part_by (declares Before);
-  after = part_by (declares After);
-}
-
-abbrev styles_from : (List ℕ → StylePlace → List (Declared Style)) → Styles
-styles_from declares name = parts_from (declares name)
-
-by_seen : (rules : List StyleRule) → styles_of rules ≡ styles_from (λ name place. seen_at name place (map seen_rule rules))
-by_seen rules = ap styles_from (fun_ext (λ name. fun_ext (λ place. same_seen name place rules)))
-
-styles_alike : (rules other : List StyleRule) → map seen_rule rules ≡ map seen_rule other
-    → styles_of rules ≡ styles_of other
-styles_alike rules other e =
-    by_seen rules ∙ ap (λ seen. styles_from (λ name place. seen_at name place seen)) e ∙ sym (by_seen other)
-
-values_alike : (rules other : List StyleRule) (f : Forest) → map seen_rule rules ≡ map seen_rule other
-    → document_values rules f ≡ document_values other f
-values_alike rules other f e = ap (λ styles. values styles Flow (trees f (0 ∷ []))) (styles_alike rules other e)
-
--- ---- settings
 
 pub record AreAlike (c d : PageSetting (Unit {0})) : Type 0 where
   pub table : c.table ≡ d.table
