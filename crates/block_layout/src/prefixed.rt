@@ -84,6 +84,10 @@ impl<T: EqualCopy + Drop> BlockLayout<T> {
         if self.takes_all(measure, first, following) {
             return self.take_all(other, tag, lines);
         }
+        let mut lines = lines;
+        if let Some(line) = lines.take_only() {
+            return self.add_prefixed(other, measure, tag, first, line);
+        }
         let lines = lines.into_vec(*self.markers.allocator())?;
         self.add_each(other, measure, tag, first, following, lines)
     }

@@ -145,6 +145,17 @@ impl<T: EqualCopy + Drop> BlockLines<T> {
         self.lines.pop()
     }
 
+    /// Takes the only line off, where it stands by itself: one that was the first to be pushed.
+    pub fn take_only(&mut self) -> Option<LaidLine<T>>
+        ensures only { IfSome result (λ l. block_lines_of T.seen self.old ≡ laid_line_of T.seen l ∷ []) }
+        ensures same { IsNone result → block_lines_of T.seen self.new ≡ block_lines_of T.seen self.old }
+    {
+        if !self.parts.is_empty() {
+            return None;
+        }
+        self.lines.take_only()
+    }
+
     /// Takes the first line off, where that is a border. The error is allocation failure.
     pub(crate) fn take_first_border(&mut self) -> Result<Option<BorderHoriz<T>>, AllocError>
         ensures first { IfOk result (λ top. option_map (border_of T.seen) top

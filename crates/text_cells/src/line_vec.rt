@@ -18,7 +18,7 @@ pub(crate) struct LineVec<T> {
 
 impl<T: Drop> LineVec<T> {
     ghost use Rattle.std.specs.Prelude.{[], ◌∷◌, ◌++◌, ◌==◌, option_to_list, is_ok, if◌then◌else◌};
-    ghost use Rattle.std.specs.Prelude.{None, IfOk, IsNone, OnOk};
+    ghost use Rattle.std.specs.Prelude.{None, IfOk, IfSome, IsNone, OnOk};
     ghost use Rattle.text_cells.specs.Texts.{held, queued};
 
     /// No lines.
@@ -116,6 +116,14 @@ impl<T: Drop> LineVec<T> {
             Some(line) => Some(line),
             None => self.rest.pop(),
         }
+    }
+
+    /// Takes the line off that stands by itself, where one does.
+    pub(crate) fn take_only(&mut self) -> Option<LaidLine<T>>
+        ensures only { IfSome result (λ l. held self.old ≡ l ∷ []) }
+        ensures same { IsNone result → held self.new ≡ held self.old }
+    {
+        self.only.take()
     }
 
     /// Takes all lines off, in a vector. The error is allocation failure, which changes nothing.
