@@ -44,8 +44,9 @@ pub trait LayArticle {
     /// Paragraphs alone are never refused where a line of text may have two columns (`paragraphs`).
     ///
     /// What is said between two breaks shows each visible character once, in order (`shown`), on no more lines than any
-    /// legal layout of it (`fewest`). Where another article has one text in place of another, and each of the two has a
-    /// visible character, all lines but those of that paragraph are the same, those of targets too (`exchange`).
+    /// legal layout of it (`fewest`), in as many columns as are left for it behind the prefixes of the blocks around it.
+    /// Where another article has one text in place of another, and each of the two has a visible character, all lines
+    /// but those of that paragraph are the same, those of targets too (`exchange`).
     fn layout(
         &self,
         alloc: Global,
@@ -61,14 +62,14 @@ pub trait LayArticle {
             (blocks self.now) (lines (shown_of shown.items))) }
         ensures narrow_page { result ≡ Err errors.TooNarrow → IsAnswerToPage (bare_setting config.now) width
             (title self.now) (blocks self.now) too_narrow }
-        ensures shown { (s : Stretch)
-            → flat_map (visible_of {S = Tag}) (stretch_lines (options_for (bare_setting config.now)) width s)
+        ensures shown { (columns : ℕ) (s : Stretch)
+            → flat_map (visible_of {S = Tag}) (stretch_lines (options_for (bare_setting config.now)) columns s)
             ≡ filter is_visible (codes_of s.source) }
-        ensures fewest { (s : Stretch) (legal : List (List (Mark Tag))) → has_marker s.source ≡ false
-            → has_wide_text (wrap_at (options_for (bare_setting config.now)) width) s.source ≡ false
-            → IsLayout (wrap_at (options_for (bare_setting config.now)) width) false
-            (marks (wrap_at (options_for (bare_setting config.now)) width) (letters_of s.source)) legal
-            → length (stretch_lines (options_for (bare_setting config.now)) width s) ≤ length legal }
+        ensures fewest { (columns : ℕ) (s : Stretch) (legal : List (List (Mark Tag))) → has_marker s.source ≡ false
+            → has_wide_text (wrap_at (options_for (bare_setting config.now)) columns) s.source ≡ false
+            → IsLayout (wrap_at (options_for (bare_setting config.now)) columns) false
+            (marks (wrap_at (options_for (bare_setting config.now)) columns) (letters_of s.source)) legal
+            → length (stretch_lines (options_for (bare_setting config.now)) columns s) ≤ length legal }
         ensures exchange { (n : ℕ) (changed : SeenBlocks) (ms : List SeenLine) → Differ n 0 (blocks self.now) changed
             → article_lines (options_for (bare_setting config.now)) width changed ≡ Some ms
             → IfOk result (λ shown. others_told n (map told_of shown.items) ≡ map told (others n ms)) }

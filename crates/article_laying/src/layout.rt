@@ -44,7 +44,7 @@ pub struct ArticleLine {
 /// else refused since allocation fails. Paragraphs alone are never refused where a line of text may have two columns.
 ///
 /// What is said between two breaks shows each visible character once, in order, on no more lines than any legal layout
-/// of it. Where another article has one text in place of another, and each of the two has a visible character, all
+/// of it, in as many columns as are left for it behind the prefixes of the blocks around it. Where another article has one text in place of another, and each of the two has a visible character, all
 /// lines but those of that paragraph are the same, and the lines of targets too.
 pub fn lay_article(
     alloc: Global,
@@ -57,13 +57,14 @@ pub fn lay_article(
     ensures narrow { result ≡ Err errors.TooNarrow
         → article_lines (options_of options) width (blocks_view blocks.now) ≡ None }
     ensures failed { result ≡ Err errors.Failed → ⊥ }
-    ensures shown { (s : Stretch) → flat_map (visible_of {S = Tag}) (stretch_lines (options_of options) width s)
+    ensures shown { (columns : ℕ) (s : Stretch)
+        → flat_map (visible_of {S = Tag}) (stretch_lines (options_of options) columns s)
         ≡ filter is_visible (codes_of s.source) }
-    ensures fewest { (s : Stretch) (layout : List (List (Mark Tag))) → has_marker s.source ≡ false
-        → has_wide_text (wrap_at (options_of options) width) s.source ≡ false
-        → IsLayout (wrap_at (options_of options) width) false
-        (marks (wrap_at (options_of options) width) (letters_of s.source)) layout
-        → length (stretch_lines (options_of options) width s) ≤ length layout }
+    ensures fewest { (columns : ℕ) (s : Stretch) (layout : List (List (Mark Tag))) → has_marker s.source ≡ false
+        → has_wide_text (wrap_at (options_of options) columns) s.source ≡ false
+        → IsLayout (wrap_at (options_of options) columns) false
+        (marks (wrap_at (options_of options) columns) (letters_of s.source)) layout
+        → length (stretch_lines (options_of options) columns s) ≤ length layout }
     ensures exchange { (n : ℕ) (changed : SeenBlocks) (ms : List SeenLine) → Differ n 0 (blocks_view blocks.now) changed
         → article_lines (options_of options) width changed ≡ Some ms
         → IfOk result (λ lines. others_told n (map told_of lines.items) ≡ map told (others n ms)) }

@@ -5,6 +5,7 @@ use Rattle.reference_tables.specs.References.{References}
 use Rattle.html2text.specs.Written.{EitherLook, IsSetting}
 use Rattle.page_config.proofs.SeenSettings.{AreAlike, answers_alike, texts_alike}
 use Rattle.page_config.specs.PageAnswers.{HasAnswer, HasText, PageAnswer, fail, lines, too_narrow}
+use Rattle.page_config.specs.PageLaws.{IsTextWithin}
 use Rattle.page_config.specs.PlainText.{plain_closes, plain_marking}
 use Rattle.page_config.specs.RichPages.{HasRichAnswer, HasRichText}
 use Rattle.page_config.specs.RichText.{rich_closes, rich_marking}
@@ -45,6 +46,14 @@ one_look true c d width bytes one other alike riches plains first second =
 one_look false c d width bytes one other alike riches plains first second =
     plains d width bytes one other (texts_alike plain_marking (λ _. tt) plain_closes c d alike width bytes one first)
     second
+
+-- ---- what holds of rich and of plain text holds of what is asked for
+
+pub look_within : (rich : Bool) (c : PageSetting (Unit {0})) (width : ℕ) (bytes text : List ℕ)
+    → (HasRichText c width bytes text → IsTextWithin width text) → (PlainText c width bytes text → IsTextWithin width text)
+    → EitherLook rich (HasRichText c width bytes text) (PlainText c width bytes text) → IsTextWithin width text
+look_within true c width bytes text riches plains has = riches has
+look_within false c width bytes text riches plains has = plains has
 
 -- ---- answers of two kinds exclude one another
 

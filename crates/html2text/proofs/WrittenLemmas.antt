@@ -12,6 +12,18 @@ use Rattle.tagged_lines.specs.Tagged.{line_items}
 use Rattle.tagged_lines.specs.declared.tagged_line.TaggedLine.{TaggedLine}
 use Rattle.text_marks.specs.Marks.{Mark}
 
+-- what was gained is also of another kind
+pub gains_weaker : {IsText : (bytes text : List ℕ) → Type 0} {IsOther : List ℕ → Type 0} (all old new : Option (List ℕ))
+    → ((bytes text : List ℕ) → IsText bytes text → IsOther text) → IfSome all (λ bytes. Gains (IsText bytes) old new)
+    → IfSome all (λ bytes. Gains IsOther old new)
+gains_weaker None old new weaker gains = tt
+gains_weaker (Some bytes) old new weaker gains = record {
+  text = gains.text;
+  utf8 = gains.utf8;
+  page = weaker bytes (chars gains.text) gains.page;
+  added = gains.added;
+}
+
 module _ {T H A : Type 0} (seen : T → A) (text : H → Mark → List ℕ) (gives : H → Mark → T → Type 0)
     (marks : H → Mark → Bool) (after : H → Mark → H) (pops : H → Mark → Bool) (sub : H → H)
     (closes : H → List (List ℕ) → List (TaggedLine T) → Type 0) (c : PageSetting H) (width : ℕ) where

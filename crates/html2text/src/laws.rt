@@ -1,10 +1,11 @@
 //! Laws of what the program writes.
-ghost use Rattle.std.specs.Prelude.{◌≡◌, ℕ, List};
+ghost use Rattle.std.specs.Prelude.{◌≡◌, ◌≤◌, ℕ, List};
 ghost use Rattle.command_words.specs.CommandWords.{Asked};
 ghost use Rattle.html2text.specs.Written.{HasAskedText, IsOtherPage, IsTooNarrowPage};
+ghost use Rattle.page_config.specs.PageLaws.{IsTextWithin};
 ghost use Rattle.reference_tables.specs.References.{References};
 
-use page_config::{a_page_has_one_answer, a_page_has_one_text};
+use page_config::{a_page_has_one_answer, a_page_has_one_text, a_text_keeps_its_width};
 use text_decorators::{PlainDecorator, RichDecorator};
 
 /// Of the same bytes, by the same words, the program writes one text; and a text, a width that is too narrow, and
@@ -23,4 +24,13 @@ pub fn a_page_is_written_in_one_way()
     a_page_has_one_text::<PlainDecorator>();
     a_page_has_one_answer::<RichDecorator>();
     a_page_has_one_text::<RichDecorator>();
+}
+
+/// No line that the program writes of a page passes the width that is asked for, of two columns or more.
+pub fn what_is_written_keeps_its_width()
+    ensures { (asked : Asked) (names : References) (bytes text : List ℕ) → 2 ≤ asked.width
+        → HasAskedText asked names bytes text → IsTextWithin asked.width text }
+{
+    a_text_keeps_its_width::<PlainDecorator>();
+    a_text_keeps_its_width::<RichDecorator>();
 }

@@ -20,7 +20,7 @@ pub use html_lexemes::{
 pub use html_render_dom::RcDom;
 pub use html_tree_builder::html_tree_state::QuirksMode;
 pub use html_tree_builder::{TokenizerOpts, TreeBuilderOpts};
-pub use laws::a_page_is_written_in_one_way;
+pub use laws::{a_page_is_written_in_one_way, what_is_written_keeps_its_width};
 pub use named_files::{FileOpener, HostFiles, OpenedFile, TableFault};
 pub use outcome::{Outcome, exit_status};
 pub use page_config::{

@@ -6,16 +6,20 @@ ghost use Rattle.html2text.specs.Written.{Gains, GainsPart};
 ghost use Rattle.html2text.specs.LinesText.{line_bytes, lines_bytes};
 ghost use Rattle.page_config.specs.Errors.{IsAnswer};
 ghost use Rattle.page_config.specs.PageAnswers.{Answers, IsTold, fail, too_narrow};
+ghost use Rattle.page_config.specs.PageLaws.{IsTextWithin};
 ghost use Rattle.page_config.specs.Settings.{max_bytes_of, page_setting};
+ghost use Rattle.block_renderer.specs.Seen.{IsTagging};
+ghost use Rattle.text_marks.specs.Marks.{IsSteady};
 
 use html_lexemes::{ByteReader, ByteWriter, DeviceFault};
-use page_config::{Config, Error};
+use page_config::{Config, Error, a_text_keeps_its_width};
 use std::alloc::Global;
 use tagged_lines::TaggedLine;
 use text_marks::TextDecorator;
 
 /// Reads a page, and writes the text of its lines, each with a newline. Nothing is written before the
-/// layout has succeeded. It doesn't flush the writer.
+/// layout has succeeded. No line passes the width, in columns, where no part of a page may (`within`). It doesn't flush
+/// the writer.
 pub fn run<R: ByteReader, W: ByteWriter, D: TextDecorator + Drop>(
     alloc: Global,
     reader: &mut R,
@@ -43,6 +47,11 @@ pub fn run<R: ByteReader, W: ByteWriter, D: TextDecorator + Drop>(
     ensures fail { result ≡ Err Error.Fail → IfSome (R.remaining reader.old) (λ bytes.
         Answers D.Annotation.seen D.text D.gives D.marks D.after D.pops D.sub D.closes
         (page_setting D.held D.sub config) width bytes fail) }
+    ensures within { (tag : _) → IsTagging D.Annotation.seen D.gives tag → IsSteady D.text
+        → (page_setting D.held D.sub config).rendering.options.allow_width_overflow ≡ false
+        → (page_setting D.held D.sub config).rendering.options.wrap_links ≡ true → 2 ≤ width
+        → OnOk result (IfSome (R.remaining reader.old) (λ bytes.
+        Gains (IsTextWithin width) (W.contents writer.old) (W.contents writer.new))) }
     ensures short { IsAnswer result → IfSome (R.remaining reader.old) (λ bytes. length bytes ≤ max_bytes_of config) }
 
     // Only a fault of the writer leaves anything written: a beginning of that text.
@@ -51,6 +60,7 @@ pub fn run<R: ByteReader, W: ByteWriter, D: TextDecorator + Drop>(
         (λ bytes. GainsPart (IsTold D.Annotation.seen D.text D.gives D.marks D.after D.pops D.sub D.closes
         (page_setting D.held D.sub config) width bytes) (W.contents writer.old) (W.contents writer.new)))) }
 {
+    a_text_keeps_its_width::<D>();
     let lines = config.text_lines_from_read(alloc, reader, width)?;
     write_lines(writer, &lines)?;
     Ok(())

@@ -10,13 +10,13 @@ use Rattle.article_laying.proofs.ExchangedLines.{exchanged}
 use Rattle.article_laying.proofs.layout.lay_article.Goals as goal
 
 pub returns-clause-shown : goal.returns-clause-shown
-returns-clause-shown c = λ s. c.visible_characters_once.ensures (options_of c.args.options) c.args.width s
+returns-clause-shown c = λ columns s. c.visible_characters_once.ensures (options_of c.args.options) columns s
 
 pub returns-clause-fewest : goal.returns-clause-fewest
-returns-clause-fewest c = λ s layout marker wide legal.
-    let w = wrap_at (options_of c.args.options) c.args.width in
+returns-clause-fewest c = λ columns s layout marker wide legal.
+    let w = wrap_at (options_of c.args.options) columns in
     c.fewest_lines.ensures w false (letters_of s.source)
-    (stretch_lines (options_of c.args.options) c.args.width s) layout
+    (stretch_lines (options_of c.args.options) columns s) layout
     (c.normal_lines_are_fullest.ensures w false s.source marker (ap (λ b. not b) wide)) legal
 
 pub returns-clause-exchange : goal.returns-clause-exchange
