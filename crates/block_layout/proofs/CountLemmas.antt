@@ -6,7 +6,7 @@ use Rattle.std.proofs.lemmas.Bool.Decides.{nat_tests}
 use Rattle.text_pieces.specs.Sources.{is_filled}
 use Rattle.text_borders.specs.Across.{CellLine}
 use Rattle.text_wrapping.proofs.WordLemmas.{empty_text, some_text}
-use Rattle.text_cells.specs.Cells.{laid_line_of, laid_text_of, text_count, content_count, held, texts_of, part_lines}
+use Rattle.text_cells.specs.Cells.{laid_line_of, laid_text_of, text_count, content_count, texts_of, part_lines}
 use Rattle.text_cells.specs.Cells.{parts_lines, parts_content, texts_content, block_lines_of, block_content}
 use Rattle.text_cells.specs.declared.laid_line.LaidLine.{LaidLine}
 use Rattle.text_cells.specs.declared.laid_line.LaidText.{LaidText}
@@ -66,9 +66,9 @@ counted_parts seen (p ∷ parts) =
 pub counted_content : {T S : Type 0} (seen : T → S) (lines : BlockLines T)
     → nat_lt 0 (block_content lines) ≡ has_content (block_lines_of seen lines)
 counted_content seen lines =
-    both_counted (parts_content lines.parts.items) (content_count (held lines.lines))
-    (parts_lines seen lines.parts.items) (map (laid_line_of seen) (held lines.lines))
-    (counted_parts seen lines.parts.items) (counted_lines seen (held lines.lines))
+    both_counted (parts_content lines.parts.items) (content_count lines.lines.items)
+    (parts_lines seen lines.parts.items) (map (laid_line_of seen) lines.lines.items)
+    (counted_parts seen lines.parts.items) (counted_lines seen lines.lines.items)
 
 -- more, and less
 pub counted_more : (n k m old more new : ℕ) → n ≡ old → k ≡ more → m ≡ n + k → new ≡ old + more → m ≡ new

@@ -7,7 +7,7 @@ use Rattle.text_borders.specs.Segments.{Segment, joins_above, joins_below}
 use Rattle.text_borders.specs.Borders.{Border, border_of, columns_where}
 use Rattle.text_borders.specs.Across.{spaces, CellLine, Cell, Hanging, empty_cell, OpenCell as SeenCell, goes_on}
 use Rattle.text_borders.specs.Across.{further, opened, row_of, is_given, Row}
-use Rattle.text_cells.specs.Texts.{laid_line_of, queued}
+use Rattle.text_cells.specs.Texts.{laid_line_of}
 use Rattle.tagged_lines.specs.declared.tagged_line.TaggedLine.{TaggedLine}
 use Rattle.text_cells.specs.declared.opening.OpenCell.{OpenCell}
 
@@ -25,7 +25,7 @@ abbrev pub open_cell_of : {T S : Type 0} → (T → S) → OpenCell T → SeenCe
 open_cell_of seen c = record {
   width = c.width;
   rows = c.rows;
-  lines = map (laid_line_of seen) (queued c.lines);
+  lines = map (laid_line_of seen) c.lines.items;
   filler = filling_of seen c.width c.space_tag c.filler;
   asks_above = asked joins_below (option_map (border_of seen) c.top);
   asks_below = asked joins_above (option_map (border_of seen) c.bottom);

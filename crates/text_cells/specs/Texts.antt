@@ -1,5 +1,5 @@
 -- Texts of a block, and lines with content.
-use Rattle.std.specs.Prelude.{ℕ, ◌+◌, ◌≤◌, List, [], ◌∷◌, ◌++◌, All, option_to_list, if◌then◌else◌}
+use Rattle.std.specs.Prelude.{ℕ, ◌+◌, ◌≤◌, List, [], ◌∷◌, All, if◌then◌else◌}
 use Rattle.tagged_lines.specs.Columns.{text_columns}
 use Rattle.tagged_lines.specs.Tagged.{line_items, line_text}
 use Rattle.text_borders.specs.Lines.{BlockLine, text, render_line_of}
@@ -7,21 +7,12 @@ use Rattle.text_borders.specs.Across.{CellLine, widened}
 use Rattle.text_pieces.specs.Items.{has_text}
 use Rattle.text_cells.specs.declared.laid_line.LaidLine.{LaidLine}
 use Rattle.text_cells.specs.declared.laid_line.LaidText.{LaidText}
-use Rattle.text_cells.specs.declared.line_queue.LineQueue.{LineQueue}
-use Rattle.text_cells.specs.declared.line_vec.LineVec.{LineVec}
 
 abbrev pub laid_line_of : {T S : Type 0} → (T → S) → LaidLine T → CellLine S
 laid_line_of seen l = record { line = render_line_of seen l.line; content = l.content }
 
 abbrev pub laid_text_of : {T S : Type 0} → (T → S) → LaidText T → CellLine S
 laid_text_of seen t = record { line = text (line_items seen t.line); content = t.content }
-
--- the lines of a vector and of a queue in which a single one stands by itself
-abbrev pub held : {T : Type 0} → LineVec T → List (LaidLine T)
-held v = option_to_list v.only ++ v.rest.items
-
-abbrev pub queued : {T : Type 0} → LineQueue T → List (LaidLine T)
-queued q = option_to_list q.only ++ q.rest.items
 
 -- a text of at least so many columns
 abbrev pub IsWide : {T : Type 0} → ℕ → LaidText T → Type 0
