@@ -4,12 +4,12 @@ use Rattle.html_tree_builder.specs.Grown.{IsGrown}
 use Rattle.html_tree_builder.specs.Parsers.{Completes}
 use Rattle.page_reading.proofs.feeding.end.Goals as goal
 
-pub returns-in-Ok-clause-grown : goal.returns-in-Ok-clause-grown
-returns-in-Ok-clause-grown g c =
+pub returns-clause-grown : goal.returns-clause-grown
+returns-clause-grown g c =
     let sink = g.S.TreeSink in
     IfOk-weaker c.one.result _ _
     (λ output grown. subst
     (λ cs. IsGrown (Completes sink.number sink.handle sink.forest sink.quirks c.args.parser cs)
     (sink.tree output) (sink.tree_quirks output))
-    c.in-Ok.ensures.text grown)
+    c.in_ok-text.ensures.text grown)
     c.one.ensures.grown
