@@ -1,5 +1,5 @@
 -- What is asked for is written in one way.
-use Rattle.std.proofs.Common.{◌≡◌, ℕ, Bool, true, false, List, sym, ap, subst, ◌∙◌}
+use Rattle.std.proofs.Common.{◌≡◌, ℕ, Bool, true, false, List, sym, subst, ◌∙◌}
 use Rattle.command_words.specs.CommandWords.{Asked}
 use Rattle.reference_tables.specs.References.{References}
 use Rattle.html2text.specs.Written.{EitherLook, IsSetting}

@@ -1,12 +1,13 @@
 -- What was written of a page's lines.
 use Rattle.std.proofs.Common.{ℕ, Bool, List, Vec, Global, map, Option, None, Some, IfSome, chars, ◌∙◌}
 use Rattle.std.specs.Io.KnownBytes.{Appends}
-use Rattle.block_renderer.specs.Seen.{tags_seen}
+use Rattle.block_renderer.specs.Seen.{IsTagging, marking, tags_seen}
 use Rattle.byte_devices.specs.KnownPart.{AppendsPart}
 use Rattle.html2text.proofs.LinesTextLemmas.{chars-lines_bytes, lines_utf8}
 use Rattle.html2text.specs.LinesText.{lines_bytes}
 use Rattle.html2text.specs.Written.{Gains, GainsPart}
-use Rattle.page_config.specs.PageAnswers.{IsTold, lines_text}
+use Rattle.page_config.specs.PageAnswers.{HasText, IsTold, lines_text}
+use Rattle.page_config.specs.PageLaws.{IsTextWithin}
 use Rattle.page_config.specs.Settings.{PageSetting}
 use Rattle.tagged_lines.specs.Tagged.{line_items}
 use Rattle.tagged_lines.specs.declared.tagged_line.TaggedLine.{TaggedLine}
@@ -62,3 +63,13 @@ module _ {T H A : Type 0} (seen : T → A) (text : H → Mark → List ℕ) (giv
     page = told_of bytes shown has;
     part = part;
   }
+
+  -- where the text that a decorator's annotations are seen by keeps the width, so does what is written
+  pub written_within : (tag : H → Mark → A) → IsTagging seen gives tag → ((bytes told : List ℕ)
+      → HasText (marking text tag marks after pops sub) seen closes c width bytes told → IsTextWithin width told)
+      → (all old new : Option (List ℕ)) (shown : List (TaggedLine (Vec T Global)))
+      → IfSome all (HasLines shown) → Appends old new (lines_bytes shown)
+      → IfSome all (λ bytes. Gains (IsTextWithin width) old new)
+  written_within tag tagging keeps all old new shown has added =
+      gains_weaker {IsText = IsTextOf} {IsOther = IsTextWithin width} all old new
+      (λ bytes told is. keeps bytes told (is tag tagging)) (written_page all old new shown has added)

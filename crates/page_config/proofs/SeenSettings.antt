@@ -1,5 +1,5 @@
 -- Settings that are seen alike read and show pages alike.
-use Rattle.std.proofs.Common.{◌≡◌, ℕ, List, [], ◌∷◌, map, sym, ap, subst, ◌∙◌}
+use Rattle.std.proofs.Common.{◌≡◌, ℕ, List, map, sym, ap, subst, ◌∙◌}
 use Rattle.html_render_tree.proofs.SeenRules.{values_alike}
 use Rattle.html_render_tree.specs.PageLines.{Setting}
 use Rattle.page_config.specs.PageAnswers.{HasAnswer, HasText, IsAnswerOf, PageAnswer, lines}

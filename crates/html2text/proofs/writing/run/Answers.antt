@@ -1,7 +1,7 @@
 use Rattle.std.proofs.Common.{Err, ap, ◌∙◌, inr}
 use Rattle.std.proofs.lemmas.Result.{err_from_is_err_and}
 use Rattle.html2text.proofs.WritingLemmas.{on_err}
-use Rattle.html2text.proofs.WrittenLemmas.{gains_weaker, written_page, written_part}
+use Rattle.html2text.proofs.WrittenLemmas.{written_page, written_part, written_within}
 use Rattle.html2text.proofs.writing.run.Goals as goal
 use Rattle.page_config.specs.Settings.{page_setting}
 
@@ -31,10 +31,8 @@ returns-clause-written g c = written_page g.D.Annotation.EqualCopy.seen g.D.Text
 pub returns-clause-within : goal.returns-clause-within
 returns-clause-within g c = λ tag tagging steady overflow wrap wide.
     let setting = page_setting g.D.TextDecorator.held g.D.TextDecorator.sub c.args.config in
-    gains_weaker (g.R.ByteReader.remaining c.args.reader.now) _ _
-    (λ bytes text told. c.a_text_keeps_its_width.ensures tag setting c.args.width bytes text steady overflow wrap wide
-    (told tag tagging))
-    (written_page g.D.Annotation.EqualCopy.seen g.D.TextDecorator.text g.D.TextDecorator.gives g.D.TextDecorator.marks
+    written_within g.D.Annotation.EqualCopy.seen g.D.TextDecorator.text g.D.TextDecorator.gives g.D.TextDecorator.marks
     g.D.TextDecorator.after g.D.TextDecorator.pops g.D.TextDecorator.sub g.D.TextDecorator.closes setting c.args.width
-    (g.R.ByteReader.remaining c.args.reader.now) _ _ c.in_ok-lines.lines.items c.in_ok-lines.ensures.text
-    (rw c.deref.ensures.value at c.in_ok-write_lines.ensures.ok))
+    tag tagging (λ bytes told has. c.a_text_keeps_its_width.ensures tag setting c.args.width bytes told steady overflow
+    wrap wide has) (g.R.ByteReader.remaining c.args.reader.now) _ _ c.in_ok-lines.lines.items c.in_ok-lines.ensures.text
+    (rw c.deref.ensures.value at c.in_ok-write_lines.ensures.ok)
