@@ -27,6 +27,8 @@ mod columns;
 mod going_on;
 mod joining;
 mod laid_line;
+mod line_queue;
+mod line_vec;
 mod opening;
 mod part;
 mod row_lines;
