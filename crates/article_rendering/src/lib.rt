@@ -1,10 +1,4 @@
 //! How the values of an article's page are rendered: as the article itself.
-//!
-//! # What is proved
-//!
-//! - `articles_are_laid`: the article's values are rendered (`IsRendered`) as the article's lines and no others,
-//!   and a width is too narrow for them (`IsTooNarrow`) only where the article has none: where no part may pass the
-//!   width, and no text is empty
 #![tactic(auto)]
 
 mod laws;

@@ -39,7 +39,7 @@ pub enum Lexeme<'t> {
 }
 
 /// What stands first in a text that is read in a mode (WHATWG HTML, 13.2.5); `foreign` says that the adjusted current
-/// node is foreign. The error is allocation failure alone.
+/// node is foreign. The error is want of memory alone.
 pub fn lexeme_at<'t>(
     alloc: Global,
     table: &ReferenceTable,
@@ -124,7 +124,7 @@ fn ordinary<'t>(
     }
 }
 
-/// What a `&` begins, from behind it on (WHATWG HTML, 13.2.5.72). The error is allocation failure alone.
+/// What a `&` begins, from behind it on (WHATWG HTML, 13.2.5.72). The error is want of memory alone.
 pub fn reference_or_sign<'t>(
     alloc: Global,
     table: &ReferenceTable,
@@ -161,8 +161,7 @@ fn without_semicolon(reference: &str) -> ErrorMessage {
     })
 }
 
-/// What a `<` begins in ordinary text, from behind it on (WHATWG HTML, 13.2.5.6). The error is allocation failure
-/// alone.
+/// What a `<` begins in ordinary text, from behind it on (WHATWG HTML, 13.2.5.6). The error is want of memory alone.
 pub fn markup<'t>(
     alloc: Global,
     table: &ReferenceTable,
@@ -187,7 +186,7 @@ pub fn markup<'t>(
     }
 }
 
-/// The tag whose name begins here, or nothing where the end cuts it off. The error is allocation failure alone.
+/// The tag whose name begins here, or nothing where the end cuts it off. The error is want of memory alone.
 pub fn tag_or_nothing<'t>(
     alloc: Global,
     table: &ReferenceTable,
@@ -204,8 +203,7 @@ pub fn tag_or_nothing<'t>(
     }
 }
 
-/// What a `</` begins in ordinary text, from behind it on (WHATWG HTML, 13.2.5.7). The error is allocation failure
-/// alone.
+/// What a `</` begins in ordinary text, from behind it on (WHATWG HTML, 13.2.5.7). The error is want of memory alone.
 pub fn end_tag<'t>(
     alloc: Global,
     table: &ReferenceTable,
@@ -228,7 +226,7 @@ pub fn end_tag<'t>(
     comment(alloc, mode, bogus_comment_slice(rest))
 }
 
-/// A comment of a slice, and what follows it. The error is allocation failure alone.
+/// A comment of a slice, and what follows it. The error is want of memory alone.
 pub fn comment<'t>(
     alloc: Global,
     mode: &Mode,
@@ -244,7 +242,7 @@ pub fn comment<'t>(
     told_one(alloc, Token::CommentToken(text), mode.text, rest)
 }
 
-/// What a `<!` begins, from behind it on (WHATWG HTML, 13.2.5.42). The error is allocation failure alone.
+/// What a `<!` begins, from behind it on (WHATWG HTML, 13.2.5.42). The error is want of memory alone.
 pub fn declaration<'t>(
     alloc: Global,
     foreign: bool,
@@ -266,7 +264,7 @@ pub fn declaration<'t>(
     }
 }
 
-/// What a `<!doctype` begins, from behind it on (WHATWG HTML, 13.2.5.53). The error is allocation failure alone.
+/// What a `<!doctype` begins, from behind it on (WHATWG HTML, 13.2.5.53). The error is want of memory alone.
 pub fn doctype<'t>(alloc: Global, mode: &Mode, text: &'t str) -> Result<Lexeme<'t>, AllocError>
     ensures value { IfOk result (λ l. lexeme_of mode.now l ≡ doctype_lexeme mode.now (doctype_at (chars text.now))) }
     ensures utf8 { IfOk result HasRest }
@@ -288,7 +286,7 @@ fn section_text(foreign: bool, text: &str) -> Option<&str>
 }
 
 /// The text of a CDATA section, from behind its opening, and what follows it (WHATWG HTML, 13.2.5.69). The error is
-/// allocation failure alone.
+/// want of memory alone.
 pub fn section<'t>(alloc: Global, mode: &Mode, text: &'t str) -> Result<Lexeme<'t>, AllocError>
     ensures value { IfOk result (λ l. lexeme_of mode.now l
         ≡ cdata_lexeme mode.now (cut_or_all (cut (after (codes "]]>")) (chars text.now)) (chars text.now))) }
@@ -321,7 +319,7 @@ fn ordinary_token(alloc: Global, c: char) -> Result<Token, AllocError>
 }
 
 /// What stands first in the text of an element, at its first character (WHATWG HTML, 13.2.5.2 to 13.2.5.4). The error
-/// is allocation failure alone.
+/// is want of memory alone.
 pub fn raw<'t>(
     alloc: Global,
     table: &ReferenceTable,

@@ -16,7 +16,7 @@ use tagged_lines::{EqualCopy, TaggedLine};
 /// decorator answers is a function of what it holds: contracts see that, the text of each mark (`text`), the
 /// annotations that fit it (`gives`, of which all are seen alike), whether there is one (`marks`), what is held
 /// behind it (`after`), whether an annotation ends (`pops`), what a decorator for a part of the page holds (`sub`) and
-/// which lines stand behind the page (`closes`). Every error is allocation failure, and leaves a decorator as it was.
+/// which lines stand behind the page (`closes`). Every error is want of memory, and leaves a decorator as it was.
 pub trait TextDecorator {
     /// What is noted beside a text.
     type Annotation: EqualCopy + Default + Drop;
