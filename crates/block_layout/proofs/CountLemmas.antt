@@ -66,9 +66,9 @@ counted_parts seen (p ∷ parts) =
 pub counted_content : {T S : Type 0} (seen : T → S) (lines : BlockLines T)
     → nat_lt 0 (block_content lines) ≡ has_content (block_lines_of seen lines)
 counted_content seen lines =
-    both_counted (parts_content lines.parts.items) (content_count lines.lines.items)
-    (parts_lines seen lines.parts.items) (map (laid_line_of seen) lines.lines.items)
-    (counted_parts seen lines.parts.items) (counted_lines seen lines.lines.items)
+    both_counted (parts_content lines.parts.items) (content_count lines.lines)
+    (parts_lines seen lines.parts.items) (map (laid_line_of seen) lines.lines)
+    (counted_parts seen lines.parts.items) (counted_lines seen lines.lines)
 
 -- more, and less
 pub counted_more : (n k m old more new : ℕ) → n ≡ old → k ≡ more → m ≡ n + k → new ≡ old + more → m ≡ new

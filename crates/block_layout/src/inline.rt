@@ -45,8 +45,8 @@ impl<T: EqualCopy + Drop> BlockLayout<T> {
     }
 
     /// Adds text of one tag as `add_text` does under any tag, where a text runs that has no other mode, its white space
-    /// is not preserved, and no block is awaited. Tells whether it did; else nothing has changed. The error is want of
-    /// memory alone.
+    /// is not preserved, and no block is awaited. Tells whether it did; else nothing has changed. The error is
+    /// allocation failure alone.
     #[inline(always)]
     pub fn add_more(&mut self, mode: WhiteSpace, text: &str, tag: &T) -> Result<bool, AllocError>
         ensures more { IfOk result (λ more. IsTrue more → ((laid_of T.seen self.old).awaits ≡ false)

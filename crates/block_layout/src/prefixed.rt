@@ -84,6 +84,10 @@ impl<T: EqualCopy + Drop> BlockLayout<T> {
         if self.takes_all(measure, first, following) {
             return self.take_all(other, tag, lines);
         }
+        let mut lines = lines;
+        if let Some(line) = lines.take_only() {
+            return self.add_prefixed(other, measure, tag, first, line);
+        }
         let lines = lines.into_vec(*self.markers.allocator())?;
         self.add_each(other, measure, tag, first, following, lines)
     }
@@ -192,7 +196,7 @@ fn settled_texts<T: EqualCopy + Drop>(
     ensures { IfOk result (λ all. texts_of T.seen all
         ≡ map (settled other (T.seen tag.now)) (block_lines_of T.seen lines)) }
 {
-    let (parts, last) = lines.into_parts();
+    let (parts, last) = lines.into_parts()?;
     let mut all = settled_parts(alloc, other, tag, parts)?;
     push_settled(alloc, other, tag, &mut all, last)?;
     Ok(all)

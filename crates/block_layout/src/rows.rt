@@ -1,5 +1,5 @@
 //! Rows of cells in a block.
-ghost use Rattle.std.specs.Prelude.{◌≡◌, ◌⊎◌, false, None, Some, map, All, IfErr, IfOk, OnOk};
+ghost use Rattle.std.specs.Prelude.{◌≡◌, ◌⊎◌, false, None, Some, map, All, IfErr, IfOk, OnOk, if◌then◌else◌};
 ghost use Rattle.std.specs.Option.{option_map};
 ghost use Rattle.text_borders.specs.Borders.{border_of};
 ghost use Rattle.text_borders.specs.Lines.{IsJoinedText};
@@ -130,9 +130,7 @@ impl<T: EqualCopy + Drop> BlockLayout<T> {
         } = row;
         self.put_above(above)?;
         self.add_row_lines(measure, tag, lines)?;
-        if draws {
-            self.add_border(below)?;
-        }
+        self.put_below(draws, below)?;
         self.hanging = hanging;
         Ok(())
     }
@@ -146,6 +144,17 @@ impl<T: EqualCopy + Drop> BlockLayout<T> {
             Some(border) => self.add_border(border),
             None => Ok(()),
         }
+    }
+
+    fn put_below(&mut self, draws: bool, below: BorderHoriz<T>) -> Result<(), AllocError>
+        ensures laid { OnOk result (laid_of T.seen self.new
+            ≡ with_border (if draws then Some (border_of T.seen below) else None) (laid_of T.seen self.old)) }
+        ensures joined { HasJoinedTexts T.seen self.old → HasJoinedTexts T.seen self.new }
+    {
+        if draws {
+            return self.add_border(below);
+        }
+        Ok(())
     }
 
     fn add_row_lines(

@@ -1,6 +1,7 @@
 -- Lines of a block: those by themselves, and wide texts among them.
 use Rattle.std.specs.Prelude.{◌≡◌, ℕ, suc, ◌+◌, ◌<◌, Bool, true, false, List, [], ◌∷◌, ◌++◌, map, All, fold, length}
-use Rattle.std.specs.Prelude.{Option, None, Some, IfSome, IsNone, MatchOption, option_to_list, ◌==◌, not, if◌then◌else◌, refl}
+use Rattle.std.specs.Prelude.{Option, None, Some, IfSome, option_to_list, Result, Ok, Err, OnOk, is_ok, ◌==◌, not}
+use Rattle.std.specs.Prelude.{if◌then◌else◌, refl}
 use Rattle.std.proofs.Common.{sym, ap, subst, ◌∙◌, arith}
 use Rattle.std.proofs.lemmas.Bool.Decides.{nat_tests}
 use Rattle.std.proofs.lemmas.List.{append-nil, append_assoc, map-append}
@@ -39,6 +40,12 @@ pub content_more : {T : Type 0} (parts : List (Part T)) (old more new : List (La
 content_more parts old more new e =
     shifted (parts_content parts) (content_count new) (content_count old) (content_count more)
     (ap (λ ls. content_count ls) e ∙ content_append old more)
+
+pub content_on_ok : {T R E : Type 0} (parts : List (Part T)) (old more new : List (LaidLine T)) (r : Result R E)
+    → new ≡ (if is_ok r then old ++ more else old)
+    → OnOk r (parts_content parts + content_count new ≡ (parts_content parts + content_count old) + content_count more)
+content_on_ok parts old more new (Ok x) e = content_more parts old more new e
+content_on_ok parts old more new (Err x) e = tt
 
 pub content_popped : {T : Type 0} (parts : List (Part T)) (old new : List (LaidLine T)) (r : Option (LaidLine T))
     → old ≡ new ++ option_to_list r → IfSome r (λ l. parts_content parts + content_count old
@@ -120,19 +127,11 @@ parts_end seen (p ∷ parts) =
     ∙ ap (λ above. fold (λ _ l. border_line l.line) above (parts_lines seen parts)) (part_ends seen None p)
     ∙ parts_end seen parts
 
-empty : {A : Type 0} (xs : List A) (n : ℕ) → length xs ≡ n → n ≡ 0 → xs ≡ []
-empty [] n e f = refl
-empty (x ∷ xs) n e f = (let no : ⊥ = omega (arith, e, f) in elim no [ ])
-
-pub none_popped : {T S : Type 0} (seen : T → S) (parts : List (Part T)) (old new : List (LaidLine T))
-    (r : Option (LaidLine T)) (n m : ℕ) → old ≡ new ++ option_to_list r
-    → MatchOption r ((n ≡ 0) × (m ≡ 0)) (λ _. m + 1 ≡ n) → length new ≡ m → IsNone r
+pub none_popped : {T S : Type 0} (seen : T → S) (parts : List (Part T)) (old : List (LaidLine T)) → old ≡ []
     → last_border (parts_lines seen parts ++ map (laid_line_of seen) old) ≡ None
-none_popped seen parts old new None n m e cases long none =
-    ap (λ ls. last_border (parts_lines seen parts ++ map (laid_line_of seen) ls))
-    (e ∙ append-nil new ∙ empty new m long cases.1)
+none_popped seen parts old none =
+    ap (λ ls. last_border (parts_lines seen parts ++ map (laid_line_of seen) ls)) none
     ∙ ap (λ ls. last_border ls) (append-nil (parts_lines seen parts)) ∙ parts_end seen parts
-none_popped seen parts old new (Some l) n m e cases long none = cc
 
 some_first : {S : Type 0} (front ms : List (CellLine S)) → is_filled front ≡ true → is_filled (front ++ ms) ≡ true
 some_first [] ms e = cc
@@ -198,6 +197,10 @@ rest_taken seen parts rest new p q lines e f same left =
 pub joined_popped : {T S : Type 0} (seen : T → S) (old new : List (LaidLine T)) (r : Option (LaidLine T))
     → old ≡ new ++ option_to_list r → AreLinesJoined seen old → IfSome r (λ l. IsJoinedText seen l.line)
 joined_popped seen old new r e joined = (All-pop (λ l. IsJoinedText seen l.line) old new r e joined).1
+
+pub joined_left : {T S : Type 0} (seen : T → S) (old new : List (LaidLine T)) (r : Option (LaidLine T))
+    → old ≡ new ++ option_to_list r → AreLinesJoined seen old → AreLinesJoined seen new
+joined_left seen old new r e joined = (All-pop (λ l. IsJoinedText seen l.line) old new r e joined).0
 
 pub joined_part : {T S : Type 0} (seen : T → S) (parts new now : List (Part T)) (p : Part T) (old : List (LaidLine T))
     → new ≡ now ++ p ∷ [] → now ≡ parts → p.before.items ≡ old

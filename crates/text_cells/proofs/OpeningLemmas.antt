@@ -1,6 +1,7 @@
 -- Cells whose borders are taken out.
 use Rattle.std.proofs.Common.{◌≡◌, ℕ, zero, suc, ◌+◌, ◌-◌, Bool, true, false, List, [], ◌∷◌, ◌++◌, length, replicate}
-use Rattle.std.proofs.Common.{if◌then◌else◌, append_assoc, ap, ◌∙◌, refl, sym}
+use Rattle.std.proofs.Common.{if◌then◌else◌, append-nil, append_assoc, ap, arith, map, ◌∙◌, refl, sym}
+use Rattle.std.proofs.lemmas.List.{map_push}
 use Rattle.tagged_lines.specs.Tagged.{Item}
 use Rattle.text_borders.specs.Segments.{Segment, joins_above}
 use Rattle.text_borders.specs.Borders.{Border, horizontal, stretched, columns_where, with_segments, lines_above}
@@ -60,3 +61,20 @@ pub last_taken : {S : Type 0} (tag : S) (front : List (CellLine S)) (l : CellLin
     → close_line tag l.line front (with_lines (front ++ l ∷ []) c) ≡ close_last tag c.lines c
 last_taken tag front l c is =
     sym (ap (λ ls. close_last tag ls (with_lines ls c)) is ∙ closed_last tag front l (with_lines (front ++ l ∷ []) c))
+
+-- ---- one thing after another, each by what is seen of it
+
+pub next_seen : {T X Y Z : Type 0} (f : T → Z) (s : Y → Z) (r : X → Y) (old new : List T) (t : T) (its rest : List X)
+    (x : X) (all : List Z) → new ≡ old ++ t ∷ [] → its ≡ x ∷ rest → f t ≡ s (r x)
+    → map f old ++ map s (map r its) ≡ all → map f new ++ map s (map r rest) ≡ all
+next_seen {X = X} f s r old new t its rest x all pushed here is so_far =
+    let later = map s (map r rest) in
+    ap (λ l. l ++ later) (ap (map f) pushed ∙ map_push f old t)
+    ∙ (append_assoc (map f old) (f t ∷ []) later
+    ∙ (ap (λ y. map f old ++ y ∷ later) is
+    ∙ (ap (λ (l : List X). map f old ++ map s (map r l)) (sym here) ∙ so_far)))
+
+pub all_seen : {X Y Z : Type 0} (front : List Z) (s : Y → Z) (r : X → Y) (its : List X) (all : List Z)
+    → length its ≡ 0 → front ++ map s (map r its) ≡ all → front ≡ all
+all_seen front s r [] all none_left h = sym (append-nil front) ∙ h
+all_seen front s r (x ∷ its) all none_left h = absurd (omega (arith, none_left))

@@ -1,5 +1,5 @@
 -- The lines of a row, and the row.
-use Rattle.std.proofs.Common.{◌≡◌, ℕ, zero, suc, ◌+◌, ◌<◌, true, List, [], ◌∷◌, ◌++◌, map, take, drop, set, length}
+use Rattle.std.proofs.Common.{◌≡◌, ℕ, zero, suc, ◌+◌, ◌<◌, ◌≤◌, true, List, [], ◌∷◌, ◌++◌, map, take, drop, set, length}
 use Rattle.std.proofs.Common.{get_or, if◌then◌else◌, append_assoc, append-nil, ap, ◌∙◌, refl, sym, arith}
 use Rattle.std.specs.Prelude.{nat_lt}
 use Rattle.std.proofs.lemmas.Bool.Decides.{nat_tests}
@@ -126,3 +126,29 @@ lines_more sign tag cells now i lines l so_far taken is =
     (is ∙ ap (row_items sign tag 0) taken ∙ items_after sign tag i cells)
     ∙ ap (λ k. row_lines sign tag cells 0 i ++ row_items sign tag k cells ∷ []) first
     ∙ one_line_more sign tag cells 0 i
+
+-- ---- the end of the cells
+
+none_behind : {X : Type 0} (xs : List X) (i : ℕ) → length xs ≤ i → drop i xs ≡ []
+none_behind [] zero h = refl
+none_behind [] (suc i) h = refl
+none_behind (x ∷ xs) zero h = absurd (omega (arith, h))
+none_behind (x ∷ xs) (suc i) h = none_behind xs i (omega (arith, h))
+
+all_before : {X : Type 0} (xs : List X) (i : ℕ) → length xs ≤ i → take i xs ≡ xs
+all_before [] zero h = refl
+all_before [] (suc i) h = refl
+all_before (x ∷ xs) zero h = absurd (omega (arith, h))
+all_before (x ∷ xs) (suc i) h = ap (λ l. x ∷ l) (all_before xs i (omega (arith, h)))
+
+pub items_all : {S : Type 0} (sign : ℕ) (tag : S) (cells : List (OpenCell S)) (i : ℕ) (line : List (Item S))
+    → length cells ≤ i → line ++ row_items sign tag 0 (drop i cells) ≡ row_items sign tag 0 cells
+    → line ≡ row_items sign tag 0 cells
+items_all sign tag cells i line h so_far =
+    sym (append-nil line) ∙ sym (ap (λ cs. line ++ row_items sign tag 0 cs) (none_behind cells i h)) ∙ so_far
+
+pub cells_all : {S : Type 0} (cells now : List (OpenCell S)) (i : ℕ) → length cells ≤ i
+    → now ≡ map (after 1) (take i cells) ++ drop i cells → now ≡ map (after 1) cells
+cells_all cells now i h so_far =
+    so_far ∙ ap (λ cs. map (after 1) (take i cells) ++ cs) (none_behind cells i h)
+    ∙ append-nil (map (after 1) (take i cells)) ∙ ap (map (after 1)) (all_before cells i h)

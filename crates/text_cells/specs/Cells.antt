@@ -28,7 +28,7 @@ parts_lines seen [] = []
 parts_lines seen (p ∷ parts) = part_lines seen p ++ parts_lines seen parts
 
 abbrev pub block_lines_of : {T S : Type 0} → (T → S) → BlockLines T → List (CellLine S)
-block_lines_of seen b = parts_lines seen b.parts.items ++ map (laid_line_of seen) b.lines.items
+block_lines_of seen b = parts_lines seen b.parts.items ++ map (laid_line_of seen) b.lines
 
 -- how many lines have content
 abbrev pub texts_content : {T : Type 0} → WideTexts T → ℕ
@@ -39,7 +39,7 @@ parts_content [] = 0
 parts_content (p ∷ parts) = content_count p.before.items + texts_content p.texts + parts_content parts
 
 abbrev pub block_content : {T : Type 0} → BlockLines T → ℕ
-block_content b = parts_content b.parts.items + content_count b.lines.items
+block_content b = parts_content b.parts.items + content_count b.lines
 
 -- No text of the lines is empty, and none stands next to one with an equal tag. A border is joined where it is made
 -- text, and wide texts where they are taken one by one.
@@ -48,7 +48,7 @@ AreLinesJoined seen lines = All (λ l. IsJoinedText seen l.line) lines
 
 abbrev pub AreBlockLinesJoined : {T S : Type 0} → (T → S) → BlockLines T → Type 0
 AreBlockLinesJoined seen b =
-    All (λ p. AreLinesJoined seen p.before.items) b.parts.items × AreLinesJoined seen b.lines.items
+    All (λ p. AreLinesJoined seen p.before.items) b.parts.items × AreLinesJoined seen b.lines
 
 abbrev pub cell_of : {T S : Type 0} → (T → S) → LineSet T → Cell S
 cell_of seen c = record { width = c.width; rows = c.rows; lines = block_lines_of seen c.lines }

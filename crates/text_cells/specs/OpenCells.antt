@@ -25,7 +25,7 @@ abbrev pub open_cell_of : {T S : Type 0} → (T → S) → OpenCell T → SeenCe
 open_cell_of seen c = record {
   width = c.width;
   rows = c.rows;
-  lines = map (laid_line_of seen) c.lines.items;
+  lines = map (laid_line_of seen) c.lines;
   filler = filling_of seen c.width c.space_tag c.filler;
   asks_above = asked joins_below (option_map (border_of seen) c.top);
   asks_below = asked joins_above (option_map (border_of seen) c.bottom);

@@ -14,9 +14,9 @@ use crate::cell::{LineSet, Row, RowLines};
 use crate::columns::columns_of;
 use crate::joining::{border_below, joined_above};
 use crate::laid_line::LaidLine;
+use crate::line_vec::LineVec;
 use crate::opening::OpenCell;
 use std::alloc::{AllocError, Global};
-use std::collections::VecDeque;
 use tagged_lines::EqualCopy;
 use text_borders::{BorderHoriz, RenderLine};
 
@@ -152,7 +152,7 @@ fn bare_cell<T: EqualCopy + Drop>(
     row.push(OpenCell {
         width,
         rows,
-        lines: VecDeque::new(alloc),
+        lines: LineVec::new(alloc).into_queue(),
         filler: None,
         space_tag: tag.copy(alloc)?,
         top,

@@ -9,6 +9,8 @@ ghost use Rattle.text_cells.specs.Ends.{first_border, without_first};
 ghost use Rattle.text_cells.specs.Cells.{texts_of, part_lines, AreLinesJoined};
 
 use crate::laid_line::{LaidLine, LaidText};
+use crate::line_queue::LineQueue;
+use crate::line_vec::LineVec;
 use crate::part::Part;
 use crate::wide_texts::WideTexts;
 use std::alloc::{AllocError, Global};
@@ -22,7 +24,7 @@ use text_pieces::has_text;
 pub struct BlockLines<T> {
     parts: Vec<Part<T>>,
     /// The lines after the parts.
-    lines: Vec<LaidLine<T>>,
+    lines: LineVec<T>,
 }
 
 impl<T: Drop> Drop for BlockLines<T> {
@@ -48,7 +50,7 @@ impl<T: EqualCopy + Drop> BlockLines<T> {
     {
         BlockLines {
             parts: Vec::new(alloc),
-            lines: Vec::new(alloc),
+            lines: LineVec::new(alloc),
         }
     }
 
@@ -57,7 +59,18 @@ impl<T: EqualCopy + Drop> BlockLines<T> {
         ensures { block_lines_of T.seen result ≡ map (laid_line_of T.seen) lines.items }
     {
         let parts = Vec::new(*lines.allocator());
+        let lines = LineVec::of_lines(lines);
         BlockLines { parts, lines }
+    }
+
+    /// The lines of a queue.
+    pub(crate) fn of_queue(alloc: Global, lines: LineQueue<T>) -> BlockLines<T>
+        ensures { block_lines_of T.seen result ≡ map (laid_line_of T.seen) lines }
+    {
+        BlockLines {
+            parts: Vec::new(alloc),
+            lines: LineVec::of_queue(lines),
+        }
     }
 
     /// Whether there is none.
@@ -76,6 +89,7 @@ impl<T: EqualCopy + Drop> BlockLines<T> {
     }
 
     /// Adds a line at the end. The error is allocation failure.
+    #[inline(always)]
     pub fn push(&mut self, line: LaidLine<T>) -> Result<(), AllocError>
         ensures lines { OnOk result (block_lines_of T.seen self.new
             ≡ block_lines_of T.seen self.old ++ laid_line_of T.seen line ∷ []) }
@@ -84,8 +98,7 @@ impl<T: EqualCopy + Drop> BlockLines<T> {
         ensures joined { AreBlockLinesJoined T.seen self.old → IsJoinedText T.seen line.line
             → AreBlockLinesJoined T.seen self.new }
     {
-        self.lines.push(line)?;
-        Ok(())
+        self.lines.push(line)
     }
 
     /// Adds lines at the end. The error is allocation failure.
@@ -97,9 +110,7 @@ impl<T: EqualCopy + Drop> BlockLines<T> {
         ensures joined { AreBlockLinesJoined T.seen self.old → AreLinesJoined T.seen lines.items
             → AreBlockLinesJoined T.seen self.new }
     {
-        let mut lines = lines;
-        self.lines.append(&mut lines)?;
-        Ok(())
+        self.lines.append(lines)
     }
 
     /// Adds texts at the end. The error is allocation failure.
@@ -114,7 +125,7 @@ impl<T: EqualCopy + Drop> BlockLines<T> {
             return Ok(());
         }
         self.parts.reserve(1)?;
-        let before = mem::replace(&mut self.lines, Vec::new(*self.parts.allocator()));
+        let before = self.lines.take_vec(*self.parts.allocator())?;
         self.parts.push_reserved(part(before, texts));
         Ok(())
     }
@@ -134,6 +145,17 @@ impl<T: EqualCopy + Drop> BlockLines<T> {
         self.lines.pop()
     }
 
+    /// Takes the only line off, where it stands by itself: one that was the first to be pushed.
+    pub fn take_only(&mut self) -> Option<LaidLine<T>>
+        ensures only { IfSome result (λ l. block_lines_of T.seen self.old ≡ laid_line_of T.seen l ∷ []) }
+        ensures same { IsNone result → block_lines_of T.seen self.new ≡ block_lines_of T.seen self.old }
+    {
+        if !self.parts.is_empty() {
+            return None;
+        }
+        self.lines.take_only()
+    }
+
     /// Takes the first line off, where that is a border. The error is allocation failure.
     pub(crate) fn take_first_border(&mut self) -> Result<Option<BorderHoriz<T>>, AllocError>
         ensures first { IfOk result (λ top. option_map (border_of T.seen) top
@@ -141,29 +163,28 @@ impl<T: EqualCopy + Drop> BlockLines<T> {
         ensures rest { OnOk result (block_lines_of T.seen self.new
             ≡ without_first (block_lines_of T.seen self.old)) }
     {
-        let alloc = *self.lines.allocator();
+        let alloc = *self.parts.allocator();
         let parts = mem::replace(&mut self.parts, Vec::new(alloc));
         let mut parts = VecDeque::from_vec(parts);
         let Some(first) = parts.pop_front() else {
             return self.first_of_lines();
         };
         let Part { before, texts } = first;
-        let (border, before) = border_first(before)?;
-        parts.push_front(part(before, texts))?;
+        let (border, before) = border_first(LineVec::of_lines(before))?;
+        parts.push_front(part(before.into_vec()?, texts))?;
         self.parts = parts.into_vec();
         Ok(border)
     }
 
     fn first_of_lines(&mut self) -> Result<Option<BorderHoriz<T>>, AllocError>
         ensures first { IfOk result (λ top. option_map (border_of T.seen) top
-            ≡ first_border (map (laid_line_of T.seen) self.old.lines.items)) }
-        ensures rest { OnOk result (map (laid_line_of T.seen) self.new.lines.items
-            ≡ without_first (map (laid_line_of T.seen) self.old.lines.items)) }
+            ≡ first_border (map (laid_line_of T.seen) self.old.lines)) }
+        ensures rest { OnOk result (map (laid_line_of T.seen) self.new.lines
+            ≡ without_first (map (laid_line_of T.seen) self.old.lines)) }
         ensures same { self.new.parts ≡ self.old.parts }
     {
-        let alloc = *self.lines.allocator();
-        let lines = mem::replace(&mut self.lines, Vec::new(alloc));
-        let (border, lines) = border_first(lines)?;
+        let none = LineVec::new(*self.parts.allocator());
+        let (border, lines) = border_first(mem::replace(&mut self.lines, none))?;
         self.lines = lines;
         Ok(border)
     }
@@ -174,16 +195,27 @@ impl<T: EqualCopy + Drop> BlockLines<T> {
         ensures joined { AreBlockLinesJoined T.seen self → IfOk result (λ all. AreLinesJoined T.seen all.items) }
     {
         let BlockLines { parts, lines } = self;
+        let mut last = lines.into_vec()?;
         if parts.is_empty() {
-            return Ok(lines);
+            return Ok(last);
         }
         let mut all = Vec::new(alloc);
         for part in parts {
             push_part(alloc, &mut all, part)?;
         }
-        let mut last = lines;
         all.append(&mut last)?;
         Ok(all)
+    }
+
+    /// The lines one by one, as `into_vec`.
+    pub(crate) fn into_queue(self, alloc: Global) -> Result<LineQueue<T>, AllocError>
+        ensures { IfOk result (λ all. map (laid_line_of T.seen) all ≡ block_lines_of T.seen self) }
+    {
+        if !self.parts.is_empty() {
+            return Ok(LineVec::of_lines(self.into_vec(alloc)?).into_queue());
+        }
+        let BlockLines { parts: _, lines } = self;
+        Ok(lines.into_queue())
     }
 
     /// The lines as those of a row of one cell. The error is allocation failure.
@@ -203,17 +235,17 @@ impl<T: EqualCopy + Drop> BlockLines<T> {
             push_lines(alloc, width, tag, &mut all, before)?;
             all = all.joined(row_texts(alloc, width, tag, texts)?)?;
         }
-        push_lines(alloc, width, tag, &mut all, lines)?;
+        push_lines(alloc, width, tag, &mut all, lines.into_vec()?)?;
         Ok(all)
     }
 
-    /// The parts, and the lines after them.
-    pub fn into_parts(self) -> (Vec<Part<T>>, Vec<LaidLine<T>>)
-        ensures { parts_lines T.seen result.0.items ++ map (laid_line_of T.seen) result.1.items
-            ≡ block_lines_of T.seen self }
+    /// The parts, and the lines after them. The error is allocation failure.
+    pub fn into_parts(self) -> Result<(Vec<Part<T>>, Vec<LaidLine<T>>), AllocError>
+        ensures { IfOk result (λ r. parts_lines T.seen r.0.items ++ map (laid_line_of T.seen) r.1.items
+            ≡ block_lines_of T.seen self) }
     {
         let BlockLines { parts, lines } = self;
-        (parts, lines)
+        Ok((parts, lines.into_vec()?))
     }
 }
 
@@ -231,23 +263,23 @@ fn part<T>(before: Vec<LaidLine<T>>, texts: WideTexts<T>) -> Part<T>
 
 /// Takes the first line off, where that is a border. The error is allocation failure.
 fn border_first<T: EqualCopy + Drop>(
-    lines: Vec<LaidLine<T>>,
-) -> Result<(Option<BorderHoriz<T>>, Vec<LaidLine<T>>), AllocError>
+    lines: LineVec<T>,
+) -> Result<(Option<BorderHoriz<T>>, LineVec<T>), AllocError>
     ensures first { IfOk result (λ r. option_map (border_of T.seen) r.0
-        ≡ first_border (map (laid_line_of T.seen) lines.items)) }
-    ensures rest { IfOk result (λ r. map (laid_line_of T.seen) r.1.items
-        ≡ without_first (map (laid_line_of T.seen) lines.items)) }
+        ≡ first_border (map (laid_line_of T.seen) lines)) }
+    ensures rest { IfOk result (λ r. map (laid_line_of T.seen) r.1
+        ≡ without_first (map (laid_line_of T.seen) lines)) }
 {
-    let mut queue = VecDeque::from_vec(lines);
+    let mut queue = lines.into_queue();
     let Some(LaidLine { line, content }) = queue.pop_front() else {
-        return Ok((None, queue.into_vec()));
+        return Ok((None, LineVec::of_queue(queue)));
     };
     match line {
-        RenderLine::Line(border) => Ok((Some(border), queue.into_vec())),
+        RenderLine::Line(border) => Ok((Some(border), LineVec::of_queue(queue))),
         RenderLine::Text(text) => {
             let line = RenderLine::Text(text);
             queue.push_front(LaidLine { line, content })?;
-            Ok((None, queue.into_vec()))
+            Ok((None, LineVec::of_queue(queue)))
         }
     }
 }

@@ -126,13 +126,13 @@ impl<T: EqualCopy + Drop> OpenCell<T> {
     }
 
     /// The cell in the next row, with the lines that are left.
-    pub(crate) fn into_next(self) -> LineSet<T>
+    pub(crate) fn into_next(self, alloc: Global) -> LineSet<T>
         ensures { cell_of T.seen result ≡ next_cell (open_cell_of T.seen self) }
     {
         LineSet {
             width: self.width,
             rows: self.rows.saturating_sub(1),
-            lines: BlockLines::of_lines(self.lines.into_vec()),
+            lines: BlockLines::of_queue(alloc, self.lines),
         }
     }
 }

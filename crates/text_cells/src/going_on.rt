@@ -57,7 +57,7 @@ fn go_on<T: EqualCopy + Drop>(
     below.punch(at, going.take_hole(alloc, tag)?)?;
     hanging.push(HangingCell {
         place: at,
-        cell: going.into_next(),
+        cell: going.into_next(alloc),
     })?;
     Ok(())
 }

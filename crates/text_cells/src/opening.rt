@@ -6,8 +6,8 @@ ghost use Rattle.text_cells.specs.OpenCells.{open_cell_of};
 
 use crate::cell::LineSet;
 use crate::laid_line::LaidLine;
+use crate::line_queue::LineQueue;
 use std::alloc::{AllocError, Global};
-use std::collections::VecDeque;
 use tagged_lines::{EqualCopy, TaggedLine};
 use text_borders::{BorderHoriz, RenderLine};
 
@@ -19,7 +19,7 @@ pub(crate) struct OpenCell<T> {
     /// The rows that the cell still takes, this one among them.
     pub(crate) rows: usize,
     /// The lines that the row has not taken yet.
-    pub(crate) lines: VecDeque<LaidLine<T>>,
+    pub(crate) lines: LineQueue<T>,
     /// What stands in a line of the row for which the cell has none; where there is nothing, spaces with the next tag.
     pub(crate) filler: Option<TaggedLine<T>>,
     pub(crate) space_tag: T,
@@ -75,11 +75,11 @@ fn whole<T: EqualCopy + Drop>(
 ) -> Result<OpenCell<T>, AllocError>
     ensures { IfOk result (λ c. open_cell_of T.seen c ≡ whole (T.seen tag) (cell_of T.seen cell)) }
 {
-    let lines = cell.lines.into_vec(alloc)?;
+    let lines = cell.lines.into_queue(alloc)?;
     Ok(OpenCell {
         width: cell.width,
         rows: cell.rows,
-        lines: VecDeque::from_vec(lines),
+        lines,
         filler: None,
         space_tag: tag,
         top: None,
@@ -123,11 +123,8 @@ impl<T: EqualCopy + Drop> OpenCell<T> {
                 Ok(())
             }
             RenderLine::Text(text) => {
-                self.lines.push_front(LaidLine {
-                    line: RenderLine::Text(text),
-                    content,
-                })?;
-                Ok(())
+                let line = RenderLine::Text(text);
+                self.lines.push_front(LaidLine { line, content })
             }
         }
     }
@@ -154,11 +151,8 @@ impl<T: EqualCopy + Drop> OpenCell<T> {
         match line {
             RenderLine::Line(bottom) => self.close_with(bottom, tag),
             RenderLine::Text(text) => {
-                self.lines.push_back(LaidLine {
-                    line: RenderLine::Text(text),
-                    content,
-                })?;
-                Ok(())
+                let line = RenderLine::Text(text);
+                self.lines.push_back(LaidLine { line, content })
             }
         }
     }

@@ -1,4 +1,3 @@
-use Rattle.std.specs.Prelude.{map}
 use Rattle.std.specs.Option.{option_map}
 use Rattle.std.proofs.Common.{ap, ◌∙◌}
 use Rattle.std.proofs.lemmas.Result.{IfOk-weaker}
@@ -11,3 +10,9 @@ returns-then-is_alone-clause-row g c =
     let seen = g.T.EqualCopy.seen in
     IfOk-weaker c.lay_alone.result _ _ (λ row h. h c.args.draws ∙ ap (λ cs. seated_across c.args.draws c.args.collapse
     (seen c.args.tag.now) (option_map (border_of seen) c.args.above) cs) c.in_ok-seated.ensures) c.lay_alone.ensures.row
+
+pub returns-clause-row : goal.returns-clause-row
+returns-clause-row g c =
+    let seen = g.T.EqualCopy.seen in
+    IfOk-weaker c.lay_each.result _ _ (λ row h. h ∙ ap (λ cs. seated_across c.args.draws c.args.collapse
+    (seen c.args.tag.now) (option_map (border_of seen) c.args.above) cs) c.in_ok-seated.ensures) c.lay_each.ensures.row

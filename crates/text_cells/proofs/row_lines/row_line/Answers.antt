@@ -3,7 +3,7 @@ use Rattle.std.proofs.lemmas.List.{length-drop, length-map}
 use Rattle.tagged_lines.specs.Tagged.{line_items}
 use Rattle.text_borders.specs.Across.{cell_items}
 use Rattle.text_cells.specs.OpenCells.{open_cell_of, after}
-use Rattle.text_cells.proofs.RowLemmas.{more_text, changed_more, still_there}
+use Rattle.text_cells.proofs.RowLemmas.{cells_all, changed_more, items_all, more_text, still_there}
 use Rattle.text_cells.proofs.row_lines.row_line.Goals as goal
 
 pub loop-cell-preserved : goal.loop-cell-preserved
@@ -41,3 +41,19 @@ loop-cell-preserved g c =
           (c.move_line.ensures.rest ∙ ap (λ x. after 1 (open_cell_of seen x)) (sym c.cell-item.is));
       joined = c.push_sign.ensures.joined (c.move_line.ensures.joined c.loop-cell.invariant.joined);
     }
+
+pub returns-clause-items : goal.returns-clause-items
+returns-clause-items g c =
+    let seen = g.T.EqualCopy.seen in
+    let start = map (open_cell_of seen) c.args.cells.now in
+    items_all c.args.sign (seen c.args.tag.now) start c.loop-cell.cell-index (line_items seen c.loop-cell.line)
+    (omega (arith, c.loop-cell-test.false, c.loop-cell.auto.cells, length-map c.args.cells.now (open_cell_of seen)))
+    c.loop-cell.invariant.items
+
+pub returns-clause-rest : goal.returns-clause-rest
+returns-clause-rest g c =
+    let seen = g.T.EqualCopy.seen in
+    let start = map (open_cell_of seen) c.args.cells.now in
+    cells_all start (map (open_cell_of seen) c.loop-cell.cells) c.loop-cell.cell-index
+    (omega (arith, c.loop-cell-test.false, c.loop-cell.auto.cells, length-map c.args.cells.now (open_cell_of seen)))
+    c.loop-cell.invariant.cells

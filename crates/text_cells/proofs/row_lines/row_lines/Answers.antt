@@ -1,9 +1,10 @@
-use Rattle.std.proofs.Common.{map, ap, sym, subst, ◌∙◌}
+use Rattle.std.proofs.Common.{map, ap, sym, subst, ◌∙◌, arith}
 use Rattle.std.specs.Prelude.{All}
 use Rattle.std.proofs.lemmas.List.Elements.{All-nil, All-push}
 use Rattle.std.proofs.lemmas.List.{map_push}
 use Rattle.tagged_lines.specs.Tagged.{line_items, IsJoined}
-use Rattle.text_cells.specs.OpenCells.{open_cell_of}
+use Rattle.text_borders.specs.Across.{row_lines}
+use Rattle.text_cells.specs.OpenCells.{after, open_cell_of}
 use Rattle.text_cells.proofs.RowLemmas.{lines_more, after_more, after_none}
 use Rattle.text_cells.proofs.row_lines.row_lines.Goals as goal
 
@@ -32,3 +33,17 @@ loop-line-preserved g c =
           c.loop-line.lines.items c.in_ok-row_line.field-0 c.loop-line.invariant.joined
           c.in_ok-row_line.ensures.joined);
     }
+
+pub returns-clause-lines : goal.returns-clause-lines
+returns-clause-lines g c =
+    let seen = g.T.EqualCopy.seen in
+    let start = map (open_cell_of seen) c.args.cells.now in
+    c.loop-line.invariant.lines
+    ∙ ap (row_lines c.args.sign (seen c.args.tag.now) start 0) (omega (arith, c.loop-line-test.false, c.loop-line.auto._line-end))
+
+pub returns-clause-rest : goal.returns-clause-rest
+returns-clause-rest g c =
+    let seen = g.T.EqualCopy.seen in
+    let start = map (open_cell_of seen) c.args.cells.now in
+    c.loop-line.invariant.rest
+    ∙ ap (λ n. map (after n) start) (omega (arith, c.loop-line-test.false, c.loop-line.auto._line-end))

@@ -22,3 +22,11 @@ returns-clause-laid g c =
     c.in_ok-row.ensures.row
     (c.take_hanging-hanging.ensures.without ∙ ap (λ x. without_hanging x) c.in_ok-above.ensures.without))
     (c.put_row.ensures.laid c.in_ok-row.ensures.lines)
+
+pub returns-clause-joined : goal.returns-clause-joined
+returns-clause-joined g c = λ joined. c.put_row.ensures.joined
+    (c.take_hanging-hanging.ensures.joined (c.take_border.ensures.joined joined)) c.in_ok-row.ensures.lines
+
+pub returns-in_err-row-clause-joined : goal.returns-in_err-row-clause-joined
+returns-in_err-row-clause-joined g c = λ joined.
+    c.take_hanging-hanging.ensures.joined (c.take_border.ensures.joined joined)

@@ -1,7 +1,8 @@
 use Rattle.std.specs.Prelude.{map}
+use Rattle.std.proofs.Common.{subst, sym}
 use Rattle.std.specs.Vec.Iter.{into_iter_items}
 use Rattle.text_cells.specs.Texts.{laid_line_of}
-use Rattle.text_cells.specs.Cells.{parts_lines}
+use Rattle.text_cells.specs.Cells.{parts_lines, AreLinesJoined}
 use Rattle.text_cells.proofs.BlockLemmas.{part_more, joined_append, parts_joined}
 use Rattle.text_cells.proofs.block_lines.BlockLines.into_vec.Goals as goal
 
@@ -20,5 +21,7 @@ loop-part-preserved g c =
 
 pub returns-clause-joined : goal.returns-clause-joined
 returns-clause-joined g c = λ all.
-    joined_append g.T.EqualCopy.seen c.loop-part.all.items c.args.self.lines.items c.append.new.self.items
-    c.in_ok-append.ensures.items (c.loop-part.invariant.joined all.0).0 all.1
+    let seen = g.T.EqualCopy.seen in
+    joined_append seen c.loop-part.all.items c.in_ok-last.last.items c.append.new.self.items
+    c.in_ok-append.ensures.items (c.loop-part.invariant.joined all.0).0
+    (subst (AreLinesJoined seen) (sym c.in_ok-last.ensures) all.1)

@@ -1,5 +1,5 @@
-use Rattle.std.proofs.Common.{◌≡◌, length, ◌<◌, arith, ap, ◌∙◌}
-use Rattle.std.specs.Prelude.{◌==◌, map}
+use Rattle.std.proofs.Common.{◌≡◌, length, ◌<◌, arith}
+use Rattle.std.specs.Prelude.{map}
 use Rattle.text_cells.specs.Texts.{laid_line_of}
 use Rattle.std.proofs.lemmas.Bool.Decides.{nat_tests}
 use Rattle.text_cells.proofs.BlockLemmas.{none_is, some_are}
@@ -10,8 +10,7 @@ returns g c =
     let self = c.args.self.now in
     let none : length self.parts.items ≡ 0 =
     grind (arith, nat_tests, c.is_empty.ensures, c.if-not-is_empty.false, self.parts.ok.0) in
-    none_is g.T.EqualCopy.seen self.parts.items self.lines.items c.is_empty-2.result none
-    (c.is_empty-2.ensures ∙ ap (λ n. n == 0) self.lines.ok.0)
+    none_is g.T.EqualCopy.seen self.parts.items self.lines c.is_empty-2.result none c.is_empty-2.ensures
 
 pub returns-then-not-is_empty : goal.returns-then-not-is_empty
 returns-then-not-is_empty g c =
@@ -19,4 +18,4 @@ returns-then-not-is_empty g c =
     let seen = g.T.EqualCopy.seen in
     let some : 0 < length self.parts.items =
     grind (arith, nat_tests, c.is_empty.ensures, c.if-not-is_empty.true, self.parts.ok.0) in
-    some_are seen self.parts.items (map (laid_line_of seen) self.lines.items) some
+    some_are seen self.parts.items (map (laid_line_of seen) self.lines) some

@@ -1,7 +1,7 @@
-use Rattle.text_cells.proofs.BlockLemmas.{content_more}
+use Rattle.text_cells.proofs.BlockLemmas.{content_on_ok}
 use Rattle.text_cells.proofs.block_lines.BlockLines.push_all.Goals as goal
 
 pub returns-clause-count : goal.returns-clause-count
 returns-clause-count g c =
-    content_more c.args.self.now.parts.items c.args.self.now.lines.items c.args.lines.items c.append.new.self.items
-    c.in_ok-append.ensures.items
+    content_on_ok c.args.self.now.parts.items c.args.self.now.lines c.args.lines.items
+    c.append.new.self c.append.result c.append.ensures

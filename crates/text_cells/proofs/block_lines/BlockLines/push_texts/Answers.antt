@@ -6,25 +6,24 @@ pub returns-clause-lines : goal.returns-clause-lines
 returns-clause-lines g c =
     let self = c.args.self.now in
     texts_added g.T.EqualCopy.seen self.parts.items c.push_reserved.new.self.items c.reserve.new.self.items c.part.result
-    self.lines.items c.replace-before.new.dest.items c.args.texts c.push_reserved.ensures.items
-    c.in_ok-reserve.ensures.items (ap (λ v. v.items) (c.part.ensures.before ∙ c.replace-before.ensures.value))
-    c.part.ensures.texts (ap (λ v. v.items) c.replace-before.ensures.after ∙ c.new.ensures.items)
+    self.lines c.take_vec.new.self c.args.texts c.push_reserved.ensures.items
+    c.in_ok-reserve.ensures.items (ap (λ v. v.items) c.part.ensures.before ∙ c.in_ok-before.ensures.lines)
+    c.part.ensures.texts c.in_ok-before.ensures.rest
 
 pub returns-clause-count : goal.returns-clause-count
 returns-clause-count g c =
     let self = c.args.self.now in
-    content_texts self.parts.items c.push_reserved.new.self.items c.reserve.new.self.items c.part.result self.lines.items
-    c.replace-before.new.dest.items c.args.texts c.push_reserved.ensures.items c.in_ok-reserve.ensures.items
-    (ap (λ v. v.items) (c.part.ensures.before ∙ c.replace-before.ensures.value)) c.part.ensures.texts
-    (ap (λ v. v.items) c.replace-before.ensures.after ∙ c.new.ensures.items)
+    content_texts self.parts.items c.push_reserved.new.self.items c.reserve.new.self.items c.part.result
+    self.lines c.take_vec.new.self c.args.texts c.push_reserved.ensures.items
+    c.in_ok-reserve.ensures.items (ap (λ v. v.items) c.part.ensures.before ∙ c.in_ok-before.ensures.lines)
+    c.part.ensures.texts c.in_ok-before.ensures.rest
 
 pub returns-clause-joined : goal.returns-clause-joined
 returns-clause-joined g c = λ joined.
     let self = c.args.self.now in
     let seen = g.T.EqualCopy.seen in (
       joined_part seen self.parts.items c.push_reserved.new.self.items c.reserve.new.self.items c.part.result
-          self.lines.items c.push_reserved.ensures.items c.in_ok-reserve.ensures.items
-          (ap (λ v. v.items) (c.part.ensures.before ∙ c.replace-before.ensures.value)) joined.0 joined.1,
-      joined_none seen c.replace-before.new.dest.items
-          (ap (λ v. v.items) c.replace-before.ensures.after ∙ c.new.ensures.items),
+          self.lines c.push_reserved.ensures.items c.in_ok-reserve.ensures.items
+          (ap (λ v. v.items) c.part.ensures.before ∙ c.in_ok-before.ensures.lines) joined.0 joined.1,
+      joined_none seen c.take_vec.new.self c.in_ok-before.ensures.rest,
     )
