@@ -66,10 +66,10 @@ module _ (tree : HasItsTree) (values : HasItsValues) (laid : IsLaid) (c : PageSe
 
   answer_is : (width : ℕ) (answer : PageAnswer (Unit {0})) → Answered width (page_values o blocks) answer →
       answer ≡ article_answer c width blocks
-  answer_is width (lines shown) a = ap answer_of (sym ((laid_at width a.1.0).lines shown a.1.1))
+  answer_is width (lines shown) a = ap answer_of (sym (sym (laid_at width a.1.0) ∙ a.1.1))
   answer_is zero too_narrow a = refl
   answer_is (suc n) too_narrow a = ⊎_elim (λ e. cc)
-      (λ narrow. ap answer_of (sym ((laid_at (suc n) (omega arith)).narrow narrow))) a.1
+      (λ narrow. ap answer_of (sym (sym (laid_at (suc n) (omega arith)) ∙ narrow))) a.1
   answer_is width fail a = cc
 
   pub as_itself : (width : ℕ) (answer : PageAnswer (Unit {0})) →

@@ -44,9 +44,9 @@ pub trait LayArticle {
     /// Paragraphs alone are never refused where a line of text may have two columns (`paragraphs`).
     ///
     /// What is said between two breaks shows each visible character once, in order (`shown`), on no more lines than any
-    /// legal layout of it (`fewest`), in as many columns as are left for it behind the prefixes of the blocks around it.
-    /// Where another article has one text in place of another, and each of the two has a visible character, all lines
-    /// but those of that paragraph are the same, those of targets too (`exchange`).
+    /// legal layout of it (`fewest`), in as many columns as are left for it after the prefixes of the blocks around
+    /// it. Where another article has one text in place of another, and each of the two has a visible character, all
+    /// lines but those of that paragraph are the same, those of targets too (`exchange`).
     fn layout(
         &self,
         alloc: Global,

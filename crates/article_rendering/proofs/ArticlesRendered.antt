@@ -1,6 +1,6 @@
 -- What an article's values are rendered as is what its layout's calls give.
 use Rattle.std.proofs.Common.{◌≡◌, ℕ, suc, ◌<◌, Bool, List, [], ◌∷◌, map, fold, Option, None, Some, if◌then◌else◌}
-use Rattle.std.proofs.Common.{⊎_elim, refl, sym, ap, ◌∙◌, lt-ltb}
+use Rattle.std.proofs.Common.{refl, sym, ap, ◌∙◌, lt-ltb}
 use Rattle.std.specs.Option.{option_and_then, option_map}
 use Rattle.article_layout.specs.ArticleValues.{page_values}
 use Rattle.article_layout.specs.BlockCalls.{add_notes, noted as noted_targets, run_blocks, run_notes}
@@ -11,17 +11,15 @@ use Rattle.article_values.specs.Articles.{Blocks}
 use Rattle.article_walk.specs.Pages.{page_of, parts_at, renderer_at}
 use Rattle.block_layout.specs.Laid.{Laid, finished, flush, nothing_laid, start_block}
 use Rattle.block_renderer.specs.Footnotes.{add_footnote, add_footnotes}
-use Rattle.html_render_tree.specs.PageLines.{IsClosed, IsNoted, IsRendered, IsTooNarrow}
-use Rattle.html_render_tree.specs.PageLines.{NeverNoted, Setting, laid_page, noted, with_notes}
-use Rattle.render_values.specs.Values.{Values}
-use Rattle.renderer_calls.specs.Renderers.{Sub, lines_of_sub, with_held, with_laid}
+use Rattle.html_render_tree.specs.PageLines.{Setting, laid_page, noted, renderer_lines, with_notes, with_targets}
+use Rattle.renderer_calls.specs.Renderers.{Sub, with_laid}
 use Rattle.tagged_lines.specs.Tagged.{Item, tagged}
 use Rattle.text_block_renderer.specs.Parts.{Parts}
 use Rattle.text_block_renderer.specs.PlainText.{plain_closes, plain_marking}
 use Rattle.text_borders.specs.Across.{CellLine}
 use Rattle.text_borders.specs.Lines.{line_shown}
-use Rattle.text_decorators.specs.Texts.{footnote_text, footnote_texts}
-use Rattle.text_marks.specs.Marks.{page_end}
+use Rattle.text_decorators.specs.Texts.{footnote_lines, footnote_text, footnote_texts}
+use Rattle.text_decorators.proofs.FootnoteLemmas.{footnotes_seen}
 
 abbrev Page : Type 0
 Page = Sub (Unit {0}) (Unit {0})
@@ -35,47 +33,16 @@ Lines = List (List (Item Tag))
 -- ---- of any page: its targets, and then its lines
 
 abbrev note_items : List (List ℕ) → List (List (Item (Unit {0})))
-note_items targets = map (λ text. tagged text tt) (footnote_texts 1 targets)
+note_items targets = footnote_lines tt targets
 
 abbrev closed : Pages → Option Page
-closed p = with_notes (note_items (noted p))
-    (with_held (plain_marking.after p.current.held (page_end (noted p))) p.current)
+closed p = with_targets plain_marking (λ _. tt) plain_closes (noted p) p.current
 
 abbrev shown : Option Page → Option Lines
-shown s = option_map (map line_shown) (option_and_then lines_of_sub s)
+shown s = option_and_then renderer_lines s
 
 abbrev total : Option Pages → Option Lines
 total p = shown (option_and_then closed p)
-
-module _ (c : Setting (Unit {0})) (width : ℕ) (values : Values) where
-  abbrev page : Option Pages
-  page = laid_page plain_marking c width values
-
-  closed_by : (p : Pages) (s : Page) → IsNoted plain_marking (λ _. tt) plain_closes (noted p) p.current s →
-      closed p ≡ Some s
-  closed_by p s n =
-      ap (λ ns. with_notes ns (with_held (plain_marking.after p.current.held (page_end (noted p))) p.current))
-      (sym n.told) ∙ n.behind
-
-  never_closed : (p : Pages) → NeverNoted plain_marking (λ _. tt) plain_closes (noted p) p.current → closed p ≡ None
-  never_closed p n =
-      ap (λ ns. with_notes ns (with_held (plain_marking.after p.current.held (page_end (noted p))) p.current))
-      (sym n.told) ∙ n.never
-
-  whole_is : (s : Page) → IsClosed plain_marking (λ _. tt) plain_closes c width values s →
-      option_and_then closed page ≡ Some s
-  whole_is s k = ap (option_and_then closed) k.laid ∙ closed_by k.parts s k.behind
-
-  rendered : (lines : Lines) → IsRendered plain_marking (λ _. tt) plain_closes c width values lines →
-      total page ≡ Some lines
-  rendered lines r = ap shown (whole_is r.whole r.closed) ∙ ap (option_map (map line_shown)) r.shown.given
-      ∙ ap (λ ls. let all : Option Lines = Some ls in all) (sym r.shown.shown)
-
-  narrow : IsTooNarrow plain_marking (λ _. tt) plain_closes c width values → total page ≡ None
-  narrow n = ⊎_elim
-      (λ never. ⊎_elim (λ e. ap total e)
-      (λ u. ap total u.laid ∙ ap shown (never_closed u.parts u.never)) never)
-      (λ none. ap shown (whole_is none.whole none.closed) ∙ ap (option_map (map line_shown)) none.never) n
 
 -- ---- of an article's
 
@@ -116,7 +83,9 @@ module _ (c : Setting (Unit {0})) (decorates : Bool) (width : ℕ) where
       total (option_map (parts_at c.options c.held (page_of width) targets outermost) x)
       ≡ shown (option_map sub (option_and_then (run_notes o width (noted_targets o targets)) x))
   total_is targets None = refl
-  total_is targets (Some b) = ap shown (noted_is (noted_targets o targets) b)
+  total_is targets (Some b) = ap shown
+      (ap (λ ns. with_notes ns (sub b)) (sym (footnotes_seen (λ _. tt) tt (noted_targets o targets)))
+      ∙ noted_is (noted_targets o targets) b)
 
   abbrev seen : List (CellLine Tag) → Lines
   seen cells = map line_shown (map (λ l. finished (measure o width) l.line) cells)
@@ -165,7 +134,4 @@ module _ (c : Setting (Unit {0})) (decorates : Bool) (width : ℕ) where
 
     pub laid_as : Walked → Called → 0 < width →
         AreLaidAs c width (shown_lines o width blocks) (page_values o blocks)
-    laid_as walked called wide = record {
-      lines = λ lines r. sym (all_shown walked called wide) ∙ rendered c width (page_values o blocks) lines r;
-      narrow = λ n. sym (all_shown walked called wide) ∙ narrow c width (page_values o blocks) n;
-    }
+    laid_as walked called wide = all_shown walked called wide

@@ -2,7 +2,7 @@
 ghost use Rattle.std.specs.Prelude.{◌≡◌, ◌⊎◌, false, true, None, Some, fold, map, is_err, Err, IfOk, IfErr, OnOk};
 ghost use Rattle.std.specs.Prelude.{OnErr};
 ghost use Rattle.tagged_lines.specs.Tagged.{line_items};
-ghost use Rattle.text_marks.specs.Marks.{page_end};
+ghost use Rattle.text_marks.specs.Marks.{page_end, seen_lines};
 ghost use Rattle.text_pieces.specs.Sources.{names};
 ghost use Rattle.text_pieces.specs.declared.fault.BlockError.TheVariants as errors;
 
@@ -83,14 +83,15 @@ impl<D: TextDecorator + Drop> SubRenderer<D> {
         None
     }
 
-    /// The lines behind the page whose links have these targets. The error is `Failed` behind a refusal, else `Memory`,
+    /// The lines after the page whose links have these targets. The error is `Failed` behind a refusal, else `Memory`,
     /// and leaves the renderer as it was, but that it has failed.
     pub fn finalise(
         &mut self,
         links: Vec<String>,
     ) -> Result<Vec<TaggedLine<D::Annotation>>, BlockError>
-        ensures closes { IfOk result (λ lines.
-            D.closes (sub_of D.Annotation.seen D.held self.old).held (names links.items) lines.items) }
+        ensures closes { IfOk result (λ lines. map (line_items D.Annotation.seen) lines.items
+            ≡ seen_lines D.Annotation.seen
+            (D.closes (sub_of D.Annotation.seen D.held self.old).held (names links.items))) }
         ensures after { OnOk result (sub_of D.Annotation.seen D.held self.new
             ≡ with_held (D.after (sub_of D.Annotation.seen D.held self.old).held (page_end (names links.items)))
             (sub_of D.Annotation.seen D.held self.old)) }

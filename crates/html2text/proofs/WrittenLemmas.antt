@@ -9,7 +9,7 @@ use Rattle.html2text.specs.Written.{Gains, GainsPart}
 use Rattle.page_config.specs.PageAnswers.{HasText, IsTold, lines_text}
 use Rattle.page_config.specs.PageLaws.{IsTextWithin}
 use Rattle.page_config.specs.Settings.{PageSetting}
-use Rattle.tagged_lines.specs.Tagged.{line_items}
+use Rattle.tagged_lines.specs.Tagged.{Item, line_items}
 use Rattle.tagged_lines.specs.declared.tagged_line.TaggedLine.{TaggedLine}
 use Rattle.text_marks.specs.Marks.{Mark}
 
@@ -27,7 +27,7 @@ gains_weaker (Some bytes) old new weaker gains = record {
 
 module _ {T H A : Type 0} (seen : T → A) (text : H → Mark → List ℕ) (gives : H → Mark → T → Type 0)
     (marks : H → Mark → Bool) (after : H → Mark → H) (pops : H → Mark → Bool) (sub : H → H)
-    (closes : H → List (List ℕ) → List (TaggedLine T) → Type 0) (c : PageSetting H) (width : ℕ) where
+    (closes : H → List (List ℕ) → List (List (Item T))) (c : PageSetting H) (width : ℕ) where
   abbrev pub IsTextOf : List ℕ → List ℕ → Type 0
   IsTextOf bytes told = IsTold seen text gives marks after pops sub closes c width bytes told
 

@@ -1,6 +1,7 @@
 mod BareLemmas
 mod ColouredLemmas
 pub mod LineLemmas
+pub mod OptionLemmas
 mod PageLemmas
 pub mod TextWidths
 pub mod NumberLemmas

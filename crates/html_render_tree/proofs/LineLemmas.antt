@@ -1,5 +1,5 @@
--- Lines of a page, and those behind it.
-use Rattle.std.proofs.Common.{◌≡◌, ℕ, List, [], ◌∷◌, ◌++◌, append-nil, append_assoc, ap, arith, length}
+-- Lines of a page, and those after it.
+use Rattle.std.proofs.Common.{◌≡◌, ℕ, List, Option, [], ◌∷◌, ◌++◌, append-nil, append_assoc, ap, arith, length}
 use Rattle.std.proofs.Common.{Err, IfOk, Ok, Result, map, refl, subst, sym, ◌∙◌}
 use Rattle.std.specs.Prelude.{if◌then◌else◌}
 use Rattle.std.proofs.lemmas.List.{map-append}
@@ -8,9 +8,8 @@ use Rattle.block_renderer.specs.Footnotes.{add_footnotes}
 use Rattle.link_targets.specs.Targets.{noted_targets}
 use Rattle.renderer_calls.specs.Renderers.{Marking, Sub, with_block_started}
 use Rattle.tagged_lines.specs.Tagged.{Item}
-use Rattle.tagged_lines.specs.declared.tagged_line.TaggedLine.{TaggedLine}
 use Rattle.walk_laws.specs.Parts.{Parts}
-use Rattle.html_render_tree.specs.PageLines.{IsNoted, NeverNoted, Setting, noted, with_notes}
+use Rattle.html_render_tree.specs.PageLines.{Setting, noted, with_notes, with_targets}
 
 pub notes_are : {H A : Type 0} (notes : List (List (Item A))) (s : Sub H A) → (notes ≡ [] → ⊥)
     → with_notes notes s ≡ option_and_then (add_footnotes notes) (with_block_started s)
@@ -43,17 +42,12 @@ by_decorator held c = record c { held = held }
 
 -- targets and a renderer, by what they are
 
-pub noted_behind_as : {T H A : Type 0} (m : Marking H A) (seen : T → A)
-    (closes : H → List (List ℕ) → List (TaggedLine T) → Type 0) (targets others : List (List ℕ)) (s r t : Sub H A)
-    → targets ≡ others → s ≡ r → IsNoted m seen closes targets s t → IsNoted m seen closes others r t
-noted_behind_as m seen closes targets others s r t e f h =
-    subst (λ l. IsNoted m seen closes l r t) e (subst (λ x. IsNoted m seen closes targets x t) f h)
-
-pub never_noted_as : {T H A : Type 0} (m : Marking H A) (seen : T → A)
-    (closes : H → List (List ℕ) → List (TaggedLine T) → Type 0) (targets others : List (List ℕ)) (s r : Sub H A)
-    → targets ≡ others → s ≡ r → NeverNoted m seen closes targets s → NeverNoted m seen closes others r
-never_noted_as m seen closes targets others s r e f h =
-    subst (λ t. NeverNoted m seen closes t r) e (subst (λ x. NeverNoted m seen closes targets x) f h)
+pub with_targets_as : {T H A : Type 0} (m : Marking H A) (seen : T → A)
+    (closes : H → List (List ℕ) → List (List (Item T))) (targets others : List (List ℕ)) (s r : Sub H A)
+    (out : Option (Sub H A)) → targets ≡ others → s ≡ r → with_targets m seen closes targets s ≡ out
+    → with_targets m seen closes others r ≡ out
+with_targets_as m seen closes targets others s r out e f h =
+    subst (λ l. with_targets m seen closes l r ≡ out) e (subst (λ x. with_targets m seen closes targets x ≡ out) f h)
 
 abbrev noted_by : {H A : Type 0} → Sub H A → List (List ℕ) → List (List ℕ)
 noted_by s links =

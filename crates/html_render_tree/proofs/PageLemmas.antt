@@ -1,7 +1,8 @@
--- Lines of a page, and those behind it, stay within its width, or have room.
-use Rattle.std.proofs.Common.{◌≡◌, ℕ, ◌≤◌, List, [], ◌∷◌, Option, None, Some, IfSome, true, map, refl, sym, ap}
+-- Lines of a page, and those after it, stay within its width, or have room.
+use Rattle.std.proofs.Common.{◌≡◌, ℕ, ◌≤◌, List, [], ◌∷◌, None, Some, IfSome, true, map, refl, sym, ap}
 use Rattle.std.proofs.Common.{subst, ◌∙◌, ◌<◌, ◌⊎◌, inl, inr, arith}
 use Rattle.std.specs.Prelude.{All, IsSome, IsSomeAnd, ⊤}
+use Rattle.std.specs.Option.{option_and_then}
 use Rattle.std.proofs.lemmas.List.Elements.{All-map}
 use Rattle.std.proofs.lemmas.Option.{MatchOption-at_some}
 use Rattle.walk_laws.proofs.OptionLemmas.{chained, given_chained, known}
@@ -9,17 +10,17 @@ use Rattle.block_renderer.specs.Footnotes.{add_footnotes}
 use Rattle.renderer_calls.specs.Calls.{Call, starts_block, step}
 use Rattle.renderer_calls.specs.Renderers.{Marking, Sub, lines_of_sub, with_block_started, with_held}
 use Rattle.walk_laws.specs.RendererLaws.{CallFits, HasRoom, IsKeptWithin, StaysWithin}
-use Rattle.tagged_lines.specs.Tagged.{Item, line_columns, line_items}
-use Rattle.tagged_lines.specs.declared.tagged_line.TaggedLine.{TaggedLine}
+use Rattle.tagged_lines.specs.Tagged.{Item, line_columns}
 use Rattle.walk_laws.specs.PartLaws.{HaveRoom, PartsStayWithin}
 use Rattle.walk_laws.specs.Parts.{Parts, whole_page}
 use Rattle.text_borders.specs.Lines.{BlockLine, line_shown}
-use Rattle.text_marks.specs.Marks.{page_end}
+use Rattle.text_marks.specs.Marks.{page_end, seen_lines}
 use Rattle.render_values.specs.Values.{Values}
 use Rattle.renderer_calls.specs.Renderers.{new_sub}
 use Rattle.html_render_tree.specs.PageLaws.{AreWithin}
-use Rattle.html_render_tree.specs.PageLines.{IsRendered, IsTooNarrow}
-use Rattle.html_render_tree.specs.PageLines.{Setting, laid_page, noted, with_notes}
+use Rattle.html_render_tree.specs.PageLines.{Setting, closed_page, laid_page, noted, page_lines, renderer_lines}
+use Rattle.html_render_tree.specs.PageLines.{with_notes, with_targets}
+use Rattle.html_render_tree.proofs.OptionLemmas.{none_mapped, some_bound, some_mapped, some_with}
 
 -- ---- within the width
 
@@ -54,19 +55,23 @@ shown_within {A} width most blocks lines is same all =
     (All-map (λ (line : List (Item (List A))). line_columns line ≤ width) line_shown blocks all))
 
 pub lines_within : {T H A : Type 0} (m : Marking H A) (seen : T → A)
-    (closes : H → List (List ℕ) → List (TaggedLine T) → Type 0) (c : Setting H) (width : ℕ) (values : Values)
+    (closes : H → List (List ℕ) → List (List (Item T))) (c : Setting H) (width : ℕ) (values : Values)
     (lines : List (List (Item (List A)))) → PageWidths m c width values → c.options.wrap_links ≡ true → 2 ≤ width
-    → IsRendered m seen closes c width values lines → AreWithin width lines
-lines_within {H = H} {A = A} m seen closes c width values lines laws wraps wide page =
-    let p : Parts H A = page.closed.parts in
-    let stays = laws.stays p page.closed.laid in
+    → page_lines m seen closes c width values ≡ Some lines → AreWithin width lines
+lines_within {H = H} {A = A} m seen closes c width values lines laws wraps wide is =
+    let shown = some_bound renderer_lines (closed_page m seen closes c width values) lines is in
+    let whole : Sub H A = shown.0 in
+    let closed = some_bound (λ p. with_targets m seen closes (noted p) p.current) (laid_page m c width values) whole
+    shown.1.0 in
+    let p : Parts H A = closed.0 in
+    let given = some_mapped (map line_shown) (lines_of_sub whole) lines shown.1.1 in
+    let stays = laws.stays p closed.1.0 in
     let s : Sub H A = with_held (m.after p.current.held (page_end (noted p))) p.current in
-    let noted_within : StaysWithin s page.whole = MatchOption-at_some ⊤ (StaysWithin s) page.whole
-    page.closed.behind.behind (notes_stay laws (map (line_items seen) page.closed.behind.notes) s stays.current.0
+    let noted_within : StaysWithin s whole = MatchOption-at_some ⊤ (StaysWithin s) whole closed.1.1
+    (notes_stay laws (seen_lines seen (closes p.current.held (noted p))) s stays.current.0
     (ap (λ o. o.wrap_links) stays.current.1.1 ∙ wraps) (subst (λ n. 2 ≤ n) (sym stays.current.1.0) wide)) in
-    shown_within page.whole.width width page.shown.blocks lines page.shown.shown
-    (noted_within.1.0 ∙ stays.current.1.0)
-    (laws.lines page.whole page.shown.blocks noted_within.0 page.shown.given)
+    shown_within whole.width width given.0 lines (sym given.1.1) (noted_within.1.0 ∙ stays.current.1.0)
+    (laws.lines whole given.0 noted_within.0 given.1.0)
 
 -- ---- with room
 
@@ -76,12 +81,6 @@ pub record PageRooms {H A : Type 0} (m : Marking H A) (c : Setting H) (width : �
   pub footnotes : (lines : List (List (Item A))) (s : Sub H A) → HasRoom s → IsSomeAnd (add_footnotes lines s) HasRoom
   pub lines : (s : Sub H A) → HasRoom s → IsSome (lines_of_sub s)
 
-never_none : {X : Type 0} (P : X → Type 0) (o : Option X) → IsSomeAnd o P → o ≡ None → ⊥
-never_none P o some is = subst (λ x. IsSomeAnd x P) is some
-
-has : {X : Type 0} (P : X → Type 0) (o : Option X) (x : X) → IsSomeAnd o P → o ≡ Some x → P x
-has P o x some is = subst (λ y. IsSomeAnd y P) is some
-
 notes_have_room : {H A : Type 0} {m : Marking H A} {c : Setting H} {width : ℕ} {values : Values}
     (laws : PageRooms m c width values) (notes : List (List (Item A))) (s : Sub H A) → HasRoom s
     → IsSomeAnd (with_notes notes s) HasRoom
@@ -89,27 +88,22 @@ notes_have_room laws [] s room = room
 notes_have_room laws (note ∷ notes) s room = given_chained HasRoom HasRoom (add_footnotes (note ∷ notes))
     (with_block_started s) (laws.footnotes (note ∷ notes)) (laws.starts s room)
 
-behind_has_room : {T H A : Type 0} (m : Marking H A) (seen : T → A) (c : Setting H) (width : ℕ) (values : Values)
-    (laws : PageRooms m c width values) (p : Parts H A) (notes : List (TaggedLine T))
-    → laid_page m c width values ≡ Some p
-    → IsSomeAnd (with_notes (map (line_items seen) notes) (with_held (m.after p.current.held (page_end (noted p)))
-    p.current)) HasRoom
-behind_has_room m seen c width values laws p notes is =
-    notes_have_room laws (map (line_items seen) notes) _
-    (has HaveRoom (laid_page m c width values) p laws.laid is).current
+closed_has_room : {T H A : Type 0} (m : Marking H A) (seen : T → A)
+    (closes : H → List (List ℕ) → List (List (Item T))) (c : Setting H) (width : ℕ) (values : Values)
+    → PageRooms m c width values → IsSomeAnd (closed_page m seen closes c width values) HasRoom
+closed_has_room m seen closes c width values laws =
+    given_chained HaveRoom HasRoom (λ p. with_targets m seen closes (noted p) p.current) (laid_page m c width values)
+    (λ p room. notes_have_room laws (seen_lines seen (closes p.current.held (noted p))) _ room.current) laws.laid
 
 pub never_narrow : {T H A : Type 0} (m : Marking H A) (seen : T → A)
-    (closes : H → List (List ℕ) → List (TaggedLine T) → Type 0) (c : Setting H) (width : ℕ) (values : Values)
-    → PageRooms m c width values → IsTooNarrow m seen closes c width values → ⊥
-never_narrow m seen closes c width values laws (inl (inl none)) =
-    never_none HaveRoom (laid_page m c width values) laws.laid none
-never_narrow m seen closes c width values laws (inl (inr page)) =
-    never_none HasRoom _ (behind_has_room m seen c width values laws page.parts page.never.notes page.laid)
-    page.never.never
-never_narrow m seen closes c width values laws (inr page) =
-    let room : HasRoom page.whole = has HasRoom _ page.whole (behind_has_room m seen c width values laws
-    page.closed.parts page.closed.behind.notes page.closed.laid) page.closed.behind.behind in
-    absurd (cc (laws.lines page.whole room, page.never))
+    (closes : H → List (List ℕ) → List (List (Item T))) (c : Setting H) (width : ℕ) (values : Values)
+    → PageRooms m c width values → page_lines m seen closes c width values ≡ None → ⊥
+never_narrow m seen closes c width values laws none =
+    let found = some_with HasRoom (closed_page m seen closes c width values)
+    (closed_has_room m seen closes c width values laws) in
+    let never : lines_of_sub found.0 ≡ None = none_mapped (map line_shown) (lines_of_sub found.0)
+    (sym (ap (option_and_then renderer_lines) found.1.0) ∙ none) in
+    absurd (cc (laws.lines found.0 found.1.1, never))
 
 -- what a refusal says, where the width is some
 pub never_so_narrow : (P : Type 0) (width : ℕ) → (P → ⊥) → 0 < width → (width ≡ 0) ⊎ P → ⊥

@@ -2,15 +2,16 @@
 use Rattle.std.specs.Prelude.{ℕ, true, List}
 use Rattle.block_renderer.specs.Seen.{marking}
 use Rattle.renderer_calls.specs.Renderers.{Marking}
-use Rattle.tagged_lines.specs.declared.tagged_line.TaggedLine.{TaggedLine}
-use Rattle.text_decorators.specs.Annotations.{RichTag, nothing, rich_tag}
+use Rattle.tagged_lines.specs.Tagged.{Item}
+use Rattle.text_decorators.specs.Annotations.{RichTag}
 use Rattle.text_decorators.specs.Laws.{rich_mark_tag}
-use Rattle.text_decorators.specs.Texts.{AreFootnotes, is_colour, rich_text}
+use Rattle.text_decorators.specs.Texts.{footnote_lines, is_colour, rich_text}
 use Rattle.text_decorators.specs.declared.annotation.RichAnnotation.{RichAnnotation}
+use Rattle.text_decorators.specs.declared.annotation.RichAnnotation.TheVariants.{Default}
 
 abbrev pub rich_marking : Marking (Unit {0}) RichTag
 rich_marking =
     marking (λ _ m. rich_text m) (λ _ m. rich_mark_tag m) (λ _ m. is_colour m) (λ h _. h) (λ _ _. true) (λ h. h)
 
-abbrev pub rich_closes : Unit {0} → List (List ℕ) → List (TaggedLine RichAnnotation) → Type 0
-rich_closes _ targets lines = AreFootnotes rich_tag nothing targets lines
+abbrev pub rich_closes : Unit {0} → List (List ℕ) → List (List (Item RichAnnotation))
+rich_closes _ targets = footnote_lines Default targets

@@ -1,7 +1,8 @@
-//! What stands behind a page's last value, and its lines.
-ghost use Rattle.std.specs.Prelude.{◌≡◌, [], Err, IfOk, None, OnOk, if◌then◌else◌, map};
+//! What stands after a page's last value, and its lines.
+ghost use Rattle.std.specs.Prelude.{◌≡◌, [], Err, IfOk, None, OnOk, Some, if◌then◌else◌, map};
 ghost use Rattle.block_renderer.specs.Seen.{Comes, Fails, IsTagging, marking, sub_of, tags_seen};
-ghost use Rattle.html_render_tree.specs.PageLines.{IsNoted, IsShown, NeverNoted, noted, with_notes};
+ghost use Rattle.html_render_tree.specs.PageLines.{noted, renderer_lines, with_notes};
+ghost use Rattle.html_render_tree.specs.PageLines.{with_targets};
 ghost use Rattle.link_targets.specs.Links.{all_targets};
 ghost use Rattle.link_targets.specs.Targets.{noted_targets};
 ghost use Rattle.renderer_calls.specs.Renderers.{lines_of_sub};
@@ -20,7 +21,7 @@ use text_marks::TextDecorator;
 use text_pieces::BlockError;
 use walk_laws::TextRenderer;
 
-// lines behind the page, as a block of their own
+// lines after the page, as a block of their own
 fn add_notes<D: TextDecorator + Drop>(
     sub: &mut SubRenderer<D>,
     notes: Vec<TaggedLine<D::Annotation>>,
@@ -52,17 +53,17 @@ fn texts_of<D: TextDecorator + Drop>(
     Ok(texts)
 }
 
-// a renderer with what its decorator makes of the targets behind the last value
+// a renderer with what its decorator makes of the targets after the last value
 fn with_targets<D: TextDecorator + Drop>(
     sub: SubRenderer<D>,
     targets: Vec<String>,
 ) -> Result<SubRenderer<D>, BlockError>
-    ensures noted { IfOk result (λ s. (tag : _) → IsTagging D.Annotation.seen D.gives tag
-        → IsNoted (marking D.text tag D.marks D.after D.pops D.sub) D.Annotation.seen D.closes (names targets.items)
-        (sub_of D.Annotation.seen D.held sub) (sub_of D.Annotation.seen D.held s)) }
+    ensures closed { IfOk result (λ s. (tag : _) → IsTagging D.Annotation.seen D.gives tag
+        → with_targets (marking D.text tag D.marks D.after D.pops D.sub) D.Annotation.seen D.closes
+        (names targets.items) (sub_of D.Annotation.seen D.held sub) ≡ Some (sub_of D.Annotation.seen D.held s)) }
     ensures narrow { result ≡ Err errors.TooNarrow → (tag : _) → IsTagging D.Annotation.seen D.gives tag
-        → NeverNoted (marking D.text tag D.marks D.after D.pops D.sub) D.Annotation.seen D.closes (names targets.items)
-        (sub_of D.Annotation.seen D.held sub) }
+        → with_targets (marking D.text tag D.marks D.after D.pops D.sub) D.Annotation.seen D.closes
+        (names targets.items) (sub_of D.Annotation.seen D.held sub) ≡ None }
 {
     let mut sub = sub;
     let notes = sub.finalise(targets)?;
@@ -70,14 +71,14 @@ fn with_targets<D: TextDecorator + Drop>(
     Ok(sub)
 }
 
-// the targets that have footnotes behind the page, where they stand there
-fn told_targets(
+// the targets that have footnotes after the page, where they stand there
+fn shown_targets(
     alloc: Global,
     include: bool,
     shared: bool,
     links: LinkTargets,
 ) -> Result<Vec<String>, AllocError>
-    ensures { IfOk result (λ told. names told.items
+    ensures { IfOk result (λ targets. names targets.items
         ≡ (if include then noted_targets shared (all_targets links) else [])) }
 {
     if include {
@@ -86,23 +87,23 @@ fn told_targets(
     Ok(Vec::new(alloc))
 }
 
-/// The page's own renderer behind its last value, closed.
+/// The page's own renderer after its last value, closed.
 pub(crate) fn closed_page<D: TextDecorator + Drop>(
     alloc: Global,
     text: TextRenderer<D>,
 ) -> Result<SubRenderer<D>, BlockError>
     requires { depth_of (parts_of D.Annotation.seen D.held text) ≡ 1 }
-    ensures noted { IfOk result (λ s. (tag : _) → IsTagging D.Annotation.seen D.gives tag
-        → IsNoted (marking D.text tag D.marks D.after D.pops D.sub) D.Annotation.seen D.closes
+    ensures closed { IfOk result (λ s. (tag : _) → IsTagging D.Annotation.seen D.gives tag
+        → with_targets (marking D.text tag D.marks D.after D.pops D.sub) D.Annotation.seen D.closes
         (noted (parts_of D.Annotation.seen D.held text)) (parts_of D.Annotation.seen D.held text).current
-        (sub_of D.Annotation.seen D.held s)) }
+        ≡ Some (sub_of D.Annotation.seen D.held s)) }
     ensures narrow { result ≡ Err errors.TooNarrow → (tag : _) → IsTagging D.Annotation.seen D.gives tag
-        → NeverNoted (marking D.text tag D.marks D.after D.pops D.sub) D.Annotation.seen D.closes
-        (noted (parts_of D.Annotation.seen D.held text)) (parts_of D.Annotation.seen D.held text).current }
+        → with_targets (marking D.text tag D.marks D.after D.pops D.sub) D.Annotation.seen D.closes
+        (noted (parts_of D.Annotation.seen D.held text)) (parts_of D.Annotation.seen D.held text).current ≡ None }
 {
     let (sub, links) = text.into_inner();
     let options = sub.options;
-    let targets = told_targets(
+    let targets = shown_targets(
         alloc,
         options.include_link_footnotes,
         options.shared_footnotes,
@@ -116,8 +117,8 @@ pub(crate) fn lines_of<D: TextDecorator + Drop>(
     alloc: Global,
     sub: SubRenderer<D>,
 ) -> Result<Vec<TaggedLine<Vec<D::Annotation>>>, BlockError>
-    ensures lines { IfOk result (λ lines. IsShown (sub_of D.Annotation.seen D.held sub)
-        (map (line_items (tags_seen D.Annotation.seen)) lines.items)) }
+    ensures lines { IfOk result (λ lines. renderer_lines (sub_of D.Annotation.seen D.held sub)
+        ≡ Some (map (line_items (tags_seen D.Annotation.seen)) lines.items)) }
     ensures narrow { result ≡ Err errors.TooNarrow → lines_of_sub (sub_of D.Annotation.seen D.held sub) ≡ None }
 {
     let lines = sub.into_lines()?;

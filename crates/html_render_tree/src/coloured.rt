@@ -1,8 +1,9 @@
 //! A render tree as text with what a map makes of annotations, such as the colours of a terminal.
-ghost use Rattle.std.specs.Prelude.{◌≡◌, ◌≢◌, ◌⊎◌, ◌<◌, ◌++◌, ◌∷◌, [], ℕ, List, Err, IfOk, OnOk, map, string_bytes};
+ghost use Rattle.std.specs.Prelude.{◌≡◌, ◌≢◌, ◌⊎◌, ◌<◌, ◌++◌, ◌∷◌, [], ℕ, List, Err, IfOk, None};
+ghost use Rattle.std.specs.Prelude.{OnOk, Some, map, string_bytes};
 ghost use Rattle.block_renderer.specs.Seen.{IsTagging, marking, tags_seen};
 ghost use Rattle.html_render_tree.specs.Coloured.{AreColoured, AreColouredLines, Colours};
-ghost use Rattle.html_render_tree.specs.PageLines.{IsRendered, IsTooNarrow};
+ghost use Rattle.html_render_tree.specs.PageLines.{page_lines};
 ghost use Rattle.html_render_tree.specs.Settings.{setting_of};
 ghost use Rattle.render_conversion.specs.declared.error.RenderError.TheVariants as errors;
 ghost use Rattle.tagged_lines.specs.Tagged.{line_items, line_strings};
@@ -27,13 +28,14 @@ impl<D: TextDecorator + Drop> RenderConfig<D> {
         requires { F.IsAlwaysCallable colour_map }
         ensures text { IfOk result (λ text. (lines : List _)
             × ((tag : _) → IsTagging D.Annotation.seen D.gives tag
-            → IsRendered (marking D.text tag D.marks D.after D.pops D.sub) D.Annotation.seen D.closes
-            (setting_of D.held D.sub self.now) width tree (map (line_items (tags_seen D.Annotation.seen)) lines))
+            → page_lines (marking D.text tag D.marks D.after D.pops D.sub) D.Annotation.seen D.closes
+            (setting_of D.held D.sub self.now) width tree
+            ≡ Some (map (line_items (tags_seen D.Annotation.seen)) lines))
             × AreColouredLines (Colours F.Fn colour_map) lines (string_bytes text)) }
         ensures wide { IfOk result (λ text. 0 < width) }
         ensures narrow { result ≡ Err errors.TooNarrow → (width ≡ 0) ⊎ ((tag : _)
-            → IsTagging D.Annotation.seen D.gives tag → IsTooNarrow (marking D.text tag D.marks D.after D.pops D.sub)
-            D.Annotation.seen D.closes (setting_of D.held D.sub self.now) width tree) }
+            → IsTagging D.Annotation.seen D.gives tag → page_lines (marking D.text tag D.marks D.after D.pops D.sub)
+            D.Annotation.seen D.closes (setting_of D.held D.sub self.now) width tree ≡ None) }
         ensures kinds { result ≢ Err errors.Fail }
     {
         let lines = self.render_to_lines(alloc, tree, width)?;

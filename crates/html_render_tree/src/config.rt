@@ -44,8 +44,9 @@ impl<D: TextDecorator + Drop> RenderConfig<D> {
     ghost use Rattle.text_marks.specs.Marks.{IsSteady};
     ghost use Rattle.walk_laws.specs.WalkLaws.{AreNumbered};
     ghost use Rattle.html_render_tree.specs.PageLaws.{AreWithin, IsTextWithin};
-    ghost use Rattle.html_render_tree.specs.PageLines.{IsClosed, IsClosedBare, IsPrinted, IsRendered, IsTooNarrow};
-    ghost use Rattle.html_render_tree.specs.PageLines.{NeverCloses, laid_as, lines_text};
+    ghost use Rattle.html_render_tree.specs.PageLines.{closed_page, laid_as, lines_text, page_lines, page_text};
+    ghost use Rattle.renderer_calls.specs.Bare.{bare_of};
+    ghost use Rattle.std.specs.Option.{option_map};
     ghost use Rattle.walk_laws.specs.Parts.{depth_of};
     ghost use Rattle.walk_laws.specs.SeenParts.{parts_of};
     ghost use Rattle.html_render_tree.specs.Settings.{IsDecorated, rules_of, setting_of, with_options};
@@ -336,12 +337,12 @@ impl<D: TextDecorator + Drop> RenderConfig<D> {
         width: usize,
     ) -> Result<SubRenderer<D>, RenderError>
         ensures closed { IfOk result (λ s. (tag : _) → IsTagging D.Annotation.seen D.gives tag
-            → IsClosed (marking D.text tag D.marks D.after D.pops D.sub) D.Annotation.seen D.closes
-            (setting_of D.held D.sub self.now) width tree.now (sub_of D.Annotation.seen D.held s)) }
+            → closed_page (marking D.text tag D.marks D.after D.pops D.sub) D.Annotation.seen D.closes
+            (setting_of D.held D.sub self.now) width tree.now ≡ Some (sub_of D.Annotation.seen D.held s)) }
         ensures wide { IfOk result (λ s. 0 < width) }
         ensures narrow { result ≡ Err errors.TooNarrow → (width ≡ 0) ⊎ ((tag : _)
-            → IsTagging D.Annotation.seen D.gives tag → NeverCloses (marking D.text tag D.marks D.after D.pops D.sub)
-            D.Annotation.seen D.closes (setting_of D.held D.sub self.now) width tree.now) }
+            → IsTagging D.Annotation.seen D.gives tag → closed_page (marking D.text tag D.marks D.after D.pops D.sub)
+            D.Annotation.seen D.closes (setting_of D.held D.sub self.now) width tree.now ≡ None) }
         ensures kinds { result ≢ Err errors.Fail }
     {
         let text = self.laid(alloc, tree, width, true)?;
@@ -359,12 +360,13 @@ impl<D: TextDecorator + Drop> RenderConfig<D> {
         width: usize,
     ) -> Result<SubRenderer<D>, RenderError>
         ensures closed { IfOk result (λ s. (tag : _) → IsTagging D.Annotation.seen D.gives tag
-            → IsClosedBare (marking D.text tag D.marks D.after D.pops D.sub) D.Annotation.seen D.closes
-            (setting_of D.held D.sub self.now) width tree.now (sub_of D.Annotation.seen D.held s)) }
+            → option_map bare_of (closed_page (marking D.text tag D.marks D.after D.pops D.sub)
+            D.Annotation.seen D.closes (setting_of D.held D.sub self.now) width tree.now)
+            ≡ Some (bare_of (sub_of D.Annotation.seen D.held s))) }
         ensures wide { IfOk result (λ s. 0 < width) }
         ensures narrow { result ≡ Err errors.TooNarrow → (width ≡ 0) ⊎ ((tag : _)
-            → IsTagging D.Annotation.seen D.gives tag → NeverCloses (marking D.text tag D.marks D.after D.pops D.sub)
-            D.Annotation.seen D.closes (setting_of D.held D.sub self.now) width tree.now) }
+            → IsTagging D.Annotation.seen D.gives tag → closed_page (marking D.text tag D.marks D.after D.pops D.sub)
+            D.Annotation.seen D.closes (setting_of D.held D.sub self.now) width tree.now ≡ None) }
         ensures kinds { result ≢ Err errors.Fail }
     {
         annotations_change_no_text::<D>();
@@ -385,13 +387,13 @@ impl<D: TextDecorator + Drop> RenderConfig<D> {
         width: usize,
     ) -> Result<Vec<TaggedLine<Vec<D::Annotation>>>, RenderError>
         ensures lines { IfOk result (λ lines. (tag : _) → IsTagging D.Annotation.seen D.gives tag
-            → IsRendered (marking D.text tag D.marks D.after D.pops D.sub) D.Annotation.seen D.closes
+            → page_lines (marking D.text tag D.marks D.after D.pops D.sub) D.Annotation.seen D.closes
             (setting_of D.held D.sub self.now) width tree
-            (map (line_items (tags_seen D.Annotation.seen)) lines.items)) }
+            ≡ Some (map (line_items (tags_seen D.Annotation.seen)) lines.items)) }
         ensures wide { IfOk result (λ lines. 0 < width) }
         ensures narrow { result ≡ Err errors.TooNarrow → (width ≡ 0) ⊎ ((tag : _)
-            → IsTagging D.Annotation.seen D.gives tag → IsTooNarrow (marking D.text tag D.marks D.after D.pops D.sub)
-            D.Annotation.seen D.closes (setting_of D.held D.sub self.now) width tree) }
+            → IsTagging D.Annotation.seen D.gives tag → page_lines (marking D.text tag D.marks D.after D.pops D.sub)
+            D.Annotation.seen D.closes (setting_of D.held D.sub self.now) width tree ≡ None) }
         ensures kinds { result ≢ Err errors.Fail }
         ensures within { IfOk result (λ lines. (tag : _) → IsTagging D.Annotation.seen D.gives tag → IsSteady D.text
             → AreNumbered tree → (setting_of D.held D.sub self.now).options.allow_width_overflow ≡ false
@@ -419,13 +421,13 @@ impl<D: TextDecorator + Drop> RenderConfig<D> {
         width: usize,
     ) -> Result<Vec<TaggedLine<Vec<D::Annotation>>>, RenderError>
         ensures text { IfOk result (λ lines. (tag : _) → IsTagging D.Annotation.seen D.gives tag
-            → IsPrinted (marking D.text tag D.marks D.after D.pops D.sub) D.Annotation.seen D.closes
+            → page_text (marking D.text tag D.marks D.after D.pops D.sub) D.Annotation.seen D.closes
             (setting_of D.held D.sub self.now) width tree
-            (lines_text (map (line_items (tags_seen D.Annotation.seen)) lines.items))) }
+            ≡ Some (lines_text (map (line_items (tags_seen D.Annotation.seen)) lines.items))) }
         ensures wide { IfOk result (λ lines. 0 < width) }
         ensures narrow { result ≡ Err errors.TooNarrow → (width ≡ 0) ⊎ ((tag : _)
-            → IsTagging D.Annotation.seen D.gives tag → IsTooNarrow (marking D.text tag D.marks D.after D.pops D.sub)
-            D.Annotation.seen D.closes (setting_of D.held D.sub self.now) width tree) }
+            → IsTagging D.Annotation.seen D.gives tag → page_lines (marking D.text tag D.marks D.after D.pops D.sub)
+            D.Annotation.seen D.closes (setting_of D.held D.sub self.now) width tree ≡ None) }
         ensures kinds { result ≢ Err errors.Fail }
         ensures within { IfOk result (λ lines. (tag : _) → IsTagging D.Annotation.seen D.gives tag → IsSteady D.text
             → AreNumbered tree → (setting_of D.held D.sub self.now).options.allow_width_overflow ≡ false
@@ -453,12 +455,12 @@ impl<D: TextDecorator + Drop> RenderConfig<D> {
         width: usize,
     ) -> Result<String, RenderError>
         ensures text { IfOk result (λ text. (tag : _) → IsTagging D.Annotation.seen D.gives tag
-            → IsPrinted (marking D.text tag D.marks D.after D.pops D.sub) D.Annotation.seen D.closes
-            (setting_of D.held D.sub self.now) width tree (chars (string_bytes text))) }
+            → page_text (marking D.text tag D.marks D.after D.pops D.sub) D.Annotation.seen D.closes
+            (setting_of D.held D.sub self.now) width tree ≡ Some (chars (string_bytes text))) }
         ensures wide { IfOk result (λ text. 0 < width) }
         ensures narrow { result ≡ Err errors.TooNarrow → (width ≡ 0) ⊎ ((tag : _)
-            → IsTagging D.Annotation.seen D.gives tag → IsTooNarrow (marking D.text tag D.marks D.after D.pops D.sub)
-            D.Annotation.seen D.closes (setting_of D.held D.sub self.now) width tree) }
+            → IsTagging D.Annotation.seen D.gives tag → page_lines (marking D.text tag D.marks D.after D.pops D.sub)
+            D.Annotation.seen D.closes (setting_of D.held D.sub self.now) width tree ≡ None) }
         ensures kinds { result ≢ Err errors.Fail }
         ensures within { IfOk result (λ text. (tag : _) → IsTagging D.Annotation.seen D.gives tag → IsSteady D.text
             → AreNumbered tree → (setting_of D.held D.sub self.now).options.allow_width_overflow ≡ false

@@ -1,9 +1,7 @@
 ghost use Rattle.std.specs.Prelude.{◌≡◌, ℕ, false};
 ghost use Rattle.link_counting.specs.Counted.{counter_text, note_at, links_behind, notes_are_one, counter_is_steady};
-ghost use Rattle.link_counting.specs.declared.link_note.LinkNote.{LinkNote as SeenNote};
 ghost use Rattle.link_counting.specs.declared.link_note.LinkNote.TheVariants.{Outside};
-ghost use Rattle.text_decorators.specs.Texts.{AreFootnotes};
-ghost use Rattle.text_decorators.specs.Laws.{footnotes_are_one};
+ghost use Rattle.text_decorators.specs.Texts.{footnote_lines};
 
 use crate::link_note::LinkNote;
 use std::alloc::{AllocError, Global};
@@ -47,11 +45,9 @@ impl TextDecorator for LinkCounter {
 
     ghost sub = { λ links. links };
 
-    ghost closes = { λ _ targets lines. AreFootnotes {S = SeenNote} (λ note. note) Outside targets lines };
+    ghost closes = { λ _ targets. footnote_lines Outside targets };
 
     ghost one = { notes_are_one };
-
-    ghost one_end = { λ _ targets lines others. footnotes_are_one (λ note. note) Outside targets lines others };
 
     // Its error is also told where there are more links than a `usize` counts.
     fn decorate_link_start(

@@ -4,7 +4,7 @@ use Rattle.html_forest.specs.Forest.{Forest}
 use Rattle.html_forest.specs.declared.sink.QuirksMode.{QuirksMode}
 use Rattle.reference_tables.specs.References.{References}
 use Rattle.page_reading.specs.ParseOpts.{ParseOpts}
-use Rattle.page_config.proofs.AnswerLemmas.{Ends, answer_is_one}
+use Rattle.page_config.proofs.AnswerLemmas.{answer_is_one}
 use Rattle.page_config.specs.PageAnswers.{ArePageValues, HasAnswer, HasText, IsAnswerOf}
 use Rattle.page_config.specs.PageAnswers.{PageAnswer, fail, lines, lines_text}
 use Rattle.page_config.specs.PageAnswers.{too_narrow}
@@ -14,7 +14,6 @@ use Rattle.render_conversion.specs.Conversion.{document_values}
 use Rattle.render_values.specs.Values.{Values}
 use Rattle.renderer_calls.specs.Renderers.{Marking}
 use Rattle.tagged_lines.specs.Tagged.{Item}
-use Rattle.tagged_lines.specs.declared.tagged_line.TaggedLine.{TaggedLine}
 
 -- bytes have one tree
 abbrev pub OneTree : Type 0
@@ -31,11 +30,11 @@ lines_in (lines shown) = shown
 lines_in too_narrow = []
 lines_in fail = []
 
-module _ {T H A : Type 0} (m : Marking H A) (seen : T → A) (closes : H → List (List ℕ) → List (TaggedLine T) → Type 0)
-    (ends : Ends seen closes) (trees : OneTree) where
+module _ {T H A : Type 0} (m : Marking H A) (seen : T → A) (closes : H → List (List ℕ) → List (List (Item T)))
+    (trees : OneTree) where
   pub one_answer : (c : PageSetting H) (width : ℕ) (bytes : List ℕ) (one other : PageAnswer A)
       → HasAnswer m seen closes c width bytes one → HasAnswer m seen closes c width bytes other → one ≡ other
-  one_answer c width bytes one other a b = answer_is_one m seen closes ends c.rendering width b.values one other
+  one_answer c width bytes one other a b = answer_is_one m seen closes c.rendering width b.values one other
       (subst (λ v. IsAnswerOf m seen closes c.rendering width v one)
       (values_are_one trees c bytes a.values b.values a.page b.page) a.answered) b.answered
 

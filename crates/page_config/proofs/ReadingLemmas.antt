@@ -1,12 +1,11 @@
 -- Answers of what was read.
-use Rattle.std.proofs.Common.{◌≡◌, ◌≢◌, ◌⊎◌, inl, inr, ℕ, ◌<◌, Bool, List, []}
-use Rattle.std.proofs.Common.{◌∷◌, ◌++◌, map, refl, Option, None, Some, IfSome, sym, ap, subst, ◌∙◌}
-use Rattle.std.specs.Option.{option_map}
-use Rattle.std.specs.Prelude.{unwrap_or}
+use Rattle.std.proofs.Common.{◌≡◌, ◌≢◌, ◌⊎◌, inl, inr, ℕ, ◌<◌, Bool, List}
+use Rattle.std.proofs.Common.{refl, Option, None, Some, IfSome, sym, subst}
 use Rattle.block_renderer.specs.Seen.{IsTagging, marking}
 use Rattle.html_forest.specs.Forest.{Forest}
 use Rattle.html_forest.specs.declared.sink.QuirksMode.{QuirksMode}
-use Rattle.html_render_tree.specs.PageLines.{IsPrinted, IsRendered, IsTooNarrow, Setting}
+use Rattle.html_render_tree.proofs.OptionLemmas.{some_mapped}
+use Rattle.html_render_tree.specs.PageLines.{Setting, page_lines, page_text}
 use Rattle.page_config.specs.Errors.{error_of_render}
 use Rattle.page_config.specs.PageAnswers.{Answers, ArePageValues, HasText, IsTold, fail, lines}
 use Rattle.page_config.specs.PageAnswers.{lines_text, too_narrow}
@@ -18,10 +17,7 @@ use Rattle.render_conversion.specs.declared.error.RenderError.{RenderError}
 use Rattle.render_conversion.specs.declared.error.RenderError.TheVariants as rendering
 use Rattle.render_values.specs.Values.{Values, none}
 use Rattle.renderer_calls.specs.Renderers.{Marking}
-use Rattle.renderer_calls.specs.Texts.{text_of_lines}
-use Rattle.tagged_lines.specs.Tagged.{Item, characters}
-use Rattle.tagged_lines.specs.declared.tagged_line.TaggedLine.{TaggedLine}
-use Rattle.text_borders.specs.Lines.{BlockLine, line_shown}
+use Rattle.tagged_lines.specs.Tagged.{Item}
 use Rattle.text_marks.specs.Marks.{Mark}
 
 pub read_values : {H : Type 0} (c : PageSetting H) (all : Option (List ℕ)) (forest : Forest) (mode : QuirksMode)
@@ -42,53 +38,28 @@ narrow_error rendering.TooNarrow same = refl
 narrow_error rendering.Fail same = cc
 narrow_error rendering.Memory same = cc
 
--- the text of blocks is that of the lines that they show
-text_of : {S : Type 0} (blocks : List (BlockLine S)) → text_of_lines blocks ≡ lines_text (map line_shown blocks)
-text_of [] = refl
-text_of (block ∷ blocks) = ap (λ text. characters (line_shown block) ++ 10 ∷ [] ++ text) (text_of blocks)
-
-given_blocks : {S : Type 0} (given : Option (List (BlockLine S))) (told : List ℕ)
-    → option_map text_of_lines given ≡ Some told
-    → (blocks : List (BlockLine S)) × (given ≡ Some blocks) × (text_of_lines blocks ≡ told)
-given_blocks None told e = cc
-given_blocks (Some blocks) told e = (blocks, refl, ap (λ o. unwrap_or o told) e)
-
-printed_lines : {T H A : Type 0} (m : Marking H A) (seen : T → A)
-    (closes : H → List (List ℕ) → List (TaggedLine T) → Type 0) (c : PageSetting H) (width : ℕ) (bytes : List ℕ)
-    (values : Values) (told : List ℕ) → ArePageValues c bytes values → values ≢ none → 0 < width
-    → IsPrinted m seen closes c.rendering width values told → HasText m seen closes c width bytes told
-printed_lines m seen closes c width bytes values told page some wide printed =
-    let given = given_blocks _ told printed.given in
+printed_lines : {T H A : Type 0} (m : Marking H A) (seen : T → A) (closes : H → List (List ℕ) → List (List (Item T)))
+    (c : PageSetting H) (width : ℕ) (bytes : List ℕ) (values : Values) (text : List ℕ) → ArePageValues c bytes values
+    → values ≢ none → 0 < width → page_text m seen closes c.rendering width values ≡ Some text
+    → HasText m seen closes c width bytes text
+printed_lines m seen closes c width bytes values text page some wide printed =
+    let given = some_mapped lines_text (page_lines m seen closes c.rendering width values) text printed in
     record {
-      shown = map line_shown given.0;
-      answer = record {
-        values = values;
-        page = page;
-        answered = (
-          some,
-          (
-            wide,
-            record {
-              whole = printed.whole;
-              closed = printed.closed;
-              shown = record { blocks = given.0; given = given.1; shown = refl };
-            },
-          ),
-        );
-      };
-      told = sym given.2 ∙ text_of given.0;
+      shown = given.0;
+      answer = record { values = values; page = page; answered = (some, (wide, given.1.0)) };
+      told = sym given.1.1;
     }
 
 module _ {T H A : Type 0} (seen : T → A) (text : H → Mark → List ℕ) (gives : H → Mark → T → Type 0)
     (marks : H → Mark → Bool) (after : H → Mark → H) (pops : H → Mark → Bool) (sub : H → H)
-    (closes : H → List (List ℕ) → List (TaggedLine T) → Type 0) (c : PageSetting H) (width : ℕ) where
+    (closes : H → List (List ℕ) → List (List (Item T))) (c : PageSetting H) (width : ℕ) where
   -- however annotations are seen
   abbrev Each : ((H → Mark → A) → Type 0) → Type 0
   Each P = (tag : _) → IsTagging seen gives tag → P tag
 
   pub lines_read : (all : Option (List ℕ)) (values : Values) (s : Setting H) (shown : List (List (Item (List A))))
       → IfSome all (λ bytes. ArePageValues c bytes values) → s ≡ c.rendering → values ≢ none → 0 < width
-      → Each (λ tag. IsRendered (marking text tag marks after pops sub) seen closes s width values shown)
+      → Each (λ tag. page_lines (marking text tag marks after pops sub) seen closes s width values ≡ Some shown)
       → IfSome all (λ bytes. Answers seen text gives marks after pops sub closes c width bytes (lines shown))
   lines_read None values s shown page same some wide rendered = tt
   lines_read (Some bytes) values s shown page same some wide rendered = λ tag p. record {
@@ -98,7 +69,7 @@ module _ {T H A : Type 0} (seen : T → A) (text : H → Mark → List ℕ) (giv
       some,
       (
         wide,
-        subst (λ s. IsRendered (marking text tag marks after pops sub) seen closes s width values shown) same
+        subst (λ s. page_lines (marking text tag marks after pops sub) seen closes s width values ≡ Some shown) same
             (rendered tag p),
       ),
     );
@@ -106,7 +77,7 @@ module _ {T H A : Type 0} (seen : T → A) (text : H → Mark → List ℕ) (giv
 
   pub narrow_read : (all : Option (List ℕ)) (values : Values) (s : Setting H)
       → IfSome all (λ bytes. ArePageValues c bytes values) → s ≡ c.rendering → values ≢ none
-      → (width ≡ 0) ⊎ Each (λ tag. IsTooNarrow (marking text tag marks after pops sub) seen closes s width values)
+      → (width ≡ 0) ⊎ Each (λ tag. page_lines (marking text tag marks after pops sub) seen closes s width values ≡ None)
       → IfSome all (λ bytes. Answers seen text gives marks after pops sub closes c width bytes too_narrow)
   narrow_read None values s page same some narrow = tt
   narrow_read (Some bytes) values s page same some (inl zero_width) = λ tag p. record {
@@ -120,7 +91,7 @@ module _ {T H A : Type 0} (seen : T → A) (text : H → Mark → List ℕ) (giv
     answered = (
       some,
       inr (
-          subst (λ s. IsTooNarrow (marking text tag marks after pops sub) seen closes s width values) same
+          subst (λ s. page_lines (marking text tag marks after pops sub) seen closes s width values ≡ None) same
           (narrow tag p)
           ),
     );
@@ -133,10 +104,10 @@ module _ {T H A : Type 0} (seen : T → A) (text : H → Mark → List ℕ) (giv
 
   pub text_read : (all : Option (List ℕ)) (values : Values) (s : Setting H) (told : List ℕ)
       → IfSome all (λ bytes. ArePageValues c bytes values) → s ≡ c.rendering → values ≢ none → 0 < width
-      → Each (λ tag. IsPrinted (marking text tag marks after pops sub) seen closes s width values told)
+      → Each (λ tag. page_text (marking text tag marks after pops sub) seen closes s width values ≡ Some told)
       → IfSome all (λ bytes. IsTold seen text gives marks after pops sub closes c width bytes told)
   text_read None values s told page same some wide printed = tt
   text_read (Some bytes) values s told page same some wide printed = λ tag p. printed_lines
       (marking text tag marks after pops sub) seen closes c width bytes values told page some wide
-      (subst (λ s. IsPrinted (marking text tag marks after pops sub) seen closes s width values told) same
+      (subst (λ s. page_text (marking text tag marks after pops sub) seen closes s width values ≡ Some told) same
       (printed tag p))

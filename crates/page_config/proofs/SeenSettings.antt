@@ -8,7 +8,7 @@ use Rattle.page_reading.specs.PageTrees.{IsTreeOfBytes}
 use Rattle.render_conversion.specs.Decorating.{seen_rule}
 use Rattle.renderer_calls.specs.Renderers.{Marking}
 use Rattle.renderer_calls.specs.declared.options.RenderOptions.{RenderOptions}
-use Rattle.tagged_lines.specs.declared.tagged_line.TaggedLine.{TaggedLine}
+use Rattle.tagged_lines.specs.Tagged.{Item}
 
 pub record AreAlike (c d : PageSetting (Unit {0})) : Type 0 where
   pub table : c.table ≡ d.table
@@ -21,7 +21,7 @@ abbrev rendered_by : RenderOptions → ℕ → Setting (Unit {0})
 rendered_by options min_wrap = record { options = options; min_wrap = min_wrap; held = tt }
 
 module _ {T A : Type 0} (m : Marking (Unit {0}) A) (seen : T → A)
-    (closes : Unit {0} → List (List ℕ) → List (TaggedLine T) → Type 0) (c d : PageSetting (Unit {0}))
+    (closes : Unit {0} → List (List ℕ) → List (List (Item T))) (c d : PageSetting (Unit {0}))
     (alike : AreAlike c d) (width : ℕ) (bytes : List ℕ) where
   pub answers_alike : (answer : PageAnswer A) → HasAnswer m seen closes c width bytes answer
       → HasAnswer m seen closes d width bytes answer
@@ -31,7 +31,8 @@ module _ {T A : Type 0} (m : Marking (Unit {0}) A) (seen : T → A)
       forest = a.page.forest;
       quirks = a.page.quirks;
       tree = subst (λ table. IsTreeOfBytes table d.parsing bytes a.page.forest a.page.quirks) alike.table
-          (subst (λ parsing. IsTreeOfBytes c.table parsing bytes a.page.forest a.page.quirks) alike.parsing a.page.tree);
+          (subst (λ parsing. IsTreeOfBytes c.table parsing bytes a.page.forest a.page.quirks) alike.parsing
+          a.page.tree);
       same = sym (values_alike c.rules d.rules a.page.forest alike.rules) ∙ a.page.same;
     };
     answered = subst (λ rendering. IsAnswerOf m seen closes rendering width a.values answer)
@@ -39,5 +40,6 @@ module _ {T A : Type 0} (m : Marking (Unit {0}) A) (seen : T → A)
         ∙ ap (rendered_by d.rendering.options) alike.min_wrap) a.answered;
   }
 
-  pub texts_alike : (text : List ℕ) → HasText m seen closes c width bytes text → HasText m seen closes d width bytes text
+  pub texts_alike : (text : List ℕ) → HasText m seen closes c width bytes text
+      → HasText m seen closes d width bytes text
   texts_alike text t = record { shown = t.shown; answer = answers_alike (lines t.shown) t.answer; told = t.told }

@@ -12,11 +12,10 @@ use Rattle.renderer_calls.specs.Renderers.{Marking}
 use Rattle.style_cascade.specs.declared.rules.StyleRule.{StyleRule}
 use Rattle.tagged_lines.specs.Columns.{text_columns}
 use Rattle.tagged_lines.specs.Tagged.{Item, characters}
-use Rattle.tagged_lines.specs.declared.tagged_line.TaggedLine.{TaggedLine}
 use Rattle.text_marks.specs.Marks.{IsSteady}
 use Rattle.html_render_tree.specs.WalkLaws.{AreNumbered}
 
-module _ {T H A : Type 0} (m : Marking H A) (seen : T → A) (closes : H → List (List ℕ) → List (TaggedLine T) → Type 0)
+module _ {T H A : Type 0} (m : Marking H A) (seen : T → A) (closes : H → List (List ℕ) → List (List (Item T)))
   where
     pub within_width : ((rules : List StyleRule) (f : Forest) → AreNumbered (document_values rules f))
         → PagesKeepWidth m seen closes → (c : PageSetting H) (width : ℕ) (bytes : List ℕ)

@@ -1,17 +1,15 @@
 -- What is answered of a page: a function of its bytes, a width, and what a configuration says.
-use Rattle.std.specs.Prelude.{◌≡◌, ◌≢◌, ◌⊎◌, ℕ, ◌<◌, Bool, List, Some}
+use Rattle.std.specs.Prelude.{◌≡◌, ◌≢◌, ◌⊎◌, ℕ, ◌<◌, Bool, List, None, Some}
 use Rattle.block_renderer.specs.Seen.{IsTagging, marking}
 use Rattle.html_forest.specs.Forest.{Forest}
 use Rattle.html_forest.specs.declared.sink.QuirksMode.{QuirksMode}
 pub use Rattle.html_render_tree.specs.PageLines.{lines_text}
-use Rattle.html_render_tree.specs.PageLines.{IsRendered, IsTooNarrow, Setting, laid_page, noted}
+use Rattle.html_render_tree.specs.PageLines.{Setting, page_lines}
 use Rattle.page_reading.specs.PageTrees.{IsTreeOfBytes}
 use Rattle.render_conversion.specs.Conversion.{document_values}
 use Rattle.render_values.specs.Values.{Values, none}
 use Rattle.renderer_calls.specs.Renderers.{Marking}
 use Rattle.tagged_lines.specs.Tagged.{Item}
-use Rattle.tagged_lines.specs.declared.tagged_line.TaggedLine.{TaggedLine}
-use Rattle.html_render_tree.specs.Parts.{Parts}
 use Rattle.text_marks.specs.Marks.{Mark}
 use Rattle.page_config.specs.Settings.{PageSetting}
 
@@ -31,37 +29,24 @@ pub data PageAnswer (A : Type 0) : Type 0 where
 
 -- What values come to at a width: lines, or that it is 0 or too narrow for them.
 abbrev pub IsAnswerOf : {T H A : Type 0} → Marking H A → (T → A)
-    → (H → List (List ℕ) → List (TaggedLine T) → Type 0) → Setting H → ℕ → Values → PageAnswer A → Type 0
+    → (H → List (List ℕ) → List (List (Item T))) → Setting H → ℕ → Values → PageAnswer A → Type 0
 IsAnswerOf m seen closes c width values (lines shown) =
-    (values ≢ none) × ((0 < width) × IsRendered m seen closes c width values shown)
+    (values ≢ none) × ((0 < width) × (page_lines m seen closes c width values ≡ Some shown))
 IsAnswerOf m seen closes c width values too_narrow =
-    (values ≢ none) × ((width ≡ 0) ⊎ IsTooNarrow m seen closes c width values)
+    (values ≢ none) × ((width ≡ 0) ⊎ (page_lines m seen closes c width values ≡ None))
 IsAnswerOf m seen closes c width values fail = values ≡ none
 
 -- The answer to a page of these bytes.
 pub record HasAnswer {T H A : Type 0} (m : Marking H A) (seen : T → A)
-    (closes : H → List (List ℕ) → List (TaggedLine T) → Type 0) (c : PageSetting H) (width : ℕ) (bytes : List ℕ)
+    (closes : H → List (List ℕ) → List (List (Item T))) (c : PageSetting H) (width : ℕ) (bytes : List ℕ)
     (answer : PageAnswer A) : Type 0 where
   pub values : Values
   pub page : ArePageValues c bytes values
   pub answered : IsAnswerOf m seen closes c.rendering width values answer
 
--- whatever values are laid out, the decorator makes something of the targets that stand behind them
-abbrev pub IsAlwaysClosed : {T H A : Type 0} → Marking H A → (H → List (List ℕ) → List (TaggedLine T) → Type 0)
-    → PageSetting H → ℕ → Type 0
-IsAlwaysClosed {T} {H} {A} m closes c width = (values : Values) (p : Parts H A)
-    → laid_page m c.rendering width values ≡ Some p
-    → (notes : List (TaggedLine T)) × closes p.current.held (noted p) notes
-
--- There is an answer to a page of these bytes.
-abbrev pub HasSomeAnswer : {T H A : Type 0} → Marking H A → (T → A)
-    → (H → List (List ℕ) → List (TaggedLine T) → Type 0) → PageSetting H → ℕ → (bytes : List ℕ) → Type 0
-HasSomeAnswer {A = A} m seen closes c width bytes = (answer : PageAnswer A)
-    × HasAnswer m seen closes c width bytes answer
-
 -- The text of a page of these bytes: that of its lines.
 pub record HasText {T H A : Type 0} (m : Marking H A) (seen : T → A)
-    (closes : H → List (List ℕ) → List (TaggedLine T) → Type 0) (c : PageSetting H) (width : ℕ) (bytes text : List ℕ)
+    (closes : H → List (List ℕ) → List (List (Item T))) (c : PageSetting H) (width : ℕ) (bytes text : List ℕ)
     : Type 0 where
   pub shown : List (List (Item (List A)))
   pub answer : HasAnswer m seen closes c width bytes (lines shown)
@@ -69,14 +54,14 @@ pub record HasText {T H A : Type 0} (m : Marking H A) (seen : T → A)
 
 -- However a decorator's annotations are seen, this is the answer.
 abbrev pub Answers : {T H A : Type 0} → (T → A) → (H → Mark → List ℕ) → (H → Mark → T → Type 0) → (H → Mark → Bool)
-    → (H → Mark → H) → (H → Mark → Bool) → (H → H) → (H → List (List ℕ) → List (TaggedLine T) → Type 0)
+    → (H → Mark → H) → (H → Mark → Bool) → (H → H) → (H → List (List ℕ) → List (List (Item T)))
     → PageSetting H → ℕ → (bytes : List ℕ) → PageAnswer A → Type 0
 Answers seen text gives marks after pops sub closes c width bytes answer = (tag : _) → IsTagging seen gives tag
     → HasAnswer (marking text tag marks after pops sub) seen closes c width bytes answer
 
 -- However they are seen, this is the text.
 abbrev pub IsTold : {T H A : Type 0} → (T → A) → (H → Mark → List ℕ) → (H → Mark → T → Type 0) → (H → Mark → Bool)
-    → (H → Mark → H) → (H → Mark → Bool) → (H → H) → (H → List (List ℕ) → List (TaggedLine T) → Type 0)
+    → (H → Mark → H) → (H → Mark → Bool) → (H → H) → (H → List (List ℕ) → List (List (Item T)))
     → PageSetting H → ℕ → (bytes told : List ℕ) → Type 0
 IsTold seen text gives marks after pops sub closes c width bytes told = (tag : _) → IsTagging seen gives tag
     → HasText (marking text tag marks after pops sub) seen closes c width bytes told

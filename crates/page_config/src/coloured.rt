@@ -2,7 +2,7 @@
 ghost use Rattle.std.specs.Prelude.{◌≡◌, ◌⊎◌, ◌<◌, List, Err, IfErr, IfOk, map, string_bytes};
 ghost use Rattle.block_renderer.specs.Seen.{IsTagging, marking, tags_seen};
 ghost use Rattle.html_render_tree.specs.Coloured.{AreColouredLines, Colours};
-ghost use Rattle.html_render_tree.specs.PageLines.{IsRendered, IsTooNarrow};
+ghost use Rattle.html_render_tree.specs.PageLines.{page_lines};
 ghost use Rattle.page_config.specs.Settings.{page_setting};
 ghost use Rattle.page_config.specs.declared.error.Error.TheVariants as errors;
 ghost use Rattle.tagged_lines.specs.Tagged.{line_items};
@@ -26,14 +26,14 @@ impl<D: TextDecorator + Drop> Config<D> {
         requires { F.IsAlwaysCallable colour_map }
         ensures text { IfOk result (λ text. (lines : List _)
             × ((tag : _) → IsTagging D.Annotation.seen D.gives tag
-            → IsRendered (marking D.text tag D.marks D.after D.pops D.sub) D.Annotation.seen D.closes
+            → page_lines (marking D.text tag D.marks D.after D.pops D.sub) D.Annotation.seen D.closes
             (page_setting D.held D.sub self.now).rendering width tree
-            (map (line_items (tags_seen D.Annotation.seen)) lines))
+            ≡ Some (map (line_items (tags_seen D.Annotation.seen)) lines))
             × AreColouredLines (Colours F.Fn colour_map) lines (string_bytes text)) }
         ensures wide { IfOk result (λ text. 0 < width) }
         ensures narrow { result ≡ Err errors.TooNarrow → (width ≡ 0) ⊎ ((tag : _)
-            → IsTagging D.Annotation.seen D.gives tag → IsTooNarrow (marking D.text tag D.marks D.after D.pops D.sub)
-            D.Annotation.seen D.closes (page_setting D.held D.sub self.now).rendering width tree) }
+            → IsTagging D.Annotation.seen D.gives tag → page_lines (marking D.text tag D.marks D.after D.pops D.sub)
+            D.Annotation.seen D.closes (page_setting D.held D.sub self.now).rendering width tree ≡ None) }
         ensures kinds { IfErr result (λ e. (e ≡ errors.TooNarrow) ⊎ (e ≡ errors.Memory)) }
     {
         Ok(

@@ -29,7 +29,7 @@ impl<D: TextDecorator + Drop> Config<D> {
     ghost use Rattle.block_renderer.specs.Seen.{IsTagging, marking, tags_seen};
     ghost use Rattle.html_render_tree.specs.PageLaws.{AreWithin, IsTextWithin};
     ghost use Rattle.html_render_tree.specs.Settings.{IsDecorated};
-    ghost use Rattle.html_render_tree.specs.PageLines.{IsPrinted, IsRendered, IsTooNarrow};
+    ghost use Rattle.html_render_tree.specs.PageLines.{page_lines, page_text};
     ghost use Rattle.page_config.specs.Settings.{by_default, max_bytes_of, page_setting, rendered_with};
     ghost use Rattle.page_config.specs.declared.error.Error.TheVariants as errors;
     ghost use Rattle.render_conversion.specs.Conversion.{document_values};
@@ -337,13 +337,13 @@ impl<D: TextDecorator + Drop> Config<D> {
         width: usize,
     ) -> Result<Vec<TaggedLine<Vec<D::Annotation>>>, Error>
         ensures lines { IfOk result (λ lines. (tag : _) → IsTagging D.Annotation.seen D.gives tag
-            → IsRendered (marking D.text tag D.marks D.after D.pops D.sub) D.Annotation.seen D.closes
+            → page_lines (marking D.text tag D.marks D.after D.pops D.sub) D.Annotation.seen D.closes
             (page_setting D.held D.sub self.now).rendering width tree
-            (map (line_items (tags_seen D.Annotation.seen)) lines.items)) }
+            ≡ Some (map (line_items (tags_seen D.Annotation.seen)) lines.items)) }
         ensures wide { IfOk result (λ lines. 0 < width) }
         ensures narrow { result ≡ Err errors.TooNarrow → (width ≡ 0) ⊎ ((tag : _)
-            → IsTagging D.Annotation.seen D.gives tag → IsTooNarrow (marking D.text tag D.marks D.after D.pops D.sub)
-            D.Annotation.seen D.closes (page_setting D.held D.sub self.now).rendering width tree) }
+            → IsTagging D.Annotation.seen D.gives tag → page_lines (marking D.text tag D.marks D.after D.pops D.sub)
+            D.Annotation.seen D.closes (page_setting D.held D.sub self.now).rendering width tree ≡ None) }
         ensures within { IfOk result (λ lines. (tag : _) → IsTagging D.Annotation.seen D.gives tag → IsSteady D.text
             → AreNumbered tree → (page_setting D.held D.sub self.now).rendering.options.allow_width_overflow ≡ false
             → (page_setting D.held D.sub self.now).rendering.options.wrap_links ≡ true → 2 ≤ width
@@ -364,12 +364,13 @@ impl<D: TextDecorator + Drop> Config<D> {
         width: usize,
     ) -> Result<String, Error>
         ensures text { IfOk result (λ text. (tag : _) → IsTagging D.Annotation.seen D.gives tag
-            → IsPrinted (marking D.text tag D.marks D.after D.pops D.sub) D.Annotation.seen D.closes
-            (page_setting D.held D.sub self.now).rendering width tree (chars (string_bytes text))) }
+            → page_text (marking D.text tag D.marks D.after D.pops D.sub) D.Annotation.seen D.closes
+            (page_setting D.held D.sub self.now).rendering width tree
+            ≡ Some (chars (string_bytes text))) }
         ensures wide { IfOk result (λ text. 0 < width) }
         ensures narrow { result ≡ Err errors.TooNarrow → (width ≡ 0) ⊎ ((tag : _)
-            → IsTagging D.Annotation.seen D.gives tag → IsTooNarrow (marking D.text tag D.marks D.after D.pops D.sub)
-            D.Annotation.seen D.closes (page_setting D.held D.sub self.now).rendering width tree) }
+            → IsTagging D.Annotation.seen D.gives tag → page_lines (marking D.text tag D.marks D.after D.pops D.sub)
+            D.Annotation.seen D.closes (page_setting D.held D.sub self.now).rendering width tree ≡ None) }
         ensures within { IfOk result (λ text. (tag : _) → IsTagging D.Annotation.seen D.gives tag → IsSteady D.text
             → AreNumbered tree → (page_setting D.held D.sub self.now).rendering.options.allow_width_overflow ≡ false
             → (page_setting D.held D.sub self.now).rendering.options.wrap_links ≡ true → 2 ≤ width

@@ -2,8 +2,7 @@
 ghost use Rattle.std.specs.Prelude.{◌≡◌, ℕ, ◌<◌, ◌≤◌, List, true, false};
 ghost use Rattle.block_renderer.specs.Seen.{marking};
 ghost use Rattle.html_render_tree.specs.PageLaws.{AreWithin, IsTextWithin};
-ghost use Rattle.page_config.specs.PageAnswers.{HasAnswer, HasSomeAnswer, HasText, IsAlwaysClosed};
-ghost use Rattle.page_config.specs.PageAnswers.{PageAnswer, lines, too_narrow};
+ghost use Rattle.page_config.specs.PageAnswers.{HasAnswer, HasText, PageAnswer, lines, too_narrow};
 ghost use Rattle.page_config.specs.PlainPages.{HasPlainAnswer, HasPlainText};
 ghost use Rattle.page_config.specs.Settings.{PageSetting};
 ghost use Rattle.reference_tables.specs.References.{References};
@@ -29,11 +28,11 @@ pub fn a_page_has_one_answer<D: TextDecorator>()
     a_page_has_one_tree_of_bytes();
 }
 
-/// And it has one, where its decorator makes something of the targets that stand behind it.
+/// And it has one: lines, that the width is too narrow, or that there is nothing to render.
 pub fn a_page_has_an_answer<D: TextDecorator>()
     ensures { (tag : D.Held → Mark → D.Annotation.Seen) (c : PageSetting D.Held) (width : ℕ) (bytes : List ℕ)
-        → IsAlwaysClosed (marking D.text tag D.marks D.after D.pops D.sub) D.closes c width
-        → HasSomeAnswer (marking D.text tag D.marks D.after D.pops D.sub) D.Annotation.seen D.closes c width bytes }
+        → (answer : PageAnswer D.Annotation.Seen)
+        × HasAnswer (marking D.text tag D.marks D.after D.pops D.sub) D.Annotation.seen D.closes c width bytes answer }
 {
     a_page_has_a_tree_of_bytes();
 }
@@ -48,8 +47,8 @@ pub fn a_page_has_one_text<D: TextDecorator>()
     a_page_has_one_tree_of_bytes();
 }
 
-/// A page has one answer as plain text, by whatever configuration of plain text: of two, the rules of style may be written
-/// otherwise, and declare the same.
+/// A page has one answer as plain text, by whatever configuration of plain text: of two, the rules of style may be
+/// written otherwise, and declare the same.
 pub fn a_page_has_one_plain_answer()
     ensures { (table : References) (width : ℕ) (bytes : List ℕ) (one other : PageAnswer (Unit {0}))
         → HasPlainAnswer table width bytes one → HasPlainAnswer table width bytes other → one ≡ other }
@@ -66,7 +65,7 @@ pub fn a_page_has_one_plain_text()
 }
 
 /// No line of a page passes its width, of two columns or more, where prefixes are steady, no part may pass it and links
-/// are wrapped: targets behind the page among them.
+/// are wrapped: targets after the page among them.
 pub fn a_page_keeps_its_width<D: TextDecorator>()
     ensures { (tag : D.Held → Mark → D.Annotation.Seen) (c : PageSetting D.Held) (width : ℕ) (bytes : List ℕ)
         (shown : List (List (Item (List D.Annotation.Seen)))) → IsSteady D.text

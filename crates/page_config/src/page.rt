@@ -68,8 +68,8 @@ impl Page {
         Ok(self.reader.push(piece)?)
     }
 
-    /// Reads the end of the page, and gives its finished tree. The error is `Fail` behind a refusal, and else want of
-    /// memory.
+    /// Reads the end of the page, and gives its finished tree. The error is `Fail` behind a refusal, and else
+    /// allocation failure .
     pub fn finish(self) -> Result<RcDom, Error>
         ensures tree { IfOk result (λ dom. Comes self [] dom.forest dom.quirks) }
         ensures failed { self.has_failed ≡ true → result ≡ Err Fail }

@@ -1,6 +1,6 @@
 -- How pages of paragraphs are laid out: each text in its fullest layout, an empty line between what shows something.
-use Rattle.std.specs.Prelude.{◌≡◌, ◌≢◌, ◌⊎◌, ◌↔◌, ℕ, ◌<◌, Any, List, [], map}
-use Rattle.html_render_tree.specs.PageLines.{IsRendered, IsTooNarrow, Setting}
+use Rattle.std.specs.Prelude.{◌≡◌, ◌≢◌, ◌⊎◌, ◌↔◌, ℕ, ◌<◌, Any, List, [], None, Some, map}
+use Rattle.html_render_tree.specs.PageLines.{Setting, page_lines}
 use Rattle.html_render_tree.specs.PlainText.{plain_closes, plain_marking}
 use Rattle.render_conversion.specs.Conversion.{document_values}
 use Rattle.render_conversion.specs.Decorating.{decorating_rules, seen_rule}
@@ -25,9 +25,11 @@ IsPlain c = c.options ≡ record default_options {
 -- is too narrow just where it is for one of the texts.
 pub record AreLaid (c : Setting (Unit {0})) (width : ℕ) (texts : List (List ℕ)) (values : Values) : Type 0 where
   pub some : values ≢ none
-  pub lines : (lines : List PlainItems) → IsRendered plain_marking (λ _. tt) plain_closes c width values lines
+  pub lines : (lines : List PlainItems)
+      → (page_lines plain_marking (λ _. tt) plain_closes c width values ≡ Some lines)
       ↔ AreLinesBehind width [] texts lines
-  pub narrow : IsTooNarrow plain_marking (λ _. tt) plain_closes c width values ↔ Any (IsWiderText width) texts
+  pub narrow : (page_lines plain_marking (λ _. tt) plain_closes c width values ≡ None)
+      ↔ Any (IsWiderText width) texts
 
 abbrev pub ParagraphPagesAreLaid : Type 0
 ParagraphPagesAreLaid = (rules : List StyleRule) (c : Setting (Unit {0})) (width : ℕ) (texts : List (List ℕ)) →

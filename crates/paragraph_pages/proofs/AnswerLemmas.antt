@@ -7,7 +7,7 @@ use Rattle.html_forest.specs.declared.sink.QuirksMode.{QuirksMode}
 use Rattle.html_grammar.specs.PageText.{page_text}
 use Rattle.reference_tables.specs.References.{References}
 use Rattle.html_render_dom.specs.Numbers.{handle_of}
-use Rattle.page_config.specs.PageLines.{IsRendered, IsTooNarrow}
+use Rattle.page_config.specs.PageLines.{page_lines}
 use Rattle.page_config.specs.PlainText.{plain_closes, plain_marking}
 use Rattle.page_config.specs.ParseOpts.{ParseOpts}
 use Rattle.page_config.specs.PageAnswers.{ArePageValues, HasAnswer, fail, lines, too_narrow}
@@ -60,7 +60,7 @@ module _ (has_tree : HasTree) (trees : ParagraphPagesHaveTheirTrees handle_of) (
       let wide = has.answered.1.0 in (
         wide,
         ((laid_at width wide).lines shown).0
-            (subst (λ v. IsRendered plain_marking (λ _. tt) plain_closes c.rendering width v shown)
+            (subst (λ v. page_lines plain_marking (λ _. tt) plain_closes c.rendering width v ≡ Some shown)
             (its_values_alone has.values has.page) has.answered.1.1),
       )
 
@@ -73,10 +73,10 @@ module _ (has_tree : HasTree) (trees : ParagraphPagesHaveTheirTrees handle_of) (
   }
 
   narrow_by : (width : ℕ) (values : Values) → values ≡ its_values → (0 < width) ⊎ (width ≡ 0)
-      → IsTooNarrow plain_marking (λ _. tt) plain_closes c.rendering width values
+      → page_lines plain_marking (λ _. tt) plain_closes c.rendering width values ≡ None
       → (width ≡ 0) ⊎ Any (IsWiderText width) texts
   narrow_by width values same (inl wide) narrow = inr ((laid_at width wide).narrow.0
-      (subst (IsTooNarrow plain_marking (λ _. tt) plain_closes c.rendering width) same narrow))
+      (subst (λ v. page_lines plain_marking (λ _. tt) plain_closes c.rendering width v ≡ None) same narrow))
   narrow_by width values same (inr empty) narrow = inl empty
 
   wide_or_not : (width : ℕ) → (0 < width) ⊎ (width ≡ 0)
@@ -89,7 +89,7 @@ module _ (has_tree : HasTree) (trees : ParagraphPagesHaveTheirTrees handle_of) (
       → (width ≡ 0) ⊎ Any (IsWiderText width) texts
   narrow_told width has = narrow_in has.values (its_values_alone has.values has.page) has.answered.1 where
     narrow_in : (values : Values) → values ≡ its_values
-        → (width ≡ 0) ⊎ IsTooNarrow plain_marking (λ _. tt) plain_closes c.rendering width values
+        → (width ≡ 0) ⊎ (page_lines plain_marking (λ _. tt) plain_closes c.rendering width values ≡ None)
         → (width ≡ 0) ⊎ Any (IsWiderText width) texts
     narrow_in values same (inl empty) = inl empty
     narrow_in values same (inr narrow) = narrow_by width values same (wide_or_not width) narrow

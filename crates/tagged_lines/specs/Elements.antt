@@ -10,6 +10,11 @@ pub data Item (S : Type 0) : Type 0 where
   character : ℕ → S → Item S
   marker : List ℕ → Item S
 
+-- an item under another tag
+abbrev pub reitem : {A B : Type 0} → (A → B) → Item A → Item B
+reitem f (character c tag) = character c (f tag)
+reitem f (marker name) = marker name
+
 -- a text, each character with the tag
 abbrev pub tagged : {S : Type 0} → List ℕ → S → List (Item S)
 tagged cs tag = map (λ c. character c tag) cs

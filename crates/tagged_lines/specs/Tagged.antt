@@ -6,7 +6,7 @@ use Rattle.tagged_lines.specs.declared.tagged_string.TaggedLineElement.{TaggedLi
 use Rattle.tagged_lines.specs.declared.tagged_line.TaggedLine.{TaggedLine}
 pub use Rattle.tagged_lines.specs.Elements.{Item, character, marker, tagged, characters, element_items, elements_items}
 pub use Rattle.tagged_lines.specs.Elements.{element_text, elements_text, elements_strings, AreJoined, MapsTag, MapsTags}
-pub use Rattle.tagged_lines.specs.Elements.{Copies, CopiesAll}
+pub use Rattle.tagged_lines.specs.Elements.{Copies, CopiesAll, reitem}
 
 -- the columns of a line: the sum over its characters
 abbrev pub line_columns : {S : Type 0} → List (Item S) → ℕ

@@ -10,13 +10,13 @@ pub trait EqualCopy: Eq {
 
     ghost seen: { Self → Seen };
 
-    /// A tag that equals this one. The error is want of memory alone.
+    /// A tag that equals this one. The error is allocation failure alone.
     fn copy(&self, alloc: Global) -> Result<Self, AllocError>
     where
         Self: Sized,
         ensures { IfOk result (λ c. seen c ≡ seen self.now) };
 
-    /// Tags that equal these, in order. The error is want of memory alone.
+    /// Tags that equal these, in order. The error is allocation failure alone.
     fn copies(tags: &[Self], alloc: Global) -> Result<Vec<Self>, AllocError>
     where
         Self: Sized + Drop,

@@ -50,7 +50,7 @@ impl<T: EqualCopy + Drop> TaggedLine<T> {
         }
     }
 
-    /// A line of one text. The error is want of memory alone.
+    /// A line of one text. The error is allocation failure alone.
     pub fn from_string(alloc: Global, s: String, tag: &T) -> Result<TaggedLine<T>, AllocError>
         ensures items { IfOk result (λ line. line_items T.seen line
             ≡ tagged (chars (string_bytes s)) (T.seen tag.now)) }
@@ -92,7 +92,8 @@ impl<T: EqualCopy + Drop> TaggedLine<T> {
         self.columns = 0;
     }
 
-    /// Makes room for so many bytes more of text at the end; the line stays as it is. The error is want of memory alone.
+    /// Makes room for so many bytes more of text at the end; the line stays as it is. The error is allocation failure
+    /// alone.
     pub fn reserve(&mut self, bytes: usize) -> Result<(), AllocError>
         ensures items { line_items T.seen self.new ≡ line_items T.seen self.old }
         ensures joined { IsJoined T.seen self.old → IsJoined T.seen self.new }
@@ -103,7 +104,7 @@ impl<T: EqualCopy + Drop> TaggedLine<T> {
         reserve_last(&mut self.elements, bytes)
     }
 
-    /// Adds a text at the end. The error is want of memory alone, and leaves the line as it was.
+    /// Adds a text at the end. The error is allocation failure alone, and leaves the line as it was.
     pub fn push_str(&mut self, text: &str, tag: &T) -> Result<(), AllocError>
         ensures ok { OnOk result (line_items T.seen self.new
             ≡ line_items T.seen self.old ++ tagged (chars text.now) (T.seen tag.now)) }
@@ -113,7 +114,7 @@ impl<T: EqualCopy + Drop> TaggedLine<T> {
         self.push_counted(text, columns_of(text), tag)
     }
 
-    /// Adds a text in front. The error is want of memory alone, and leaves the line as it was.
+    /// Adds a text in front. The error is allocation failure alone, and leaves the line as it was.
     pub fn push_front(&mut self, text: &str, tag: &T) -> Result<(), AllocError>
         ensures ok { OnOk result (line_items T.seen self.new
             ≡ tagged (chars text.now) (T.seen tag.now) ++ line_items T.seen self.old) }
@@ -129,7 +130,7 @@ impl<T: EqualCopy + Drop> TaggedLine<T> {
         Ok(())
     }
 
-    /// Adds a character at the end. The error is want of memory alone, and leaves the line as it was.
+    /// Adds a character at the end. The error is allocation failure alone, and leaves the line as it was.
     pub fn push_char(&mut self, c: char, tag: &T) -> Result<(), AllocError>
         ensures ok { OnOk result (line_items T.seen self.new
             ≡ line_items T.seen self.old ++ tagged (c ∷ []) (T.seen tag.now)) }
@@ -145,8 +146,8 @@ impl<T: EqualCopy + Drop> TaggedLine<T> {
         Ok(())
     }
 
-    /// Adds a marker at the end: the start of the fragment of that name. The error is want of memory alone, and leaves
-    /// the line as it was.
+    /// Adds a marker at the end: the start of the fragment of that name. The error is allocation failure alone, and
+    /// leaves the line as it was.
     pub fn push_marker(&mut self, name: &str) -> Result<(), AllocError>
         ensures ok { OnOk result (line_items T.seen self.new
             ≡ line_items T.seen self.old ++ marker (chars name.now) ∷ []) }
@@ -156,8 +157,8 @@ impl<T: EqualCopy + Drop> TaggedLine<T> {
         push_marker(&mut self.elements, name)
     }
 
-    /// Moves a marker's name to the end, as `push_marker` adds one. The error is want of memory alone, and leaves the
-    /// line as it was.
+    /// Moves a marker's name to the end, as `push_marker` adds one. The error is allocation failure alone, and leaves
+    /// the line as it was.
     pub fn append_marker(&mut self, name: String) -> Result<(), AllocError>
         ensures ok { OnOk result (line_items T.seen self.new
             ≡ line_items T.seen self.old ++ marker (chars (string_bytes name)) ∷ []) }
@@ -167,7 +168,7 @@ impl<T: EqualCopy + Drop> TaggedLine<T> {
         move_marker(&mut self.elements, name)
     }
 
-    /// Adds another line at the end. The error is want of memory alone, and leaves the line as it was.
+    /// Adds another line at the end. The error is allocation failure alone, and leaves the line as it was.
     #[inline(always)]
     pub fn push_line(&mut self, other: &TaggedLine<T>) -> Result<(), AllocError>
         ensures ok { OnOk result (line_items T.seen self.new
@@ -181,7 +182,7 @@ impl<T: EqualCopy + Drop> TaggedLine<T> {
         Ok(())
     }
 
-    /// Adds so many spaces at the end. The error is want of memory alone, and may leave some of them.
+    /// Adds so many spaces at the end. The error is allocation failure alone, and may leave some of them.
     pub fn push_spaces(&mut self, count: usize, tag: &T) -> Result<(), AllocError>
         ensures ok { OnOk result (line_items T.seen self.new
             ≡ line_items T.seen self.old ++ replicate count (character 0x20 (T.seen tag.now))) }
@@ -196,8 +197,8 @@ impl<T: EqualCopy + Drop> TaggedLine<T> {
         Ok(())
     }
 
-    /// Moves what another line holds to the end, which leaves that one empty. The error is want of memory alone, and
-    /// leaves both lines as they were.
+    /// Moves what another line holds to the end, which leaves that one empty. The error is allocation failure alone,
+    /// and leaves both lines as they were.
     pub fn append(&mut self, other: &mut TaggedLine<T>) -> Result<(), AllocError>
         ensures ok { OnOk result (line_items T.seen self.new
             ≡ line_items T.seen self.old ++ line_items T.seen other.old) }
@@ -231,7 +232,7 @@ impl<T: EqualCopy + Drop> TaggedLine<T> {
         }
     }
 
-    /// Adds a text whose columns are known at the end. The error is want of memory alone, and leaves the line as it
+    /// Adds a text whose columns are known at the end. The error is allocation failure alone, and leaves the line as it
     /// was.
     pub fn push_counted(&mut self, text: &str, columns: usize, tag: &T) -> Result<(), AllocError>
         requires { columns ≡ text_columns (chars text.now) }
@@ -247,8 +248,8 @@ impl<T: EqualCopy + Drop> TaggedLine<T> {
         Ok(())
     }
 
-    /// Moves a text whose columns are known to the end. The error is want of memory alone, and leaves the line as it
-    /// was.
+    /// Moves a text whose columns are known to the end. The error is allocation failure alone, and leaves the line as
+    /// it was.
     pub fn push_string(&mut self, text: String, columns: usize, tag: T) -> Result<(), AllocError>
         requires { columns ≡ text_columns (chars (string_bytes text)) }
         ensures ok { OnOk result (line_items T.seen self.new
@@ -294,7 +295,7 @@ impl<T: Drop> TaggedLine<T> {
     ghost use Rattle.tagged_lines.specs.Tagged.{line_elements};
 
     /// The same line, with what `f` makes of each text's tag; texts whose tags become equal stay apart. The
-    /// error is want of memory alone.
+    /// error is allocation failure alone.
     pub fn map_tag<U: Drop, F: Fn(T) -> U>(self, f: &F) -> Result<TaggedLine<U>, AllocError>
         requires { F.IsAlwaysCallable f.now }
         ensures { IfOk result (λ line. MapsTags (F.post f.now) (line_elements self) (line_elements line)) }
@@ -315,7 +316,7 @@ impl<T: EqualCopy + Drop> TaggedLine<T> {
     ghost use Rattle.tagged_lines.specs.Elements.{CopiesAll};
     ghost use Rattle.tagged_lines.specs.Tagged.{line_elements, line_items, IsJoined};
 
-    /// An equal line. The error is want of memory alone.
+    /// An equal line. The error is allocation failure alone.
     pub fn try_clone(&self) -> Result<TaggedLine<T>, AllocError>
         ensures elements { IfOk result (λ copy. CopiesAll T.seen (line_elements self.now) (line_elements copy)) }
         ensures items { IfOk result (λ copy. line_items T.seen copy ≡ line_items T.seen self.now) }

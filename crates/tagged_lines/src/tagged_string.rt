@@ -35,7 +35,7 @@ impl<T> TaggedString<T> {
 }
 
 impl<T: EqualCopy + Drop> TaggedString<T> {
-    /// An equal string. The error is want of memory alone.
+    /// An equal string. The error is allocation failure alone.
     pub fn try_clone(&self) -> Result<TaggedString<T>, AllocError>
         ensures text { IfOk result (λ copy. string_bytes copy.s ≡ string_bytes self.now.s) }
         ensures tag { IfOk result (λ copy. T.seen copy.tag ≡ T.seen self.now.tag) }
@@ -145,7 +145,7 @@ impl<T> TaggedLineElement<T> {
 impl<T: EqualCopy + Drop> TaggedLineElement<T> {
     ghost use Rattle.tagged_lines.specs.Elements.{Copies};
 
-    /// An equal element. The error is want of memory alone.
+    /// An equal element. The error is allocation failure alone.
     pub fn try_clone(&self) -> Result<TaggedLineElement<T>, AllocError>
         ensures { IfOk result (Copies T.seen self.now) }
     {

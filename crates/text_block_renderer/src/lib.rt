@@ -1,4 +1,26 @@
 //! Text laid out in blocks, and the decorators that mark it.
+//!
+//! # What is proved
+//!
+//! A renderer of a page is the renderers of the whole and of its parts, and the targets of its links (`parts_of`).
+//!
+//! - `TextRenderer::new`, `depth`, `current`, `push`, `pop`, `into_inner`: the renderers as they stand; a refused
+//!   `push` leaves them as they were (`kept`, `still`); `pop` asks for a part, gives it, and leaves what stood
+//!   below it (`below`); `into_inner` asks for none
+//! - `current_mut`, `replace_current`: the current renderer is lent, and what is made of it stands in its place;
+//!   another stands there, and the one before is given: each tells whether what it lends or gives has failed
+//! - `start_link`, `end_link`: the current renderer's link begins, and the target is noted; it ends, and where
+//!   targets stand behind the page the number of its target's footnote follows in brackets (`last_number` of
+//!   link_targets, by the option `shared_footnotes`); `Failed` where the current renderer has failed, and behind an
+//!   `Ok` it has not; what stands below stays
+//! - those that may be refused: behind a refusal each is `Failed`, and a renderer of a page has failed exactly
+//!   where its last such call was refused
+//! - `parts_keep_the_width`: a law: where overflow is off, no line of the renderers passes the width of its
+//!   renderer: so it is with a new page, and a part that begins or ends, another current renderer, and links with
+//!   their numbers keep it so; a link leaves the renderers below as they were, and the current one its width and
+//!   options
+//! - `parts_with_room_never_refuse`: a law: where overflow is on in each of them, no link and no number is too
+//!   narrow, and it stays on
 #![tactic(auto)]
 
 mod laws;

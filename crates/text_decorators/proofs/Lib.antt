@@ -1,2 +1,3 @@
 pub mod Characters
+pub mod FootnoteLemmas
 pub mod Numbering

@@ -5,7 +5,7 @@ use Rattle.tagged_lines.specs.Tagged.{Item, tagged, line_items}
 use Rattle.tagged_lines.specs.declared.tagged_line.TaggedLine.{TaggedLine}
 use Rattle.std.proofs.lemmas.List.{map-append, length-map, length-take-le, take_all}
 use Rattle.std.proofs.Math.Seq.{take-suc}
-use Rattle.text_decorators.specs.Texts.{footnote_text, footnote_texts, AreFootnotes}
+use Rattle.text_decorators.specs.Texts.{footnote_lines, footnote_text, footnote_texts}
 
 pub one_text_more : (n : ℕ) (xs : List (List ℕ)) (x : List ℕ)
     → footnote_texts n (xs ++ (x ∷ [])) ≡ footnote_texts n xs ++ (footnote_text (n + length xs) x ∷ [])
@@ -64,7 +64,8 @@ preserved seen tag lines more line urls i number url text joined counted numbere
 pub finished : {T S : Type 0} (seen : T → S) (tag : S) (lines : List (TaggedLine T)) (urls whole : List (String Global))
     (i : ℕ)
     → map (line_items seen) lines ≡ map (λ text. tagged text tag) (footnote_texts 1 (map target_of (take i urls)))
-    → length urls ≤ i → urls ≡ whole → AreFootnotes seen tag (map target_of whole) lines
+    → length urls ≤ i → urls ≡ whole → map (line_items seen) lines
+    ≡ footnote_lines tag (map target_of whole)
 finished seen tag lines urls whole i numbered all same = numbered
     ∙ ap (λ (us : List (String Global)). map (λ (cs : List ℕ). tagged cs tag) (footnote_texts 1 (map target_of us)))
     (take_all i urls all ∙ same)

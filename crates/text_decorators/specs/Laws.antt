@@ -1,14 +1,12 @@
 -- What the three decorators' answers have in common where contracts leave a choice.
-use Rattle.std.specs.Prelude.{◌≡◌, ℕ, true, false, List, map, refl}
+use Rattle.std.specs.Prelude.{◌≡◌, true, false, refl}
 use Rattle.std.proofs.Common.{ap, sym, ◌∙◌}
-use Rattle.tagged_lines.specs.Tagged.{line_items}
-use Rattle.tagged_lines.specs.declared.tagged_line.TaggedLine.{TaggedLine}
 use Rattle.text_decorators.specs.Annotations.{RichTag, nothing, link, image, emphasis, strong, strikeout, code}
 use Rattle.text_decorators.specs.Annotations.{preformatted, colour, background, rich_tag}
 use Rattle.text_marks.specs.Marks.{Mark, link_start, emphasis_start, strong_start, strikeout_start, code_start}
 use Rattle.text_marks.specs.Marks.{superscript_start, image as image_mark, preformat_first, preformat_further}
 use Rattle.text_marks.specs.Marks.{colour_start, background_start}
-use Rattle.text_decorators.specs.Texts.{AreFootnotes, IsRich}
+use Rattle.text_decorators.specs.Texts.{IsRich}
 use Rattle.text_decorators.specs.declared.annotation.RichAnnotation.{RichAnnotation}
 use Rattle.text_decorators.specs.declared.annotation.RichAnnotation.TheVariants.{Default, Link, Image, Emphasis, Strong}
 use Rattle.text_decorators.specs.declared.annotation.RichAnnotation.TheVariants.{Strikeout, Code, Preformat, Colour}
@@ -45,9 +43,3 @@ rich_tag_fits _ _ h = absurd h
 -- the annotations that fit a mark are seen alike
 pub rich_tags_are_one : (m : Mark) (a b : RichAnnotation) → IsRich m a → IsRich m b → rich_tag a ≡ rich_tag b
 rich_tags_are_one m a b first second = rich_tag_fits m a first ∙ sym (rich_tag_fits m b second)
-
--- and so are the lines of a page's footnotes
-pub footnotes_are_one : {T S : Type 0} (seen : T → S) (tag : S) (targets : List (List ℕ))
-    (lines others : List (TaggedLine T)) → AreFootnotes seen tag targets lines → AreFootnotes seen tag targets others
-    → map (line_items seen) lines ≡ map (line_items seen) others
-footnotes_are_one seen tag targets lines others first second = first ∙ sym second

@@ -2,8 +2,7 @@
 use Rattle.std.specs.Prelude.{◌≡◌, ℕ, suc, Bool, true, false, List, [], ◌∷◌, ◌++◌, map, replicate, codes, chars}
 use Rattle.std.specs.Prelude.{string_bytes}
 use Rattle.std.specs.Fmt.{decimal, signed_decimal}
-use Rattle.tagged_lines.specs.Tagged.{tagged, line_items}
-use Rattle.tagged_lines.specs.declared.tagged_line.TaggedLine.{TaggedLine}
+use Rattle.tagged_lines.specs.Tagged.{Item, tagged}
 use Rattle.text_marks.specs.Marks.{Mark, link_start, link_end, emphasis_start, strong_start, strikeout_start}
 use Rattle.text_marks.specs.Marks.{code_start, superscript_start, superscript_end, image, preformat_first}
 use Rattle.text_marks.specs.Marks.{preformat_further, header, quote, unordered_item, ordered_item, colour_start}
@@ -73,7 +72,6 @@ abbrev pub footnote_texts : ℕ → List (List ℕ) → List (List ℕ)
 footnote_texts n [] = []
 footnote_texts n (target ∷ targets) = footnote_text n target ∷ footnote_texts (suc n) targets
 
--- The lines of a page's footnotes, numbered from 1, all under one tag.
-abbrev pub AreFootnotes : {T S : Type 0} → (T → S) → S → List (List ℕ) → List (TaggedLine T) → Type 0
-AreFootnotes seen tag targets lines = map (line_items seen) lines ≡ map (λ text. tagged text tag)
-    (footnote_texts 1 targets)
+-- the lines of a page's footnotes, numbered from 1, all under one tag
+abbrev pub footnote_lines : {T : Type 0} → T → List (List ℕ) → List (List (Item T))
+footnote_lines tag targets = map (λ text. tagged text tag) (footnote_texts 1 targets)

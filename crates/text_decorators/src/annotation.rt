@@ -34,7 +34,7 @@ pub enum RichAnnotation {
 impl RichAnnotation {
     ghost use Rattle.text_decorators.specs.Annotations.{rich_tag};
 
-    /// An equal annotation. The error is want of memory alone.
+    /// An equal annotation. The error is allocation failure alone.
     pub fn try_clone(&self, alloc: Global) -> Result<RichAnnotation, AllocError>
         ensures { IfOk result (λ copy. rich_tag copy ≡ rich_tag self.now) }
     {

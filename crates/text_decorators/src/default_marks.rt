@@ -1,7 +1,7 @@
 //! The answers of decorators that have none of their own.
 ghost use Rattle.std.specs.Prelude.{◌≡◌, [], map, codes, chars, string_bytes, IfOk};
 ghost use Rattle.tagged_lines.specs.Tagged.{line_items, tagged};
-ghost use Rattle.text_decorators.specs.Texts.{AreFootnotes, footnote_text};
+ghost use Rattle.text_decorators.specs.Texts.{footnote_lines, footnote_text};
 
 use std::alloc::{AllocError, Global};
 use std::fmt::Write;
@@ -28,8 +28,8 @@ pub fn footnotes<A: EqualCopy + Default + Drop>(
     alloc: Global,
     urls: Vec<String>,
 ) -> Result<Vec<TaggedLine<A>>, AllocError>
-    ensures { IfOk result (λ lines. (a : A) × A.is_default a
-        × AreFootnotes A.seen (A.seen a) (map (λ url. chars (string_bytes url)) urls.items) lines.items) }
+    ensures { IfOk result (λ lines. (a : A) × A.is_default a × (map (line_items A.seen) lines.items
+        ≡ footnote_lines (A.seen a) (map (λ url. chars (string_bytes url)) urls.items))) }
 {
     let tag = A::default();
     let mut lines = Vec::new(alloc);

@@ -1,6 +1,5 @@
 ghost use Rattle.std.specs.Prelude.{◌≡◌, ◌++◌, refl, false, codes, chars, string_bytes, IfOk};
-ghost use Rattle.text_decorators.specs.Texts.{plain_text, AreFootnotes};
-ghost use Rattle.text_decorators.specs.Laws.{footnotes_are_one};
+ghost use Rattle.text_decorators.specs.Texts.{plain_text, footnote_lines};
 ghost use Rattle.text_decorators.specs.Steady.{plain_is_steady};
 
 use crate::default_marks::{footnotes, literal, no_text, superscript_end, superscript_start};
@@ -39,11 +38,9 @@ impl TextDecorator for PlainDecorator {
 
     ghost sub = { λ h. h };
 
-    ghost closes = { λ _ targets lines. AreFootnotes {S = Unit {0}} (λ _. tt) tt targets lines };
+    ghost closes = { λ _ targets. footnote_lines tt targets };
 
     ghost one = { λ _ _ _ _ _ _. refl };
-
-    ghost one_end = { λ _ targets lines others. footnotes_are_one (λ _. tt) tt targets lines others };
 
     fn decorate_link_start(
         &mut self,

@@ -1,7 +1,7 @@
 ghost use Rattle.std.specs.Prelude.{true};
-ghost use Rattle.text_decorators.specs.Texts.{rich_text, AreFootnotes, IsRich, is_colour};
-ghost use Rattle.text_decorators.specs.Annotations.{rich_tag, nothing};
-ghost use Rattle.text_decorators.specs.Laws.{rich_tags_are_one, footnotes_are_one};
+ghost use Rattle.text_decorators.specs.Texts.{rich_text, footnote_lines, IsRich, is_colour};
+ghost use Rattle.text_decorators.specs.declared.annotation.RichAnnotation.TheVariants.{Default};
+ghost use Rattle.text_decorators.specs.Laws.{rich_tags_are_one};
 ghost use Rattle.text_decorators.specs.Steady.{rich_is_steady};
 
 use crate::annotation::RichAnnotation;
@@ -41,11 +41,9 @@ impl TextDecorator for RichDecorator {
 
     ghost sub = { λ h. h };
 
-    ghost closes = { λ _ targets lines. AreFootnotes rich_tag nothing targets lines };
+    ghost closes = { λ _ targets. footnote_lines Default targets };
 
     ghost one = { λ _ m a b. rich_tags_are_one m a b };
-
-    ghost one_end = { λ _ targets lines others. footnotes_are_one rich_tag nothing targets lines others };
 
     fn decorate_link_start(
         &mut self,

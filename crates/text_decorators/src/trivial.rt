@@ -1,6 +1,5 @@
 ghost use Rattle.std.specs.Prelude.{refl, false};
-ghost use Rattle.text_decorators.specs.Texts.{trivial_text, AreFootnotes};
-ghost use Rattle.text_decorators.specs.Laws.{footnotes_are_one};
+ghost use Rattle.text_decorators.specs.Texts.{trivial_text, footnote_lines};
 ghost use Rattle.text_decorators.specs.Steady.{trivial_is_steady};
 
 use crate::default_marks::{footnotes, literal, no_text, superscript_end, superscript_start};
@@ -38,11 +37,9 @@ impl TextDecorator for TrivialDecorator {
 
     ghost sub = { λ h. h };
 
-    ghost closes = { λ _ targets lines. AreFootnotes {S = Unit {0}} (λ _. tt) tt targets lines };
+    ghost closes = { λ _ targets. footnote_lines tt targets };
 
     ghost one = { λ _ _ _ _ _ _. refl };
-
-    ghost one_end = { λ _ targets lines others. footnotes_are_one (λ _. tt) tt targets lines others };
 
     fn decorate_link_start(
         &mut self,

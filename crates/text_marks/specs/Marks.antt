@@ -1,7 +1,8 @@
 -- What a decorator is asked for, and what its answers are to keep.
-use Rattle.std.specs.Prelude.{◌≡◌, ℕ, ◌≤◌, max, ℤ, FitsSigned, ◌≤ℤ◌, List}
+use Rattle.std.specs.Prelude.{◌≡◌, ℕ, ◌≤◌, max, ℤ, FitsSigned, ◌≤ℤ◌, List, map}
 use Rattle.std.specs.Int.{w64}
 use Rattle.tagged_lines.specs.Columns.{text_columns}
+use Rattle.tagged_lines.specs.Tagged.{Item, reitem}
 use Rattle.text_marks.specs.declared.colour.Colour.{Colour}
 
 -- A place in a page at which a decorator is asked for a text, for an annotation, or for both.
@@ -52,3 +53,7 @@ pub record IsSteady {H : Type 0} (text : H → Mark → List ℕ) : Type 0 where
   pub ends_are_widest : (h : H) (i j k : ℤ) → FitsSigned w64 i → FitsSigned w64 k → i ≤ℤ j → j ≤ℤ k
       → text_columns (text h (ordered_item j)) ≤ max (text_columns (text h (ordered_item i)))
       (text_columns (text h (ordered_item k)))
+
+-- lines under what contracts see of their tags
+abbrev pub seen_lines : {T S : Type 0} → (T → S) → List (List (Item T)) → List (List (Item S))
+seen_lines seen lines = map (map (reitem seen)) lines

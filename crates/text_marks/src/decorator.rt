@@ -1,12 +1,12 @@
 //! What marks text: the trait of decorators.
 ghost use Rattle.std.specs.Prelude.{◌≡◌, ℕ, Bool, List, map, chars, string_bytes, is_some, IfOk, IfSome, OnOk, OnErr};
-ghost use Rattle.tagged_lines.specs.Tagged.{line_items};
-ghost use Rattle.tagged_lines.specs.declared.tagged_line.TaggedLine.{TaggedLine as SeenLine};
+ghost use Rattle.tagged_lines.specs.Tagged.{Item, line_items};
 ghost use Rattle.text_marks.specs.Marks.{Mark, IsSteady, link_start, link_end, emphasis_start, emphasis_end};
 ghost use Rattle.text_marks.specs.Marks.{strong_start, strong_end, strikeout_start, strikeout_end, code_start};
 ghost use Rattle.text_marks.specs.Marks.{code_end, superscript_start, superscript_end, image, preformat_first};
 ghost use Rattle.text_marks.specs.Marks.{preformat_further, header, quote, unordered_item, ordered_item};
 ghost use Rattle.text_marks.specs.Marks.{colour_start, colour_end, background_start, background_end, page_end};
+ghost use Rattle.text_marks.specs.Marks.{seen_lines};
 
 use crate::colour::Colour;
 use std::alloc::{AllocError, Global};
@@ -16,7 +16,7 @@ use tagged_lines::{EqualCopy, TaggedLine};
 /// decorator answers is a function of what it holds: contracts see that, the text of each mark (`text`), the
 /// annotations that fit it (`gives`, of which all are seen alike), whether there is one (`marks`), what is held
 /// behind it (`after`), whether an annotation ends (`pops`), what a decorator for a part of the page holds (`sub`) and
-/// which lines stand behind the page (`closes`). Every error is want of memory, and leaves a decorator as it was.
+/// the lines after the page (`closes`), up to what is seen of their annotations. Every error is allocation failure, and leaves a decorator as it was.
 pub trait TextDecorator {
     /// What is noted beside a text.
     type Annotation: EqualCopy + Default + Drop;
@@ -37,7 +37,7 @@ pub trait TextDecorator {
 
     ghost sub: { Held → Held };
 
-    ghost closes: { Held → List (List ℕ) → List (SeenLine Self.Annotation) → Type 0 };
+    ghost closes: { Held → List (List ℕ) → List (List (Item Self.Annotation)) };
 
     /// The text before a link to `url`, and its annotation.
     fn decorate_link_start(
@@ -182,24 +182,21 @@ pub trait TextDecorator {
         ensures pops { result ≡ pops (held self.old) background_end }
         ensures after { held self.new ≡ after (held self.old) background_end };
 
-    /// The lines behind the page whose links have these targets.
+    /// The lines after the page whose links have these targets.
     fn finalise(
         &mut self,
         alloc: Global,
         urls: Vec<String>,
     ) -> Result<Vec<TaggedLine<Self::Annotation>>, AllocError>
-        ensures closes { IfOk result (λ lines. closes (held self.old) (map (λ url. chars (string_bytes url)) urls.items)
-            lines.items) }
+        ensures closes { IfOk result (λ lines. map (line_items Self.Annotation.seen) lines.items
+            ≡ seen_lines Self.Annotation.seen
+            (closes (held self.old) (map (λ url. chars (string_bytes url)) urls.items))) }
         ensures after { OnOk result (held self.new
             ≡ after (held self.old) (page_end (map (λ url. chars (string_bytes url)) urls.items))) }
         ensures stays { OnErr result (held self.new ≡ held self.old) };
 
     ghost one: { (h : Held) (m : Mark) (a b : Self.Annotation) → gives h m a → gives h m b
         → Self.Annotation.seen a ≡ Self.Annotation.seen b };
-
-    ghost one_end: { (h : Held) (targets : List (List ℕ)) (lines others : List (SeenLine Self.Annotation))
-        → closes h targets lines → closes h targets others
-        → map (line_items Self.Annotation.seen) lines ≡ map (line_items Self.Annotation.seen) others };
 }
 
 /// A decorator whose prefixes depend on level and number alone; of three numbers in order the middle one's is no wider

@@ -25,7 +25,7 @@ impl Error for TooNarrow {}
 pub enum BlockError {
     /// A character is wider than the block's lines.
     TooNarrow,
-    /// A growth was refused for want of memory.
+    /// A growth was refused since allocation fails.
     Memory,
     /// An earlier call was refused, so the block answers no more.
     Failed,

@@ -7,8 +7,8 @@ use crate::piece::{Piece, TextPiece};
 use std::alloc::AllocError;
 use tagged_lines::EqualCopy;
 
-/// Adds characters with those tags at the end; they join the last piece, where its tags are equal. The error is want of
-/// memory alone.
+/// Adds characters with those tags at the end; they join the last piece, where its tags are equal. The error is
+/// allocation failure alone.
 #[inline(always)]
 pub fn push_text<T: EqualCopy + Drop>(
     pieces: &mut Vec<Piece<T>>,

@@ -15,7 +15,7 @@ pub enum Piece<T> {
 }
 
 impl<T: EqualCopy + Drop> Piece<T> {
-    /// An equal piece, in the memory of this one. The error is want of memory alone.
+    /// An equal piece, in the memory of this one. The error is allocation failure alone.
     pub fn try_clone(&self) -> Result<Piece<T>, AllocError>
         ensures { IfOk result (λ copy. piece_sources T.seen copy ≡ piece_sources T.seen self.now) }
     {
@@ -53,7 +53,7 @@ impl<T: EqualCopy> TextPiece<T> {
 }
 
 impl<T: EqualCopy + Drop> TextPiece<T> {
-    /// A piece of that text. The error is want of memory alone.
+    /// A piece of that text. The error is allocation failure alone.
     pub fn new(
         alloc: Global,
         text: &str,
@@ -70,7 +70,7 @@ impl<T: EqualCopy + Drop> TextPiece<T> {
         })
     }
 
-    /// An equal piece, in the memory of this one. The error is want of memory alone.
+    /// An equal piece, in the memory of this one. The error is allocation failure alone.
     pub fn try_clone(&self) -> Result<TextPiece<T>, AllocError>
         ensures { IfOk result (λ copy. text_sources T.seen copy ≡ text_sources T.seen self.now) }
     {

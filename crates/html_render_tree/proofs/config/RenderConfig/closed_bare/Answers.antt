@@ -1,4 +1,4 @@
-use Rattle.std.proofs.Common.{◌≡◌, ◌∙◌, Err, ap, inl, inr}
+use Rattle.std.proofs.Common.{◌≡◌, ◌∙◌, Err, Some, ap, inr}
 use Rattle.std.proofs.lemmas.Result.{err_from_is_err_and}
 use Rattle.block_renderer.specs.Seen.{marking, sub_of}
 use Rattle.render_conversion.specs.declared.error.RenderError.TheVariants.{TooNarrow}
@@ -19,8 +19,8 @@ returns-in-Ok-clause-closed g c = λ tag p.
       laid = c.annotations_change_no_page.ensures m;
     } in
     closed_alike laws seen d.closes (setting_of d.held d.sub c.args.self.now) c.args.width c.args.tree.now
-    (parts_of seen d.held c.in_ok-text.text) (sub_of seen d.held c.in-Ok.sub) (c.in_ok-text.ensures.laid tag p)
-    (c.in-Ok.ensures.noted tag p)
+    (parts_of seen d.held c.in_ok-text.text) (Some (sub_of seen d.held c.in-Ok.sub))
+    (c.in_ok-text.ensures.laid tag p) (c.in-Ok.ensures.closed tag p)
 
 pub returns-in-Err-clause-narrow : goal.returns-in-Err-clause-narrow
 returns-in-Err-clause-narrow g c = λ e.
@@ -44,6 +44,7 @@ returns-in_err-text-clause-narrow g c = λ e.
     let q = err_from_is_err_and c.from_residual.result c.from_residual.ensures.1 in
     let same : c.in_err-text.field-0.0 ≡ TooNarrow = cc (q.1, q.2, e) in
     let d = g.D.TextDecorator in
+    let seen = g.D.Annotation.EqualCopy.seen in
     or_else (λ never. λ tag p.
     let m = marking d.text tag d.marks d.after d.pops d.sub in
     let laws : BareLaws m = record {
@@ -52,5 +53,6 @@ returns-in_err-text-clause-narrow g c = λ e.
       bare = λ s. c.annotations_change_no_text.ensures.bare s;
       laid = c.annotations_change_no_page.ensures m;
     } in
-    inl (never_laid laws (setting_of d.held d.sub c.args.self.now) c.args.width c.args.tree.now (never tag p)))
+    never_laid laws seen d.closes (setting_of d.held d.sub c.args.self.now) c.args.width c.args.tree.now
+    (never tag p))
     (c.laid.ensures.narrow (c.in_err-text.was ∙ ap Err same))
