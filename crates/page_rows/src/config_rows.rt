@@ -1,5 +1,5 @@
 //! Configurations through the public calls: decorators, options, rules of style, tables of references and rich pages.
-use crate::checks::{holds, is_answer, plain, told};
+use crate::checks::{holds, is_answer, passes, plain};
 use crate::devices::page_by;
 use html_lexemes::LocalName;
 use html2text::{
@@ -229,8 +229,8 @@ fn is_coloured(alloc: Global) -> Result<bool, Error> {
 
 #[test]
 fn rich_pages_are_read(rt: HostRuntime) {
-    told(&rt, is_emphasised(rt.alloc()), "a line");
-    told(&rt, is_coloured(rt.alloc()), "render_coloured");
+    passes(&rt, is_emphasised(rt.alloc()), "a line");
+    passes(&rt, is_coloured(rt.alloc()), "render_coloured");
 }
 
 #[test]

@@ -1,5 +1,5 @@
 //! Pages as render trees.
-use crate::trees::{told, tree_of};
+use crate::trees::{passes, tree_of};
 use html_lexemes::LocalName;
 use html_render_tree::{RenderError, decorating_rules};
 use render_conversion::dom_to_render_tree;
@@ -73,7 +73,7 @@ fn is_marked(alloc: Global, page: &str, lines: &str) -> Result<bool, RenderError
 #[test]
 fn pages_have_render_trees(rt: HostRuntime) {
     for (row, (page, lines)) in PAGES.iter().enumerate() {
-        told(&rt, is_marked(rt.alloc(), page, lines), row);
+        passes(&rt, is_marked(rt.alloc(), page, lines), row);
     }
 }
 
@@ -120,7 +120,7 @@ fn are_rules_met(alloc: Global) -> Result<bool, RenderError> {
 
 #[test]
 fn rules_say_how_values_look(rt: HostRuntime) {
-    told(&rt, are_rules_met(rt.alloc()), 0);
+    passes(&rt, are_rules_met(rt.alloc()), 0);
 }
 
 fn is_hidden(alloc: Global) -> Result<bool, RenderError> {
@@ -131,5 +131,5 @@ fn is_hidden(alloc: Global) -> Result<bool, RenderError> {
 
 #[test]
 fn a_hidden_page_fails(rt: HostRuntime) {
-    told(&rt, is_hidden(rt.alloc()), 0);
+    passes(&rt, is_hidden(rt.alloc()), 0);
 }

@@ -1,6 +1,6 @@
 //! Which values are articles, and which fault of the others is the first.
 use crate::articles::{Step, article_of};
-use crate::trees::{holds, told};
+use crate::trees::{holds, passes};
 use html2text::{ArticleError, Block};
 use std::alloc::{AllocError, Global};
 
@@ -276,14 +276,14 @@ fn is_answered(alloc: Global, row: &Row, may_lack: bool) -> bool {
 }
 
 #[test]
-fn a_fault_is_told(rt: HostRuntime) {
+fn a_fault_is_reported(rt: HostRuntime) {
     for (at, row) in SMALL.iter().enumerate() {
         holds(&rt, is_answered(rt.alloc(), row, false), at);
     }
 }
 
 #[test]
-fn the_first_fault_is_told(rt: HostRuntime) {
+fn the_first_fault_is_reported(rt: HostRuntime) {
     for (at, row) in OTHERS.iter().enumerate() {
         holds(&rt, is_answered(rt.alloc(), row, false), at);
     }
@@ -326,6 +326,6 @@ fn has_text(alloc: Global) -> Result<bool, AllocError> {
 
 #[test]
 fn articles_have_parts_and_faults_a_text(rt: HostRuntime) {
-    told(&rt, is_kept(rt.alloc()), 0);
-    told(&rt, has_text(rt.alloc()), 1);
+    passes(&rt, is_kept(rt.alloc()), 0);
+    passes(&rt, has_text(rt.alloc()), 1);
 }

@@ -1,5 +1,5 @@
 //! Pages from outside, through the public calls. Readers and writers are in memory.
-use crate::checks::{holds, is_answer, plain, told};
+use crate::checks::{holds, is_answer, passes, plain};
 use crate::devices::{Pieces, Taker, page_by};
 use html2text::{Device, Error, PlainLine, ReferenceTable, from_read, run};
 use std::alloc::{AllocError, Global};
@@ -153,7 +153,7 @@ fn are_columns(alloc: Global) -> Result<bool, Error> {
 
 #[test]
 fn lines_are_given_one_by_one(rt: HostRuntime) {
-    told(&rt, are_columns(rt.alloc()), "two lines");
+    passes(&rt, are_columns(rt.alloc()), "two lines");
 }
 
 /// What came of a page that was written.
@@ -195,7 +195,7 @@ fn is_read_or_nothing(alloc: Global, reads: usize) -> Result<bool, Error> {
 #[test]
 fn a_reader_that_fails_leaves_nothing_written(rt: HostRuntime) {
     for reads in 0..6 {
-        told(
+        passes(
             &rt,
             is_read_or_nothing(rt.alloc(), reads),
             "a reader that fails",
@@ -231,7 +231,7 @@ fn is_beginning(alloc: Global, case: usize) -> Result<bool, Error> {
 #[test]
 fn a_writer_that_fails_has_a_beginning(rt: HostRuntime) {
     for case in 0..6 * 37 {
-        told(&rt, is_beginning(rt.alloc(), case), "a writer that fails");
+        passes(&rt, is_beginning(rt.alloc(), case), "a writer that fails");
     }
 }
 
@@ -263,7 +263,7 @@ fn is_read_or_refused(alloc: Global) -> bool {
 
 /// This one holds also where a request for memory is refused, each in turn: `rt try --test --fail-alloc N`.
 #[test]
-fn a_refused_growth_is_told(rt: HostRuntime) {
+fn a_refused_growth_is_reported(rt: HostRuntime) {
     holds(&rt, is_read_or_refused(rt.alloc()), "the first page");
     holds(&rt, is_written_or_refused(rt.alloc()), "the text written");
 }
@@ -281,8 +281,8 @@ fn is_text(alloc: Global, error: &Error, text: &str) -> Result<bool, AllocError>
 }
 
 #[test]
-fn errors_are_told(rt: HostRuntime) {
+fn errors_are_reported(rt: HostRuntime) {
     for (error, text) in &ERRORS {
-        told(&rt, is_text(rt.alloc(), error, text), text);
+        passes(&rt, is_text(rt.alloc(), error, text), text);
     }
 }

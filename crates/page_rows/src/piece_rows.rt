@@ -1,5 +1,5 @@
 //! Pages that come piece by piece, through the public calls.
-use crate::checks::{holds, plain, told};
+use crate::checks::{holds, passes, plain};
 use crate::config_rows::MARKED;
 use html2text::{Config, Error, Page, PlainDecorator, RcDom};
 use std::alloc::Global;
@@ -76,7 +76,7 @@ fn is_answered(alloc: Global, row: &Row) -> Result<bool, Error> {
 #[test]
 fn bytes_are_counted_piece_by_piece(rt: HostRuntime) {
     for row in &ROWS {
-        told(&rt, is_answered(rt.alloc(), row), "so many bytes");
+        passes(&rt, is_answered(rt.alloc(), row), "so many bytes");
     }
 }
 
@@ -113,5 +113,5 @@ fn are_three_lines<R: Abort>(rt: &R, alloc: Global) -> Result<bool, Error> {
 
 #[test]
 fn a_page_comes_piece_by_piece(rt: HostRuntime) {
-    told(&rt, are_three_lines(&rt, rt.alloc()), "three lines");
+    passes(&rt, are_three_lines(&rt, rt.alloc()), "three lines");
 }

@@ -1,6 +1,6 @@
 //! Pages as text, and what a reader of pages answers.
 use crate::devices::Pieces;
-use crate::trees::{holds, told, tree_of};
+use crate::trees::{holds, passes, tree_of};
 use html_lexemes::{Device, ReferenceTable};
 use html_render_dom::RcDom;
 use html_render_tree::{RenderConfig, RenderError};
@@ -126,5 +126,5 @@ fn is_refused_on(alloc: Global) -> Result<bool, PageFault> {
 
 #[test]
 fn a_refused_page_goes_no_further(rt: HostRuntime) {
-    told(&rt, is_refused_on(rt.alloc()), 0);
+    passes(&rt, is_refused_on(rt.alloc()), 0);
 }

@@ -71,7 +71,7 @@ fn pages_are_answered_or_refused(rt: HostRuntime) {
     }
 }
 
-/// Texts that are no tables, and what is told of them.
+/// Texts that are no tables, and what is reported of them.
 static TABLES: [(&str, &str); 4] = [
     ("{", "no JSON"),
     ("[]", "no object"),

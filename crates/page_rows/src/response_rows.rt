@@ -1,6 +1,6 @@
 //! Command lines with a page, and what the program answers: its status, and what it writes to which stream.
 
-use crate::checks::{holds, told};
+use crate::checks::{holds, passes};
 use crate::devices::{Shelf, Taker, page_by};
 use crate::page_rows::{FIRST_PAGE, FIRST_TEXT};
 use crate::word_rows::words_of;
@@ -187,7 +187,7 @@ fn words_or_fault(
 struct Answer {
     status: u8,
     written: Vec<u8>,
-    told: Vec<u8>,
+    reported: Vec<u8>,
 }
 
 fn answer_to(
@@ -202,11 +202,11 @@ fn answer_to(
     let mut errors = Device::new(Taker::new(alloc)?);
     let status = respond(alloc, words, &Shelf, &mut input, &mut output, &mut errors);
     let written = output.into_inner().taken;
-    let told = errors.into_inner().taken;
+    let reported = errors.into_inner().taken;
     Ok(Answer {
         status,
         written,
-        told,
+        reported,
     })
 }
 
@@ -217,17 +217,17 @@ fn is_answered(alloc: Global, row: &Row) -> Result<bool, AllocError> {
         Some(text) => found.written.as_slice() == text.as_bytes(),
         None => !found.written.is_empty(),
     };
-    let is_told = match complaint {
-        Some(complaint) => found.told.as_slice() == complaint.as_bytes(),
-        None => found.told.as_slice().starts_with(b"html2text: "),
+    let is_reported = match complaint {
+        Some(complaint) => found.reported.as_slice() == complaint.as_bytes(),
+        None => found.reported.as_slice().starts_with(b"html2text: "),
     };
-    Ok(found.status == status && is_written && is_told)
+    Ok(found.status == status && is_written && is_reported)
 }
 
 #[test]
 fn lines_are_answered(rt: HostRuntime) {
     for row in &ROWS {
-        told(
+        passes(
             &rt,
             is_answered(rt.alloc(), row),
             row.0.unwrap_or("no words"),
@@ -242,13 +242,13 @@ fn is_stuck(alloc: Global, line: &str) -> Result<bool, AllocError> {
     taker.is_stuck = true;
     let found = answer_to(alloc, Ok(line), FIRST_PAGE, taker)?;
     let complaint = b"html2text: read or write failed\n".as_slice();
-    Ok(found.status == 1 && !found.written.is_empty() && found.told.as_slice() == complaint)
+    Ok(found.status == 1 && !found.written.is_empty() && found.reported.as_slice() == complaint)
 }
 
 #[test]
-fn a_refused_flush_is_told(rt: HostRuntime) {
+fn a_refused_flush_is_reported(rt: HostRuntime) {
     for line in &STUCK {
-        told(&rt, is_stuck(rt.alloc(), line), line);
+        passes(&rt, is_stuck(rt.alloc(), line), line);
     }
 }
 
@@ -263,14 +263,14 @@ fn is_refused(alloc: Global) -> Result<bool, AllocError> {
     let request = request_of(alloc, Ok(words_of(alloc, "html2text --width 1")?));
     let is_one = matches!(request, Ok(Request { width: 1, .. }));
     let outcome = carry_out(alloc, request, &Shelf, &mut input, &mut output, &mut errors);
-    let told = errors.into_inner().taken;
-    let is_begun = told.as_slice() == b"html2text: ".as_slice();
+    let reported = errors.into_inner().taken;
+    let is_begun = reported.as_slice() == b"html2text: ".as_slice();
     Ok(is_one && is_begun && outcome == Outcome::Page(Error::TooNarrow))
 }
 
 #[test]
 fn a_fault_of_standard_error_changes_nothing_else(rt: HostRuntime) {
-    told(&rt, is_refused(rt.alloc()), "the outcome");
+    passes(&rt, is_refused(rt.alloc()), "the outcome");
     let text = WordFault::NotUtf8.text();
     let is_so = text == "a word of the command line is not UTF-8";
     holds(&rt, is_so, "a text of words");

@@ -1,4 +1,4 @@
-use crate::trees::{told, tree_of};
+use crate::trees::{passes, tree_of};
 use html_render_tree::RenderError;
 use render_conversion::dom_to_render_tree;
 use render_sizes::{Extent, Prefixes, asked_extents, measured};
@@ -82,6 +82,6 @@ fn are_sizes(alloc: Global, page: &str, all: &str, asked: &str) -> Result<bool, 
 #[test]
 fn values_have_sizes(rt: HostRuntime) {
     for (row, (page, all, asked)) in SIZES.iter().enumerate() {
-        told(&rt, are_sizes(rt.alloc(), page, all, asked), row);
+        passes(&rt, are_sizes(rt.alloc(), page, all, asked), row);
     }
 }

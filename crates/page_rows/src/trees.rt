@@ -11,7 +11,7 @@ pub(crate) fn holds<R: Abort>(rt: &R, is_so: bool, row: usize) {
 }
 
 /// The same of an answer that is there just where nothing is refused.
-pub(crate) fn told<R: Abort, E: Drop>(rt: &R, answer: Result<bool, E>, row: usize) {
+pub(crate) fn passes<R: Abort, E: Drop>(rt: &R, answer: Result<bool, E>, row: usize) {
     holds(rt, answer.unwrap_or(false), row);
 }
 

@@ -3,7 +3,7 @@ use crate::checks::holds;
 use html2text::{Error, Outcome, Request, WordFault, exit_status, read_words};
 use std::alloc::{AllocError, Global};
 
-/// A line of words, cut at spaces, and what it comes to: what is asked for, as `told` tells it; `help`; or `words`,
+/// A line of words, cut at spaces, and what it comes to: what is asked for, as `spelt` writes it; `help`; or `words`,
 /// where it is refused.
 static LINES: [(&str, &str); 62] = [
     ("", "80"),
@@ -91,7 +91,7 @@ pub(crate) fn words_of(alloc: Global, line: &str) -> Result<Vec<String>, AllocEr
 }
 
 /// What is asked for: the width, and then what was named, in one order.
-fn told(alloc: Global, request: &Request) -> Result<String, AllocError> {
+fn spelt(alloc: Global, request: &Request) -> Result<String, AllocError> {
     let mut text = request.width.to_string(alloc)?;
     if request.rich {
         text.push_str(" rich")?;
@@ -123,7 +123,7 @@ fn is_answered(alloc: Global, line: &str, wanted: &str, may_lack: bool) -> bool 
         return may_lack;
     };
     match read_words(alloc, &words) {
-        Ok(request) => match told(alloc, &request) {
+        Ok(request) => match spelt(alloc, &request) {
             Ok(text) => text.as_str() == wanted,
             Err(AllocError) => may_lack,
         },

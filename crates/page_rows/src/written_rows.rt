@@ -62,8 +62,8 @@ fn is_cut_everywhere(alloc: Global) -> bool {
     };
     for room in 0..PAGE.len() {
         let cut = written_in(alloc, &article, room);
-        let is_told = cut.fault == Some(SerializeFault::Write);
-        if !is_told || !cut.is_beginning || cut.length != room {
+        let is_reported = cut.fault == Some(SerializeFault::Write);
+        if !is_reported || !cut.is_beginning || cut.length != room {
             return false;
         }
     }
@@ -75,7 +75,7 @@ fn a_writer_that_fails_has_a_beginning(rt: HostRuntime) {
     holds(&rt, is_cut_everywhere(rt.alloc()), 0);
 }
 
-// whether a refused growth is told, and the article stands
+// whether a refused growth is reported, and the article stands
 fn is_whole_or_refused(alloc: Global) -> bool {
     let Ok(Ok(article)) = article_of(alloc, None, &QUOTED) else {
         return true;
@@ -84,12 +84,12 @@ fn is_whole_or_refused(alloc: Global) -> bool {
     if first.is_whole() {
         return true;
     }
-    let is_told = first.fault == Some(SerializeFault::Memory) && first.is_beginning;
-    is_told && written_in(alloc, &article, ROOM).is_whole()
+    let is_reported = first.fault == Some(SerializeFault::Memory) && first.is_beginning;
+    is_reported && written_in(alloc, &article, ROOM).is_whole()
 }
 
 /// This one holds also where a request for memory is refused, each in turn: `rt try --test --fail-alloc N`.
 #[test]
-fn a_refused_growth_is_told(rt: HostRuntime) {
+fn a_refused_growth_is_reported(rt: HostRuntime) {
     holds(&rt, is_whole_or_refused(rt.alloc()), 0);
 }

@@ -1,4 +1,4 @@
-use crate::checks::told;
+use crate::checks::passes;
 use crate::decorator_tests::{ORANGE, rich_notes};
 use std::alloc::{AllocError, Global};
 use tagged_lines::EqualCopy;
@@ -42,7 +42,7 @@ fn are_copied(alloc: Global) -> Result<bool, AllocError> {
 
 #[test]
 fn a_copy_equals_its_source_alone(rt: HostRuntime) {
-    told(&rt, are_copied(rt.alloc()), "a copy");
+    passes(&rt, are_copied(rt.alloc()), "a copy");
 }
 
 static COLOURS: [(Colour, &str); 2] = [
@@ -57,6 +57,6 @@ fn is_text(alloc: Global, colour: Colour, wanted: &str) -> Result<bool, AllocErr
 #[test]
 fn a_colours_text(rt: HostRuntime) {
     for (colour, wanted) in &COLOURS {
-        told(&rt, is_text(rt.alloc(), *colour, wanted), wanted);
+        passes(&rt, is_text(rt.alloc(), *colour, wanted), wanted);
     }
 }

@@ -1,4 +1,4 @@
-use crate::checks::{holds, told};
+use crate::checks::{holds, passes};
 use std::alloc::{AllocError, Global};
 use std::fmt::Display;
 use text_block_renderer::{
@@ -49,7 +49,7 @@ fn are_wrapped(alloc: Global, row: &Row) -> Result<bool, BlockError> {
 #[test]
 fn lines_of_texts(rt: HostRuntime) {
     for row in &ROWS {
-        told(&rt, are_wrapped(rt.alloc(), row), row.1);
+        passes(&rt, are_wrapped(rt.alloc(), row), row.1);
     }
 }
 
@@ -144,7 +144,7 @@ fn are_all_alike(alloc: Global) -> Result<bool, BlockError> {
 
 #[test]
 fn a_thousand_texts_in_every_cut(rt: HostRuntime) {
-    told(&rt, are_all_alike(rt.alloc()), "a text");
+    passes(&rt, are_all_alike(rt.alloc()), "a text");
 }
 
 // Markers behind the last text are taken, and stand in no line then.
@@ -167,8 +167,8 @@ fn is_narrow(alloc: Global) -> Result<bool, BlockError> {
 
 #[test]
 fn trailing_fragments(rt: HostRuntime) {
-    told(&rt, are_fragments_taken(rt.alloc()), "a marker");
-    told(&rt, is_narrow(rt.alloc()), "a narrow block");
+    passes(&rt, are_fragments_taken(rt.alloc()), "a marker");
+    passes(&rt, is_narrow(rt.alloc()), "a narrow block");
 }
 
 static ERRORS: [(BlockError, &str); 3] = [
@@ -184,9 +184,9 @@ fn is_text<T: Display>(alloc: Global, error: &T, wanted: &str) -> Result<bool, A
 #[test]
 fn texts_of_errors(rt: HostRuntime) {
     for (error, wanted) in &ERRORS {
-        told(&rt, is_text(rt.alloc(), error, wanted), wanted);
+        passes(&rt, is_text(rt.alloc(), error, wanted), wanted);
     }
-    told(
+    passes(
         &rt,
         is_text(rt.alloc(), &TooNarrow, ERRORS[0].1),
         "too narrow",

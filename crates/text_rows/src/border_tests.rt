@@ -1,4 +1,4 @@
-use crate::checks::{holds, told};
+use crate::checks::{holds, passes};
 use std::alloc::{AllocError, Global};
 use tagged_lines::TaggedLine;
 use text_borders::{BorderHoriz, BorderSegHoriz, RenderLine};
@@ -176,7 +176,7 @@ fn is_row(alloc: Global, row: &Row) -> Result<bool, AllocError> {
 #[test]
 fn borders_are_drawn(rt: HostRuntime) {
     for row in &ROWS {
-        told(&rt, is_row(rt.alloc(), row), row.3);
+        passes(&rt, is_row(rt.alloc(), row), row.3);
     }
 }
 
@@ -247,6 +247,6 @@ fn is_widened(alloc: Global, row: &Widened) -> Result<bool, AllocError> {
 #[test]
 fn lines_of_blocks_are_widened(rt: HostRuntime) {
     for row in &WIDENED {
-        told(&rt, is_widened(rt.alloc(), row), row.2);
+        passes(&rt, is_widened(rt.alloc(), row), row.2);
     }
 }

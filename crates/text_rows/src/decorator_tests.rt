@@ -1,4 +1,4 @@
-use crate::checks::{holds, told};
+use crate::checks::{holds, passes};
 use link_counting::{LinkCounter, LinkNote, counted_links, link, two_links};
 use std::alloc::{AllocError, Global};
 use text_decorators::{
@@ -168,10 +168,10 @@ fn is_counter(alloc: Global) -> Result<bool, AllocError> {
 #[test]
 fn answers_of_each_decorator(rt: HostRuntime) {
     let alloc = rt.alloc();
-    told(&rt, is_plain(alloc), "plain");
-    told(&rt, is_trivial(alloc), "trivial");
-    told(&rt, is_rich(alloc), "rich");
-    told(&rt, is_counter(alloc), "a counter");
+    passes(&rt, is_plain(alloc), "plain");
+    passes(&rt, is_trivial(alloc), "trivial");
+    passes(&rt, is_rich(alloc), "rich");
+    passes(&rt, is_counter(alloc), "a counter");
 }
 
 /// The annotations that rich text gives to a link, inline parts, an image, texts as they are laid out, and colours.

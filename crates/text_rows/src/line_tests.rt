@@ -1,4 +1,4 @@
-use crate::checks::told;
+use crate::checks::passes;
 use link_counting::LinkNote;
 use std::alloc::{AllocError, Global};
 use text_decorators::{EqualCopy, TaggedLine, TaggedLineElement, TaggedString};
@@ -120,11 +120,11 @@ fn do_texts_move(alloc: Global) -> Result<bool, AllocError> {
 #[test]
 fn lines_and_tags(rt: HostRuntime) {
     let alloc = rt.alloc();
-    told(&rt, do_equal_tags_join(alloc), "equal tags");
-    told(&rt, do_lines_join(alloc), "lines that join");
-    told(&rt, do_texts_move(alloc), "texts that move");
-    told(&rt, do_tags_change_alone(alloc), "other tags");
-    told(&rt, is_string(alloc), "a text");
-    told(&rt, is_element(alloc), "an element");
-    told(&rt, are_lists_tags(alloc), "lists of tags");
+    passes(&rt, do_equal_tags_join(alloc), "equal tags");
+    passes(&rt, do_lines_join(alloc), "lines that join");
+    passes(&rt, do_texts_move(alloc), "texts that move");
+    passes(&rt, do_tags_change_alone(alloc), "other tags");
+    passes(&rt, is_string(alloc), "a text");
+    passes(&rt, is_element(alloc), "an element");
+    passes(&rt, are_lists_tags(alloc), "lists of tags");
 }

@@ -1,4 +1,4 @@
-use crate::checks::{holds, told};
+use crate::checks::{holds, passes};
 use std::alloc::{AllocError, Global};
 use text_block_renderer::{
     BlockError, PlainDecorator, RenderOptions, Renderer, SubRenderer, TextRenderer,
@@ -126,9 +126,9 @@ fn is_one_string(alloc: Global) -> Result<bool, BlockError> {
 #[test]
 fn renderers_and_pages(rt: HostRuntime) {
     let alloc = rt.alloc();
-    told(&rt, is_refused_on(alloc), "a refused renderer");
-    told(&rt, are_parts(alloc), "parts of a page");
-    told(&rt, are_failed_parts_refused(alloc), "parts that failed");
-    told(&rt, are_footnotes_cut(alloc), "footnotes");
-    told(&rt, is_one_string(alloc), "no annotations");
+    passes(&rt, is_refused_on(alloc), "a refused renderer");
+    passes(&rt, are_parts(alloc), "parts of a page");
+    passes(&rt, are_failed_parts_refused(alloc), "parts that failed");
+    passes(&rt, are_footnotes_cut(alloc), "footnotes");
+    passes(&rt, is_one_string(alloc), "no annotations");
 }

@@ -1,5 +1,5 @@
 use crate::border_tests::{Line, Step, line_made, line_of};
-use crate::checks::{holds, told};
+use crate::checks::{holds, passes};
 use std::alloc::{AllocError, Global};
 use tagged_lines::TaggedLine;
 use text_borders::{BorderHoriz, RenderLine};
@@ -72,7 +72,7 @@ static TABLES: [Table; 5] = [
 #[test]
 fn tables_are_drawn(rt: HostRuntime) {
     for table in &TABLES {
-        told(&rt, is_shown(rt.alloc(), table), "a table");
+        passes(&rt, is_shown(rt.alloc(), table), "a table");
     }
 }
 
@@ -168,7 +168,7 @@ fn lines_of(alloc: Global, lines: RowLines<()>) -> Result<Vec<TaggedLine<()>>, A
 
 #[test]
 fn cells_of_many_lines_are_filled(rt: HostRuntime) {
-    told(&rt, are_many_filled(rt.alloc()), "a cell of many lines");
+    passes(&rt, are_many_filled(rt.alloc()), "a cell of many lines");
 }
 
 /// Whether forty lines are filled in a cell of three columns, stay as they are in another, and are filled again in one

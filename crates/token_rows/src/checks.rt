@@ -7,6 +7,6 @@ pub(crate) fn holds<R: Abort>(rt: &R, is_so: bool, at: &str) {
 }
 
 /// The same of an answer that is there just where nothing is refused.
-pub(crate) fn told<R: Abort, E: Drop>(rt: &R, answer: Result<bool, E>, at: &str) {
+pub(crate) fn passes<R: Abort, E: Drop>(rt: &R, answer: Result<bool, E>, at: &str) {
     holds(rt, answer.unwrap_or(false), at);
 }

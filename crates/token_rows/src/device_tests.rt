@@ -1,5 +1,5 @@
 //! Readers and writers that fail, and the texts of faults.
-use crate::checks::{holds, told};
+use crate::checks::{holds, passes};
 use html_lexemes::{ByteReader, ByteWriter, Device, DeviceFault, ParseFault};
 use std::alloc::{AllocError, Global};
 use std::fmt::Display;
@@ -124,28 +124,28 @@ fn a_writer_in_memory_holds_what_it_took(rt: HostRuntime) {
     );
 }
 
-// whether this is how a fault is told
-fn is_told<F: Display>(alloc: Global, fault: &F, expected: &str) -> Result<bool, AllocError> {
+// whether this is how a fault is displayed
+fn is_displayed<F: Display>(alloc: Global, fault: &F, expected: &str) -> Result<bool, AllocError> {
     Ok(fault.to_string(alloc)?.as_str() == expected)
 }
 
 #[test]
-fn faults_are_told(rt: HostRuntime) {
+fn faults_are_reported(rt: HostRuntime) {
     let alloc = rt.alloc();
-    told(
+    passes(
         &rt,
-        is_told(alloc, &DeviceFault, "read or write failed"),
+        is_displayed(alloc, &DeviceFault, "read or write failed"),
         "a device",
     );
-    told(
+    passes(
         &rt,
-        is_told(alloc, &ParseFault::Memory, "out of memory"),
+        is_displayed(alloc, &ParseFault::Memory, "out of memory"),
         "memory",
     );
     let earlier = "refused after an earlier refusal";
-    told(
+    passes(
         &rt,
-        is_told(alloc, &ParseFault::Failed, earlier),
+        is_displayed(alloc, &ParseFault::Failed, earlier),
         "a refusal",
     );
 }

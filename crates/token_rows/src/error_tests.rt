@@ -1,5 +1,5 @@
 //! Each call that finds parse errors. What is found in lexemes and texts stands in the cases `tokens` of stored_rows.
-use crate::checks::{holds, told};
+use crate::checks::{holds, passes};
 use html_lexemes::states::{RawKind, ScriptEscapeKind, State};
 use html_lexemes::{ReferenceTable, TableError, TagKind};
 use parse_errors::{FoundError, ParseErrors};
@@ -61,7 +61,7 @@ fn are_found(alloc: Global, exact: bool, row: &Row) -> Result<bool, TableError> 
 
 /// This one holds also where a request for memory is refused, each in turn: `rt try --test --fail-alloc N`.
 #[test]
-fn refused_memory_is_told(rt: HostRuntime) {
+fn refused_memory_is_reported(rt: HostRuntime) {
     for row in &ROWS {
         let plain = are_found(rt.alloc(), false, row).unwrap_or(true);
         let exact = are_found(rt.alloc(), true, row).unwrap_or(true);
@@ -167,8 +167,8 @@ fn is_watched(alloc: Global) -> Result<bool, TableError> {
 #[test]
 fn errors_of_signs_are_found(rt: HostRuntime) {
     let mut errors = ParseErrors::new(rt.alloc(), true);
-    told(&rt, find_all(&mut errors, &SIGNS), "what was found");
+    passes(&rt, find_all(&mut errors, &SIGNS), "what was found");
     let is_so = are_errors(errors.take().as_slice(), &FOUND);
-    holds(&rt, is_so && errors.is_empty(), "what is told");
-    told(&rt, is_watched(rt.alloc()), "a name");
+    holds(&rt, is_so && errors.is_empty(), "what is reported");
+    passes(&rt, is_watched(rt.alloc()), "a name");
 }

@@ -1,5 +1,5 @@
 //! Texts, names, tags, tokens and states, compared.
-use crate::checks::{holds, told};
+use crate::checks::{holds, passes};
 use html_lexemes::states::{RawKind, ScriptEscapeKind, State};
 use html_lexemes::{
     Attribute, Attributes, Doctype, ErrorMessage, KnownName, LocalName, Namespace, ProcessResult,
@@ -46,7 +46,7 @@ fn are_compared(
 fn texts_are_compared_by_code_points(rt: HostRuntime) {
     for (i, first) in TEXTS.iter().enumerate() {
         for (j, second) in TEXTS.iter().enumerate() {
-            told(
+            passes(
                 &rt,
                 are_compared(rt.alloc(), first, second, i == j, i < j),
                 first,
@@ -179,7 +179,7 @@ static ORDERS: [(&[(&str, &str)], bool); 4] = [
 #[test]
 fn tags_are_equivalent_in_any_order_of_attributes(rt: HostRuntime) {
     for (pairs, expected) in &ORDERS {
-        told(&rt, is_equivalent(rt.alloc(), pairs, *expected), "an order");
+        passes(&rt, is_equivalent(rt.alloc(), pairs, *expected), "an order");
     }
 }
 
@@ -224,24 +224,24 @@ fn are_messages_lent(alloc: Global) -> Result<bool, AllocError> {
 #[test]
 fn values_are_compared_copied_and_given_back(rt: HostRuntime) {
     let alloc = rt.alloc();
-    told(&rt, is_given_back(alloc, "né"), "a text");
-    told(&rt, is_given_back(alloc, "div"), "a known name");
-    told(
+    passes(&rt, is_given_back(alloc, "né"), "a text");
+    passes(&rt, is_given_back(alloc, "div"), "a known name");
+    passes(
         &rt,
         is_known(alloc, "colgroup", Some(KnownName::Colgroup)),
         "colgroup",
     );
-    told(&rt, is_known(alloc, "colgrouq", None), "no known name");
-    told(&rt, is_known(alloc, "", None), "no name");
-    told(&rt, are_attributes_apart(alloc), "two attributes");
-    told(&rt, is_namespace_behind(alloc), "namespaces");
-    told(&rt, are_names_apart(alloc), "names");
-    told(&rt, are_a_list(alloc), "a list of attributes");
-    told(&rt, are_shared(alloc), "shared attributes");
-    told(&rt, are_tags_apart(alloc), "tags");
-    told(&rt, is_doctype_copied(alloc), "a doctype");
-    told(&rt, is_text_apart(alloc), "a text and a NUL");
-    told(&rt, are_messages_lent(alloc), "messages");
+    passes(&rt, is_known(alloc, "colgrouq", None), "no known name");
+    passes(&rt, is_known(alloc, "", None), "no name");
+    passes(&rt, are_attributes_apart(alloc), "two attributes");
+    passes(&rt, is_namespace_behind(alloc), "namespaces");
+    passes(&rt, are_names_apart(alloc), "names");
+    passes(&rt, are_a_list(alloc), "a list of attributes");
+    passes(&rt, are_shared(alloc), "shared attributes");
+    passes(&rt, are_tags_apart(alloc), "tags");
+    passes(&rt, is_doctype_copied(alloc), "a doctype");
+    passes(&rt, is_text_apart(alloc), "a text and a NUL");
+    passes(&rt, are_messages_lent(alloc), "messages");
 }
 
 #[test]

@@ -1,5 +1,5 @@
-//! Pages that are told by the plain reader and by the tokenizer, in one piece and in many.
-use crate::checks::told;
+//! Pages as the plain reader and the tokenizer read them, in one piece and in many.
+use crate::checks::passes;
 use crate::feeding::{fed, fed_plainly, first_answer, later_faults};
 use crate::sinks::{ENCODING, SCRIPT_HANDLE, Switching};
 use html_grammar::{TokenizerOpts, read_plainly};
@@ -74,7 +74,7 @@ static PAGES: [(&str, Held); 11] = [
 
 fn has(sink: Switching, held: &Held) -> Result<bool, ParseFault> {
     match *held {
-        Held::Log(lines) => Ok(sink.told.into_text()?.as_str() == lines),
+        Held::Log(lines) => Ok(sink.listed.into_text()?.as_str() == lines),
         Held::TagLine(line) => Ok(sink.tag_line == line),
     }
 }
@@ -84,7 +84,7 @@ fn is_read(alloc: Global, page: &str, log: &str) -> Result<bool, ParseFault> {
     let mut sink = Switching::new(alloc, u64::MAX)?;
     let table = ReferenceTable::basic(alloc)?;
     read_plainly(alloc, &mut sink, options(), &table, page)?;
-    Ok(sink.told.into_text()?.as_str() == log)
+    Ok(sink.listed.into_text()?.as_str() == log)
 }
 
 // of a page that is fed in pieces
@@ -95,7 +95,7 @@ fn is_fed(alloc: Global, pieces: Vec<String>, held: &Held) -> Result<bool, Parse
 }
 
 // the same however the page comes
-fn is_told(alloc: Global, page: &str, held: &Held) -> Result<bool, ParseFault> {
+fn is_tokenized(alloc: Global, page: &str, held: &Held) -> Result<bool, ParseFault> {
     for count in 0..=page.chars().count() {
         if !is_fed(alloc, halves(alloc, page, count)?, held)? {
             return Ok(false);
@@ -110,9 +110,9 @@ fn is_told(alloc: Global, page: &str, held: &Held) -> Result<bool, ParseFault> {
 }
 
 #[test]
-fn pages_are_told(rt: HostRuntime) {
+fn pages_are_tokenized(rt: HostRuntime) {
     for (page, held) in &PAGES {
-        told(&rt, is_told(rt.alloc(), page, held), page);
+        passes(&rt, is_tokenized(rt.alloc(), page, held), page);
     }
 }
 
@@ -152,7 +152,7 @@ fn is_begun(alloc: Global, row: &Beginning) -> Result<bool, ParseFault> {
 #[test]
 fn a_tokenizer_pauses_and_tells_its_state(rt: HostRuntime) {
     for row in &BEGINNINGS {
-        told(&rt, is_begun(rt.alloc(), row), row.0);
+        passes(&rt, is_begun(rt.alloc(), row), row.0);
     }
 }
 
@@ -161,21 +161,21 @@ fn is_plain(alloc: Global, front: &str, rest: &str, log: &str) -> Result<bool, P
     let sink = Switching::new(alloc, u64::MAX)?;
     let table = ReferenceTable::basic(alloc)?;
     let sink = fed_plainly(alloc, sink, options(), table, front, rest)?;
-    Ok(sink.told.into_text()?.as_str() == log)
+    Ok(sink.listed.into_text()?.as_str() == log)
 }
 
 #[test]
 fn plain_text_may_be_asked_for(rt: HostRuntime) {
     let log = "start\tp\t-\t-\ntext\ta<b>&lt;\u{fffd}\n";
-    told(
+    passes(
         &rt,
         is_plain(rt.alloc(), "<p>a", "<b>&lt;\0", log),
         "plain text",
     );
 }
 
-/// Of a page that is told to a sink that takes so many tokens, the faults of a feed and of an end. Both again are
-/// refused. The page's tokens are a tag, a text, which is told before `feed` answers `Done`, and its end.
+/// Of a page that is emitted to a sink that takes so many tokens, the faults of a feed and of an end. Both again are
+/// refused. The page's tokens are a tag, a text, which is emitted before `feed` answers `Done`, and its end.
 type Refusal = (u64, Option<ParseFault>, Option<ParseFault>);
 
 static REFUSALS: [Refusal; 4] = [
@@ -229,11 +229,11 @@ fn are_all_failed(alloc: Global) -> Result<bool, ParseFault> {
 #[test]
 fn a_refusal_lasts(rt: HostRuntime) {
     for refusal in &REFUSALS {
-        told(&rt, is_refused(rt.alloc(), refusal), "a refusal");
+        passes(&rt, is_refused(rt.alloc(), refusal), "a refusal");
     }
-    told(&rt, is_over(rt.alloc()), "the end");
-    told(&rt, are_none_late(rt.alloc()), "a sink that takes all");
-    told(&rt, are_all_failed(rt.alloc()), "a sink that refuses");
+    passes(&rt, is_over(rt.alloc()), "the end");
+    passes(&rt, are_none_late(rt.alloc()), "a sink that takes all");
+    passes(&rt, are_all_failed(rt.alloc()), "a sink that refuses");
 }
 
 /// The text that is behind the start tag of `pre` loses its first line feed, but not behind an error, as in html5ever:
@@ -264,7 +264,7 @@ fn is_left_out_of_pieces(alloc: Global, page: &str, text: &str) -> Result<bool, 
 #[test]
 fn a_line_feed_is_left_out(rt: HostRuntime) {
     for (page, text) in &LINE_FEEDS {
-        told(&rt, is_left_out(rt.alloc(), page, text), page);
-        told(&rt, is_left_out_of_pieces(rt.alloc(), page, text), page);
+        passes(&rt, is_left_out(rt.alloc(), page, text), page);
+        passes(&rt, is_left_out_of_pieces(rt.alloc(), page, text), page);
     }
 }

@@ -1,5 +1,5 @@
 //! Queues of characters.
-use crate::checks::told;
+use crate::checks::passes;
 use html_lexemes::{BufferQueue, SetResult};
 use std::alloc::{AllocError, Global};
 
@@ -256,6 +256,6 @@ fn all_go(alloc: Global, steps: &[Step]) -> Result<bool, AllocError> {
 #[test]
 fn what_comes_in_is_taken_and_put_back(rt: HostRuntime) {
     for steps in &STEPS {
-        told(&rt, all_go(rt.alloc(), steps), "some steps");
+        passes(&rt, all_go(rt.alloc(), steps), "some steps");
     }
 }

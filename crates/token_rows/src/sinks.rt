@@ -21,7 +21,7 @@ pub(crate) const ENCODING: &str = "latin1";
 #[derive(Drop)]
 pub(crate) struct Switching {
     /// The tokens' lines.
-    pub(crate) told: Listed,
+    pub(crate) listed: Listed,
     /// The line of the last tag, and 0 before the first.
     pub(crate) tag_line: u64,
     left: u64,
@@ -36,7 +36,7 @@ impl Switching {
     /// Takes so many tokens. The names are `title`, `script`, `plaintext` and `meta`, the encoding is `latin1`.
     pub(crate) fn new(alloc: Global, left: u64) -> Result<Switching, AllocError> {
         Ok(Switching {
-            told: Listed::new(alloc, Told::Tokens, false),
+            listed: Listed::new(alloc, Told::Tokens, false),
             tag_line: 0,
             left,
             rcdata: LocalName::from_str(alloc, "title")?,
@@ -126,12 +126,12 @@ impl TokenSink for Switching {
             }
             _ => TokenSinkResult::Continue,
         };
-        self.told.process_token(token, line)?;
+        self.listed.process_token(token, line)?;
         Ok(answer)
     }
 
     fn end(&mut self) -> Result<(), ParseFault> {
-        self.told.end()
+        self.listed.end()
     }
 
     fn adjusted_current_node_present_but_not_in_html_namespace(&self) -> bool {

@@ -1,5 +1,5 @@
 //! Tables of references, of pairs and of JSON texts.
-use crate::checks::told;
+use crate::checks::passes;
 use html_lexemes::{ReferenceTable, TableError};
 use std::alloc::{AllocError, Global};
 
@@ -85,7 +85,7 @@ static NO_NAMES: [Lookup; 3] = [
     ("amp;", None, false, false, None),
 ];
 
-// whether this is the longest name that a text begins with, and its value is told with it
+// whether this is the longest name that a text begins with, and its value is given with it
 fn is_longest(table: &ReferenceTable, text: &str, longest: Option<&str>) -> bool {
     match table.longest_name(text) {
         Some(found) => longest == Some(found.name) && table.value(found.name) == Some(found.value),
@@ -118,23 +118,23 @@ fn is_table(alloc: Global, source: Source, lookups: &[Lookup]) -> Result<bool, T
 #[test]
 fn names_are_looked_up(rt: HostRuntime) {
     let alloc = rt.alloc();
-    told(
+    passes(
         &rt,
         is_table(alloc, Source::Pairs(&TWO_NAMES), &LOOKUPS),
         "two names",
     );
-    told(
+    passes(
         &rt,
         is_table(alloc, Source::Pairs(&TWICE), &ONCE),
         "a name that comes twice",
     );
-    told(&rt, is_table(alloc, Source::Basic, &BASIC), "the five");
-    told(
+    passes(&rt, is_table(alloc, Source::Basic, &BASIC), "the five");
+    passes(
         &rt,
         is_table(alloc, Source::Json(NAMES), &VALUES),
         "three names",
     );
-    told(
+    passes(
         &rt,
         is_table(alloc, Source::Json("{}"), &NO_NAMES),
         "no names",
@@ -242,16 +242,16 @@ fn is_fault(alloc: Global, source: Source, expected: &str) -> Result<bool, Alloc
 }
 
 #[test]
-fn the_first_fault_is_told(rt: HostRuntime) {
+fn the_first_fault_is_reported(rt: HostRuntime) {
     for (pairs, expected) in &FAULTS {
-        told(
+        passes(
             &rt,
             is_fault(rt.alloc(), Source::Pairs(pairs), expected),
             expected,
         );
     }
     for (text, expected) in &JSON_FAULTS {
-        told(
+        passes(
             &rt,
             is_fault(rt.alloc(), Source::Json(text), expected),
             text,

@@ -11,7 +11,7 @@ abbrev pub plain : QualName → Forest → Forest
 plain name f = made_element name [] false false f
 
 abbrev pub attributed : QualName × List Attribute → Forest → Forest
-attributed told f = made_element told.0 told.1 false false f
+attributed named f = made_element named.0 named.1 false false f
 
 -- a doctype and an element below the document, and two below the element
 abbrev pub outline : (name public_id system_id : List ℕ) → (html head body : QualName × List Attribute) → Forest

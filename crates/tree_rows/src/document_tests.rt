@@ -1,4 +1,4 @@
-use crate::checks::told;
+use crate::checks::passes;
 use crate::parsing::{tree_in_a_form, tree_of};
 use crate::words::attribute_name;
 use dom_dump::DomString;
@@ -8,8 +8,8 @@ use html_render_dom::{NodeData, RcDom};
 use std::alloc::{AllocError, Global};
 use tree_lines::{lines_below, lines_of};
 
-/// How a tree is told.
-enum Told {
+/// How a tree is written.
+enum Form {
     /// All of it, and that the one error is there.
     Whole,
     /// What is to be looked at.
@@ -29,67 +29,67 @@ element\thtml\thtml
 ";
 
 // pages, of which the second piece may be missing, and their trees
-type Row = (&'static str, Option<&'static str>, Told, &'static str);
+type Row = (&'static str, Option<&'static str>, Form, &'static str);
 
 static PAGES: [Row; 9] = [
-    ("<!DOCTYPE html><p>a", Some("b"), Told::Whole, PARAGRAPH),
-    ("<!DOCTYPE html><p>ab", None, Told::Whole, PARAGRAPH),
+    ("<!DOCTYPE html><p>a", Some("b"), Form::Whole, PARAGRAPH),
+    ("<!DOCTYPE html><p>ab", None, Form::Whole, PARAGRAPH),
     (
         "<p>a",
         None,
-        Told::Looked,
+        Form::Looked,
         "Document\n <html>\n  <head>\n  <body>\n   <p>\n    Text:a\n",
     ),
     // a line end and a backslash
     (
         "<!DOCTYPE html><!--a\\b--><pre>c\nd",
         None,
-        Told::Looked,
+        Form::Looked,
         "Document\n Doctype:html\n Comment:a\\\\b\n <html>\n  <head>\n  <body>\n   <pre>\n    Text:c\\nd\n",
     ),
     // what a template holds isn't written
     (
         "<template><p>x</p></template>y",
         None,
-        Told::Looked,
+        Form::Looked,
         "Document\n <html>\n  <head>\n   <template>\n  <body>\n   Text:y\n",
     ),
     // attributes aren't written, nor namespaces
     (
         "<p id=a>b<svg><path/></svg>c",
         None,
-        Told::Looked,
+        Form::Looked,
         "Document\n <html>\n  <head>\n  <body>\n   <p>\n    Text:b\n    <svg>\n     <path>\n    Text:c\n",
     ),
     (
         "<ul><li>a<li>b</ul>",
         None,
-        Told::Looked,
+        Form::Looked,
         "Document\n <html>\n  <head>\n  <body>\n   <ul>\n    <li>\n     Text:a\n    <li>\n     Text:b\n",
     ),
     (
         "<p>a<b>c",
         None,
-        Told::LookedBody,
+        Form::LookedBody,
         "<body>\n <p>\n  Text:a\n  <b>\n   Text:c\n",
     ),
     (
         "<p title=\"a&quot;b\">x&nbsp;y",
         None,
-        Told::Html,
+        Form::Html,
         "<html><head></head><body><p title=\"a&quot;b\">x&nbsp;y</p></body></html>",
     ),
 ];
 
-fn is_told(alloc: Global, dom: &RcDom, told: &Told, text: &str) -> Result<bool, ParseFault> {
-    Ok(match told {
-        Told::Whole => dom.errors().len() == 1 && lines_of(alloc, dom)?.as_str() == text,
-        Told::Looked => dom.as_dom_string(alloc)?.as_str() == text,
-        Told::LookedBody => match dom.get_node_by_path(&[0, 1]) {
+fn is_written_so(alloc: Global, dom: &RcDom, form: &Form, text: &str) -> Result<bool, ParseFault> {
+    Ok(match form {
+        Form::Whole => dom.errors().len() == 1 && lines_of(alloc, dom)?.as_str() == text,
+        Form::Looked => dom.as_dom_string(alloc)?.as_str() == text,
+        Form::LookedBody => match dom.get_node_by_path(&[0, 1]) {
             Some(body) => dom.node_as_dom_string(alloc, body)?.as_str() == text,
             None => false,
         },
-        Told::Html => {
+        Form::Html => {
             let mut writer = Device::new(Vec::new(alloc));
             let is_written = dom.serialize(alloc, &mut writer).is_ok();
             is_written && writer.into_inner().as_slice() == text.as_bytes()
@@ -99,13 +99,13 @@ fn is_told(alloc: Global, dom: &RcDom, told: &Told, text: &str) -> Result<bool, 
 
 fn is_row(alloc: Global, row: &Row) -> Result<bool, ParseFault> {
     let dom = tree_of(alloc, row.0, row.1)?;
-    is_told(alloc, &dom, &row.2, row.3)
+    is_written_so(alloc, &dom, &row.2, row.3)
 }
 
 #[test]
-fn trees_are_told(rt: HostRuntime) {
+fn trees_are_written(rt: HostRuntime) {
     for (at, row) in PAGES.iter().enumerate() {
-        told(&rt, is_row(rt.alloc(), row), at);
+        passes(&rt, is_row(rt.alloc(), row), at);
     }
 }
 
@@ -117,7 +117,7 @@ fn is_in_a_form(alloc: Global) -> Result<bool, ParseFault> {
 
 #[test]
 fn a_context_stands_in_a_form(rt: HostRuntime) {
-    told(&rt, is_in_a_form(rt.alloc()), 0);
+    passes(&rt, is_in_a_form(rt.alloc()), 0);
 }
 
 // steps from the document of a page, and the name or the text of the node that they lead to
@@ -200,5 +200,5 @@ fn are_nodes(alloc: Global) -> Result<bool, ParseFault> {
 
 #[test]
 fn nodes_tell_what_they_are(rt: HostRuntime) {
-    told(&rt, are_nodes(rt.alloc()), 0);
+    passes(&rt, are_nodes(rt.alloc()), 0);
 }

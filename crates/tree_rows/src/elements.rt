@@ -89,9 +89,9 @@ pub(crate) fn ask<S: TreeSink>(
 ) -> Result<(bool, bool, bool, bool, QualName), ParseFault>
     requires { S.forest sink.old ≡ page_alone }
     ensures forest { OnOk result (S.forest sink.new ≡ point_page first second) }
-    ensures points { IfOk result (λ told. (told.0 ≡ true) × (told.1 ≡ false)) }
-    ensures same { IfOk result (λ told. (told.2 ≡ true) × (told.3 ≡ false)) }
-    ensures name { IfOk result (λ told. told.4 ≡ first) }
+    ensures points { IfOk result (λ found. (found.0 ≡ true) × (found.1 ≡ false)) }
+    ensures same { IfOk result (λ found. (found.2 ≡ true) × (found.3 ≡ false)) }
+    ensures name { IfOk result (λ found. found.4 ≡ first) }
 {
     let flags = ElementFlags {
         template: false,

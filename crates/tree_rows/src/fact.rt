@@ -12,7 +12,7 @@ use std::alloc::Global;
 use tree_lines::lines_of;
 use tree_words::InsertionMode;
 
-/// What should hold. A node is told by the path that leads to it from the document.
+/// What should hold. A node is named by the path that leads to it from the document.
 pub(crate) enum Fact {
     /// Whether an element is in scope, in list item scope, in button scope and in table scope.
     Scopes(&'static str, bool, bool, bool, bool),
@@ -77,16 +77,16 @@ fn is_asked<S: TreeSink>(
                 && tree.in_scope(Scope::ButtonScope, set) == button
                 && tree.in_scope(Scope::TableScope, set) == table
         }
-        Fact::IsOpen(name, told) => tree.has_open(set_of(name)) == told,
-        Fact::Mode(told) => {
-            tree.reset_insertion_mode(None, true, Some(InsertionMode::InTableBody)) == told
+        Fact::IsOpen(name, expected) => tree.has_open(set_of(name)) == expected,
+        Fact::Mode(expected) => {
+            tree.reset_insertion_mode(None, true, Some(InsertionMode::InTableBody)) == expected
         }
-        Fact::RootMode(Some(name), has_head, told) => {
+        Fact::RootMode(Some(name), has_head, expected) => {
             let context = html_name(alloc, name)?;
-            tree.reset_insertion_mode(Some(&context), has_head, None) == told
+            tree.reset_insertion_mode(Some(&context), has_head, None) == expected
         }
-        Fact::RootMode(None, has_head, told) => {
-            tree.reset_insertion_mode(None, has_head, None) == told
+        Fact::RootMode(None, has_head, expected) => {
+            tree.reset_insertion_mode(None, has_head, None) == expected
         }
         Fact::Listed(behind, count) => {
             let list = tree.held.formatting();

@@ -17,11 +17,11 @@ pub(crate) fn is_listed<S: TreeSink>(
     let third = listed(alloc, sink, list, "i")?;
     let other = made(alloc, sink, "u")?;
     let name = LocalName::from_str(alloc, "b")?;
-    let is_told = tells(sink, list, &name, second, other);
+    let is_reported = tells(sink, list, &name, second, other);
     list.push_marker()?;
     let is_behind = list.last_named(&name).is_some();
     list.clear_to_marker();
-    Ok(is_told && !is_behind && is_changed(sink, list, first, second, third, other)?)
+    Ok(is_reported && !is_behind && is_changed(sink, list, first, second, third, other)?)
 }
 
 fn made<S: TreeSink>(alloc: Global, sink: &mut S, word: &str) -> Result<S::Handle, ParseFault> {

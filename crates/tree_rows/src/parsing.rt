@@ -37,7 +37,7 @@ fn parsed<S: TreeSink + Drop>(
     requires { IsForest (S.forest sink) }
 {
     let mut parser = parse_document(alloc, sink, ParseOpts::default(), table);
-    // a refused call is told by the next one
+    // a refused call is reported by the next one
     let _ = parser.process(first);
     let _ = parser.error(message);
     match last {

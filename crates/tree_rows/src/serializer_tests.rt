@@ -1,5 +1,5 @@
 //! What a serializer writes, with texts written down from the standard (WHATWG HTML, 13.3).
-use crate::checks::{holds, told};
+use crate::checks::{holds, passes};
 use crate::words::{attributes, html_name};
 use html_lexemes::Device;
 use html_serializer::{HtmlSerializer, SerializeFault, SerializeOpts, Serializer};
@@ -30,7 +30,7 @@ impl Write for Full {
     }
 }
 
-/// What a serializer is told.
+/// What a serializer is called with.
 enum Call {
     /// A start tag, and the value of its attribute `x`, if it has one.
     Start(&'static str, Option<&'static str>),
@@ -122,36 +122,36 @@ fn is_written(
     text: &str,
 ) -> Result<bool, SerializeFault> {
     let (done, refused, bytes) = written(alloc, usize::MAX, calls, SerializeFault::NoParent)?;
-    let is_told = done == most && done.saturating_add(refused) == calls.len();
-    Ok(is_told && bytes.as_slice() == text.as_bytes())
+    let is_reported = done == most && done.saturating_add(refused) == calls.len();
+    Ok(is_reported && bytes.as_slice() == text.as_bytes())
 }
 
 #[test]
 fn each_call_writes_its_text(rt: HostRuntime) {
-    told(&rt, is_written(rt.alloc(), ANCHOR, 3, ANCHOR_TEXT), 0);
-    told(&rt, is_written(rt.alloc(), PARTS, 8, PARTS_TEXT), 1);
-    told(&rt, is_written(rt.alloc(), ENDS, 1, "</p>"), 2);
+    passes(&rt, is_written(rt.alloc(), ANCHOR, 3, ANCHOR_TEXT), 0);
+    passes(&rt, is_written(rt.alloc(), PARTS, 8, PARTS_TEXT), 1);
+    passes(&rt, is_written(rt.alloc(), ENDS, 1, "</p>"), 2);
 }
 
 // whether a beginning of the text is written where so many writes are done
 fn is_begun(alloc: Global, writes: usize) -> Result<bool, SerializeFault> {
     let (done, refused, bytes) = written(alloc, writes, ANCHOR, SerializeFault::Write)?;
-    let is_told = done < ANCHOR.len() && done.saturating_add(refused) == ANCHOR.len();
+    let is_reported = done < ANCHOR.len() && done.saturating_add(refused) == ANCHOR.len();
     let text = ANCHOR_TEXT.as_bytes();
-    Ok(is_told && bytes.len() < text.len() && text.starts_with(bytes.as_slice()))
+    Ok(is_reported && bytes.len() < text.len() && text.starts_with(bytes.as_slice()))
 }
 
 // each write of some, one after another, is the first that fails
 #[test]
 fn a_writer_that_fails_has_a_beginning(rt: HostRuntime) {
     for writes in 0..12 {
-        told(&rt, is_begun(rt.alloc(), writes), writes);
+        passes(&rt, is_begun(rt.alloc(), writes), writes);
     }
 }
 
 /// This one holds also where a request for memory is refused, each in turn: `rt try --test --fail-alloc N`.
 #[test]
-fn a_refused_growth_is_told(rt: HostRuntime) {
+fn a_refused_growth_is_reported(rt: HostRuntime) {
     let is_so = match written(rt.alloc(), usize::MAX, ANCHOR, SerializeFault::NoParent) {
         Ok((3, _, bytes)) => bytes.as_slice() == ANCHOR_TEXT.as_bytes(),
         Ok((_, refused, _)) => refused == 0,

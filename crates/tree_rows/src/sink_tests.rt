@@ -2,7 +2,7 @@
 ghost use Rattle.std.specs.Prelude.{◌≡◌};
 ghost use Rattle.html_forest.specs.Forest.{page_alone};
 
-use crate::checks::told;
+use crate::checks::passes;
 use crate::crowds::crowd;
 use crate::elements::{add_twice, ask, fill_template, tell_all};
 use crate::finished::finished;
@@ -187,7 +187,7 @@ fn is_built(alloc: Global, row: &Row) -> Result<bool, ParseFault> {
 #[test]
 fn trees_are_built(rt: HostRuntime) {
     for (row, page) in PAGES.iter().enumerate() {
-        told(&rt, is_built(rt.alloc(), page), row);
+        passes(&rt, is_built(rt.alloc(), page), row);
     }
 }
 
@@ -200,8 +200,8 @@ fn is_foreign(dom: &RcDom, page: &RcDom) -> bool {
     is_document && is_none && dom.data(foreign).is_some()
 }
 
-// the tree to which all is told that changes none, and whether a shadow root was attached
-fn told_all(alloc: Global, mode: QuirksMode) -> Result<(RcDom, bool), ParseFault> {
+// the tree that gets each call that changes none, and whether a shadow root was attached
+fn report_all(alloc: Global, mode: QuirksMode) -> Result<(RcDom, bool), ParseFault> {
     let mut dom = RcDom::new(alloc)?;
     let name = html_name(alloc, "html")?;
     let message = ErrorMessage::Fixed("e");
@@ -211,26 +211,26 @@ fn told_all(alloc: Global, mode: QuirksMode) -> Result<(RcDom, bool), ParseFault
 
 // errors and the mode change no tree
 fn is_kept(alloc: Global, mode: QuirksMode, lines: &str) -> Result<bool, ParseFault> {
-    let (dom, is_attached) = told_all(alloc, mode)?;
-    let is_told = matches!(dom.errors(), [error] if error.as_str() == "e");
-    let is_so = !is_attached && is_told && dom.quirks_mode() == mode;
+    let (dom, is_attached) = report_all(alloc, mode)?;
+    let is_reported = matches!(dom.errors(), [error] if error.as_str() == "e");
+    let is_so = !is_attached && is_reported && dom.quirks_mode() == mode;
     let page = RcDom::new(alloc)?;
     Ok(is_so && is_foreign(&dom, &page) && lines_of(alloc, &dom)?.as_str() == lines)
 }
 
 #[test]
-fn what_is_told_is_kept(rt: HostRuntime) {
+fn what_is_reported_is_kept(rt: HostRuntime) {
     let lines = "quirks\tLimitedQuirks\nelement\thtml\thtml\n";
-    told(
+    passes(
         &rt,
         is_kept(rt.alloc(), QuirksMode::LimitedQuirks, lines),
         0,
     );
     let lines = "quirks\tQuirks\nelement\thtml\thtml\n";
-    told(&rt, is_kept(rt.alloc(), QuirksMode::Quirks, lines), 1);
+    passes(&rt, is_kept(rt.alloc(), QuirksMode::Quirks, lines), 1);
 }
 
-// two elements of other namespaces are told as they were made, and stand nowhere
+// two elements of other namespaces are given as they were made, and stand nowhere
 fn are_elements(alloc: Global) -> Result<bool, ParseFault> {
     let local = LocalName::from_str(alloc, "annotation-xml")?;
     let first = QualName::new(Namespace::MathMl, local);
@@ -244,7 +244,7 @@ fn are_elements(alloc: Global) -> Result<bool, ParseFault> {
 
 #[test]
 fn elements_are_asked_for(rt: HostRuntime) {
-    told(&rt, are_elements(rt.alloc()), 0);
+    passes(&rt, are_elements(rt.alloc()), 0);
 }
 
 fn is_remark(dom: &RcDom, node: Option<Handle>, text: &str) -> bool {
@@ -275,5 +275,5 @@ fn is_crowd_put(alloc: Global, count: u32) -> Result<bool, ParseFault> {
 
 #[test]
 fn a_child_has_many_before_it(rt: HostRuntime) {
-    told(&rt, is_crowd_put(rt.alloc(), 100_000), 0);
+    passes(&rt, is_crowd_put(rt.alloc(), 100_000), 0);
 }

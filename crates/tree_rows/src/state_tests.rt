@@ -2,7 +2,7 @@
 ghost use Rattle.html_tree_state.specs.Building.{seen};
 ghost use Rattle.html_tree_state.specs.Sound.{Sound};
 
-use crate::checks::told;
+use crate::checks::passes;
 use crate::fact::{Fact, is_so};
 use crate::lists::is_listed;
 use crate::rows::ROWS;
@@ -50,7 +50,7 @@ fn are_so(
 #[test]
 fn trees_are_built_step_by_step(rt: HostRuntime) {
     for (row, (first, steps, facts)) in ROWS.iter().enumerate() {
-        told(&rt, is_built(rt.alloc(), first, steps, facts), row);
+        passes(&rt, is_built(rt.alloc(), first, steps, facts), row);
     }
 }
 
@@ -62,5 +62,5 @@ fn is_changed(alloc: Global) -> Result<bool, ParseFault> {
 
 #[test]
 fn a_list_is_changed(rt: HostRuntime) {
-    told(&rt, is_changed(rt.alloc()), 0);
+    passes(&rt, is_changed(rt.alloc()), 0);
 }

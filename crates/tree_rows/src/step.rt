@@ -82,11 +82,11 @@ fn take<S: TreeSink>(
     match *step {
         Step::Open(name) => open(tree, alloc, Namespace::Html, name),
         Step::OpenSvg(name) => open(tree, alloc, Namespace::Svg, name),
-        Step::Format(name, told) => format(tree, alloc, name, told),
+        Step::Format(name, pairs) => format(tree, alloc, name, pairs),
         Step::Say(text) => tree.append_text(Text::from_str(alloc, text)?),
         Step::Comment(text) => tree.append_comment(Text::from_str(alloc, text)?),
         Step::Remark(text) => tree.append_comment_to_document(Text::from_str(alloc, text)?),
-        Step::Add(told) => add(tree, attributes(alloc, told)?),
+        Step::Add(pairs) => add(tree, attributes(alloc, pairs)?),
         Step::Mode(mode) => tree.set_quirks_mode(mode),
         Step::ClosePInButtonScope => tree.close_p_element_in_button_scope(),
         Step::End(name) => tree.process_end_tag_in_body(&LocalName::from_str(alloc, name)?),
@@ -141,12 +141,12 @@ fn format<S: TreeSink>(
     tree: &mut Construction<S>,
     alloc: Global,
     name: &str,
-    told: &[(&str, &str)],
+    pairs: &[(&str, &str)],
 ) -> Result<(), ParseFault>
     requires { Sound (seen S.number S.forest S.quirks tree.old.held tree.old.sink) }
     ensures { OnOk result (Sound (seen S.number S.forest S.quirks tree.new.held tree.new.sink)) }
 {
-    let tag = start_tag(alloc, name, attributes(alloc, told)?)?;
+    let tag = start_tag(alloc, name, attributes(alloc, pairs)?)?;
     if is_formatting_tag(&tag.name) {
         tree.insert_formatting_element(tag)?;
     }

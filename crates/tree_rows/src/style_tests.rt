@@ -1,4 +1,4 @@
-use crate::checks::{holds, told};
+use crate::checks::{holds, passes};
 use crate::parsing::tree_of;
 use html_lexemes::{LocalName, ParseFault, Text};
 use html_render_dom::RcDom;
@@ -82,8 +82,8 @@ fn rule(
     })
 }
 
-fn coloured(alloc: Global, told: Coloured) -> Result<StyleRule, AllocError> {
-    let (origin, importance, colour) = told;
+fn coloured(alloc: Global, declared: Coloured) -> Result<StyleRule, AllocError> {
+    let (origin, importance, colour) = declared;
     rule(
         alloc,
         origin,
@@ -116,7 +116,7 @@ fn are_cascaded(alloc: Global) -> Result<bool, ParseFault> {
 
 #[test]
 fn styles_are_cascaded(rt: HostRuntime) {
-    told(&rt, are_cascaded(rt.alloc()), 0);
+    passes(&rt, are_cascaded(rt.alloc()), 0);
 }
 
 fn placed_rules(alloc: Global) -> Result<Vec<StyleRule>, AllocError> {
@@ -152,7 +152,7 @@ fn are_apart(alloc: Global) -> Result<bool, ParseFault> {
 
 #[test]
 fn places_and_properties_are_apart(rt: HostRuntime) {
-    told(&rt, are_apart(rt.alloc()), 0);
+    passes(&rt, are_apart(rt.alloc()), 0);
 }
 
 const NAMES: Specificity = Specificity {

@@ -35,9 +35,9 @@ pub(crate) fn attribute_name(alloc: Global, word: &str) -> Result<QualName, Allo
 }
 
 /// Attributes in no namespace.
-pub(crate) fn attributes(alloc: Global, told: &[(&str, &str)]) -> Result<Attributes, AllocError> {
+pub(crate) fn attributes(alloc: Global, pairs: &[(&str, &str)]) -> Result<Attributes, AllocError> {
     let mut all = Attributes::new(alloc);
-    for (word, value) in told {
+    for (word, value) in pairs {
         let name = attribute_name(alloc, word)?;
         let value = Text::from_str(alloc, value)?;
         all.push(Attribute { name, value })?;
