@@ -44,8 +44,9 @@ pub struct ArticleLine {
 /// else refused since allocation fails. Paragraphs alone are never refused where a line of text may have two columns.
 ///
 /// What is said between two breaks shows each visible character once, in order, on no more lines than any legal layout
-/// of it, in as many columns as are left for it behind the prefixes of the blocks around it. Where another article has one text in place of another, and each of the two has a visible character, all
-/// lines but those of that paragraph are the same, and the lines of targets too.
+/// of it, in as many columns as are left for it after the prefixes of the blocks around it. Where another article has
+/// one text in place of another, and each of the two has a visible character, all lines but those of that paragraph are
+/// the same, and the lines of targets too.
 pub fn lay_article(
     alloc: Global,
     blocks: &[Block],

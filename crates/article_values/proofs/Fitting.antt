@@ -1,4 +1,4 @@
--- No fault of a value is want of memory.
+-- No fault of a value is allocation failure.
 use Rattle.std.proofs.Common.{◌≡◌, ℕ, suc, not, Bool, true, false, Option, None, Some}
 use Rattle.std.specs.Option.{option_or}
 use Rattle.article_values.specs.Articles.{Blocks, Inlines, Items, bullets, division, heading, item, line_break, link}

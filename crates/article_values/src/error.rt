@@ -25,7 +25,7 @@ pub enum ArticleError {
     /// More than 256 values stand in one another. Each block and each inline is a value, an item of a list is none.
     #[error("more than 256 values in one another")]
     TooDeep,
-    /// A growth was refused for want of memory. [`Article::new`](crate::Article::new) takes no memory, so it never
+    /// A growth was refused since allocation fails. [`Article::new`](crate::Article::new) takes no memory, so it never
     /// answers this.
     #[error("out of memory")]
     Memory,

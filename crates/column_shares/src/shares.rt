@@ -60,7 +60,7 @@ pub fn asked_by_table(columns: &[Column]) -> Column
 /// The widths of a table's columns in columns of text, where its rows lie across and a separator of one column stands
 /// between neighbours: each has its share of `width`, by its size, but at least its least and at most its size, lowered
 /// where these do not fit. None where not even the leasts fit, and cells are to lie below one another. The error is
-/// want of memory alone.
+/// allocation failure alone.
 pub fn widths_across(
     alloc: Global,
     columns: &[Column],

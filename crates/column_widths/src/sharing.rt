@@ -70,7 +70,7 @@ fn columns_in(
 
 /// The widths of a table's columns in columns of text, by the least width and the share of each, where a separator of
 /// one column stands between neighbours: the shares, if they fit in `width`; else those that exceed their leasts most
-/// are lowered until the table fits, and it then takes exactly `width`. The error is want of memory alone.
+/// are lowered until the table fits, and it then takes exactly `width`. The error is allocation failure alone.
 pub fn column_widths(
     alloc: Global,
     least: &[usize],

@@ -98,8 +98,8 @@ pub fn read_words(alloc: Global, words: &[String]) -> Result<Request, WordFault>
     }
 }
 
-/// Reads the words of a command line, the program's name first, as `std::env::args` gives them or refuses to: for want
-/// of memory, or because one is not UTF-8.
+/// Reads the words of a command line, the program's name first, as `std::env::args` gives them or refuses to: since
+/// allocation fails, or because one is not UTF-8.
 pub fn request_of(alloc: Global, words: io::Result<Vec<String>>) -> Result<Request, WordFault>
     ensures asked { IfOk result (λ request. IfOk words
         (λ all. Asks (words_behind_name (map string_bytes all.items)) (asked_of request))) }
@@ -122,7 +122,7 @@ pub fn request_of(alloc: Global, words: io::Result<Vec<String>>) -> Result<Reque
     }
 }
 
-/// What was found. The error is want of memory.
+/// What was found. The error is allocation failure.
 fn request_in(alloc: Global, matches: &ArgMatches) -> Result<Request, AllocError>
     ensures { IfOk result (λ request. IsFound (found_of matches.now) (asked_of request)) }
 {

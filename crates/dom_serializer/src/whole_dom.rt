@@ -16,8 +16,8 @@ pub trait SerializeDom {
     ghost nodes: { Self → Forest };
 
     /// Writes the tree as HTML (WHATWG HTML, 13.3), as `serialize` does what stands in its document, with the options
-    /// of `SerializeOpts::default`. It doesn't flush the writer. The error is the writer's refusal or want of memory;
-    /// then a beginning is written.
+    /// of `SerializeOpts::default`. It doesn't flush the writer. The error is the writer's refusal or allocation
+    /// failure; then a beginning is written.
     fn serialize<W: ByteWriter>(&self, alloc: Global, writer: &mut W) -> Result<(), SerializeFault>
         ensures ok { OnOk result (Grows (walk_text true (ChildrenOnly None) 0 (nodes self.now))
             (W.contents writer.old) (W.contents writer.new)) }

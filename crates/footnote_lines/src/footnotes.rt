@@ -8,7 +8,7 @@ use std::alloc::{AllocError, Global};
 use tagged_lines::{EqualCopy, TaggedLine, TaggedLineElement, TaggedString};
 
 /// The lines that a line behind the page gives, each character under its annotation alone: a line end is a space, and
-/// lines are cut at the width, where there is one. The error is want of memory alone.
+/// lines are cut at the width, where there is one. The error is allocation failure alone.
 pub fn footnote_lines<A: EqualCopy + Drop>(
     alloc: Global,
     width: Option<usize>,
@@ -23,7 +23,7 @@ pub fn footnote_lines<A: EqualCopy + Drop>(
     cut.into_lines()
 }
 
-/// The same lines, of a line whose text is moved into them where it is one. The error is want of memory alone.
+/// The same lines, of a line whose text is moved into them where it is one. The error is allocation failure alone.
 pub fn into_footnote_lines<A: EqualCopy + Drop>(
     alloc: Global,
     width: Option<usize>,

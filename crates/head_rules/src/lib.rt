@@ -1,5 +1,17 @@
 //! The insertion modes before "in body" (WHATWG HTML, 13.2.6.4.1 to 13.2.6.4.6), over any sink of trees; a part of
 //! `html_tree_builder`.
+//!
+//! # What is proved
+//!
+//! Of `head_rules`, `body_rules`, `table_rules` and `page_rules`.
+//!
+//! Each rule for tags, one function a rule: head_rules has those of the modes before "in body" (and comments and
+//! doctypes of "initial"), body_rules those of "in body", table_rules those of tables ("in table" to "in cell"),
+//! page_rules those of "text", "in template", what follows the body, framesets, the end of the page, and foreign
+//! content with the tests of the dispatcher. What a rule does to the page is what its row of the table says, over
+//! any sink of trees: `came_to flow (parsed new) ≡ outcome (row) (parsed old)`, that is the state, the answer to
+//! the tokenizer, and whether the mode that stands then takes the token. Each keeps `Ready`, and is refused only if
+//! allocation fails.
 #![tactic(auto)]
 
 mod after_head;

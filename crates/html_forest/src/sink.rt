@@ -40,7 +40,7 @@ pub struct ElementFlags {
 }
 
 /// What a page's tree is built into. Contracts see a forest, whose nodes have numbers in the order in which they were
-/// made, and a quirks mode. A call that is refused changes neither; the error is want of memory alone.
+/// made, and a quirks mode. A call that is refused changes neither; the error is allocation failure alone.
 pub trait TreeSink {
     /// What stands for a node.
     type Handle: Copy;

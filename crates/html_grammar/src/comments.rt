@@ -76,7 +76,7 @@ fn before<'t>(text: &'t str, mark: &str) -> Option<&'t str>
     text.strip_suffix(mark)
 }
 
-/// A text with each NUL as U+FFFD. The error is want of memory alone.
+/// A text with each NUL as U+FFFD. The error is allocation failure alone.
 pub fn shown(alloc: Global, text: &str) -> Result<Text, AllocError>
     ensures { IfOk result (λ shown. shown ≡ shown_text (chars text.now)) }
 {

@@ -11,8 +11,8 @@ use crate::tags::name_of;
 use html_lexemes::Doctype;
 use std::alloc::{AllocError, Global};
 
-/// The doctype behind `<!doctype`, and what follows it (WHATWG HTML, 13.2.5.53 to 13.2.5.68). The error is want
-/// of memory alone.
+/// The doctype behind `<!doctype`, and what follows it (WHATWG HTML, 13.2.5.53 to 13.2.5.68). The error is allocation
+/// failure alone.
 pub fn doctype_at(alloc: Global, text: &str) -> Result<(Doctype, &str), AllocError>
     ensures value { IfOk result (λ read. doctype_and_rest read ≡ doctype_at (chars text.now)) }
     ensures utf8 { IfOk result (λ read. IsUtf8 read.1.now) }

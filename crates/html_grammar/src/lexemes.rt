@@ -39,7 +39,7 @@ pub enum Lexeme<'t> {
 }
 
 /// What stands first in a text that is read in a mode (WHATWG HTML, 13.2.5); `foreign` says that the adjusted current
-/// node is foreign. The error is want of memory alone.
+/// node is foreign. The error is allocation failure alone.
 pub fn lexeme_at<'t>(
     alloc: Global,
     table: &ReferenceTable,
@@ -124,7 +124,7 @@ fn ordinary<'t>(
     }
 }
 
-/// What a `&` begins, from behind it on (WHATWG HTML, 13.2.5.72). The error is want of memory alone.
+/// What a `&` begins, from behind it on (WHATWG HTML, 13.2.5.72). The error is allocation failure alone.
 pub fn reference_or_sign<'t>(
     alloc: Global,
     table: &ReferenceTable,
@@ -161,7 +161,8 @@ fn without_semicolon(reference: &str) -> ErrorMessage {
     })
 }
 
-/// What a `<` begins in ordinary text, from behind it on (WHATWG HTML, 13.2.5.6). The error is want of memory alone.
+/// What a `<` begins in ordinary text, from behind it on (WHATWG HTML, 13.2.5.6). The error is allocation failure
+/// alone.
 pub fn markup<'t>(
     alloc: Global,
     table: &ReferenceTable,
@@ -186,7 +187,7 @@ pub fn markup<'t>(
     }
 }
 
-/// The tag whose name begins here, or nothing where the end cuts it off. The error is want of memory alone.
+/// The tag whose name begins here, or nothing where the end cuts it off. The error is allocation failure alone.
 pub fn tag_or_nothing<'t>(
     alloc: Global,
     table: &ReferenceTable,
@@ -203,7 +204,8 @@ pub fn tag_or_nothing<'t>(
     }
 }
 
-/// What a `</` begins in ordinary text, from behind it on (WHATWG HTML, 13.2.5.7). The error is want of memory alone.
+/// What a `</` begins in ordinary text, from behind it on (WHATWG HTML, 13.2.5.7). The error is allocation failure
+/// alone.
 pub fn end_tag<'t>(
     alloc: Global,
     table: &ReferenceTable,
@@ -226,7 +228,7 @@ pub fn end_tag<'t>(
     comment(alloc, mode, bogus_comment_slice(rest))
 }
 
-/// A comment of a slice, and what follows it. The error is want of memory alone.
+/// A comment of a slice, and what follows it. The error is allocation failure alone.
 pub fn comment<'t>(
     alloc: Global,
     mode: &Mode,
@@ -242,7 +244,7 @@ pub fn comment<'t>(
     told_one(alloc, Token::CommentToken(text), mode.text, rest)
 }
 
-/// What a `<!` begins, from behind it on (WHATWG HTML, 13.2.5.42). The error is want of memory alone.
+/// What a `<!` begins, from behind it on (WHATWG HTML, 13.2.5.42). The error is allocation failure alone.
 pub fn declaration<'t>(
     alloc: Global,
     foreign: bool,
@@ -264,7 +266,7 @@ pub fn declaration<'t>(
     }
 }
 
-/// What a `<!doctype` begins, from behind it on (WHATWG HTML, 13.2.5.53). The error is want of memory alone.
+/// What a `<!doctype` begins, from behind it on (WHATWG HTML, 13.2.5.53). The error is allocation failure alone.
 pub fn doctype<'t>(alloc: Global, mode: &Mode, text: &'t str) -> Result<Lexeme<'t>, AllocError>
     ensures value { IfOk result (λ l. lexeme_of mode.now l ≡ doctype_lexeme mode.now (doctype_at (chars text.now))) }
     ensures utf8 { IfOk result HasRest }
@@ -286,7 +288,7 @@ fn section_text(foreign: bool, text: &str) -> Option<&str>
 }
 
 /// The text of a CDATA section, from behind its opening, and what follows it (WHATWG HTML, 13.2.5.69). The error is
-/// want of memory alone.
+/// allocation failure alone.
 pub fn section<'t>(alloc: Global, mode: &Mode, text: &'t str) -> Result<Lexeme<'t>, AllocError>
     ensures value { IfOk result (λ l. lexeme_of mode.now l
         ≡ cdata_lexeme mode.now (cut_or_all (cut (after (codes "]]>")) (chars text.now)) (chars text.now))) }
@@ -319,7 +321,7 @@ fn ordinary_token(alloc: Global, c: char) -> Result<Token, AllocError>
 }
 
 /// What stands first in the text of an element, at its first character (WHATWG HTML, 13.2.5.2 to 13.2.5.4). The error
-/// is want of memory alone.
+/// is allocation failure alone.
 pub fn raw<'t>(
     alloc: Global,
     table: &ReferenceTable,

@@ -22,7 +22,7 @@ use std::alloc::{AllocError, Global};
 /// compared with, and no tokenizer. Pauses that the sink asks for are passed over, each token stands at
 /// line 1, and errors that change nothing aren't told.
 ///
-/// The error is want of memory; then nothing is known of the sink.
+/// The error is allocation failure; then nothing is known of the sink.
 pub fn read_plainly<S: TokenSink>(
     alloc: Global,
     sink: &mut S,
@@ -64,7 +64,7 @@ pub fn text_of_state(state: Option<State>) -> TextKind
 }
 
 /// Tells what stands in a text before its end, each token at a line, and passes over pauses that the sink asks for. The
-/// error is want of memory; then nothing is known of the sink.
+/// error is allocation failure; then nothing is known of the sink.
 pub fn tell_lexemes<S: TokenSink>(
     alloc: Global,
     sink: &mut S,
@@ -98,7 +98,7 @@ pub fn tell_lexemes<S: TokenSink>(
     }
 }
 
-/// Tells some tokens that the sink welcomes, none of which is a tag, at a line. The error is want of memory.
+/// Tells some tokens that the sink welcomes, none of which is a tag, at a line. The error is allocation failure.
 pub fn tell_tokens<S: TokenSink>(
     sink: &mut S,
     tokens: Vec<Token>,
@@ -136,7 +136,7 @@ fn tell_tag<S: TokenSink>(sink: &mut S, mode: Mode, tag: Tag, line: u64) -> Resu
     })
 }
 
-/// The name of the last start tag behind a tag. The error is want of memory alone.
+/// The name of the last start tag behind a tag. The error is allocation failure alone.
 pub fn last_behind(last: Option<LocalName>, tag: &Tag) -> Result<Option<LocalName>, AllocError>
     ensures { IfOk result (λ name. name ≡ last_behind tag.now.kind tag.now.name last) }
 {

@@ -27,8 +27,8 @@ pub struct Found<'t> {
     pub rest: &'t str,
 }
 
-/// The reference that stands behind a `&`, if there is one (WHATWG HTML, 13.2.5.72). The error is want of
-/// memory alone.
+/// The reference that stands behind a `&`, if there is one (WHATWG HTML, 13.2.5.72). The error is allocation failure
+/// alone.
 pub fn reference<'t>(
     alloc: Global,
     table: &ReferenceTable,
@@ -44,7 +44,7 @@ pub fn reference<'t>(
 }
 
 /// The reference that stands behind a `&` in an attribute's value (WHATWG HTML, 13.2.5.73): a name without its
-/// semicolon is none before `=`, a letter or a digit. The error is want of memory alone.
+/// semicolon is none before `=`, a letter or a digit. The error is allocation failure alone.
 pub fn reference_in_value<'t>(
     alloc: Global,
     table: &ReferenceTable,
@@ -74,7 +74,7 @@ fn is_kept(found: &Found<'_>) -> bool
     found.closed || !goes_on(found.rest)
 }
 
-/// An attribute's value, its references read and each NUL as U+FFFD. The error is want of memory alone.
+/// An attribute's value, its references read and each NUL as U+FFFD. The error is allocation failure alone.
 pub fn value_of(alloc: Global, table: &ReferenceTable, text: &str) -> Result<Text, AllocError>
     ensures { IfOk result (λ value. value ≡ value_of table.now (chars text.now)) }
 {

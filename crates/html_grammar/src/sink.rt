@@ -11,7 +11,7 @@ use std::alloc::AllocError;
 
 /// What tokens are told to. Contracts see an abstract state, and what the sink `means` by it: its step over what is
 /// told, its reply, and whether the adjusted current node is foreign; nothing depends on the wording of errors or on
-/// lines. A state in which a sink may be called is `ready`; what it `welcomes` there it refuses for want of memory
+/// lines. A state in which a sink may be called is `ready`; what it `welcomes` there it refuses since allocation fails
 /// alone.
 pub trait TokenSink {
     /// What stands for an element in an answer.
@@ -74,7 +74,7 @@ pub struct TokenizerOpts {
 }
 
 impl TokenizerOpts {
-    /// Equal options: one configuration reads many pages. The error is want of memory alone.
+    /// Equal options: one configuration reads many pages. The error is allocation failure alone.
     pub fn try_clone(&self) -> Result<TokenizerOpts, AllocError>
         ensures { IfOk result (λ copy. copy ≡ self.now) }
     {

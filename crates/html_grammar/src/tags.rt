@@ -26,7 +26,7 @@ use std::collections::BTreeSet;
 const SEARCHED: usize = 16;
 
 /// The tag whose name begins here, and what follows it (WHATWG HTML, 13.2.5.8). `None` is a tag that the
-/// end of the text cuts off. The error is want of memory alone.
+/// end of the text cuts off. The error is allocation failure alone.
 pub fn tag_at<'t>(
     alloc: Global,
     table: &ReferenceTable,
@@ -202,7 +202,7 @@ fn written_value(text: &str) -> Option<(&str, &str)>
     }
 }
 
-/// A name: ASCII letters in lower case, and each NUL as U+FFFD. The error is want of memory alone.
+/// A name: ASCII letters in lower case, and each NUL as U+FFFD. The error is allocation failure alone.
 pub fn name_of(alloc: Global, text: &str) -> Result<Text, AllocError>
     ensures { IfOk result (λ name. name ≡ name_of (chars text.now)) }
 {

@@ -61,7 +61,7 @@ impl Attributes {
         }
     }
 
-    /// Adds an attribute behind the others. The error is want of memory alone, and leaves the attributes as they
+    /// Adds an attribute behind the others. The error is allocation failure alone, and leaves the attributes as they
     /// were.
     pub fn push(&mut self, attribute: Attribute) -> Result<(), AllocError>
         ensures ok { OnOk result (self.new ≡ self.old ++ attribute ∷ []) }
@@ -97,7 +97,7 @@ impl Attributes {
     }
 
     /// Shares the attributes with the copies that are made of them from now on, which then take no memory, and no time
-    /// in step with the list. The error is want of memory alone; without attributes there is none.
+    /// in step with the list. The error is allocation failure alone; without attributes there is none.
     pub fn share(&mut self) -> Result<(), AllocError>
         ensures { self.new ≡ self.old }
     {
@@ -120,7 +120,7 @@ impl Attributes {
         }
     }
 
-    /// Equal attributes. The error is want of memory alone.
+    /// Equal attributes. The error is allocation failure alone.
     pub fn try_clone(&self) -> Result<Attributes, AllocError>
         ensures { IfOk result (λ copy. copy ≡ self.now) }
     {

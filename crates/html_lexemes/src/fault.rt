@@ -8,7 +8,7 @@ use std::fmt;
 /// Why a reading object refused a call.
 #[derive(Clone, Copy, Debug, PartialEq, Eq)]
 pub enum ParseFault {
-    /// A growth was refused for want of memory.
+    /// A growth was refused since allocation fails.
     Memory,
     /// An earlier call was refused, so the object answers no more.
     Failed,

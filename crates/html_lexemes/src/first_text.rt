@@ -88,7 +88,7 @@ impl FirstText {
     }
 
     /// Takes a run of characters, none of which is in the set, and adds it behind a text; how many they were. There is
-    /// one, where the first character is not in the set. The error is want of memory alone, and changes nothing.
+    /// one, where the first character is not in the set. The error is allocation failure alone, and changes nothing.
     pub(crate) fn take_run(&mut self, set: &[char], run: &mut String) -> Result<usize, AllocError>
         ensures ok { IfOk result
             (λ n. TakesRun set.now self.old (string_bytes run.old) self.new (string_bytes run.new) n) }
@@ -101,8 +101,8 @@ impl FirstText {
         Ok(count_of(front))
     }
 
-    /// Puts a text before what is left. The error is want of memory alone, and changes nothing. To put back what was
-    /// just taken takes no memory, and no time for what is left.
+    /// Puts a text before what is left. The error is allocation failure alone, and changes nothing. To put back what
+    /// was just taken takes no memory, and no time for what is left.
     pub(crate) fn put_back(&mut self, text: String) -> Result<(), AllocError>
         ensures ok { OnOk result (self.new ≡ chars (string_bytes text) ++ self.old) }
         ensures err { OnErr result (self.new ≡ self.old) }

@@ -57,7 +57,7 @@ impl Model for LocalName {
 }
 
 impl LocalName {
-    /// A name, copied. The error is want of memory alone.
+    /// A name, copied. The error is allocation failure alone.
     pub fn from_str(alloc: Global, name: &str) -> Result<LocalName, AllocError>
         ensures { IfOk result (λ copy. copy ≡ chars name.now) }
     {
@@ -101,7 +101,7 @@ impl LocalName {
         }
     }
 
-    /// An equal name. The error is want of memory alone.
+    /// An equal name. The error is allocation failure alone.
     pub fn try_clone(&self) -> Result<LocalName, AllocError>
         ensures { IfOk result (λ copy. copy ≡ self.now) }
     {
@@ -204,7 +204,7 @@ pub enum Namespace {
 }
 
 impl Namespace {
-    /// An equal namespace. The error is want of memory alone.
+    /// An equal namespace. The error is allocation failure alone.
     pub fn try_clone(&self) -> Result<Namespace, AllocError>
         ensures { IfOk result (λ copy. copy ≡ self.now) }
     {
@@ -234,7 +234,7 @@ impl QualName {
         QualName { ns, local }
     }
 
-    /// An equal name. The error is want of memory alone.
+    /// An equal name. The error is allocation failure alone.
     pub fn try_clone(&self) -> Result<QualName, AllocError>
         ensures { IfOk result (λ copy. copy ≡ self.now) }
     {
@@ -255,7 +255,7 @@ pub struct Attribute {
 }
 
 impl Attribute {
-    /// An equal attribute. The error is want of memory alone.
+    /// An equal attribute. The error is allocation failure alone.
     pub fn try_clone(&self) -> Result<Attribute, AllocError>
         ensures { IfOk result (λ copy. copy ≡ self.now) }
     {

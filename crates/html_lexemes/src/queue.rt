@@ -112,7 +112,7 @@ impl BufferQueue {
         Some(run)
     }
 
-    /// Adds a text behind what is left. The error is want of memory alone, and leaves the queue as it was.
+    /// Adds a text behind what is left. The error is allocation failure alone, and leaves the queue as it was.
     pub fn push_back(&mut self, text: String) -> Result<(), AllocError>
         ensures ok { OnOk result (self.new ≡ record {
           text = self.old.text ++ chars (string_bytes text);
@@ -130,7 +130,7 @@ impl BufferQueue {
         Ok(())
     }
 
-    /// Puts a text before what is left. The error is want of memory alone, and leaves the queue as it was.
+    /// Puts a text before what is left. The error is allocation failure alone, and leaves the queue as it was.
     /// To put back what was just taken takes no memory, and no time for what is left, unless it ended a text that came
     /// and another waits.
     pub fn push_front(&mut self, text: String) -> Result<(), AllocError>
@@ -144,7 +144,7 @@ impl BufferQueue {
     }
 
     /// Takes the first character where it is one of `set`, and else a run of characters, at least one,
-    /// none of which is in the set. `None` is an empty queue. The error is want of memory alone, and
+    /// none of which is in the set. `None` is an empty queue. The error is allocation failure alone, and
     /// leaves the queue as it was.
     pub fn pop_except_from(&mut self, set: &[char]) -> Result<Option<SetResult>, AllocError>
         ensures ok { IfOk result (λ answer. PopsExcept set.now self.old answer self.new) }
@@ -165,7 +165,7 @@ impl BufferQueue {
     }
 
     /// Takes a run of characters from the front, none of which is in the set, and adds it behind a text. It may be
-    /// empty. The error is want of memory alone, and leaves the queue and the text as they were.
+    /// empty. The error is allocation failure alone, and leaves the queue and the text as they were.
     pub fn pop_run_into(&mut self, set: &[char], run: &mut String) -> Result<(), AllocError>
         ensures ok { OnOk result (PopsRun set.now self.old (string_bytes run.old) self.new (string_bytes run.new)) }
         ensures err { OnErr result ((self.new ≡ self.old) × (string_bytes run.new ≡ string_bytes run.old)) }

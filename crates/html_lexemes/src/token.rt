@@ -50,7 +50,7 @@ impl Tag {
         self.kind == other.kind && self.name == other.name
     }
 
-    /// An equal tag. The error is want of memory alone.
+    /// An equal tag. The error is allocation failure alone.
     pub fn try_clone(&self) -> Result<Tag, AllocError>
         ensures { IfOk result (λ copy. copy ≡ self.now) }
     {
@@ -78,7 +78,7 @@ pub struct Doctype {
 }
 
 impl Doctype {
-    /// An equal doctype. The error is want of memory alone.
+    /// An equal doctype. The error is allocation failure alone.
     pub fn try_clone(&self) -> Result<Doctype, AllocError>
         ensures { IfOk result (λ copy. copy ≡ self.now) }
     {

@@ -2,7 +2,7 @@ use crate::content::Content;
 use html_lexemes::{Attributes, QualName, Text};
 
 /// A node of a tree, by its number. It means something to the tree that gave it. A tree has no more than 2^32 nodes:
-/// one more is refused, as for want of memory.
+/// one more is refused, as since allocation fails.
 #[derive(Clone, Copy, Debug, PartialEq, Eq)]
 pub struct Handle {
     pub(crate) number: u32,

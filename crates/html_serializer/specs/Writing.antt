@@ -99,7 +99,7 @@ abbrev pub IsCut : Outcome → Writing → Writing → Type 0
 IsCut (writes cs entries) old new = (new.has_failed ≡ true) × GrowsPart cs old.contents new.contents
 IsCut no_parent old new = ⊥
 
--- A call that is refused for want of memory, or of a parent, leaves all as it was; a fault of the writer leaves a
+-- A call that is refused since allocation fails, or of a parent, leaves all as it was; a fault of the writer leaves a
 -- beginning of what was to be written.
 abbrev pub Means : Writing → Call → Reply → Writing → Type 0
 Means old call done new = IsSame old new × IsWritten (outcome old call) old new

@@ -13,7 +13,7 @@ pub enum SerializeFault {
     Write,
     /// An end tag, a start tag or a text came where no element is open, and none is made up.
     NoParent,
-    /// A growth was refused for want of memory.
+    /// A growth was refused since allocation fails.
     Memory,
 }
 

@@ -14,7 +14,7 @@ pub enum TraversalScope {
 }
 
 impl TraversalScope {
-    /// An equal scope. The error is want of memory alone.
+    /// An equal scope. The error is allocation failure alone.
     pub fn try_clone(&self) -> Result<TraversalScope, AllocError>
         ensures { IfOk result (λ copy. copy ≡ self.now) }
     {

@@ -12,7 +12,7 @@ use html_lexemes::ByteWriter;
 use std::alloc::Global;
 
 /// Writes a node, or what stands in it alone, as HTML (WHATWG HTML, 13.3). It doesn't flush the writer. The error is
-/// the writer's refusal or want of memory; then a beginning is written.
+/// the writer's refusal or allocation failure; then a beginning is written.
 pub fn serialize<W: ByteWriter, T: Serialize>(
     alloc: Global,
     writer: &mut W,

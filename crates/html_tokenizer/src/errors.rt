@@ -16,7 +16,7 @@ use std::alloc::AllocError;
 
 /// Finds the parse errors in a lexeme that is over: in what was held at its place. `line` is that on which a reference
 /// stands. What the grammar tells as an item, a `</>` and a reference without its semicolon, is not among them. Where
-/// `may_repeat` is false no two attributes of a tag have one name. The error is want of memory alone.
+/// `may_repeat` is false no two attributes of a tag have one name. The error is allocation failure alone.
 pub(crate) fn find_errors(
     errors: &mut ParseErrors,
     table: &ReferenceTable,

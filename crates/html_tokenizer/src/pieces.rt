@@ -13,7 +13,7 @@ use html_lexemes::{BufferQueue, ParseFault, ReferenceTable};
 use std::alloc::Global;
 
 /// Tells a page that comes in pieces to a sink, and gives the sink back. It is left as the reading of the whole page
-/// leaves it, however the page is cut. Pauses are passed over. The error is want of memory.
+/// leaves it, however the page is cut. Pauses are passed over. The error is allocation failure.
 pub fn read_pieces<Sink: TokenSink + Drop>(
     alloc: Global,
     sink: Sink,

@@ -90,8 +90,8 @@ impl<Sink: TokenSink> Tokenizer<Sink> {
     /// Reads what is in the queue, up to its end or to a pause that the sink asks for, after which the same queue is
     /// fed on. It pauses exactly where the sink asks, right behind the tag's `>`, and holds nothing back then. At
     /// `Done` all text that was read is told, and what is held back is the beginning of a lexeme that what follows
-    /// decides. The error is want of memory; after it, and after the end, every call is refused as `Failed` and takes
-    /// nothing from the queue.
+    /// decides. The error is allocation failure; after it, and after the end, every call is refused as `Failed` and
+    /// takes nothing from the queue.
     #[tactic(auto, unfolding(crate::specs::Completes::has_failed, crate::specs::Completes::IsFit, crate::specs::Completes::Completes, crate::specs::Completes::HasTold, crate::specs::Completes::IsEmptied, crate::specs::Completes::IsUndecided, crate::specs::Completes::table_of, crate::specs::Completes::is_text_state, crate::specs::Completes::nothing_pending))]
     pub fn feed(
         &mut self,
@@ -325,7 +325,7 @@ impl<Sink: TokenSink> Tokenizer<Sink> {
     }
 
     /// Tells what the end of the page makes of what is held back, one `EOFToken`, and that nothing more is told. The
-    /// error is want of memory. After it every call is refused as `Failed`.
+    /// error is allocation failure. After it every call is refused as `Failed`.
     #[tactic(auto, unfolding(crate::specs::Completes::has_failed, crate::specs::Completes::IsFit, crate::specs::Completes::Completes, crate::specs::Completes::HasTold, crate::specs::Completes::IsEmptied, crate::specs::Completes::IsUndecided, crate::specs::Completes::table_of))]
     pub fn end(&mut self) -> Result<(), ParseFault>
         requires { IsFit Sink.state Sink.ready Sink.welcomes self.old }

@@ -31,7 +31,7 @@ use tree_words::element_flags;
 /// A parser of a fragment, for a context that is an element of the sink (WHATWG HTML, 13.4): what is parsed stands in
 /// an element `html` in the document. `scripting` says whether scripts would run where the context stands, and `form`
 /// is the form that it stands in, if there is one. The sink's nodes are a forest, whose document has no children yet.
-/// The error is want of memory.
+/// The error is allocation failure.
 pub fn parse_fragment_for_element<S: TreeSink + Drop>(
     alloc: Global,
     sink: S,
@@ -90,7 +90,7 @@ fn parser_from<S: TreeSink>(
 /// A parser of a fragment, for a context of this name and these attributes, which is made for it and stands in no form
 /// (WHATWG HTML, 13.4): what is parsed stands in an element `html` in the document. `scripting` says whether scripts
 /// would run where the context stands. The sink's nodes are a forest, whose document has no children yet. The error is
-/// want of memory.
+/// allocation failure.
 pub fn parse_fragment<S: TreeSink + Drop>(
     alloc: Global,
     sink: S,
@@ -114,7 +114,7 @@ pub fn parse_fragment<S: TreeSink + Drop>(
 }
 
 /// The tree of a fragment that comes in pieces, for a context as in `parse_fragment`: that of the rule table over the
-/// reading of the fragment's whole text, however it is cut. The error is want of memory.
+/// reading of the fragment's whole text, however it is cut. The error is allocation failure.
 pub fn parse_fragment_pieces<S: TreeSink + Drop>(
     alloc: Global,
     sink: S,

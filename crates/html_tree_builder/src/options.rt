@@ -15,7 +15,7 @@ pub struct ParseOpts {
 }
 
 impl ParseOpts {
-    /// Equal options: one configuration parses many pages. The error is want of memory alone.
+    /// Equal options: one configuration parses many pages. The error is allocation failure alone.
     pub fn try_clone(&self) -> Result<ParseOpts, AllocError>
         ensures { IfOk result (λ copy. copy ≡ self.now) }
     {

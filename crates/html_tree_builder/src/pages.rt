@@ -43,7 +43,7 @@ pub fn parse_document<S: TreeSink>(
 }
 
 /// The tree of a page that comes in pieces: that of the rule table over the reading of the page's whole text, however
-/// it is cut. The sink's nodes are a forest, whose document has no children yet. The error is want of memory.
+/// it is cut. The sink's nodes are a forest, whose document has no children yet. The error is allocation failure.
 pub fn parse_pieces<S: TreeSink + Drop>(
     alloc: Global,
     sink: S,

@@ -18,8 +18,8 @@ use html_tree_state::Construction;
 use tree_builder::{Parse, TreeBuilder};
 
 /// Parses a page that comes in pieces into a sink of trees (WHATWG HTML, 13.2). Pauses that the page asks for, for a
-/// script or a named encoding, are passed over. Where a call is refused for want of memory, every later one is refused
-/// as `Failed`.
+/// script or a named encoding, are passed over. Where a call is refused since allocation fails, every later one is
+/// refused as `Failed`.
 pub struct Parser<S: TreeSink> {
     /// What reads the text, and tells a tree builder of it.
     pub tokenizer: Tokenizer<TreeBuilder<S>>,

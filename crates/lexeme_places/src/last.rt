@@ -15,7 +15,8 @@ use html_lexemes::states::RawKind;
 use html_lexemes::{LocalName, ReferenceTable};
 use std::alloc::{AllocError, Global};
 
-/// The lexeme that a whole text is from a place on, and what it leaves of the text. The error is want of memory alone.
+/// The lexeme that a whole text is from a place on, and what it leaves of the text. The error is allocation failure
+/// alone.
 pub fn lexeme_from<'t>(
     alloc: Global,
     table: &ReferenceTable,

@@ -21,7 +21,7 @@ use html_lexemes::states::{RawKind, ScriptEscapeKind};
 use std::alloc::{AllocError, Global};
 
 /// What a further character does to what is held of the text of an element, of a kind, at a place; `last` is the name
-/// of the last start tag. What is held is then what it is behind that turn. The error is want of memory alone.
+/// of the last start tag. What is held is then what it is behind that turn. The error is allocation failure alone.
 pub fn raw_turn(
     alloc: Global,
     last: &Option<LocalName>,

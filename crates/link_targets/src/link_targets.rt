@@ -38,7 +38,7 @@ impl LinkTargets {
         }
     }
 
-    /// A link to the target begins. The error is want of memory, and then there is no link more.
+    /// A link to the target begins. The error is allocation failure, and then there is no link more.
     pub fn push(&mut self, target: &str) -> Result<(), AllocError>
         ensures pushed { OnOk result (all_targets self.new ≡ all_targets self.old ++ chars target.now ∷ []) }
         ensures err { OnErr result (all_targets self.new ≡ all_targets self.old) }
@@ -49,7 +49,7 @@ impl LinkTargets {
     }
 
     /// The number of the last link's footnote, from 1 on, where links to equal targets share a footnote or each link
-    /// has its own; 0 before the first link. The error is want of memory.
+    /// has its own; 0 before the first link. The error is allocation failure.
     pub fn last_number(&mut self, shared: bool) -> Result<usize, AllocError>
         ensures number { IfOk result (λ number. number ≡ last_number shared (all_targets self.old)) }
         ensures stay { all_targets self.new ≡ all_targets self.old }
@@ -65,7 +65,7 @@ impl LinkTargets {
     }
 
     /// The targets that have footnotes, in the order of their numbers, where links to equal targets share a footnote or
-    /// each link has its own. The error is want of memory.
+    /// each link has its own. The error is allocation failure.
     pub fn into_noted(self, shared: bool) -> Result<Vec<String>, AllocError>
         ensures { IfOk result (λ noted. names noted.items ≡ noted_targets shared (all_targets self)) }
     {

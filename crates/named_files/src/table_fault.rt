@@ -16,7 +16,7 @@ pub enum TableFault {
     NotRead,
     /// What it holds is no table.
     Refused,
-    /// A growth was refused for want of memory.
+    /// A growth was refused since allocation fails.
     Memory,
 }
 

@@ -12,8 +12,8 @@ use std::str;
 const PIECE: usize = 8192;
 
 /// The table of references in the file of a name, in the form in which the standard publishes it (WHATWG HTML, 13.5).
-/// The error is `NotRead` where the file can't be opened or read, `Refused` where it is no such table, and else want of
-/// memory.
+/// The error is `NotRead` where the file can't be opened or read, `Refused` where it is no such table, and else
+/// allocation failure .
 pub fn table_in_file<F: FileOpener>(
     alloc: Global,
     files: &F,
@@ -27,7 +27,7 @@ pub fn table_in_file<F: FileOpener>(
 }
 
 /// The table in what a device has left. The error is `NotRead` where the device failed, `Refused` where the bytes are
-/// no table, and else want of memory.
+/// no table, and else allocation failure.
 pub fn read_table<R: ByteReader>(alloc: Global, input: &mut R) -> Result<ReferenceTable, TableFault>
     ensures table { IfOk result (λ table. IfSome (R.remaining input.old) (λ bytes. IsTableText bytes table)) }
     ensures refused { result ≡ Err TableFault.Refused → IfSome (R.remaining input.old) IsNoTable }

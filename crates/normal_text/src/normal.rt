@@ -250,7 +250,7 @@ impl<T: EqualCopy + Drop> NormalText<T> {
     }
 
     /// Adds the words that stand behind a space, which was read, where they are parted by single spaces and go on the
-    /// line, and the space behind them; what follows is left. The error is want of memory alone.
+    /// line, and the space behind them; what follows is left. The error is allocation failure alone.
     fn add_words<'a>(
         &mut self,
         read: char,

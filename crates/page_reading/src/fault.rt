@@ -11,7 +11,7 @@ pub enum PageFault {
     /// The page has more bytes than were allowed.
     #[error("page too long")]
     TooLong,
-    /// A growth was refused for want of memory.
+    /// A growth was refused since allocation fails.
     #[error("out of memory")]
     Memory,
     /// An earlier call was refused, so the reader answers no more.
@@ -41,7 +41,7 @@ pub enum ReadFault {
     /// It has more bytes than were allowed.
     #[error("page too long")]
     TooLong,
-    /// A growth was refused for want of memory.
+    /// A growth was refused since allocation fails.
     #[error("out of memory")]
     Memory,
 }

@@ -60,7 +60,8 @@ impl Drop for PageReader {
 impl PageReader {
     ghost use Rattle.page_reading.specs.Readers.{Comes};
 
-    /// A reader of a page of which nothing has come, and at most `max_bytes` bytes may. The error is want of memory.
+    /// A reader of a page of which nothing has come, and at most `max_bytes` bytes may. The error is allocation
+    /// failure.
     pub fn new(
         alloc: Global,
         table: ReferenceTable,
@@ -99,7 +100,7 @@ impl PageReader {
     }
 
     /// Reads the next piece of the page. It is refused as `TooLong`, before any of it is read, where it has more bytes
-    /// than may still come; as `Failed` behind a refusal; and else for want of memory alone.
+    /// than may still come; as `Failed` behind a refusal; and else only if allocation fails.
     pub fn push(&mut self, piece: &[u8]) -> Result<(), PageFault>
         // What was pushed, the piece and any rest come to what all of it now and the rest come to.
         ensures reads { OnOk result ((rest : List ℕ) (forest : Forest) (quirks : Quirks) →
@@ -127,8 +128,8 @@ impl PageReader {
         Ok(())
     }
 
-    /// Reads the end of the page, and gives its finished tree. The error is `Failed` behind a refusal, and else want of
-    /// memory.
+    /// Reads the end of the page, and gives its finished tree. The error is `Failed` behind a refusal, and else
+    /// allocation failure .
     pub fn finish(self) -> Result<RcDom, PageFault>
         ensures tree { IfOk result (λ dom. Comes self [] dom.forest dom.quirks) }
         ensures failed { self.has_failed ≡ true → result ≡ Err Failed }

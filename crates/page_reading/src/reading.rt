@@ -18,7 +18,7 @@ const PIECE: usize = 8192;
 
 /// Reads a page to its end, at most `max_bytes` bytes, and gives its tree: that of all the bytes that the device had.
 /// It asks for one byte more at most. The error is `IoError` where the device failed, `TooLong` where more than
-/// `max_bytes` bytes came, and else want of memory.
+/// `max_bytes` bytes came, and else allocation failure.
 pub fn read_page<R: ByteReader>(
     alloc: Global,
     input: &mut R,

@@ -9,7 +9,7 @@ use std::alloc::AllocError;
 impl ParseErrors {
     /// Finds the errors of a comment that is not opened by `<!--`: the text behind `<`, where the state is `TagOpen`
     /// and it begins with `?`, behind `</` in `EndTagOpen`, which may be `>` alone, and behind `<!` in
-    /// `MarkupDeclarationOpen`; up to and with its `>`, or up to the end of the page. The error is want of memory
+    /// `MarkupDeclarationOpen`; up to and with its `>`, or up to the end of the page. The error is allocation failure
     /// alone.
     #[tactic(auto, using(crate::proofs::GoesOnLemmas::goes_on_twice))]
     pub fn in_bogus_comment(

@@ -8,7 +8,7 @@ use std::alloc::AllocError;
 
 impl ParseErrors {
     /// Finds the errors of a comment: the text behind `<!--`, up to and with its `>`, or up to the end of the page. The
-    /// error is want of memory alone.
+    /// error is allocation failure alone.
     #[tactic(auto, using(crate::proofs::GoesOnLemmas::goes_on_twice))]
     pub fn in_comment(&mut self, text: &str, mut line: u64) -> Result<(), AllocError>
         ensures found { GoesOn self.old self.new }

@@ -11,7 +11,7 @@ const KEYWORD_LENGTH: usize = 6;
 
 impl ParseErrors {
     /// Finds the errors of a doctype: the text behind `<!doctype`, up to and with its `>`, or up to the end of the
-    /// page. The error is want of memory alone.
+    /// page. The error is allocation failure alone.
     #[tactic(auto, using(crate::proofs::GoesOnLemmas::goes_on_twice))]
     pub fn in_doctype(&mut self, text: &str, mut line: u64) -> Result<(), AllocError>
         ensures found { GoesOn self.old self.new }

@@ -8,7 +8,7 @@ use std::alloc::AllocError;
 
 impl ParseErrors {
     /// Finds the errors of a `<` that is text: the character behind it, which `at_text` is to be asked about next where
-    /// `heeds` says so, or `None` at the end of the page. The line is that of the `<`. The error is want of memory
+    /// `heeds` says so, or `None` at the end of the page. The line is that of the `<`. The error is allocation failure
     /// alone.
     pub fn at_tag_open(&mut self, next: Option<char>, line: u64) -> Result<(), AllocError>
         ensures found { GoesOn self.old self.new }
@@ -25,7 +25,7 @@ impl ParseErrors {
         self.look_at(State::TagOpen, c, line)
     }
 
-    /// Finds the error of a `</` at the end of the page. The error is want of memory alone.
+    /// Finds the error of a `</` at the end of the page. The error is allocation failure alone.
     pub fn at_end_tag_open(&mut self, line: u64) -> Result<(), AllocError>
         ensures found { GoesOn self.old self.new }
         ensures unwatched { is_watching self.new ≡ false }

@@ -10,7 +10,7 @@ impl ParseErrors {
     /// Finds the errors of a character reference in text: the text behind `&` that the reference is made of, perhaps
     /// with the character that ended it. That its semicolon is missing is not among them: the grammar tells it. A name
     /// that the table lacks is an error only once its `;` is read; `at_text` then goes on with the character behind the
-    /// text. The error is want of memory alone.
+    /// text. The error is allocation failure alone.
     pub fn in_reference(
         &mut self,
         table: &ReferenceTable,

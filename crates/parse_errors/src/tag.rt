@@ -12,7 +12,7 @@ use std::alloc::AllocError;
 impl ParseErrors {
     /// Finds the errors of a tag: the text from its name on, up to and with its `>`, or up to the end of the page.
     /// Where
-    /// `may_repeat` is false no two of its attributes have one name. The error is want of memory alone.
+    /// `may_repeat` is false no two of its attributes have one name. The error is allocation failure alone.
     #[tactic(auto, using(crate::proofs::GoesOnLemmas::goes_on_twice))]
     pub fn in_tag(
         &mut self,

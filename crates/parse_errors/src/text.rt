@@ -8,7 +8,7 @@ use std::alloc::AllocError;
 impl ParseErrors {
     /// Finds the errors at a character that is read in a state of text, on its line: `Data`, `Plaintext`, `RawData`, a
     /// state behind dashes of a script, or `CdataSection`. A `<` or `&`, which may begin markup, is such a character
-    /// too. The error is want of memory alone.
+    /// too. The error is allocation failure alone.
     pub fn at_text(&mut self, state: State, c: char, line: u64) -> Result<(), AllocError>
         ensures found { GoesOn self.old self.new }
         ensures unheeded { heeds self.old c ≡ false → (self.new ≡ self.old) × (result ≡ Ok tt) }
@@ -53,7 +53,7 @@ impl ParseErrors {
 
     /// Finds the error of a page that ends on a line in a state: within a CDATA section, or in the text of a script
     /// within
-    /// `<!--`. The error is want of memory alone.
+    /// `<!--`. The error is allocation failure alone.
     pub fn at_end(&mut self, state: State, line: u64) -> Result<(), AllocError>
         ensures found { GoesOn self.old self.new }
         ensures unwatched { is_watching self.new ≡ false }

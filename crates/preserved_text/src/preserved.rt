@@ -12,7 +12,7 @@ use text_pieces::{BlockError, LaidText, Piece};
 
 /// The lines of one source line whose white space stays, and the markers that wait for what comes behind it. With
 /// `wraps` lines break at white space too; with `allow_overflow` a character wider than the width stands alone on a
-/// line. The error is `TooNarrow`, or want of memory.
+/// line. The error is `TooNarrow`, or allocation failure.
 pub fn lay_preserved<T: EqualCopy + Drop>(
     alloc: Global,
     width: usize,

@@ -88,7 +88,7 @@ impl ReferenceTable {
         Ok(table)
     }
 
-    /// The table of `amp;`, `lt;`, `gt;`, `quot;` and `nbsp;`. The error is want of memory alone.
+    /// The table of `amp;`, `lt;`, `gt;`, `quot;` and `nbsp;`. The error is allocation failure alone.
     pub fn basic(alloc: Global) -> Result<ReferenceTable, AllocError>
         ensures { IfOk result (λ table. table ≡ basic) }
     {
@@ -133,7 +133,7 @@ impl ReferenceTable {
         }
     }
 
-    /// An equal table: one configuration reads many pages. The error is want of memory alone.
+    /// An equal table: one configuration reads many pages. The error is allocation failure alone.
     pub fn try_clone(&self) -> Result<ReferenceTable, AllocError>
         ensures { IfOk result (λ copy. copy ≡ self.now) }
     {

@@ -18,7 +18,7 @@ pub enum TableError {
     BadName(Text),
     /// The first fault is the value of this name or key: it is not one or two characters other than NUL.
     BadCodePoints(Text),
-    /// A growth was refused for want of memory.
+    /// A growth was refused since allocation fails.
     Memory,
 }
 

@@ -31,7 +31,8 @@ fn push_text(
     Ok(())
 }
 
-/// A text that a rule puts among children that stand at a place, where there is one. The error is want of memory alone.
+/// A text that a rule puts among children that stand at a place, where there is one. The error is allocation failure
+/// alone.
 pub(crate) fn say(
     alloc: Global,
     nodes: &mut Vec<RenderNode>,

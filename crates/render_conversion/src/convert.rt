@@ -15,7 +15,7 @@ use std::alloc::{AllocError, Global};
 use style_cascade::StyleRule;
 
 /// The render tree of a page, by rules of style of which the last among equals holds. The error is `Fail` exactly where
-/// the page converts to nothing, else want of memory.
+/// the page converts to nothing, else allocation failure.
 pub fn dom_to_render_tree(
     alloc: Global,
     dom: &RcDom,

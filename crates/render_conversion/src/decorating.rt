@@ -59,7 +59,7 @@ fn push_marks(
 
 /// The rules of the program that put `*` before and behind `em` and `dt`, `**` before and behind `strong` and `b`, and
 /// a backquote before and behind `code`. They stand before all other rules, so that each of those can say other. The
-/// error is want of memory alone.
+/// error is allocation failure alone.
 pub fn decorating_rules(alloc: Global) -> Result<Vec<StyleRule>, AllocError>
     ensures { IfOk result (λ rules. map seen_rule rules.items ≡ decorating_rules) }
 {

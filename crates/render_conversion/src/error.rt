@@ -10,7 +10,7 @@ pub enum RenderError {
     TooNarrow,
     /// The page converts to nothing.
     Fail,
-    /// A growth was refused for want of memory.
+    /// A growth was refused since allocation fails.
     Memory,
 }
 

@@ -32,7 +32,7 @@ fn copied(text: Option<&Text>) -> Result<Option<Text>, AllocError>
     }
 }
 
-/// The name of the fragment that starts in a node. The error is want of memory alone.
+/// The name of the fragment that starts in a node. The error is allocation failure alone.
 pub(crate) fn fragment_of(dom: &RcDom, node: Handle) -> Result<Option<Text>, AllocError>
     ensures { IfOk result (λ name. name ≡ fragment_of (kind_at (number_of node) dom.now.forest)) }
 {

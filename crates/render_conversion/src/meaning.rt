@@ -219,8 +219,8 @@ fn document() -> Meaning
     means(RenderInfo::Container, Condition::AnyValue, Place::Flow)
 }
 
-/// What a node that stands at a place means; one that isn't there is taken for a document. The error is want of memory
-/// alone.
+/// What a node that stands at a place means; one that isn't there is taken for a document. The error is allocation
+/// failure alone.
 pub(crate) fn meaning_of(
     alloc: Global,
     dom: &RcDom,

@@ -79,7 +79,7 @@ fn text_in(alloc: Global, dom: &RcDom, node: Handle) -> Result<Text, AllocError>
     Ok(text)
 }
 
-/// All text of the first title of SVG among a node's children. The error is want of memory alone.
+/// All text of the first title of SVG among a node's children. The error is allocation failure alone.
 pub(crate) fn title_of(alloc: Global, dom: &RcDom, node: Handle) -> Result<Option<Text>, AllocError>
     requires { IsForest dom.now.forest }
     ensures { IfOk result (λ title. title

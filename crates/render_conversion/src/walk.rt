@@ -22,7 +22,7 @@ use render_values::{Head, Opened, RenderInfo, RenderNode, RenderStyle, close};
 use std::alloc::{AllocError, Global};
 use style_cascade::StyleRule;
 
-/// Does all that is still to be done. The error is want of memory alone.
+/// Does all that is still to be done. The error is allocation failure alone.
 pub(crate) fn read_all<'a>(
     alloc: Global,
     dom: &'a RcDom,

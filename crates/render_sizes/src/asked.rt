@@ -108,7 +108,7 @@ fn asked_of_nodes<P: Prefixes>(
 }
 
 /// The columns that a layout asks for, in the order of the tree's nodes, and none where it asks nothing: most of a page
-/// stands behind no prefix and in no table. The error is want of memory alone.
+/// stands behind no prefix and in no table. The error is allocation failure alone.
 pub fn asked_extents<P: Prefixes>(
     alloc: Global,
     prefixes: &P,

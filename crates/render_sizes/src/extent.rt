@@ -73,7 +73,7 @@ fn of_columns(min_wrap: usize, columns: usize) -> Extent
     }
 }
 
-/// Of a value by what is measured in it: together, and of each node. The error is want of memory alone.
+/// Of a value by what is measured in it: together, and of each node. The error is allocation failure alone.
 pub(crate) fn extent_by<P: Prefixes>(
     alloc: Global,
     prefixes: &P,

@@ -4,7 +4,7 @@ ghost use Rattle.render_sizes.specs.Extents.{PrefixColumns};
 
 use std::alloc::AllocError;
 
-/// How many columns stand before the lines of a value. Each error is want of memory alone.
+/// How many columns stand before the lines of a value. Each error is allocation failure alone.
 pub trait Prefixes {
     ghost columns: { Self → PrefixColumns };
 

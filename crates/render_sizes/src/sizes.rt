@@ -112,7 +112,7 @@ fn measured_first<P: Prefixes>(
     }
 }
 
-/// Of each node, from the last to the first. The error is want of memory alone.
+/// Of each node, from the last to the first. The error is allocation failure alone.
 pub(crate) fn all_extents<P: Prefixes>(
     alloc: Global,
     prefixes: &P,
@@ -139,7 +139,7 @@ pub(crate) fn all_extents<P: Prefixes>(
     Ok(all)
 }
 
-/// The columns of each node's value, in the order of the tree's nodes. The error is want of memory alone.
+/// The columns of each node's value, in the order of the tree's nodes. The error is allocation failure alone.
 pub fn measured<P: Prefixes>(
     alloc: Global,
     prefixes: &P,

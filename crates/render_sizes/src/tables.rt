@@ -107,8 +107,8 @@ fn row_cells(alloc: Global, nodes: &[RenderNode], sizes: &[Extent]) -> Result<Ro
     Ok(RowCells { cells, rows })
 }
 
-/// What a table asks for, by the nodes that stand in it and what each of these asks for. The error is want of memory
-/// alone.
+/// What a table asks for, by the nodes that stand in it and what each of these asks for. The error is allocation
+/// failure alone.
 pub(crate) fn extent_of_table<P: Prefixes>(
     alloc: Global,
     prefixes: &P,
@@ -132,8 +132,8 @@ pub(crate) fn extent_of_table<P: Prefixes>(
 }
 
 /// The table that values are in which its rows stand: the cells of its rows, where they stand, and the columns. `sizes`
-/// tells of each node how many columns of text its value asks for, as `w` measures them. The error is want of memory
-/// alone.
+/// tells of each node how many columns of text its value asks for, as `w` measures them. The error is allocation
+/// failure alone.
 pub fn table_among(
     alloc: Global,
     nodes: &[RenderNode],

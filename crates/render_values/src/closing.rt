@@ -179,7 +179,7 @@ fn raise(alloc: Global, nodes: &mut Vec<RenderNode>, at: usize) -> Result<(), Al
 }
 
 /// Ends a value: all that stands behind it is in it, or it goes with that, or its fragment or its raised digits stay in
-/// its place. The error is want of memory alone.
+/// its place. The error is allocation failure alone.
 pub fn close(alloc: Global, nodes: &mut Vec<RenderNode>, opened: Opened) -> Result<(), AllocError>
     requires flat { IsFlat nodes.old.items }
     requires there { opened.at < length nodes.old.items }

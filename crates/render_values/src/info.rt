@@ -84,7 +84,7 @@ pub struct Head {
 }
 
 impl RenderInfo {
-    /// An equal kind. The error is want of memory alone.
+    /// An equal kind. The error is allocation failure alone.
     pub fn try_clone(&self) -> Result<RenderInfo, AllocError>
         ensures { IfOk result (λ copy. copy ≡ self.now) }
     {
@@ -181,7 +181,7 @@ fn copied(text: &Option<Text>) -> Result<Option<Text>, AllocError>
 }
 
 impl Head {
-    /// An equal head. The error is want of memory alone.
+    /// An equal head. The error is allocation failure alone.
     pub fn try_clone(&self) -> Result<Head, AllocError>
         ensures { IfOk result (λ copy. copy ≡ self.now) }
     {

@@ -15,7 +15,7 @@ pub struct RenderNode {
 }
 
 impl RenderNode {
-    /// An equal node. The error is want of memory alone.
+    /// An equal node. The error is allocation failure alone.
     pub fn try_clone(&self) -> Result<RenderNode, AllocError>
         ensures { IfOk result (λ copy. copy ≡ self.now) }
     {

@@ -62,7 +62,7 @@ fn character_of(digits: &str) -> Option<char> {
     char::from_u32(code)
 }
 
-/// Adds a text with its escapes to a line. The error is want of memory; then a beginning of it was added.
+/// Adds a text with its escapes to a line. The error is allocation failure; then a beginning of it was added.
 pub fn push_escaped(line: &mut String, text: &str) -> Result<(), AllocError>
     ensures { OnOk result (chars (string_bytes line.new)
         ≡ chars (string_bytes line.old) ++ field_of (chars text.now)) }

@@ -9,7 +9,7 @@ pub enum FieldFault {
     /// A backslash before nothing.
     #[error("a backslash at the end")]
     End,
-    /// A growth was refused for want of memory.
+    /// A growth was refused since allocation fails.
     #[error("out of memory")]
     Memory,
 }

@@ -3,7 +3,7 @@ ghost use Rattle.std.specs.Prelude.{◌≡◌, ◌∷◌, [], chars, drop, map, 
 
 use std::alloc::{AllocError, Global};
 
-/// A text as one piece. The error is want of memory.
+/// A text as one piece. The error is allocation failure.
 pub fn whole(alloc: Global, text: &str) -> Result<Vec<String>, AllocError>
     ensures { IfOk result (λ pieces. map (λ piece. chars (string_bytes piece)) pieces.items ≡ chars text.now ∷ []) }
 {
@@ -11,7 +11,7 @@ pub fn whole(alloc: Global, text: &str) -> Result<Vec<String>, AllocError>
     Ok(vec![in alloc; text]?)
 }
 
-/// A piece for each character of a text. The error is want of memory.
+/// A piece for each character of a text. The error is allocation failure.
 pub fn characters(alloc: Global, text: &str) -> Result<Vec<String>, AllocError>
     ensures { IfOk result (λ pieces. map (λ piece. chars (string_bytes piece)) pieces.items
         ≡ map (λ c. c ∷ []) (chars text.now)) }
@@ -31,7 +31,7 @@ fn piece_of(alloc: Global, c: char) -> Result<String, AllocError>
     Ok(piece)
 }
 
-/// Two pieces of a text: the first characters, so many, and the others. The error is want of memory.
+/// Two pieces of a text: the first characters, so many, and the others. The error is allocation failure.
 pub fn halves(alloc: Global, text: &str, count: usize) -> Result<Vec<String>, AllocError>
     ensures { IfOk result (λ pieces. map (λ piece. chars (string_bytes piece)) pieces.items
         ≡ take count (chars text.now) ∷ drop count (chars text.now) ∷ []) }

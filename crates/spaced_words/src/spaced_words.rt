@@ -66,7 +66,7 @@ fn is_space(text: &str) -> bool
     text == " "
 }
 
-/// The text, with a space behind it where its last character is visible ASCII. The error is want of memory alone.
+/// The text, with a space behind it where its last character is visible ASCII. The error is allocation failure alone.
 pub fn ended(text: String) -> Result<String, AllocError>
     ensures { IfOk result (λ ended. IsEnded (chars (string_bytes text)) (chars (string_bytes ended))) }
 {

@@ -7,7 +7,7 @@ use crate::windows::{put_parts, split_windows};
 use std::alloc::{AllocError, Global};
 
 /// The greatest of what the cells that cover a column ask of it (0 where none does), for each of `count` columns: in
-/// passes over the cells whose number is the logarithm of `count`. The error is want of memory alone.
+/// passes over the cells whose number is the logarithm of `count`. The error is allocation failure alone.
 pub fn greatest_parts(alloc: Global, parts: &[Part], count: usize) -> Result<Vec<usize>, AllocError>
     requires within { AreWithin parts.now count }
     requires few { count < 2 ^ 63 }

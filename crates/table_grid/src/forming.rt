@@ -14,7 +14,7 @@ use table_places::{Cell, Places, place_cells};
 
 /// The grid of the cells of a table, which are given row by row. A column lies between neighbouring distinct edges of
 /// cells; its size is the greatest that its cells ask of each of their columns, its least the same of leasts. Columns
-/// of size 0 are taken out. The error is want of memory alone.
+/// of size 0 are taken out. The error is allocation failure alone.
 pub fn grid_of(alloc: Global, cells: &[Cell]) -> Result<Grid, AllocError>
     requires rows { IsNonDecreasingBy (λ c. c.row) cells.now }
     requires some { All (λ c. 0 < c.colspan) cells.now }

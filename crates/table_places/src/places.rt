@@ -19,8 +19,8 @@ pub struct Places {
 }
 
 /// Where the cells of a table stand, which are given row by row: each at the first column of the grid, behind the cells
-/// before it in its row, from which on its whole column span is free of row spans from above. The error is want of
-/// memory alone.
+/// before it in its row, from which on its whole column span is free of row spans from above. The error is allocation
+/// failure alone.
 pub fn place_cells(alloc: Global, cells: &[Cell]) -> Result<Places, AllocError>
     requires rows { IsNonDecreasingBy (λ c. c.row) cells.now }
     requires some { All (λ c. 0 < c.colspan) cells.now }

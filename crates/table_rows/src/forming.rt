@@ -103,8 +103,8 @@ fn rows_of(
     Ok(rows)
 }
 
-/// The table of so many rows, which are numbered from 1 on, with these cells, row by row. The error is want of memory
-/// alone.
+/// The table of so many rows, which are numbered from 1 on, with these cells, row by row. The error is allocation
+/// failure alone.
 pub fn table_of(alloc: Global, cells: &[Cell], count: usize) -> Result<Table, AllocError>
     requires rows { IsNonDecreasingBy (λ c. c.row) cells.now }
     requires some { All (λ c. 0 < c.colspan) cells.now }

@@ -43,7 +43,7 @@ impl RowsLeft {
         std::mem::replace(&mut self.rows[at], Vec::new(alloc))
     }
 
-    /// The slots of the next row, if there is one. The error is want of memory alone.
+    /// The slots of the next row, if there is one. The error is allocation failure alone.
     pub fn next_row(&mut self, alloc: Global) -> Result<Option<Vec<Slot>>, AllocError>
         ensures { IfOk result (λ row. IsNext row (rows_left self.old) (rows_left self.new)) }
     {

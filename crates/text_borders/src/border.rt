@@ -32,7 +32,7 @@ impl<T: EqualCopy + Drop> BorderHoriz<T> {
     ghost use Rattle.text_borders.specs.Borders.{border_of, has_holes, plain, stretched, with_segments, joined_above};
     ghost use Rattle.text_borders.specs.Borders.{joined_below};
 
-    /// A border of `─` of so many columns. The error is want of memory alone.
+    /// A border of `─` of so many columns. The error is allocation failure alone.
     pub fn new(alloc: Global, width: usize, tag: T) -> Result<BorderHoriz<T>, AllocError>
         ensures { IfOk result (λ border. border_of T.seen border
             ≡ plain (segment_of segments.Horiz) width (T.seen tag)) }
@@ -40,7 +40,7 @@ impl<T: EqualCopy + Drop> BorderHoriz<T> {
         BorderHoriz::of_segments(alloc, width, BorderSegHoriz::Horiz, tag)
     }
 
-    /// A border of `/`, between cells that stand below one another. The error is want of memory alone.
+    /// A border of `/`, between cells that stand below one another. The error is allocation failure alone.
     pub fn new_slashes(alloc: Global, width: usize, tag: T) -> Result<BorderHoriz<T>, AllocError>
         ensures { IfOk result (λ border. border_of T.seen border
             ≡ plain (segment_of segments.HorizVert) width (T.seen tag)) }
@@ -79,7 +79,7 @@ impl<T: EqualCopy + Drop> BorderHoriz<T> {
         !self.holes.is_empty()
     }
 
-    /// Makes the border at least so wide, by `─` at its end. The error is want of memory alone.
+    /// Makes the border at least so wide, by `─` at its end. The error is allocation failure alone.
     pub fn stretch_to(&mut self, width: usize) -> Result<(), AllocError>
         ensures { OnOk result (border_of T.seen self.new ≡ with_segments
             (stretched width (border_of T.seen self.old).segments) (border_of T.seen self.old)) }
@@ -88,7 +88,7 @@ impl<T: EqualCopy + Drop> BorderHoriz<T> {
         push_segments(&mut self.segments, missing, BorderSegHoriz::Horiz)
     }
 
-    /// Joins the border to a line above at a column, to which it is stretched. The error is want of memory alone.
+    /// Joins the border to a line above at a column, to which it is stretched. The error is allocation failure alone.
     pub fn join_above(&mut self, column: usize) -> Result<(), AllocError>
         ensures { OnOk result (border_of T.seen self.new ≡ joined_above column (border_of T.seen self.old)) }
     {
@@ -112,7 +112,7 @@ impl<T: EqualCopy + Drop> BorderHoriz<T> {
     ghost use Rattle.text_borders.specs.Borders.{punched_at, holes_end, punched, filled_to};
 
     /// Takes in a border that stands below, from a column on: the border is joined to a line below where the other has
-    /// `┴ ┬ ┼ └ ┘`. The error is want of memory alone.
+    /// `┴ ┬ ┼ └ ┘`. The error is allocation failure alone.
     pub fn merge_from_below(
         &mut self,
         other: &BorderHoriz<T>,
@@ -154,7 +154,7 @@ impl<T: EqualCopy + Drop> BorderHoriz<T> {
     }
 
     /// Takes in a border that stands above, from a column on: the border is joined to a line above where the other has
-    /// `┴ ┬ ┼ ┌ ┐`. The error is want of memory alone.
+    /// `┴ ┬ ┼ ┌ ┐`. The error is allocation failure alone.
     pub fn merge_from_above(
         &mut self,
         other: &BorderHoriz<T>,
@@ -197,7 +197,7 @@ impl<T: EqualCopy + Drop> BorderHoriz<T> {
 
     /// Puts a text into the border, from a column on, to whose end it is stretched: the segments beside it lose the arm
     /// that points to it. Where the text before ends behind that column, it stands behind that text. Texts are put in
-    /// from left to right. The error is want of memory alone.
+    /// from left to right. The error is allocation failure alone.
     pub fn punch(&mut self, place: usize, line: TaggedLine<T>) -> Result<(), AllocError>
         ensures { OnOk result (border_of T.seen self.new
             ≡ punched place (line_items T.seen line) (border_of T.seen self.old)) }
@@ -229,7 +229,7 @@ impl<T: EqualCopy + Drop> BorderHoriz<T> {
     }
 
     /// Fills the border up to the width with spaces of its tag, where it is narrower. They stand behind it as a text,
-    /// and take no arm off. The error is want of memory alone.
+    /// and take no arm off. The error is allocation failure alone.
     pub fn fill_to(&mut self, width: usize) -> Result<(), AllocError>
         ensures { OnOk result (border_of T.seen self.new ≡ filled_to width (border_of T.seen self.old)) }
     {
@@ -275,8 +275,8 @@ impl<T: EqualCopy + Drop> BorderHoriz<T> {
 impl<T: EqualCopy + Drop> BorderHoriz<T> {
     ghost use Rattle.text_borders.specs.Borders.{border_of, hole_of, shown, shown_from, glyphs, lines_above};
 
-    /// The border as text: the characters of its segments, and the texts in their place. The error is want of memory
-    /// alone.
+    /// The border as text: the characters of its segments, and the texts in their place. The error is allocation
+    /// failure alone.
     pub fn into_tagged_line(self) -> Result<TaggedLine<T>, AllocError>
         ensures items { IfOk result (λ line. line_items T.seen line ≡ shown (border_of T.seen self)) }
         ensures joined { IfOk result (IsJoined T.seen) }
@@ -288,7 +288,7 @@ impl<T: EqualCopy + Drop> BorderHoriz<T> {
     }
 
     /// The vertical lines that come down to the border from above, as a text of the border's width with the tag: spaces
-    /// stand between them. The error is want of memory alone.
+    /// stand between them. The error is allocation failure alone.
     pub fn lines_above(&self, tag: &T) -> Result<TaggedLine<T>, AllocError>
         ensures items { IfOk result (λ line. line_items T.seen line
             ≡ lines_above (T.seen tag.now) (border_of T.seen self.now)) }
@@ -299,7 +299,7 @@ impl<T: EqualCopy + Drop> BorderHoriz<T> {
         Ok(line)
     }
 
-    /// An equal border. The error is want of memory alone.
+    /// An equal border. The error is allocation failure alone.
     pub fn try_clone(&self) -> Result<BorderHoriz<T>, AllocError>
         ensures { IfOk result (λ copy. border_of T.seen copy ≡ border_of T.seen self.now) }
     {
@@ -349,7 +349,7 @@ impl<T: EqualCopy + Drop> Hole<T> {
         self.place.checked_add(self.line.width()).ok_or(AllocError)
     }
 
-    /// An equal text at its place. The error is want of memory alone.
+    /// An equal text at its place. The error is allocation failure alone.
     fn try_clone(&self) -> Result<Hole<T>, AllocError>
         ensures { IfOk result (λ copy. hole_of T.seen copy ≡ hole_of T.seen self.now) }
     {

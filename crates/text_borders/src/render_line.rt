@@ -21,8 +21,8 @@ pub enum RenderLine<T> {
 impl<T: EqualCopy + Drop> RenderLine<T> {
     ghost use Rattle.text_borders.specs.Lines.{render_line_of, line_shown, line_width, IsJoinedText};
 
-    /// The line as text: of a border the characters of its segments, and the texts in their place. The error is want of
-    /// memory alone.
+    /// The line as text: of a border the characters of its segments, and the texts in their place. The error is
+    /// allocation failure alone.
     pub fn into_tagged_line(self) -> Result<TaggedLine<T>, AllocError>
         ensures items { IfOk result (λ line. line_items T.seen line ≡ line_shown (render_line_of T.seen self)) }
         ensures joined { IsJoinedText T.seen self → IfOk result (IsJoined T.seen) }
@@ -34,7 +34,7 @@ impl<T: EqualCopy + Drop> RenderLine<T> {
     }
 
     /// The line as text of so many columns where it has no more: text is filled with spaces of the tag, a border goes
-    /// on as `─`, and has the tag. The markers of a border are lost. The error is want of memory alone.
+    /// on as `─`, and has the tag. The markers of a border are lost. The error is allocation failure alone.
     pub fn into_widened(
         self,
         alloc: Global,
@@ -52,7 +52,7 @@ impl<T: EqualCopy + Drop> RenderLine<T> {
     }
 
     /// The line as text; of a border the characters alone, under the tag. The markers of a border are lost. The error
-    /// is want of memory alone.
+    /// is allocation failure alone.
     pub fn into_text(self, alloc: Global, tag: &T) -> Result<TaggedLine<T>, AllocError>
         ensures items { IfOk result (λ line. line_items T.seen line
             ≡ as_text (T.seen tag.now) (render_line_of T.seen self)) }
@@ -74,7 +74,7 @@ impl<T: EqualCopy + Drop> RenderLine<T> {
         }
     }
 
-    /// An equal line. The error is want of memory alone.
+    /// An equal line. The error is allocation failure alone.
     pub fn try_clone(&self) -> Result<RenderLine<T>, AllocError>
         ensures line { IfOk result (λ copy. render_line_of T.seen copy ≡ render_line_of T.seen self.now) }
         ensures joined { IsJoinedText T.seen self.now → IfOk result (IsJoinedText T.seen) }

@@ -47,7 +47,7 @@ impl<T: EqualCopy + Drop> WrappedBlock<T> {
         }
     }
 
-    /// An equal block, in the memory of this one. The error is want of memory alone.
+    /// An equal block, in the memory of this one. The error is allocation failure alone.
     pub fn try_clone(&self) -> Result<WrappedBlock<T>, AllocError>
         ensures block { IfOk result (λ copy. block_of T.seen copy ≡ block_of T.seen self.now) }
         ensures failed { IfOk result (λ copy. has_failed copy ≡ has_failed self.now) }

@@ -8,7 +8,7 @@ use tagged_lines::{EqualCopy, roomy_copy};
 use text_pieces::{Piece, TextPiece};
 
 /// Adds characters with that tag, where a preserved line was wrapped too, at the end; they join the last piece, where
-/// it has no other. The error is want of memory alone.
+/// it has no other. The error is allocation failure alone.
 #[inline(always)]
 pub(crate) fn push_tagged<T: EqualCopy + Drop>(
     pieces: &mut Vec<Piece<T>>,

@@ -22,7 +22,7 @@ pub(crate) fn pad_lines<T: EqualCopy + Drop>(
     Ok(lines)
 }
 
-/// Fills the line with spaces of the tag up to the width; a wider one stays. The error is want of memory alone.
+/// Fills the line with spaces of the tag up to the width; a wider one stays. The error is allocation failure alone.
 pub fn pad<T: EqualCopy + Drop>(
     line: &mut TaggedLine<T>,
     width: usize,

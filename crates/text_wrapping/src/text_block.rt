@@ -70,7 +70,7 @@ impl<T: EqualCopy + Drop> TextBlock<T> {
         }
     }
 
-    /// An equal block, in the memory of this one. The error is want of memory alone.
+    /// An equal block, in the memory of this one. The error is allocation failure alone.
     pub fn try_clone(&self) -> Result<TextBlock<T>, AllocError>
         ensures block { IfOk result (λ copy. text_of T.seen copy ≡ text_of T.seen self.now) }
         ensures joined { AreJoinedLines T.seen self.now → IfOk result (λ copy. AreJoinedLines T.seen copy) }
@@ -112,8 +112,8 @@ impl<T: EqualCopy + Drop> TextBlock<T> {
     }
 
     /// Adds text of one tag as `add_text` does, where it ends nothing: it is empty, or of the mode of the text so far,
-    /// in which white space is not preserved. Tells whether it did; else nothing has changed. The error is want of
-    /// memory alone.
+    /// in which white space is not preserved. Tells whether it did; else nothing has changed. The error is allocation
+    /// failure alone.
     #[inline(always)]
     pub fn add_more(&mut self, text: &str, ws_mode: WhiteSpace, tag: &T) -> Result<bool, AllocError>
         ensures more { IfOk result (λ more. IsTrue more → added ws_mode (chars text.now) (T.seen tag.now)

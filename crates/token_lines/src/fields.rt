@@ -1,4 +1,4 @@
-//! The lines of single tokens, each as what it adds to others. The error is want of memory.
+//! The lines of single tokens, each as what it adds to others. The error is allocation failure.
 ghost use Rattle.std.specs.Prelude.{◌≡◌, ◌∷◌, [], ◌++◌, OnOk, chars, string_bytes};
 ghost use Rattle.std.specs.Fmt.{decimal};
 ghost use Rattle.token_lines.specs.TokenLines.{attribute_line, comment_line, doctype_line, error_line};

@@ -43,7 +43,7 @@ impl Listed {
         }
     }
 
-    /// The lines. The error is want of memory.
+    /// The lines. The error is allocation failure.
     pub fn into_text(self) -> Result<String, AllocError>
         ensures { IfOk result (λ lines. chars (string_bytes lines) ≡ listed_with self []) }
     {

@@ -15,7 +15,7 @@ pub struct TokenLines {
     text: String,
 }
 
-/// The lines of some tokens. The error is want of memory.
+/// The lines of some tokens. The error is allocation failure.
 pub fn lines_of(alloc: Global, tokens: &[Token]) -> Result<String, AllocError>
     ensures { IfOk result (λ lines. chars (string_bytes lines) ≡ lines_of tokens.now) }
 {
@@ -37,7 +37,7 @@ impl TokenLines {
         }
     }
 
-    /// Adds what a token has, but for an error. The error is want of memory; then a beginning of it was added.
+    /// Adds what a token has, but for an error. The error is allocation failure; then a beginning of it was added.
     pub fn add(&mut self, token: &Token) -> Result<(), AllocError>
         ensures { OnOk result ((rest : List Part) →
             lines_with self.new rest ≡ lines_with self.old (parts_of token.now ++ rest)) }
@@ -64,8 +64,8 @@ impl TokenLines {
         }
     }
 
-    /// Adds the line of an error, with the line of the page that it was told at. The error is want of memory; then a
-    /// beginning of it was added.
+    /// Adds the line of an error, with the line of the page that it was told at. The error is allocation failure; then
+    /// a beginning of it was added.
     pub fn add_error(&mut self, message: &str, line: u64) -> Result<(), AllocError>
         ensures { OnOk result ((rest : List Part) → lines_with self.new rest
             ≡ lines_with self.old (shows (error_line (chars message.now) line) ∷ rest)) }
@@ -74,7 +74,7 @@ impl TokenLines {
         push_error(&mut self.lines, message, line)
     }
 
-    /// The lines. The error is want of memory.
+    /// The lines. The error is allocation failure.
     pub fn into_text(mut self) -> Result<String, AllocError>
         ensures { IfOk result (λ lines. chars (string_bytes lines) ≡ lines_with self []) }
     {

@@ -8,7 +8,7 @@ use std::alloc::{AllocError, Global};
 use std::marker::Model;
 
 /// A sink that keeps the tokens that it is told: texts that follow each other are joined into one token, and an
-/// empty text and errors are left out. It refuses for want of memory alone; then nothing is known of it.
+/// empty text and errors are left out. It refuses only if allocation fails; then nothing is known of it.
 #[derive(Drop)]
 pub struct KeptTokens {
     tokens: Vec<Token>,

@@ -12,7 +12,7 @@ use std::marker::Model;
 
 /// A small model of a tree builder: the names of the open elements, and the text of the page, in which a line feed
 /// right behind the start tag of `pre` is left out (WHATWG HTML, 13.2.6.4.7). The current node is foreign where it is
-/// named `svg`. A call needs an open element, and leaves one. It refuses for want of memory alone; then nothing is
+/// named `svg`. A call needs an open element, and leaves one. It refuses only if allocation fails; then nothing is
 /// known of it.
 #[derive(Drop)]
 pub struct PreformattedText {
@@ -36,7 +36,7 @@ impl Model for PreformattedText {
 }
 
 impl PreformattedText {
-    /// A page without text, in which one element is open, named `html`. The error is want of memory.
+    /// A page without text, in which one element is open, named `html`. The error is allocation failure.
     pub fn new(alloc: Global) -> Result<PreformattedText, AllocError>
         ensures { IfOk result (λ page.
             page ≡ record { elements = codes "html" ∷ []; skips_line_feed = false; text = [] }) }

@@ -47,8 +47,8 @@ impl<S: TreeSink> TokenSink for TreeBuilder<S> {
     ghost hearing = { meaning-hearing S.handle };
 
     /// Takes a token by the rules of tree construction. What isn't text, an error, an end tag or the end is refused as
-    /// `Failed` while an element's text is read, and so is every token behind the end; else the error is want of
-    /// memory. Behind a refused call every token is refused as `Failed`.
+    /// `Failed` while an element's text is read, and so is every token behind the end; else the error is allocation
+    /// failure . Behind a refused call every token is refused as `Failed`.
     fn process_token(
         &mut self,
         token: Token,
@@ -81,7 +81,7 @@ impl<S: TreeSink> TokenSink for TreeBuilder<S> {
     }
 
     /// Tells the sink of trees that the open elements are so no longer, from the current node on. Behind a refused call
-    /// it is refused as `Failed`; else the error is want of memory.
+    /// it is refused as `Failed`; else the error is allocation failure.
     fn end(&mut self) -> Result<(), ParseFault>
         requires { IsFit (state_of S.number S.forest S.quirks self.old.page) }
         ensures fit { IsFit (state_of S.number S.forest S.quirks self.new.page) }

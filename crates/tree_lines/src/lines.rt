@@ -1,4 +1,4 @@
-//! The lines of single nodes, each as what it adds to others. The error is want of memory.
+//! The lines of single nodes, each as what it adds to others. The error is allocation failure.
 ghost use Rattle.std.specs.Prelude.{◌≡◌, ◌∷◌, [], ◌+◌, ◌++◌, IfOk, OnOk, chars, codes, option_map, replicate};
 ghost use Rattle.std.specs.Prelude.{string_bytes};
 ghost use Rattle.html_forest.specs.Forest.{kind_at};

@@ -7,7 +7,7 @@ use html_render_dom::html_forest::QuirksMode;
 use row_fields::push_line;
 use std::alloc::{AllocError, Global};
 
-/// A line for the quirks mode, and the lines below the document. The error is want of memory.
+/// A line for the quirks mode, and the lines below the document. The error is allocation failure.
 pub fn lines_of(alloc: Global, dom: &RcDom) -> Result<String, AllocError>
     ensures { IfOk result (λ lines. chars (string_bytes lines) ≡ lines_of dom.now) }
 {
@@ -18,7 +18,7 @@ pub fn lines_of(alloc: Global, dom: &RcDom) -> Result<String, AllocError>
 }
 
 /// A line for each node below the document, in order, behind one space for each level. Below an element its attributes
-/// come first, and then a template's contents. The error is want of memory.
+/// come first, and then a template's contents. The error is allocation failure.
 pub fn lines_below(alloc: Global, dom: &RcDom) -> Result<String, AllocError>
     ensures { IfOk result (λ lines. chars (string_bytes lines) ≡ lines_below dom.now.forest) }
 {

@@ -201,8 +201,8 @@ fn open_row<D: TextDecorator + Drop>(
 
 // ---- its cells
 
-/// A cell ends: its renderer stands behind those of its row, and the renderer outside goes on. The error is want of
-/// memory alone.
+/// A cell ends: its renderer stands behind those of its row, and the renderer outside goes on. The error is allocation
+/// failure alone.
 pub fn end_cell<D: TextDecorator + Drop>(
     laying: &mut Laying<D>,
     alloc: Global,
