@@ -121,7 +121,7 @@ def row_of(name, functions, seconds):
 
 
 def rows_of(top, total, functions):
-    """The table's lines: crates that take 400 seconds or more in the order of crates.txt, and the others together."""
+    """The table's lines: crates that take 400 seconds or more in the order of crates.txt, the others together, and all."""
     with open(f"{top}/crates.txt", encoding="utf-8") as it:
         names = re.findall(r"^(\w+)[^:\n]*:", it.read(), re.M)
     takes = {crate: [total[crate, kind] for kind in ("proof", "tests", "edits")] for crate in names}
@@ -129,7 +129,10 @@ def rows_of(top, total, functions):
     rows = [row_of(crate, functions.get(crate, ""), takes[crate]) for crate in names if crate not in others]
     count = sum(int(functions.get(crate, 0)) for crate in others)
     together = [sum(it) for it in zip(*(takes[crate] for crate in others))]
-    return [HEAD, "|---|---|---|---|---|", *rows, row_of(f"{len(others)} others", count, together)]
+    rows.append(row_of(f"{len(others)} others", count, together))
+    every = sum(int(functions.get(crate, 0)) for crate in names)
+    rows.append(row_of("all", every, [sum(it) for it in zip(*takes.values())]))
+    return [HEAD, "|---|---|---|---|---|", *rows]
 
 
 def sums_of(top, total):
