@@ -30,11 +30,12 @@ pub fn in_table_start<S: TreeSink>(
     group: TagGroup,
     tag: &Tag,
 ) -> Result<Flow<S::Handle>, ParseFault>
-    requires ready { Ready (state_of S.view page.old) }
+    requires ready { Ready (state_of S.number S.forest S.quirks page.old) }
     requires group { tag_group tag.now.name ≡ group }
-    ensures came { IfOk result (λ flow. came_to flow (state_of S.view page.new) ≡ outcome S.view.handle
-        (in_table_start group tag.now (state_of S.view page.old)) (state_of S.view page.old)) }
-    ensures ready { OnOk result (Ready (state_of S.view page.new)) }
+    ensures came { IfOk result (λ flow. came_to flow (state_of S.number S.forest S.quirks page.new)
+        ≡ outcome S.handle (in_table_start group tag.now (state_of S.number S.forest S.quirks page.old))
+        (state_of S.number S.forest S.quirks page.old)) }
+    ensures ready { OnOk result (Ready (state_of S.number S.forest S.quirks page.new)) }
     ensures memory { IfErr result (λ e. e ≡ Memory) }
 {
     match group {
@@ -65,10 +66,11 @@ pub fn in_table_end<S: TreeSink>(
     group: TagGroup,
     tag: &Tag,
 ) -> Result<Flow<S::Handle>, ParseFault>
-    requires ready { Ready (state_of S.view page.old) }
-    ensures came { IfOk result (λ flow. came_to flow (state_of S.view page.new) ≡ outcome S.view.handle
-        (in_table_end group tag.now (state_of S.view page.old)) (state_of S.view page.old)) }
-    ensures ready { OnOk result (Ready (state_of S.view page.new)) }
+    requires ready { Ready (state_of S.number S.forest S.quirks page.old) }
+    ensures came { IfOk result (λ flow. came_to flow (state_of S.number S.forest S.quirks page.new)
+        ≡ outcome S.handle (in_table_end group tag.now (state_of S.number S.forest S.quirks page.old))
+        (state_of S.number S.forest S.quirks page.old)) }
+    ensures ready { OnOk result (Ready (state_of S.number S.forest S.quirks page.new)) }
     ensures memory { IfErr result (λ e. e ≡ Memory) }
 {
     match group {
@@ -97,10 +99,11 @@ fn caption_in_table<S: TreeSink>(
     page: &mut Parse<S>,
     tag: &Tag,
 ) -> Result<Flow<S::Handle>, ParseFault>
-    requires ready { Ready (state_of S.view page.old) }
-    ensures came { IfOk result (λ flow. came_to flow (state_of S.view page.new) ≡ outcome S.view.handle
-        (in_table_start groups.Caption tag.now (state_of S.view page.old)) (state_of S.view page.old)) }
-    ensures ready { OnOk result (Ready (state_of S.view page.new)) }
+    requires ready { Ready (state_of S.number S.forest S.quirks page.old) }
+    ensures came { IfOk result (λ flow. came_to flow (state_of S.number S.forest S.quirks page.new)
+        ≡ outcome S.handle (in_table_start groups.Caption tag.now (state_of S.number S.forest S.quirks page.old))
+        (state_of S.number S.forest S.quirks page.old)) }
+    ensures ready { OnOk result (Ready (state_of S.number S.forest S.quirks page.new)) }
     ensures memory { IfErr result (λ e. e ≡ Memory) }
 {
     page.pop_down_to(ElementSet::TableContext)?;
@@ -115,10 +118,11 @@ fn column_group_in_table<S: TreeSink>(
     page: &mut Parse<S>,
     tag: &Tag,
 ) -> Result<Flow<S::Handle>, ParseFault>
-    requires ready { Ready (state_of S.view page.old) }
-    ensures came { IfOk result (λ flow. came_to flow (state_of S.view page.new) ≡ outcome S.view.handle
-        (in_table_start groups.ColumnGroup tag.now (state_of S.view page.old)) (state_of S.view page.old)) }
-    ensures ready { OnOk result (Ready (state_of S.view page.new)) }
+    requires ready { Ready (state_of S.number S.forest S.quirks page.old) }
+    ensures came { IfOk result (λ flow. came_to flow (state_of S.number S.forest S.quirks page.new)
+        ≡ outcome S.handle (in_table_start groups.ColumnGroup tag.now (state_of S.number S.forest S.quirks page.old))
+        (state_of S.number S.forest S.quirks page.old)) }
+    ensures ready { OnOk result (Ready (state_of S.number S.forest S.quirks page.new)) }
     ensures memory { IfErr result (λ e. e ≡ Memory) }
 {
     page.pop_down_to(ElementSet::TableContext)?;
@@ -129,11 +133,11 @@ fn column_group_in_table<S: TreeSink>(
 
 // "col": its group is made.
 fn make_column_group<S: TreeSink>(page: &mut Parse<S>) -> Result<Flow<S::Handle>, ParseFault>
-    requires ready { Ready (state_of S.view page.old) }
-    ensures came { IfOk result (λ flow. came_to flow (state_of S.view page.new) ≡ outcome S.view.handle
-        (again (clear_to_table ∷ insert_named (codes "colgroup") ∷ go_to InColumnGroup ∷ []))
-        (state_of S.view page.old)) }
-    ensures ready { OnOk result (Ready (state_of S.view page.new)) }
+    requires ready { Ready (state_of S.number S.forest S.quirks page.old) }
+    ensures came { IfOk result (λ flow. came_to flow (state_of S.number S.forest S.quirks page.new)
+        ≡ outcome S.handle (again (clear_to_table ∷ insert_named (codes "colgroup") ∷ go_to InColumnGroup ∷ []))
+        (state_of S.number S.forest S.quirks page.old)) }
+    ensures ready { OnOk result (Ready (state_of S.number S.forest S.quirks page.new)) }
     ensures memory { IfErr result (λ e. e ≡ Memory) }
 {
     page.pop_down_to(ElementSet::TableContext)?;
@@ -147,10 +151,11 @@ fn section_in_table<S: TreeSink>(
     page: &mut Parse<S>,
     tag: &Tag,
 ) -> Result<Flow<S::Handle>, ParseFault>
-    requires ready { Ready (state_of S.view page.old) }
-    ensures came { IfOk result (λ flow. came_to flow (state_of S.view page.new) ≡ outcome S.view.handle
-        (in_table_start groups.Section tag.now (state_of S.view page.old)) (state_of S.view page.old)) }
-    ensures ready { OnOk result (Ready (state_of S.view page.new)) }
+    requires ready { Ready (state_of S.number S.forest S.quirks page.old) }
+    ensures came { IfOk result (λ flow. came_to flow (state_of S.number S.forest S.quirks page.new)
+        ≡ outcome S.handle (in_table_start groups.Section tag.now (state_of S.number S.forest S.quirks page.old))
+        (state_of S.number S.forest S.quirks page.old)) }
+    ensures ready { OnOk result (Ready (state_of S.number S.forest S.quirks page.new)) }
     ensures memory { IfErr result (λ e. e ≡ Memory) }
 {
     page.pop_down_to(ElementSet::TableContext)?;
@@ -161,10 +166,11 @@ fn section_in_table<S: TreeSink>(
 
 // "td", "th", "tr": their section is made.
 fn make_section<S: TreeSink>(page: &mut Parse<S>) -> Result<Flow<S::Handle>, ParseFault>
-    requires ready { Ready (state_of S.view page.old) }
-    ensures came { IfOk result (λ flow. came_to flow (state_of S.view page.new) ≡ outcome S.view.handle
-        (again (clear_to_table ∷ insert_named (codes "tbody") ∷ go_to InTableBody ∷ [])) (state_of S.view page.old)) }
-    ensures ready { OnOk result (Ready (state_of S.view page.new)) }
+    requires ready { Ready (state_of S.number S.forest S.quirks page.old) }
+    ensures came { IfOk result (λ flow. came_to flow (state_of S.number S.forest S.quirks page.new)
+        ≡ outcome S.handle (again (clear_to_table ∷ insert_named (codes "tbody") ∷ go_to InTableBody ∷ []))
+        (state_of S.number S.forest S.quirks page.old)) }
+    ensures ready { OnOk result (Ready (state_of S.number S.forest S.quirks page.new)) }
     ensures memory { IfErr result (λ e. e ≡ Memory) }
 {
     page.pop_down_to(ElementSet::TableContext)?;
@@ -175,9 +181,10 @@ fn make_section<S: TreeSink>(page: &mut Parse<S>) -> Result<Flow<S::Handle>, Par
 
 /// The table is closed.
 pub fn close_table<S: TreeSink>(page: &mut Parse<S>) -> Result<(), ParseFault>
-    requires ready { Ready (state_of S.view page.old) }
-    ensures seen { OnOk result (state_of S.view page.new ≡ act_all table_closed (state_of S.view page.old)) }
-    ensures ready { OnOk result (Ready (state_of S.view page.new)) }
+    requires ready { Ready (state_of S.number S.forest S.quirks page.old) }
+    ensures seen { OnOk result (state_of S.number S.forest S.quirks page.new ≡ act_all table_closed
+        (state_of S.number S.forest S.quirks page.old)) }
+    ensures ready { OnOk result (Ready (state_of S.number S.forest S.quirks page.new)) }
     ensures memory { IfErr result (λ e. e ≡ Memory) }
 {
     page.pop_to(ElementSet::Table)?;
@@ -190,11 +197,12 @@ pub fn input_in_table<S: TreeSink>(
     page: &mut Parse<S>,
     tag: &Tag,
 ) -> Result<Flow<S::Handle>, ParseFault>
-    requires ready { Ready (state_of S.view page.old) }
+    requires ready { Ready (state_of S.number S.forest S.quirks page.old) }
     requires group { tag_group tag.now.name ≡ groups.Input }
-    ensures came { IfOk result (λ flow. came_to flow (state_of S.view page.new) ≡ outcome S.view.handle
-        (input_in_table tag.now (state_of S.view page.old)) (state_of S.view page.old)) }
-    ensures ready { OnOk result (Ready (state_of S.view page.new)) }
+    ensures came { IfOk result (λ flow. came_to flow (state_of S.number S.forest S.quirks page.new)
+        ≡ outcome S.handle (input_in_table tag.now (state_of S.number S.forest S.quirks page.old))
+        (state_of S.number S.forest S.quirks page.old)) }
+    ensures ready { OnOk result (Ready (state_of S.number S.forest S.quirks page.new)) }
     ensures memory { IfErr result (λ e. e ≡ Memory) }
 {
     if is_hidden(&tag.attrs) {
@@ -209,10 +217,11 @@ pub fn form_in_table<S: TreeSink>(
     page: &mut Parse<S>,
     tag: &Tag,
 ) -> Result<Flow<S::Handle>, ParseFault>
-    requires ready { Ready (state_of S.view page.old) }
-    ensures came { IfOk result (λ flow. came_to flow (state_of S.view page.new) ≡ outcome S.view.handle
-        (form_in_table tag.now (state_of S.view page.old)) (state_of S.view page.old)) }
-    ensures ready { OnOk result (Ready (state_of S.view page.new)) }
+    requires ready { Ready (state_of S.number S.forest S.quirks page.old) }
+    ensures came { IfOk result (λ flow. came_to flow (state_of S.number S.forest S.quirks page.new)
+        ≡ outcome S.handle (form_in_table tag.now (state_of S.number S.forest S.quirks page.old))
+        (state_of S.number S.forest S.quirks page.old)) }
+    ensures ready { OnOk result (Ready (state_of S.number S.forest S.quirks page.new)) }
     ensures memory { IfErr result (λ e. e ≡ Memory) }
 {
     if page.has_template() {
@@ -234,11 +243,12 @@ pub fn start_in_body_fostered<S: TreeSink>(
     group: TagGroup,
     tag: &Tag,
 ) -> Result<Flow<S::Handle>, ParseFault>
-    requires ready { Ready (state_of S.view page.old) }
+    requires ready { Ready (state_of S.number S.forest S.quirks page.old) }
     requires group { tag_group tag.now.name ≡ group }
-    ensures came { IfOk result (λ flow. came_to flow (state_of S.view page.new) ≡ outcome S.view.handle
-        (fostered (in_body_start group tag.now (state_of S.view page.old))) (state_of S.view page.old)) }
-    ensures ready { OnOk result (Ready (state_of S.view page.new)) }
+    ensures came { IfOk result (λ flow. came_to flow (state_of S.number S.forest S.quirks page.new)
+        ≡ outcome S.handle (fostered (in_body_start group tag.now (state_of S.number S.forest S.quirks page.old)))
+        (state_of S.number S.forest S.quirks page.old)) }
+    ensures ready { OnOk result (Ready (state_of S.number S.forest S.quirks page.new)) }
     ensures memory { IfErr result (λ e. e ≡ Memory) }
 {
     page.set_fostering(true);
@@ -254,10 +264,11 @@ pub fn end_in_body_fostered<S: TreeSink>(
     group: TagGroup,
     tag: &Tag,
 ) -> Result<Flow<S::Handle>, ParseFault>
-    requires ready { Ready (state_of S.view page.old) }
-    ensures came { IfOk result (λ flow. came_to flow (state_of S.view page.new) ≡ outcome S.view.handle
-        (fostered (in_body_end group tag.now (state_of S.view page.old))) (state_of S.view page.old)) }
-    ensures ready { OnOk result (Ready (state_of S.view page.new)) }
+    requires ready { Ready (state_of S.number S.forest S.quirks page.old) }
+    ensures came { IfOk result (λ flow. came_to flow (state_of S.number S.forest S.quirks page.new)
+        ≡ outcome S.handle (fostered (in_body_end group tag.now (state_of S.number S.forest S.quirks page.old)))
+        (state_of S.number S.forest S.quirks page.old)) }
+    ensures ready { OnOk result (Ready (state_of S.number S.forest S.quirks page.new)) }
     ensures memory { IfErr result (λ e. e ≡ Memory) }
 {
     page.set_fostering(true);
