@@ -1,7 +1,7 @@
 -- What contracts see of a renderer over a decorator.
 use Rattle.std.specs.Prelude.{◌≡◌, ℕ, Bool, List, Option, None, Some, map, Vec}
 use Rattle.std.specs.Global.{Global}
-use Rattle.text_marks.specs.Marks.{Mark}
+use Rattle.text_marks.specs.Marks.{DecoratorView, Mark}
 use Rattle.block_layout.specs.Seen.{laid_of, HasJoinedTexts}
 use Rattle.renderer_calls.specs.Renderers.{Marking, Sub}
 use Rattle.block_renderer.specs.declared.sub_renderer.SubRenderer.{SubRenderer}
@@ -24,27 +24,30 @@ sub_of seen held s = record {
 }
 
 -- what contracts see of each annotation that a decorator may give
-abbrev pub IsTagging : {T H A : Type 0} → (T → A) → (H → Mark → T → Type 0) → (H → Mark → A) → Type 0
-IsTagging seen gives tag = (h : _) (m : Mark) (a : _) → gives h m a → seen a ≡ tag h m
+abbrev pub IsTagging : {D T H A : Type 0} → (T → A) → DecoratorView D H T → (H → Mark → A) → Type 0
+IsTagging seen view tag = (h : _) (m : Mark) (a : _) → view.gives h m a → seen a ≡ tag h m
 
-abbrev pub marking : {H A : Type 0} → (H → Mark → List ℕ) → (H → Mark → A) → (H → Mark → Bool) → (H → Mark → H)
-    → (H → Mark → Bool) → (H → H) → Marking H A
-marking text tag marks after pops sub =
-    record { mark_text = text; mark_tag = tag; has_tag = marks; after = after; ends_tag = pops; sub = sub }
+abbrev pub marking : {D T H A : Type 0} → DecoratorView D H T → (H → Mark → A) → Marking H A
+marking view tag = record {
+  mark_text = view.text;
+  mark_tag = tag;
+  has_tag = view.marks;
+  after = view.after;
+  ends_tag = view.pops;
+  sub = view.sub;
+}
 
 -- However the decorator's annotations are seen, the renderer comes from the old one by f.
-abbrev pub Comes : {D T H A : Type 0} → (T → A) → (D → H) → (H → Mark → List ℕ) → (H → Mark → T → Type 0)
-    → (H → Mark → Bool) → (H → Mark → H) → (H → Mark → Bool) → (H → H)
+abbrev pub Comes : {D T H A : Type 0} → (T → A) → DecoratorView D H T
     → (Marking H A → Sub H A → Option (Sub H A)) → SubRenderer D T → SubRenderer D T → Type 0
-Comes seen held text gives marks after pops sub f old new = (tag : _) → IsTagging seen gives tag
-    → f (marking text tag marks after pops sub) (sub_of seen held old) ≡ Some (sub_of seen held new)
+Comes seen view f old new = (tag : _) → IsTagging seen view tag
+    → f (marking view tag) (sub_of seen view.held old) ≡ Some (sub_of seen view.held new)
 
 -- However they are seen, it comes to none.
-abbrev pub Fails : {D T H A : Type 0} → (T → A) → (D → H) → (H → Mark → List ℕ) → (H → Mark → T → Type 0)
-    → (H → Mark → Bool) → (H → Mark → H) → (H → Mark → Bool) → (H → H)
+abbrev pub Fails : {D T H A : Type 0} → (T → A) → DecoratorView D H T
     → (Marking H A → Sub H A → Option (Sub H A)) → SubRenderer D T → Type 0
-Fails seen held text gives marks after pops sub f old = (tag : _) → IsTagging seen gives tag
-    → f (marking text tag marks after pops sub) (sub_of seen held old) ≡ None
+Fails seen view f old = (tag : _) → IsTagging seen view tag
+    → f (marking view tag) (sub_of seen view.held old) ≡ None
 
 abbrev pub has_failed : {D T : Type 0} → SubRenderer D T → Bool
 has_failed s = s.failed

@@ -20,24 +20,24 @@ impl<D: TextDecorator + Drop> Renderer for SubRenderer<D> {
 
     ghost has_failed = { has_failed };
 
-    ghost does = { λ c old new. Comes D.Annotation.seen D.held D.text D.gives D.marks D.after D.pops D.sub
-        (λ m s. step m (call_of (sub_of D.Annotation.seen D.held) c) s) old new };
+    ghost does = { λ c old new. Comes D.Annotation.seen D.view
+        (λ m s. step m (call_of (sub_of D.Annotation.seen D.view.held) c) s) old new };
 
-    ghost never = { λ c old. Fails D.Annotation.seen D.held D.text D.gives D.marks D.after D.pops D.sub
-        (λ m s. step m (call_of (sub_of D.Annotation.seen D.held) c) s) old };
+    ghost never = { λ c old. Fails D.Annotation.seen D.view
+        (λ m s. step m (call_of (sub_of D.Annotation.seen D.view.held) c) s) old };
 
-    ghost columns = { λ s. (sub_of D.Annotation.seen D.held s).width };
+    ghost columns = { λ s. (sub_of D.Annotation.seen D.view.held s).width };
 
-    ghost holds_nothing = { λ s. is_nothing (sub_of D.Annotation.seen D.held s).laid };
+    ghost holds_nothing = { λ s. is_nothing (sub_of D.Annotation.seen D.view.held s).laid };
 
-    ghost prefix = { λ s kind. D.text (sub_of D.Annotation.seen D.held s).held kind };
+    ghost prefix = { λ s kind. D.view.text (sub_of D.Annotation.seen D.view.held s).held kind };
 
-    ghost is_part = { λ s width part. sub_of D.Annotation.seen D.held part
-        ≡ new_part D.sub width (sub_of D.Annotation.seen D.held s) };
+    ghost is_part = { λ s width part. sub_of D.Annotation.seen D.view.held part ≡ new_part D.view.sub width
+        (sub_of D.Annotation.seen D.view.held s) };
 
     ghost is_joined = { IsJoinedSub D.Annotation.seen };
 
-    ghost stays = { λ old new. sub_of D.Annotation.seen D.held new ≡ sub_of D.Annotation.seen D.held old };
+    ghost stays = { λ old new. sub_of D.Annotation.seen D.view.held new ≡ sub_of D.Annotation.seen D.view.held old };
 
     fn width(&self) -> usize {
         self.width
@@ -349,13 +349,12 @@ impl<D: TextDecorator + Drop> Renderer for SubRenderer<D> {
         cells: Vec<(SubRenderer<D>, usize)>,
         collapse: bool,
     ) -> Result<(), BlockError>
-        ensures outcome { IsOutcome result
-            (has_failed self.old || list_any (λ cell. has_failed cell.0) cells.items) (has_failed self.new)
-            (Comes D.Annotation.seen D.held D.text D.gives D.marks D.after D.pops D.sub
-            (λ m s. step m (call_of (sub_of D.Annotation.seen D.held) (adds_cells cells.items collapse)) s)
-            self.old self.new)
-            (Fails D.Annotation.seen D.held D.text D.gives D.marks D.after D.pops D.sub
-            (λ m s. step m (call_of (sub_of D.Annotation.seen D.held) (adds_cells cells.items collapse)) s) self.old) }
+        ensures outcome { IsOutcome result (has_failed self.old || list_any (λ cell. has_failed cell.0) cells.items)
+            (has_failed self.new) (Comes D.Annotation.seen D.view
+            (λ m s. step m (call_of (sub_of D.Annotation.seen D.view.held) (adds_cells cells.items collapse)) s)
+            self.old self.new) (Fails D.Annotation.seen D.view
+            (λ m s. step m (call_of (sub_of D.Annotation.seen D.view.held) (adds_cells cells.items collapse)) s)
+            self.old) }
         ensures joined { IsJoinedSub D.Annotation.seen self.old → IsJoinedSub D.Annotation.seen self.new }
     {
         if self.failed || has_failed_cell(&cells) {
@@ -369,12 +368,10 @@ impl<D: TextDecorator + Drop> Renderer for SubRenderer<D> {
 
     fn append_vert_row(&mut self, cells: Vec<SubRenderer<D>>) -> Result<(), BlockError>
         ensures outcome { IsOutcome result (has_failed self.old || list_any has_failed cells.items)
-            (has_failed self.new)
-            (Comes D.Annotation.seen D.held D.text D.gives D.marks D.after D.pops D.sub
-            (λ m s. step m (call_of (sub_of D.Annotation.seen D.held) (adds_rows_below cells.items)) s)
-            self.old self.new)
-            (Fails D.Annotation.seen D.held D.text D.gives D.marks D.after D.pops D.sub
-            (λ m s. step m (call_of (sub_of D.Annotation.seen D.held) (adds_rows_below cells.items)) s) self.old) }
+            (has_failed self.new) (Comes D.Annotation.seen D.view
+            (λ m s. step m (call_of (sub_of D.Annotation.seen D.view.held) (adds_rows_below cells.items)) s) self.old
+            self.new) (Fails D.Annotation.seen D.view (λ m s. step m (call_of (sub_of D.Annotation.seen D.view.held)
+            (adds_rows_below cells.items)) s) self.old) }
         ensures joined { IsJoinedSub D.Annotation.seen self.old → IsJoinedSub D.Annotation.seen self.new }
     {
         if self.failed || has_failed_row(&cells) {

@@ -20,10 +20,10 @@ impl<D: TextDecorator + Drop> SubRenderer<D> {
     #[inline(always)]
     pub(crate) fn add_inline(&mut self, text: &str) -> Result<(), BlockError>
         ensures kinds { IfErr result (λ e. (e ≡ errors.TooNarrow) ⊎ (e ≡ errors.Memory)) }
-        ensures done { OnOk result (Comes D.Annotation.seen D.held D.text D.gives D.marks D.after D.pops D.sub
-            (λ m s. add_inline m (chars text.now) s) self.old self.new) }
-        ensures narrow { result ≡ Err errors.TooNarrow → Fails D.Annotation.seen D.held D.text D.gives D.marks D.after
-            D.pops D.sub (λ m s. add_inline m (chars text.now) s) self.old }
+        ensures done { OnOk result (Comes D.Annotation.seen D.view (λ m s. add_inline m (chars text.now) s) self.old
+            self.new) }
+        ensures narrow { result ≡ Err errors.TooNarrow → Fails D.Annotation.seen D.view
+            (λ m s. add_inline m (chars text.now) s) self.old }
         ensures joined { IsJoinedSub D.Annotation.seen self.old → IsJoinedSub D.Annotation.seen self.new }
     {
         if self.add_more(text)? {
@@ -36,10 +36,10 @@ impl<D: TextDecorator + Drop> SubRenderer<D> {
     /// changed.
     #[inline(always)]
     fn add_more(&mut self, text: &str) -> Result<bool, AllocError>
-        ensures more { IfOk result (λ more. IsTrue more → Comes D.Annotation.seen D.held D.text D.gives D.marks D.after
-            D.pops D.sub (λ m s. add_inline m (chars text.now) s) self.old self.new) }
-        ensures stays { IfOk result (λ more. more ≡ false
-            → sub_of D.Annotation.seen D.held self.new ≡ sub_of D.Annotation.seen D.held self.old) }
+        ensures more { IfOk result (λ more. IsTrue more → Comes D.Annotation.seen D.view
+            (λ m s. add_inline m (chars text.now) s) self.old self.new) }
+        ensures stays { IfOk result (λ more. more ≡ false → sub_of D.Annotation.seen D.view.held self.new ≡ sub_of
+            D.Annotation.seen D.view.held self.old) }
         ensures joined { IsJoinedSub D.Annotation.seen self.old → IsJoinedSub D.Annotation.seen self.new }
     {
         if !self.is_plain() {
@@ -62,10 +62,10 @@ impl<D: TextDecorator + Drop> SubRenderer<D> {
     #[inline(always)]
     fn add_other(&mut self, text: &str) -> Result<(), BlockError>
         ensures kinds { IfErr result (λ e. (e ≡ errors.TooNarrow) ⊎ (e ≡ errors.Memory)) }
-        ensures done { OnOk result (Comes D.Annotation.seen D.held D.text D.gives D.marks D.after D.pops D.sub
-            (λ m s. add_inline m (chars text.now) s) self.old self.new) }
-        ensures narrow { result ≡ Err errors.TooNarrow → Fails D.Annotation.seen D.held D.text D.gives D.marks D.after
-            D.pops D.sub (λ m s. add_inline m (chars text.now) s) self.old }
+        ensures done { OnOk result (Comes D.Annotation.seen D.view (λ m s. add_inline m (chars text.now) s) self.old
+            self.new) }
+        ensures narrow { result ≡ Err errors.TooNarrow → Fails D.Annotation.seen D.view
+            (λ m s. add_inline m (chars text.now) s) self.old }
         ensures joined { IsJoinedSub D.Annotation.seen self.old → IsJoinedSub D.Annotation.seen self.new }
     {
         if self.laid.is_ignored(self.mode(), text) {
@@ -80,10 +80,10 @@ impl<D: TextDecorator + Drop> SubRenderer<D> {
     #[inline(always)]
     fn add_struck(&mut self, text: &str) -> Result<(), BlockError>
         ensures kinds { IfErr result (λ e. (e ≡ errors.TooNarrow) ⊎ (e ≡ errors.Memory)) }
-        ensures done { OnOk result (Comes D.Annotation.seen D.held D.text D.gives D.marks D.after D.pops D.sub
+        ensures done { OnOk result (Comes D.Annotation.seen D.view
             (λ m s. on_laid s (text_added m (chars text.now) s s.laid)) self.old self.new) }
-        ensures narrow { result ≡ Err errors.TooNarrow → Fails D.Annotation.seen D.held D.text D.gives D.marks D.after
-            D.pops D.sub (λ m s. on_laid s (text_added m (chars text.now) s s.laid)) self.old }
+        ensures narrow { result ≡ Err errors.TooNarrow → Fails D.Annotation.seen D.view
+            (λ m s. on_laid s (text_added m (chars text.now) s s.laid)) self.old }
         ensures joined { IsJoinedSub D.Annotation.seen self.old → IsJoinedSub D.Annotation.seen self.new }
     {
         if !self.options.use_unicode_strikeout || self.strikeouts == 0 {
@@ -97,10 +97,10 @@ impl<D: TextDecorator + Drop> SubRenderer<D> {
     #[inline(always)]
     fn add_tagged(&mut self, text: &str) -> Result<(), BlockError>
         ensures kinds { IfErr result (λ e. (e ≡ errors.TooNarrow) ⊎ (e ≡ errors.Memory)) }
-        ensures done { OnOk result (Comes D.Annotation.seen D.held D.text D.gives D.marks D.after D.pops D.sub
+        ensures done { OnOk result (Comes D.Annotation.seen D.view
             (λ m s. on_laid s (tagged_added m (chars text.now) s s.laid)) self.old self.new) }
-        ensures narrow { result ≡ Err errors.TooNarrow → Fails D.Annotation.seen D.held D.text D.gives D.marks D.after
-            D.pops D.sub (λ m s. on_laid s (tagged_added m (chars text.now) s s.laid)) self.old }
+        ensures narrow { result ≡ Err errors.TooNarrow → Fails D.Annotation.seen D.view
+            (λ m s. on_laid s (tagged_added m (chars text.now) s s.laid)) self.old }
         ensures joined { IsJoinedSub D.Annotation.seen self.old → IsJoinedSub D.Annotation.seen self.new }
     {
         if self.preformats > 0 {
@@ -118,10 +118,10 @@ impl<D: TextDecorator + Drop> SubRenderer<D> {
 
     fn add_preformatted(&mut self, text: &str) -> Result<(), BlockError>
         ensures kinds { IfErr result (λ e. (e ≡ errors.TooNarrow) ⊎ (e ≡ errors.Memory)) }
-        ensures done { OnOk result (Comes D.Annotation.seen D.held D.text D.gives D.marks D.after D.pops D.sub
+        ensures done { OnOk result (Comes D.Annotation.seen D.view
             (λ m s. on_laid s (preformatted_added m (chars text.now) s s.laid)) self.old self.new) }
-        ensures narrow { result ≡ Err errors.TooNarrow → Fails D.Annotation.seen D.held D.text D.gives D.marks D.after
-            D.pops D.sub (λ m s. on_laid s (preformatted_added m (chars text.now) s s.laid)) self.old }
+        ensures narrow { result ≡ Err errors.TooNarrow → Fails D.Annotation.seen D.view
+            (λ m s. on_laid s (preformatted_added m (chars text.now) s s.laid)) self.old }
         ensures joined { IsJoinedSub D.Annotation.seen self.old → IsJoinedSub D.Annotation.seen self.new }
     {
         let measure = self.measure();

@@ -24,10 +24,10 @@ impl<D: TextDecorator + Drop> SubRenderer<D> {
     /// that runs is wider than its lines and may not stand alone, as `Memory`, or as `Failed` behind a refusal.
     pub fn fmt_links(&mut self, lines: Vec<TaggedLine<D::Annotation>>) -> Result<(), BlockError>
         ensures outcome { IsOutcome result (has_failed self.old) (has_failed self.new)
-            (add_footnotes (map (line_items D.Annotation.seen) lines.items) (sub_of D.Annotation.seen D.held self.old)
-            ≡ Some (sub_of D.Annotation.seen D.held self.new))
-            (add_footnotes (map (line_items D.Annotation.seen) lines.items) (sub_of D.Annotation.seen D.held self.old)
-            ≡ None) }
+            (add_footnotes (map (line_items D.Annotation.seen) lines.items) (sub_of D.Annotation.seen D.view.held
+            self.old) ≡ Some (sub_of D.Annotation.seen D.view.held self.new))
+            (add_footnotes (map (line_items D.Annotation.seen) lines.items) (sub_of D.Annotation.seen D.view.held
+            self.old) ≡ None) }
         ensures joined { IsJoinedSub D.Annotation.seen self.old → IsJoinedSub D.Annotation.seen self.new }
     {
         if self.failed {
@@ -41,9 +41,9 @@ impl<D: TextDecorator + Drop> SubRenderer<D> {
     fn add_footnotes(&mut self, lines: Vec<TaggedLine<D::Annotation>>) -> Result<(), BlockError>
         ensures kinds { IfErr result (λ e. (e ≡ errors.TooNarrow) ⊎ (e ≡ errors.Memory)) }
         ensures done { OnOk result (add_footnotes (map (line_items D.Annotation.seen) lines.items)
-            (sub_of D.Annotation.seen D.held self.old) ≡ Some (sub_of D.Annotation.seen D.held self.new)) }
+            (sub_of D.Annotation.seen D.view.held self.old) ≡ Some (sub_of D.Annotation.seen D.view.held self.new)) }
         ensures narrow { result ≡ Err errors.TooNarrow → add_footnotes (map (line_items D.Annotation.seen) lines.items)
-            (sub_of D.Annotation.seen D.held self.old) ≡ None }
+            (sub_of D.Annotation.seen D.view.held self.old) ≡ None }
         ensures joined { IsJoinedSub D.Annotation.seen self.old → IsJoinedSub D.Annotation.seen self.new }
     {
         self.flush()?;
@@ -52,8 +52,8 @@ impl<D: TextDecorator + Drop> SubRenderer<D> {
     }
 
     fn put_footnotes(&mut self, lines: Vec<TaggedLine<D::Annotation>>) -> Result<(), AllocError>
-        ensures done { OnOk result (sub_of D.Annotation.seen D.held self.new ≡ fold with_footnote
-            (sub_of D.Annotation.seen D.held self.old) (map (line_items D.Annotation.seen) lines.items)) }
+        ensures done { OnOk result (sub_of D.Annotation.seen D.view.held self.new ≡ fold with_footnote
+            (sub_of D.Annotation.seen D.view.held self.old) (map (line_items D.Annotation.seen) lines.items)) }
         ensures joined { IsJoinedSub D.Annotation.seen self.old → IsJoinedSub D.Annotation.seen self.new }
     {
         for line in lines {
@@ -63,8 +63,8 @@ impl<D: TextDecorator + Drop> SubRenderer<D> {
     }
 
     fn put_footnote(&mut self, line: TaggedLine<D::Annotation>) -> Result<(), AllocError>
-        ensures done { OnOk result (sub_of D.Annotation.seen D.held self.new ≡ with_footnote
-            (sub_of D.Annotation.seen D.held self.old) (line_items D.Annotation.seen line)) }
+        ensures done { OnOk result (sub_of D.Annotation.seen D.view.held self.new ≡ with_footnote
+            (sub_of D.Annotation.seen D.view.held self.old) (line_items D.Annotation.seen line)) }
         ensures joined { IsJoinedSub D.Annotation.seen self.old → IsJoinedSub D.Annotation.seen self.new }
     {
         let measure = self.measure();
@@ -75,7 +75,7 @@ impl<D: TextDecorator + Drop> SubRenderer<D> {
 
     /// Where lines behind the page are cut.
     fn footnote_width(&self) -> Option<usize>
-        ensures { result ≡ footnote_width (sub_of D.Annotation.seen D.held self.now) }
+        ensures { result ≡ footnote_width (sub_of D.Annotation.seen D.view.held self.now) }
     {
         if self.options.wrap_links {
             return Some(self.width);
@@ -89,14 +89,14 @@ impl<D: TextDecorator + Drop> SubRenderer<D> {
         &mut self,
         links: Vec<String>,
     ) -> Result<Vec<TaggedLine<D::Annotation>>, BlockError>
-        ensures closes { IfOk result (λ lines. map (line_items D.Annotation.seen) lines.items
-            ≡ seen_lines D.Annotation.seen
-            (D.closes (sub_of D.Annotation.seen D.held self.old).held (names links.items))) }
-        ensures after { OnOk result (sub_of D.Annotation.seen D.held self.new
-            ≡ with_held (D.after (sub_of D.Annotation.seen D.held self.old).held (page_end (names links.items)))
-            (sub_of D.Annotation.seen D.held self.old)) }
-        ensures stays { OnErr result (sub_of D.Annotation.seen D.held self.new
-            ≡ sub_of D.Annotation.seen D.held self.old) }
+        ensures closes { IfOk result (λ lines. map (line_items D.Annotation.seen) lines.items ≡ seen_lines
+            D.Annotation.seen
+            (D.view.closes (sub_of D.Annotation.seen D.view.held self.old).held (names links.items))) }
+        ensures after { OnOk result (sub_of D.Annotation.seen D.view.held self.new ≡ with_held
+            (D.view.after (sub_of D.Annotation.seen D.view.held self.old).held (page_end (names links.items)))
+            (sub_of D.Annotation.seen D.view.held self.old)) }
+        ensures stays { OnErr result (sub_of D.Annotation.seen D.view.held self.new ≡ sub_of D.Annotation.seen
+            D.view.held self.old) }
         ensures refused { is_err result ≡ has_failed self.new }
         ensures failed { has_failed self.old ≡ true → result ≡ Err errors.Failed }
         ensures kinds { has_failed self.old ≡ false → IfErr result (λ e. e ≡ errors.Memory) }

@@ -18,10 +18,10 @@ impl<D: TextDecorator + Drop> SubRenderer<D> {
     pub(crate) fn begin(&mut self, text: &str, annotation: D::Annotation) -> Result<(), BlockError>
         ensures refused { is_err result ≡ has_failed self.new }
         ensures kinds { IfErr result (λ e. (e ≡ errors.TooNarrow) ⊎ (e ≡ errors.Memory)) }
-        ensures done { OnOk result (Comes D.Annotation.seen D.held D.text D.gives D.marks D.after D.pops D.sub
-            (λ m s. add_inline m (chars text.now) (pushed (D.Annotation.seen annotation) s)) self.old self.new) }
-        ensures narrow { result ≡ Err errors.TooNarrow → Fails D.Annotation.seen D.held D.text D.gives D.marks D.after
-            D.pops D.sub (λ m s. add_inline m (chars text.now) (pushed (D.Annotation.seen annotation) s)) self.old }
+        ensures done { OnOk result (Comes D.Annotation.seen D.view (λ m s. add_inline m (chars text.now)
+            (pushed (D.Annotation.seen annotation) s)) self.old self.new) }
+        ensures narrow { result ≡ Err errors.TooNarrow → Fails D.Annotation.seen D.view
+            (λ m s. add_inline m (chars text.now) (pushed (D.Annotation.seen annotation) s)) self.old }
         ensures joined { IsJoinedSub D.Annotation.seen self.old → IsJoinedSub D.Annotation.seen self.new }
     {
         if let Err(error) = self.push_annotation(annotation) {
@@ -36,10 +36,10 @@ impl<D: TextDecorator + Drop> SubRenderer<D> {
     pub(crate) fn finish(&mut self, text: &str) -> Result<(), BlockError>
         ensures refused { is_err result ≡ has_failed self.new }
         ensures kinds { IfErr result (λ e. (e ≡ errors.TooNarrow) ⊎ (e ≡ errors.Memory)) }
-        ensures done { OnOk result (Comes D.Annotation.seen D.held D.text D.gives D.marks D.after D.pops D.sub
+        ensures done { OnOk result (Comes D.Annotation.seen D.view
             (λ m s. option_map popped (add_inline m (chars text.now) s)) self.old self.new) }
-        ensures narrow { result ≡ Err errors.TooNarrow → Fails D.Annotation.seen D.held D.text D.gives D.marks D.after
-            D.pops D.sub (λ m s. option_map popped (add_inline m (chars text.now) s)) self.old }
+        ensures narrow { result ≡ Err errors.TooNarrow → Fails D.Annotation.seen D.view
+            (λ m s. option_map popped (add_inline m (chars text.now) s)) self.old }
         ensures joined { IsJoinedSub D.Annotation.seen self.old → IsJoinedSub D.Annotation.seen self.new }
     {
         let result = self.add_inline(text);
@@ -61,8 +61,8 @@ impl<D: TextDecorator + Drop> SubRenderer<D> {
 
     /// The annotation stands from here on, where annotations are kept.
     fn push_annotation(&mut self, annotation: D::Annotation) -> Result<(), AllocError>
-        ensures pushed { OnOk result (sub_of D.Annotation.seen D.held self.new
-            ≡ pushed (D.Annotation.seen annotation) (sub_of D.Annotation.seen D.held self.old)) }
+        ensures pushed { OnOk result (sub_of D.Annotation.seen D.view.held self.new ≡ pushed
+            (D.Annotation.seen annotation) (sub_of D.Annotation.seen D.view.held self.old)) }
         ensures joined { IsJoinedSub D.Annotation.seen self.old → IsJoinedSub D.Annotation.seen self.new }
     {
         if self.keeps_annotations {
@@ -72,7 +72,8 @@ impl<D: TextDecorator + Drop> SubRenderer<D> {
     }
 
     pub(crate) fn pop_annotation(&mut self)
-        ensures popped { sub_of D.Annotation.seen D.held self.new ≡ popped (sub_of D.Annotation.seen D.held self.old) }
+        ensures popped { sub_of D.Annotation.seen D.view.held self.new ≡ popped (sub_of D.Annotation.seen D.view.held
+            self.old) }
         ensures failed { has_failed self.new ≡ has_failed self.old }
         ensures joined { IsJoinedSub D.Annotation.seen self.old → IsJoinedSub D.Annotation.seen self.new }
     {
@@ -82,10 +83,10 @@ impl<D: TextDecorator + Drop> SubRenderer<D> {
     /// Adds an image.
     pub(crate) fn put_image(&mut self, src: &str, title: &str) -> Result<(), BlockError>
         ensures kinds { IfErr result (λ e. (e ≡ errors.TooNarrow) ⊎ (e ≡ errors.Memory)) }
-        ensures done { OnOk result (Comes D.Annotation.seen D.held D.text D.gives D.marks D.after D.pops D.sub
-            (λ m s. add_image m (chars src.now) (chars title.now) s) self.old self.new) }
-        ensures narrow { result ≡ Err errors.TooNarrow → Fails D.Annotation.seen D.held D.text D.gives D.marks D.after
-            D.pops D.sub (λ m s. add_image m (chars src.now) (chars title.now) s) self.old }
+        ensures done { OnOk result (Comes D.Annotation.seen D.view (λ m s. add_image m (chars src.now)
+            (chars title.now) s) self.old self.new) }
+        ensures narrow { result ≡ Err errors.TooNarrow → Fails D.Annotation.seen D.view
+            (λ m s. add_image m (chars src.now) (chars title.now) s) self.old }
         ensures joined { IsJoinedSub D.Annotation.seen self.old → IsJoinedSub D.Annotation.seen self.new }
     {
         match shown_title(self.options.img_mode, src, title) {
@@ -97,10 +98,10 @@ impl<D: TextDecorator + Drop> SubRenderer<D> {
     /// Adds an image with a title.
     fn put_titled(&mut self, src: &str, title: &str) -> Result<(), BlockError>
         ensures kinds { IfErr result (λ e. (e ≡ errors.TooNarrow) ⊎ (e ≡ errors.Memory)) }
-        ensures done { OnOk result (Comes D.Annotation.seen D.held D.text D.gives D.marks D.after D.pops D.sub
-            (λ m s. add_titled m (chars src.now) (Some (chars title.now)) s) self.old self.new) }
-        ensures narrow { result ≡ Err errors.TooNarrow → Fails D.Annotation.seen D.held D.text D.gives D.marks D.after
-            D.pops D.sub (λ m s. add_titled m (chars src.now) (Some (chars title.now)) s) self.old }
+        ensures done { OnOk result (Comes D.Annotation.seen D.view (λ m s. add_titled m (chars src.now)
+            (Some (chars title.now)) s) self.old self.new) }
+        ensures narrow { result ≡ Err errors.TooNarrow → Fails D.Annotation.seen D.view
+            (λ m s. add_titled m (chars src.now) (Some (chars title.now)) s) self.old }
         ensures joined { IsJoinedSub D.Annotation.seen self.old → IsJoinedSub D.Annotation.seen self.new }
     {
         let alloc = self.alloc();
@@ -113,10 +114,10 @@ impl<D: TextDecorator + Drop> SubRenderer<D> {
     /// Begins a text's colour.
     pub(crate) fn begin_colour(&mut self, colour: Colour) -> Result<(), BlockError>
         ensures kinds { IfErr result (λ e. (e ≡ errors.TooNarrow) ⊎ (e ≡ errors.Memory)) }
-        ensures done { OnOk result (Comes D.Annotation.seen D.held D.text D.gives D.marks D.after D.pops D.sub
+        ensures done { OnOk result (Comes D.Annotation.seen D.view
             (λ m s. Some (begin_colour m (colour_start colour) s)) self.old self.new) }
-        ensures narrow { result ≡ Err errors.TooNarrow → Fails D.Annotation.seen D.held D.text D.gives D.marks D.after
-            D.pops D.sub (λ m s. Some (begin_colour m (colour_start colour) s)) self.old }
+        ensures narrow { result ≡ Err errors.TooNarrow → Fails D.Annotation.seen D.view
+            (λ m s. Some (begin_colour m (colour_start colour) s)) self.old }
         ensures joined { IsJoinedSub D.Annotation.seen self.old → IsJoinedSub D.Annotation.seen self.new }
     {
         let alloc = self.alloc();
@@ -129,10 +130,10 @@ impl<D: TextDecorator + Drop> SubRenderer<D> {
     /// Begins a background's colour.
     pub(crate) fn begin_bgcolour(&mut self, colour: Colour) -> Result<(), BlockError>
         ensures kinds { IfErr result (λ e. (e ≡ errors.TooNarrow) ⊎ (e ≡ errors.Memory)) }
-        ensures done { OnOk result (Comes D.Annotation.seen D.held D.text D.gives D.marks D.after D.pops D.sub
+        ensures done { OnOk result (Comes D.Annotation.seen D.view
             (λ m s. Some (begin_colour m (background_start colour) s)) self.old self.new) }
-        ensures narrow { result ≡ Err errors.TooNarrow → Fails D.Annotation.seen D.held D.text D.gives D.marks D.after
-            D.pops D.sub (λ m s. Some (begin_colour m (background_start colour) s)) self.old }
+        ensures narrow { result ≡ Err errors.TooNarrow → Fails D.Annotation.seen D.view
+            (λ m s. Some (begin_colour m (background_start colour) s)) self.old }
         ensures joined { IsJoinedSub D.Annotation.seen self.old → IsJoinedSub D.Annotation.seen self.new }
     {
         let alloc = self.alloc();

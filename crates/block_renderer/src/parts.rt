@@ -25,11 +25,11 @@ impl<D: TextDecorator + Drop> SubRenderer<D> {
         following: &str,
     ) -> Result<(), BlockError>
         ensures kinds { IfErr result (λ e. (e ≡ errors.TooNarrow) ⊎ (e ≡ errors.Memory)) }
-        ensures done { OnOk result (add_sub (sub_of D.Annotation.seen D.held other) (chars first.now)
-            (chars following.now) (sub_of D.Annotation.seen D.held self.old)
-            ≡ Some (sub_of D.Annotation.seen D.held self.new)) }
-        ensures narrow { result ≡ Err errors.TooNarrow → add_sub (sub_of D.Annotation.seen D.held other)
-            (chars first.now) (chars following.now) (sub_of D.Annotation.seen D.held self.old) ≡ None }
+        ensures done { OnOk result (add_sub (sub_of D.Annotation.seen D.view.held other) (chars first.now)
+            (chars following.now) (sub_of D.Annotation.seen D.view.held self.old)
+            ≡ Some (sub_of D.Annotation.seen D.view.held self.new)) }
+        ensures narrow { result ≡ Err errors.TooNarrow → add_sub (sub_of D.Annotation.seen D.view.held other)
+            (chars first.now) (chars following.now) (sub_of D.Annotation.seen D.view.held self.old) ≡ None }
         ensures joined { IsJoinedSub D.Annotation.seen self.old → IsJoinedSub D.Annotation.seen self.new }
     {
         self.flush()?;
@@ -43,11 +43,11 @@ impl<D: TextDecorator + Drop> SubRenderer<D> {
         following: &str,
     ) -> Result<(), BlockError>
         ensures kinds { IfErr result (λ e. (e ≡ errors.TooNarrow) ⊎ (e ≡ errors.Memory)) }
-        ensures done { OnOk result (append_sub (sub_of D.Annotation.seen D.held other) (chars first.now)
-            (chars following.now) (sub_of D.Annotation.seen D.held self.old)
-            ≡ Some (sub_of D.Annotation.seen D.held self.new)) }
-        ensures narrow { result ≡ Err errors.TooNarrow → append_sub (sub_of D.Annotation.seen D.held other)
-            (chars first.now) (chars following.now) (sub_of D.Annotation.seen D.held self.old) ≡ None }
+        ensures done { OnOk result (append_sub (sub_of D.Annotation.seen D.view.held other) (chars first.now)
+            (chars following.now) (sub_of D.Annotation.seen D.view.held self.old)
+            ≡ Some (sub_of D.Annotation.seen D.view.held self.new)) }
+        ensures narrow { result ≡ Err errors.TooNarrow → append_sub (sub_of D.Annotation.seen D.view.held other)
+            (chars first.now) (chars following.now) (sub_of D.Annotation.seen D.view.held self.old) ≡ None }
         ensures joined { IsJoinedSub D.Annotation.seen self.old → IsJoinedSub D.Annotation.seen self.new }
     {
         let mut other = other;
@@ -67,11 +67,12 @@ impl<D: TextDecorator + Drop> SubRenderer<D> {
         collapse: bool,
     ) -> Result<(), BlockError>
         ensures kinds { IfErr result (λ e. (e ≡ errors.TooNarrow) ⊎ (e ≡ errors.Memory)) }
-        ensures done { OnOk result (add_cells (map (λ c. (sub_of D.Annotation.seen D.held c.0, c.1)) cells.items)
-            collapse (sub_of D.Annotation.seen D.held self.old) ≡ Some (sub_of D.Annotation.seen D.held self.new)) }
-        ensures narrow { result ≡ Err errors.TooNarrow
-            → add_cells (map (λ c. (sub_of D.Annotation.seen D.held c.0, c.1)) cells.items) collapse
-            (sub_of D.Annotation.seen D.held self.old) ≡ None }
+        ensures done { OnOk result (add_cells (map (λ c. (sub_of D.Annotation.seen D.view.held c.0, c.1)) cells.items)
+            collapse (sub_of D.Annotation.seen D.view.held self.old) ≡ Some (sub_of D.Annotation.seen D.view.held
+            self.new)) }
+        ensures narrow { result ≡ Err errors.TooNarrow → add_cells
+            (map (λ c. (sub_of D.Annotation.seen D.view.held c.0, c.1)) cells.items) collapse
+            (sub_of D.Annotation.seen D.view.held self.old) ≡ None }
         ensures joined { IsJoinedSub D.Annotation.seen self.old → IsJoinedSub D.Annotation.seen self.new }
     {
         let cells = cells_of_subs(self.alloc(), cells)?;
@@ -85,8 +86,9 @@ impl<D: TextDecorator + Drop> SubRenderer<D> {
     fn into_cell(self, rows: usize) -> Result<LineSet<Vec<D::Annotation>>, BlockError>
         ensures kinds { IfErr result (λ e. (e ≡ errors.TooNarrow) ⊎ (e ≡ errors.Memory)) }
         ensures cell { IfOk result (λ cell. option_map (cell_of_sub rows)
-            (flush_sub (sub_of D.Annotation.seen D.held self)) ≡ Some (cell_of (tags_seen D.Annotation.seen) cell)) }
-        ensures narrow { result ≡ Err errors.TooNarrow → flush_sub (sub_of D.Annotation.seen D.held self) ≡ None }
+            (flush_sub (sub_of D.Annotation.seen D.view.held self)) ≡ Some (cell_of (tags_seen D.Annotation.seen)
+            cell)) }
+        ensures narrow { result ≡ Err errors.TooNarrow → flush_sub (sub_of D.Annotation.seen D.view.held self) ≡ None }
     {
         let mut cell = self;
         cell.flush()?;
@@ -100,11 +102,10 @@ impl<D: TextDecorator + Drop> SubRenderer<D> {
     /// Adds cells below one another.
     pub(crate) fn add_rows_below(&mut self, cells: Vec<SubRenderer<D>>) -> Result<(), BlockError>
         ensures kinds { IfErr result (λ e. (e ≡ errors.TooNarrow) ⊎ (e ≡ errors.Memory)) }
-        ensures done { OnOk result (add_rows_below (map (sub_of D.Annotation.seen D.held) cells.items)
-            (sub_of D.Annotation.seen D.held self.old) ≡ Some (sub_of D.Annotation.seen D.held self.new)) }
-        ensures narrow { result ≡ Err errors.TooNarrow
-            → add_rows_below (map (sub_of D.Annotation.seen D.held) cells.items)
-            (sub_of D.Annotation.seen D.held self.old) ≡ None }
+        ensures done { OnOk result (add_rows_below (map (sub_of D.Annotation.seen D.view.held) cells.items)
+            (sub_of D.Annotation.seen D.view.held self.old) ≡ Some (sub_of D.Annotation.seen D.view.held self.new)) }
+        ensures narrow { result ≡ Err errors.TooNarrow → add_rows_below (map (sub_of D.Annotation.seen D.view.held)
+            cells.items) (sub_of D.Annotation.seen D.view.held self.old) ≡ None }
         ensures joined { IsJoinedSub D.Annotation.seen self.old → IsJoinedSub D.Annotation.seen self.new }
     {
         self.flush()?;
@@ -115,11 +116,10 @@ impl<D: TextDecorator + Drop> SubRenderer<D> {
 
     fn add_all_below(&mut self, cells: Vec<SubRenderer<D>>) -> Result<(), BlockError>
         ensures kinds { IfErr result (λ e. (e ≡ errors.TooNarrow) ⊎ (e ≡ errors.Memory)) }
-        ensures done { OnOk result (add_first (map (sub_of D.Annotation.seen D.held) cells.items)
-            (sub_of D.Annotation.seen D.held self.old) ≡ Some (sub_of D.Annotation.seen D.held self.new)) }
-        ensures narrow { result ≡ Err errors.TooNarrow
-            → add_first (map (sub_of D.Annotation.seen D.held) cells.items)
-            (sub_of D.Annotation.seen D.held self.old) ≡ None }
+        ensures done { OnOk result (add_first (map (sub_of D.Annotation.seen D.view.held) cells.items)
+            (sub_of D.Annotation.seen D.view.held self.old) ≡ Some (sub_of D.Annotation.seen D.view.held self.new)) }
+        ensures narrow { result ≡ Err errors.TooNarrow → add_first (map (sub_of D.Annotation.seen D.view.held)
+            cells.items) (sub_of D.Annotation.seen D.view.held self.old) ≡ None }
         ensures joined { IsJoinedSub D.Annotation.seen self.old → IsJoinedSub D.Annotation.seen self.new }
     {
         let mut cells = cells.into_iter();
@@ -135,10 +135,11 @@ impl<D: TextDecorator + Drop> SubRenderer<D> {
 
     fn add_one_below(&mut self, cell: SubRenderer<D>) -> Result<(), BlockError>
         ensures kinds { IfErr result (λ e. (e ≡ errors.TooNarrow) ⊎ (e ≡ errors.Memory)) }
-        ensures done { OnOk result (append_sub (sub_of D.Annotation.seen D.held cell) [] []
-            (slashed (sub_of D.Annotation.seen D.held self.old)) ≡ Some (sub_of D.Annotation.seen D.held self.new)) }
-        ensures narrow { result ≡ Err errors.TooNarrow → append_sub (sub_of D.Annotation.seen D.held cell) [] []
-            (slashed (sub_of D.Annotation.seen D.held self.old)) ≡ None }
+        ensures done { OnOk result (append_sub (sub_of D.Annotation.seen D.view.held cell) [] []
+            (slashed (sub_of D.Annotation.seen D.view.held self.old)) ≡ Some (sub_of D.Annotation.seen D.view.held
+            self.new)) }
+        ensures narrow { result ≡ Err errors.TooNarrow → append_sub (sub_of D.Annotation.seen D.view.held cell) [] []
+            (slashed (sub_of D.Annotation.seen D.view.held self.old)) ≡ None }
         ensures joined { IsJoinedSub D.Annotation.seen self.old → IsJoinedSub D.Annotation.seen self.new }
     {
         self.add_slashes()?;
@@ -147,8 +148,8 @@ impl<D: TextDecorator + Drop> SubRenderer<D> {
 
     /// A border of slashes between two cells, where borders are drawn.
     fn add_slashes(&mut self) -> Result<(), AllocError>
-        ensures done { OnOk result (sub_of D.Annotation.seen D.held self.new
-            ≡ slashed (sub_of D.Annotation.seen D.held self.old)) }
+        ensures done { OnOk result (sub_of D.Annotation.seen D.view.held self.new ≡ slashed (sub_of D.Annotation.seen
+            D.view.held self.old)) }
         ensures joined { IsJoinedSub D.Annotation.seen self.old → IsJoinedSub D.Annotation.seen self.new }
     {
         if self.options.draw_borders {
@@ -159,8 +160,8 @@ impl<D: TextDecorator + Drop> SubRenderer<D> {
 
     /// A border below the cells, where borders are drawn.
     fn rule(&mut self) -> Result<(), AllocError>
-        ensures done { OnOk result (sub_of D.Annotation.seen D.held self.new
-            ≡ ruled (sub_of D.Annotation.seen D.held self.old)) }
+        ensures done { OnOk result (sub_of D.Annotation.seen D.view.held self.new
+            ≡ ruled (sub_of D.Annotation.seen D.view.held self.old)) }
         ensures joined { IsJoinedSub D.Annotation.seen self.old → IsJoinedSub D.Annotation.seen self.new }
     {
         if self.options.draw_borders {
@@ -176,11 +177,10 @@ fn cells_of_subs<D: TextDecorator + Drop>(
     cells: Vec<(SubRenderer<D>, usize)>,
 ) -> Result<Vec<LineSet<Vec<D::Annotation>>>, BlockError>
     ensures kinds { IfErr result (λ e. (e ≡ errors.TooNarrow) ⊎ (e ≡ errors.Memory)) }
-    ensures cells { IfOk result (λ done.
-        cells_of_subs (map (λ c. (sub_of D.Annotation.seen D.held c.0, c.1)) cells.items)
-        ≡ Some (map (cell_of (tags_seen D.Annotation.seen)) done.items)) }
-    ensures narrow { result ≡ Err errors.TooNarrow
-        → cells_of_subs (map (λ c. (sub_of D.Annotation.seen D.held c.0, c.1)) cells.items) ≡ None }
+    ensures cells { IfOk result (λ done. cells_of_subs (map (λ c. (sub_of D.Annotation.seen D.view.held c.0, c.1))
+        cells.items) ≡ Some (map (cell_of (tags_seen D.Annotation.seen)) done.items)) }
+    ensures narrow { result ≡ Err errors.TooNarrow → cells_of_subs
+        (map (λ c. (sub_of D.Annotation.seen D.view.held c.0, c.1)) cells.items) ≡ None }
 {
     let mut done = Vec::with_capacity(alloc, cells.len())?;
     for (cell, rows) in cells {

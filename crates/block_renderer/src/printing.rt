@@ -17,12 +17,11 @@ impl<D: TextDecorator + Drop> SubRenderer<D> {
     /// The characters of the lines, a line end behind each. Refused as `into_lines`.
     pub fn into_string(self) -> Result<String, BlockError>
         ensures failed { has_failed self ≡ true → result ≡ Err errors.Failed }
-        ensures kinds { has_failed self ≡ false
-            → IfErr result (λ e. (e ≡ errors.TooNarrow) ⊎ (e ≡ errors.Memory)) }
-        ensures text { IfOk result (λ s. option_map text_of_lines (lines_of_sub (sub_of D.Annotation.seen D.held self))
-            ≡ Some (chars (string_bytes s))) }
-        ensures narrow { result ≡ Err errors.TooNarrow
-            → lines_of_sub (sub_of D.Annotation.seen D.held self) ≡ None }
+        ensures kinds { has_failed self ≡ false → IfErr result (λ e. (e ≡ errors.TooNarrow) ⊎ (e ≡ errors.Memory)) }
+        ensures text { IfOk result (λ s. option_map text_of_lines
+            (lines_of_sub (sub_of D.Annotation.seen D.view.held self)) ≡ Some (chars (string_bytes s))) }
+        ensures narrow { result ≡ Err errors.TooNarrow → lines_of_sub (sub_of D.Annotation.seen D.view.held self)
+            ≡ None }
     {
         let alloc = self.alloc();
         let lines = self.into_lines()?;

@@ -57,7 +57,7 @@ impl<D: TextDecorator + Drop> SubRenderer<D> {
 
     /// An empty renderer of a block of so many columns.
     pub fn new(alloc: Global, width: usize, options: RenderOptions, decorator: D) -> SubRenderer<D>
-        ensures sub { sub_of D.Annotation.seen D.held result ≡ new_sub width options (D.held decorator) [] }
+        ensures sub { sub_of D.Annotation.seen D.view.held result ≡ new_sub width options (D.view.held decorator) [] }
         ensures works { has_failed result ≡ false }
         ensures joined { IsJoinedSub D.Annotation.seen result }
     {
@@ -84,8 +84,8 @@ impl<D: TextDecorator + Drop> SubRenderer<D> {
         options: RenderOptions,
         decorator: D,
     ) -> SubRenderer<D>
-        ensures sub { sub_of D.Annotation.seen D.held result
-            ≡ bare_of (new_sub width options (D.held decorator) []) }
+        ensures sub { sub_of D.Annotation.seen D.view.held result ≡ bare_of
+            (new_sub width options (D.view.held decorator) []) }
         ensures works { has_failed result ≡ false }
         ensures joined { IsJoinedSub D.Annotation.seen result }
     {
@@ -96,7 +96,7 @@ impl<D: TextDecorator + Drop> SubRenderer<D> {
 
     /// How text is rendered in the block.
     pub fn options(&self) -> RenderOptions
-        ensures { result ≡ (sub_of D.Annotation.seen D.held self.now).options }
+        ensures { result ≡ (sub_of D.Annotation.seen D.view.held self.now).options }
     {
         self.options
     }
@@ -106,7 +106,7 @@ impl<D: TextDecorator + Drop> SubRenderer<D> {
     }
 
     pub(crate) fn measure(&self) -> Measure
-        ensures { result ≡ measure_of (sub_of D.Annotation.seen D.held self.now) }
+        ensures { result ≡ measure_of (sub_of D.Annotation.seen D.view.held self.now) }
     {
         Measure {
             width: self.width,
@@ -119,7 +119,7 @@ impl<D: TextDecorator + Drop> SubRenderer<D> {
     }
 
     pub(crate) fn mode(&self) -> WhiteSpace
-        ensures { result ≡ mode_of (sub_of D.Annotation.seen D.held self.now) }
+        ensures { result ≡ mode_of (sub_of D.Annotation.seen D.view.held self.now) }
     {
         match self.modes.as_slice().last() {
             Some(mode) => *mode,
@@ -130,10 +130,10 @@ impl<D: TextDecorator + Drop> SubRenderer<D> {
     /// Makes the text that runs lines.
     pub(crate) fn flush(&mut self) -> Result<(), BlockError>
         ensures kinds { IfErr result (λ e. (e ≡ errors.TooNarrow) ⊎ (e ≡ errors.Memory)) }
-        ensures done { OnOk result (flush_sub (sub_of D.Annotation.seen D.held self.old)
-            ≡ Some (sub_of D.Annotation.seen D.held self.new)) }
-        ensures narrow { result ≡ Err errors.TooNarrow
-            → flush_sub (sub_of D.Annotation.seen D.held self.old) ≡ None }
+        ensures done { OnOk result (flush_sub (sub_of D.Annotation.seen D.view.held self.old)
+            ≡ Some (sub_of D.Annotation.seen D.view.held self.new)) }
+        ensures narrow { result ≡ Err errors.TooNarrow → flush_sub (sub_of D.Annotation.seen D.view.held self.old)
+            ≡ None }
         ensures joined { IsJoinedSub D.Annotation.seen self.old → IsJoinedSub D.Annotation.seen self.new }
     {
         let measure = self.measure();
@@ -143,10 +143,10 @@ impl<D: TextDecorator + Drop> SubRenderer<D> {
     /// Adds a border of so many columns.
     pub(crate) fn put_border(&mut self, width: usize) -> Result<(), BlockError>
         ensures kinds { IfErr result (λ e. (e ≡ errors.TooNarrow) ⊎ (e ≡ errors.Memory)) }
-        ensures done { OnOk result (with_border_of width (sub_of D.Annotation.seen D.held self.old)
-            ≡ Some (sub_of D.Annotation.seen D.held self.new)) }
-        ensures narrow { result ≡ Err errors.TooNarrow
-            → with_border_of width (sub_of D.Annotation.seen D.held self.old) ≡ None }
+        ensures done { OnOk result (with_border_of width (sub_of D.Annotation.seen D.view.held self.old)
+            ≡ Some (sub_of D.Annotation.seen D.view.held self.new)) }
+        ensures narrow { result ≡ Err errors.TooNarrow → with_border_of width (sub_of D.Annotation.seen D.view.held
+            self.old) ≡ None }
         ensures joined { IsJoinedSub D.Annotation.seen self.old → IsJoinedSub D.Annotation.seen self.new }
     {
         let measure = self.measure();
@@ -156,8 +156,8 @@ impl<D: TextDecorator + Drop> SubRenderer<D> {
 
     /// An empty renderer for a part of the block.
     pub(crate) fn part(&self, width: usize) -> Result<SubRenderer<D>, AllocError>
-        ensures part { IfOk result (λ part. sub_of D.Annotation.seen D.held part
-            ≡ new_part D.sub width (sub_of D.Annotation.seen D.held self.now)) }
+        ensures part { IfOk result (λ part. sub_of D.Annotation.seen D.view.held part ≡ new_part D.view.sub width
+            (sub_of D.Annotation.seen D.view.held self.now)) }
         ensures works { IfOk result (λ part. has_failed part ≡ false) }
         ensures joined { IfOk result (IsJoinedSub D.Annotation.seen) }
     {
@@ -173,10 +173,10 @@ impl<D: TextDecorator + Drop> SubRenderer<D> {
     /// An empty renderer of so many columns for a part of the block in which white space and preformatting go on as
     /// they stand here; strikeouts don't. The error is `Failed` behind a refusal, else `Memory`.
     pub fn new_part_renderer(&mut self, width: usize) -> Result<SubRenderer<D>, BlockError>
-        ensures part { IsAnswered result (has_failed self.old) (has_failed self.new)
-            (sub_of D.Annotation.seen D.held self.new ≡ sub_of D.Annotation.seen D.held self.old)
-            (λ part. sub_of D.Annotation.seen D.held part
-            ≡ part_of D.sub width (sub_of D.Annotation.seen D.held self.old)) }
+        ensures part { IsAnswered result (has_failed self.old) (has_failed self.new) (sub_of D.Annotation.seen
+            D.view.held self.new ≡ sub_of D.Annotation.seen D.view.held self.old)
+            (λ part. sub_of D.Annotation.seen D.view.held part ≡ part_of D.view.sub width (sub_of D.Annotation.seen
+            D.view.held self.old)) }
         ensures works { IfOk result (λ part. has_failed part ≡ false) }
         ensures joined { IsJoinedSub D.Annotation.seen self.old → IsJoinedSub D.Annotation.seen self.new }
         ensures part_joined { IfOk result (IsJoinedSub D.Annotation.seen) }
@@ -191,8 +191,8 @@ impl<D: TextDecorator + Drop> SubRenderer<D> {
 
     // Made in one piece, since it is large to move.
     fn inner_part(&self, width: usize) -> Result<SubRenderer<D>, BlockError>
-        ensures part { IfOk result (λ part. sub_of D.Annotation.seen D.held part
-            ≡ part_of D.sub width (sub_of D.Annotation.seen D.held self.now)) }
+        ensures part { IfOk result (λ part. sub_of D.Annotation.seen D.view.held part ≡ part_of D.view.sub width
+            (sub_of D.Annotation.seen D.view.held self.now)) }
         ensures works { IfOk result (λ part. has_failed part ≡ false) }
         ensures kinds { IfErr result (λ e. e ≡ errors.Memory) }
         ensures joined { IfOk result (IsJoinedSub D.Annotation.seen) }
@@ -221,7 +221,7 @@ impl<D: TextDecorator + Drop> SubRenderer<D> {
         ensures refused { is_err result ≡ has_failed self.new }
         ensures kinds { IfErr result (λ e. e ≡ errors.Memory) }
         ensures same { IfOk result (λ a. answer ≡ Ok a) }
-        ensures stays { sub_of D.Annotation.seen D.held self.new ≡ sub_of D.Annotation.seen D.held self.old }
+        ensures stays { sub_of D.Annotation.seen D.view.held self.new ≡ sub_of D.Annotation.seen D.view.held self.old }
         ensures joined { IsJoinedSub D.Annotation.seen self.old → IsJoinedSub D.Annotation.seen self.new }
     {
         self.failed = answer.is_err();
@@ -241,12 +241,11 @@ impl<D: TextDecorator + Drop> SubRenderer<D> {
     /// behind a refusal. The lines are joined where the renderer's texts are.
     pub fn into_lines(self) -> Result<Vec<RenderLine<Vec<D::Annotation>>>, BlockError>
         ensures failed { has_failed self ≡ true → result ≡ Err errors.Failed }
-        ensures kinds { has_failed self ≡ false
-            → IfErr result (λ e. (e ≡ errors.TooNarrow) ⊎ (e ≡ errors.Memory)) }
-        ensures lines { IfOk result (λ lines. lines_of_sub (sub_of D.Annotation.seen D.held self)
+        ensures kinds { has_failed self ≡ false → IfErr result (λ e. (e ≡ errors.TooNarrow) ⊎ (e ≡ errors.Memory)) }
+        ensures lines { IfOk result (λ lines. lines_of_sub (sub_of D.Annotation.seen D.view.held self)
             ≡ Some (map (render_line_of (tags_seen D.Annotation.seen)) lines.items)) }
-        ensures narrow { result ≡ Err errors.TooNarrow
-            → lines_of_sub (sub_of D.Annotation.seen D.held self) ≡ None }
+        ensures narrow { result ≡ Err errors.TooNarrow → lines_of_sub (sub_of D.Annotation.seen D.view.held self)
+            ≡ None }
         ensures joined { IsJoinedSub D.Annotation.seen self
             → IfOk result (λ lines. All (IsJoinedText (tags_seen D.Annotation.seen)) lines.items) }
     {
@@ -271,8 +270,8 @@ impl<D: TextDecorator + Drop> SubRenderer<D> {
 
     /// The lines that are laid out.
     pub(crate) fn into_laid_lines(self) -> BlockLines<Vec<D::Annotation>>
-        ensures lines { block_lines_of (tags_seen D.Annotation.seen) result
-            ≡ (sub_of D.Annotation.seen D.held self).laid.lines }
+        ensures lines { block_lines_of (tags_seen D.Annotation.seen) result ≡ (sub_of D.Annotation.seen D.view.held
+            self).laid.lines }
     {
         let SubRenderer {
             options: _,
@@ -294,10 +293,10 @@ impl<D: TextDecorator + Drop> SubRenderer<D> {
     /// `min_width`, or 1 if it is 0, is given if lines may pass the block's width, and the error is else `TooNarrow`.
     /// After a refused call the answer is the same.
     pub fn width_minus(&self, prefix_len: usize, min_width: usize) -> Result<usize, TooNarrow>
-        ensures room { IfOk result (λ n. room_behind prefix_len min_width (sub_of D.Annotation.seen D.held self.now)
-            ≡ Some n) }
-        ensures narrow { IfErr result (λ _. room_behind prefix_len min_width
-            (sub_of D.Annotation.seen D.held self.now) ≡ None) }
+        ensures room { IfOk result (λ n. room_behind prefix_len min_width (sub_of D.Annotation.seen D.view.held
+            self.now) ≡ Some n) }
+        ensures narrow { IfErr result (λ _. room_behind prefix_len min_width (sub_of D.Annotation.seen D.view.held
+            self.now) ≡ None) }
     {
         let least = min_width.max(1);
         let left = self.width.saturating_sub(prefix_len);

@@ -6,9 +6,9 @@ use Rattle.html2text.specs.Written.{EitherLook, HasAskedText, IsOtherPage, IsSet
 use Rattle.html2text.specs.Written.{is_decorated}
 use Rattle.reference_tables.specs.References.{References}
 use Rattle.page_config.specs.PlainText.{plain_closes}
-use Rattle.page_config.specs.RichText.{rich_closes}
+use Rattle.page_config.specs.RichPages.{rich_view}
 use Rattle.page_config.specs.PageAnswers.{Answers, IsTold, PageAnswer, fail, too_narrow}
-use Rattle.page_config.specs.PlainPages.{IsPlain}
+use Rattle.page_config.specs.PlainPages.{IsPlain, plain_view}
 use Rattle.page_config.specs.Settings.{PageSetting, by_default, rendered_with}
 use Rattle.render_conversion.specs.Decorating.{decorating_rules}
 use Rattle.renderer_calls.specs.Defaults.{default_options}
@@ -87,25 +87,21 @@ decorated_setting asked names c base rich decorate plain is =
 
 -- ---- what they give
 
-abbrev pub IsRichTold : PageSetting (Unit {0}) → ℕ → List ℕ → List ℕ → Type 0
-IsRichTold c width bytes told =
-    IsTold {T = RichAnnotation} {H = Unit {0}} {A = RichTag} rich_tag (λ _ m. rich_text m) (λ _ m a. IsRich m a)
-    (λ _ m. is_colour m) (λ h _. h) (λ _ _. true) (λ h. h) rich_closes c width bytes told
+abbrev pub IsRichTold : {D : Type 0} → PageSetting (Unit {0}) → ℕ → List ℕ → List ℕ → Type 0
+IsRichTold {D = D} c width bytes told =
+    IsTold rich_tag (rich_view {D = D}) c width bytes told
 
-abbrev pub RichAnswers : PageSetting (Unit {0}) → ℕ → List ℕ → PageAnswer RichTag → Type 0
-RichAnswers c width bytes answer =
-    Answers {T = RichAnnotation} {H = Unit {0}} {A = RichTag} rich_tag (λ _ m. rich_text m) (λ _ m a. IsRich m a)
-    (λ _ m. is_colour m) (λ h _. h) (λ _ _. true) (λ h. h) rich_closes c width bytes answer
+abbrev pub RichAnswers : {D : Type 0} → PageSetting (Unit {0}) → ℕ → List ℕ → PageAnswer RichTag → Type 0
+RichAnswers {D = D} c width bytes answer =
+    Answers rich_tag (rich_view {D = D}) c width bytes answer
 
-abbrev pub IsPlainTold : PageSetting (Unit {0}) → ℕ → List ℕ → List ℕ → Type 0
-IsPlainTold c width bytes told =
-    IsTold {T = Unit {0}} {H = Unit {0}} {A = Unit {0}} (λ _. tt) (λ _ m. plain_text m) (λ _ _ _. Unit {0})
-    (λ _ _. false) (λ h _. h) (λ _ _. false) (λ h. h) plain_closes c width bytes told
+abbrev pub IsPlainTold : {D : Type 0} → PageSetting (Unit {0}) → ℕ → List ℕ → List ℕ → Type 0
+IsPlainTold {D = D} c width bytes told =
+    IsTold (λ _. tt) (plain_view {D = D}) c width bytes told
 
-abbrev pub PlainAnswers : PageSetting (Unit {0}) → ℕ → List ℕ → PageAnswer (Unit {0}) → Type 0
-PlainAnswers c width bytes answer =
-    Answers {T = Unit {0}} {H = Unit {0}} {A = Unit {0}} (λ _. tt) (λ _ m. plain_text m) (λ _ _ _. Unit {0})
-    (λ _ _. false) (λ h _. h) (λ _ _. false) (λ h. h) plain_closes c width bytes answer
+abbrev pub PlainAnswers : {D : Type 0} → PageSetting (Unit {0}) → ℕ → List ℕ → PageAnswer (Unit {0}) → Type 0
+PlainAnswers {D = D} c width bytes answer =
+    Answers (λ _. tt) (plain_view {D = D}) c width bytes answer
 
 rich_look : (look : Bool) (R P : Type 0) → look ≡ true → R → EitherLook look R P
 rich_look true R P e r = r

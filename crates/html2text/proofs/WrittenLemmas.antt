@@ -11,7 +11,7 @@ use Rattle.page_config.specs.PageLaws.{IsTextWithin}
 use Rattle.page_config.specs.Settings.{PageSetting}
 use Rattle.tagged_lines.specs.Tagged.{Item, line_items}
 use Rattle.tagged_lines.specs.declared.tagged_line.TaggedLine.{TaggedLine}
-use Rattle.text_marks.specs.Marks.{Mark}
+use Rattle.text_marks.specs.Marks.{DecoratorView, Mark}
 
 -- what was gained is also of another kind
 pub gains_weaker : {IsText : (bytes text : List ℕ) → Type 0} {IsOther : List ℕ → Type 0} (all old new : Option (List ℕ))
@@ -25,11 +25,9 @@ gains_weaker (Some bytes) old new weaker gains = record {
   added = gains.added;
 }
 
-module _ {T H A : Type 0} (seen : T → A) (text : H → Mark → List ℕ) (gives : H → Mark → T → Type 0)
-    (marks : H → Mark → Bool) (after : H → Mark → H) (pops : H → Mark → Bool) (sub : H → H)
-    (closes : H → List (List ℕ) → List (List (Item T))) (c : PageSetting H) (width : ℕ) where
+module _ {D T H A : Type 0} (seen : T → A) (view : DecoratorView D H T) (c : PageSetting H) (width : ℕ) where
   abbrev pub IsTextOf : List ℕ → List ℕ → Type 0
-  IsTextOf bytes told = IsTold seen text gives marks after pops sub closes c width bytes told
+  IsTextOf bytes told = IsTold seen view c width bytes told
 
   abbrev pub HasLines : List (TaggedLine (Vec T Global)) → List ℕ → Type 0
   HasLines shown bytes = IsTextOf bytes (lines_text (map (line_items (tags_seen seen)) shown))
@@ -65,8 +63,8 @@ module _ {T H A : Type 0} (seen : T → A) (text : H → Mark → List ℕ) (giv
   }
 
   -- where the text that a decorator's annotations are seen by keeps the width, so does what is written
-  pub written_within : (tag : H → Mark → A) → IsTagging seen gives tag → ((bytes told : List ℕ)
-      → HasText (marking text tag marks after pops sub) seen closes c width bytes told → IsTextWithin width told)
+  pub written_within : (tag : H → Mark → A) → IsTagging seen view tag → ((bytes told : List ℕ)
+      → HasText (marking view tag) seen view.closes c width bytes told → IsTextWithin width told)
       → (all old new : Option (List ℕ)) (shown : List (TaggedLine (Vec T Global)))
       → IfSome all (HasLines shown) → Appends old new (lines_bytes shown)
       → IfSome all (λ bytes. Gains (IsTextWithin width) old new)

@@ -106,15 +106,12 @@ fn write_by<R: ByteReader, W: ByteWriter, D: TextDecorator + Drop>(
     config: Config<D>,
     width: usize,
 ) -> Result<(), Error>
-    ensures { EndsBy (IsTold D.Annotation.seen D.text D.gives D.marks D.after D.pops D.sub D.closes
-        (page_setting D.held D.sub config) width)
-        (λ bytes. Answers D.Annotation.seen D.text D.gives D.marks D.after D.pops D.sub D.closes
-        (page_setting D.held D.sub config) width bytes too_narrow)
-        (λ bytes. Answers D.Annotation.seen D.text D.gives D.marks D.after D.pops D.sub D.closes
-        (page_setting D.held D.sub config) width bytes fail)
-        (max_bytes_of config) (R.remaining input.old) (R.has_failed input.new) (W.has_failed output.new)
-        (W.was_flushed output.new) (R.count input.old) (R.count input.new) (W.contents output.old)
-        (W.contents output.new) (output.new ≡ output.old) result }
+    ensures { EndsBy (IsTold D.Annotation.seen D.view (page_setting D.view config) width)
+        (λ bytes. Answers D.Annotation.seen D.view (page_setting D.view config) width bytes too_narrow)
+        (λ bytes. Answers D.Annotation.seen D.view (page_setting D.view config) width bytes fail) (max_bytes_of config)
+        (R.remaining input.old) (R.has_failed input.new) (W.has_failed output.new) (W.was_flushed output.new)
+        (R.count input.old) (R.count input.new) (W.contents output.old) (W.contents output.new)
+        (output.new ≡ output.old) result }
 {
     run(alloc, input, output, config, width)?;
     output.flush()?;

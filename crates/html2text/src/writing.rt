@@ -38,27 +38,25 @@ pub fn run<R: ByteReader, W: ByteWriter, D: TextDecorator + Drop>(
     ensures end { IsAnswer result → IsAtEnd (R.remaining reader.new) }
 
     // What was read is written as its lines' text.
-    ensures written { OnOk result (IfSome (R.remaining reader.old) (λ bytes. Gains
-        (IsTold D.Annotation.seen D.text D.gives D.marks D.after D.pops D.sub D.closes
-        (page_setting D.held D.sub config) width bytes) (W.contents writer.old) (W.contents writer.new))) }
-    ensures narrow { result ≡ Err Error.TooNarrow → IfSome (R.remaining reader.old) (λ bytes.
-        Answers D.Annotation.seen D.text D.gives D.marks D.after D.pops D.sub D.closes
-        (page_setting D.held D.sub config) width bytes too_narrow) }
-    ensures fail { result ≡ Err Error.Fail → IfSome (R.remaining reader.old) (λ bytes.
-        Answers D.Annotation.seen D.text D.gives D.marks D.after D.pops D.sub D.closes
-        (page_setting D.held D.sub config) width bytes fail) }
-    ensures within { (tag : _) → IsTagging D.Annotation.seen D.gives tag → IsSteady D.text
-        → (page_setting D.held D.sub config).rendering.options.allow_width_overflow ≡ false
-        → (page_setting D.held D.sub config).rendering.options.wrap_links ≡ true → 2 ≤ width
-        → OnOk result (IfSome (R.remaining reader.old) (λ bytes.
-        Gains (IsTextWithin width) (W.contents writer.old) (W.contents writer.new))) }
+    ensures written { OnOk result (IfSome (R.remaining reader.old)
+        (λ bytes. Gains (IsTold D.Annotation.seen D.view (page_setting D.view config) width bytes)
+        (W.contents writer.old) (W.contents writer.new))) }
+    ensures narrow { result ≡ Err Error.TooNarrow → IfSome (R.remaining reader.old) (λ bytes. Answers D.Annotation.seen
+        D.view (page_setting D.view config) width bytes too_narrow) }
+    ensures fail { result ≡ Err Error.Fail → IfSome (R.remaining reader.old) (λ bytes. Answers D.Annotation.seen D.view
+        (page_setting D.view config) width bytes fail) }
+    ensures within { (tag : _) → IsTagging D.Annotation.seen D.view tag → IsSteady D.view.text
+        → (page_setting D.view config).rendering.options.allow_width_overflow ≡ false
+        → (page_setting D.view config).rendering.options.wrap_links ≡ true → 2 ≤ width → OnOk result
+        (IfSome (R.remaining reader.old) (λ bytes. Gains (IsTextWithin width) (W.contents writer.old)
+        (W.contents writer.new))) }
     ensures short { IsAnswer result → IfSome (R.remaining reader.old) (λ bytes. length bytes ≤ max_bytes_of config) }
 
     // Only a fault of the writer leaves anything written: a beginning of that text.
-    ensures unwritten { OnErr result ((writer.new ≡ writer.old)
-        ⊎ ((result ≡ Err Error.IoError) × (W.has_failed writer.new ≡ true) × IfSome (R.remaining reader.old)
-        (λ bytes. GainsPart (IsTold D.Annotation.seen D.text D.gives D.marks D.after D.pops D.sub D.closes
-        (page_setting D.held D.sub config) width bytes) (W.contents writer.old) (W.contents writer.new)))) }
+    ensures unwritten { OnErr result ((writer.new ≡ writer.old) ⊎ ((result ≡ Err Error.IoError)
+        × (W.has_failed writer.new ≡ true) × IfSome (R.remaining reader.old)
+        (λ bytes. GainsPart (IsTold D.Annotation.seen D.view (page_setting D.view config) width bytes)
+        (W.contents writer.old) (W.contents writer.new)))) }
 {
     a_text_keeps_its_width::<D>();
     let lines = config.text_lines_from_read(alloc, reader, width)?;

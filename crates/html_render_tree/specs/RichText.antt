@@ -1,6 +1,5 @@
 -- Pages as rich text: what its decorator marks and notes, and what it closes a page with.
 use Rattle.std.specs.Prelude.{ℕ, true, List}
-use Rattle.block_renderer.specs.Seen.{marking}
 use Rattle.renderer_calls.specs.Renderers.{Marking}
 use Rattle.tagged_lines.specs.Tagged.{Item}
 use Rattle.text_decorators.specs.Annotations.{RichTag}
@@ -10,8 +9,14 @@ use Rattle.text_decorators.specs.declared.annotation.RichAnnotation.{RichAnnotat
 use Rattle.text_decorators.specs.declared.annotation.RichAnnotation.TheVariants.{Default}
 
 abbrev pub rich_marking : Marking (Unit {0}) RichTag
-rich_marking =
-    marking (λ _ m. rich_text m) (λ _ m. rich_mark_tag m) (λ _ m. is_colour m) (λ h _. h) (λ _ _. true) (λ h. h)
+rich_marking = record {
+  mark_text = λ _ m. rich_text m;
+  mark_tag = λ _ m. rich_mark_tag m;
+  has_tag = λ _ m. is_colour m;
+  after = λ h _. h;
+  ends_tag = λ _ _. true;
+  sub = λ h. h;
+}
 
 abbrev pub rich_closes : Unit {0} → List (List ℕ) → List (List (Item RichAnnotation))
 rich_closes _ targets = footnote_lines Default targets

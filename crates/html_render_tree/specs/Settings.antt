@@ -4,11 +4,16 @@ use Rattle.render_conversion.specs.Decorating.{decorating_rules, seen_rule}
 use Rattle.renderer_calls.specs.declared.options.RenderOptions.{RenderOptions}
 use Rattle.style_cascade.specs.declared.rules.StyleRule.{StyleRule}
 use Rattle.html_render_tree.specs.PageLines.{Setting}
+use Rattle.text_marks.specs.Marks.{DecoratorView}
 use Rattle.html_render_tree.specs.declared.config.RenderConfig.{RenderConfig}
 
 -- A page is rendered by a decorator that was made for it.
-abbrev pub setting_of : {D T H : Type 0} → (D → H) → (H → H) → RenderConfig D T → Setting H
-setting_of held sub c = record { options = c.options; min_wrap = c.min_wrap_width; held = sub (held c.decorator) }
+abbrev pub setting_of : {D T H : Type 0} → DecoratorView D H T → RenderConfig D T → Setting H
+setting_of view c = record {
+  options = c.options;
+  min_wrap = c.min_wrap_width;
+  held = view.sub (view.held c.decorator);
+}
 
 abbrev pub rules_of : {D T : Type 0} → RenderConfig D T → List StyleRule
 rules_of c = c.rules.items

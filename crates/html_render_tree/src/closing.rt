@@ -26,10 +26,10 @@ fn add_notes<D: TextDecorator + Drop>(
     sub: &mut SubRenderer<D>,
     notes: Vec<TaggedLine<D::Annotation>>,
 ) -> Result<(), BlockError>
-    ensures done { OnOk result (Comes D.Annotation.seen D.held D.text D.gives D.marks D.after D.pops D.sub
+    ensures done { OnOk result (Comes D.Annotation.seen D.view
         (λ m s. with_notes (map (line_items D.Annotation.seen) notes.items) s) sub.old sub.new) }
-    ensures narrow { result ≡ Err errors.TooNarrow → Fails D.Annotation.seen D.held D.text D.gives D.marks D.after
-        D.pops D.sub (λ m s. with_notes (map (line_items D.Annotation.seen) notes.items) s) sub.old }
+    ensures narrow { result ≡ Err errors.TooNarrow → Fails D.Annotation.seen D.view
+        (λ m s. with_notes (map (line_items D.Annotation.seen) notes.items) s) sub.old }
 {
     if notes.is_empty() {
         return Ok(());
@@ -58,12 +58,12 @@ fn with_targets<D: TextDecorator + Drop>(
     sub: SubRenderer<D>,
     targets: Vec<String>,
 ) -> Result<SubRenderer<D>, BlockError>
-    ensures closed { IfOk result (λ s. (tag : _) → IsTagging D.Annotation.seen D.gives tag
-        → with_targets (marking D.text tag D.marks D.after D.pops D.sub) D.Annotation.seen D.closes
-        (names targets.items) (sub_of D.Annotation.seen D.held sub) ≡ Some (sub_of D.Annotation.seen D.held s)) }
-    ensures narrow { result ≡ Err errors.TooNarrow → (tag : _) → IsTagging D.Annotation.seen D.gives tag
-        → with_targets (marking D.text tag D.marks D.after D.pops D.sub) D.Annotation.seen D.closes
-        (names targets.items) (sub_of D.Annotation.seen D.held sub) ≡ None }
+    ensures closed { IfOk result (λ s. (tag : _) → IsTagging D.Annotation.seen D.view tag → with_targets
+        (marking D.view tag) D.Annotation.seen D.view.closes (names targets.items) (sub_of D.Annotation.seen
+        D.view.held sub) ≡ Some (sub_of D.Annotation.seen D.view.held s)) }
+    ensures narrow { result ≡ Err errors.TooNarrow → (tag : _) → IsTagging D.Annotation.seen D.view tag → with_targets
+        (marking D.view tag) D.Annotation.seen D.view.closes (names targets.items) (sub_of D.Annotation.seen
+        D.view.held sub) ≡ None }
 {
     let mut sub = sub;
     let notes = sub.finalise(targets)?;
@@ -92,14 +92,13 @@ pub(crate) fn closed_page<D: TextDecorator + Drop>(
     alloc: Global,
     text: TextRenderer<D>,
 ) -> Result<SubRenderer<D>, BlockError>
-    requires { depth_of (parts_of D.Annotation.seen D.held text) ≡ 1 }
-    ensures closed { IfOk result (λ s. (tag : _) → IsTagging D.Annotation.seen D.gives tag
-        → with_targets (marking D.text tag D.marks D.after D.pops D.sub) D.Annotation.seen D.closes
-        (noted (parts_of D.Annotation.seen D.held text)) (parts_of D.Annotation.seen D.held text).current
-        ≡ Some (sub_of D.Annotation.seen D.held s)) }
-    ensures narrow { result ≡ Err errors.TooNarrow → (tag : _) → IsTagging D.Annotation.seen D.gives tag
-        → with_targets (marking D.text tag D.marks D.after D.pops D.sub) D.Annotation.seen D.closes
-        (noted (parts_of D.Annotation.seen D.held text)) (parts_of D.Annotation.seen D.held text).current ≡ None }
+    requires { depth_of (parts_of D.Annotation.seen D.view.held text) ≡ 1 }
+    ensures closed { IfOk result (λ s. (tag : _) → IsTagging D.Annotation.seen D.view tag → with_targets
+        (marking D.view tag) D.Annotation.seen D.view.closes (noted (parts_of D.Annotation.seen D.view.held text))
+        (parts_of D.Annotation.seen D.view.held text).current ≡ Some (sub_of D.Annotation.seen D.view.held s)) }
+    ensures narrow { result ≡ Err errors.TooNarrow → (tag : _) → IsTagging D.Annotation.seen D.view tag → with_targets
+        (marking D.view tag) D.Annotation.seen D.view.closes (noted (parts_of D.Annotation.seen D.view.held text))
+        (parts_of D.Annotation.seen D.view.held text).current ≡ None }
 {
     let (sub, links) = text.into_inner();
     let options = sub.options;
@@ -117,9 +116,9 @@ pub(crate) fn lines_of<D: TextDecorator + Drop>(
     alloc: Global,
     sub: SubRenderer<D>,
 ) -> Result<Vec<TaggedLine<Vec<D::Annotation>>>, BlockError>
-    ensures lines { IfOk result (λ lines. renderer_lines (sub_of D.Annotation.seen D.held sub)
+    ensures lines { IfOk result (λ lines. renderer_lines (sub_of D.Annotation.seen D.view.held sub)
         ≡ Some (map (line_items (tags_seen D.Annotation.seen)) lines.items)) }
-    ensures narrow { result ≡ Err errors.TooNarrow → lines_of_sub (sub_of D.Annotation.seen D.held sub) ≡ None }
+    ensures narrow { result ≡ Err errors.TooNarrow → lines_of_sub (sub_of D.Annotation.seen D.view.held sub) ≡ None }
 {
     let lines = sub.into_lines()?;
     Ok(texts_of::<D>(alloc, lines)?)

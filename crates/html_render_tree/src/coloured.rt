@@ -26,16 +26,14 @@ impl<D: TextDecorator + Drop> RenderConfig<D> {
         colour_map: F,
     ) -> Result<String, RenderError>
         requires { F.IsAlwaysCallable colour_map }
-        ensures text { IfOk result (λ text. (lines : List _)
-            × ((tag : _) → IsTagging D.Annotation.seen D.gives tag
-            → page_lines (marking D.text tag D.marks D.after D.pops D.sub) D.Annotation.seen D.closes
-            (setting_of D.held D.sub self.now) width tree
-            ≡ Some (map (line_items (tags_seen D.Annotation.seen)) lines))
-            × AreColouredLines (Colours F.Fn colour_map) lines (string_bytes text)) }
+        ensures text { IfOk result (λ text. (lines : List _) × ((tag : _) → IsTagging D.Annotation.seen D.view tag
+            → page_lines (marking D.view tag) D.Annotation.seen D.view.closes (setting_of D.view self.now) width tree
+            ≡ Some (map (line_items (tags_seen D.Annotation.seen)) lines)) × AreColouredLines (Colours F.Fn colour_map)
+            lines (string_bytes text)) }
         ensures wide { IfOk result (λ text. 0 < width) }
-        ensures narrow { result ≡ Err errors.TooNarrow → (width ≡ 0) ⊎ ((tag : _)
-            → IsTagging D.Annotation.seen D.gives tag → page_lines (marking D.text tag D.marks D.after D.pops D.sub)
-            D.Annotation.seen D.closes (setting_of D.held D.sub self.now) width tree ≡ None) }
+        ensures narrow { result ≡ Err errors.TooNarrow → (width ≡ 0) ⊎ ((tag : _) → IsTagging D.Annotation.seen D.view
+            tag → page_lines (marking D.view tag) D.Annotation.seen D.view.closes (setting_of D.view self.now) width
+            tree ≡ None) }
         ensures kinds { result ≢ Err errors.Fail }
     {
         let lines = self.render_to_lines(alloc, tree, width)?;

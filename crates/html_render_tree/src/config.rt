@@ -53,8 +53,8 @@ impl<D: TextDecorator + Drop> RenderConfig<D> {
 
     /// As text is rendered by a decorator: no rules of style, and the options as they are by default.
     pub fn with_decorator(alloc: Global, decorator: D) -> RenderConfig<D>
-        ensures setting { setting_of D.held D.sub result
-            ≡ record { options = default_options; min_wrap = 3; held = D.sub (D.held decorator) } }
+        ensures setting { setting_of D.view result
+            ≡ record { options = default_options; min_wrap = 3; held = D.view.sub (D.view.held decorator) } }
         ensures rules { rules_of result ≡ [] }
     {
         RenderConfig {
@@ -67,8 +67,8 @@ impl<D: TextDecorator + Drop> RenderConfig<D> {
 
     /// Parts may pass the width where it is too narrow for what they hold.
     pub fn allow_width_overflow(self) -> RenderConfig<D>
-        ensures setting { setting_of D.held D.sub result ≡ record (setting_of D.held D.sub self) {
-          options = record (setting_of D.held D.sub self).options { allow_width_overflow = true };
+        ensures setting { setting_of D.view result ≡ record (setting_of D.view self) {
+          options = record (setting_of D.view self).options { allow_width_overflow = true };
         } }
         ensures rules { rules_of result ≡ rules_of self }
     {
@@ -79,8 +79,8 @@ impl<D: TextDecorator + Drop> RenderConfig<D> {
 
     /// Whether the targets of links stand behind the page.
     pub fn link_footnotes(self, include: bool) -> RenderConfig<D>
-        ensures setting { setting_of D.held D.sub result ≡ record (setting_of D.held D.sub self) {
-          options = record (setting_of D.held D.sub self).options { include_link_footnotes = include };
+        ensures setting { setting_of D.view result ≡ record (setting_of D.view self) {
+          options = record (setting_of D.view self).options { include_link_footnotes = include };
         } }
         ensures rules { rules_of result ≡ rules_of self }
     {
@@ -92,8 +92,8 @@ impl<D: TextDecorator + Drop> RenderConfig<D> {
     /// Whether links to equal targets, equal as texts, share one number and one footnote, where the targets of links
     /// stand behind the page. They are numbered from 1 on in the order of their first links.
     pub fn shared_footnotes(self, shared: bool) -> RenderConfig<D>
-        ensures setting { setting_of D.held D.sub result ≡ with_options (setting_of D.held D.sub self)
-            (record (setting_of D.held D.sub self).options { shared_footnotes = shared }) }
+        ensures setting { setting_of D.view result ≡ with_options (setting_of D.view self)
+            (record (setting_of D.view self).options { shared_footnotes = shared }) }
         ensures rules { rules_of result ≡ rules_of self }
     {
         let mut config = self;
@@ -103,8 +103,8 @@ impl<D: TextDecorator + Drop> RenderConfig<D> {
 
     /// Every line of a block is filled with spaces to the block's width.
     pub fn pad_block_width(self) -> RenderConfig<D>
-        ensures setting { setting_of D.held D.sub result ≡ with_options (setting_of D.held D.sub self)
-            (record (setting_of D.held D.sub self).options { pad_block_width = true }) }
+        ensures setting { setting_of D.view result ≡ with_options (setting_of D.view self)
+            (record (setting_of D.view self).options { pad_block_width = true }) }
         ensures rules { rules_of result ≡ rules_of self }
     {
         let mut config = self;
@@ -115,8 +115,8 @@ impl<D: TextDecorator + Drop> RenderConfig<D> {
     /// So wide, in columns, may text be wrapped, also where its block has more; at least one.
     pub fn max_wrap_width(self, columns: usize) -> RenderConfig<D>
         requires { 1 ≤ columns }
-        ensures setting { setting_of D.held D.sub result ≡ with_options (setting_of D.held D.sub self)
-            (record (setting_of D.held D.sub self).options { wrap_width = Some columns }) }
+        ensures setting { setting_of D.view result ≡ with_options (setting_of D.view self)
+            (record (setting_of D.view self).options { wrap_width = Some columns }) }
         ensures rules { rules_of result ≡ rules_of self }
     {
         let RenderConfig {
@@ -139,8 +139,8 @@ impl<D: TextDecorator + Drop> RenderConfig<D> {
     /// Whether the cells of tables stand below one another. Borders of tables are not drawn from then on, whatever was
     /// asked for.
     pub fn raw_mode(self, raw: bool) -> RenderConfig<D>
-        ensures setting { setting_of D.held D.sub result ≡ with_options (setting_of D.held D.sub self)
-            (record (setting_of D.held D.sub self).options { raw = raw; draw_borders = false }) }
+        ensures setting { setting_of D.view result ≡ with_options (setting_of D.view self)
+            (record (setting_of D.view self).options { raw = raw; draw_borders = false }) }
         ensures rules { rules_of result ≡ rules_of self }
     {
         let mut config = self;
@@ -151,8 +151,8 @@ impl<D: TextDecorator + Drop> RenderConfig<D> {
 
     /// Borders of tables are not drawn.
     pub fn no_table_borders(self) -> RenderConfig<D>
-        ensures setting { setting_of D.held D.sub result ≡ with_options (setting_of D.held D.sub self)
-            (record (setting_of D.held D.sub self).options { draw_borders = false }) }
+        ensures setting { setting_of D.view result ≡ with_options (setting_of D.view self)
+            (record (setting_of D.view self).options { draw_borders = false }) }
         ensures rules { rules_of result ≡ rules_of self }
     {
         let mut config = self;
@@ -162,8 +162,8 @@ impl<D: TextDecorator + Drop> RenderConfig<D> {
 
     /// Tables that stand in no other one stand between lines of three backticks.
     pub fn fence_tables(self) -> RenderConfig<D>
-        ensures setting { setting_of D.held D.sub result ≡ with_options (setting_of D.held D.sub self)
-            (record (setting_of D.held D.sub self).options { fence_tables = true }) }
+        ensures setting { setting_of D.view result ≡ with_options (setting_of D.view self)
+            (record (setting_of D.view self).options { fence_tables = true }) }
         ensures rules { rules_of result ≡ rules_of self }
     {
         let mut config = self;
@@ -173,8 +173,8 @@ impl<D: TextDecorator + Drop> RenderConfig<D> {
 
     /// The targets of links behind the page are not cut at the width.
     pub fn no_link_wrapping(self) -> RenderConfig<D>
-        ensures setting { setting_of D.held D.sub result ≡ with_options (setting_of D.held D.sub self)
-            (record (setting_of D.held D.sub self).options { wrap_links = false }) }
+        ensures setting { setting_of D.view result ≡ with_options (setting_of D.view self)
+            (record (setting_of D.view self).options { wrap_links = false }) }
         ensures rules { rules_of result ≡ rules_of self }
     {
         let mut config = self;
@@ -184,8 +184,8 @@ impl<D: TextDecorator + Drop> RenderConfig<D> {
 
     /// Whether U+0336 strikes out each character of struck text.
     pub fn unicode_strikeout(self, use_unicode: bool) -> RenderConfig<D>
-        ensures setting { setting_of D.held D.sub result ≡ with_options (setting_of D.held D.sub self)
-            (record (setting_of D.held D.sub self).options { use_unicode_strikeout = use_unicode }) }
+        ensures setting { setting_of D.view result ≡ with_options (setting_of D.view self)
+            (record (setting_of D.view self).options { use_unicode_strikeout = use_unicode }) }
         ensures rules { rules_of result ≡ rules_of self }
     {
         let mut config = self;
@@ -195,8 +195,8 @@ impl<D: TextDecorator + Drop> RenderConfig<D> {
 
     /// How an image with an empty title is rendered.
     pub fn empty_img_mode(self, img_mode: ImageRenderMode) -> RenderConfig<D>
-        ensures setting { setting_of D.held D.sub result ≡ with_options (setting_of D.held D.sub self)
-            (record (setting_of D.held D.sub self).options { img_mode = img_mode }) }
+        ensures setting { setting_of D.view result ≡ with_options (setting_of D.view self)
+            (record (setting_of D.view self).options { img_mode = img_mode }) }
         ensures rules { rules_of result ≡ rules_of self }
     {
         let RenderConfig {
@@ -219,8 +219,8 @@ impl<D: TextDecorator + Drop> RenderConfig<D> {
     /// So narrow, in columns, may text be wrapped; at least one.
     pub fn min_wrap_width(self, columns: usize) -> RenderConfig<D>
         requires { 1 ≤ columns }
-        ensures setting { setting_of D.held D.sub result
-            ≡ record (setting_of D.held D.sub self) { min_wrap = columns } }
+        ensures setting { setting_of D.view result
+            ≡ record (setting_of D.view self) { min_wrap = columns } }
         ensures rules { rules_of result ≡ rules_of self }
     {
         let mut config = self;
@@ -230,14 +230,14 @@ impl<D: TextDecorator + Drop> RenderConfig<D> {
 
     /// What a page is rendered by, but for the least width of text, the rules of style and the decorator.
     pub fn options(&self) -> RenderOptions
-        ensures { result ≡ (setting_of D.held D.sub self.now).options }
+        ensures { result ≡ (setting_of D.view self.now).options }
     {
         self.options
     }
 
     /// So narrow, in columns, may text be wrapped.
     pub fn narrowest_wrap(&self) -> usize
-        ensures { result ≡ (setting_of D.held D.sub self.now).min_wrap }
+        ensures { result ≡ (setting_of D.view self.now).min_wrap }
     {
         self.min_wrap_width
     }
@@ -245,7 +245,7 @@ impl<D: TextDecorator + Drop> RenderConfig<D> {
     /// `*` stands before and behind emphasis and terms, `**` before and behind strong text, and a backquote before and
     /// behind code: ten rules of the program, before all that stand. The error is allocation failure.
     pub fn do_decorate(self, alloc: Global) -> Result<RenderConfig<D>, RenderError>
-        ensures setting { IfOk result (λ c. setting_of D.held D.sub c ≡ setting_of D.held D.sub self) }
+        ensures setting { IfOk result (λ c. setting_of D.view c ≡ setting_of D.view self) }
         ensures rules { IfOk result (λ c. IsDecorated (rules_of self) (rules_of c)) }
         ensures memory { IfErr result (λ e. e ≡ errors.Memory) }
     {
@@ -265,7 +265,7 @@ impl<D: TextDecorator + Drop> RenderConfig<D> {
 
     /// Further rules of style, behind all that stand. The error is allocation failure.
     pub fn style_rules(self, rules: Vec<StyleRule>) -> Result<RenderConfig<D>, RenderError>
-        ensures setting { IfOk result (λ c. setting_of D.held D.sub c ≡ setting_of D.held D.sub self) }
+        ensures setting { IfOk result (λ c. setting_of D.view c ≡ setting_of D.view self) }
         ensures rules { IfOk result (λ c. rules_of c ≡ rules_of self ++ rules.items) }
         ensures memory { IfErr result (λ e. e ≡ errors.Memory) }
     {
@@ -303,15 +303,13 @@ impl<D: TextDecorator + Drop> RenderConfig<D> {
         width: usize,
         keeps: bool,
     ) -> Result<TextRenderer<D>, RenderError>
-        ensures laid { IfOk result (λ text. (tag : _) → IsTagging D.Annotation.seen D.gives tag
-            → laid_as keeps (marking D.text tag D.marks D.after D.pops D.sub) (setting_of D.held D.sub self.now) width
-            tree.now ≡ Some (parts_of D.Annotation.seen D.held text)) }
-        ensures whole { IfOk result (λ text. depth_of (parts_of D.Annotation.seen D.held text) ≡ 1) }
+        ensures laid { IfOk result (λ text. (tag : _) → IsTagging D.Annotation.seen D.view tag → laid_as keeps
+            (marking D.view tag) (setting_of D.view self.now) width tree.now ≡ Some (parts_of D.Annotation.seen
+            D.view.held text)) }
+        ensures whole { IfOk result (λ text. depth_of (parts_of D.Annotation.seen D.view.held text) ≡ 1) }
         ensures wide { IfOk result (λ text. 0 < width) }
-        ensures narrow { result ≡ Err errors.TooNarrow → (width ≡ 0) ⊎ ((tag : _)
-            → IsTagging D.Annotation.seen D.gives tag → laid_as keeps
-            (marking D.text tag D.marks D.after D.pops D.sub) (setting_of D.held D.sub self.now) width tree.now
-            ≡ None) }
+        ensures narrow { result ≡ Err errors.TooNarrow → (width ≡ 0) ⊎ ((tag : _) → IsTagging D.Annotation.seen D.view
+            tag → laid_as keeps (marking D.view tag) (setting_of D.view self.now) width tree.now ≡ None) }
         ensures kinds { result ≢ Err errors.Fail }
     {
         if width == 0 {
@@ -336,13 +334,13 @@ impl<D: TextDecorator + Drop> RenderConfig<D> {
         tree: &RenderTree,
         width: usize,
     ) -> Result<SubRenderer<D>, RenderError>
-        ensures closed { IfOk result (λ s. (tag : _) → IsTagging D.Annotation.seen D.gives tag
-            → closed_page (marking D.text tag D.marks D.after D.pops D.sub) D.Annotation.seen D.closes
-            (setting_of D.held D.sub self.now) width tree.now ≡ Some (sub_of D.Annotation.seen D.held s)) }
+        ensures closed { IfOk result (λ s. (tag : _) → IsTagging D.Annotation.seen D.view tag → closed_page
+            (marking D.view tag) D.Annotation.seen D.view.closes (setting_of D.view self.now) width tree.now
+            ≡ Some (sub_of D.Annotation.seen D.view.held s)) }
         ensures wide { IfOk result (λ s. 0 < width) }
-        ensures narrow { result ≡ Err errors.TooNarrow → (width ≡ 0) ⊎ ((tag : _)
-            → IsTagging D.Annotation.seen D.gives tag → closed_page (marking D.text tag D.marks D.after D.pops D.sub)
-            D.Annotation.seen D.closes (setting_of D.held D.sub self.now) width tree.now ≡ None) }
+        ensures narrow { result ≡ Err errors.TooNarrow → (width ≡ 0) ⊎ ((tag : _) → IsTagging D.Annotation.seen D.view
+            tag → closed_page (marking D.view tag) D.Annotation.seen D.view.closes (setting_of D.view self.now) width
+            tree.now ≡ None) }
         ensures kinds { result ≢ Err errors.Fail }
     {
         let text = self.laid(alloc, tree, width, true)?;
@@ -359,14 +357,13 @@ impl<D: TextDecorator + Drop> RenderConfig<D> {
         tree: &RenderTree,
         width: usize,
     ) -> Result<SubRenderer<D>, RenderError>
-        ensures closed { IfOk result (λ s. (tag : _) → IsTagging D.Annotation.seen D.gives tag
-            → option_map bare_of (closed_page (marking D.text tag D.marks D.after D.pops D.sub)
-            D.Annotation.seen D.closes (setting_of D.held D.sub self.now) width tree.now)
-            ≡ Some (bare_of (sub_of D.Annotation.seen D.held s))) }
+        ensures closed { IfOk result (λ s. (tag : _) → IsTagging D.Annotation.seen D.view tag → option_map bare_of
+            (closed_page (marking D.view tag) D.Annotation.seen D.view.closes (setting_of D.view self.now) width
+            tree.now) ≡ Some (bare_of (sub_of D.Annotation.seen D.view.held s))) }
         ensures wide { IfOk result (λ s. 0 < width) }
-        ensures narrow { result ≡ Err errors.TooNarrow → (width ≡ 0) ⊎ ((tag : _)
-            → IsTagging D.Annotation.seen D.gives tag → closed_page (marking D.text tag D.marks D.after D.pops D.sub)
-            D.Annotation.seen D.closes (setting_of D.held D.sub self.now) width tree.now ≡ None) }
+        ensures narrow { result ≡ Err errors.TooNarrow → (width ≡ 0) ⊎ ((tag : _) → IsTagging D.Annotation.seen D.view
+            tag → closed_page (marking D.view tag) D.Annotation.seen D.view.closes (setting_of D.view self.now) width
+            tree.now ≡ None) }
         ensures kinds { result ≢ Err errors.Fail }
     {
         annotations_change_no_text::<D>();
@@ -386,22 +383,21 @@ impl<D: TextDecorator + Drop> RenderConfig<D> {
         tree: RenderTree,
         width: usize,
     ) -> Result<Vec<TaggedLine<Vec<D::Annotation>>>, RenderError>
-        ensures lines { IfOk result (λ lines. (tag : _) → IsTagging D.Annotation.seen D.gives tag
-            → page_lines (marking D.text tag D.marks D.after D.pops D.sub) D.Annotation.seen D.closes
-            (setting_of D.held D.sub self.now) width tree
+        ensures lines { IfOk result (λ lines. (tag : _) → IsTagging D.Annotation.seen D.view tag → page_lines
+            (marking D.view tag) D.Annotation.seen D.view.closes (setting_of D.view self.now) width tree
             ≡ Some (map (line_items (tags_seen D.Annotation.seen)) lines.items)) }
         ensures wide { IfOk result (λ lines. 0 < width) }
-        ensures narrow { result ≡ Err errors.TooNarrow → (width ≡ 0) ⊎ ((tag : _)
-            → IsTagging D.Annotation.seen D.gives tag → page_lines (marking D.text tag D.marks D.after D.pops D.sub)
-            D.Annotation.seen D.closes (setting_of D.held D.sub self.now) width tree ≡ None) }
+        ensures narrow { result ≡ Err errors.TooNarrow → (width ≡ 0) ⊎ ((tag : _) → IsTagging D.Annotation.seen D.view
+            tag → page_lines (marking D.view tag) D.Annotation.seen D.view.closes (setting_of D.view self.now) width
+            tree ≡ None) }
         ensures kinds { result ≢ Err errors.Fail }
-        ensures within { IfOk result (λ lines. (tag : _) → IsTagging D.Annotation.seen D.gives tag → IsSteady D.text
-            → AreNumbered tree → (setting_of D.held D.sub self.now).options.allow_width_overflow ≡ false
-            → (setting_of D.held D.sub self.now).options.wrap_links ≡ true → 2 ≤ width
-            → AreWithin width (map (line_items (tags_seen D.Annotation.seen)) lines.items)) }
-        ensures roomy { (tag : _) → IsTagging D.Annotation.seen D.gives tag
-            → (setting_of D.held D.sub self.now).options.allow_width_overflow ≡ true → 0 < width
-            → result ≢ Err errors.TooNarrow }
+        ensures within { IfOk result (λ lines. (tag : _) → IsTagging D.Annotation.seen D.view tag → IsSteady
+            D.view.text → AreNumbered tree → (setting_of D.view self.now).options.allow_width_overflow ≡ false
+            → (setting_of D.view self.now).options.wrap_links ≡ true → 2 ≤ width → AreWithin width
+            (map (line_items (tags_seen D.Annotation.seen)) lines.items)) }
+        ensures roomy { (tag : _) → IsTagging D.Annotation.seen D.view tag
+            → (setting_of D.view self.now).options.allow_width_overflow ≡ true → 0 < width → result ≢ Err
+            errors.TooNarrow }
     {
         pages_keep_the_width::<D>();
         pages_with_room_are_never_too_narrow::<D>();
@@ -420,22 +416,21 @@ impl<D: TextDecorator + Drop> RenderConfig<D> {
         tree: RenderTree,
         width: usize,
     ) -> Result<Vec<TaggedLine<Vec<D::Annotation>>>, RenderError>
-        ensures text { IfOk result (λ lines. (tag : _) → IsTagging D.Annotation.seen D.gives tag
-            → page_text (marking D.text tag D.marks D.after D.pops D.sub) D.Annotation.seen D.closes
-            (setting_of D.held D.sub self.now) width tree
+        ensures text { IfOk result (λ lines. (tag : _) → IsTagging D.Annotation.seen D.view tag → page_text
+            (marking D.view tag) D.Annotation.seen D.view.closes (setting_of D.view self.now) width tree
             ≡ Some (lines_text (map (line_items (tags_seen D.Annotation.seen)) lines.items))) }
         ensures wide { IfOk result (λ lines. 0 < width) }
-        ensures narrow { result ≡ Err errors.TooNarrow → (width ≡ 0) ⊎ ((tag : _)
-            → IsTagging D.Annotation.seen D.gives tag → page_lines (marking D.text tag D.marks D.after D.pops D.sub)
-            D.Annotation.seen D.closes (setting_of D.held D.sub self.now) width tree ≡ None) }
+        ensures narrow { result ≡ Err errors.TooNarrow → (width ≡ 0) ⊎ ((tag : _) → IsTagging D.Annotation.seen D.view
+            tag → page_lines (marking D.view tag) D.Annotation.seen D.view.closes (setting_of D.view self.now) width
+            tree ≡ None) }
         ensures kinds { result ≢ Err errors.Fail }
-        ensures within { IfOk result (λ lines. (tag : _) → IsTagging D.Annotation.seen D.gives tag → IsSteady D.text
-            → AreNumbered tree → (setting_of D.held D.sub self.now).options.allow_width_overflow ≡ false
-            → (setting_of D.held D.sub self.now).options.wrap_links ≡ true → 2 ≤ width
-            → IsTextWithin width (lines_text (map (line_items (tags_seen D.Annotation.seen)) lines.items))) }
-        ensures roomy { (tag : _) → IsTagging D.Annotation.seen D.gives tag
-            → (setting_of D.held D.sub self.now).options.allow_width_overflow ≡ true → 0 < width
-            → result ≢ Err errors.TooNarrow }
+        ensures within { IfOk result (λ lines. (tag : _) → IsTagging D.Annotation.seen D.view tag → IsSteady
+            D.view.text → AreNumbered tree → (setting_of D.view self.now).options.allow_width_overflow ≡ false
+            → (setting_of D.view self.now).options.wrap_links ≡ true → 2 ≤ width → IsTextWithin width
+            (lines_text (map (line_items (tags_seen D.Annotation.seen)) lines.items))) }
+        ensures roomy { (tag : _) → IsTagging D.Annotation.seen D.view tag
+            → (setting_of D.view self.now).options.allow_width_overflow ≡ true → 0 < width → result ≢ Err
+            errors.TooNarrow }
     {
         annotations_change_no_text::<D>();
         texts_keep_the_width::<D>();
@@ -454,21 +449,21 @@ impl<D: TextDecorator + Drop> RenderConfig<D> {
         tree: RenderTree,
         width: usize,
     ) -> Result<String, RenderError>
-        ensures text { IfOk result (λ text. (tag : _) → IsTagging D.Annotation.seen D.gives tag
-            → page_text (marking D.text tag D.marks D.after D.pops D.sub) D.Annotation.seen D.closes
-            (setting_of D.held D.sub self.now) width tree ≡ Some (chars (string_bytes text))) }
+        ensures text { IfOk result (λ text. (tag : _) → IsTagging D.Annotation.seen D.view tag → page_text
+            (marking D.view tag) D.Annotation.seen D.view.closes (setting_of D.view self.now) width tree
+            ≡ Some (chars (string_bytes text))) }
         ensures wide { IfOk result (λ text. 0 < width) }
-        ensures narrow { result ≡ Err errors.TooNarrow → (width ≡ 0) ⊎ ((tag : _)
-            → IsTagging D.Annotation.seen D.gives tag → page_lines (marking D.text tag D.marks D.after D.pops D.sub)
-            D.Annotation.seen D.closes (setting_of D.held D.sub self.now) width tree ≡ None) }
+        ensures narrow { result ≡ Err errors.TooNarrow → (width ≡ 0) ⊎ ((tag : _) → IsTagging D.Annotation.seen D.view
+            tag → page_lines (marking D.view tag) D.Annotation.seen D.view.closes (setting_of D.view self.now) width
+            tree ≡ None) }
         ensures kinds { result ≢ Err errors.Fail }
-        ensures within { IfOk result (λ text. (tag : _) → IsTagging D.Annotation.seen D.gives tag → IsSteady D.text
-            → AreNumbered tree → (setting_of D.held D.sub self.now).options.allow_width_overflow ≡ false
-            → (setting_of D.held D.sub self.now).options.wrap_links ≡ true → 2 ≤ width
-            → IsTextWithin width (chars (string_bytes text))) }
-        ensures roomy { (tag : _) → IsTagging D.Annotation.seen D.gives tag
-            → (setting_of D.held D.sub self.now).options.allow_width_overflow ≡ true → 0 < width
-            → result ≢ Err errors.TooNarrow }
+        ensures within { IfOk result (λ text. (tag : _) → IsTagging D.Annotation.seen D.view tag → IsSteady D.view.text
+            → AreNumbered tree → (setting_of D.view self.now).options.allow_width_overflow ≡ false
+            → (setting_of D.view self.now).options.wrap_links ≡ true → 2 ≤ width → IsTextWithin width
+            (chars (string_bytes text))) }
+        ensures roomy { (tag : _) → IsTagging D.Annotation.seen D.view tag
+            → (setting_of D.view self.now).options.allow_width_overflow ≡ true → 0 < width → result ≢ Err
+            errors.TooNarrow }
     {
         annotations_change_no_text::<D>();
         texts_keep_the_width::<D>();

@@ -17,8 +17,8 @@ use walk_laws::{
 /// No line of a page passes its width, of two columns or more, where prefixes are steady, no part may pass it and links
 /// are wrapped: lines behind its last value among them.
 pub fn pages_keep_the_width<D: TextDecorator>()
-    ensures { (tag : D.Held → Mark → D.Annotation.Seen) → PagesKeepWidth
-        (marking D.text tag D.marks D.after D.pops D.sub) D.Annotation.seen D.closes }
+    ensures { (tag : D.Held → Mark → D.Annotation.Seen) → PagesKeepWidth (marking D.view tag) D.Annotation.seen
+        D.view.closes }
 {
     renderers_keep_the_width::<D>();
     parts_keep_the_width::<D>();
@@ -27,16 +27,16 @@ pub fn pages_keep_the_width<D: TextDecorator>()
 
 /// So does no line of the text of a page.
 pub fn texts_keep_the_width<D: TextDecorator>()
-    ensures { (tag : D.Held → Mark → D.Annotation.Seen) → TextsKeepWidth
-        (marking D.text tag D.marks D.after D.pops D.sub) D.Annotation.seen D.closes }
+    ensures { (tag : D.Held → Mark → D.Annotation.Seen) → TextsKeepWidth (marking D.view tag) D.Annotation.seen
+        D.view.closes }
 {
     pages_keep_the_width::<D>();
 }
 
 /// Where parts may pass the width, no width is too narrow for a page.
 pub fn pages_with_room_are_never_too_narrow<D: TextDecorator>()
-    ensures { (tag : D.Held → Mark → D.Annotation.Seen) → PagesHaveRoom
-        (marking D.text tag D.marks D.after D.pops D.sub) D.Annotation.seen D.closes }
+    ensures { (tag : D.Held → Mark → D.Annotation.Seen) → PagesHaveRoom (marking D.view tag) D.Annotation.seen
+        D.view.closes }
 {
     renderers_with_room_never_refuse::<D>();
     parts_with_room_never_refuse::<D>();

@@ -31,7 +31,7 @@ impl<D: TextDecorator + Drop> DecoratorPrefixes<D> {
 impl<D: TextDecorator + Drop> Prefixes for DecoratorPrefixes<D> {
     ghost use Rattle.html_render_tree.specs.PageLines.{prefix_columns};
 
-    ghost columns = { λ p. prefix_columns (D.text (D.held p.decorator)) };
+    ghost columns = { λ p. prefix_columns (D.view.text (D.view.held p.decorator)) };
 
     fn heading(&self, level: u8) -> Result<usize, AllocError> {
         let prefix = self

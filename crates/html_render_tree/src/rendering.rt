@@ -37,8 +37,8 @@ fn begun<D: TextDecorator + Drop>(
     decorator: D,
     keeps: bool,
 ) -> SubRenderer<D>
-    ensures sub { sub_of D.Annotation.seen D.held result
-        ≡ begun_as keeps (new_sub width options (D.held decorator) []) }
+    ensures sub { sub_of D.Annotation.seen D.view.held result ≡ begun_as keeps
+        (new_sub width options (D.view.held decorator) []) }
     ensures works { has_failed result ≡ false }
 {
     if keeps {
@@ -58,15 +58,15 @@ pub(crate) fn laid<D: TextDecorator + Drop>(
     keeps: bool,
 ) -> Result<TextRenderer<D>, RenderError>
     ghost w: { Measure }
-    requires { w ≡ measure_of min_wrap_width (prefix_columns (D.text (D.held decorator))) }
-    ensures laid { IfOk result (λ text. (tag : _) → IsTagging D.Annotation.seen D.gives tag
-        → laid_as keeps (marking D.text tag D.marks D.after D.pops D.sub)
-        (record { options = options; min_wrap = min_wrap_width; held = D.held decorator }) width tree.now
-        ≡ Some (parts_of D.Annotation.seen D.held text)) }
-    ensures whole { IfOk result (λ text. depth_of (parts_of D.Annotation.seen D.held text) ≡ 1) }
-    ensures narrow { result ≡ Err errors.TooNarrow → (tag : _) → IsTagging D.Annotation.seen D.gives tag
-        → laid_as keeps (marking D.text tag D.marks D.after D.pops D.sub)
-        (record { options = options; min_wrap = min_wrap_width; held = D.held decorator }) width tree.now ≡ None }
+    requires { w ≡ measure_of min_wrap_width (prefix_columns (D.view.text (D.view.held decorator))) }
+    ensures laid { IfOk result (λ text. (tag : _) → IsTagging D.Annotation.seen D.view tag
+        → laid_as keeps (marking D.view tag)
+        (record { options = options; min_wrap = min_wrap_width; held = D.view.held decorator }) width tree.now
+        ≡ Some (parts_of D.Annotation.seen D.view.held text)) }
+    ensures whole { IfOk result (λ text. depth_of (parts_of D.Annotation.seen D.view.held text) ≡ 1) }
+    ensures narrow { result ≡ Err errors.TooNarrow → (tag : _) → IsTagging D.Annotation.seen D.view tag
+        → laid_as keeps (marking D.view tag)
+        (record { options = options; min_wrap = min_wrap_width; held = D.view.held decorator }) width tree.now ≡ None }
     ensures kinds { result ≢ Err errors.Fail }
 {
     let prefixes = DecoratorPrefixes::new(alloc, decorator);

@@ -31,21 +31,16 @@ impl TextDecorator for LinkCounter {
 
     ghost Held = { ℕ };
 
-    ghost held = { λ counter. counter.links };
-
-    ghost text = { counter_text };
-
-    ghost gives = { λ links m note. note ≡ note_at links m };
-
-    ghost marks = { λ _ _. false };
-
-    ghost after = { links_behind };
-
-    ghost pops = { λ _ _. false };
-
-    ghost sub = { λ links. links };
-
-    ghost closes = { λ _ targets. footnote_lines Outside targets };
+    ghost view = { record {
+      held = λ counter. counter.links;
+      text = counter_text;
+      gives = λ links m note. note ≡ note_at links m;
+      marks = λ _ _. false;
+      after = links_behind;
+      pops = λ _ _. false;
+      sub = λ links. links;
+      closes = λ _ targets. footnote_lines Outside targets;
+    } };
 
     ghost one = { notes_are_one };
 

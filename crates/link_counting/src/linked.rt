@@ -11,10 +11,10 @@ pub fn link<D: TextDecorator>(
     url: &str,
     label: &str,
 ) -> Result<String, AllocError>
-    ensures text { IfOk result (λ s. chars (string_bytes s)
-        ≡ linked D.text D.after (D.held decorator.old) (chars url.now) (chars label.now)) }
-    ensures after { OnOk result (D.held decorator.new
-        ≡ behind_link D.after (D.held decorator.old) (chars url.now)) }
+    ensures text { IfOk result (λ s. chars (string_bytes s) ≡ linked D.view.text D.view.after
+        (D.view.held decorator.old) (chars url.now) (chars label.now)) }
+    ensures after { OnOk result (D.view.held decorator.new ≡ behind_link D.view.after (D.view.held decorator.old)
+        (chars url.now)) }
 {
     let (mut text, _) = decorator.decorate_link_start(alloc, url)?;
     text.push_str(label)?;
@@ -31,13 +31,12 @@ pub fn two_links<D: TextDecorator>(
     url: &str,
     label: &str,
 ) -> Result<(String, String), AllocError>
-    ensures first { IfOk result (λ r. chars (string_bytes r.0)
-        ≡ linked D.text D.after (D.held decorator.old) (chars url.now) (chars label.now)) }
-    ensures second { IfOk result (λ r. chars (string_bytes r.1)
-        ≡ linked D.text D.after (behind_link D.after (D.held decorator.old) (chars url.now)) (chars url.now)
-        (chars label.now)) }
-    ensures after { OnOk result (D.held decorator.new
-        ≡ behind_link D.after (behind_link D.after (D.held decorator.old) (chars url.now)) (chars url.now)) }
+    ensures first { IfOk result (λ r. chars (string_bytes r.0) ≡ linked D.view.text D.view.after
+        (D.view.held decorator.old) (chars url.now) (chars label.now)) }
+    ensures second { IfOk result (λ r. chars (string_bytes r.1) ≡ linked D.view.text D.view.after
+        (behind_link D.view.after (D.view.held decorator.old) (chars url.now)) (chars url.now) (chars label.now)) }
+    ensures after { OnOk result (D.view.held decorator.new ≡ behind_link D.view.after (behind_link D.view.after
+        (D.view.held decorator.old) (chars url.now)) (chars url.now)) }
 {
     let first = link(alloc, decorator, url, label)?;
     let second = link(alloc, decorator, url, label)?;

@@ -1,14 +1,12 @@
 -- What a page is as plain text, of what was made of it by the decorator of plain text.
-use Rattle.std.proofs.Common.{ℕ, false, List, Option, None, Some}
+use Rattle.std.proofs.Common.{ℕ, List, Option, None, Some}
 use Rattle.std.proofs.Common.{IfOk, IfSome, Global, String, chars, refl, string_bytes, sym, ◌∙◌}
 use Rattle.std.specs.Prelude.{Err, Ok, Result}
 use Rattle.reference_tables.specs.References.{References}
-use Rattle.html_render_tree.specs.PlainText.{plain_closes}
 use Rattle.page_config.proofs.SeenSettings.{AreAlike}
 use Rattle.page_config.specs.PageAnswers.{Answers, IsTold, PageAnswer}
-use Rattle.page_config.specs.PlainPages.{HasPlainAnswer, HasPlainText, IsPlain}
+use Rattle.page_config.specs.PlainPages.{HasPlainAnswer, HasPlainText, IsPlain, plain_view}
 use Rattle.page_config.specs.Settings.{PageSetting}
-use Rattle.text_decorators.specs.Texts.{plain_text}
 
 -- configurations of plain text are seen alike
 pub plain_alike : (table : References) (c d : PageSetting (Unit {0})) → IsPlain table c → IsPlain table d → AreAlike c d
@@ -21,35 +19,33 @@ plain_alike table c d p q = record {
 }
 
 -- annotations of plain text are seen in one way
-plain_told : (table : References) (c : PageSetting (Unit {0})) (width : ℕ) (all : Option (List ℕ)) (told : List ℕ)
+plain_told : (D : Type 0) (table : References) (c : PageSetting (Unit {0})) (width : ℕ) (all : Option (List ℕ)) (told : List ℕ)
     → IsPlain table c
-    → IfSome all (λ bytes. IsTold {T = Unit {0}} {H = Unit {0}} {A = Unit {0}} (λ _. tt) (λ _ m. plain_text m)
-    (λ _ _ _. Unit {0}) (λ _ _. false) (λ h _. h) (λ _ _. false) (λ h. h) plain_closes c width bytes told)
+    → IfSome all (λ bytes. IsTold {A = Unit {0}} (λ _. tt) (plain_view {D = D}) c width bytes told)
     → IfSome all (λ bytes. HasPlainText table width bytes told)
-plain_told table c width None told plain is = tt
-plain_told table c width (Some bytes) told plain is = record {
+plain_told D table c width None told plain is = tt
+plain_told D table c width (Some bytes) told plain is = record {
   setting = c;
   plain = plain;
   has = is (λ _ _. tt) (λ h m a given. refl);
 }
 
-pub plain_answer : (table : References) (c : PageSetting (Unit {0})) (width : ℕ) (all : Option (List ℕ))
+pub plain_answer : (D : Type 0) (table : References) (c : PageSetting (Unit {0})) (width : ℕ) (all : Option (List ℕ))
     (answer : PageAnswer (Unit {0})) → IsPlain table c
-    → IfSome all (λ bytes. Answers {T = Unit {0}} {H = Unit {0}} {A = Unit {0}} (λ _. tt) (λ _ m. plain_text m)
-    (λ _ _ _. Unit {0}) (λ _ _. false) (λ h _. h) (λ _ _. false) (λ h. h) plain_closes c width bytes answer)
+    → IfSome all (λ bytes. Answers {A = Unit {0}} (λ _. tt) (plain_view {D = D}) c width bytes answer)
     → IfSome all (λ bytes. HasPlainAnswer table width bytes answer)
-plain_answer table c width None answer plain is = tt
-plain_answer table c width (Some bytes) answer plain is = record {
+plain_answer D table c width None answer plain is = tt
+plain_answer D table c width (Some bytes) answer plain is = record {
   setting = c;
   plain = plain;
   has = is (λ _ _. tt) (λ h m a given. refl);
 }
 
-pub told_text : {E : Type 0} (table : References) (c : PageSetting (Unit {0})) (width : ℕ) (all : Option (List ℕ))
+pub told_text : {E : Type 0} (D : Type 0) (table : References) (c : PageSetting (Unit {0})) (width : ℕ) (all : Option (List ℕ))
     (r : Result (String Global) E) → IsPlain table c
-    → IfOk r (λ text. IfSome all (λ bytes. IsTold {T = Unit {0}} {H = Unit {0}} {A = Unit {0}} (λ _. tt)
-    (λ _ m. plain_text m) (λ _ _ _. Unit {0}) (λ _ _. false) (λ h _. h) (λ _ _. false) (λ h. h) plain_closes c width
+    → IfOk r (λ text. IfSome all (λ bytes. IsTold (λ _. tt)
+    (plain_view {D = D}) c width
     bytes (chars (string_bytes text))))
     → IfOk r (λ text. IfSome all (λ bytes. HasPlainText table width bytes (chars (string_bytes text))))
-told_text table c width all (Ok text) plain is = plain_told table c width all (chars (string_bytes text)) plain is
-told_text table c width all (Err e) plain is = tt
+told_text D table c width all (Ok text) plain is = plain_told D table c width all (chars (string_bytes text)) plain is
+told_text D table c width all (Err e) plain is = tt

@@ -18,7 +18,7 @@ use Rattle.render_conversion.specs.declared.error.RenderError.TheVariants as ren
 use Rattle.render_values.specs.Values.{Values, none}
 use Rattle.renderer_calls.specs.Renderers.{Marking}
 use Rattle.tagged_lines.specs.Tagged.{Item}
-use Rattle.text_marks.specs.Marks.{Mark}
+use Rattle.text_marks.specs.Marks.{DecoratorView, Mark}
 
 pub read_values : {H : Type 0} (c : PageSetting H) (all : Option (List ℕ)) (forest : Forest) (mode : QuirksMode)
     (values : Values) → document_values c.rules forest ≡ values
@@ -50,17 +50,15 @@ printed_lines m seen closes c width bytes values text page some wide printed =
       told = sym given.1.1;
     }
 
-module _ {T H A : Type 0} (seen : T → A) (text : H → Mark → List ℕ) (gives : H → Mark → T → Type 0)
-    (marks : H → Mark → Bool) (after : H → Mark → H) (pops : H → Mark → Bool) (sub : H → H)
-    (closes : H → List (List ℕ) → List (List (Item T))) (c : PageSetting H) (width : ℕ) where
+module _ {D T H A : Type 0} (seen : T → A) (view : DecoratorView D H T) (c : PageSetting H) (width : ℕ) where
   -- however annotations are seen
   abbrev Each : ((H → Mark → A) → Type 0) → Type 0
-  Each P = (tag : _) → IsTagging seen gives tag → P tag
+  Each P = (tag : _) → IsTagging seen view tag → P tag
 
   pub lines_read : (all : Option (List ℕ)) (values : Values) (s : Setting H) (shown : List (List (Item (List A))))
       → IfSome all (λ bytes. ArePageValues c bytes values) → s ≡ c.rendering → values ≢ none → 0 < width
-      → Each (λ tag. page_lines (marking text tag marks after pops sub) seen closes s width values ≡ Some shown)
-      → IfSome all (λ bytes. Answers seen text gives marks after pops sub closes c width bytes (lines shown))
+      → Each (λ tag. page_lines (marking view tag) seen view.closes s width values ≡ Some shown)
+      → IfSome all (λ bytes. Answers seen view c width bytes (lines shown))
   lines_read None values s shown page same some wide rendered = tt
   lines_read (Some bytes) values s shown page same some wide rendered = λ tag p. record {
     values = values;
@@ -69,7 +67,7 @@ module _ {T H A : Type 0} (seen : T → A) (text : H → Mark → List ℕ) (giv
       some,
       (
         wide,
-        subst (λ s. page_lines (marking text tag marks after pops sub) seen closes s width values ≡ Some shown) same
+        subst (λ s. page_lines (marking view tag) seen view.closes s width values ≡ Some shown) same
             (rendered tag p),
       ),
     );
@@ -77,8 +75,8 @@ module _ {T H A : Type 0} (seen : T → A) (text : H → Mark → List ℕ) (giv
 
   pub narrow_read : (all : Option (List ℕ)) (values : Values) (s : Setting H)
       → IfSome all (λ bytes. ArePageValues c bytes values) → s ≡ c.rendering → values ≢ none
-      → (width ≡ 0) ⊎ Each (λ tag. page_lines (marking text tag marks after pops sub) seen closes s width values ≡ None)
-      → IfSome all (λ bytes. Answers seen text gives marks after pops sub closes c width bytes too_narrow)
+      → (width ≡ 0) ⊎ Each (λ tag. page_lines (marking view tag) seen view.closes s width values ≡ None)
+      → IfSome all (λ bytes. Answers seen view c width bytes too_narrow)
   narrow_read None values s page same some narrow = tt
   narrow_read (Some bytes) values s page same some (inl zero_width) = λ tag p. record {
     values = values;
@@ -91,23 +89,23 @@ module _ {T H A : Type 0} (seen : T → A) (text : H → Mark → List ℕ) (giv
     answered = (
       some,
       inr (
-          subst (λ s. page_lines (marking text tag marks after pops sub) seen closes s width values ≡ None) same
+          subst (λ s. page_lines (marking view tag) seen view.closes s width values ≡ None) same
           (narrow tag p)
           ),
     );
   }
 
   pub nothing_read : (all : Option (List ℕ)) → IfSome all (λ bytes. ArePageValues c bytes none)
-      → IfSome all (λ bytes. Answers seen text gives marks after pops sub closes c width bytes fail)
+      → IfSome all (λ bytes. Answers seen view c width bytes fail)
   nothing_read None page = tt
   nothing_read (Some bytes) page = λ tag p. record { values = none; page = page; answered = refl }
 
   pub text_read : (all : Option (List ℕ)) (values : Values) (s : Setting H) (told : List ℕ)
       → IfSome all (λ bytes. ArePageValues c bytes values) → s ≡ c.rendering → values ≢ none → 0 < width
-      → Each (λ tag. page_text (marking text tag marks after pops sub) seen closes s width values ≡ Some told)
-      → IfSome all (λ bytes. IsTold seen text gives marks after pops sub closes c width bytes told)
+      → Each (λ tag. page_text (marking view tag) seen view.closes s width values ≡ Some told)
+      → IfSome all (λ bytes. IsTold seen view c width bytes told)
   text_read None values s told page same some wide printed = tt
   text_read (Some bytes) values s told page same some wide printed = λ tag p. printed_lines
-      (marking text tag marks after pops sub) seen closes c width bytes values told page some wide
-      (subst (λ s. page_text (marking text tag marks after pops sub) seen closes s width values ≡ Some told) same
+      (marking view tag) seen view.closes c width bytes values told page some wide
+      (subst (λ s. page_text (marking view tag) seen view.closes s width values ≡ Some told) same
       (printed tag p))

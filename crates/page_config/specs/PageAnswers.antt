@@ -10,7 +10,7 @@ use Rattle.render_conversion.specs.Conversion.{document_values}
 use Rattle.render_values.specs.Values.{Values, none}
 use Rattle.renderer_calls.specs.Renderers.{Marking}
 use Rattle.tagged_lines.specs.Tagged.{Item}
-use Rattle.text_marks.specs.Marks.{Mark}
+use Rattle.text_marks.specs.Marks.{DecoratorView, Mark}
 use Rattle.page_config.specs.Settings.{PageSetting}
 
 -- The values of a page: what the tree of its bytes converts to.
@@ -53,15 +53,13 @@ pub record HasText {T H A : Type 0} (m : Marking H A) (seen : T → A)
   pub told : text ≡ lines_text shown
 
 -- However a decorator's annotations are seen, this is the answer.
-abbrev pub Answers : {T H A : Type 0} → (T → A) → (H → Mark → List ℕ) → (H → Mark → T → Type 0) → (H → Mark → Bool)
-    → (H → Mark → H) → (H → Mark → Bool) → (H → H) → (H → List (List ℕ) → List (List (Item T)))
+abbrev pub Answers : {D T H A : Type 0} → (T → A) → DecoratorView D H T
     → PageSetting H → ℕ → (bytes : List ℕ) → PageAnswer A → Type 0
-Answers seen text gives marks after pops sub closes c width bytes answer = (tag : _) → IsTagging seen gives tag
-    → HasAnswer (marking text tag marks after pops sub) seen closes c width bytes answer
+Answers seen view c width bytes answer = (tag : _) → IsTagging seen view tag
+    → HasAnswer (marking view tag) seen view.closes c width bytes answer
 
 -- However they are seen, this is the text.
-abbrev pub IsTold : {T H A : Type 0} → (T → A) → (H → Mark → List ℕ) → (H → Mark → T → Type 0) → (H → Mark → Bool)
-    → (H → Mark → H) → (H → Mark → Bool) → (H → H) → (H → List (List ℕ) → List (List (Item T)))
+abbrev pub IsTold : {D T H A : Type 0} → (T → A) → DecoratorView D H T
     → PageSetting H → ℕ → (bytes told : List ℕ) → Type 0
-IsTold seen text gives marks after pops sub closes c width bytes told = (tag : _) → IsTagging seen gives tag
-    → HasText (marking text tag marks after pops sub) seen closes c width bytes told
+IsTold seen view c width bytes told = (tag : _) → IsTagging seen view tag
+    → HasText (marking view tag) seen view.closes c width bytes told

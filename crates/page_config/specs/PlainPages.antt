@@ -1,5 +1,5 @@
 -- Pages as plain text: what the configurations of plain text say, and what is answered by them.
-use Rattle.std.specs.Prelude.{◌≡◌, ℕ, true, List, map}
+use Rattle.std.specs.Prelude.{◌≡◌, ℕ, false, true, List, map}
 use Rattle.reference_tables.specs.References.{References}
 use Rattle.html_render_tree.specs.PlainText.{plain_closes, plain_marking}
 use Rattle.page_reading.specs.Defaults.{default_parse}
@@ -7,6 +7,21 @@ use Rattle.page_config.specs.PageAnswers.{HasAnswer, HasText, PageAnswer}
 use Rattle.page_config.specs.Settings.{PageSetting}
 use Rattle.render_conversion.specs.Decorating.{decorating_rules, seen_rule}
 use Rattle.renderer_calls.specs.Defaults.{default_options}
+use Rattle.text_decorators.specs.Texts.{plain_text}
+use Rattle.text_marks.specs.Marks.{DecoratorView}
+
+-- what the decorator of plain text is seen as, whatever stands for it
+abbrev pub plain_view : {D : Type 0} → DecoratorView D (Unit {0}) (Unit {0})
+plain_view = record {
+  held = λ _. tt;
+  text = λ _ m. plain_text m;
+  gives = λ _ _ _. Unit {0};
+  marks = λ _ _. false;
+  after = λ h _. h;
+  pops = λ _ _. false;
+  sub = λ h. h;
+  closes = plain_closes;
+}
 
 -- As plain text is rendered where nothing else is said: parsed as pages are by default, with emphasis, strong text,
 -- terms and code marked, and with the targets of links behind the page.

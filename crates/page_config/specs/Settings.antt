@@ -2,6 +2,7 @@
 use Rattle.std.specs.Prelude.{ℕ, Bool, false, List, []}
 use Rattle.reference_tables.specs.References.{References}
 use Rattle.html_render_tree.specs.PageLines.{Setting}
+use Rattle.text_marks.specs.Marks.{DecoratorView}
 use Rattle.html_render_tree.specs.Settings.{rules_of, setting_of}
 use Rattle.page_reading.specs.Defaults.{default_parse}
 use Rattle.page_reading.specs.ParseOpts.{ParseOpts}
@@ -20,18 +21,31 @@ pub record PageSetting (H : Type 0) : Type 0 where
   pub decorates : Bool
 
 -- what pages are read and rendered by, as a decorator that is made for each holds it
-abbrev pub page_setting : {D T H : Type 0} → (D → H) → (H → H) → Config D T → PageSetting H
-page_setting held sub c = record {
+abbrev pub page_setting : {D T H : Type 0} → DecoratorView D H T → Config D T → PageSetting H
+page_setting view c = record {
   table = c.table;
   parsing = c.parsing;
   rules = rules_of c.rendering;
-  rendering = setting_of held sub c.rendering;
+  rendering = setting_of view c.rendering;
   decorates = c.decorates;
+}
+
+-- a decorator that holds nothing, as far as settings see it
+abbrev bare_view : {D T : Type 0} → DecoratorView D (Unit {0}) T
+bare_view = record {
+  held = λ _. tt;
+  text = λ _ _. [];
+  gives = λ _ _ _. Unit {0};
+  marks = λ _ _. false;
+  after = λ h _. h;
+  pops = λ _ _. false;
+  sub = λ h. h;
+  closes = λ _ _. [];
 }
 
 -- the same of a decorator that holds nothing
 abbrev pub bare_setting : {D T : Type 0} → Config D T → PageSetting (Unit {0})
-bare_setting c = page_setting (λ _. tt) (λ h. h) c
+bare_setting c = page_setting bare_view c
 
 -- at most so many bytes are read of a page
 abbrev pub max_bytes_of : {D T : Type 0} → Config D T → ℕ

@@ -24,16 +24,14 @@ impl<D: TextDecorator + Drop> Config<D> {
         colour_map: F,
     ) -> Result<String, Error>
         requires { F.IsAlwaysCallable colour_map }
-        ensures text { IfOk result (λ text. (lines : List _)
-            × ((tag : _) → IsTagging D.Annotation.seen D.gives tag
-            → page_lines (marking D.text tag D.marks D.after D.pops D.sub) D.Annotation.seen D.closes
-            (page_setting D.held D.sub self.now).rendering width tree
-            ≡ Some (map (line_items (tags_seen D.Annotation.seen)) lines))
-            × AreColouredLines (Colours F.Fn colour_map) lines (string_bytes text)) }
+        ensures text { IfOk result (λ text. (lines : List _) × ((tag : _) → IsTagging D.Annotation.seen D.view tag
+            → page_lines (marking D.view tag) D.Annotation.seen D.view.closes (page_setting D.view self.now).rendering
+            width tree ≡ Some (map (line_items (tags_seen D.Annotation.seen)) lines)) × AreColouredLines
+            (Colours F.Fn colour_map) lines (string_bytes text)) }
         ensures wide { IfOk result (λ text. 0 < width) }
-        ensures narrow { result ≡ Err errors.TooNarrow → (width ≡ 0) ⊎ ((tag : _)
-            → IsTagging D.Annotation.seen D.gives tag → page_lines (marking D.text tag D.marks D.after D.pops D.sub)
-            D.Annotation.seen D.closes (page_setting D.held D.sub self.now).rendering width tree ≡ None) }
+        ensures narrow { result ≡ Err errors.TooNarrow → (width ≡ 0) ⊎ ((tag : _) → IsTagging D.Annotation.seen D.view
+            tag → page_lines (marking D.view tag) D.Annotation.seen D.view.closes
+            (page_setting D.view self.now).rendering width tree ≡ None) }
         ensures kinds { IfErr result (λ e. (e ≡ errors.TooNarrow) ⊎ (e ≡ errors.Memory)) }
     {
         Ok(

@@ -41,7 +41,7 @@ impl<D: TextDecorator + Drop> Config<D> {
     /// As pages are rendered by a decorator: parsed by this table and as they are by default, without a bound on the
     /// bytes; no rules of style, and the options as they are by default.
     pub fn with_decorator(alloc: Global, decorator: D, table: ReferenceTable) -> Config<D>
-        ensures setting { page_setting D.held D.sub result ≡ by_default table (D.sub (D.held decorator)) }
+        ensures setting { page_setting D.view result ≡ by_default table (D.view.sub (D.view.held decorator)) }
         ensures bytes { max_bytes_of result ≡ usize.MAX }
     {
         Config {
@@ -55,7 +55,7 @@ impl<D: TextDecorator + Drop> Config<D> {
 
     /// At most so many bytes: a page of more is `TooLong`.
     pub fn max_bytes(self, max_bytes: usize) -> Config<D>
-        ensures setting { page_setting D.held D.sub result ≡ page_setting D.held D.sub self }
+        ensures setting { page_setting D.view result ≡ page_setting D.view self }
         ensures bytes { max_bytes_of result ≡ max_bytes }
     {
         let mut config = self;
@@ -65,9 +65,9 @@ impl<D: TextDecorator + Drop> Config<D> {
 
     /// Parts may pass the width where it is too narrow for what they hold.
     pub fn allow_width_overflow(self) -> Config<D>
-        ensures setting { page_setting D.held D.sub result ≡ record (page_setting D.held D.sub self) {
-          rendering = record (page_setting D.held D.sub self).rendering {
-            options = record (page_setting D.held D.sub self).rendering.options { allow_width_overflow = true };
+        ensures setting { page_setting D.view result ≡ record (page_setting D.view self) {
+          rendering = record (page_setting D.view self).rendering {
+            options = record (page_setting D.view self).rendering.options { allow_width_overflow = true };
           };
         } }
         ensures bytes { max_bytes_of result ≡ max_bytes_of self }
@@ -80,9 +80,9 @@ impl<D: TextDecorator + Drop> Config<D> {
 
     /// Whether the targets of links stand behind the page.
     pub fn link_footnotes(self, include: bool) -> Config<D>
-        ensures setting { page_setting D.held D.sub result ≡ record (page_setting D.held D.sub self) {
-          rendering = record (page_setting D.held D.sub self).rendering {
-            options = record (page_setting D.held D.sub self).rendering.options { include_link_footnotes = include };
+        ensures setting { page_setting D.view result ≡ record (page_setting D.view self) {
+          rendering = record (page_setting D.view self).rendering {
+            options = record (page_setting D.view self).rendering.options { include_link_footnotes = include };
           };
         } }
         ensures bytes { max_bytes_of result ≡ max_bytes_of self }
@@ -96,8 +96,8 @@ impl<D: TextDecorator + Drop> Config<D> {
     /// Whether links to equal targets, equal as texts, share one number and one footnote, where the targets of links
     /// stand behind the page. They are numbered from 1 on in the order of their first links.
     pub fn shared_footnotes(self, shared: bool) -> Config<D>
-        ensures setting { page_setting D.held D.sub result ≡ rendered_with (page_setting D.held D.sub self)
-            (record (page_setting D.held D.sub self).rendering.options { shared_footnotes = shared }) }
+        ensures setting { page_setting D.view result ≡ rendered_with (page_setting D.view self)
+            (record (page_setting D.view self).rendering.options { shared_footnotes = shared }) }
         ensures bytes { max_bytes_of result ≡ max_bytes_of self }
     {
         Config {
@@ -108,8 +108,8 @@ impl<D: TextDecorator + Drop> Config<D> {
 
     /// Every line of a block is filled with spaces to the block's width.
     pub fn pad_block_width(self) -> Config<D>
-        ensures setting { page_setting D.held D.sub result ≡ rendered_with (page_setting D.held D.sub self)
-            (record (page_setting D.held D.sub self).rendering.options { pad_block_width = true }) }
+        ensures setting { page_setting D.view result ≡ rendered_with (page_setting D.view self)
+            (record (page_setting D.view self).rendering.options { pad_block_width = true }) }
         ensures bytes { max_bytes_of result ≡ max_bytes_of self }
     {
         Config {
@@ -121,8 +121,8 @@ impl<D: TextDecorator + Drop> Config<D> {
     /// So wide, in columns, may text be wrapped, also where its block has more; at least one.
     pub fn max_wrap_width(self, columns: usize) -> Config<D>
         requires { 1 ≤ columns }
-        ensures setting { page_setting D.held D.sub result ≡ rendered_with (page_setting D.held D.sub self)
-            (record (page_setting D.held D.sub self).rendering.options { wrap_width = Some columns }) }
+        ensures setting { page_setting D.view result ≡ rendered_with (page_setting D.view self)
+            (record (page_setting D.view self).rendering.options { wrap_width = Some columns }) }
         ensures bytes { max_bytes_of result ≡ max_bytes_of self }
     {
         Config {
@@ -134,8 +134,8 @@ impl<D: TextDecorator + Drop> Config<D> {
     /// Whether the cells of tables stand below one another. Borders of tables are not drawn from then on, whatever was
     /// asked for.
     pub fn raw_mode(self, raw: bool) -> Config<D>
-        ensures setting { page_setting D.held D.sub result ≡ rendered_with (page_setting D.held D.sub self)
-            (record (page_setting D.held D.sub self).rendering.options { raw = raw; draw_borders = false }) }
+        ensures setting { page_setting D.view result ≡ rendered_with (page_setting D.view self)
+            (record (page_setting D.view self).rendering.options { raw = raw; draw_borders = false }) }
         ensures bytes { max_bytes_of result ≡ max_bytes_of self }
     {
         Config {
@@ -146,8 +146,8 @@ impl<D: TextDecorator + Drop> Config<D> {
 
     /// Borders of tables are not drawn.
     pub fn no_table_borders(self) -> Config<D>
-        ensures setting { page_setting D.held D.sub result ≡ rendered_with (page_setting D.held D.sub self)
-            (record (page_setting D.held D.sub self).rendering.options { draw_borders = false }) }
+        ensures setting { page_setting D.view result ≡ rendered_with (page_setting D.view self)
+            (record (page_setting D.view self).rendering.options { draw_borders = false }) }
         ensures bytes { max_bytes_of result ≡ max_bytes_of self }
     {
         Config {
@@ -158,8 +158,8 @@ impl<D: TextDecorator + Drop> Config<D> {
 
     /// Tables that stand in no other one stand between lines of three backticks.
     pub fn fence_tables(self) -> Config<D>
-        ensures setting { page_setting D.held D.sub result ≡ rendered_with (page_setting D.held D.sub self)
-            (record (page_setting D.held D.sub self).rendering.options { fence_tables = true }) }
+        ensures setting { page_setting D.view result ≡ rendered_with (page_setting D.view self)
+            (record (page_setting D.view self).rendering.options { fence_tables = true }) }
         ensures bytes { max_bytes_of result ≡ max_bytes_of self }
     {
         Config {
@@ -170,8 +170,8 @@ impl<D: TextDecorator + Drop> Config<D> {
 
     /// The targets of links behind the page are not cut at the width.
     pub fn no_link_wrapping(self) -> Config<D>
-        ensures setting { page_setting D.held D.sub result ≡ rendered_with (page_setting D.held D.sub self)
-            (record (page_setting D.held D.sub self).rendering.options { wrap_links = false }) }
+        ensures setting { page_setting D.view result ≡ rendered_with (page_setting D.view self)
+            (record (page_setting D.view self).rendering.options { wrap_links = false }) }
         ensures bytes { max_bytes_of result ≡ max_bytes_of self }
     {
         Config {
@@ -182,8 +182,8 @@ impl<D: TextDecorator + Drop> Config<D> {
 
     /// Whether U+0336 strikes out each character of struck text.
     pub fn unicode_strikeout(self, use_unicode: bool) -> Config<D>
-        ensures setting { page_setting D.held D.sub result ≡ rendered_with (page_setting D.held D.sub self)
-            (record (page_setting D.held D.sub self).rendering.options { use_unicode_strikeout = use_unicode }) }
+        ensures setting { page_setting D.view result ≡ rendered_with (page_setting D.view self)
+            (record (page_setting D.view self).rendering.options { use_unicode_strikeout = use_unicode }) }
         ensures bytes { max_bytes_of result ≡ max_bytes_of self }
     {
         Config {
@@ -194,8 +194,8 @@ impl<D: TextDecorator + Drop> Config<D> {
 
     /// How an image with an empty title is rendered.
     pub fn empty_img_mode(self, img_mode: ImageRenderMode) -> Config<D>
-        ensures setting { page_setting D.held D.sub result ≡ rendered_with (page_setting D.held D.sub self)
-            (record (page_setting D.held D.sub self).rendering.options { img_mode = img_mode }) }
+        ensures setting { page_setting D.view result ≡ rendered_with (page_setting D.view self)
+            (record (page_setting D.view self).rendering.options { img_mode = img_mode }) }
         ensures bytes { max_bytes_of result ≡ max_bytes_of self }
     {
         Config {
@@ -207,8 +207,8 @@ impl<D: TextDecorator + Drop> Config<D> {
     /// So narrow, in columns, may text be wrapped; at least one.
     pub fn min_wrap_width(self, columns: usize) -> Config<D>
         requires { 1 ≤ columns }
-        ensures setting { page_setting D.held D.sub result ≡ record (page_setting D.held D.sub self) {
-          rendering = record (page_setting D.held D.sub self).rendering { min_wrap = columns };
+        ensures setting { page_setting D.view result ≡ record (page_setting D.view self) {
+          rendering = record (page_setting D.view self).rendering { min_wrap = columns };
         } }
         ensures bytes { max_bytes_of result ≡ max_bytes_of self }
     {
@@ -222,14 +222,14 @@ impl<D: TextDecorator + Drop> Config<D> {
     /// behind code: ten rules of the program, before all that stand. Asked for again it changes nothing. The error is
     /// allocation failure.
     pub fn do_decorate(self, alloc: Global) -> Result<Config<D>, Error>
-        ensures setting { IfOk result (λ c. page_setting D.held D.sub c ≡ record (page_setting D.held D.sub self) {
-          rules = (page_setting D.held D.sub c).rules;
+        ensures setting { IfOk result (λ c. page_setting D.view c ≡ record (page_setting D.view self) {
+          rules = (page_setting D.view c).rules;
           decorates = true;
         }) }
-        ensures rules { (page_setting D.held D.sub self).decorates ≡ false → IfOk result
-            (λ c. IsDecorated (page_setting D.held D.sub self).rules (page_setting D.held D.sub c).rules) }
-        ensures again { (page_setting D.held D.sub self).decorates ≡ true
-            → IfOk result (λ c. page_setting D.held D.sub c ≡ page_setting D.held D.sub self) }
+        ensures rules { (page_setting D.view self).decorates ≡ false → IfOk result
+            (λ c. IsDecorated (page_setting D.view self).rules (page_setting D.view c).rules) }
+        ensures again { (page_setting D.view self).decorates ≡ true → IfOk result (λ c. page_setting D.view c
+            ≡ page_setting D.view self) }
         ensures bytes { IfOk result (λ c. max_bytes_of c ≡ max_bytes_of self) }
         ensures memory { IfErr result (λ e. e ≡ errors.Memory) }
     {
@@ -254,29 +254,29 @@ impl<D: TextDecorator + Drop> Config<D> {
 
     /// Whether these marks were asked for.
     pub fn decorates(&self) -> bool
-        ensures { result ≡ (page_setting D.held D.sub self.now).decorates }
+        ensures { result ≡ (page_setting D.view self.now).decorates }
     {
         self.decorates
     }
 
     /// What a page is rendered by, but for the least width of text, the rules of style and the decorator.
     pub fn options(&self) -> RenderOptions
-        ensures { result ≡ (page_setting D.held D.sub self.now).rendering.options }
+        ensures { result ≡ (page_setting D.view self.now).rendering.options }
     {
         self.rendering.options()
     }
 
     /// So narrow, in columns, may text be wrapped.
     pub fn narrowest_wrap(&self) -> usize
-        ensures { result ≡ (page_setting D.held D.sub self.now).rendering.min_wrap }
+        ensures { result ≡ (page_setting D.view self.now).rendering.min_wrap }
     {
         self.rendering.narrowest_wrap()
     }
 
     /// Further rules of style, behind all that stand. The error is allocation failure.
     pub fn style_rules(self, rules: Vec<StyleRule>) -> Result<Config<D>, Error>
-        ensures setting { IfOk result (λ c. page_setting D.held D.sub c ≡ record (page_setting D.held D.sub self) {
-          rules = (page_setting D.held D.sub self).rules ++ rules.items;
+        ensures setting { IfOk result (λ c. page_setting D.view c ≡ record (page_setting D.view self) {
+          rules = (page_setting D.view self).rules ++ rules.items;
         }) }
         ensures bytes { IfOk result (λ c. max_bytes_of c ≡ max_bytes_of self) }
         ensures memory { IfErr result (λ e. e ≡ errors.Memory) }
@@ -299,8 +299,8 @@ impl<D: TextDecorator + Drop> Config<D> {
 
     /// Named references are those of this table.
     pub fn table(self, table: ReferenceTable) -> Config<D>
-        ensures setting { page_setting D.held D.sub result
-            ≡ record (page_setting D.held D.sub self) { table = table } }
+        ensures setting { page_setting D.view result
+            ≡ record (page_setting D.view self) { table = table } }
         ensures bytes { max_bytes_of result ≡ max_bytes_of self }
     {
         Config { table, ..self }
@@ -308,8 +308,8 @@ impl<D: TextDecorator + Drop> Config<D> {
 
     /// Pages are parsed so.
     pub fn parse_opts(self, parsing: ParseOpts) -> Config<D>
-        ensures setting { page_setting D.held D.sub result
-            ≡ record (page_setting D.held D.sub self) { parsing = parsing } }
+        ensures setting { page_setting D.view result
+            ≡ record (page_setting D.view self) { parsing = parsing } }
         ensures bytes { max_bytes_of result ≡ max_bytes_of self }
     {
         Config { parsing, ..self }
@@ -317,12 +317,12 @@ impl<D: TextDecorator + Drop> Config<D> {
 
     /// The render tree of a page. The error is `Fail` exactly where the page has none, else allocation failure.
     pub fn dom_to_render_tree(&self, alloc: Global, dom: &RcDom) -> Result<RenderTree, Error>
-        ensures tree { IfOk result
-            (λ tree. tree ≡ document_values (page_setting D.held D.sub self.now).rules dom.now.forest) }
+        ensures tree { IfOk result (λ tree. tree
+            ≡ document_values (page_setting D.view self.now).rules dom.now.forest) }
         ensures some { IfOk result (λ tree. tree ≢ none) }
         ensures numbered { IfOk result (λ tree. AreNumbered tree) }
-        ensures fail { result ≡ Err errors.Fail
-            → document_values (page_setting D.held D.sub self.now).rules dom.now.forest ≡ none }
+        ensures fail { result ≡ Err errors.Fail → document_values (page_setting D.view self.now).rules dom.now.forest
+            ≡ none }
         ensures kinds { IfErr result (λ e. (e ≡ errors.Fail) ⊎ (e ≡ errors.Memory)) }
     {
         Ok(self.rendering.dom_to_render_tree(alloc, dom)?)
@@ -336,21 +336,20 @@ impl<D: TextDecorator + Drop> Config<D> {
         tree: RenderTree,
         width: usize,
     ) -> Result<Vec<TaggedLine<Vec<D::Annotation>>>, Error>
-        ensures lines { IfOk result (λ lines. (tag : _) → IsTagging D.Annotation.seen D.gives tag
-            → page_lines (marking D.text tag D.marks D.after D.pops D.sub) D.Annotation.seen D.closes
-            (page_setting D.held D.sub self.now).rendering width tree
+        ensures lines { IfOk result (λ lines. (tag : _) → IsTagging D.Annotation.seen D.view tag → page_lines
+            (marking D.view tag) D.Annotation.seen D.view.closes (page_setting D.view self.now).rendering width tree
             ≡ Some (map (line_items (tags_seen D.Annotation.seen)) lines.items)) }
         ensures wide { IfOk result (λ lines. 0 < width) }
-        ensures narrow { result ≡ Err errors.TooNarrow → (width ≡ 0) ⊎ ((tag : _)
-            → IsTagging D.Annotation.seen D.gives tag → page_lines (marking D.text tag D.marks D.after D.pops D.sub)
-            D.Annotation.seen D.closes (page_setting D.held D.sub self.now).rendering width tree ≡ None) }
-        ensures within { IfOk result (λ lines. (tag : _) → IsTagging D.Annotation.seen D.gives tag → IsSteady D.text
-            → AreNumbered tree → (page_setting D.held D.sub self.now).rendering.options.allow_width_overflow ≡ false
-            → (page_setting D.held D.sub self.now).rendering.options.wrap_links ≡ true → 2 ≤ width
-            → AreWithin width (map (line_items (tags_seen D.Annotation.seen)) lines.items)) }
-        ensures roomy { (tag : _) → IsTagging D.Annotation.seen D.gives tag
-            → (page_setting D.held D.sub self.now).rendering.options.allow_width_overflow ≡ true → 0 < width
-            → result ≢ Err errors.TooNarrow }
+        ensures narrow { result ≡ Err errors.TooNarrow → (width ≡ 0) ⊎ ((tag : _) → IsTagging D.Annotation.seen D.view
+            tag → page_lines (marking D.view tag) D.Annotation.seen D.view.closes
+            (page_setting D.view self.now).rendering width tree ≡ None) }
+        ensures within { IfOk result (λ lines. (tag : _) → IsTagging D.Annotation.seen D.view tag → IsSteady
+            D.view.text → AreNumbered tree → (page_setting D.view self.now).rendering.options.allow_width_overflow
+            ≡ false → (page_setting D.view self.now).rendering.options.wrap_links ≡ true → 2 ≤ width → AreWithin width
+            (map (line_items (tags_seen D.Annotation.seen)) lines.items)) }
+        ensures roomy { (tag : _) → IsTagging D.Annotation.seen D.view tag
+            → (page_setting D.view self.now).rendering.options.allow_width_overflow ≡ true → 0 < width → result ≢ Err
+            errors.TooNarrow }
         ensures kinds { IfErr result (λ e. (e ≡ errors.TooNarrow) ⊎ (e ≡ errors.Memory)) }
     {
         Ok(self.rendering.render_to_lines(alloc, tree, width)?)
@@ -363,21 +362,20 @@ impl<D: TextDecorator + Drop> Config<D> {
         tree: RenderTree,
         width: usize,
     ) -> Result<String, Error>
-        ensures text { IfOk result (λ text. (tag : _) → IsTagging D.Annotation.seen D.gives tag
-            → page_text (marking D.text tag D.marks D.after D.pops D.sub) D.Annotation.seen D.closes
-            (page_setting D.held D.sub self.now).rendering width tree
+        ensures text { IfOk result (λ text. (tag : _) → IsTagging D.Annotation.seen D.view tag → page_text
+            (marking D.view tag) D.Annotation.seen D.view.closes (page_setting D.view self.now).rendering width tree
             ≡ Some (chars (string_bytes text))) }
         ensures wide { IfOk result (λ text. 0 < width) }
-        ensures narrow { result ≡ Err errors.TooNarrow → (width ≡ 0) ⊎ ((tag : _)
-            → IsTagging D.Annotation.seen D.gives tag → page_lines (marking D.text tag D.marks D.after D.pops D.sub)
-            D.Annotation.seen D.closes (page_setting D.held D.sub self.now).rendering width tree ≡ None) }
-        ensures within { IfOk result (λ text. (tag : _) → IsTagging D.Annotation.seen D.gives tag → IsSteady D.text
-            → AreNumbered tree → (page_setting D.held D.sub self.now).rendering.options.allow_width_overflow ≡ false
-            → (page_setting D.held D.sub self.now).rendering.options.wrap_links ≡ true → 2 ≤ width
-            → IsTextWithin width (chars (string_bytes text))) }
-        ensures roomy { (tag : _) → IsTagging D.Annotation.seen D.gives tag
-            → (page_setting D.held D.sub self.now).rendering.options.allow_width_overflow ≡ true → 0 < width
-            → result ≢ Err errors.TooNarrow }
+        ensures narrow { result ≡ Err errors.TooNarrow → (width ≡ 0) ⊎ ((tag : _) → IsTagging D.Annotation.seen D.view
+            tag → page_lines (marking D.view tag) D.Annotation.seen D.view.closes
+            (page_setting D.view self.now).rendering width tree ≡ None) }
+        ensures within { IfOk result (λ text. (tag : _) → IsTagging D.Annotation.seen D.view tag → IsSteady D.view.text
+            → AreNumbered tree → (page_setting D.view self.now).rendering.options.allow_width_overflow ≡ false
+            → (page_setting D.view self.now).rendering.options.wrap_links ≡ true → 2 ≤ width → IsTextWithin width
+            (chars (string_bytes text))) }
+        ensures roomy { (tag : _) → IsTagging D.Annotation.seen D.view tag
+            → (page_setting D.view self.now).rendering.options.allow_width_overflow ≡ true → 0 < width → result ≢ Err
+            errors.TooNarrow }
         ensures kinds { IfErr result (λ e. (e ≡ errors.TooNarrow) ⊎ (e ≡ errors.Memory)) }
     {
         Ok(self.rendering.render_to_string(alloc, tree, width)?)

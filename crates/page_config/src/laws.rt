@@ -20,10 +20,9 @@ use text_marks::TextDecorator;
 /// cut, the lines are equal, and lines, a width that is too narrow, and nothing to render exclude one another.
 pub fn a_page_has_one_answer<D: TextDecorator>()
     ensures { (tag : D.Held → Mark → D.Annotation.Seen) (c : PageSetting D.Held) (width : ℕ) (bytes : List ℕ)
-        (one other : PageAnswer D.Annotation.Seen)
-        → HasAnswer (marking D.text tag D.marks D.after D.pops D.sub) D.Annotation.seen D.closes c width bytes one
-        → HasAnswer (marking D.text tag D.marks D.after D.pops D.sub) D.Annotation.seen D.closes c width bytes other
-        → one ≡ other }
+        (one other : PageAnswer D.Annotation.Seen) → HasAnswer (marking D.view tag) D.Annotation.seen D.view.closes c
+        width bytes one → HasAnswer (marking D.view tag) D.Annotation.seen D.view.closes c width bytes other → one
+        ≡ other }
 {
     a_page_has_one_tree_of_bytes();
 }
@@ -31,8 +30,8 @@ pub fn a_page_has_one_answer<D: TextDecorator>()
 /// And it has one: lines, that the width is too narrow, or that there is nothing to render.
 pub fn a_page_has_an_answer<D: TextDecorator>()
     ensures { (tag : D.Held → Mark → D.Annotation.Seen) (c : PageSetting D.Held) (width : ℕ) (bytes : List ℕ)
-        → (answer : PageAnswer D.Annotation.Seen)
-        × HasAnswer (marking D.text tag D.marks D.after D.pops D.sub) D.Annotation.seen D.closes c width bytes answer }
+        → (answer : PageAnswer D.Annotation.Seen) × HasAnswer (marking D.view tag) D.Annotation.seen D.view.closes c
+        width bytes answer }
 {
     a_page_has_a_tree_of_bytes();
 }
@@ -40,9 +39,8 @@ pub fn a_page_has_an_answer<D: TextDecorator>()
 /// And one text.
 pub fn a_page_has_one_text<D: TextDecorator>()
     ensures { (tag : D.Held → Mark → D.Annotation.Seen) (c : PageSetting D.Held) (width : ℕ) (bytes one other : List ℕ)
-        → HasText (marking D.text tag D.marks D.after D.pops D.sub) D.Annotation.seen D.closes c width bytes one
-        → HasText (marking D.text tag D.marks D.after D.pops D.sub) D.Annotation.seen D.closes c width bytes other
-        → one ≡ other }
+        → HasText (marking D.view tag) D.Annotation.seen D.view.closes c width bytes one → HasText (marking D.view tag)
+        D.Annotation.seen D.view.closes c width bytes other → one ≡ other }
 {
     a_page_has_one_tree_of_bytes();
 }
@@ -68,10 +66,10 @@ pub fn a_page_has_one_plain_text()
 /// are wrapped: targets after the page among them.
 pub fn a_page_keeps_its_width<D: TextDecorator>()
     ensures { (tag : D.Held → Mark → D.Annotation.Seen) (c : PageSetting D.Held) (width : ℕ) (bytes : List ℕ)
-        (shown : List (List (Item (List D.Annotation.Seen)))) → IsSteady D.text
+        (shown : List (List (Item (List D.Annotation.Seen)))) → IsSteady D.view.text
         → c.rendering.options.allow_width_overflow ≡ false → c.rendering.options.wrap_links ≡ true → 2 ≤ width
-        → HasAnswer (marking D.text tag D.marks D.after D.pops D.sub) D.Annotation.seen D.closes c width bytes
-        (lines shown) → AreWithin width shown }
+        → HasAnswer (marking D.view tag) D.Annotation.seen D.view.closes c width bytes (lines shown) → AreWithin width
+        shown }
 {
     pages_are_numbered();
     pages_keep_the_width::<D>();
@@ -80,9 +78,8 @@ pub fn a_page_keeps_its_width<D: TextDecorator>()
 /// So does no line of a page's text.
 pub fn a_text_keeps_its_width<D: TextDecorator>()
     ensures { (tag : D.Held → Mark → D.Annotation.Seen) (c : PageSetting D.Held) (width : ℕ) (bytes text : List ℕ)
-        → IsSteady D.text → c.rendering.options.allow_width_overflow ≡ false
-        → c.rendering.options.wrap_links ≡ true → 2 ≤ width
-        → HasText (marking D.text tag D.marks D.after D.pops D.sub) D.Annotation.seen D.closes c width bytes text
+        → IsSteady D.view.text → c.rendering.options.allow_width_overflow ≡ false → c.rendering.options.wrap_links
+        ≡ true → 2 ≤ width → HasText (marking D.view tag) D.Annotation.seen D.view.closes c width bytes text
         → IsTextWithin width text }
 {
     pages_are_numbered();
@@ -100,9 +97,8 @@ pub fn a_plain_text_keeps_its_width()
 /// Where parts may pass the width, no width but 0 is too narrow for a page.
 pub fn a_page_with_room_is_never_too_narrow<D: TextDecorator>()
     ensures { (tag : D.Held → Mark → D.Annotation.Seen) (c : PageSetting D.Held) (width : ℕ) (bytes : List ℕ)
-        → c.rendering.options.allow_width_overflow ≡ true → 0 < width
-        → HasAnswer (marking D.text tag D.marks D.after D.pops D.sub) D.Annotation.seen D.closes c width bytes
-        too_narrow → ⊥ }
+        → c.rendering.options.allow_width_overflow ≡ true → 0 < width → HasAnswer (marking D.view tag)
+        D.Annotation.seen D.view.closes c width bytes too_narrow → ⊥ }
 {
     pages_with_room_are_never_too_narrow::<D>();
 }

@@ -38,9 +38,9 @@ impl Page {
 
     /// A page of which nothing has come. The error is allocation failure.
     pub fn new<D: TextDecorator + Drop>(alloc: Global, config: &Config<D>) -> Result<Page, Error>
-        ensures begins { IfOk result (λ page. (bytes : List ℕ) (forest : Forest) (quirks : Quirks) →
-            Comes page bytes forest quirks → IsTreeOfBytes (page_setting D.held D.sub config.now).table
-            (page_setting D.held D.sub config.now).parsing bytes forest quirks) }
+        ensures begins { IfOk result (λ page. (bytes : List ℕ) (forest : Forest) (quirks : Quirks) → Comes page bytes
+            forest quirks → IsTreeOfBytes (page_setting D.view config.now).table
+            (page_setting D.view config.now).parsing bytes forest quirks) }
         ensures works { IfOk result (λ page. page.has_failed ≡ false) }
         ensures left { IfOk result (λ page. page.left ≡ max_bytes_of config.now) }
         ensures memory { IfErr result (λ e. e ≡ Memory) }

@@ -74,16 +74,13 @@ pub fn from_read_with_decorator<R: ByteReader, D: TextDecorator + Drop>(
     decorator: D,
     table: ReferenceTable,
 ) -> Result<String, Error>
-    ensures text { IfOk result (λ text. IfSome (R.remaining input.old) (λ bytes.
-        IsTold D.Annotation.seen D.text D.gives D.marks D.after D.pops D.sub D.closes
-        (by_default table (D.sub (D.held decorator))) width bytes (chars (string_bytes text)))) }
-    ensures narrow { result ≡ Err Error.TooNarrow → IfSome (R.remaining input.old) (λ bytes.
-        Answers D.Annotation.seen D.text D.gives D.marks D.after D.pops D.sub D.closes
-        (by_default table (D.sub (D.held decorator))) width bytes too_narrow) }
-    ensures fail { result ≡ Err Error.Fail → IfSome (R.remaining input.old) (λ bytes.
-        Answers D.Annotation.seen D.text D.gives D.marks D.after D.pops D.sub D.closes
-        (by_default table (D.sub (D.held decorator))) width bytes fail) }
-    ensures within { IfOk result (λ text. (tag : _) → IsTagging D.Annotation.seen D.gives tag → IsSteady D.text
+    ensures text { IfOk result (λ text. IfSome (R.remaining input.old) (λ bytes. IsTold D.Annotation.seen D.view
+        (by_default table (D.view.sub (D.view.held decorator))) width bytes (chars (string_bytes text)))) }
+    ensures narrow { result ≡ Err Error.TooNarrow → IfSome (R.remaining input.old) (λ bytes. Answers D.Annotation.seen
+        D.view (by_default table (D.view.sub (D.view.held decorator))) width bytes too_narrow) }
+    ensures fail { result ≡ Err Error.Fail → IfSome (R.remaining input.old) (λ bytes. Answers D.Annotation.seen D.view
+        (by_default table (D.view.sub (D.view.held decorator))) width bytes fail) }
+    ensures within { IfOk result (λ text. (tag : _) → IsTagging D.Annotation.seen D.view tag → IsSteady D.view.text
         → 2 ≤ width → IsTextWithin width (chars (string_bytes text))) }
     ensures io { result ≡ Err Error.IoError → R.has_failed input.new ≡ true }
     ensures stays { R.has_failed input.old ≡ true → R.has_failed input.new ≡ true }

@@ -31,8 +31,8 @@ impl<D: TextDecorator + Drop> Config<D> {
     /// more than the page may have at most. The error is `IoError` where the reader failed, `TooLong` where more bytes
     /// came than it may have, and else allocation failure.
     pub fn parse_html<R: ByteReader>(&self, alloc: Global, input: &mut R) -> Result<RcDom, Error>
-        ensures tree { IfOk result (λ dom. IfSome (R.remaining input.old) (λ bytes.
-            IsTreeOfBytes (page_setting D.held D.sub self.now).table (page_setting D.held D.sub self.now).parsing bytes
+        ensures tree { IfOk result (λ dom. IfSome (R.remaining input.old)
+            (λ bytes. IsTreeOfBytes (page_setting D.view self.now).table (page_setting D.view self.now).parsing bytes
             dom.forest dom.quirks)) }
         ensures kinds { IfErr result (λ e. (e ≡ errors.IoError) ⊎ (e ≡ errors.TooLong) ⊎ (e ≡ errors.Memory)) }
         ensures short { OnOk result (IfSome (R.remaining input.old) (λ bytes. length bytes ≤ max_bytes_of self.now)) }
@@ -56,14 +56,13 @@ impl<D: TextDecorator + Drop> Config<D> {
         alloc: Global,
         input: &mut R,
     ) -> Result<(RenderConfig<D>, RenderTree), Error>
-        ensures rendering { IfOk result (λ read. setting_of D.held D.sub read.0
-            ≡ (page_setting D.held D.sub self).rendering) }
+        ensures rendering { IfOk result (λ read. setting_of D.view read.0 ≡ (page_setting D.view self).rendering) }
         ensures tree { IfOk result (λ read. IfSome (R.remaining input.old)
-            (λ bytes. ArePageValues (page_setting D.held D.sub self) bytes read.1)) }
+            (λ bytes. ArePageValues (page_setting D.view self) bytes read.1)) }
         ensures some { IfOk result (λ read. read.1 ≢ none) }
         ensures numbered { IfOk result (λ read. AreNumbered read.1) }
         ensures fail { result ≡ Err errors.Fail → IfSome (R.remaining input.old)
-            (λ bytes. ArePageValues (page_setting D.held D.sub self) bytes none) }
+            (λ bytes. ArePageValues (page_setting D.view self) bytes none) }
         ensures kinds { result ≢ Err errors.TooNarrow }
         ensures short { IsAnswer result → IfSome (R.remaining input.old) (λ bytes. length bytes ≤ max_bytes_of self) }
         ensures at_most { R.count input.new ≤ R.count input.old + max_bytes_of self + 1 }
@@ -97,24 +96,21 @@ impl<D: TextDecorator + Drop> Config<D> {
         input: &mut R,
         width: usize,
     ) -> Result<Vec<TaggedLine<Vec<D::Annotation>>>, Error>
-        ensures lines { IfOk result (λ shown. IfSome (R.remaining input.old) (λ bytes.
-            Answers D.Annotation.seen D.text D.gives D.marks D.after D.pops D.sub D.closes
-            (page_setting D.held D.sub self) width bytes
-            (lines (map (line_items (tags_seen D.Annotation.seen)) shown.items)))) }
-        ensures narrow { result ≡ Err Error.TooNarrow → IfSome (R.remaining input.old) (λ bytes.
-            Answers D.Annotation.seen D.text D.gives D.marks D.after D.pops D.sub D.closes
-            (page_setting D.held D.sub self) width bytes too_narrow) }
-        ensures fail { result ≡ Err Error.Fail → IfSome (R.remaining input.old) (λ bytes.
-            Answers D.Annotation.seen D.text D.gives D.marks D.after D.pops D.sub D.closes
-            (page_setting D.held D.sub self) width bytes fail) }
+        ensures lines { IfOk result (λ shown. IfSome (R.remaining input.old) (λ bytes. Answers D.Annotation.seen D.view
+            (page_setting D.view self) width bytes (lines (map (line_items (tags_seen D.Annotation.seen))
+            shown.items)))) }
+        ensures narrow { result ≡ Err Error.TooNarrow → IfSome (R.remaining input.old)
+            (λ bytes. Answers D.Annotation.seen D.view (page_setting D.view self) width bytes too_narrow) }
+        ensures fail { result ≡ Err Error.Fail → IfSome (R.remaining input.old) (λ bytes. Answers D.Annotation.seen
+            D.view (page_setting D.view self) width bytes fail) }
         // No line passes the width, where no part may and prefixes are steady; where parts may, no width is too narrow.
-        ensures within { IfOk result (λ shown. (tag : _) → IsTagging D.Annotation.seen D.gives tag → IsSteady D.text
-            → (page_setting D.held D.sub self).rendering.options.allow_width_overflow ≡ false
-            → (page_setting D.held D.sub self).rendering.options.wrap_links ≡ true → 2 ≤ width
-            → AreWithin width (map (line_items (tags_seen D.Annotation.seen)) shown.items)) }
-        ensures roomy { (tag : _) → IsTagging D.Annotation.seen D.gives tag
-            → (page_setting D.held D.sub self).rendering.options.allow_width_overflow ≡ true → 0 < width
-            → result ≢ Err Error.TooNarrow }
+        ensures within { IfOk result (λ shown. (tag : _) → IsTagging D.Annotation.seen D.view tag → IsSteady
+            D.view.text → (page_setting D.view self).rendering.options.allow_width_overflow ≡ false
+            → (page_setting D.view self).rendering.options.wrap_links ≡ true → 2 ≤ width → AreWithin width
+            (map (line_items (tags_seen D.Annotation.seen)) shown.items)) }
+        ensures roomy { (tag : _) → IsTagging D.Annotation.seen D.view tag
+            → (page_setting D.view self).rendering.options.allow_width_overflow ≡ true → 0 < width → result ≢ Err
+            Error.TooNarrow }
         ensures short { IsAnswer result → IfSome (R.remaining input.old) (λ bytes. length bytes ≤ max_bytes_of self) }
         ensures at_most { R.count input.new ≤ R.count input.old + max_bytes_of self + 1 }
         ensures io { result ≡ Err Error.IoError → R.has_failed input.new ≡ true }
@@ -137,23 +133,20 @@ impl<D: TextDecorator + Drop> Config<D> {
         input: &mut R,
         width: usize,
     ) -> Result<Vec<TaggedLine<Vec<D::Annotation>>>, Error>
-        ensures text { IfOk result (λ shown. IfSome (R.remaining input.old) (λ bytes.
-            IsTold D.Annotation.seen D.text D.gives D.marks D.after D.pops D.sub D.closes
-            (page_setting D.held D.sub self) width bytes
-            (lines_text (map (line_items (tags_seen D.Annotation.seen)) shown.items)))) }
-        ensures narrow { result ≡ Err Error.TooNarrow → IfSome (R.remaining input.old) (λ bytes.
-            Answers D.Annotation.seen D.text D.gives D.marks D.after D.pops D.sub D.closes
-            (page_setting D.held D.sub self) width bytes too_narrow) }
-        ensures fail { result ≡ Err Error.Fail → IfSome (R.remaining input.old) (λ bytes.
-            Answers D.Annotation.seen D.text D.gives D.marks D.after D.pops D.sub D.closes
-            (page_setting D.held D.sub self) width bytes fail) }
-        ensures within { IfOk result (λ shown. (tag : _) → IsTagging D.Annotation.seen D.gives tag → IsSteady D.text
-            → (page_setting D.held D.sub self).rendering.options.allow_width_overflow ≡ false
-            → (page_setting D.held D.sub self).rendering.options.wrap_links ≡ true → 2 ≤ width
-            → IsTextWithin width (lines_text (map (line_items (tags_seen D.Annotation.seen)) shown.items))) }
-        ensures roomy { (tag : _) → IsTagging D.Annotation.seen D.gives tag
-            → (page_setting D.held D.sub self).rendering.options.allow_width_overflow ≡ true → 0 < width
-            → result ≢ Err Error.TooNarrow }
+        ensures text { IfOk result (λ shown. IfSome (R.remaining input.old) (λ bytes. IsTold D.Annotation.seen D.view
+            (page_setting D.view self) width bytes (lines_text (map (line_items (tags_seen D.Annotation.seen))
+            shown.items)))) }
+        ensures narrow { result ≡ Err Error.TooNarrow → IfSome (R.remaining input.old)
+            (λ bytes. Answers D.Annotation.seen D.view (page_setting D.view self) width bytes too_narrow) }
+        ensures fail { result ≡ Err Error.Fail → IfSome (R.remaining input.old) (λ bytes. Answers D.Annotation.seen
+            D.view (page_setting D.view self) width bytes fail) }
+        ensures within { IfOk result (λ shown. (tag : _) → IsTagging D.Annotation.seen D.view tag → IsSteady
+            D.view.text → (page_setting D.view self).rendering.options.allow_width_overflow ≡ false
+            → (page_setting D.view self).rendering.options.wrap_links ≡ true → 2 ≤ width → IsTextWithin width
+            (lines_text (map (line_items (tags_seen D.Annotation.seen)) shown.items))) }
+        ensures roomy { (tag : _) → IsTagging D.Annotation.seen D.view tag
+            → (page_setting D.view self).rendering.options.allow_width_overflow ≡ true → 0 < width → result ≢ Err
+            Error.TooNarrow }
         ensures short { IsAnswer result → IfSome (R.remaining input.old) (λ bytes. length bytes ≤ max_bytes_of self) }
         ensures at_most { R.count input.new ≤ R.count input.old + max_bytes_of self + 1 }
         ensures io { result ≡ Err Error.IoError → R.has_failed input.new ≡ true }
@@ -175,22 +168,19 @@ impl<D: TextDecorator + Drop> Config<D> {
         input: &mut R,
         width: usize,
     ) -> Result<String, Error>
-        ensures text { IfOk result (λ text. IfSome (R.remaining input.old) (λ bytes.
-            IsTold D.Annotation.seen D.text D.gives D.marks D.after D.pops D.sub D.closes
-            (page_setting D.held D.sub self) width bytes (chars (string_bytes text)))) }
-        ensures narrow { result ≡ Err Error.TooNarrow → IfSome (R.remaining input.old) (λ bytes.
-            Answers D.Annotation.seen D.text D.gives D.marks D.after D.pops D.sub D.closes
-            (page_setting D.held D.sub self) width bytes too_narrow) }
-        ensures fail { result ≡ Err Error.Fail → IfSome (R.remaining input.old) (λ bytes.
-            Answers D.Annotation.seen D.text D.gives D.marks D.after D.pops D.sub D.closes
-            (page_setting D.held D.sub self) width bytes fail) }
-        ensures within { IfOk result (λ text. (tag : _) → IsTagging D.Annotation.seen D.gives tag → IsSteady D.text
-            → (page_setting D.held D.sub self).rendering.options.allow_width_overflow ≡ false
-            → (page_setting D.held D.sub self).rendering.options.wrap_links ≡ true → 2 ≤ width
-            → IsTextWithin width (chars (string_bytes text))) }
-        ensures roomy { (tag : _) → IsTagging D.Annotation.seen D.gives tag
-            → (page_setting D.held D.sub self).rendering.options.allow_width_overflow ≡ true → 0 < width
-            → result ≢ Err Error.TooNarrow }
+        ensures text { IfOk result (λ text. IfSome (R.remaining input.old) (λ bytes. IsTold D.Annotation.seen D.view
+            (page_setting D.view self) width bytes (chars (string_bytes text)))) }
+        ensures narrow { result ≡ Err Error.TooNarrow → IfSome (R.remaining input.old)
+            (λ bytes. Answers D.Annotation.seen D.view (page_setting D.view self) width bytes too_narrow) }
+        ensures fail { result ≡ Err Error.Fail → IfSome (R.remaining input.old) (λ bytes. Answers D.Annotation.seen
+            D.view (page_setting D.view self) width bytes fail) }
+        ensures within { IfOk result (λ text. (tag : _) → IsTagging D.Annotation.seen D.view tag → IsSteady D.view.text
+            → (page_setting D.view self).rendering.options.allow_width_overflow ≡ false
+            → (page_setting D.view self).rendering.options.wrap_links ≡ true → 2 ≤ width → IsTextWithin width
+            (chars (string_bytes text))) }
+        ensures roomy { (tag : _) → IsTagging D.Annotation.seen D.view tag
+            → (page_setting D.view self).rendering.options.allow_width_overflow ≡ true → 0 < width → result ≢ Err
+            Error.TooNarrow }
         ensures short { IsAnswer result → IfSome (R.remaining input.old) (λ bytes. length bytes ≤ max_bytes_of self) }
         ensures at_most { R.count input.new ≤ R.count input.old + max_bytes_of self + 1 }
         ensures io { result ≡ Err Error.IoError → R.has_failed input.new ≡ true }

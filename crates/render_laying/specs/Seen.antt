@@ -2,7 +2,7 @@
 use Rattle.std.specs.Prelude.{◌≡◌, ℕ, Bool, false, List, [], Option, None, Some, Vec, drop, map}
 use Rattle.std.specs.Global.{Global}
 use Rattle.std.specs.Option.{option_map}
-use Rattle.text_marks.specs.Marks.{Mark}
+use Rattle.text_marks.specs.Marks.{DecoratorView, Mark}
 use Rattle.block_renderer.specs.Seen.{IsTagging, marking, sub_of}
 use Rattle.block_renderer.specs.declared.sub_renderer.SubRenderer.{SubRenderer}
 use Rattle.renderer_calls.specs.Renderers.{Marking, Sub}
@@ -42,15 +42,13 @@ IsWorking seen held l = (page_has_failed l.text ≡ false)
     × ((current_has_failed l.text ≡ false) × ((parts_of seen held l.text).below ≡ []))
 
 -- However the decorator's annotations are seen, a step leads from one to the other.
-abbrev pub Comes : {D T H A : Type 0} → (T → A) → (D → H) → (H → Mark → List ℕ) → (H → Mark → T → Type 0)
-    → (H → Mark → Bool) → (H → Mark → H) → (H → Mark → Bool) → (H → H)
+abbrev pub Comes : {D T H A : Type 0} → (T → A) → DecoratorView D H T
     → (Marking H A → Step H A) → CodeLaying D T → CodeLaying D T → Type 0
-Comes seen held text gives marks after pops sub does old new = (tag : _) → IsTagging seen gives tag
-    → does (marking text tag marks after pops sub) (laying_of seen held old) ≡ Some (laying_of seen held new)
+Comes seen view does old new = (tag : _) → IsTagging seen view tag
+    → does (marking view tag) (laying_of seen view.held old) ≡ Some (laying_of seen view.held new)
 
 -- However they are seen, it has no result.
-abbrev pub Fails : {D T H A : Type 0} → (T → A) → (D → H) → (H → Mark → List ℕ) → (H → Mark → T → Type 0)
-    → (H → Mark → Bool) → (H → Mark → H) → (H → Mark → Bool) → (H → H)
+abbrev pub Fails : {D T H A : Type 0} → (T → A) → DecoratorView D H T
     → (Marking H A → Step H A) → CodeLaying D T → Type 0
-Fails seen held text gives marks after pops sub does old = (tag : _) → IsTagging seen gives tag
-    → does (marking text tag marks after pops sub) (laying_of seen held old) ≡ None
+Fails seen view does old = (tag : _) → IsTagging seen view tag
+    → does (marking view tag) (laying_of seen view.held old) ≡ None

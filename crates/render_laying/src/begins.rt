@@ -36,12 +36,11 @@ impl<D: TextDecorator + Drop> Laying<D> {
     /// Before what stands in a value.
     #[tactic(auto, unfolding(crate::specs::Begins::begins))]
     pub fn begin(&mut self, info: &RenderInfo) -> Result<(), BlockError>
-        requires { IsWorking D.Annotation.seen D.held self.old }
-        ensures done { OnOk result (Comes D.Annotation.seen D.held D.text D.gives D.marks D.after D.pops D.sub
-            (λ m. begins m info.now) self.old self.new) }
-        ensures works { OnOk result (IsWorking D.Annotation.seen D.held self.new) }
-        ensures narrow { result ≡ Err errors.TooNarrow → Fails D.Annotation.seen D.held D.text D.gives D.marks D.after
-            D.pops D.sub (λ m. begins m info.now) self.old }
+        requires { IsWorking D.Annotation.seen D.view.held self.old }
+        ensures done { OnOk result (Comes D.Annotation.seen D.view (λ m. begins m info.now) self.old self.new) }
+        ensures works { OnOk result (IsWorking D.Annotation.seen D.view.held self.new) }
+        ensures narrow { result ≡ Err errors.TooNarrow → Fails D.Annotation.seen D.view (λ m. begins m info.now)
+            self.old }
         ensures kinds { IfErr result (λ e. (e ≡ errors.TooNarrow) ⊎ (e ≡ errors.Memory)) }
     {
         match info {
@@ -70,12 +69,11 @@ impl<D: TextDecorator + Drop> Laying<D> {
     /// Behind what stands in a value.
     #[tactic(auto, unfolding(crate::specs::Begins::ends))]
     pub fn end(&mut self, info: &RenderInfo) -> Result<(), BlockError>
-        requires { IsWorking D.Annotation.seen D.held self.old }
-        ensures done { OnOk result (Comes D.Annotation.seen D.held D.text D.gives D.marks D.after D.pops D.sub
-            (λ m. ends m info.now) self.old self.new) }
-        ensures works { OnOk result (IsWorking D.Annotation.seen D.held self.new) }
-        ensures narrow { result ≡ Err errors.TooNarrow → Fails D.Annotation.seen D.held D.text D.gives D.marks D.after
-            D.pops D.sub (λ m. ends m info.now) self.old }
+        requires { IsWorking D.Annotation.seen D.view.held self.old }
+        ensures done { OnOk result (Comes D.Annotation.seen D.view (λ m. ends m info.now) self.old self.new) }
+        ensures works { OnOk result (IsWorking D.Annotation.seen D.view.held self.new) }
+        ensures narrow { result ≡ Err errors.TooNarrow
+            → Fails D.Annotation.seen D.view (λ m. ends m info.now) self.old }
         ensures kinds { IfErr result (λ e. (e ≡ errors.TooNarrow) ⊎ (e ≡ errors.Memory)) }
     {
         match info {
@@ -96,12 +94,12 @@ impl<D: TextDecorator + Drop> Laying<D> {
     }
 
     pub fn begin_preformatted(&mut self) -> Result<(), BlockError>
-        requires { IsWorking D.Annotation.seen D.held self.old }
-        ensures done { OnOk result (Comes D.Annotation.seen D.held D.text D.gives D.marks D.after D.pops D.sub
-            (λ m. in_turn (says m starts_block) (says m starts_preformat)) self.old self.new) }
-        ensures works { OnOk result (IsWorking D.Annotation.seen D.held self.new) }
-        ensures narrow { result ≡ Err errors.TooNarrow → Fails D.Annotation.seen D.held D.text D.gives D.marks D.after
-            D.pops D.sub (λ m. in_turn (says m starts_block) (says m starts_preformat)) self.old }
+        requires { IsWorking D.Annotation.seen D.view.held self.old }
+        ensures done { OnOk result (Comes D.Annotation.seen D.view (λ m. in_turn (says m starts_block)
+            (says m starts_preformat)) self.old self.new) }
+        ensures works { OnOk result (IsWorking D.Annotation.seen D.view.held self.new) }
+        ensures narrow { result ≡ Err errors.TooNarrow → Fails D.Annotation.seen D.view
+            (λ m. in_turn (says m starts_block) (says m starts_preformat)) self.old }
         ensures kinds { IfErr result (λ e. (e ≡ errors.TooNarrow) ⊎ (e ≡ errors.Memory)) }
     {
         self.start_block()?;
@@ -109,12 +107,12 @@ impl<D: TextDecorator + Drop> Laying<D> {
     }
 
     pub fn begin_term(&mut self) -> Result<(), BlockError>
-        requires { IsWorking D.Annotation.seen D.held self.old }
-        ensures done { OnOk result (Comes D.Annotation.seen D.held D.text D.gives D.marks D.after D.pops D.sub
+        requires { IsWorking D.Annotation.seen D.view.held self.old }
+        ensures done { OnOk result (Comes D.Annotation.seen D.view
             (λ m. in_turn (says m ends_line) (says m (starts_mark emphasis_start))) self.old self.new) }
-        ensures works { OnOk result (IsWorking D.Annotation.seen D.held self.new) }
-        ensures narrow { result ≡ Err errors.TooNarrow → Fails D.Annotation.seen D.held D.text D.gives D.marks D.after
-            D.pops D.sub (λ m. in_turn (says m ends_line) (says m (starts_mark emphasis_start))) self.old }
+        ensures works { OnOk result (IsWorking D.Annotation.seen D.view.held self.new) }
+        ensures narrow { result ≡ Err errors.TooNarrow → Fails D.Annotation.seen D.view
+            (λ m. in_turn (says m ends_line) (says m (starts_mark emphasis_start))) self.old }
         ensures kinds { IfErr result (λ e. (e ≡ errors.TooNarrow) ⊎ (e ≡ errors.Memory)) }
     {
         self.end_line()?;
@@ -122,12 +120,12 @@ impl<D: TextDecorator + Drop> Laying<D> {
     }
 
     pub fn end_preformatted(&mut self) -> Result<(), BlockError>
-        requires { IsWorking D.Annotation.seen D.held self.old }
-        ensures done { OnOk result (Comes D.Annotation.seen D.held D.text D.gives D.marks D.after D.pops D.sub
-            (λ m. in_turn (says m ends_preformat) (says m ends_block)) self.old self.new) }
-        ensures works { OnOk result (IsWorking D.Annotation.seen D.held self.new) }
-        ensures narrow { result ≡ Err errors.TooNarrow → Fails D.Annotation.seen D.held D.text D.gives D.marks D.after
-            D.pops D.sub (λ m. in_turn (says m ends_preformat) (says m ends_block)) self.old }
+        requires { IsWorking D.Annotation.seen D.view.held self.old }
+        ensures done { OnOk result (Comes D.Annotation.seen D.view (λ m. in_turn (says m ends_preformat)
+            (says m ends_block)) self.old self.new) }
+        ensures works { OnOk result (IsWorking D.Annotation.seen D.view.held self.new) }
+        ensures narrow { result ≡ Err errors.TooNarrow → Fails D.Annotation.seen D.view
+            (λ m. in_turn (says m ends_preformat) (says m ends_block)) self.old }
         ensures kinds { IfErr result (λ e. (e ≡ errors.TooNarrow) ⊎ (e ≡ errors.Memory)) }
     {
         self.end_preformat();
@@ -136,12 +134,12 @@ impl<D: TextDecorator + Drop> Laying<D> {
     }
 
     pub fn end_term(&mut self) -> Result<(), BlockError>
-        requires { IsWorking D.Annotation.seen D.held self.old }
-        ensures done { OnOk result (Comes D.Annotation.seen D.held D.text D.gives D.marks D.after D.pops D.sub
-            (λ m. in_turn (says m (ends_mark emphasis_end)) (says m ends_line)) self.old self.new) }
-        ensures works { OnOk result (IsWorking D.Annotation.seen D.held self.new) }
-        ensures narrow { result ≡ Err errors.TooNarrow → Fails D.Annotation.seen D.held D.text D.gives D.marks D.after
-            D.pops D.sub (λ m. in_turn (says m (ends_mark emphasis_end)) (says m ends_line)) self.old }
+        requires { IsWorking D.Annotation.seen D.view.held self.old }
+        ensures done { OnOk result (Comes D.Annotation.seen D.view (λ m. in_turn (says m (ends_mark emphasis_end))
+            (says m ends_line)) self.old self.new) }
+        ensures works { OnOk result (IsWorking D.Annotation.seen D.view.held self.new) }
+        ensures narrow { result ≡ Err errors.TooNarrow → Fails D.Annotation.seen D.view
+            (λ m. in_turn (says m (ends_mark emphasis_end)) (says m ends_line)) self.old }
         ensures kinds { IfErr result (λ e. (e ≡ errors.TooNarrow) ⊎ (e ≡ errors.Memory)) }
     {
         self.end_emphasis()?;
@@ -149,12 +147,11 @@ impl<D: TextDecorator + Drop> Laying<D> {
     }
 
     pub fn finish_block(&mut self) -> Result<(), BlockError>
-        requires { IsWorking D.Annotation.seen D.held self.old }
-        ensures done { OnOk result (Comes D.Annotation.seen D.held D.text D.gives D.marks D.after D.pops D.sub
-            (λ m. says m ends_block) self.old self.new) }
-        ensures works { OnOk result (IsWorking D.Annotation.seen D.held self.new) }
-        ensures narrow { result ≡ Err errors.TooNarrow → Fails D.Annotation.seen D.held D.text D.gives D.marks D.after
-            D.pops D.sub (λ m. says m ends_block) self.old }
+        requires { IsWorking D.Annotation.seen D.view.held self.old }
+        ensures done { OnOk result (Comes D.Annotation.seen D.view (λ m. says m ends_block) self.old self.new) }
+        ensures works { OnOk result (IsWorking D.Annotation.seen D.view.held self.new) }
+        ensures narrow { result ≡ Err errors.TooNarrow → Fails D.Annotation.seen D.view (λ m. says m ends_block)
+            self.old }
         ensures kinds { IfErr result (λ e. (e ≡ errors.TooNarrow) ⊎ (e ≡ errors.Memory)) }
     {
         self.end_block();
@@ -162,12 +159,11 @@ impl<D: TextDecorator + Drop> Laying<D> {
     }
 
     pub fn mark(&mut self, fragment: &Option<Text>) -> Result<(), BlockError>
-        requires { IsWorking D.Annotation.seen D.held self.old }
-        ensures done { OnOk result (Comes D.Annotation.seen D.held D.text D.gives D.marks D.after D.pops D.sub
-            (λ m. named m fragment.now) self.old self.new) }
-        ensures works { OnOk result (IsWorking D.Annotation.seen D.held self.new) }
-        ensures narrow { result ≡ Err errors.TooNarrow → Fails D.Annotation.seen D.held D.text D.gives D.marks D.after
-            D.pops D.sub (λ m. named m fragment.now) self.old }
+        requires { IsWorking D.Annotation.seen D.view.held self.old }
+        ensures done { OnOk result (Comes D.Annotation.seen D.view (λ m. named m fragment.now) self.old self.new) }
+        ensures works { OnOk result (IsWorking D.Annotation.seen D.view.held self.new) }
+        ensures narrow { result ≡ Err errors.TooNarrow → Fails D.Annotation.seen D.view (λ m. named m fragment.now)
+            self.old }
         ensures kinds { IfErr result (λ e. (e ≡ errors.TooNarrow) ⊎ (e ≡ errors.Memory)) }
     {
         match fragment {
@@ -179,12 +175,11 @@ impl<D: TextDecorator + Drop> Laying<D> {
     /// The fragment that starts before a value itself.
     #[tactic(auto, unfolding(crate::specs::Begins::leading))]
     pub fn lead(&mut self, head: &Head) -> Result<(), BlockError>
-        requires { IsWorking D.Annotation.seen D.held self.old }
-        ensures done { OnOk result (Comes D.Annotation.seen D.held D.text D.gives D.marks D.after D.pops D.sub
-            (λ m. leading m head.now) self.old self.new) }
-        ensures works { OnOk result (IsWorking D.Annotation.seen D.held self.new) }
-        ensures narrow { result ≡ Err errors.TooNarrow → Fails D.Annotation.seen D.held D.text D.gives D.marks D.after
-            D.pops D.sub (λ m. leading m head.now) self.old }
+        requires { IsWorking D.Annotation.seen D.view.held self.old }
+        ensures done { OnOk result (Comes D.Annotation.seen D.view (λ m. leading m head.now) self.old self.new) }
+        ensures works { OnOk result (IsWorking D.Annotation.seen D.view.held self.new) }
+        ensures narrow { result ≡ Err errors.TooNarrow → Fails D.Annotation.seen D.view (λ m. leading m head.now)
+            self.old }
         ensures kinds { IfErr result (λ e. (e ≡ errors.TooNarrow) ⊎ (e ≡ errors.Memory)) }
     {
         if fragment_leads(&head.info) {
@@ -196,12 +191,11 @@ impl<D: TextDecorator + Drop> Laying<D> {
     /// The fragment that starts before what stands in a value.
     #[tactic(auto, unfolding(crate::specs::Begins::following))]
     pub fn follow(&mut self, head: &Head) -> Result<(), BlockError>
-        requires { IsWorking D.Annotation.seen D.held self.old }
-        ensures done { OnOk result (Comes D.Annotation.seen D.held D.text D.gives D.marks D.after D.pops D.sub
-            (λ m. following m head.now) self.old self.new) }
-        ensures works { OnOk result (IsWorking D.Annotation.seen D.held self.new) }
-        ensures narrow { result ≡ Err errors.TooNarrow → Fails D.Annotation.seen D.held D.text D.gives D.marks D.after
-            D.pops D.sub (λ m. following m head.now) self.old }
+        requires { IsWorking D.Annotation.seen D.view.held self.old }
+        ensures done { OnOk result (Comes D.Annotation.seen D.view (λ m. following m head.now) self.old self.new) }
+        ensures works { OnOk result (IsWorking D.Annotation.seen D.view.held self.new) }
+        ensures narrow { result ≡ Err errors.TooNarrow → Fails D.Annotation.seen D.view (λ m. following m head.now)
+            self.old }
         ensures kinds { IfErr result (λ e. (e ≡ errors.TooNarrow) ⊎ (e ≡ errors.Memory)) }
     {
         if fragment_leads(&head.info) {

@@ -15,12 +15,12 @@ impl<D: TextDecorator + Drop> Laying<D> {
     ghost use Rattle.render_laying.specs.Seen.{Comes, Fails, IsWorking};
 
     pub fn begin_colour(&mut self, colour: Option<Colour>) -> Result<(), BlockError>
-        requires { IsWorking D.Annotation.seen D.held self.old }
-        ensures done { OnOk result (Comes D.Annotation.seen D.held D.text D.gives D.marks D.after D.pops D.sub
+        requires { IsWorking D.Annotation.seen D.view.held self.old }
+        ensures done { OnOk result (Comes D.Annotation.seen D.view
             (λ m. for_some colour (λ c. says m (starts_colour (colour_start c)))) self.old self.new) }
-        ensures works { OnOk result (IsWorking D.Annotation.seen D.held self.new) }
-        ensures narrow { result ≡ Err errors.TooNarrow → Fails D.Annotation.seen D.held D.text D.gives D.marks D.after
-            D.pops D.sub (λ m. for_some colour (λ c. says m (starts_colour (colour_start c)))) self.old }
+        ensures works { OnOk result (IsWorking D.Annotation.seen D.view.held self.new) }
+        ensures narrow { result ≡ Err errors.TooNarrow → Fails D.Annotation.seen D.view
+            (λ m. for_some colour (λ c. says m (starts_colour (colour_start c)))) self.old }
         ensures kinds { IfErr result (λ e. (e ≡ errors.TooNarrow) ⊎ (e ≡ errors.Memory)) }
     {
         match colour {
@@ -30,12 +30,12 @@ impl<D: TextDecorator + Drop> Laying<D> {
     }
 
     pub fn begin_background(&mut self, colour: Option<Colour>) -> Result<(), BlockError>
-        requires { IsWorking D.Annotation.seen D.held self.old }
-        ensures done { OnOk result (Comes D.Annotation.seen D.held D.text D.gives D.marks D.after D.pops D.sub
+        requires { IsWorking D.Annotation.seen D.view.held self.old }
+        ensures done { OnOk result (Comes D.Annotation.seen D.view
             (λ m. for_some colour (λ c. says m (starts_colour (background_start c)))) self.old self.new) }
-        ensures works { OnOk result (IsWorking D.Annotation.seen D.held self.new) }
-        ensures narrow { result ≡ Err errors.TooNarrow → Fails D.Annotation.seen D.held D.text D.gives D.marks D.after
-            D.pops D.sub (λ m. for_some colour (λ c. says m (starts_colour (background_start c)))) self.old }
+        ensures works { OnOk result (IsWorking D.Annotation.seen D.view.held self.new) }
+        ensures narrow { result ≡ Err errors.TooNarrow → Fails D.Annotation.seen D.view
+            (λ m. for_some colour (λ c. says m (starts_colour (background_start c)))) self.old }
         ensures kinds { IfErr result (λ e. (e ≡ errors.TooNarrow) ⊎ (e ≡ errors.Memory)) }
     {
         match colour {
@@ -45,12 +45,12 @@ impl<D: TextDecorator + Drop> Laying<D> {
     }
 
     pub fn begin_white_space(&mut self, mode: Option<WhiteSpace>) -> Result<(), BlockError>
-        requires { IsWorking D.Annotation.seen D.held self.old }
-        ensures done { OnOk result (Comes D.Annotation.seen D.held D.text D.gives D.marks D.after D.pops D.sub
-            (λ m. for_some mode (λ x. says m (starts_mode x))) self.old self.new) }
-        ensures works { OnOk result (IsWorking D.Annotation.seen D.held self.new) }
-        ensures narrow { result ≡ Err errors.TooNarrow → Fails D.Annotation.seen D.held D.text D.gives D.marks D.after
-            D.pops D.sub (λ m. for_some mode (λ x. says m (starts_mode x))) self.old }
+        requires { IsWorking D.Annotation.seen D.view.held self.old }
+        ensures done { OnOk result (Comes D.Annotation.seen D.view (λ m. for_some mode (λ x. says m (starts_mode x)))
+            self.old self.new) }
+        ensures works { OnOk result (IsWorking D.Annotation.seen D.view.held self.new) }
+        ensures narrow { result ≡ Err errors.TooNarrow → Fails D.Annotation.seen D.view
+            (λ m. for_some mode (λ x. says m (starts_mode x))) self.old }
         ensures kinds { IfErr result (λ e. (e ≡ errors.TooNarrow) ⊎ (e ≡ errors.Memory)) }
     {
         match mode {
@@ -62,12 +62,11 @@ impl<D: TextDecorator + Drop> Laying<D> {
     /// A value begins that a rule of style looks after.
     #[tactic(auto, unfolding(crate::specs::Begins::style_begins))]
     pub fn begin_look(&mut self, style: RenderStyle) -> Result<(), BlockError>
-        requires { IsWorking D.Annotation.seen D.held self.old }
-        ensures done { OnOk result (Comes D.Annotation.seen D.held D.text D.gives D.marks D.after D.pops D.sub
-            (λ m. style_begins m style) self.old self.new) }
-        ensures works { OnOk result (IsWorking D.Annotation.seen D.held self.new) }
-        ensures narrow { result ≡ Err errors.TooNarrow → Fails D.Annotation.seen D.held D.text D.gives D.marks D.after
-            D.pops D.sub (λ m. style_begins m style) self.old }
+        requires { IsWorking D.Annotation.seen D.view.held self.old }
+        ensures done { OnOk result (Comes D.Annotation.seen D.view (λ m. style_begins m style) self.old self.new) }
+        ensures works { OnOk result (IsWorking D.Annotation.seen D.view.held self.new) }
+        ensures narrow { result ≡ Err errors.TooNarrow → Fails D.Annotation.seen D.view (λ m. style_begins m style)
+            self.old }
         ensures kinds { IfErr result (λ e. (e ≡ errors.TooNarrow) ⊎ (e ≡ errors.Memory)) }
     {
         self.begin_colour(style.colour)?;
@@ -76,10 +75,9 @@ impl<D: TextDecorator + Drop> Laying<D> {
     }
 
     pub fn finish_white_space(&mut self, mode: Option<WhiteSpace>)
-        requires { IsWorking D.Annotation.seen D.held self.old }
-        ensures done { Comes D.Annotation.seen D.held D.text D.gives D.marks D.after D.pops D.sub
-            (λ m. for_some mode (λ x. says m ends_mode)) self.old self.new }
-        ensures works { IsWorking D.Annotation.seen D.held self.new }
+        requires { IsWorking D.Annotation.seen D.view.held self.old }
+        ensures done { Comes D.Annotation.seen D.view (λ m. for_some mode (λ x. says m ends_mode)) self.old self.new }
+        ensures works { IsWorking D.Annotation.seen D.view.held self.new }
     {
         if mode.is_some() {
             self.end_mode();
@@ -87,10 +85,10 @@ impl<D: TextDecorator + Drop> Laying<D> {
     }
 
     pub fn finish_background(&mut self, colour: Option<Colour>)
-        requires { IsWorking D.Annotation.seen D.held self.old }
-        ensures done { Comes D.Annotation.seen D.held D.text D.gives D.marks D.after D.pops D.sub
-            (λ m. for_some colour (λ c. says m (ends_colour background_end))) self.old self.new }
-        ensures works { IsWorking D.Annotation.seen D.held self.new }
+        requires { IsWorking D.Annotation.seen D.view.held self.old }
+        ensures done { Comes D.Annotation.seen D.view (λ m. for_some colour (λ c. says m (ends_colour background_end)))
+            self.old self.new }
+        ensures works { IsWorking D.Annotation.seen D.view.held self.new }
     {
         if colour.is_some() {
             self.end_background();
@@ -98,10 +96,10 @@ impl<D: TextDecorator + Drop> Laying<D> {
     }
 
     pub fn finish_colour(&mut self, colour: Option<Colour>)
-        requires { IsWorking D.Annotation.seen D.held self.old }
-        ensures done { Comes D.Annotation.seen D.held D.text D.gives D.marks D.after D.pops D.sub
-            (λ m. for_some colour (λ c. says m (ends_colour colour_end))) self.old self.new }
-        ensures works { IsWorking D.Annotation.seen D.held self.new }
+        requires { IsWorking D.Annotation.seen D.view.held self.old }
+        ensures done { Comes D.Annotation.seen D.view (λ m. for_some colour (λ c. says m (ends_colour colour_end)))
+            self.old self.new }
+        ensures works { IsWorking D.Annotation.seen D.view.held self.new }
     {
         if colour.is_some() {
             self.end_colour();
@@ -111,10 +109,9 @@ impl<D: TextDecorator + Drop> Laying<D> {
     /// It ends.
     #[tactic(auto, unfolding(crate::specs::Begins::style_ends))]
     pub fn end_look(&mut self, style: RenderStyle)
-        requires { IsWorking D.Annotation.seen D.held self.old }
-        ensures done { Comes D.Annotation.seen D.held D.text D.gives D.marks D.after D.pops D.sub
-            (λ m. style_ends m style) self.old self.new }
-        ensures works { IsWorking D.Annotation.seen D.held self.new }
+        requires { IsWorking D.Annotation.seen D.view.held self.old }
+        ensures done { Comes D.Annotation.seen D.view (λ m. style_ends m style) self.old self.new }
+        ensures works { IsWorking D.Annotation.seen D.view.held self.new }
     {
         self.finish_white_space(style.white_space);
         self.finish_background(style.background);

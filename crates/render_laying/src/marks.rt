@@ -53,13 +53,12 @@ impl<D: TextDecorator + Drop> Laying<D> {
 
     // the prefix of an item
     fn prefix_of(&mut self, mark: ItemMark) -> Result<String, BlockError>
-        requires { IsWorking D.Annotation.seen D.held self.old }
-        ensures text { IfOk result (λ s. (tag : _) → chars (string_bytes s)
-            ≡ mark_of (marking D.text tag D.marks D.after D.pops D.sub) (item_mark mark)
-            (laying_of D.Annotation.seen D.held self.old)) }
-        ensures stays { OnOk result (laying_of D.Annotation.seen D.held self.new ≡ laying_of D.Annotation.seen
-            D.held self.old) }
-        ensures works { OnOk result (IsWorking D.Annotation.seen D.held self.new) }
+        requires { IsWorking D.Annotation.seen D.view.held self.old }
+        ensures text { IfOk result (λ s. (tag : _) → chars (string_bytes s) ≡ mark_of (marking D.view tag)
+            (item_mark mark) (laying_of D.Annotation.seen D.view.held self.old)) }
+        ensures stays { OnOk result (laying_of D.Annotation.seen D.view.held self.new ≡ laying_of D.Annotation.seen
+            D.view.held self.old) }
+        ensures works { OnOk result (IsWorking D.Annotation.seen D.view.held self.new) }
         ensures kinds { IfErr result (λ e. e ≡ errors.Memory) }
     {
         match mark {
@@ -70,13 +69,12 @@ impl<D: TextDecorator + Drop> Laying<D> {
 
     // the columns of the items' prefixes: of the wider of the first and the last
     pub fn columns_of_items(&mut self, first: ItemMark, last: ItemMark) -> Result<usize, BlockError>
-        requires { IsWorking D.Annotation.seen D.held self.old }
-        ensures columns { IfOk result (λ n. (tag : _) →
-            n ≡ item_columns (marking D.text tag D.marks D.after D.pops D.sub) first last
-            (laying_of D.Annotation.seen D.held self.old)) }
-        ensures stays { OnOk result (laying_of D.Annotation.seen D.held self.new ≡ laying_of D.Annotation.seen
-            D.held self.old) }
-        ensures works { OnOk result (IsWorking D.Annotation.seen D.held self.new) }
+        requires { IsWorking D.Annotation.seen D.view.held self.old }
+        ensures columns { IfOk result (λ n. (tag : _) → n ≡ item_columns (marking D.view tag) first last
+            (laying_of D.Annotation.seen D.view.held self.old)) }
+        ensures stays { OnOk result (laying_of D.Annotation.seen D.view.held self.new ≡ laying_of D.Annotation.seen
+            D.view.held self.old) }
+        ensures works { OnOk result (IsWorking D.Annotation.seen D.view.held self.new) }
         ensures kinds { IfErr result (λ e. e ≡ errors.Memory) }
     {
         let front = self.prefix_of(first)?;
@@ -86,13 +84,12 @@ impl<D: TextDecorator + Drop> Laying<D> {
 
     // the prefix of an item, filled up to so many columns
     pub fn item_prefix(&mut self, mark: ItemMark, columns: usize) -> Result<String, BlockError>
-        requires { IsWorking D.Annotation.seen D.held self.old }
+        requires { IsWorking D.Annotation.seen D.view.held self.old }
         ensures text { IfOk result (λ s. (tag : _) → chars (string_bytes s) ≡ padded columns
-            (mark_of (marking D.text tag D.marks D.after D.pops D.sub) (item_mark mark)
-            (laying_of D.Annotation.seen D.held self.old))) }
-        ensures stays { OnOk result (laying_of D.Annotation.seen D.held self.new ≡ laying_of D.Annotation.seen
-            D.held self.old) }
-        ensures works { OnOk result (IsWorking D.Annotation.seen D.held self.new) }
+            (mark_of (marking D.view tag) (item_mark mark) (laying_of D.Annotation.seen D.view.held self.old))) }
+        ensures stays { OnOk result (laying_of D.Annotation.seen D.view.held self.new ≡ laying_of D.Annotation.seen
+            D.view.held self.old) }
+        ensures works { OnOk result (IsWorking D.Annotation.seen D.view.held self.new) }
         ensures kinds { IfErr result (λ e. e ≡ errors.Memory) }
     {
         let mut first = self.prefix_of(mark)?;

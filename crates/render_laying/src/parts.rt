@@ -39,12 +39,10 @@ impl<D: TextDecorator + Drop> Laying<D> {
 
     // the columns of a part behind a prefix, of which at least so many are asked for with those of the prefix
     fn room(&self, columns: usize, least: usize) -> Result<usize, BlockError>
-        ensures room { IfOk result (λ n. room_behind columns (least - columns) (laying_of D.Annotation.seen D.held
-            self.now).parts.current
-            ≡ Some n) }
-        ensures narrow { IfErr result (λ e. (e ≡ errors.TooNarrow)
-            × (room_behind columns (least - columns) (laying_of D.Annotation.seen D.held
-            self.now).parts.current ≡ None)) }
+        ensures room { IfOk result (λ n. room_behind columns (least - columns) (laying_of D.Annotation.seen D.view.held
+            self.now).parts.current ≡ Some n) }
+        ensures narrow { IfErr result (λ e. (e ≡ errors.TooNarrow) × (room_behind columns (least - columns)
+            (laying_of D.Annotation.seen D.view.held self.now).parts.current ≡ None)) }
     {
         let behind = least.saturating_sub(columns);
         match self.text.current().width_minus(columns, behind) {
@@ -55,12 +53,12 @@ impl<D: TextDecorator + Drop> Laying<D> {
 
     // text goes to a part of so many columns from here on; the renderer outside is given
     pub fn enter_part(&mut self, width: usize) -> Result<SubRenderer<D>, BlockError>
-        requires { IsWorking D.Annotation.seen D.held self.old }
-        ensures done { OnOk result (Comes D.Annotation.seen D.held D.text D.gives D.marks D.after D.pops D.sub
+        requires { IsWorking D.Annotation.seen D.view.held self.old }
+        ensures done { OnOk result (Comes D.Annotation.seen D.view
             (λ m l. Some (in_part m width l)) self.old self.new) }
-        ensures outer { IfOk result (λ outer. sub_of D.Annotation.seen D.held outer
-            ≡ (laying_of D.Annotation.seen D.held self.old).parts.current) }
-        ensures works { OnOk result (IsWorking D.Annotation.seen D.held self.new) }
+        ensures outer { IfOk result (λ outer. sub_of D.Annotation.seen D.view.held outer
+            ≡ (laying_of D.Annotation.seen D.view.held self.old).parts.current) }
+        ensures works { OnOk result (IsWorking D.Annotation.seen D.view.held self.new) }
         ensures outer_works { IfOk result (λ outer. has_failed outer ≡ false) }
         ensures kinds { IfErr result (λ e. e ≡ errors.Memory) }
     {
@@ -71,15 +69,15 @@ impl<D: TextDecorator + Drop> Laying<D> {
 
     // the same with the columns behind a prefix
     pub fn begin_part(&mut self, columns: usize, least: usize) -> Result<SubRenderer<D>, BlockError>
-        requires { IsWorking D.Annotation.seen D.held self.old }
-        ensures done { OnOk result (Comes D.Annotation.seen D.held D.text D.gives D.marks D.after D.pops D.sub
+        requires { IsWorking D.Annotation.seen D.view.held self.old }
+        ensures done { OnOk result (Comes D.Annotation.seen D.view
             (λ m. part_begun m columns least) self.old self.new) }
-        ensures outer { IfOk result (λ outer. sub_of D.Annotation.seen D.held outer
-            ≡ (laying_of D.Annotation.seen D.held self.old).parts.current) }
-        ensures works { OnOk result (IsWorking D.Annotation.seen D.held self.new) }
+        ensures outer { IfOk result (λ outer. sub_of D.Annotation.seen D.view.held outer
+            ≡ (laying_of D.Annotation.seen D.view.held self.old).parts.current) }
+        ensures works { OnOk result (IsWorking D.Annotation.seen D.view.held self.new) }
         ensures outer_works { IfOk result (λ outer. has_failed outer ≡ false) }
-        ensures narrow { result ≡ Err errors.TooNarrow → Fails D.Annotation.seen D.held D.text D.gives D.marks D.after
-            D.pops D.sub (λ m. part_begun m columns least) self.old }
+        ensures narrow { result ≡ Err errors.TooNarrow → Fails D.Annotation.seen D.view
+            (λ m. part_begun m columns least) self.old }
         ensures kinds { IfErr result (λ e. (e ≡ errors.TooNarrow) ⊎ (e ≡ errors.Memory)) }
     {
         let width = self.room(columns, least)?;
@@ -93,14 +91,14 @@ impl<D: TextDecorator + Drop> Laying<D> {
         first: &str,
         following: &str,
     ) -> Result<(), BlockError>
-        requires works { IsWorking D.Annotation.seen D.held self.old × (has_failed outer ≡ false) }
-        ensures done { OnOk result (Comes D.Annotation.seen D.held D.text D.gives D.marks D.after D.pops D.sub
-            (λ m. part_ended m (sub_of D.Annotation.seen D.held outer) (chars first.now) (chars following.now)) self.old
-            self.new) }
-        ensures works { OnOk result (IsWorking D.Annotation.seen D.held self.new) }
-        ensures narrow { result ≡ Err errors.TooNarrow → Fails D.Annotation.seen D.held D.text D.gives D.marks D.after
-            D.pops D.sub (λ m. part_ended m (sub_of D.Annotation.seen D.held outer) (chars first.now)
-            (chars following.now)) self.old }
+        requires works { IsWorking D.Annotation.seen D.view.held self.old × (has_failed outer ≡ false) }
+        ensures done { OnOk result (Comes D.Annotation.seen D.view
+            (λ m. part_ended m (sub_of D.Annotation.seen D.view.held outer) (chars first.now) (chars following.now))
+            self.old self.new) }
+        ensures works { OnOk result (IsWorking D.Annotation.seen D.view.held self.new) }
+        ensures narrow { result ≡ Err errors.TooNarrow → Fails D.Annotation.seen D.view
+            (λ m. part_ended m (sub_of D.Annotation.seen D.view.held outer) (chars first.now) (chars following.now))
+            self.old }
         ensures kinds { IfErr result (λ e. (e ≡ errors.TooNarrow) ⊎ (e ≡ errors.Memory)) }
     {
         let part = self.text.replace_current(outer);
@@ -110,26 +108,24 @@ impl<D: TextDecorator + Drop> Laying<D> {
     }
 
     pub fn heading_prefix(&mut self, level: u8) -> Result<String, BlockError>
-        requires { IsWorking D.Annotation.seen D.held self.old }
-        ensures text { IfOk result (λ s. (tag : _) → chars (string_bytes s)
-            ≡ mark_of (marking D.text tag D.marks D.after D.pops D.sub) (header level)
-            (laying_of D.Annotation.seen D.held self.old)) }
-        ensures stays { OnOk result (laying_of D.Annotation.seen D.held self.new ≡ laying_of D.Annotation.seen
-            D.held self.old) }
-        ensures works { OnOk result (IsWorking D.Annotation.seen D.held self.new) }
+        requires { IsWorking D.Annotation.seen D.view.held self.old }
+        ensures text { IfOk result (λ s. (tag : _) → chars (string_bytes s) ≡ mark_of (marking D.view tag)
+            (header level) (laying_of D.Annotation.seen D.view.held self.old)) }
+        ensures stays { OnOk result (laying_of D.Annotation.seen D.view.held self.new ≡ laying_of D.Annotation.seen
+            D.view.held self.old) }
+        ensures works { OnOk result (IsWorking D.Annotation.seen D.view.held self.new) }
         ensures kinds { IfErr result (λ e. e ≡ errors.Memory) }
     {
         self.text.current_mut().header_prefix(usize::from(level))
     }
 
     pub fn quote_prefix(&mut self) -> Result<String, BlockError>
-        requires { IsWorking D.Annotation.seen D.held self.old }
-        ensures text { IfOk result (λ s. (tag : _) → chars (string_bytes s)
-            ≡ mark_of (marking D.text tag D.marks D.after D.pops D.sub) quote
-            (laying_of D.Annotation.seen D.held self.old)) }
-        ensures stays { OnOk result (laying_of D.Annotation.seen D.held self.new ≡ laying_of D.Annotation.seen
-            D.held self.old) }
-        ensures works { OnOk result (IsWorking D.Annotation.seen D.held self.new) }
+        requires { IsWorking D.Annotation.seen D.view.held self.old }
+        ensures text { IfOk result (λ s. (tag : _) → chars (string_bytes s) ≡ mark_of (marking D.view tag) quote
+            (laying_of D.Annotation.seen D.view.held self.old)) }
+        ensures stays { OnOk result (laying_of D.Annotation.seen D.view.held self.new ≡ laying_of D.Annotation.seen
+            D.view.held self.old) }
+        ensures works { OnOk result (IsWorking D.Annotation.seen D.view.held self.new) }
         ensures kinds { IfErr result (λ e. e ≡ errors.Memory) }
     {
         self.text.current_mut().quote_prefix()

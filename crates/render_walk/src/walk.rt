@@ -100,12 +100,12 @@ fn end_at<D: TextDecorator + Drop>(
     nodes: &[RenderNode],
     at: usize,
 ) -> Result<(), BlockError>
-    requires { IsWorking D.Annotation.seen D.held laying.old }
-    ensures done { OnOk result (Comes D.Annotation.seen D.held D.text D.gives D.marks D.after D.pops D.sub
-        (λ m. ends m (info_at nodes.now at)) laying.old laying.new) }
-    ensures works { OnOk result (IsWorking D.Annotation.seen D.held laying.new) }
-    ensures narrow { result ≡ Err errors.TooNarrow → Fails D.Annotation.seen D.held D.text D.gives D.marks D.after
-        D.pops D.sub (λ m. ends m (info_at nodes.now at)) laying.old }
+    requires { IsWorking D.Annotation.seen D.view.held laying.old }
+    ensures done { OnOk result (Comes D.Annotation.seen D.view (λ m. ends m (info_at nodes.now at)) laying.old
+        laying.new) }
+    ensures works { OnOk result (IsWorking D.Annotation.seen D.view.held laying.new) }
+    ensures narrow { result ≡ Err errors.TooNarrow → Fails D.Annotation.seen D.view
+        (λ m. ends m (info_at nodes.now at)) laying.old }
     ensures kinds { IfErr result (λ e. (e ≡ errors.TooNarrow) ⊎ (e ≡ errors.Memory)) }
 {
     match nodes.get(at) {
@@ -119,13 +119,13 @@ fn end_part<D: TextDecorator + Drop>(
     laying: &mut Laying<D>,
     part: Box<OpenPart<D>>,
 ) -> Result<(), BlockError>
-    requires works { IsWorking D.Annotation.seen D.held laying.old × (has_failed part.value.outer ≡ false) }
-    ensures done { OnOk result (Comes D.Annotation.seen D.held D.text D.gives D.marks D.after D.pops D.sub
-        (λ m. part_ended m (sub_of D.Annotation.seen D.held part.value.outer) (chars (string_bytes part.value.first))
-        (chars (string_bytes part.value.following))) laying.old laying.new) }
-    ensures works { OnOk result (IsWorking D.Annotation.seen D.held laying.new) }
-    ensures narrow { result ≡ Err errors.TooNarrow → Fails D.Annotation.seen D.held D.text D.gives D.marks D.after
-        D.pops D.sub (λ m. part_ended m (sub_of D.Annotation.seen D.held part.value.outer)
+    requires works { IsWorking D.Annotation.seen D.view.held laying.old × (has_failed part.value.outer ≡ false) }
+    ensures done { OnOk result (Comes D.Annotation.seen D.view
+        (λ m. part_ended m (sub_of D.Annotation.seen D.view.held part.value.outer)
+        (chars (string_bytes part.value.first)) (chars (string_bytes part.value.following))) laying.old laying.new) }
+    ensures works { OnOk result (IsWorking D.Annotation.seen D.view.held laying.new) }
+    ensures narrow { result ≡ Err errors.TooNarrow → Fails D.Annotation.seen D.view
+        (λ m. part_ended m (sub_of D.Annotation.seen D.view.held part.value.outer)
         (chars (string_bytes part.value.first)) (chars (string_bytes part.value.following))) laying.old }
     ensures kinds { IfErr result (λ e. (e ≡ errors.TooNarrow) ⊎ (e ≡ errors.Memory)) }
 {
@@ -142,14 +142,14 @@ fn end_item<D: TextDecorator + Drop>(
     laying: &mut Laying<D>,
     item: Box<OpenItem<D>>,
 ) -> Result<(), BlockError>
-    requires works { IsWorking D.Annotation.seen D.held laying.old × (has_failed item.value.outer ≡ false) }
-    ensures done { OnOk result (Comes D.Annotation.seen D.held D.text D.gives D.marks D.after D.pops D.sub
-        (λ m. in_turn (part_ended m (sub_of D.Annotation.seen D.held item.value.outer)
+    requires works { IsWorking D.Annotation.seen D.view.held laying.old × (has_failed item.value.outer ≡ false) }
+    ensures done { OnOk result (Comes D.Annotation.seen D.view
+        (λ m. in_turn (part_ended m (sub_of D.Annotation.seen D.view.held item.value.outer)
         (chars (string_bytes item.value.first)) (chars (string_bytes item.value.following)))
         (goes_on item.value.around)) laying.old laying.new) }
-    ensures works { OnOk result (IsWorking D.Annotation.seen D.held laying.new) }
-    ensures narrow { result ≡ Err errors.TooNarrow → Fails D.Annotation.seen D.held D.text D.gives D.marks D.after
-        D.pops D.sub (λ m. in_turn (part_ended m (sub_of D.Annotation.seen D.held item.value.outer)
+    ensures works { OnOk result (IsWorking D.Annotation.seen D.view.held laying.new) }
+    ensures narrow { result ≡ Err errors.TooNarrow → Fails D.Annotation.seen D.view
+        (λ m. in_turn (part_ended m (sub_of D.Annotation.seen D.view.held item.value.outer)
         (chars (string_bytes item.value.first)) (chars (string_bytes item.value.following)))
         (goes_on item.value.around)) laying.old }
     ensures kinds { IfErr result (λ e. (e ≡ errors.TooNarrow) ⊎ (e ≡ errors.Memory)) }
@@ -173,21 +173,20 @@ fn leave<D: TextDecorator + Drop>(
     place: Place,
     next: Waiting<D>,
 ) -> Result<Place, BlockError>
-    requires works { IsWorking D.Annotation.seen D.held laying.old }
+    requires works { IsWorking D.Annotation.seen D.view.held laying.old }
     requires ready { (sizes : List SeenExtent) × ((w : Measure) × IsReady nodes.now sizes w next) }
     requires past { place.end ≤ place.at }
-    ensures goes { IfOk result (λ p. (tag : _) → IsTagging D.Annotation.seen D.gives tag → (w : Measure)
-        → lay (marking D.text tag D.marks D.after D.pops D.sub) w (values_of (segment nodes.now p.at p.end))
-        (laying_of D.Annotation.seen D.held laying.new)
-        ≡ undone (marking D.text tag D.marks D.after D.pops D.sub) w
-        (waiting_of D.Annotation.seen D.held nodes.now next) (laying_of D.Annotation.seen D.held laying.old)) }
-    ensures works { OnOk result (IsWorking D.Annotation.seen D.held laying.new) }
-    ensures sound { (sizes : List SeenExtent) (w : Measure) → IsReady nodes.now sizes w next
-        → IsSound nodes.now sizes w place.at place.end → IfOk result (λ p. IsSound nodes.now sizes w p.at p.end) }
+    ensures goes { IfOk result (λ p. (tag : _) → IsTagging D.Annotation.seen D.view tag → (w : Measure)
+        → lay (marking D.view tag) w (values_of (segment nodes.now p.at p.end)) (laying_of D.Annotation.seen
+        D.view.held laying.new) ≡ undone (marking D.view tag) w (waiting_of D.Annotation.seen D.view.held nodes.now
+        next) (laying_of D.Annotation.seen D.view.held laying.old)) }
+    ensures works { OnOk result (IsWorking D.Annotation.seen D.view.held laying.new) }
+    ensures sound { (sizes : List SeenExtent) (w : Measure) → IsReady nodes.now sizes w next → IsSound nodes.now sizes
+        w place.at place.end → IfOk result (λ p. IsSound nodes.now sizes w p.at p.end) }
     ensures falls { IfOk result (λ p. 8 * (p.end - p.at) + 1 ≤ weight next) }
-    ensures narrow { result ≡ Err errors.TooNarrow → (tag : _) → IsTagging D.Annotation.seen D.gives tag
-        → (w : Measure) → undone (marking D.text tag D.marks D.after D.pops D.sub) w
-        (waiting_of D.Annotation.seen D.held nodes.now next) (laying_of D.Annotation.seen D.held laying.old) ≡ None }
+    ensures narrow { result ≡ Err errors.TooNarrow → (tag : _) → IsTagging D.Annotation.seen D.view tag → (w : Measure)
+        → undone (marking D.view tag) w (waiting_of D.Annotation.seen D.view.held nodes.now next)
+        (laying_of D.Annotation.seen D.view.held laying.old) ≡ None }
     ensures kinds { IfErr result (λ e. (e ≡ errors.TooNarrow) ⊎ (e ≡ errors.Memory)) }
 {
     match next {
@@ -262,19 +261,19 @@ fn enter<D: TextDecorator + Drop>(
     waiting: &mut Vec<Waiting<D>>,
 ) -> Result<Place, BlockError>
     ghost w: { Measure }
-    requires works { IsWorking D.Annotation.seen D.held laying.old }
+    requires works { IsWorking D.Annotation.seen D.view.held laying.old }
     requires here { place.at < place.end }
     requires sound { IsSound nodes.now sizes.now w place.at place.end }
-    ensures goes { IfOk result (λ p. GoesOn D.Annotation.seen D.held D.text D.gives D.marks D.after D.pops D.sub
-        nodes.now w place.at place.end waiting.old.items laying.old p.at p.end waiting.new.items laying.new) }
-    ensures works { OnOk result (IsWorking D.Annotation.seen D.held laying.new) }
-    ensures ready { All (IsReady nodes.now sizes.now w) waiting.old.items
-        → OnOk result (All (IsReady nodes.now sizes.now w) waiting.new.items) }
+    ensures goes { IfOk result (λ p. GoesOn D.Annotation.seen D.view nodes.now w place.at place.end waiting.old.items
+        laying.old p.at p.end waiting.new.items laying.new) }
+    ensures works { OnOk result (IsWorking D.Annotation.seen D.view.held laying.new) }
+    ensures ready { All (IsReady nodes.now sizes.now w) waiting.old.items → OnOk result
+        (All (IsReady nodes.now sizes.now w) waiting.new.items) }
     ensures sound { IfOk result (λ p. IsSound nodes.now sizes.now w p.at p.end) }
-    ensures falls { IfOk result (λ p. load waiting.new.items + 8 * (p.end - p.at)
-        < load waiting.old.items + 8 * (place.end - place.at)) }
-    ensures narrow { result ≡ Err errors.TooNarrow → NeverGoes D.Annotation.seen D.held D.text D.gives D.marks
-        D.after D.pops D.sub nodes.now w place.at place.end waiting.old.items laying.old }
+    ensures falls { IfOk result (λ p. load waiting.new.items + 8 * (p.end - p.at) < load waiting.old.items + 8 *
+        (place.end - place.at)) }
+    ensures narrow { result ≡ Err errors.TooNarrow → NeverGoes D.Annotation.seen D.view nodes.now w place.at place.end
+        waiting.old.items laying.old }
     ensures kinds { IfErr result (λ e. (e ≡ errors.TooNarrow) ⊎ (e ≡ errors.Memory)) }
 {
     let node = &nodes[place.at];
@@ -300,14 +299,14 @@ fn walk<D: TextDecorator + Drop>(
     sizes: &[Extent],
 ) -> Result<(), BlockError>
     ghost w: { Measure }
-    requires works { IsWorking D.Annotation.seen D.held laying.old }
+    requires works { IsWorking D.Annotation.seen D.view.held laying.old }
     requires flat { IsFlat nodes.now }
     requires sized { AreMeasured w (values_of nodes.now) sizes.now }
-    ensures done { OnOk result (Comes D.Annotation.seen D.held D.text D.gives D.marks D.after D.pops D.sub
-        (λ m. lay m w (values_of nodes.now)) laying.old laying.new) }
-    ensures works { OnOk result (IsWorking D.Annotation.seen D.held laying.new) }
-    ensures narrow { result ≡ Err errors.TooNarrow → Fails D.Annotation.seen D.held D.text D.gives D.marks D.after
-        D.pops D.sub (λ m. lay m w (values_of nodes.now)) laying.old }
+    ensures done { OnOk result (Comes D.Annotation.seen D.view (λ m. lay m w (values_of nodes.now)) laying.old
+        laying.new) }
+    ensures works { OnOk result (IsWorking D.Annotation.seen D.view.held laying.new) }
+    ensures narrow { result ≡ Err errors.TooNarrow → Fails D.Annotation.seen D.view
+        (λ m. lay m w (values_of nodes.now)) laying.old }
     ensures kinds { IfErr result (λ e. (e ≡ errors.TooNarrow) ⊎ (e ≡ errors.Memory)) }
 {
     let mut waiting: Vec<Waiting<D>> = Vec::new(alloc);
@@ -340,14 +339,14 @@ pub fn lay_tree<D: TextDecorator + Drop>(
 ) -> Result<TextRenderer<D>, BlockError>
     ghost w: { Measure }
     requires works { (page_has_failed text ≡ false) × (current_has_failed text ≡ false) }
-    requires whole { depth_of (parts_of D.Annotation.seen D.held text) ≡ 1 }
+    requires whole { depth_of (parts_of D.Annotation.seen D.view.held text) ≡ 1 }
     requires sized { AreMeasured w tree.now sizes.now }
-    ensures laid { IfOk result (λ behind. PartsCome D.Annotation.seen D.held D.text D.gives D.marks D.after D.pops D.sub
-        (λ m p. laid_parts m w tree.now p) text behind) }
+    ensures laid { IfOk result (λ behind. PartsCome D.Annotation.seen D.view (λ m p. laid_parts m w tree.now p) text
+        behind) }
     ensures works { IfOk result (λ behind. (page_has_failed behind ≡ false) × (current_has_failed behind ≡ false)) }
-    ensures whole { IfOk result (λ behind. depth_of (parts_of D.Annotation.seen D.held behind) ≡ 1) }
-    ensures narrow { result ≡ Err errors.TooNarrow → PartsFail D.Annotation.seen D.held D.text D.gives D.marks D.after
-        D.pops D.sub (λ m p. laid_parts m w tree.now p) text }
+    ensures whole { IfOk result (λ behind. depth_of (parts_of D.Annotation.seen D.view.held behind) ≡ 1) }
+    ensures narrow { result ≡ Err errors.TooNarrow → PartsFail D.Annotation.seen D.view
+        (λ m p. laid_parts m w tree.now p) text }
     ensures kinds { IfErr result (λ e. (e ≡ errors.TooNarrow) ⊎ (e ≡ errors.Memory)) }
 {
     let mut laying = Laying {

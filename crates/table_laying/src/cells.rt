@@ -16,12 +16,11 @@ fn start_all<D: TextDecorator + Drop>(
     laying: &mut Laying<D>,
     names: &[Text],
 ) -> Result<(), BlockError>
-    requires { IsWorking D.Annotation.seen D.held laying.old }
-    ensures done { OnOk result (Comes D.Annotation.seen D.held D.text D.gives D.marks D.after D.pops D.sub
-        (λ m. start_all m names.now) laying.old laying.new) }
-    ensures works { OnOk result (IsWorking D.Annotation.seen D.held laying.new) }
-    ensures narrow { result ≡ Err errors.TooNarrow → Fails D.Annotation.seen D.held D.text D.gives D.marks D.after
-        D.pops D.sub (λ m. start_all m names.now) laying.old }
+    requires { IsWorking D.Annotation.seen D.view.held laying.old }
+    ensures done { OnOk result (Comes D.Annotation.seen D.view (λ m. start_all m names.now) laying.old laying.new) }
+    ensures works { OnOk result (IsWorking D.Annotation.seen D.view.held laying.new) }
+    ensures narrow { result ≡ Err errors.TooNarrow → Fails D.Annotation.seen D.view (λ m. start_all m names.now)
+        laying.old }
     ensures kinds { IfErr result (λ e. (e ≡ errors.TooNarrow) ⊎ (e ≡ errors.Memory)) }
 {
     'names: for name in names {
@@ -37,15 +36,15 @@ pub fn begin_cell<D: TextDecorator + Drop>(
     width: usize,
     names: &[Text],
 ) -> Result<SubRenderer<D>, BlockError>
-    requires { IsWorking D.Annotation.seen D.held laying.old }
-    ensures done { OnOk result (Comes D.Annotation.seen D.held D.text D.gives D.marks D.after D.pops D.sub
-        (λ m. cell_begun m width names.now) laying.old laying.new) }
-    ensures outer { IfOk result (λ outer. sub_of D.Annotation.seen D.held outer
-        ≡ (laying_of D.Annotation.seen D.held laying.old).parts.current) }
+    requires { IsWorking D.Annotation.seen D.view.held laying.old }
+    ensures done { OnOk result (Comes D.Annotation.seen D.view (λ m. cell_begun m width names.now) laying.old
+        laying.new) }
+    ensures outer { IfOk result (λ outer. sub_of D.Annotation.seen D.view.held outer
+        ≡ (laying_of D.Annotation.seen D.view.held laying.old).parts.current) }
     ensures outer_works { IfOk result (λ outer. has_failed outer ≡ false) }
-    ensures works { OnOk result (IsWorking D.Annotation.seen D.held laying.new) }
-    ensures narrow { result ≡ Err errors.TooNarrow → Fails D.Annotation.seen D.held D.text D.gives D.marks D.after
-        D.pops D.sub (λ m. cell_begun m width names.now) laying.old }
+    ensures works { OnOk result (IsWorking D.Annotation.seen D.view.held laying.new) }
+    ensures narrow { result ≡ Err errors.TooNarrow → Fails D.Annotation.seen D.view (λ m. cell_begun m width names.now)
+        laying.old }
     ensures kinds { IfErr result (λ e. (e ≡ errors.TooNarrow) ⊎ (e ≡ errors.Memory)) }
 {
     let outer = laying.enter_part(width)?;

@@ -32,14 +32,14 @@ fn add_row<D: TextDecorator + Drop>(
     is_across: bool,
     made: Vec<(SubRenderer<D>, usize)>,
 ) -> Result<(), BlockError>
-    requires { IsWorking D.Annotation.seen D.held laying.old }
-    ensures done { (widths : Option (List ℕ)) → is_some widths ≡ is_across → OnOk result (Comes D.Annotation.seen
-        D.held D.text D.gives D.marks D.after D.pops D.sub (λ m. says m (row_call widths
-        (made_of D.Annotation.seen D.held made.items))) laying.old laying.new) }
-    ensures works { OnOk result (IsWorking D.Annotation.seen D.held laying.new) }
+    requires { IsWorking D.Annotation.seen D.view.held laying.old }
+    ensures done { (widths : Option (List ℕ)) → is_some widths ≡ is_across → OnOk result
+        (Comes D.Annotation.seen D.view
+        (λ m. says m (row_call widths (made_of D.Annotation.seen D.view.held made.items))) laying.old laying.new) }
+    ensures works { OnOk result (IsWorking D.Annotation.seen D.view.held laying.new) }
     ensures narrow { result ≡ Err errors.TooNarrow → (widths : Option (List ℕ)) → is_some widths ≡ is_across
-        → Fails D.Annotation.seen D.held D.text D.gives D.marks D.after D.pops D.sub (λ m. says m (row_call widths
-        (made_of D.Annotation.seen D.held made.items))) laying.old }
+        → Fails D.Annotation.seen D.view
+        (λ m. says m (row_call widths (made_of D.Annotation.seen D.view.held made.items))) laying.old }
     ensures kinds { IfErr result (λ e. (e ≡ errors.TooNarrow) ⊎ (e ≡ errors.Memory)) }
 {
     if is_across {
@@ -54,12 +54,10 @@ pub fn end_row<D: TextDecorator + Drop>(
     laying: &mut Laying<D>,
     alloc: Global,
 ) -> Result<(), BlockError>
-    requires { IsWorking D.Annotation.seen D.held laying.old }
-    ensures done { OnOk result (Comes D.Annotation.seen D.held D.text D.gives D.marks D.after D.pops D.sub
-        (λ m. row_ended m) laying.old laying.new) }
-    ensures works { OnOk result (IsWorking D.Annotation.seen D.held laying.new) }
-    ensures narrow { result ≡ Err errors.TooNarrow → Fails D.Annotation.seen D.held D.text D.gives D.marks D.after
-        D.pops D.sub (λ m. row_ended m) laying.old }
+    requires { IsWorking D.Annotation.seen D.view.held laying.old }
+    ensures done { OnOk result (Comes D.Annotation.seen D.view (λ m. row_ended m) laying.old laying.new) }
+    ensures works { OnOk result (IsWorking D.Annotation.seen D.view.held laying.new) }
+    ensures narrow { result ≡ Err errors.TooNarrow → Fails D.Annotation.seen D.view (λ m. row_ended m) laying.old }
     ensures kinds { IfErr result (λ e. (e ≡ errors.TooNarrow) ⊎ (e ≡ errors.Memory)) }
 {
     match mem::replace(&mut laying.table, TablePlace::Outside { in_cell: true }) {

@@ -45,14 +45,13 @@ fn push_empty<D: TextDecorator + Drop>(
     slot: Slot,
     made: &mut Vec<(SubRenderer<D>, usize)>,
 ) -> Result<(), BlockError>
-    requires { IsWorking D.Annotation.seen D.held laying.old }
-    ensures made { OnOk result ((tag : _) → made_of D.Annotation.seen D.held made.new.items
-        ≡ made_of D.Annotation.seen D.held made.old.items
-        ++ empty_slots (marking D.text tag D.marks D.after D.pops D.sub) (widths_seen widths.now)
-        (laying_of D.Annotation.seen D.held laying.old).parts.current (slot ∷ [])) }
-    ensures stays { OnOk result (laying_of D.Annotation.seen D.held laying.new
-        ≡ laying_of D.Annotation.seen D.held laying.old) }
-    ensures works { OnOk result (IsWorking D.Annotation.seen D.held laying.new) }
+    requires { IsWorking D.Annotation.seen D.view.held laying.old }
+    ensures made { OnOk result ((tag : _) → made_of D.Annotation.seen D.view.held made.new.items ≡ made_of
+        D.Annotation.seen D.view.held made.old.items ++ empty_slots (marking D.view tag) (widths_seen widths.now)
+        (laying_of D.Annotation.seen D.view.held laying.old).parts.current (slot ∷ [])) }
+    ensures stays { OnOk result (laying_of D.Annotation.seen D.view.held laying.new ≡ laying_of D.Annotation.seen
+        D.view.held laying.old) }
+    ensures works { OnOk result (IsWorking D.Annotation.seen D.view.held laying.new) }
     ensures kinds { IfErr result (λ e. e ≡ errors.Memory) }
 {
     let width = slot_width(widths, laying.text.current().width(), slot);
@@ -68,14 +67,13 @@ fn push_kept<D: TextDecorator + Drop>(
     slot: Slot,
     made: &mut Vec<(SubRenderer<D>, usize)>,
 ) -> Result<(), BlockError>
-    requires { IsWorking D.Annotation.seen D.held laying.old }
-    ensures made { OnOk result ((tag : _) → made_of D.Annotation.seen D.held made.new.items
-        ≡ made_of D.Annotation.seen D.held made.old.items
-        ++ empty_slots (marking D.text tag D.marks D.after D.pops D.sub) (widths_seen widths.now)
-        (laying_of D.Annotation.seen D.held laying.old).parts.current (filter has_columns (slot ∷ []))) }
-    ensures stays { OnOk result (laying_of D.Annotation.seen D.held laying.new
-        ≡ laying_of D.Annotation.seen D.held laying.old) }
-    ensures works { OnOk result (IsWorking D.Annotation.seen D.held laying.new) }
+    requires { IsWorking D.Annotation.seen D.view.held laying.old }
+    ensures made { OnOk result ((tag : _) → made_of D.Annotation.seen D.view.held made.new.items ≡ made_of
+        D.Annotation.seen D.view.held made.old.items ++ empty_slots (marking D.view tag) (widths_seen widths.now)
+        (laying_of D.Annotation.seen D.view.held laying.old).parts.current (filter has_columns (slot ∷ []))) }
+    ensures stays { OnOk result (laying_of D.Annotation.seen D.view.held laying.new ≡ laying_of D.Annotation.seen
+        D.view.held laying.old) }
+    ensures works { OnOk result (IsWorking D.Annotation.seen D.view.held laying.new) }
     ensures kinds { IfErr result (λ e. e ≡ errors.Memory) }
 {
     if slot.has_columns() {
@@ -91,14 +89,14 @@ pub(crate) fn push_rest<D: TextDecorator + Drop>(
     slots: &SlotsLeft,
     made: &mut Vec<(SubRenderer<D>, usize)>,
 ) -> Result<(), BlockError>
-    requires { IsWorking D.Annotation.seen D.held laying.old }
-    ensures made { OnOk result ((tag : _) → made_of D.Annotation.seen D.held made.new.items
-        ≡ made_of D.Annotation.seen D.held made.old.items
-        ++ empty_slots (marking D.text tag D.marks D.after D.pops D.sub) (widths_seen widths.now)
-        (laying_of D.Annotation.seen D.held laying.old).parts.current (filter has_columns (slots_left slots.now))) }
-    ensures stays { OnOk result (laying_of D.Annotation.seen D.held laying.new
-        ≡ laying_of D.Annotation.seen D.held laying.old) }
-    ensures works { OnOk result (IsWorking D.Annotation.seen D.held laying.new) }
+    requires { IsWorking D.Annotation.seen D.view.held laying.old }
+    ensures made { OnOk result ((tag : _) → made_of D.Annotation.seen D.view.held made.new.items ≡ made_of
+        D.Annotation.seen D.view.held made.old.items ++ empty_slots (marking D.view tag) (widths_seen widths.now)
+        (laying_of D.Annotation.seen D.view.held laying.old).parts.current
+        (filter has_columns (slots_left slots.now))) }
+    ensures stays { OnOk result (laying_of D.Annotation.seen D.view.held laying.new ≡ laying_of D.Annotation.seen
+        D.view.held laying.old) }
+    ensures works { OnOk result (IsWorking D.Annotation.seen D.view.held laying.new) }
     ensures kinds { IfErr result (λ e. e ≡ errors.Memory) }
 {
     let mut at = slots.next;
@@ -116,15 +114,14 @@ pub fn push_empties<D: TextDecorator + Drop>(
     slots: &mut SlotsLeft,
     made: &mut Vec<(SubRenderer<D>, usize)>,
 ) -> Result<(), BlockError>
-    requires { IsWorking D.Annotation.seen D.held laying.old }
-    ensures made { OnOk result ((tag : _) → made_of D.Annotation.seen D.held made.new.items
-        ≡ made_of D.Annotation.seen D.held made.old.items
-        ++ empty_slots (marking D.text tag D.marks D.after D.pops D.sub) (widths_seen widths.now)
-        (laying_of D.Annotation.seen D.held laying.old).parts.current (empties_before (slots_left slots.old))) }
+    requires { IsWorking D.Annotation.seen D.view.held laying.old }
+    ensures made { OnOk result ((tag : _) → made_of D.Annotation.seen D.view.held made.new.items ≡ made_of
+        D.Annotation.seen D.view.held made.old.items ++ empty_slots (marking D.view tag) (widths_seen widths.now)
+        (laying_of D.Annotation.seen D.view.held laying.old).parts.current (empties_before (slots_left slots.old))) }
     ensures left { OnOk result (slots_left slots.new ≡ from_cell (slots_left slots.old)) }
-    ensures stays { OnOk result (laying_of D.Annotation.seen D.held laying.new
-        ≡ laying_of D.Annotation.seen D.held laying.old) }
-    ensures works { OnOk result (IsWorking D.Annotation.seen D.held laying.new) }
+    ensures stays { OnOk result (laying_of D.Annotation.seen D.view.held laying.new ≡ laying_of D.Annotation.seen
+        D.view.held laying.old) }
+    ensures works { OnOk result (IsWorking D.Annotation.seen D.view.held laying.new) }
     ensures kinds { IfErr result (λ e. e ≡ errors.Memory) }
 {
     'slots: while slots.next < slots.slots.len() && !slots.slots[slots.next].is_cell {
@@ -139,8 +136,8 @@ pub(crate) fn renderers_of<D: TextDecorator + Drop>(
     alloc: Global,
     made: Vec<(SubRenderer<D>, usize)>,
 ) -> Result<Vec<SubRenderer<D>>, AllocError>
-    ensures { IfOk result (λ renderers. map (sub_of D.Annotation.seen D.held) renderers.items
-        ≡ map renderer_of (made_of D.Annotation.seen D.held made.items)) }
+    ensures { IfOk result (λ renderers. map (sub_of D.Annotation.seen D.view.held) renderers.items ≡ map renderer_of
+        (made_of D.Annotation.seen D.view.held made.items)) }
 {
     let mut renderers = Vec::new(alloc);
     'made: for (renderer, _) in made {

@@ -45,7 +45,7 @@ pub fn rows_of(alloc: Global, widths: &Option<Vec<usize>>, table: Table) -> Rows
 
 /// Whether a table is fenced: where that is asked for, and it stands in no cell of another.
 pub fn is_fenced<D: TextDecorator>(options: &RenderOptions, place: &TablePlace<D>) -> bool
-    ensures { result ≡ is_fenced options.now (place_of D.Annotation.seen D.held place.now) }
+    ensures { result ≡ is_fenced options.now (place_of D.Annotation.seen D.view.held place.now) }
 {
     match place {
         TablePlace::Outside { in_cell } => options.fence_tables && !*in_cell,
@@ -59,12 +59,10 @@ pub fn fence<D: TextDecorator + Drop>(
     laying: &mut Laying<D>,
     fenced: bool,
 ) -> Result<(), BlockError>
-    requires { IsWorking D.Annotation.seen D.held laying.old }
-    ensures done { OnOk result (Comes D.Annotation.seen D.held D.text D.gives D.marks D.after D.pops D.sub
-        (λ m. fence m fenced) laying.old laying.new) }
-    ensures works { OnOk result (IsWorking D.Annotation.seen D.held laying.new) }
-    ensures narrow { result ≡ Err errors.TooNarrow → Fails D.Annotation.seen D.held D.text D.gives D.marks D.after
-        D.pops D.sub (λ m. fence m fenced) laying.old }
+    requires { IsWorking D.Annotation.seen D.view.held laying.old }
+    ensures done { OnOk result (Comes D.Annotation.seen D.view (λ m. fence m fenced) laying.old laying.new) }
+    ensures works { OnOk result (IsWorking D.Annotation.seen D.view.held laying.new) }
+    ensures narrow { result ≡ Err errors.TooNarrow → Fails D.Annotation.seen D.view (λ m. fence m fenced) laying.old }
     ensures kinds { IfErr result (λ e. (e ≡ errors.TooNarrow) ⊎ (e ≡ errors.Memory)) }
 {
     if !fenced {
@@ -81,12 +79,12 @@ pub fn top_border<D: TextDecorator + Drop>(
     options: &RenderOptions,
     widths: &Option<Vec<usize>>,
 ) -> Result<(), BlockError>
-    requires { IsWorking D.Annotation.seen D.held laying.old }
-    ensures done { OnOk result (Comes D.Annotation.seen D.held D.text D.gives D.marks D.after D.pops D.sub
-        (λ m. top_border m options.now (widths_seen widths.now)) laying.old laying.new) }
-    ensures works { OnOk result (IsWorking D.Annotation.seen D.held laying.new) }
-    ensures narrow { result ≡ Err errors.TooNarrow → Fails D.Annotation.seen D.held D.text D.gives D.marks D.after
-        D.pops D.sub (λ m. top_border m options.now (widths_seen widths.now)) laying.old }
+    requires { IsWorking D.Annotation.seen D.view.held laying.old }
+    ensures done { OnOk result (Comes D.Annotation.seen D.view (λ m. top_border m options.now (widths_seen widths.now))
+        laying.old laying.new) }
+    ensures works { OnOk result (IsWorking D.Annotation.seen D.view.held laying.new) }
+    ensures narrow { result ≡ Err errors.TooNarrow → Fails D.Annotation.seen D.view
+        (λ m. top_border m options.now (widths_seen widths.now)) laying.old }
     ensures kinds { IfErr result (λ e. (e ≡ errors.TooNarrow) ⊎ (e ≡ errors.Memory)) }
 {
     if !options.draw_borders {

@@ -1,6 +1,6 @@
 -- What contracts see of a renderer of a page.
 use Rattle.std.specs.Prelude.{◌≡◌, ℕ, Bool, List, Option, None, Some, map}
-use Rattle.text_marks.specs.Marks.{Mark}
+use Rattle.text_marks.specs.Marks.{DecoratorView, Mark}
 use Rattle.link_targets.specs.Links.{all_targets}
 use Rattle.renderer_calls.specs.Renderers.{Marking}
 use Rattle.text_block_renderer.specs.Parts.{Parts}
@@ -26,14 +26,12 @@ abbrev pub with_current_renderer : {D T : Type 0} → TextRenderer D T → SubRe
 with_current_renderer t s = record t { current = s }
 
 -- However the decorator's annotations are seen, the renderer comes from the old one by f, or comes to none.
-abbrev pub PartsCome : {D T H A : Type 0} → (T → A) → (D → H) → (H → Mark → List ℕ) → (H → Mark → T → Type 0)
-    → (H → Mark → Bool) → (H → Mark → H) → (H → Mark → Bool) → (H → H)
+abbrev pub PartsCome : {D T H A : Type 0} → (T → A) → DecoratorView D H T
     → (Marking H A → Parts H A → Option (Parts H A)) → TextRenderer D T → TextRenderer D T → Type 0
-PartsCome seen held text gives marks after pops sub f old new = (tag : _) → IsTagging seen gives tag
-    → f (marking text tag marks after pops sub) (parts_of seen held old) ≡ Some (parts_of seen held new)
+PartsCome seen view f old new = (tag : _) → IsTagging seen view tag
+    → f (marking view tag) (parts_of seen view.held old) ≡ Some (parts_of seen view.held new)
 
-abbrev pub PartsFail : {D T H A : Type 0} → (T → A) → (D → H) → (H → Mark → List ℕ) → (H → Mark → T → Type 0)
-    → (H → Mark → Bool) → (H → Mark → H) → (H → Mark → Bool) → (H → H)
+abbrev pub PartsFail : {D T H A : Type 0} → (T → A) → DecoratorView D H T
     → (Marking H A → Parts H A → Option (Parts H A)) → TextRenderer D T → Type 0
-PartsFail seen held text gives marks after pops sub f old = (tag : _) → IsTagging seen gives tag
-    → f (marking text tag marks after pops sub) (parts_of seen held old) ≡ None
+PartsFail seen view f old = (tag : _) → IsTagging seen view tag
+    → f (marking view tag) (parts_of seen view.held old) ≡ None

@@ -47,7 +47,8 @@ impl<D: TextDecorator + Drop> TextRenderer<D> {
 
     /// A renderer of a page, of which no part has begun.
     pub fn new(alloc: Global, sub: SubRenderer<D>) -> TextRenderer<D>
-        ensures parts { parts_of D.Annotation.seen D.held result ≡ whole_page (sub_of D.Annotation.seen D.held sub) }
+        ensures parts { parts_of D.Annotation.seen D.view.held result ≡ whole_page (sub_of D.Annotation.seen
+            D.view.held sub) }
         ensures works { page_has_failed result ≡ false }
         ensures current { current_has_failed result ≡ has_failed sub }
     {
@@ -61,15 +62,15 @@ impl<D: TextDecorator + Drop> TextRenderer<D> {
 
     /// How many renderers stand, that of the whole page among them.
     pub fn depth(&self) -> usize
-        ensures { result ≡ depth_of (parts_of D.Annotation.seen D.held self.now) }
+        ensures { result ≡ depth_of (parts_of D.Annotation.seen D.view.held self.now) }
     {
         self.below.len() + 1
     }
 
     /// The renderer to which text goes.
     pub fn current(&self) -> &SubRenderer<D>
-        ensures sub { sub_of D.Annotation.seen D.held result.now
-            ≡ (parts_of D.Annotation.seen D.held self.now).current }
+        ensures sub { sub_of D.Annotation.seen D.view.held result.now ≡ (parts_of D.Annotation.seen D.view.held
+            self.now).current }
         ensures failed { has_failed result.now ≡ current_has_failed self.now }
     {
         &self.current
@@ -77,8 +78,8 @@ impl<D: TextDecorator + Drop> TextRenderer<D> {
 
     /// The renderer to which text goes, to be called.
     pub fn current_mut(&mut self) -> &mut SubRenderer<D>
-        ensures sub { sub_of D.Annotation.seen D.held result.now
-            ≡ (parts_of D.Annotation.seen D.held self.old).current }
+        ensures sub { sub_of D.Annotation.seen D.view.held result.now ≡ (parts_of D.Annotation.seen D.view.held
+            self.old).current }
         ensures failed { has_failed result.now ≡ current_has_failed self.old }
         ensures* writes_back { sem 𝓛 (follows (the_row D.row D.Annotation.row) (sub_row D.row D.Annotation.row)
             self.entry.ghost_name result.ghost_name (with_current_renderer self.old)) }
@@ -88,10 +89,10 @@ impl<D: TextDecorator + Drop> TextRenderer<D> {
 
     /// Text goes to another renderer from here on; the one to which it went is given.
     pub fn replace_current(&mut self, sub: SubRenderer<D>) -> SubRenderer<D>
-        ensures outer { sub_of D.Annotation.seen D.held result
-            ≡ (parts_of D.Annotation.seen D.held self.old).current }
-        ensures new { parts_of D.Annotation.seen D.held self.new
-            ≡ with_current (parts_of D.Annotation.seen D.held self.old) (sub_of D.Annotation.seen D.held sub) }
+        ensures outer { sub_of D.Annotation.seen D.view.held result ≡ (parts_of D.Annotation.seen D.view.held
+            self.old).current }
+        ensures new { parts_of D.Annotation.seen D.view.held self.new ≡ with_current (parts_of D.Annotation.seen
+            D.view.held self.old) (sub_of D.Annotation.seen D.view.held sub) }
         ensures given { has_failed result ≡ current_has_failed self.old }
         ensures taken { current_has_failed self.new ≡ has_failed sub }
         ensures failed { page_has_failed self.new ≡ page_has_failed self.old }
@@ -106,11 +107,11 @@ impl<D: TextDecorator + Drop> TextRenderer<D> {
         ensures failed { page_has_failed self.old ≡ true → result ≡ Err errors.Failed }
         ensures refused { is_err result ≡ page_has_failed self.new }
         ensures kinds { page_has_failed self.old ≡ false → IfErr result (λ e. e ≡ errors.Memory) }
-        ensures pushed { OnOk result (parts_of D.Annotation.seen D.held self.new ≡ with_part
-            (sub_of D.Annotation.seen D.held sub) (parts_of D.Annotation.seen D.held self.old)) }
+        ensures pushed { OnOk result (parts_of D.Annotation.seen D.view.held self.new ≡ with_part
+            (sub_of D.Annotation.seen D.view.held sub) (parts_of D.Annotation.seen D.view.held self.old)) }
         ensures taken { OnOk result (current_has_failed self.new ≡ has_failed sub) }
-        ensures kept { OnErr result (parts_of D.Annotation.seen D.held self.new
-            ≡ parts_of D.Annotation.seen D.held self.old) }
+        ensures kept { OnErr result (parts_of D.Annotation.seen D.view.held self.new ≡ parts_of D.Annotation.seen
+            D.view.held self.old) }
         ensures still { OnErr result (current_has_failed self.new ≡ current_has_failed self.old) }
     {
         if self.failed {
@@ -123,11 +124,11 @@ impl<D: TextDecorator + Drop> TextRenderer<D> {
 
     fn begin_part(&mut self, sub: SubRenderer<D>) -> Result<(), BlockError>
         ensures kinds { IfErr result (λ e. e ≡ errors.Memory) }
-        ensures pushed { OnOk result (parts_of D.Annotation.seen D.held self.new ≡ with_part
-            (sub_of D.Annotation.seen D.held sub) (parts_of D.Annotation.seen D.held self.old)) }
+        ensures pushed { OnOk result (parts_of D.Annotation.seen D.view.held self.new ≡ with_part
+            (sub_of D.Annotation.seen D.view.held sub) (parts_of D.Annotation.seen D.view.held self.old)) }
         ensures taken { OnOk result (current_has_failed self.new ≡ has_failed sub) }
-        ensures kept { OnErr result (parts_of D.Annotation.seen D.held self.new
-            ≡ parts_of D.Annotation.seen D.held self.old) }
+        ensures kept { OnErr result (parts_of D.Annotation.seen D.view.held self.new ≡ parts_of D.Annotation.seen
+            D.view.held self.old) }
         ensures still { OnErr result (current_has_failed self.new ≡ current_has_failed self.old) }
     {
         self.below.reserve(1)?;
@@ -138,22 +139,21 @@ impl<D: TextDecorator + Drop> TextRenderer<D> {
 
     /// The part that began last ends: its renderer is given, and text goes to the one below. There must be one.
     pub fn pop(&mut self) -> SubRenderer<D>
-        requires { 1 < depth_of (parts_of D.Annotation.seen D.held self.old) }
-        ensures popped { parts_of D.Annotation.seen D.held self.old
-            ≡ with_part (sub_of D.Annotation.seen D.held result) (parts_of D.Annotation.seen D.held self.new) }
-        ensures below { (below : Parts D.Held D.Annotation.Seen) (part : Sub D.Held D.Annotation.Seen)
-            → parts_of D.Annotation.seen D.held self.old ≡ with_part part below
-            → (sub_of D.Annotation.seen D.held result ≡ part)
-            × (parts_of D.Annotation.seen D.held self.new ≡ below) }
+        requires { 1 < depth_of (parts_of D.Annotation.seen D.view.held self.old) }
+        ensures popped { parts_of D.Annotation.seen D.view.held self.old ≡ with_part (sub_of D.Annotation.seen
+            D.view.held result) (parts_of D.Annotation.seen D.view.held self.new) }
+        ensures below { (below : Parts D.Held D.Annotation.Seen) (part : Sub D.Held D.Annotation.Seen) → parts_of
+            D.Annotation.seen D.view.held self.old ≡ with_part part below → (sub_of D.Annotation.seen D.view.held
+            result ≡ part) × (parts_of D.Annotation.seen D.view.held self.new ≡ below) }
         ensures failed { page_has_failed self.new ≡ page_has_failed self.old }
     {
         self.end_part()
     }
 
     fn end_part(&mut self) -> SubRenderer<D>
-        requires { 1 < depth_of (parts_of D.Annotation.seen D.held self.old) }
-        ensures popped { parts_of D.Annotation.seen D.held self.old
-            ≡ with_part (sub_of D.Annotation.seen D.held result) (parts_of D.Annotation.seen D.held self.new) }
+        requires { 1 < depth_of (parts_of D.Annotation.seen D.view.held self.old) }
+        ensures popped { parts_of D.Annotation.seen D.view.held self.old ≡ with_part (sub_of D.Annotation.seen
+            D.view.held result) (parts_of D.Annotation.seen D.view.held self.new) }
         ensures failed { page_has_failed self.new ≡ page_has_failed self.old }
     {
         let below = self.below.pop().unwrap();
@@ -162,9 +162,10 @@ impl<D: TextDecorator + Drop> TextRenderer<D> {
 
     /// The renderer of the whole page, and the targets of its links. No part may stand.
     pub fn into_inner(self) -> (SubRenderer<D>, LinkTargets)
-        requires { depth_of (parts_of D.Annotation.seen D.held self) ≡ 1 }
-        ensures sub { sub_of D.Annotation.seen D.held result.0 ≡ (parts_of D.Annotation.seen D.held self).current }
-        ensures links { all_targets result.1 ≡ (parts_of D.Annotation.seen D.held self).targets }
+        requires { depth_of (parts_of D.Annotation.seen D.view.held self) ≡ 1 }
+        ensures sub { sub_of D.Annotation.seen D.view.held result.0 ≡ (parts_of D.Annotation.seen D.view.held
+            self).current }
+        ensures links { all_targets result.1 ≡ (parts_of D.Annotation.seen D.view.held self).targets }
         ensures failed { has_failed result.0 ≡ current_has_failed self }
     {
         let TextRenderer {
@@ -181,16 +182,16 @@ impl<D: TextDecorator + Drop> TextRenderer<D> {
     pub fn start_link(&mut self, target: &str) -> Result<(), BlockError>
         ensures refused { is_err result ≡ page_has_failed self.new }
         ensures failed { page_has_failed self.old ≡ true → result ≡ Err errors.Failed }
-        ensures kinds { page_has_failed self.old ≡ false → current_has_failed self.old ≡ false
-            → IfErr result (λ e. (e ≡ errors.TooNarrow) ⊎ (e ≡ errors.Memory)) }
+        ensures kinds { page_has_failed self.old ≡ false → current_has_failed self.old ≡ false → IfErr result
+            (λ e. (e ≡ errors.TooNarrow) ⊎ (e ≡ errors.Memory)) }
         ensures current { current_has_failed self.old ≡ true → result ≡ Err errors.Failed }
         ensures works { OnOk result (current_has_failed self.new ≡ false) }
-        ensures done { OnOk result (PartsCome D.Annotation.seen D.held D.text D.gives D.marks D.after D.pops D.sub
-            (λ m p. begin_part_link m (chars target.now) p) self.old self.new) }
-        ensures narrow { result ≡ Err errors.TooNarrow → PartsFail D.Annotation.seen D.held D.text D.gives D.marks
-            D.after D.pops D.sub (λ m p. begin_part_link m (chars target.now) p) self.old }
-        ensures stands { (parts_of D.Annotation.seen D.held self.new).below
-            ≡ (parts_of D.Annotation.seen D.held self.old).below }
+        ensures done { OnOk result (PartsCome D.Annotation.seen D.view (λ m p. begin_part_link m (chars target.now) p)
+            self.old self.new) }
+        ensures narrow { result ≡ Err errors.TooNarrow → PartsFail D.Annotation.seen D.view
+            (λ m p. begin_part_link m (chars target.now) p) self.old }
+        ensures stands { (parts_of D.Annotation.seen D.view.held self.new).below
+            ≡ (parts_of D.Annotation.seen D.view.held self.old).below }
     {
         if self.failed {
             return Err(BlockError::Failed);
@@ -201,16 +202,16 @@ impl<D: TextDecorator + Drop> TextRenderer<D> {
     }
 
     fn begin_link(&mut self, target: &str) -> Result<(), BlockError>
-        ensures kinds { current_has_failed self.old ≡ false
-            → IfErr result (λ e. (e ≡ errors.TooNarrow) ⊎ (e ≡ errors.Memory)) }
+        ensures kinds { current_has_failed self.old ≡ false → IfErr result (λ e. (e ≡ errors.TooNarrow)
+            ⊎ (e ≡ errors.Memory)) }
         ensures current { current_has_failed self.old ≡ true → result ≡ Err errors.Failed }
         ensures works { OnOk result (current_has_failed self.new ≡ false) }
-        ensures done { OnOk result (PartsCome D.Annotation.seen D.held D.text D.gives D.marks D.after D.pops D.sub
-            (λ m p. begin_part_link m (chars target.now) p) self.old self.new) }
-        ensures narrow { result ≡ Err errors.TooNarrow → PartsFail D.Annotation.seen D.held D.text D.gives D.marks
-            D.after D.pops D.sub (λ m p. begin_part_link m (chars target.now) p) self.old }
-        ensures stands { (parts_of D.Annotation.seen D.held self.new).below
-            ≡ (parts_of D.Annotation.seen D.held self.old).below }
+        ensures done { OnOk result (PartsCome D.Annotation.seen D.view (λ m p. begin_part_link m (chars target.now) p)
+            self.old self.new) }
+        ensures narrow { result ≡ Err errors.TooNarrow → PartsFail D.Annotation.seen D.view
+            (λ m p. begin_part_link m (chars target.now) p) self.old }
+        ensures stands { (parts_of D.Annotation.seen D.view.held self.new).below
+            ≡ (parts_of D.Annotation.seen D.view.held self.old).below }
     {
         self.current.start_link(target)?;
         self.links.push(target)?;
@@ -222,16 +223,14 @@ impl<D: TextDecorator + Drop> TextRenderer<D> {
     pub fn end_link(&mut self) -> Result<(), BlockError>
         ensures refused { is_err result ≡ page_has_failed self.new }
         ensures failed { page_has_failed self.old ≡ true → result ≡ Err errors.Failed }
-        ensures kinds { page_has_failed self.old ≡ false → current_has_failed self.old ≡ false
-            → IfErr result (λ e. (e ≡ errors.TooNarrow) ⊎ (e ≡ errors.Memory)) }
+        ensures kinds { page_has_failed self.old ≡ false → current_has_failed self.old ≡ false → IfErr result
+            (λ e. (e ≡ errors.TooNarrow) ⊎ (e ≡ errors.Memory)) }
         ensures current { current_has_failed self.old ≡ true → result ≡ Err errors.Failed }
         ensures works { OnOk result (current_has_failed self.new ≡ false) }
-        ensures done { OnOk result (PartsCome D.Annotation.seen D.held D.text D.gives D.marks D.after D.pops D.sub
-            finish_part_link self.old self.new) }
-        ensures narrow { result ≡ Err errors.TooNarrow → PartsFail D.Annotation.seen D.held D.text D.gives D.marks
-            D.after D.pops D.sub finish_part_link self.old }
-        ensures stands { (parts_of D.Annotation.seen D.held self.new).below
-            ≡ (parts_of D.Annotation.seen D.held self.old).below }
+        ensures done { OnOk result (PartsCome D.Annotation.seen D.view finish_part_link self.old self.new) }
+        ensures narrow { result ≡ Err errors.TooNarrow → PartsFail D.Annotation.seen D.view finish_part_link self.old }
+        ensures stands { (parts_of D.Annotation.seen D.view.held self.new).below
+            ≡ (parts_of D.Annotation.seen D.view.held self.old).below }
     {
         if self.failed {
             return Err(BlockError::Failed);
@@ -242,16 +241,14 @@ impl<D: TextDecorator + Drop> TextRenderer<D> {
     }
 
     fn finish_link(&mut self) -> Result<(), BlockError>
-        ensures kinds { current_has_failed self.old ≡ false
-            → IfErr result (λ e. (e ≡ errors.TooNarrow) ⊎ (e ≡ errors.Memory)) }
+        ensures kinds { current_has_failed self.old ≡ false → IfErr result (λ e. (e ≡ errors.TooNarrow)
+            ⊎ (e ≡ errors.Memory)) }
         ensures current { current_has_failed self.old ≡ true → result ≡ Err errors.Failed }
         ensures works { OnOk result (current_has_failed self.new ≡ false) }
-        ensures done { OnOk result (PartsCome D.Annotation.seen D.held D.text D.gives D.marks D.after D.pops D.sub
-            finish_part_link self.old self.new) }
-        ensures narrow { result ≡ Err errors.TooNarrow → PartsFail D.Annotation.seen D.held D.text D.gives D.marks
-            D.after D.pops D.sub finish_part_link self.old }
-        ensures stands { (parts_of D.Annotation.seen D.held self.new).below
-            ≡ (parts_of D.Annotation.seen D.held self.old).below }
+        ensures done { OnOk result (PartsCome D.Annotation.seen D.view finish_part_link self.old self.new) }
+        ensures narrow { result ≡ Err errors.TooNarrow → PartsFail D.Annotation.seen D.view finish_part_link self.old }
+        ensures stands { (parts_of D.Annotation.seen D.view.held self.new).below
+            ≡ (parts_of D.Annotation.seen D.view.held self.old).below }
     {
         self.current.end_link()?;
         self.add_number()
@@ -259,15 +256,13 @@ impl<D: TextDecorator + Drop> TextRenderer<D> {
 
     /// The number of the last link's footnote, where the targets of links stand behind the page.
     fn add_number(&mut self) -> Result<(), BlockError>
-        ensures kinds { current_has_failed self.old ≡ false
-            → IfErr result (λ e. (e ≡ errors.TooNarrow) ⊎ (e ≡ errors.Memory)) }
+        ensures kinds { current_has_failed self.old ≡ false → IfErr result (λ e. (e ≡ errors.TooNarrow)
+            ⊎ (e ≡ errors.Memory)) }
         ensures works { current_has_failed self.old ≡ false → OnOk result (current_has_failed self.new ≡ false) }
-        ensures done { OnOk result (PartsCome D.Annotation.seen D.held D.text D.gives D.marks D.after D.pops D.sub
-            add_part_number self.old self.new) }
-        ensures narrow { result ≡ Err errors.TooNarrow → PartsFail D.Annotation.seen D.held D.text D.gives D.marks
-            D.after D.pops D.sub add_part_number self.old }
-        ensures stands { (parts_of D.Annotation.seen D.held self.new).below
-            ≡ (parts_of D.Annotation.seen D.held self.old).below }
+        ensures done { OnOk result (PartsCome D.Annotation.seen D.view add_part_number self.old self.new) }
+        ensures narrow { result ≡ Err errors.TooNarrow → PartsFail D.Annotation.seen D.view add_part_number self.old }
+        ensures stands { (parts_of D.Annotation.seen D.view.held self.new).below
+            ≡ (parts_of D.Annotation.seen D.view.held self.old).below }
     {
         if !self.current.options.include_link_footnotes {
             return Ok(());

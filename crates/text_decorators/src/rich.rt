@@ -27,21 +27,16 @@ impl TextDecorator for RichDecorator {
 
     ghost Held = { Unit {0} };
 
-    ghost held = { λ _. tt };
-
-    ghost text = { λ _ m. rich_text m };
-
-    ghost gives = { λ _ m a. IsRich m a };
-
-    ghost marks = { λ _ m. is_colour m };
-
-    ghost after = { λ h _. h };
-
-    ghost pops = { λ _ _. true };
-
-    ghost sub = { λ h. h };
-
-    ghost closes = { λ _ targets. footnote_lines Default targets };
+    ghost view = { record {
+      held = λ _. tt;
+      text = λ _ m. rich_text m;
+      gives = λ _ m a. IsRich m a;
+      marks = λ _ m. is_colour m;
+      after = λ h _. h;
+      pops = λ _ _. true;
+      sub = λ h. h;
+      closes = λ _ targets. footnote_lines Default targets;
+    } };
 
     ghost one = { λ _ m a b. rich_tags_are_one m a b };
 

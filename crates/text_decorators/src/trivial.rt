@@ -23,21 +23,16 @@ impl TextDecorator for TrivialDecorator {
 
     ghost Held = { Unit {0} };
 
-    ghost held = { λ _. tt };
-
-    ghost text = { λ _ m. trivial_text m };
-
-    ghost gives = { λ _ _ _. Unit {0} };
-
-    ghost marks = { λ _ _. false };
-
-    ghost after = { λ h _. h };
-
-    ghost pops = { λ _ _. false };
-
-    ghost sub = { λ h. h };
-
-    ghost closes = { λ _ targets. footnote_lines tt targets };
+    ghost view = { record {
+      held = λ _. tt;
+      text = λ _ m. trivial_text m;
+      gives = λ _ _ _. Unit {0};
+      marks = λ _ _. false;
+      after = λ h _. h;
+      pops = λ _ _. false;
+      sub = λ h. h;
+      closes = λ _ targets. footnote_lines tt targets;
+    } };
 
     ghost one = { λ _ _ _ _ _ _. refl };
 

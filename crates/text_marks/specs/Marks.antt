@@ -1,5 +1,5 @@
 -- What a decorator is asked for, and what its answers are to keep.
-use Rattle.std.specs.Prelude.{◌≡◌, ℕ, ◌≤◌, max, ℤ, FitsSigned, ◌≤ℤ◌, List, map}
+use Rattle.std.specs.Prelude.{◌≡◌, ℕ, ◌≤◌, max, ℤ, Bool, FitsSigned, ◌≤ℤ◌, List, map}
 use Rattle.std.specs.Int.{w64}
 use Rattle.tagged_lines.specs.Columns.{text_columns}
 use Rattle.tagged_lines.specs.Tagged.{Item, reitem}
@@ -57,3 +57,16 @@ pub record IsSteady {H : Type 0} (text : H → Mark → List ℕ) : Type 0 where
 -- lines under what contracts see of their tags
 abbrev pub seen_lines : {T S : Type 0} → (T → S) → List (List (Item T)) → List (List (Item S))
 seen_lines seen lines = map (map (reitem seen)) lines
+
+-- What a decorator is seen as: what it holds (H), and of each mark the text, the annotations that fit, whether there is
+-- one, what is held after it and whether an annotation ends; what a decorator for a part of the page holds; and the
+-- lines after the page.
+pub record DecoratorView (D H T : Type 0) : Type 1 where
+  pub held : D → H
+  pub text : H → Mark → List ℕ
+  pub gives : H → Mark → T → Type 0
+  pub marks : H → Mark → Bool
+  pub after : H → Mark → H
+  pub pops : H → Mark → Bool
+  pub sub : H → H
+  pub closes : H → List (List ℕ) → List (List (Item T))

@@ -3,7 +3,7 @@ use Rattle.std.specs.Prelude.{◌≡◌, ℕ, ◌+◌, ◌*◌, ◌-◌, ◌≤�
 use Rattle.std.specs.Prelude.{◌∷◌, Option, None, Some, nat_lt}
 use Rattle.std.specs.Prelude.{chars, length, map, string_bytes}
 use Rattle.std.specs.Option.{option_and_then}
-use Rattle.text_marks.specs.Marks.{Mark}
+use Rattle.text_marks.specs.Marks.{DecoratorView, Mark}
 use Rattle.block_renderer.specs.Seen.{IsTagging, has_failed, marking, sub_of}
 use Rattle.renderer_calls.specs.Renderers.{Marking}
 use Rattle.render_sizes.specs.Asked.{AreMeasured}
@@ -107,52 +107,48 @@ load [] = 0
 load (x ∷ xs) = weight x + load xs
 
 -- Whatever stands in it, what it is in comes to that alone, and then to what waits.
-abbrev pub Opens : {D T H A : Type 0} → (T → A) → (D → H) → (H → Mark → List ℕ) → (H → Mark → T → Type 0)
-    → (H → Mark → Bool) → (H → Mark → H) → (H → Mark → Bool) → (H → H)
+abbrev pub Opens : {D T H A : Type 0} → (T → A) → DecoratorView D H T
     → (Marking H A → Step H A → Step H A) → List (CodeWaiting D T) → CodeLaying D T → CodeLaying D T → Type 0
-Opens seen held text gives marks after pops sub f items old new = (tag : _) → IsTagging seen gives tag
+Opens seen view f items old new = (tag : _) → IsTagging seen view tag
     → (nodes : List RenderNode) (w : Measure) (inside : Step _ _)
-    → f (marking text tag marks after pops sub) inside (laying_of seen held old)
-    ≡ option_and_then (unwound (marking text tag marks after pops sub) w (all_waiting seen held nodes items))
-    (inside (laying_of seen held new))
+    → f (marking view tag) inside (laying_of seen view.held old)
+    ≡ option_and_then (unwound (marking view tag) w (all_waiting seen view.held nodes items))
+    (inside (laying_of seen view.held new))
 
 -- what stands in a value, or nothing of it where that is left out
 abbrev pub where_entered : {H A : Type 0} → (entered : Bool) → Step H A → Step H A
 where_entered entered inside = if entered then inside else Some
 
 -- the same where what stands in it may be left out
-abbrev pub OpensWhere : {D T H A : Type 0} → (T → A) → (D → H) → (H → Mark → List ℕ) → (H → Mark → T → Type 0)
-    → (H → Mark → Bool) → (H → Mark → H) → (H → Mark → Bool) → (H → H)
+abbrev pub OpensWhere : {D T H A : Type 0} → (T → A) → DecoratorView D H T
     → (Marking H A → Step H A → Step H A) → (entered : Bool) → List (CodeWaiting D T) → CodeLaying D T
     → CodeLaying D T → Type 0
-OpensWhere seen held text gives marks after pops sub f entered items old new = (tag : _) → IsTagging seen gives tag
+OpensWhere seen view f entered items old new = (tag : _) → IsTagging seen view tag
     → (nodes : List RenderNode) (w : Measure) (inside : Step _ _)
-    → f (marking text tag marks after pops sub) inside (laying_of seen held old)
-    ≡ option_and_then (unwound (marking text tag marks after pops sub) w (all_waiting seen held nodes items))
-    (where_entered entered inside (laying_of seen held new))
+    → f (marking view tag) inside (laying_of seen view.held old)
+    ≡ option_and_then (unwound (marking view tag) w (all_waiting seen view.held nodes items))
+    (where_entered entered inside (laying_of seen view.held new))
 
 -- Whatever stands in it, it has no result.
-abbrev pub NeverOpens : {D T H A : Type 0} → (T → A) → (D → H) → (H → Mark → List ℕ) → (H → Mark → T → Type 0)
-    → (H → Mark → Bool) → (H → Mark → H) → (H → Mark → Bool) → (H → H)
+abbrev pub NeverOpens : {D T H A : Type 0} → (T → A) → DecoratorView D H T
     → (Marking H A → Step H A → Step H A) → CodeLaying D T → Type 0
-NeverOpens seen held text gives marks after pops sub f old = (tag : _) → IsTagging seen gives tag
-    → (inside : Step _ _) → f (marking text tag marks after pops sub) inside (laying_of seen held old) ≡ None
+NeverOpens seen view f old = (tag : _) → IsTagging seen view tag
+    → (inside : Step _ _) → f (marking view tag) inside (laying_of seen view.held old) ≡ None
 
 -- the same where at most so many wait behind others, nodes being those of the tree, and what stands in it may be left
 -- out
-pub record IsOpened {D T H A : Type 0} (seen : T → A) (held : D → H) (text : H → Mark → List ℕ)
-    (gives : H → Mark → T → Type 0) (marks : H → Mark → Bool) (after : H → Mark → H) (pops : H → Mark → Bool)
-    (sub : H → H) (most : ℕ) (nodes : List RenderNode) (entered : Bool)
+pub record IsOpened {D T H A : Type 0} (seen : T → A) (view : DecoratorView D H T) (most : ℕ) (nodes : List RenderNode)
+    (entered : Bool)
     (f : Marking H A → Step H A → Step H A) (before behind : List (CodeWaiting D T)) (old new : CodeLaying D T)
     : Type 0 where
   pub items : List (CodeWaiting D T)
   pub pushed : behind ≡ before ++ items
   pub works : All WorksOutside items
   pub few : length items ≤ most
-  pub opens : (tag : _) → IsTagging seen gives tag → (w : Measure) (inside : Step H A)
-      → f (marking text tag marks after pops sub) inside (laying_of seen held old)
-      ≡ option_and_then (unwound (marking text tag marks after pops sub) w (all_waiting seen held nodes items))
-      (where_entered entered inside (laying_of seen held new))
+  pub opens : (tag : _) → IsTagging seen view tag → (w : Measure) (inside : Step H A)
+      → f (marking view tag) inside (laying_of seen view.held old)
+      ≡ option_and_then (unwound (marking view tag) w (all_waiting seen view.held nodes items))
+      (where_entered entered inside (laying_of seen view.held new))
 
 -- what is to be known of what stands in a value
 abbrev pub content_seen : CodeContent → Content
@@ -185,18 +181,16 @@ left seen held m nodes w at end items l = option_and_then (unwound m w (all_wait
     (lay m w (values_of (segment nodes at end)) (laying_of seen held l))
 
 -- it stays what it is
-abbrev pub GoesOn : {D T H A : Type 0} → (T → A) → (D → H) → (H → Mark → List ℕ) → (H → Mark → T → Type 0)
-    → (H → Mark → Bool) → (H → Mark → H) → (H → Mark → Bool) → (H → H) → List RenderNode → Measure
+abbrev pub GoesOn : {D T H A : Type 0} → (T → A) → DecoratorView D H T → List RenderNode → Measure
     → (at end : ℕ) → List (CodeWaiting D T) → CodeLaying D T → (new_at new_end : ℕ) → List (CodeWaiting D T)
     → CodeLaying D T → Type 0
-GoesOn seen held text gives marks after pops sub nodes w at end before old new_at new_end behind new =
-    (tag : _) → IsTagging seen gives tag
-    → left seen held (marking text tag marks after pops sub) nodes w new_at new_end behind new
-    ≡ left seen held (marking text tag marks after pops sub) nodes w at end before old
+GoesOn seen view nodes w at end before old new_at new_end behind new =
+    (tag : _) → IsTagging seen view tag
+    → left seen view.held (marking view tag) nodes w new_at new_end behind new
+    ≡ left seen view.held (marking view tag) nodes w at end before old
 
-abbrev pub NeverGoes : {D T H A : Type 0} → (T → A) → (D → H) → (H → Mark → List ℕ) → (H → Mark → T → Type 0)
-    → (H → Mark → Bool) → (H → Mark → H) → (H → Mark → Bool) → (H → H) → List RenderNode → Measure
+abbrev pub NeverGoes : {D T H A : Type 0} → (T → A) → DecoratorView D H T → List RenderNode → Measure
     → (at end : ℕ) → List (CodeWaiting D T) → CodeLaying D T → Type 0
-NeverGoes seen held text gives marks after pops sub nodes w at end before old =
-    (tag : _) → IsTagging seen gives tag
-    → left seen held (marking text tag marks after pops sub) nodes w at end before old ≡ None
+NeverGoes seen view nodes w at end before old =
+    (tag : _) → IsTagging seen view tag
+    → left seen view.held (marking view tag) nodes w at end before old ≡ None

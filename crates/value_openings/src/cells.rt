@@ -32,16 +32,15 @@ fn open_slot<D: TextDecorator + Drop>(
     slots: SlotsLeft,
     made: Vec<(SubRenderer<D>, usize)>,
 ) -> Result<Option<Waiting<D>>, BlockError>
-    requires { IsWorking D.Annotation.seen D.held laying.old }
-    ensures opened { IfOk result (λ x. OpensWhere D.Annotation.seen D.held D.text D.gives D.marks D.after D.pops D.sub
-        (λ m. in_slot m (widths_seen rows.widths) (rows_left rows.rows) rows.fragments.items (slots_left slots)
-        (made_of D.Annotation.seen D.held made.items))
-        (is_some x) (maybe x) laying.old laying.new) }
-    ensures works { OnOk result (IsWorking D.Annotation.seen D.held laying.new) }
+    requires { IsWorking D.Annotation.seen D.view.held laying.old }
+    ensures opened { IfOk result (λ x. OpensWhere D.Annotation.seen D.view (λ m. in_slot m (widths_seen rows.widths)
+        (rows_left rows.rows) rows.fragments.items (slots_left slots) (made_of D.Annotation.seen D.view.held
+        made.items)) (is_some x) (maybe x) laying.old laying.new) }
+    ensures works { OnOk result (IsWorking D.Annotation.seen D.view.held laying.new) }
     ensures ready { IfOk result (λ x. IfSome x WorksOutside) }
-    ensures narrow { result ≡ Err errors.TooNarrow → NeverOpens D.Annotation.seen D.held D.text D.gives D.marks
-        D.after D.pops D.sub (λ m. in_slot m (widths_seen rows.widths) (rows_left rows.rows) rows.fragments.items
-        (slots_left slots) (made_of D.Annotation.seen D.held made.items)) laying.old }
+    ensures narrow { result ≡ Err errors.TooNarrow → NeverOpens D.Annotation.seen D.view
+        (λ m. in_slot m (widths_seen rows.widths) (rows_left rows.rows) rows.fragments.items (slots_left slots)
+        (made_of D.Annotation.seen D.view.held made.items)) laying.old }
     ensures kinds { IfErr result (λ e. (e ≡ errors.TooNarrow) ⊎ (e ≡ errors.Memory)) }
 {
     let mut rows = rows;
@@ -80,16 +79,15 @@ fn open_cell<D: TextDecorator + Drop>(
     slots: SlotsLeft,
     made: Vec<(SubRenderer<D>, usize)>,
 ) -> Result<Option<Waiting<D>>, BlockError>
-    requires { IsWorking D.Annotation.seen D.held laying.old }
-    ensures opened { IfOk result (λ x. OpensWhere D.Annotation.seen D.held D.text D.gives D.marks D.after D.pops D.sub
-        (λ m. cell_laid m (widths_seen rows.widths) (rows_left rows.rows) rows.fragments.items (slots_left slots)
-        (made_of D.Annotation.seen D.held made.items))
-        (is_some x) (maybe x) laying.old laying.new) }
-    ensures works { OnOk result (IsWorking D.Annotation.seen D.held laying.new) }
+    requires { IsWorking D.Annotation.seen D.view.held laying.old }
+    ensures opened { IfOk result (λ x. OpensWhere D.Annotation.seen D.view (λ m. cell_laid m (widths_seen rows.widths)
+        (rows_left rows.rows) rows.fragments.items (slots_left slots) (made_of D.Annotation.seen D.view.held
+        made.items)) (is_some x) (maybe x) laying.old laying.new) }
+    ensures works { OnOk result (IsWorking D.Annotation.seen D.view.held laying.new) }
     ensures ready { IfOk result (λ x. IfSome x WorksOutside) }
-    ensures narrow { result ≡ Err errors.TooNarrow → NeverOpens D.Annotation.seen D.held D.text D.gives D.marks
-        D.after D.pops D.sub (λ m. cell_laid m (widths_seen rows.widths) (rows_left rows.rows) rows.fragments.items
-        (slots_left slots) (made_of D.Annotation.seen D.held made.items)) laying.old }
+    ensures narrow { result ≡ Err errors.TooNarrow → NeverOpens D.Annotation.seen D.view
+        (λ m. cell_laid m (widths_seen rows.widths) (rows_left rows.rows) rows.fragments.items (slots_left slots)
+        (made_of D.Annotation.seen D.view.held made.items)) laying.old }
     ensures kinds { IfErr result (λ e. (e ≡ errors.TooNarrow) ⊎ (e ≡ errors.Memory)) }
 {
     let mut slots = slots;
@@ -108,15 +106,13 @@ fn open_in_slot<D: TextDecorator + Drop>(
     made: Vec<(SubRenderer<D>, usize)>,
     waiting: &mut Vec<Waiting<D>>,
 ) -> Result<bool, BlockError>
-    requires { IsWorking D.Annotation.seen D.held laying.old }
-    ensures opened { (nodes : List RenderNode) → IfOk result (λ entered. IsOpened
-        D.Annotation.seen D.held D.text D.gives D.marks D.after D.pops D.sub 2 nodes entered
-        (λ m. in_its_slot m head.now (place_of D.Annotation.seen D.held (Cells rows slots made)))
+    requires { IsWorking D.Annotation.seen D.view.held laying.old }
+    ensures opened { (nodes : List RenderNode) → IfOk result (λ entered. IsOpened D.Annotation.seen D.view 2 nodes
+        entered (λ m. in_its_slot m head.now (place_of D.Annotation.seen D.view.held (Cells rows slots made)))
         waiting.old.items waiting.new.items laying.old laying.new) }
-    ensures works { OnOk result (IsWorking D.Annotation.seen D.held laying.new) }
-    ensures narrow { result ≡ Err errors.TooNarrow → NeverOpens D.Annotation.seen D.held D.text D.gives D.marks
-        D.after D.pops D.sub (λ m. in_its_slot m head.now
-        (place_of D.Annotation.seen D.held (Cells rows slots made))) laying.old }
+    ensures works { OnOk result (IsWorking D.Annotation.seen D.view.held laying.new) }
+    ensures narrow { result ≡ Err errors.TooNarrow → NeverOpens D.Annotation.seen D.view
+        (λ m. in_its_slot m head.now (place_of D.Annotation.seen D.view.held (Cells rows slots made))) laying.old }
     ensures kinds { IfErr result (λ e. (e ≡ errors.TooNarrow) ⊎ (e ≡ errors.Memory)) }
 {
     let cell = open_cell(laying, alloc, rows, slots, made)?;
@@ -141,18 +137,16 @@ pub(crate) fn open_among_cells<D: TextDecorator + Drop>(
     made: Vec<(SubRenderer<D>, usize)>,
     waiting: &mut Vec<Waiting<D>>,
 ) -> Result<bool, BlockError>
-    requires { IsWorking D.Annotation.seen D.held laying.old }
-    ensures opened { (nodes : List RenderNode) → IfOk result (λ entered. IsOpened
-        D.Annotation.seen D.held D.text D.gives D.marks D.after D.pops D.sub 2 nodes entered
-        (λ m inside l. among_cells m head.now.info head.now
-        (place_of D.Annotation.seen D.held (Cells rows slots made)) inside
-        (in_table (place_of D.Annotation.seen D.held (Cells rows slots made)) l))
+    requires { IsWorking D.Annotation.seen D.view.held laying.old }
+    ensures opened { (nodes : List RenderNode) → IfOk result (λ entered. IsOpened D.Annotation.seen D.view 2 nodes
+        entered (λ m inside l. among_cells m head.now.info head.now (place_of D.Annotation.seen D.view.held
+        (Cells rows slots made)) inside (in_table (place_of D.Annotation.seen D.view.held (Cells rows slots made)) l))
         waiting.old.items waiting.new.items laying.old laying.new) }
-    ensures works { OnOk result (IsWorking D.Annotation.seen D.held laying.new) }
-    ensures narrow { result ≡ Err errors.TooNarrow → NeverOpens D.Annotation.seen D.held D.text D.gives D.marks
-        D.after D.pops D.sub (λ m inside l. among_cells m head.now.info head.now
-        (place_of D.Annotation.seen D.held (Cells rows slots made)) inside
-        (in_table (place_of D.Annotation.seen D.held (Cells rows slots made)) l)) laying.old }
+    ensures works { OnOk result (IsWorking D.Annotation.seen D.view.held laying.new) }
+    ensures narrow { result ≡ Err errors.TooNarrow → NeverOpens D.Annotation.seen D.view
+        (λ m inside l. among_cells m head.now.info head.now (place_of D.Annotation.seen D.view.held
+        (Cells rows slots made)) inside (in_table (place_of D.Annotation.seen D.view.held (Cells rows slots made)) l))
+        laying.old }
     ensures kinds { IfErr result (λ e. (e ≡ errors.TooNarrow) ⊎ (e ≡ errors.Memory)) }
 {
     match &head.info {

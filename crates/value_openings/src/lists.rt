@@ -18,14 +18,13 @@ pub(crate) fn hold_items<D: TextDecorator + Drop>(
     items: usize,
     least: usize,
 ) -> Result<Waiting<D>, BlockError>
-    requires { IsWorking D.Annotation.seen D.held laying.old }
-    ensures opened { IfOk result (λ x. Opens D.Annotation.seen D.held D.text D.gives D.marks D.after D.pops D.sub
-        (λ m. listed m first items least) (x ∷ []) laying.old laying.new) }
-    ensures works { OnOk result (IsWorking D.Annotation.seen D.held laying.new) }
+    requires { IsWorking D.Annotation.seen D.view.held laying.old }
+    ensures opened { IfOk result (λ x. Opens D.Annotation.seen D.view (λ m. listed m first items least) (x ∷ [])
+        laying.old laying.new) }
+    ensures works { OnOk result (IsWorking D.Annotation.seen D.view.held laying.new) }
     ensures ready { IfOk result WorksOutside }
-    ensures narrow { result ≡ Err errors.TooNarrow → NeverOpens D.Annotation.seen D.held D.text D.gives D.marks
-        D.after
-        D.pops D.sub (λ m. listed m first items least) laying.old }
+    ensures narrow { result ≡ Err errors.TooNarrow → NeverOpens D.Annotation.seen D.view
+        (λ m. listed m first items least) laying.old }
     ensures kinds { IfErr result (λ e. (e ≡ errors.TooNarrow) ⊎ (e ≡ errors.Memory)) }
 {
     let columns = laying.columns_of_items(first, first.last(items))?;
@@ -44,14 +43,13 @@ fn open_item<D: TextDecorator + Drop>(
     columns: usize,
     least: usize,
 ) -> Result<Waiting<D>, BlockError>
-    requires { IsWorking D.Annotation.seen D.held laying.old }
-    ensures opened { IfOk result (λ x. Opens D.Annotation.seen D.held D.text D.gives D.marks D.after D.pops D.sub
-        (λ m. item_laid m mark columns least) (x ∷ []) laying.old laying.new) }
-    ensures works { OnOk result (IsWorking D.Annotation.seen D.held laying.new) }
+    requires { IsWorking D.Annotation.seen D.view.held laying.old }
+    ensures opened { IfOk result (λ x. Opens D.Annotation.seen D.view (λ m. item_laid m mark columns least) (x ∷ [])
+        laying.old laying.new) }
+    ensures works { OnOk result (IsWorking D.Annotation.seen D.view.held laying.new) }
     ensures ready { IfOk result WorksOutside }
-    ensures narrow { result ≡ Err errors.TooNarrow → NeverOpens D.Annotation.seen D.held D.text D.gives D.marks
-        D.after
-        D.pops D.sub (λ m. item_laid m mark columns least) laying.old }
+    ensures narrow { result ≡ Err errors.TooNarrow → NeverOpens D.Annotation.seen D.view
+        (λ m. item_laid m mark columns least) laying.old }
     ensures kinds { IfErr result (λ e. (e ≡ errors.TooNarrow) ⊎ (e ≡ errors.Memory)) }
 {
     let first = laying.item_prefix(mark, columns)?;
@@ -79,14 +77,13 @@ pub(crate) fn open_place<D: TextDecorator + Drop>(
     laying: &mut Laying<D>,
     alloc: Global,
 ) -> Result<Option<Waiting<D>>, BlockError>
-    requires { IsWorking D.Annotation.seen D.held laying.old }
-    ensures opened { IfOk result (λ x. Opens D.Annotation.seen D.held D.text D.gives D.marks D.after D.pops D.sub
-        (λ m inside l. placed m l.around inside l) (maybe x) laying.old laying.new) }
-    ensures works { OnOk result (IsWorking D.Annotation.seen D.held laying.new) }
+    requires { IsWorking D.Annotation.seen D.view.held laying.old }
+    ensures opened { IfOk result (λ x. Opens D.Annotation.seen D.view (λ m inside l. placed m l.around inside l)
+        (maybe x) laying.old laying.new) }
+    ensures works { OnOk result (IsWorking D.Annotation.seen D.view.held laying.new) }
     ensures ready { IfOk result (λ x. IfSome x WorksOutside) }
-    ensures narrow { result ≡ Err errors.TooNarrow → NeverOpens D.Annotation.seen D.held D.text D.gives D.marks
-        D.after
-        D.pops D.sub (λ m inside l. placed m l.around inside l) laying.old }
+    ensures narrow { result ≡ Err errors.TooNarrow → NeverOpens D.Annotation.seen D.view
+        (λ m inside l. placed m l.around inside l) laying.old }
     ensures kinds { IfErr result (λ e. (e ≡ errors.TooNarrow) ⊎ (e ≡ errors.Memory)) }
 {
     match laying.around {

@@ -16,14 +16,13 @@ pub(crate) fn open_look<D: TextDecorator + Drop>(
     laying: &mut Laying<D>,
     style: RenderStyle,
 ) -> Result<Option<Waiting<D>>, BlockError>
-    requires { IsWorking D.Annotation.seen D.held laying.old }
-    ensures opened { IfOk result (λ x. Opens D.Annotation.seen D.held D.text D.gives D.marks D.after D.pops D.sub
-        (λ m. styled m style) (maybe x) laying.old laying.new) }
-    ensures works { OnOk result (IsWorking D.Annotation.seen D.held laying.new) }
+    requires { IsWorking D.Annotation.seen D.view.held laying.old }
+    ensures opened { IfOk result (λ x. Opens D.Annotation.seen D.view (λ m. styled m style) (maybe x) laying.old
+        laying.new) }
+    ensures works { OnOk result (IsWorking D.Annotation.seen D.view.held laying.new) }
     ensures ready { IfOk result (λ x. IfSome x WorksOutside) }
-    ensures narrow { result ≡ Err errors.TooNarrow → NeverOpens D.Annotation.seen D.held D.text D.gives D.marks
-        D.after
-        D.pops D.sub (λ m. styled m style) laying.old }
+    ensures narrow { result ≡ Err errors.TooNarrow → NeverOpens D.Annotation.seen D.view (λ m. styled m style)
+        laying.old }
     ensures kinds { IfErr result (λ e. (e ≡ errors.TooNarrow) ⊎ (e ≡ errors.Memory)) }
 {
     if style == RenderStyle::plain() {

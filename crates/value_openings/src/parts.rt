@@ -25,16 +25,14 @@ pub(crate) fn open_part<D: TextDecorator + Drop>(
     first: String,
     following: String,
 ) -> Result<Waiting<D>, BlockError>
-    requires { IsWorking D.Annotation.seen D.held laying.old }
-    ensures opened { IfOk result (λ x. Opens D.Annotation.seen D.held D.text D.gives D.marks D.after D.pops D.sub
-        (λ m. behind_prefix m columns (chars (string_bytes first)) (chars (string_bytes following)) least) (x ∷
-        []) laying.old laying.new) }
-    ensures works { OnOk result (IsWorking D.Annotation.seen D.held laying.new) }
+    requires { IsWorking D.Annotation.seen D.view.held laying.old }
+    ensures opened { IfOk result (λ x. Opens D.Annotation.seen D.view
+        (λ m. behind_prefix m columns (chars (string_bytes first)) (chars (string_bytes following)) least) (x ∷ [])
+        laying.old laying.new) }
+    ensures works { OnOk result (IsWorking D.Annotation.seen D.view.held laying.new) }
     ensures ready { IfOk result WorksOutside }
-    ensures narrow { result ≡ Err errors.TooNarrow → NeverOpens D.Annotation.seen D.held D.text D.gives D.marks
-        D.after
-        D.pops D.sub (λ m. behind_prefix m columns (chars (string_bytes first)) (chars (string_bytes following))
-        least) laying.old }
+    ensures narrow { result ≡ Err errors.TooNarrow → NeverOpens D.Annotation.seen D.view
+        (λ m. behind_prefix m columns (chars (string_bytes first)) (chars (string_bytes following)) least) laying.old }
     ensures kinds { IfErr result (λ e. (e ≡ errors.TooNarrow) ⊎ (e ≡ errors.Memory)) }
 {
     let outer = laying.begin_part(columns, least)?;
@@ -56,14 +54,13 @@ pub(crate) fn hold_heading<D: TextDecorator + Drop>(
     level: u8,
     least: usize,
 ) -> Result<Waiting<D>, BlockError>
-    requires { IsWorking D.Annotation.seen D.held laying.old }
-    ensures opened { IfOk result (λ x. Opens D.Annotation.seen D.held D.text D.gives D.marks D.after D.pops D.sub
-        (λ m. behind_mark m (header level) least) (x ∷ []) laying.old laying.new) }
-    ensures works { OnOk result (IsWorking D.Annotation.seen D.held laying.new) }
+    requires { IsWorking D.Annotation.seen D.view.held laying.old }
+    ensures opened { IfOk result (λ x. Opens D.Annotation.seen D.view (λ m. behind_mark m (header level) least)
+        (x ∷ []) laying.old laying.new) }
+    ensures works { OnOk result (IsWorking D.Annotation.seen D.view.held laying.new) }
     ensures ready { IfOk result WorksOutside }
-    ensures narrow { result ≡ Err errors.TooNarrow → NeverOpens D.Annotation.seen D.held D.text D.gives D.marks
-        D.after
-        D.pops D.sub (λ m. behind_mark m (header level) least) laying.old }
+    ensures narrow { result ≡ Err errors.TooNarrow → NeverOpens D.Annotation.seen D.view
+        (λ m. behind_mark m (header level) least) laying.old }
     ensures kinds { IfErr result (λ e. (e ≡ errors.TooNarrow) ⊎ (e ≡ errors.Memory)) }
 {
     let first = laying.heading_prefix(level)?;
@@ -78,14 +75,13 @@ pub(crate) fn hold_quote<D: TextDecorator + Drop>(
     alloc: Global,
     least: usize,
 ) -> Result<Waiting<D>, BlockError>
-    requires { IsWorking D.Annotation.seen D.held laying.old }
-    ensures opened { IfOk result (λ x. Opens D.Annotation.seen D.held D.text D.gives D.marks D.after D.pops D.sub
-        (λ m. behind_mark m quote least) (x ∷ []) laying.old laying.new) }
-    ensures works { OnOk result (IsWorking D.Annotation.seen D.held laying.new) }
+    requires { IsWorking D.Annotation.seen D.view.held laying.old }
+    ensures opened { IfOk result (λ x. Opens D.Annotation.seen D.view (λ m. behind_mark m quote least) (x ∷ [])
+        laying.old laying.new) }
+    ensures works { OnOk result (IsWorking D.Annotation.seen D.view.held laying.new) }
     ensures ready { IfOk result WorksOutside }
-    ensures narrow { result ≡ Err errors.TooNarrow → NeverOpens D.Annotation.seen D.held D.text D.gives D.marks
-        D.after
-        D.pops D.sub (λ m. behind_mark m quote least) laying.old }
+    ensures narrow { result ≡ Err errors.TooNarrow → NeverOpens D.Annotation.seen D.view
+        (λ m. behind_mark m quote least) laying.old }
     ensures kinds { IfErr result (λ e. (e ≡ errors.TooNarrow) ⊎ (e ≡ errors.Memory)) }
 {
     let first = laying.quote_prefix()?;
@@ -100,14 +96,13 @@ pub(crate) fn hold_details<D: TextDecorator + Drop>(
     alloc: Global,
     least: usize,
 ) -> Result<Waiting<D>, BlockError>
-    requires { IsWorking D.Annotation.seen D.held laying.old }
-    ensures opened { IfOk result (λ x. Opens D.Annotation.seen D.held D.text D.gives D.marks D.after D.pops D.sub
-        (λ m. behind_prefix m 2 (spaces 2) (spaces 2) least) (x ∷ []) laying.old laying.new) }
-    ensures works { OnOk result (IsWorking D.Annotation.seen D.held laying.new) }
+    requires { IsWorking D.Annotation.seen D.view.held laying.old }
+    ensures opened { IfOk result (λ x. Opens D.Annotation.seen D.view (λ m. behind_prefix m 2 (spaces 2) (spaces 2)
+        least) (x ∷ []) laying.old laying.new) }
+    ensures works { OnOk result (IsWorking D.Annotation.seen D.view.held laying.new) }
     ensures ready { IfOk result WorksOutside }
-    ensures narrow { result ≡ Err errors.TooNarrow → NeverOpens D.Annotation.seen D.held D.text D.gives D.marks
-        D.after
-        D.pops D.sub (λ m. behind_prefix m 2 (spaces 2) (spaces 2) least) laying.old }
+    ensures narrow { result ≡ Err errors.TooNarrow → NeverOpens D.Annotation.seen D.view
+        (λ m. behind_prefix m 2 (spaces 2) (spaces 2) least) laying.old }
     ensures kinds { IfErr result (λ e. (e ≡ errors.TooNarrow) ⊎ (e ≡ errors.Memory)) }
 {
     let first = spaces(alloc, 2)?;

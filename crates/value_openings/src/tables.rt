@@ -40,14 +40,14 @@ pub(crate) fn hold_table<D: TextDecorator + Drop>(
     alloc: Global,
     table: Table,
 ) -> Result<Option<Waiting<D>>, BlockError>
-    requires works { IsWorking D.Annotation.seen D.held laying.old }
+    requires works { IsWorking D.Annotation.seen D.view.held laying.old }
     requires sized { AreSized table.columns.items }
-    ensures opened { IfOk result (λ x. OpensWhere D.Annotation.seen D.held D.text D.gives D.marks D.after D.pops D.sub
-        (λ m. table_laid m (table_seen table)) (is_some x) (maybe x) laying.old laying.new) }
-    ensures works { OnOk result (IsWorking D.Annotation.seen D.held laying.new) }
+    ensures opened { IfOk result (λ x. OpensWhere D.Annotation.seen D.view (λ m. table_laid m (table_seen table))
+        (is_some x) (maybe x) laying.old laying.new) }
+    ensures works { OnOk result (IsWorking D.Annotation.seen D.view.held laying.new) }
     ensures ready { IfOk result (λ x. IfSome x WorksOutside) }
-    ensures narrow { result ≡ Err errors.TooNarrow → NeverOpens D.Annotation.seen D.held D.text D.gives D.marks
-        D.after D.pops D.sub (λ m. table_laid m (table_seen table)) laying.old }
+    ensures narrow { result ≡ Err errors.TooNarrow → NeverOpens D.Annotation.seen D.view
+        (λ m. table_laid m (table_seen table)) laying.old }
     ensures kinds { IfErr result (λ e. (e ≡ errors.TooNarrow) ⊎ (e ≡ errors.Memory)) }
 {
     if table.columns.is_empty() {
@@ -79,14 +79,12 @@ pub fn end_table<D: TextDecorator + Drop>(
     laying: &mut Laying<D>,
     table: Box<OpenTable<D>>,
 ) -> Result<(), BlockError>
-    requires { IsWorking D.Annotation.seen D.held laying.old }
-    ensures done { OnOk result (Comes D.Annotation.seen D.held D.text D.gives D.marks D.after D.pops D.sub
-        (λ m. table_ended m table.value.fenced (place_of D.Annotation.seen D.held table.value.place)) laying.old
-        laying.new) }
-    ensures works { OnOk result (IsWorking D.Annotation.seen D.held laying.new) }
-    ensures narrow { result ≡ Err errors.TooNarrow → Fails D.Annotation.seen D.held D.text D.gives D.marks D.after
-        D.pops D.sub (λ m. table_ended m table.value.fenced (place_of D.Annotation.seen D.held table.value.place))
-        laying.old }
+    requires { IsWorking D.Annotation.seen D.view.held laying.old }
+    ensures done { OnOk result (Comes D.Annotation.seen D.view (λ m. table_ended m table.value.fenced
+        (place_of D.Annotation.seen D.view.held table.value.place)) laying.old laying.new) }
+    ensures works { OnOk result (IsWorking D.Annotation.seen D.view.held laying.new) }
+    ensures narrow { result ≡ Err errors.TooNarrow → Fails D.Annotation.seen D.view
+        (λ m. table_ended m table.value.fenced (place_of D.Annotation.seen D.view.held table.value.place)) laying.old }
     ensures kinds { IfErr result (λ e. (e ≡ errors.TooNarrow) ⊎ (e ≡ errors.Memory)) }
 {
     let OpenTable { place, fenced } = Box::into_inner(table);
@@ -103,8 +101,8 @@ fn begin_group<D: TextDecorator + Drop>(
     rows: TableRows,
 ) -> Result<(), AllocError>
     ensures begun { OnOk result ((m : Marking _ _) (inside : Step _ _) → in_its_group m head.now
-        (widths_seen rows.widths) (rows_left rows.rows) rows.fragments.items inside
-        (laying_of D.Annotation.seen D.held laying.old) ≡ styled m head.now.style inside (laying_of D.Annotation.seen D.held laying.new)) }
+        (widths_seen rows.widths) (rows_left rows.rows) rows.fragments.items inside (laying_of D.Annotation.seen
+        D.view.held laying.old) ≡ styled m head.now.style inside (laying_of D.Annotation.seen D.view.held laying.new)) }
     ensures works { OnOk result (laying.new.text ≡ laying.old.text) }
 {
     let mut rows = rows;
@@ -120,15 +118,13 @@ fn open_group<D: TextDecorator + Drop>(
     rows: TableRows,
     waiting: &mut Vec<Waiting<D>>,
 ) -> Result<(), BlockError>
-    requires { IsWorking D.Annotation.seen D.held laying.old }
-    ensures opened { (nodes : List RenderNode) → OnOk result (IsOpened
-        D.Annotation.seen D.held D.text D.gives D.marks D.after D.pops D.sub 2 nodes true
+    requires { IsWorking D.Annotation.seen D.view.held laying.old }
+    ensures opened { (nodes : List RenderNode) → OnOk result (IsOpened D.Annotation.seen D.view 2 nodes true
         (λ m. in_its_group m head.now (widths_seen rows.widths) (rows_left rows.rows) rows.fragments.items)
         waiting.old.items waiting.new.items laying.old laying.new) }
-    ensures works { OnOk result (IsWorking D.Annotation.seen D.held laying.new) }
-    ensures narrow { result ≡ Err errors.TooNarrow → NeverOpens D.Annotation.seen D.held D.text D.gives D.marks
-        D.after D.pops D.sub (λ m. in_its_group m head.now (widths_seen rows.widths) (rows_left rows.rows)
-        rows.fragments.items) laying.old }
+    ensures works { OnOk result (IsWorking D.Annotation.seen D.view.held laying.new) }
+    ensures narrow { result ≡ Err errors.TooNarrow → NeverOpens D.Annotation.seen D.view
+        (λ m. in_its_group m head.now (widths_seen rows.widths) (rows_left rows.rows) rows.fragments.items) laying.old }
     ensures kinds { IfErr result (λ e. (e ≡ errors.TooNarrow) ⊎ (e ≡ errors.Memory)) }
 {
     begin_group(laying, head, rows)?;
@@ -146,9 +142,9 @@ fn begin_row<D: TextDecorator + Drop>(
 ) -> Result<bool, AllocError>
     ensures begun { IfOk result (λ shown. (m : Marking _ _) (inside : Step _ _) → in_its_row m head.now
         (widths_seen rows.widths) (rows_left rows.rows) rows.fragments.items inside
-        (in_table (place_of D.Annotation.seen D.held (Rows rows)) (laying_of D.Annotation.seen D.held laying.old))
-        ≡ where_entered shown (styled m head.now.style (in_turn inside (row_ended m)))
-        (laying_of D.Annotation.seen D.held laying.new)) }
+        (in_table (place_of D.Annotation.seen D.view.held (Rows rows)) (laying_of D.Annotation.seen D.view.held
+        laying.old)) ≡ where_entered shown (styled m head.now.style (in_turn inside (row_ended m)))
+        (laying_of D.Annotation.seen D.view.held laying.new)) }
     ensures works { OnOk result (laying.new.text ≡ laying.old.text) }
 {
     let mut rows = rows;
@@ -177,16 +173,15 @@ fn open_row<D: TextDecorator + Drop>(
     rows: TableRows,
     waiting: &mut Vec<Waiting<D>>,
 ) -> Result<bool, BlockError>
-    requires { IsWorking D.Annotation.seen D.held laying.old }
-    ensures opened { (nodes : List RenderNode) → IfOk result (λ entered. IsOpened
-        D.Annotation.seen D.held D.text D.gives D.marks D.after D.pops D.sub 2 nodes entered
-        (λ m inside l. in_its_row m head.now (widths_seen rows.widths) (rows_left rows.rows)
-        rows.fragments.items inside (in_table (place_of D.Annotation.seen D.held (Rows rows)) l))
+    requires { IsWorking D.Annotation.seen D.view.held laying.old }
+    ensures opened { (nodes : List RenderNode) → IfOk result (λ entered. IsOpened D.Annotation.seen D.view 2 nodes
+        entered (λ m inside l. in_its_row m head.now (widths_seen rows.widths) (rows_left rows.rows)
+        rows.fragments.items inside (in_table (place_of D.Annotation.seen D.view.held (Rows rows)) l))
         waiting.old.items waiting.new.items laying.old laying.new) }
-    ensures works { OnOk result (IsWorking D.Annotation.seen D.held laying.new) }
-    ensures narrow { result ≡ Err errors.TooNarrow → NeverOpens D.Annotation.seen D.held D.text D.gives D.marks
-        D.after D.pops D.sub (λ m inside l. in_its_row m head.now (widths_seen rows.widths) (rows_left rows.rows)
-        rows.fragments.items inside (in_table (place_of D.Annotation.seen D.held (Rows rows)) l)) laying.old }
+    ensures works { OnOk result (IsWorking D.Annotation.seen D.view.held laying.new) }
+    ensures narrow { result ≡ Err errors.TooNarrow → NeverOpens D.Annotation.seen D.view
+        (λ m inside l. in_its_row m head.now (widths_seen rows.widths) (rows_left rows.rows) rows.fragments.items
+        inside (in_table (place_of D.Annotation.seen D.view.held (Rows rows)) l)) laying.old }
     ensures kinds { IfErr result (λ e. (e ≡ errors.TooNarrow) ⊎ (e ≡ errors.Memory)) }
 {
     let shown = begin_row(laying, alloc, head, rows)?;
@@ -208,16 +203,16 @@ pub fn end_cell<D: TextDecorator + Drop>(
     alloc: Global,
     cell: Box<OpenCell<D>>,
 ) -> Result<(), BlockError>
-    requires works { IsWorking D.Annotation.seen D.held laying.old × (has_failed cell.value.outer ≡ false) }
-    ensures done { OnOk result (Comes D.Annotation.seen D.held D.text D.gives D.marks D.after D.pops D.sub
-        (λ m. cell_ended (sub_of D.Annotation.seen D.held cell.value.outer) (widths_seen cell.value.rows.widths)
-        (rows_left cell.value.rows.rows) (slots_left cell.value.slots)
-        (made_of D.Annotation.seen D.held cell.value.made.items) cell.value.taken) laying.old laying.new) }
-    ensures works { OnOk result (IsWorking D.Annotation.seen D.held laying.new) }
-    ensures narrow { result ≡ Err errors.TooNarrow → Fails D.Annotation.seen D.held D.text D.gives D.marks D.after
-        D.pops D.sub (λ m. cell_ended (sub_of D.Annotation.seen D.held cell.value.outer)
-        (widths_seen cell.value.rows.widths) (rows_left cell.value.rows.rows) (slots_left cell.value.slots)
-        (made_of D.Annotation.seen D.held cell.value.made.items) cell.value.taken) laying.old }
+    requires works { IsWorking D.Annotation.seen D.view.held laying.old × (has_failed cell.value.outer ≡ false) }
+    ensures done { OnOk result (Comes D.Annotation.seen D.view
+        (λ m. cell_ended (sub_of D.Annotation.seen D.view.held cell.value.outer) (widths_seen cell.value.rows.widths)
+        (rows_left cell.value.rows.rows) (slots_left cell.value.slots) (made_of D.Annotation.seen D.view.held
+        cell.value.made.items) cell.value.taken) laying.old laying.new) }
+    ensures works { OnOk result (IsWorking D.Annotation.seen D.view.held laying.new) }
+    ensures narrow { result ≡ Err errors.TooNarrow → Fails D.Annotation.seen D.view
+        (λ m. cell_ended (sub_of D.Annotation.seen D.view.held cell.value.outer) (widths_seen cell.value.rows.widths)
+        (rows_left cell.value.rows.rows) (slots_left cell.value.slots) (made_of D.Annotation.seen D.view.held
+        cell.value.made.items) cell.value.taken) laying.old }
     ensures kinds { IfErr result (λ e. (e ≡ errors.TooNarrow) ⊎ (e ≡ errors.Memory)) }
 {
     let OpenCell {
@@ -244,17 +239,15 @@ fn open_among_rows<D: TextDecorator + Drop>(
     rows: TableRows,
     waiting: &mut Vec<Waiting<D>>,
 ) -> Result<bool, BlockError>
-    requires { IsWorking D.Annotation.seen D.held laying.old }
-    ensures opened { (nodes : List RenderNode) → IfOk result (λ entered. IsOpened
-        D.Annotation.seen D.held D.text D.gives D.marks D.after D.pops D.sub 2 nodes entered
-        (λ m inside l. among_rows m head.now.info head.now (widths_seen rows.widths) (rows_left rows.rows)
-        rows.fragments.items inside (in_table (place_of D.Annotation.seen D.held (Rows rows)) l))
+    requires { IsWorking D.Annotation.seen D.view.held laying.old }
+    ensures opened { (nodes : List RenderNode) → IfOk result (λ entered. IsOpened D.Annotation.seen D.view 2 nodes
+        entered (λ m inside l. among_rows m head.now.info head.now (widths_seen rows.widths) (rows_left rows.rows)
+        rows.fragments.items inside (in_table (place_of D.Annotation.seen D.view.held (Rows rows)) l))
         waiting.old.items waiting.new.items laying.old laying.new) }
-    ensures works { OnOk result (IsWorking D.Annotation.seen D.held laying.new) }
-    ensures narrow { result ≡ Err errors.TooNarrow → NeverOpens D.Annotation.seen D.held D.text D.gives D.marks
-        D.after D.pops D.sub (λ m inside l. among_rows m head.now.info head.now (widths_seen rows.widths)
-        (rows_left rows.rows) rows.fragments.items inside
-        (in_table (place_of D.Annotation.seen D.held (Rows rows)) l)) laying.old }
+    ensures works { OnOk result (IsWorking D.Annotation.seen D.view.held laying.new) }
+    ensures narrow { result ≡ Err errors.TooNarrow → NeverOpens D.Annotation.seen D.view
+        (λ m inside l. among_rows m head.now.info head.now (widths_seen rows.widths) (rows_left rows.rows)
+        rows.fragments.items inside (in_table (place_of D.Annotation.seen D.view.held (Rows rows)) l)) laying.old }
     ensures kinds { IfErr result (λ e. (e ≡ errors.TooNarrow) ⊎ (e ≡ errors.Memory)) }
 {
     match &head.info {
@@ -277,15 +270,15 @@ pub(crate) fn open_table_part<D: TextDecorator + Drop>(
     head: &Head,
     waiting: &mut Vec<Waiting<D>>,
 ) -> Result<Option<bool>, BlockError>
-    requires { IsWorking D.Annotation.seen D.held laying.old }
-    ensures outside { IfOk result (λ r. r ≡ None → StandsOutside D.Annotation.seen D.held head.now laying.old laying.new
-        waiting.old.items waiting.new.items) }
-    ensures opened { (content : Content) (nodes : List RenderNode) → IfOk result (λ r. IfSome r (λ entered. IsOpened
-        D.Annotation.seen D.held D.text D.gives D.marks D.after D.pops D.sub 2 nodes entered
-        (λ m. laid m head.now content) waiting.old.items waiting.new.items laying.old laying.new)) }
-    ensures works { OnOk result (IsWorking D.Annotation.seen D.held laying.new) }
-    ensures narrow { result ≡ Err errors.TooNarrow → (content : Content) → NeverOpens D.Annotation.seen D.held D.text
-        D.gives D.marks D.after D.pops D.sub (λ m. laid m head.now content) laying.old }
+    requires { IsWorking D.Annotation.seen D.view.held laying.old }
+    ensures outside { IfOk result (λ r. r ≡ None → StandsOutside D.Annotation.seen D.view.held head.now laying.old
+        laying.new waiting.old.items waiting.new.items) }
+    ensures opened { (content : Content) (nodes : List RenderNode) → IfOk result
+        (λ r. IfSome r (λ entered. IsOpened D.Annotation.seen D.view 2 nodes entered (λ m. laid m head.now content)
+        waiting.old.items waiting.new.items laying.old laying.new)) }
+    ensures works { OnOk result (IsWorking D.Annotation.seen D.view.held laying.new) }
+    ensures narrow { result ≡ Err errors.TooNarrow → (content : Content) → NeverOpens D.Annotation.seen D.view
+        (λ m. laid m head.now content) laying.old }
     ensures kinds { IfErr result (λ e. (e ≡ errors.TooNarrow) ⊎ (e ≡ errors.Memory)) }
 {
     match mem::replace(&mut laying.table, TablePlace::Outside { in_cell: true }) {

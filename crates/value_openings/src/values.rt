@@ -29,14 +29,14 @@ fn hold<D: TextDecorator + Drop>(
     info: &RenderInfo,
     content: Content,
 ) -> Result<(Option<Waiting<D>>, bool), BlockError>
-    requires works { IsWorking D.Annotation.seen D.held laying.old }
+    requires works { IsWorking D.Annotation.seen D.view.held laying.old }
     requires sized { AreSized content.table.columns.items }
-    ensures opened { IfOk result (λ r. OpensWhere D.Annotation.seen D.held D.text D.gives D.marks D.after D.pops D.sub
+    ensures opened { IfOk result (λ r. OpensWhere D.Annotation.seen D.view
         (λ m. holds m info.now (content_seen content)) r.1 (maybe r.0) laying.old laying.new) }
-    ensures works { OnOk result (IsWorking D.Annotation.seen D.held laying.new) }
+    ensures works { OnOk result (IsWorking D.Annotation.seen D.view.held laying.new) }
     ensures ready { IfOk result (λ r. IfSome r.0 WorksOutside) }
-    ensures narrow { result ≡ Err errors.TooNarrow → NeverOpens D.Annotation.seen D.held D.text D.gives D.marks
-        D.after D.pops D.sub (λ m. holds m info.now (content_seen content)) laying.old }
+    ensures narrow { result ≡ Err errors.TooNarrow → NeverOpens D.Annotation.seen D.view
+        (λ m. holds m info.now (content_seen content)) laying.old }
     ensures kinds { IfErr result (λ e. (e ≡ errors.TooNarrow) ⊎ (e ≡ errors.Memory)) }
 {
     let least = content.least;
@@ -70,14 +70,14 @@ fn open_shown<D: TextDecorator + Drop>(
     content: Content,
     waiting: &mut Vec<Waiting<D>>,
 ) -> Result<bool, BlockError>
-    requires works { IsWorking D.Annotation.seen D.held laying.old }
+    requires works { IsWorking D.Annotation.seen D.view.held laying.old }
     requires sized { AreSized content.table.columns.items }
-    ensures opened { (nodes : List RenderNode) → info_at nodes at ≡ head.now.info → IfOk result (λ entered. IsOpened
-        D.Annotation.seen D.held D.text D.gives D.marks D.after D.pops D.sub 2 nodes entered
-        (λ m. shown m head.now (content_seen content)) waiting.old.items waiting.new.items laying.old laying.new) }
-    ensures works { OnOk result (IsWorking D.Annotation.seen D.held laying.new) }
-    ensures narrow { result ≡ Err errors.TooNarrow → NeverOpens D.Annotation.seen D.held D.text D.gives D.marks
-        D.after D.pops D.sub (λ m. shown m head.now (content_seen content)) laying.old }
+    ensures opened { (nodes : List RenderNode) → info_at nodes at ≡ head.now.info → IfOk result
+        (λ entered. IsOpened D.Annotation.seen D.view 2 nodes entered (λ m. shown m head.now (content_seen content))
+        waiting.old.items waiting.new.items laying.old laying.new) }
+    ensures works { OnOk result (IsWorking D.Annotation.seen D.view.held laying.new) }
+    ensures narrow { result ≡ Err errors.TooNarrow → NeverOpens D.Annotation.seen D.view
+        (λ m. shown m head.now (content_seen content)) laying.old }
     ensures kinds { IfErr result (λ e. (e ≡ errors.TooNarrow) ⊎ (e ≡ errors.Memory)) }
 {
     laying.lead(head)?;
@@ -101,15 +101,15 @@ fn open_outside<D: TextDecorator + Drop>(
     content: Content,
     waiting: &mut Vec<Waiting<D>>,
 ) -> Result<bool, BlockError>
-    requires works { IsWorking D.Annotation.seen D.held laying.old }
+    requires works { IsWorking D.Annotation.seen D.view.held laying.old }
     requires sized { AreSized content.table.columns.items }
-    ensures opened { (nodes : List RenderNode) → info_at nodes at ≡ head.now.info → IfOk result (λ entered. IsOpened
-        D.Annotation.seen D.held D.text D.gives D.marks D.after D.pops D.sub 4 nodes entered
+    ensures opened { (nodes : List RenderNode) → info_at nodes at ≡ head.now.info → IfOk result
+        (λ entered. IsOpened D.Annotation.seen D.view 4 nodes entered
         (λ m. laid_outside m head.now (content_seen content)) waiting.old.items waiting.new.items laying.old
         laying.new) }
-    ensures works { OnOk result (IsWorking D.Annotation.seen D.held laying.new) }
-    ensures narrow { result ≡ Err errors.TooNarrow → NeverOpens D.Annotation.seen D.held D.text D.gives D.marks
-        D.after D.pops D.sub (λ m. laid_outside m head.now (content_seen content)) laying.old }
+    ensures works { OnOk result (IsWorking D.Annotation.seen D.view.held laying.new) }
+    ensures narrow { result ≡ Err errors.TooNarrow → NeverOpens D.Annotation.seen D.view
+        (λ m. laid_outside m head.now (content_seen content)) laying.old }
     ensures kinds { IfErr result (λ e. (e ≡ errors.TooNarrow) ⊎ (e ≡ errors.Memory)) }
 {
     let item = open_place(laying, alloc)?;
@@ -129,14 +129,14 @@ pub fn open_value<D: TextDecorator + Drop>(
     content: Content,
     waiting: &mut Vec<Waiting<D>>,
 ) -> Result<bool, BlockError>
-    requires works { IsWorking D.Annotation.seen D.held laying.old }
+    requires works { IsWorking D.Annotation.seen D.view.held laying.old }
     requires sized { AreSized content.table.columns.items }
-    ensures opened { (nodes : List RenderNode) → info_at nodes at ≡ head.now.info → IfOk result (λ entered. IsOpened
-        D.Annotation.seen D.held D.text D.gives D.marks D.after D.pops D.sub 4 nodes entered
-        (λ m. laid m head.now (content_seen content)) waiting.old.items waiting.new.items laying.old laying.new) }
-    ensures works { OnOk result (IsWorking D.Annotation.seen D.held laying.new) }
-    ensures narrow { result ≡ Err errors.TooNarrow → NeverOpens D.Annotation.seen D.held D.text D.gives D.marks
-        D.after D.pops D.sub (λ m. laid m head.now (content_seen content)) laying.old }
+    ensures opened { (nodes : List RenderNode) → info_at nodes at ≡ head.now.info → IfOk result
+        (λ entered. IsOpened D.Annotation.seen D.view 4 nodes entered (λ m. laid m head.now (content_seen content))
+        waiting.old.items waiting.new.items laying.old laying.new) }
+    ensures works { OnOk result (IsWorking D.Annotation.seen D.view.held laying.new) }
+    ensures narrow { result ≡ Err errors.TooNarrow → NeverOpens D.Annotation.seen D.view
+        (λ m. laid m head.now (content_seen content)) laying.old }
     ensures kinds { IfErr result (λ e. (e ≡ errors.TooNarrow) ⊎ (e ≡ errors.Memory)) }
 {
     let part = open_table_part(laying, alloc, head, waiting)?;

@@ -9,7 +9,7 @@ use Rattle.block_renderer.proofs.parts.cells_of_subs.Goals as goal
 pub loop-cell-preserved : goal.loop-cell-preserved
 loop-cell-preserved g c =
     let seen = g.D.Annotation.EqualCopy.seen in
-    let s = sub_of seen g.D.TextDecorator.held in
+    let s = sub_of seen g.D.TextDecorator.view.held in
     record {
       cells = next_cell (map (cell_of (tags_seen seen)) c.loop-cell.done.items)
           (map (cell_of (tags_seen seen)) c.push.new.self.items) (s c.in-Some.cell, c.in-Some.rows)
@@ -27,7 +27,7 @@ loop-cell-preserved g c =
 pub returns-clause-cells : goal.returns-clause-cells
 returns-clause-cells g c =
     let seen = g.D.Annotation.EqualCopy.seen in
-    let s = sub_of seen g.D.TextDecorator.held in
+    let s = sub_of seen g.D.TextDecorator.view.held in
     let left : length (into_iter_items c.loop-cell.cell-iterator) ≡ 0
     = omega (arith, c.loop-cell.cell-iterator.rest.ok.0, c.in-None.ensures.steps.0) in
     all_cells (map (cell_of (tags_seen seen)) c.loop-cell.done.items)

@@ -9,7 +9,7 @@ use Rattle.block_renderer.proofs.parts.cells_of_subs.Given as goal
 abbrev pub invariant-loop-cell : goal.invariant-loop-cell
 invariant-loop-cell g l =
     let seen = g.D.Annotation.EqualCopy.seen in
-    let held = g.D.TextDecorator.held in
+    let held = g.D.TextDecorator.view.held in
     record {
       cells : option_map (λ cs. map (cell_of (tags_seen seen)) l.done.items ++ cs)
           (cells_of_subs (map (λ c. (sub_of seen held c.0, c.1)) (into_iter_items l.cell-iterator)))

@@ -13,26 +13,22 @@ returns-in_err-write_lines-clause-unwritten g c =
     (inr (
       p.1 ∙ ap Err p.2,
       c.in_err-write_lines.ensures.failed,
-      written_part g.D.Annotation.EqualCopy.seen g.D.TextDecorator.text g.D.TextDecorator.gives
-          g.D.TextDecorator.marks g.D.TextDecorator.after g.D.TextDecorator.pops g.D.TextDecorator.sub
-          g.D.TextDecorator.closes (page_setting g.D.TextDecorator.held g.D.TextDecorator.sub c.args.config)
+      written_part g.D.Annotation.EqualCopy.seen g.D.TextDecorator.view (page_setting g.D.TextDecorator.view
+          c.args.config)
           c.args.width (g.R.ByteReader.remaining c.args.reader.now) _ _ c.in_ok-lines.lines.items
           c.in_ok-lines.ensures.text (rw c.deref.ensures.value at c.in_err-write_lines.ensures.part),
     ))
 
 pub returns-clause-written : goal.returns-clause-written
-returns-clause-written g c = written_page g.D.Annotation.EqualCopy.seen g.D.TextDecorator.text
-    g.D.TextDecorator.gives g.D.TextDecorator.marks g.D.TextDecorator.after g.D.TextDecorator.pops
-    g.D.TextDecorator.sub g.D.TextDecorator.closes
-    (page_setting g.D.TextDecorator.held g.D.TextDecorator.sub c.args.config) c.args.width
+returns-clause-written g c = written_page g.D.Annotation.EqualCopy.seen g.D.TextDecorator.view
+    (page_setting g.D.TextDecorator.view c.args.config) c.args.width
     (g.R.ByteReader.remaining c.args.reader.now) _ _ c.in_ok-lines.lines.items c.in_ok-lines.ensures.text
     (rw c.deref.ensures.value at c.in_ok-write_lines.ensures.ok)
 
 pub returns-clause-within : goal.returns-clause-within
 returns-clause-within g c = λ tag tagging steady overflow wrap wide.
-    let setting = page_setting g.D.TextDecorator.held g.D.TextDecorator.sub c.args.config in
-    written_within g.D.Annotation.EqualCopy.seen g.D.TextDecorator.text g.D.TextDecorator.gives g.D.TextDecorator.marks
-    g.D.TextDecorator.after g.D.TextDecorator.pops g.D.TextDecorator.sub g.D.TextDecorator.closes setting c.args.width
+    let setting = page_setting g.D.TextDecorator.view c.args.config in
+    written_within g.D.Annotation.EqualCopy.seen g.D.TextDecorator.view setting c.args.width
     tag tagging (λ bytes told has. c.a_text_keeps_its_width.ensures tag setting c.args.width bytes told steady overflow
     wrap wide has) (g.R.ByteReader.remaining c.args.reader.now) _ _ c.in_ok-lines.lines.items c.in_ok-lines.ensures.text
     (rw c.deref.ensures.value at c.in_ok-write_lines.ensures.ok)

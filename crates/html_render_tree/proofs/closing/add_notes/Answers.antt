@@ -11,7 +11,7 @@ use Rattle.html_render_tree.proofs.closing.add_notes.Goals as goal
 pub returns-clause-done : goal.returns-clause-done
 returns-clause-done g c = on_ok_weaker c.fmt_links.result (λ h. λ tag p.
     notes_are (map (line_items g.D.Annotation.EqualCopy.seen) c.args.notes.items)
-    (sub_of g.D.Annotation.EqualCopy.seen g.D.TextDecorator.held c.args.sub.now)
+    (sub_of g.D.Annotation.EqualCopy.seen g.D.TextDecorator.view.held c.args.sub.now)
     (some_left (line_items g.D.Annotation.EqualCopy.seen) c.args.notes.items (λ e. grind (
       arith,
       c.is_empty.ensures,
@@ -24,7 +24,7 @@ returns-clause-done g c = on_ok_weaker c.fmt_links.result (λ h. λ tag p.
 pub returns-clause-narrow : goal.returns-clause-narrow
 returns-clause-narrow g c = λ e. λ tag p.
     notes_are (map (line_items g.D.Annotation.EqualCopy.seen) c.args.notes.items)
-    (sub_of g.D.Annotation.EqualCopy.seen g.D.TextDecorator.held c.args.sub.now)
+    (sub_of g.D.Annotation.EqualCopy.seen g.D.TextDecorator.view.held c.args.sub.now)
     (some_left (line_items g.D.Annotation.EqualCopy.seen) c.args.notes.items (λ e. grind (
       arith,
       c.is_empty.ensures,
@@ -39,7 +39,7 @@ returns-in_err-start_block-clause-narrow g c = λ e. λ tag p.
     let q = err_from_is_err_and c.from_residual.result c.from_residual.ensures.1 in
     let same : c.in_err-start_block.field-0.0 ≡ TooNarrow = cc (q.1, q.2, e) in
     notes_are (map (line_items g.D.Annotation.EqualCopy.seen) c.args.notes.items)
-    (sub_of g.D.Annotation.EqualCopy.seen g.D.TextDecorator.held c.args.sub.now)
+    (sub_of g.D.Annotation.EqualCopy.seen g.D.TextDecorator.view.held c.args.sub.now)
     (some_left (line_items g.D.Annotation.EqualCopy.seen) c.args.notes.items (λ e. grind (
       arith,
       c.is_empty.ensures,

@@ -12,12 +12,12 @@ pub returns-in_err-add_notes-clause-narrow : goal.returns-in_err-add_notes-claus
 returns-in_err-add_notes-clause-narrow g c = λ e. λ tag p.
     let d = g.D.TextDecorator in
     let seen = g.D.Annotation.EqualCopy.seen in
-    let s = sub_of seen d.held c.args.sub in
-    let notes = seen_lines seen (d.closes s.held (names c.args.targets.items)) in
+    let s = sub_of seen d.view.held c.args.sub in
+    let notes = seen_lines seen (d.view.closes s.held (names c.args.targets.items)) in
     let q = err_from_is_err_and c.from_residual-in_err-add_notes.result
     c.from_residual-in_err-add_notes.ensures.1 in
     let same : c.in_err-add_notes.field-0.0 ≡ TooNarrow = cc (q.1, q.2, e) in
-    ap (λ l. with_notes l (with_held (d.after s.held (page_end (names c.args.targets.items))) s))
+    ap (λ l. with_notes l (with_held (d.view.after s.held (page_end (names c.args.targets.items))) s))
     (sym c.in_ok-notes.ensures.closes)
     ∙ (ap (with_notes _) (sym c.in_ok-notes.ensures.after) ∙ c.in_err-add_notes.ensures.narrow (ap Err same) tag p)
 
@@ -25,7 +25,7 @@ pub returns-clause-closed : goal.returns-clause-closed
 returns-clause-closed g c = λ tag p.
     let d = g.D.TextDecorator in
     let seen = g.D.Annotation.EqualCopy.seen in
-    let s = sub_of seen d.held c.args.sub in
-    ap (λ l. with_notes l (with_held (d.after s.held (page_end (names c.args.targets.items))) s))
+    let s = sub_of seen d.view.held c.args.sub in
+    ap (λ l. with_notes l (with_held (d.view.after s.held (page_end (names c.args.targets.items))) s))
     (sym c.in_ok-notes.ensures.closes)
     ∙ (ap (with_notes _) (sym c.in_ok-notes.ensures.after) ∙ c.in_ok-add_notes.ensures.done tag p)

@@ -7,8 +7,7 @@ use Rattle.html_render_tree.proofs.laws.pages_keep_the_width.Goals as goal
 
 pub returns : goal.returns
 returns g c = λ tag setting width values lines steady fits off wraps wide page.
-    let m : Marking g.D.TextDecorator.Held g.D.Annotation.EqualCopy.Seen = marking g.D.TextDecorator.text tag
-    g.D.TextDecorator.marks g.D.TextDecorator.after g.D.TextDecorator.pops g.D.TextDecorator.sub in
+    let m : Marking g.D.TextDecorator.Held g.D.Annotation.EqualCopy.Seen = marking g.D.TextDecorator.view tag in
     let laws : PageWidths m setting width values = record {
       stays = λ p is. c.values_keep_the_width.ensures m _ values (whole_page (new_sub width setting.options setting.held
           [])) p steady fits (c.parts_keep_the_width.ensures.whole (new_sub width setting.options setting.held [])
@@ -18,5 +17,5 @@ returns g c = λ tag setting width values lines steady fits off wraps wide page.
           wrapped two is;
       lines = λ s blocks kept is. c.renderers_keep_the_width.ensures.lines s blocks kept is;
     } in
-    lines_within m g.D.Annotation.EqualCopy.seen g.D.TextDecorator.closes setting width values lines
+    lines_within m g.D.Annotation.EqualCopy.seen g.D.TextDecorator.view.closes setting width values lines
     laws wraps wide page

@@ -8,8 +8,7 @@ use Rattle.html_render_tree.proofs.laws.pages_with_room_are_never_too_narrow.Goa
 
 pub returns : goal.returns
 returns g c = λ tag setting width values on page.
-    let m : Marking g.D.TextDecorator.Held g.D.Annotation.EqualCopy.Seen = marking g.D.TextDecorator.text tag
-    g.D.TextDecorator.marks g.D.TextDecorator.after g.D.TextDecorator.pops g.D.TextDecorator.sub in
+    let m : Marking g.D.TextDecorator.Held g.D.Annotation.EqualCopy.Seen = marking g.D.TextDecorator.view tag in
     let laws : PageRooms m setting width values = record {
       laid = c.values_with_room_are_laid.ensures m _ values (whole_page (new_sub width setting.options setting.held []))
           (c.parts_with_room_never_refuse.ensures.whole (new_sub width setting.options setting.held [])
@@ -18,4 +17,4 @@ returns g c = λ tag setting width values on page.
       footnotes = λ notes s room. c.renderers_with_room_never_refuse.ensures.footnotes notes s room;
       lines = λ s room. c.renderers_with_room_never_refuse.ensures.lines s room;
     } in
-    never_narrow m g.D.Annotation.EqualCopy.seen g.D.TextDecorator.closes setting width values laws page
+    never_narrow m g.D.Annotation.EqualCopy.seen g.D.TextDecorator.view.closes setting width values laws page

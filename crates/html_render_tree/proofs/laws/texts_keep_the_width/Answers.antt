@@ -3,6 +3,5 @@ use Rattle.html_render_tree.proofs.TextWidths.{printed_within}
 use Rattle.html_render_tree.proofs.laws.texts_keep_the_width.Goals as goal
 
 pub returns : goal.returns
-returns g c = λ tag. printed_within (marking g.D.TextDecorator.text tag g.D.TextDecorator.marks
-    g.D.TextDecorator.after g.D.TextDecorator.pops g.D.TextDecorator.sub) g.D.Annotation.EqualCopy.seen
-    g.D.TextDecorator.closes (c.pages_keep_the_width.ensures tag)
+returns g c = λ tag. printed_within (marking g.D.TextDecorator.view tag) g.D.Annotation.EqualCopy.seen
+    g.D.TextDecorator.view.closes (c.pages_keep_the_width.ensures tag)

@@ -20,8 +20,8 @@ lay_tree-requires g c = λ lives k. (
         ap depth_of c.new.ensures.parts,
         inr (c.as_slice.ensures.value
             ∙ (c.in_ok-sizes.ensures
-            ∙ (ap (λ d. asked_extents (measure_of c.args.min_wrap_width (prefix_columns (g.D.TextDecorator.text
-            (g.D.TextDecorator.held d)))) c.args.tree.now) c.new-prefixes.ensures
+            ∙ (ap (λ d. asked_extents (measure_of c.args.min_wrap_width (prefix_columns (g.D.TextDecorator.view.text
+            (g.D.TextDecorator.view.held d)))) c.args.tree.now) c.new-prefixes.ensures
             ∙ ap (λ v. asked_extents v c.args.tree.now) (sym c.requires.1.1)))),
       ),
     ),
@@ -30,27 +30,27 @@ lay_tree-requires g c = λ lives k. (
 
 pub returns-in-Ok-clause-laid : goal.returns-in-Ok-clause-laid
 returns-in-Ok-clause-laid g c = λ tag p.
-    ap (λ v. laid_parts (marking g.D.TextDecorator.text tag g.D.TextDecorator.marks g.D.TextDecorator.after
-    g.D.TextDecorator.pops g.D.TextDecorator.sub) v c.args.tree.now
-    (whole_page (begun_as c.args.keeps (new_sub c.args.width c.args.options (g.D.TextDecorator.held c.args.decorator) [])))) (sym
+    ap (λ v. laid_parts (marking g.D.TextDecorator.view tag) v c.args.tree.now
+    (whole_page (begun_as c.args.keeps (new_sub c.args.width c.args.options (g.D.TextDecorator.view.held
+    c.args.decorator) [])))) (sym
     c.requires.1.1)
-    ∙ (ap (laid_parts (marking g.D.TextDecorator.text tag g.D.TextDecorator.marks g.D.TextDecorator.after
-    g.D.TextDecorator.pops g.D.TextDecorator.sub) g.w c.args.tree.now) (sym (c.new.ensures.parts ∙ ap whole_page
+    ∙ (ap (laid_parts (marking g.D.TextDecorator.view tag) g.w c.args.tree.now) (sym (c.new.ensures.parts ∙ ap
+    whole_page
     (c.begun-sub.ensures.sub
-    ∙ ap (λ d. begun_as c.args.keeps (new_sub c.args.width c.args.options (g.D.TextDecorator.held d) []))
+    ∙ ap (λ d. begun_as c.args.keeps (new_sub c.args.width c.args.options (g.D.TextDecorator.view.held d) []))
     (c.into_decorator.ensures ∙ c.new-prefixes.ensures))))
     ∙ c.in-Ok.ensures.laid tag p)
 
 pub returns-clause-narrow : goal.returns-clause-narrow
 returns-clause-narrow g c = λ e. λ tag p.
     let narrow : c.refusal.result ≡ TooNarrow = cc e in
-    ap (λ v. laid_parts (marking g.D.TextDecorator.text tag g.D.TextDecorator.marks g.D.TextDecorator.after
-    g.D.TextDecorator.pops g.D.TextDecorator.sub) v c.args.tree.now
-    (whole_page (begun_as c.args.keeps (new_sub c.args.width c.args.options (g.D.TextDecorator.held c.args.decorator) [])))) (sym
+    ap (λ v. laid_parts (marking g.D.TextDecorator.view tag) v c.args.tree.now
+    (whole_page (begun_as c.args.keeps (new_sub c.args.width c.args.options (g.D.TextDecorator.view.held
+    c.args.decorator) [])))) (sym
     c.requires.1.1)
-    ∙ (ap (laid_parts (marking g.D.TextDecorator.text tag g.D.TextDecorator.marks g.D.TextDecorator.after
-    g.D.TextDecorator.pops g.D.TextDecorator.sub) g.w c.args.tree.now) (sym (c.new.ensures.parts ∙ ap whole_page
+    ∙ (ap (laid_parts (marking g.D.TextDecorator.view tag) g.w c.args.tree.now) (sym (c.new.ensures.parts ∙ ap
+    whole_page
     (c.begun-sub.ensures.sub
-    ∙ ap (λ d. begun_as c.args.keeps (new_sub c.args.width c.args.options (g.D.TextDecorator.held d) []))
+    ∙ ap (λ d. begun_as c.args.keeps (new_sub c.args.width c.args.options (g.D.TextDecorator.view.held d) []))
     (c.into_decorator.ensures ∙ c.new-prefixes.ensures))))
     ∙ c.in-Err.ensures.narrow (ap Err (c.refusal.ensures.narrow narrow)) tag p)

@@ -4,21 +4,21 @@ use Rattle.text_decorators.specs.Steady.{plain_is_steady}
 use Rattle.page_config.proofs.PlainLemmas.{plain_answer, told_text}
 use Rattle.page_config.proofs.plain.from_read.Goals as goal
 use Rattle.page_config.specs.PageAnswers.{fail, too_narrow}
-use Rattle.page_config.specs.Settings.{page_setting}
+use Rattle.page_config.specs.Settings.{bare_setting}
 
 pub returns-clause-text : goal.returns-clause-text
-returns-clause-text g c = told_text c.args.table (page_setting (λ _. tt) (λ h. h) c.in_ok-plain.field-0) c.args.width
+returns-clause-text g c = told_text _ c.args.table (bare_setting c.in_ok-plain.field-0) c.args.width
     (g.R.ByteReader.remaining c.args.input.now) c.string_from_read.result c.in_ok-plain.ensures.plain
     c.string_from_read.ensures.text
 
 pub returns-clause-narrow : goal.returns-clause-narrow
-returns-clause-narrow g c = λ e. plain_answer c.args.table (page_setting (λ _. tt) (λ h. h) c.in_ok-plain.field-0)
+returns-clause-narrow g c = λ e. plain_answer _ c.args.table (bare_setting c.in_ok-plain.field-0)
     c.args.width
     (g.R.ByteReader.remaining c.args.input.now) too_narrow c.in_ok-plain.ensures.plain
     (c.string_from_read.ensures.narrow e)
 
 pub returns-clause-fail : goal.returns-clause-fail
-returns-clause-fail g c = λ e. plain_answer c.args.table (page_setting (λ _. tt) (λ h. h) c.in_ok-plain.field-0)
+returns-clause-fail g c = λ e. plain_answer _ c.args.table (bare_setting c.in_ok-plain.field-0)
     c.args.width
     (g.R.ByteReader.remaining c.args.input.now) fail c.in_ok-plain.ensures.plain (c.string_from_read.ensures.fail e)
 

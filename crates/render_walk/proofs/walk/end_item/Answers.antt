@@ -11,32 +11,26 @@ use Rattle.render_walk.proofs.walk.end_item.Goals as goal
 
 pub returns-clause-done : goal.returns-clause-done
 returns-clause-done g c = λ tag p.
-    unboxed (marking g.D.TextDecorator.text tag g.D.TextDecorator.marks g.D.TextDecorator.after
-    g.D.TextDecorator.pops g.D.TextDecorator.sub) any_measure
-    (open_item_of g.D.Annotation.EqualCopy.seen g.D.TextDecorator.held) c.args.item.value
+    unboxed (marking g.D.TextDecorator.view tag) any_measure
+    (open_item_of g.D.Annotation.EqualCopy.seen g.D.TextDecorator.view.held) c.args.item.value
     c.into_inner-outer.result _ _ c.into_inner-outer.ensures
-    (turn_on (part_ended (marking g.D.TextDecorator.text tag g.D.TextDecorator.marks g.D.TextDecorator.after
-    g.D.TextDecorator.pops g.D.TextDecorator.sub)
-    (sub_of g.D.Annotation.EqualCopy.seen g.D.TextDecorator.held c.into_inner-outer.result.outer)
+    (turn_on (part_ended (marking g.D.TextDecorator.view tag)
+    (sub_of g.D.Annotation.EqualCopy.seen g.D.TextDecorator.view.held c.into_inner-outer.result.outer)
     (chars (string_bytes c.into_inner-outer.result.first)) (chars (string_bytes c.into_inner-outer.result.following)))
     (goes_on c.into_inner-outer.result.around) _ _ _
-    (part_by (marking g.D.TextDecorator.text tag g.D.TextDecorator.marks g.D.TextDecorator.after
-    g.D.TextDecorator.pops g.D.TextDecorator.sub) _ _ _ _ _ _ _ c.as_str.ensures.value c.as_str-2.ensures.value
+    (part_by (marking g.D.TextDecorator.view tag) _ _ _ _ _ _ _ c.as_str.ensures.value c.as_str-2.ensures.value
     (c.in_ok-end_part.ensures.done tag p)) refl)
 
 pub returns-in_err-end_part-clause-narrow : goal.returns-in_err-end_part-clause-narrow
 returns-in_err-end_part-clause-narrow g c = λ e. λ tag p.
     let q = err_from_is_err_and c.from_residual.result c.from_residual.ensures.1 in
     let same : c.in_err-end_part.field-0.0 ≡ TooNarrow = cc (q.1, q.2, e) in
-    unboxed (marking g.D.TextDecorator.text tag g.D.TextDecorator.marks g.D.TextDecorator.after
-    g.D.TextDecorator.pops g.D.TextDecorator.sub) any_measure
-    (open_item_of g.D.Annotation.EqualCopy.seen g.D.TextDecorator.held) c.args.item.value
+    unboxed (marking g.D.TextDecorator.view tag) any_measure
+    (open_item_of g.D.Annotation.EqualCopy.seen g.D.TextDecorator.view.held) c.args.item.value
     c.into_inner-outer.result _ _ c.into_inner-outer.ensures
-    (turn_off (part_ended (marking g.D.TextDecorator.text tag g.D.TextDecorator.marks g.D.TextDecorator.after
-    g.D.TextDecorator.pops g.D.TextDecorator.sub)
-    (sub_of g.D.Annotation.EqualCopy.seen g.D.TextDecorator.held c.into_inner-outer.result.outer)
+    (turn_off (part_ended (marking g.D.TextDecorator.view tag)
+    (sub_of g.D.Annotation.EqualCopy.seen g.D.TextDecorator.view.held c.into_inner-outer.result.outer)
     (chars (string_bytes c.into_inner-outer.result.first)) (chars (string_bytes c.into_inner-outer.result.following)))
     (goes_on c.into_inner-outer.result.around) _
-    (part_by (marking g.D.TextDecorator.text tag g.D.TextDecorator.marks g.D.TextDecorator.after
-    g.D.TextDecorator.pops g.D.TextDecorator.sub) _ _ _ _ _ _ _ c.as_str.ensures.value c.as_str-2.ensures.value
+    (part_by (marking g.D.TextDecorator.view tag) _ _ _ _ _ _ _ c.as_str.ensures.value c.as_str-2.ensures.value
     (c.in_err-end_part.ensures.narrow (ap Err same) tag p)))

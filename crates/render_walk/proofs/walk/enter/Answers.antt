@@ -58,12 +58,10 @@ pub returns-in_err-entered-clause-narrow : goal.returns-in_err-entered-clause-na
 returns-in_err-entered-clause-narrow g c = λ e. λ tag p.
     let q = err_from_is_err_and c.from_residual-in_err-entered.result c.from_residual-in_err-entered.ensures.1 in
     let same : c.in_err-entered.field-0.0 ≡ TooNarrow = cc (q.1, q.2, e) in
-    never_enters (marking g.D.TextDecorator.text tag g.D.TextDecorator.marks g.D.TextDecorator.after
-    g.D.TextDecorator.pops
-    g.D.TextDecorator.sub) g.w
-    (all_waiting g.D.Annotation.EqualCopy.seen g.D.TextDecorator.held c.args.nodes.now c.args.waiting.now.items)
+    never_enters (marking g.D.TextDecorator.view tag) g.w
+    (all_waiting g.D.Annotation.EqualCopy.seen g.D.TextDecorator.view.held c.args.nodes.now c.args.waiting.now.items)
     c.index-nodes-place.result.head _ _ _ (content_seen c.in_ok-content.content) (laying_of
-    g.D.Annotation.EqualCopy.seen g.D.TextDecorator.held c.args.laying.now)
+    g.D.Annotation.EqualCopy.seen g.D.TextDecorator.view.held c.args.laying.now)
     (first_node c.args.nodes.now c.args.sizes.now g.w c.args.place.at c.args.place.end c.index-nodes-place.result
     c.index-nodes-place.is c.requires.1.1.1.0 c.requires.1.1.1.1).are
     (known_in g.w c.index-nodes-place.result.head (content_seen c.in_ok-content.content) _ _
@@ -76,25 +74,24 @@ returns-clause-goes g c = λ tag p.
     c.index-nodes-place.result
     c.index-nodes-place.is c.requires.1.1.1.0 c.requires.1.1.1.1) in
     let o = c.in_ok-entered.ensures.opened c.args.nodes.now n.info in
-    entered (waiting_of g.D.Annotation.EqualCopy.seen g.D.TextDecorator.held c.args.nodes.now) (marking
-    g.D.TextDecorator.text tag g.D.TextDecorator.marks g.D.TextDecorator.after g.D.TextDecorator.pops
-    g.D.TextDecorator.sub) g.w
+    entered (waiting_of g.D.Annotation.EqualCopy.seen g.D.TextDecorator.view.held c.args.nodes.now) (marking
+    g.D.TextDecorator.view tag) g.w
     c.args.waiting.now.items c.push_nodes.new.waiting.items
     (rest_of (c.args.place.at + 1 + c.index-nodes-place.result.below) c.args.place.end) o.items
     c.open_value.new.waiting.items c.index-nodes-place.result.head _ _ _ _
     (content_seen c.in_ok-content.content) c.in_ok-entered.entered
-    (laying_of g.D.Annotation.EqualCopy.seen g.D.TextDecorator.held c.args.laying.now) (laying_of
-    g.D.Annotation.EqualCopy.seen g.D.TextDecorator.held c.open_value.new.laying) c.in_ok-push_nodes.ensures o.pushed
-    (rest_waits g.D.Annotation.EqualCopy.seen g.D.TextDecorator.held c.args.nodes.now
-    (marking g.D.TextDecorator.text tag g.D.TextDecorator.marks g.D.TextDecorator.after
-    g.D.TextDecorator.pops g.D.TextDecorator.sub) g.w (c.args.place.at + 1 + c.index-nodes-place.result.below)
+    (laying_of g.D.Annotation.EqualCopy.seen g.D.TextDecorator.view.held c.args.laying.now) (laying_of
+    g.D.Annotation.EqualCopy.seen g.D.TextDecorator.view.held c.open_value.new.laying) c.in_ok-push_nodes.ensures
+    o.pushed
+    (rest_waits g.D.Annotation.EqualCopy.seen g.D.TextDecorator.view.held c.args.nodes.now
+    (marking g.D.TextDecorator.view tag) g.w (c.args.place.at + 1 + c.index-nodes-place.result.below)
     c.args.place.end) n.are
     (known_in g.w c.index-nodes-place.result.head (content_seen c.in_ok-content.content) _ _
     c.in_ok-content.ensures.alike c.nodes_between-inside.ensures)
     (o.opens tag p g.w)
-    (goes_in (marking g.D.TextDecorator.text tag g.D.TextDecorator.marks g.D.TextDecorator.after g.D.TextDecorator.pops
-    g.D.TextDecorator.sub) g.w c.args.nodes.now c.in_ok-entered.entered _ _ _ (laying_of g.D.Annotation.EqualCopy.seen
-    g.D.TextDecorator.held c.open_value.new.laying)
+    (goes_in (marking g.D.TextDecorator.view tag) g.w c.args.nodes.now c.in_ok-entered.entered _ _ _ (laying_of
+    g.D.Annotation.EqualCopy.seen
+    g.D.TextDecorator.view.held c.open_value.new.laying)
     c.entrance.ensures)
 
 pub returns-clause-ready : goal.returns-clause-ready

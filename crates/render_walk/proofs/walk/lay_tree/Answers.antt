@@ -36,16 +36,14 @@ pub returns-in_err-walk-clause-narrow : goal.returns-in_err-walk-clause-narrow
 returns-in_err-walk-clause-narrow g c = λ e. λ tag p.
     let q = err_from_is_err_and c.from_residual.result c.from_residual.ensures.1 in
     let same : c.in_err-walk.field-0.0 ≡ TooNarrow = cc (q.1, q.2, e) in
-    never_laid (marking g.D.TextDecorator.text tag g.D.TextDecorator.marks g.D.TextDecorator.after
-    g.D.TextDecorator.pops g.D.TextDecorator.sub) g.w (values_of c.nodes.result.now) c.args.tree.now
-    (parts_of g.D.Annotation.EqualCopy.seen g.D.TextDecorator.held c.args.text) (ap values_of c.nodes.ensures ∙
+    never_laid (marking g.D.TextDecorator.view tag) g.w (values_of c.nodes.result.now) c.args.tree.now
+    (parts_of g.D.Annotation.EqualCopy.seen g.D.TextDecorator.view.held c.args.text) (ap values_of c.nodes.ensures ∙
     read_back c.args.tree.now)
     (c.in_err-walk.ensures.narrow (ap Err same) tag p)
 
 pub returns-clause-laid : goal.returns-clause-laid
 returns-clause-laid g c = λ tag p.
-    laid_by (marking g.D.TextDecorator.text tag g.D.TextDecorator.marks g.D.TextDecorator.after
-    g.D.TextDecorator.pops g.D.TextDecorator.sub) g.w (values_of c.nodes.result.now) c.args.tree.now
-    (parts_of g.D.Annotation.EqualCopy.seen g.D.TextDecorator.held c.args.text) _ (ap values_of c.nodes.ensures ∙
+    laid_by (marking g.D.TextDecorator.view tag) g.w (values_of c.nodes.result.now) c.args.tree.now
+    (parts_of g.D.Annotation.EqualCopy.seen g.D.TextDecorator.view.held c.args.text) _ (ap values_of c.nodes.ensures ∙
     read_back c.args.tree.now)
     (c.in_ok-walk.ensures.done tag p)

@@ -14,20 +14,17 @@ returns-in_err-end_cell-in-CellEnds-clause-narrow g c = λ e. λ tag p w.
     let q = err_from_is_err_and c.from_residual-in_err-end_cell-in-CellEnds.result
     c.from_residual-in_err-end_cell-in-CellEnds.ensures.1 in
     let same : c.in_err-end_cell-in-CellEnds.field-0.0 ≡ TooNarrow = cc (q.1, q.2, e) in
-    ap (λ x. undone (marking g.D.TextDecorator.text tag g.D.TextDecorator.marks g.D.TextDecorator.after
-    g.D.TextDecorator.pops
-    g.D.TextDecorator.sub) w (waiting_of g.D.Annotation.EqualCopy.seen g.D.TextDecorator.held c.args.nodes.now x)
-    (laying_of g.D.Annotation.EqualCopy.seen g.D.TextDecorator.held c.args.laying.now)) c.in-CellEnds.is
+    ap (λ x. undone (marking g.D.TextDecorator.view tag) w (waiting_of g.D.Annotation.EqualCopy.seen
+    g.D.TextDecorator.view.held c.args.nodes.now x)
+    (laying_of g.D.Annotation.EqualCopy.seen g.D.TextDecorator.view.held c.args.laying.now)) c.in-CellEnds.is
     ∙ c.in_err-end_cell-in-CellEnds.ensures.narrow (ap Err same) tag p
 
 pub returns-in_ok-end_cell-in-CellEnds-clause-goes : goal.returns-in_ok-end_cell-in-CellEnds-clause-goes
 returns-in_ok-end_cell-in-CellEnds-clause-goes g c = λ tag p w.
-    ap (λ v. lay (marking g.D.TextDecorator.text tag g.D.TextDecorator.marks g.D.TextDecorator.after
-    g.D.TextDecorator.pops
-    g.D.TextDecorator.sub) w v (laying_of g.D.Annotation.EqualCopy.seen g.D.TextDecorator.held c.end_cell.new.laying))
+    ap (λ v. lay (marking g.D.TextDecorator.view tag) w v (laying_of g.D.Annotation.EqualCopy.seen
+    g.D.TextDecorator.view.held c.end_cell.new.laying))
     (nothing_here c.args.nodes.now c.args.place.at c.args.place.end c.requires.past)
     ∙ (sym (c.in_ok-end_cell-in-CellEnds.ensures.done tag p)
-    ∙ ap (λ x. undone (marking g.D.TextDecorator.text tag g.D.TextDecorator.marks g.D.TextDecorator.after
-    g.D.TextDecorator.pops
-    g.D.TextDecorator.sub) w (waiting_of g.D.Annotation.EqualCopy.seen g.D.TextDecorator.held c.args.nodes.now x)
-    (laying_of g.D.Annotation.EqualCopy.seen g.D.TextDecorator.held c.args.laying.now)) (sym c.in-CellEnds.is))
+    ∙ ap (λ x. undone (marking g.D.TextDecorator.view tag) w (waiting_of g.D.Annotation.EqualCopy.seen
+    g.D.TextDecorator.view.held c.args.nodes.now x)
+    (laying_of g.D.Annotation.EqualCopy.seen g.D.TextDecorator.view.held c.args.laying.now)) (sym c.in-CellEnds.is))

@@ -23,17 +23,14 @@ nodes-init g c = record {
       (sym c.new-waiting.ensures.items) (All-nil (IsReady {D = g.row.D.Denot} {T = g.row.D-Annotation.Denot}
       c.args.nodes.now c.args.sizes.now g.w));
   sound = all_sound c.args.nodes.now c.args.sizes.now g.w c.requires.1.1.1.0 c.requires.1.1.1.1;
-  goes = λ tag p. ap (λ xs. option_and_then (unwound (marking g.D.TextDecorator.text tag g.D.TextDecorator.marks
-      g.D.TextDecorator.after
-      g.D.TextDecorator.pops g.D.TextDecorator.sub) g.w
-      (all_waiting g.D.Annotation.EqualCopy.seen g.D.TextDecorator.held c.args.nodes.now xs))
-      (lay (marking g.D.TextDecorator.text tag g.D.TextDecorator.marks g.D.TextDecorator.after
-      g.D.TextDecorator.pops g.D.TextDecorator.sub) g.w
+  goes = λ tag p. ap (λ xs. option_and_then (unwound (marking g.D.TextDecorator.view tag) g.w
+      (all_waiting g.D.Annotation.EqualCopy.seen g.D.TextDecorator.view.held c.args.nodes.now xs))
+      (lay (marking g.D.TextDecorator.view tag) g.w
       (values_of (segment c.args.nodes.now 0 (length c.args.nodes.now))) (laying_of g.D.Annotation.EqualCopy.seen
-      g.D.TextDecorator.held c.args.laying.now))) c.new-waiting.ensures.items
-      ∙ begins_here (marking g.D.TextDecorator.text tag g.D.TextDecorator.marks g.D.TextDecorator.after
-      g.D.TextDecorator.pops g.D.TextDecorator.sub) g.w _
-      (values_of c.args.nodes.now) (laying_of g.D.Annotation.EqualCopy.seen g.D.TextDecorator.held c.args.laying.now)
+      g.D.TextDecorator.view.held c.args.laying.now))) c.new-waiting.ensures.items
+      ∙ begins_here (marking g.D.TextDecorator.view tag) g.w _
+      (values_of c.args.nodes.now) (laying_of g.D.Annotation.EqualCopy.seen g.D.TextDecorator.view.held
+      c.args.laying.now)
       (all_here c.args.nodes.now);
 }
 
@@ -53,14 +50,14 @@ returns-in_err-place-in-Some-clause-narrow g c = λ e. λ tag p.
     c.from_residual-in_err-place-in-Some.ensures.1 in
     let same : c.in_err-place-in-Some.field-0.0 ≡ TooNarrow = cc (q.1, q.2, e) in
     sym (c.nodes.invariant.goes tag p)
-    ∙ never_leaves (marking g.D.TextDecorator.text tag g.D.TextDecorator.marks g.D.TextDecorator.after
-    g.D.TextDecorator.pops g.D.TextDecorator.sub) g.w
-    (all_waiting g.D.Annotation.EqualCopy.seen g.D.TextDecorator.held c.args.nodes.now c.nodes.waiting.items)
-    (all_waiting g.D.Annotation.EqualCopy.seen g.D.TextDecorator.held c.args.nodes.now c.pop.new.self.items)
-    (waiting_of g.D.Annotation.EqualCopy.seen g.D.TextDecorator.held c.args.nodes.now c.in-Some.next) _ (laying_of
-    g.D.Annotation.EqualCopy.seen g.D.TextDecorator.held c.nodes.laying)
-    (ap (map (waiting_of g.D.Annotation.EqualCopy.seen g.D.TextDecorator.held c.args.nodes.now)) c.in-Some.ensures.items
-    ∙ map-append (waiting_of g.D.Annotation.EqualCopy.seen g.D.TextDecorator.held c.args.nodes.now)
+    ∙ never_leaves (marking g.D.TextDecorator.view tag) g.w
+    (all_waiting g.D.Annotation.EqualCopy.seen g.D.TextDecorator.view.held c.args.nodes.now c.nodes.waiting.items)
+    (all_waiting g.D.Annotation.EqualCopy.seen g.D.TextDecorator.view.held c.args.nodes.now c.pop.new.self.items)
+    (waiting_of g.D.Annotation.EqualCopy.seen g.D.TextDecorator.view.held c.args.nodes.now c.in-Some.next) _ (laying_of
+    g.D.Annotation.EqualCopy.seen g.D.TextDecorator.view.held c.nodes.laying)
+    (ap (map (waiting_of g.D.Annotation.EqualCopy.seen g.D.TextDecorator.view.held c.args.nodes.now))
+    c.in-Some.ensures.items
+    ∙ map-append (waiting_of g.D.Annotation.EqualCopy.seen g.D.TextDecorator.view.held c.args.nodes.now)
     c.pop.new.self.items (c.in-Some.next ∷ []))
     (nothing_here c.args.nodes.now c.nodes.place.at c.nodes.place.end c.if-place.false)
     (c.in_err-place-in-Some.ensures.narrow (ap Err same) tag p g.w)
@@ -83,18 +80,17 @@ nodes-preserved g c = record {
       g.row.D-Annotation.Denot} c.args.nodes.now c.args.sizes.now g.w)
       c.nodes.waiting.items c.pop.new.self.items c.in-Some.next c.in-Some.ensures.items c.nodes.invariant.ready).1
       c.nodes.invariant.sound;
-  goes = λ tag p. leaves (marking g.D.TextDecorator.text tag g.D.TextDecorator.marks g.D.TextDecorator.after
-      g.D.TextDecorator.pops g.D.TextDecorator.sub) g.w
-      (all_waiting g.D.Annotation.EqualCopy.seen g.D.TextDecorator.held c.args.nodes.now c.nodes.waiting.items)
-      (all_waiting g.D.Annotation.EqualCopy.seen g.D.TextDecorator.held c.args.nodes.now c.pop.new.self.items)
-      (waiting_of g.D.Annotation.EqualCopy.seen g.D.TextDecorator.held c.args.nodes.now c.in-Some.next)
+  goes = λ tag p. leaves (marking g.D.TextDecorator.view tag) g.w
+      (all_waiting g.D.Annotation.EqualCopy.seen g.D.TextDecorator.view.held c.args.nodes.now c.nodes.waiting.items)
+      (all_waiting g.D.Annotation.EqualCopy.seen g.D.TextDecorator.view.held c.args.nodes.now c.pop.new.self.items)
+      (waiting_of g.D.Annotation.EqualCopy.seen g.D.TextDecorator.view.held c.args.nodes.now c.in-Some.next)
       (values_of (segment c.args.nodes.now c.nodes.place.at c.nodes.place.end))
       (values_of (segment c.args.nodes.now c.in_ok-place-in-Some.place.at c.in_ok-place-in-Some.place.end))
-      (laying_of g.D.Annotation.EqualCopy.seen g.D.TextDecorator.held c.nodes.laying) (laying_of
-      g.D.Annotation.EqualCopy.seen g.D.TextDecorator.held c.leave.new.laying)
-      (ap (map (waiting_of g.D.Annotation.EqualCopy.seen g.D.TextDecorator.held c.args.nodes.now))
+      (laying_of g.D.Annotation.EqualCopy.seen g.D.TextDecorator.view.held c.nodes.laying) (laying_of
+      g.D.Annotation.EqualCopy.seen g.D.TextDecorator.view.held c.leave.new.laying)
+      (ap (map (waiting_of g.D.Annotation.EqualCopy.seen g.D.TextDecorator.view.held c.args.nodes.now))
       c.in-Some.ensures.items
-      ∙ map-append (waiting_of g.D.Annotation.EqualCopy.seen g.D.TextDecorator.held c.args.nodes.now)
+      ∙ map-append (waiting_of g.D.Annotation.EqualCopy.seen g.D.TextDecorator.view.held c.args.nodes.now)
       c.pop.new.self.items (c.in-Some.next ∷ []))
       (nothing_here c.args.nodes.now c.nodes.place.at c.nodes.place.end c.if-place.false)
       (c.in_ok-place-in-Some.ensures.goes tag p g.w) ∙ c.nodes.invariant.goes tag p;
@@ -105,9 +101,8 @@ returns-in-None-clause-done g c = λ tag p.
     let gone = nothing_popped c.nodes.waiting.items c.pop.new.self.items (vec_len c.nodes.waiting)
     c.in-None.ensures.cases.0 c.in-None.ensures.rest c.in-None.ensures.items in
     sym (c.nodes.invariant.goes tag p)
-    ∙ ends_here (marking g.D.TextDecorator.text tag g.D.TextDecorator.marks g.D.TextDecorator.after
-    g.D.TextDecorator.pops g.D.TextDecorator.sub) g.w (all_waiting g.D.Annotation.EqualCopy.seen
-    g.D.TextDecorator.held c.args.nodes.now c.nodes.waiting.items) _ (laying_of g.D.Annotation.EqualCopy.seen
-    g.D.TextDecorator.held c.nodes.laying)
-    (ap (map (waiting_of g.D.Annotation.EqualCopy.seen g.D.TextDecorator.held c.args.nodes.now)) gone)
+    ∙ ends_here (marking g.D.TextDecorator.view tag) g.w (all_waiting g.D.Annotation.EqualCopy.seen
+    g.D.TextDecorator.view.held c.args.nodes.now c.nodes.waiting.items) _ (laying_of g.D.Annotation.EqualCopy.seen
+    g.D.TextDecorator.view.held c.nodes.laying)
+    (ap (map (waiting_of g.D.Annotation.EqualCopy.seen g.D.TextDecorator.view.held c.args.nodes.now)) gone)
     (nothing_here c.args.nodes.now c.nodes.place.at c.nodes.place.end c.if-place.false)

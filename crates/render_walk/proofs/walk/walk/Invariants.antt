@@ -9,16 +9,14 @@ use Rattle.render_walk.proofs.walk.walk.Given as goal
 
 abbrev pub invariant-nodes : goal.invariant-nodes
 invariant-nodes g l = record {
-  works : IsWorking g.D.Annotation.EqualCopy.seen g.D.TextDecorator.held l.laying;
+  works : IsWorking g.D.Annotation.EqualCopy.seen g.D.TextDecorator.view.held l.laying;
   ready : All (IsReady l.nodes l.sizes g.w) l.waiting.items;
   sound : IsSound l.nodes l.sizes g.w l.place.at l.place.end;
-  goes : (tag : _) → IsTagging g.D.Annotation.EqualCopy.seen g.D.TextDecorator.gives tag
-      → left g.D.Annotation.EqualCopy.seen g.D.TextDecorator.held
-      (marking g.D.TextDecorator.text tag g.D.TextDecorator.marks g.D.TextDecorator.after g.D.TextDecorator.pops
-      g.D.TextDecorator.sub) l.nodes g.w l.place.at l.place.end l.waiting.items l.laying
-      ≡ lay (marking g.D.TextDecorator.text tag g.D.TextDecorator.marks g.D.TextDecorator.after
-      g.D.TextDecorator.pops g.D.TextDecorator.sub) g.w (values_of l.nodes)
-      (laying_of g.D.Annotation.EqualCopy.seen g.D.TextDecorator.held l.fn.laying);
+  goes : (tag : _) → IsTagging g.D.Annotation.EqualCopy.seen g.D.TextDecorator.view tag
+      → left g.D.Annotation.EqualCopy.seen g.D.TextDecorator.view.held
+      (marking g.D.TextDecorator.view tag) l.nodes g.w l.place.at l.place.end l.waiting.items l.laying
+      ≡ lay (marking g.D.TextDecorator.view tag) g.w (values_of l.nodes)
+      (laying_of g.D.Annotation.EqualCopy.seen g.D.TextDecorator.view.held l.fn.laying);
 }
 
 abbrev pub decreases-nodes : goal.decreases-nodes

@@ -6,12 +6,10 @@ use Rattle.table_laying.proofs.cells.start_all.Given as goal
 
 abbrev pub invariant-names : goal.invariant-names
 invariant-names g l = record {
-  so_far : (tag : _) → IsTagging g.D.Annotation.EqualCopy.seen g.D.TextDecorator.gives tag
-      → start_all (marking g.D.TextDecorator.text tag g.D.TextDecorator.marks g.D.TextDecorator.after
-      g.D.TextDecorator.pops g.D.TextDecorator.sub) l.names
-      (laying_of g.D.Annotation.EqualCopy.seen g.D.TextDecorator.held l.fn.laying)
-      ≡ start_all (marking g.D.TextDecorator.text tag g.D.TextDecorator.marks g.D.TextDecorator.after
-      g.D.TextDecorator.pops g.D.TextDecorator.sub) (drop l.name-index l.names)
-      (laying_of g.D.Annotation.EqualCopy.seen g.D.TextDecorator.held l.laying);
-  works : IsWorking g.D.Annotation.EqualCopy.seen g.D.TextDecorator.held l.laying;
+  so_far : (tag : _) → IsTagging g.D.Annotation.EqualCopy.seen g.D.TextDecorator.view tag
+      → start_all (marking g.D.TextDecorator.view tag) l.names
+      (laying_of g.D.Annotation.EqualCopy.seen g.D.TextDecorator.view.held l.fn.laying)
+      ≡ start_all (marking g.D.TextDecorator.view tag) (drop l.name-index l.names)
+      (laying_of g.D.Annotation.EqualCopy.seen g.D.TextDecorator.view.held l.laying);
+  works : IsWorking g.D.Annotation.EqualCopy.seen g.D.TextDecorator.view.held l.laying;
 }

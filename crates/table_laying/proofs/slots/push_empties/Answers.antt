@@ -15,8 +15,7 @@ slots-preserved g c =
     ∙ sym c.index-in-slots.ensures in
     let empty : is_empty_slot c.index-in-slots.result.now ≡ true = ap is_empty_slot (sym same) ∙ tested in
     record {
-      made = λ tag. empty_filled (empty_slot (marking g.D.TextDecorator.text tag g.D.TextDecorator.marks
-          g.D.TextDecorator.after g.D.TextDecorator.pops g.D.TextDecorator.sub) (widths_seen c.args.widths.now))
+      made = λ tag. empty_filled (empty_slot (marking g.D.TextDecorator.view tag) (widths_seen c.args.widths.now))
           is_empty_slot _ _ c.index-in-slots.result.now _ _ _ c.slots.slots.slots.items c.slots.slots.next
           c.index-in-slots.ensures (omega arith) empty
           (ap (λ (l : Laying _ _). l.parts.current) c.slots.invariant.stays) (c.in_ok-push_empty.ensures.made tag)
@@ -28,17 +27,15 @@ slots-preserved g c =
     }
 
 pub returns-else-not-index-clause-made : goal.returns-else-not-index-clause-made
-returns-else-not-index-clause-made g c = λ tag. made_whole (empty_slot (marking g.D.TextDecorator.text tag
-    g.D.TextDecorator.marks g.D.TextDecorator.after g.D.TextDecorator.pops g.D.TextDecorator.sub)
-    (widths_seen c.args.widths.now) (sub_of g.D.Annotation.EqualCopy.seen g.D.TextDecorator.held
+returns-else-not-index-clause-made g c = λ tag. made_whole (empty_slot (marking g.D.TextDecorator.view tag)
+    (widths_seen c.args.widths.now) (sub_of g.D.Annotation.EqualCopy.seen g.D.TextDecorator.view.held
     c.args.laying.now.text.current)) _ _ _
     (no_empties_at is_empty_slot c.slots.slots.slots.items c.slots.slots.next c.index.result.now c.index.ensures
     (omega arith) (search rules)) (c.slots.invariant.made tag)
 
 pub returns-after-slots-clause-made : goal.returns-after-slots-clause-made
-returns-after-slots-clause-made g c = λ tag. made_whole (empty_slot (marking g.D.TextDecorator.text tag
-    g.D.TextDecorator.marks g.D.TextDecorator.after g.D.TextDecorator.pops g.D.TextDecorator.sub)
-    (widths_seen c.args.widths.now) (sub_of g.D.Annotation.EqualCopy.seen g.D.TextDecorator.held
+returns-after-slots-clause-made g c = λ tag. made_whole (empty_slot (marking g.D.TextDecorator.view tag)
+    (widths_seen c.args.widths.now) (sub_of g.D.Annotation.EqualCopy.seen g.D.TextDecorator.view.held
     c.args.laying.now.text.current)) _ _ _
     (no_empties_end is_empty_slot c.slots.slots.slots.items c.slots.slots.next (omega arith))
     (c.slots.invariant.made tag)

@@ -6,18 +6,18 @@ use Rattle.table_laying.proofs.slots.push_empties.Given as goal
 
 abbrev pub invariant-slots : goal.invariant-slots
 invariant-slots g l = record {
-  made : (tag : _) → made_of g.D.Annotation.EqualCopy.seen g.D.TextDecorator.held l.made.items
-      ++ empty_slots (marking g.D.TextDecorator.text tag g.D.TextDecorator.marks g.D.TextDecorator.after
-      g.D.TextDecorator.pops g.D.TextDecorator.sub) (widths_seen l.widths) (laying_of g.D.Annotation.EqualCopy.seen
-      g.D.TextDecorator.held l.fn.laying).parts.current (empties_before (slots_left l.slots))
-      ≡ made_of g.D.Annotation.EqualCopy.seen g.D.TextDecorator.held l.fn.made.items
-      ++ empty_slots (marking g.D.TextDecorator.text tag g.D.TextDecorator.marks g.D.TextDecorator.after
-      g.D.TextDecorator.pops g.D.TextDecorator.sub) (widths_seen l.widths) (laying_of g.D.Annotation.EqualCopy.seen
-      g.D.TextDecorator.held l.fn.laying).parts.current (empties_before (slots_left l.fn.slots));
+  made : (tag : _) → made_of g.D.Annotation.EqualCopy.seen g.D.TextDecorator.view.held l.made.items
+      ++ empty_slots (marking g.D.TextDecorator.view tag) (widths_seen l.widths) (laying_of
+      g.D.Annotation.EqualCopy.seen
+      g.D.TextDecorator.view.held l.fn.laying).parts.current (empties_before (slots_left l.slots))
+      ≡ made_of g.D.Annotation.EqualCopy.seen g.D.TextDecorator.view.held l.fn.made.items
+      ++ empty_slots (marking g.D.TextDecorator.view tag) (widths_seen l.widths) (laying_of
+      g.D.Annotation.EqualCopy.seen
+      g.D.TextDecorator.view.held l.fn.laying).parts.current (empties_before (slots_left l.fn.slots));
   left : from_cell (slots_left l.slots) ≡ from_cell (slots_left l.fn.slots);
-  stays : laying_of g.D.Annotation.EqualCopy.seen g.D.TextDecorator.held l.laying
-      ≡ laying_of g.D.Annotation.EqualCopy.seen g.D.TextDecorator.held l.fn.laying;
-  works : IsWorking g.D.Annotation.EqualCopy.seen g.D.TextDecorator.held l.laying;
+  stays : laying_of g.D.Annotation.EqualCopy.seen g.D.TextDecorator.view.held l.laying
+      ≡ laying_of g.D.Annotation.EqualCopy.seen g.D.TextDecorator.view.held l.fn.laying;
+  works : IsWorking g.D.Annotation.EqualCopy.seen g.D.TextDecorator.view.held l.laying;
 }
 
 abbrev pub decreases-slots : goal.decreases-slots

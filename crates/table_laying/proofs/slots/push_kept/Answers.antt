@@ -9,7 +9,6 @@ use Rattle.table_laying.proofs.slots.push_kept.Goals as goal
 
 pub returns-then-has_columns-clause-made : goal.returns-then-has_columns-clause-made
 returns-then-has_columns-clause-made g c = on_ok_weaker c.push_empty.result
-    (λ h. λ tag. kept_filled (empty_slot (marking g.D.TextDecorator.text tag g.D.TextDecorator.marks
-    g.D.TextDecorator.after g.D.TextDecorator.pops g.D.TextDecorator.sub) (widths_seen c.args.widths.now)
-    (sub_of g.D.Annotation.EqualCopy.seen g.D.TextDecorator.held c.args.laying.now.text.current)) has_columns
+    (λ h. λ tag. kept_filled (empty_slot (marking g.D.TextDecorator.view tag) (widths_seen c.args.widths.now)
+    (sub_of g.D.Annotation.EqualCopy.seen g.D.TextDecorator.view.held c.args.laying.now.text.current)) has_columns
     c.args.slot _ _ (sym c.if-has_columns.ensures) (h tag)) c.push_empty.ensures.made

@@ -9,8 +9,7 @@ use Rattle.table_laying.proofs.slots.push_rest.Goals as goal
 
 pub slots-preserved : goal.slots-preserved
 slots-preserved g c = record {
-  made = λ tag. filled_kept (empty_slot (marking g.D.TextDecorator.text tag g.D.TextDecorator.marks
-      g.D.TextDecorator.after g.D.TextDecorator.pops g.D.TextDecorator.sub) (widths_seen c.args.widths.now))
+  made = λ tag. filled_kept (empty_slot (marking g.D.TextDecorator.view tag) (widths_seen c.args.widths.now))
       has_columns _ _ c.index.result.now _ _ _ c.args.slots.now.slots.items c.slots.at c.index.ensures (omega arith)
       (ap (λ (l : Laying _ _). l.parts.current) c.slots.invariant.stays) (c.in_ok-push_kept.ensures.made tag)
       (c.slots.invariant.made tag);
@@ -19,7 +18,7 @@ slots-preserved g c = record {
 }
 
 pub returns-clause-made : goal.returns-clause-made
-returns-clause-made g c = λ tag. filled_end (empty_slot (marking g.D.TextDecorator.text tag g.D.TextDecorator.marks
-    g.D.TextDecorator.after g.D.TextDecorator.pops g.D.TextDecorator.sub) (widths_seen c.args.widths.now)
-    (sub_of g.D.Annotation.EqualCopy.seen g.D.TextDecorator.held c.args.laying.now.text.current)) has_columns _ _
+returns-clause-made g c = λ tag. filled_end (empty_slot (marking g.D.TextDecorator.view tag) (widths_seen
+    c.args.widths.now)
+    (sub_of g.D.Annotation.EqualCopy.seen g.D.TextDecorator.view.held c.args.laying.now.text.current)) has_columns _ _
     c.args.slots.now.slots.items c.slots.at (omega arith) (c.slots.invariant.made tag)

@@ -6,7 +6,7 @@ use Rattle.table_laying.specs.Tables.{renderer_of}
 use Rattle.table_laying.proofs.slots.renderers_of.Given as goal
 
 abbrev pub invariant-made : goal.invariant-made
-invariant-made g l = map (sub_of g.D.Annotation.EqualCopy.seen g.D.TextDecorator.held) l.renderers.items
-    ++ map renderer_of (made_of g.D.Annotation.EqualCopy.seen g.D.TextDecorator.held
+invariant-made g l = map (sub_of g.D.Annotation.EqualCopy.seen g.D.TextDecorator.view.held) l.renderers.items
+    ++ map renderer_of (made_of g.D.Annotation.EqualCopy.seen g.D.TextDecorator.view.held
     (into_iter_items l.renderer-iterator))
-    ≡ map renderer_of (made_of g.D.Annotation.EqualCopy.seen g.D.TextDecorator.held l.fn.made.items)
+    ≡ map renderer_of (made_of g.D.Annotation.EqualCopy.seen g.D.TextDecorator.view.held l.fn.made.items)

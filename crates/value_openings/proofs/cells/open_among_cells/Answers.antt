@@ -17,23 +17,21 @@ returns-in-TableCell-clause-opened g c = λ nodes. if_ok_by _ _ c.open_in_slot.r
   pushed = o.pushed;
   works = o.works;
   few = o.few;
-  opens = λ tag p w inside. ap (λ (i : RenderInfo). among_cells (marking g.D.TextDecorator.text tag
-      g.D.TextDecorator.marks g.D.TextDecorator.after g.D.TextDecorator.pops g.D.TextDecorator.sub) i
-      c.args.head.now (place_of g.D.Annotation.EqualCopy.seen g.D.TextDecorator.held
+  opens = λ tag p w inside. ap (λ (i : RenderInfo). among_cells (marking g.D.TextDecorator.view tag) i
+      c.args.head.now (place_of g.D.Annotation.EqualCopy.seen g.D.TextDecorator.view.held
       (Cells c.args.rows c.args.slots c.args.made)) inside (in_table (place_of g.D.Annotation.EqualCopy.seen
-      g.D.TextDecorator.held (Cells c.args.rows c.args.slots c.args.made)) (laying_of g.D.Annotation.EqualCopy.seen
-      g.D.TextDecorator.held c.args.laying.now))) c.in-TableCell.is
+      g.D.TextDecorator.view.held (Cells c.args.rows c.args.slots c.args.made)) (laying_of g.D.Annotation.EqualCopy.seen
+      g.D.TextDecorator.view.held c.args.laying.now))) c.in-TableCell.is
       ∙ (cell_at_any _ _ _ _ _ _ _ _ _ ∙ o.opens tag p w inside);
 }) (c.open_in_slot.ensures.opened nodes)
 
 pub returns-in-TableCell-clause-narrow : goal.returns-in-TableCell-clause-narrow
 returns-in-TableCell-clause-narrow g c = λ e. λ tag p inside. ap (λ (i : RenderInfo). among_cells
-    (marking g.D.TextDecorator.text tag
-    g.D.TextDecorator.marks g.D.TextDecorator.after g.D.TextDecorator.pops g.D.TextDecorator.sub) i
-    c.args.head.now (place_of g.D.Annotation.EqualCopy.seen g.D.TextDecorator.held
+    (marking g.D.TextDecorator.view tag) i
+    c.args.head.now (place_of g.D.Annotation.EqualCopy.seen g.D.TextDecorator.view.held
     (Cells c.args.rows c.args.slots c.args.made)) inside (in_table (place_of g.D.Annotation.EqualCopy.seen
-    g.D.TextDecorator.held (Cells c.args.rows c.args.slots c.args.made)) (laying_of g.D.Annotation.EqualCopy.seen
-    g.D.TextDecorator.held c.args.laying.now))) c.in-TableCell.is
+    g.D.TextDecorator.view.held (Cells c.args.rows c.args.slots c.args.made)) (laying_of g.D.Annotation.EqualCopy.seen
+    g.D.TextDecorator.view.held c.args.laying.now))) c.in-TableCell.is
     ∙ (cell_at_any _ _ _ _ _ _ _ _ _ ∙ c.open_in_slot.ensures.narrow e tag p inside)
 
 pub returns-in_default : goal.returns-in_default
@@ -43,12 +41,13 @@ returns-in_default g c = record {
     pushed = sym (append-nil _);
     works = All-nil WorksOutside;
     few = omega arith;
-    opens = λ tag p w inside. nothing_among_cells (marking g.D.TextDecorator.text tag g.D.TextDecorator.marks
-        g.D.TextDecorator.after g.D.TextDecorator.pops g.D.TextDecorator.sub) w c.args.head.now.info c.args.head.now
-        (place_of g.D.Annotation.EqualCopy.seen g.D.TextDecorator.held (Cells c.args.rows c.args.slots c.args.made))
-        inside (in_table (place_of g.D.Annotation.EqualCopy.seen g.D.TextDecorator.held
+    opens = λ tag p w inside. nothing_among_cells (marking g.D.TextDecorator.view tag) w c.args.head.now.info
+        c.args.head.now
+        (place_of g.D.Annotation.EqualCopy.seen g.D.TextDecorator.view.held (Cells c.args.rows c.args.slots
+        c.args.made))
+        inside (in_table (place_of g.D.Annotation.EqualCopy.seen g.D.TextDecorator.view.held
         (Cells c.args.rows c.args.slots c.args.made)) (laying_of g.D.Annotation.EqualCopy.seen
-        g.D.TextDecorator.held c.args.laying.now)) c.in_default.not-TableCell;
+        g.D.TextDecorator.view.held c.args.laying.now)) c.in_default.not-TableCell;
   };
   works = c.requires;
   narrow = λ e. absurd (cc e);

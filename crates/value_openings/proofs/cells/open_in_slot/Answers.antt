@@ -20,8 +20,7 @@ returns-then-not-entered-clause-opened g c = λ nodes.
       works = some_all WorksOutside c.in_ok-cell.cell c.in_ok-cell.ensures.ready;
       few = omega (arith, some_few c.in_ok-cell.cell);
       opens = λ tag p w inside. left_out
-          (marking g.D.TextDecorator.text tag g.D.TextDecorator.marks g.D.TextDecorator.after
-          g.D.TextDecorator.pops g.D.TextDecorator.sub) w _ _ _ _ _ entered
+          (marking g.D.TextDecorator.view tag) w _ _ _ _ _ entered
           (c.in_ok-cell.ensures.opened tag p nodes w _);
     }
 
@@ -30,14 +29,11 @@ returns-in_err-look-clause-narrow g c = λ e. λ tag p inside.
     let entered : is_some c.in_ok-cell.cell ≡ true = search rules in
     let q = err_from_is_err_and c.from_residual-in_err-look.result c.from_residual-in_err-look.ensures.1 in
     let same : c.in_err-look.field-0.0 ≡ TooNarrow = cc (q.1, q.2, e) in
-    no_cell_look (marking g.D.TextDecorator.text tag g.D.TextDecorator.marks g.D.TextDecorator.after
-    g.D.TextDecorator.pops g.D.TextDecorator.sub) whichever_measure
-    (cell_laid (marking g.D.TextDecorator.text tag g.D.TextDecorator.marks g.D.TextDecorator.after
-    g.D.TextDecorator.pops g.D.TextDecorator.sub) (widths_seen c.args.rows.widths)
+    no_cell_look (marking g.D.TextDecorator.view tag) whichever_measure
+    (cell_laid (marking g.D.TextDecorator.view tag) (widths_seen c.args.rows.widths)
     (rows_left c.args.rows.rows) c.args.rows.fragments.items (slots_left c.args.slots)
-    (made_of g.D.Annotation.EqualCopy.seen g.D.TextDecorator.held c.args.made.items)) _ _ _ _
-    (λ x. let_in (marking g.D.TextDecorator.text tag g.D.TextDecorator.marks g.D.TextDecorator.after
-    g.D.TextDecorator.pops g.D.TextDecorator.sub) whichever_measure _ _ x _ _ entered
+    (made_of g.D.Annotation.EqualCopy.seen g.D.TextDecorator.view.held c.args.made.items)) _ _ _ _
+    (λ x. let_in (marking g.D.TextDecorator.view tag) whichever_measure _ _ x _ _ entered
     (c.in_ok-cell.ensures.opened tag p [] whichever_measure x))
     (c.in_err-look.ensures.narrow (ap Err same) tag p _)
 
@@ -46,15 +42,12 @@ returns-in_err-mark-clause-narrow g c = λ e. λ tag p inside.
     let entered : is_some c.in_ok-cell.cell ≡ true = search rules in
     let q = err_from_is_err_and c.from_residual-in_err-mark.result c.from_residual-in_err-mark.ensures.1 in
     let same : c.in_err-mark.field-0.0 ≡ TooNarrow = cc (q.1, q.2, e) in
-    no_cell_name (marking g.D.TextDecorator.text tag g.D.TextDecorator.marks g.D.TextDecorator.after
-    g.D.TextDecorator.pops g.D.TextDecorator.sub) whichever_measure
-    (cell_laid (marking g.D.TextDecorator.text tag g.D.TextDecorator.marks g.D.TextDecorator.after
-    g.D.TextDecorator.pops g.D.TextDecorator.sub) (widths_seen c.args.rows.widths)
+    no_cell_name (marking g.D.TextDecorator.view tag) whichever_measure
+    (cell_laid (marking g.D.TextDecorator.view tag) (widths_seen c.args.rows.widths)
     (rows_left c.args.rows.rows) c.args.rows.fragments.items (slots_left c.args.slots)
-    (made_of g.D.Annotation.EqualCopy.seen g.D.TextDecorator.held c.args.made.items))
+    (made_of g.D.Annotation.EqualCopy.seen g.D.TextDecorator.view.held c.args.made.items))
     c.args.head.now.style c.args.head.now.fragment inside _ _ _ _ _
-    (λ x. let_in (marking g.D.TextDecorator.text tag g.D.TextDecorator.marks g.D.TextDecorator.after
-    g.D.TextDecorator.pops g.D.TextDecorator.sub) whichever_measure _ _ x _ _ entered
+    (λ x. let_in (marking g.D.TextDecorator.view tag) whichever_measure _ _ x _ _ entered
     (c.in_ok-cell.ensures.opened tag p [] whichever_measure x))
     (c.in_ok-look.ensures.opened tag p [] whichever_measure) (c.in_err-mark.ensures.narrow (ap Err same) tag p)
 
@@ -72,17 +65,14 @@ returns-clause-opened g c = λ nodes.
         some_few c.in_ok-look.look,
         length-append (maybe c.in_ok-cell.cell) (maybe c.in_ok-look.look),
       );
-      opens = λ tag p w inside. cell_opens (waiting_of g.D.Annotation.EqualCopy.seen g.D.TextDecorator.held nodes)
-          (marking g.D.TextDecorator.text tag g.D.TextDecorator.marks g.D.TextDecorator.after
-          g.D.TextDecorator.pops g.D.TextDecorator.sub) w
-          (cell_laid (marking g.D.TextDecorator.text tag g.D.TextDecorator.marks g.D.TextDecorator.after
-          g.D.TextDecorator.pops g.D.TextDecorator.sub) (widths_seen c.args.rows.widths)
+      opens = λ tag p w inside. cell_opens (waiting_of g.D.Annotation.EqualCopy.seen g.D.TextDecorator.view.held nodes)
+          (marking g.D.TextDecorator.view tag) w
+          (cell_laid (marking g.D.TextDecorator.view tag) (widths_seen c.args.rows.widths)
           (rows_left c.args.rows.rows) c.args.rows.fragments.items (slots_left c.args.slots)
-          (made_of g.D.Annotation.EqualCopy.seen g.D.TextDecorator.held c.args.made.items))
+          (made_of g.D.Annotation.EqualCopy.seen g.D.TextDecorator.view.held c.args.made.items))
           c.args.head.now.style c.args.head.now.fragment inside (maybe c.in_ok-cell.cell) (maybe c.in_ok-look.look)
           _ _ _ _
-          (λ x. let_in (marking g.D.TextDecorator.text tag g.D.TextDecorator.marks g.D.TextDecorator.after
-          g.D.TextDecorator.pops g.D.TextDecorator.sub) w _ _ x _ _ entered
+          (λ x. let_in (marking g.D.TextDecorator.view tag) w _ _ x _ _ entered
           (c.in_ok-cell.ensures.opened tag p nodes w x))
           (c.in_ok-look.ensures.opened tag p nodes w) (c.in_ok-mark.ensures.done tag p);
     }

@@ -7,7 +7,7 @@ use Rattle.value_openings.proofs.lists.open_item.Goals as goal
 
 pub returns-clause-opened : goal.returns-clause-opened
 returns-clause-opened g c = λ tag p nodes w inside.
-    box_waits _ w (open_item_of g.D.Annotation.EqualCopy.seen g.D.TextDecorator.held) _ _ _ _
+    box_waits _ w (open_item_of g.D.Annotation.EqualCopy.seen g.D.TextDecorator.view.held) _ _ _ _
     c.in_ok-item.ensures.ok (item_opens _ w c.args.mark c.next.result c.args.columns c.args.least _ _ inside _ _ _ _
     c.in_ok-first.ensures.stays (c.in_ok-first.ensures.text tag) c.in_ok-following.ensures c.next.ensures
     (c.in_ok-outer.ensures.done tag p) c.in_ok-outer.ensures.outer)

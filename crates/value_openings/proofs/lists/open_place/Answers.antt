@@ -10,18 +10,15 @@ use Rattle.value_openings.proofs.lists.open_place.Goals as goal
 
 pub returns-in-Flow-clause-opened : goal.returns-in-Flow-clause-opened
 returns-in-Flow-clause-opened g c = λ tag p nodes w inside.
-    ap (λ (a : Around). placed (marking g.D.TextDecorator.text tag g.D.TextDecorator.marks g.D.TextDecorator.after
-    g.D.TextDecorator.pops g.D.TextDecorator.sub) a inside (laying_of g.D.Annotation.EqualCopy.seen
-    g.D.TextDecorator.held c.args.laying.now)) c.in-Flow.is
-    ∙ nothing_waits (marking g.D.TextDecorator.text tag g.D.TextDecorator.marks g.D.TextDecorator.after
-    g.D.TextDecorator.pops g.D.TextDecorator.sub) w (inside (laying_of g.D.Annotation.EqualCopy.seen
-    g.D.TextDecorator.held c.args.laying.now))
+    ap (λ (a : Around). placed (marking g.D.TextDecorator.view tag) a inside (laying_of g.D.Annotation.EqualCopy.seen
+    g.D.TextDecorator.view.held c.args.laying.now)) c.in-Flow.is
+    ∙ nothing_waits (marking g.D.TextDecorator.view tag) w (inside (laying_of g.D.Annotation.EqualCopy.seen
+    g.D.TextDecorator.view.held c.args.laying.now))
 
 pub returns-in_err-open_item-in-Items-clause-narrow : goal.returns-in_err-open_item-in-Items-clause-narrow
 returns-in_err-open_item-in-Items-clause-narrow g c = λ e. λ tag p inside.
     let q = err_from_is_err_and c.from_residual.result c.from_residual.ensures.1 in
     let same : c.in_err-open_item-in-Items.field-0.0 ≡ TooNarrow = cc (q.1, q.2, e) in
-    ap (λ (a : Around). placed (marking g.D.TextDecorator.text tag g.D.TextDecorator.marks g.D.TextDecorator.after
-    g.D.TextDecorator.pops g.D.TextDecorator.sub) a inside (laying_of g.D.Annotation.EqualCopy.seen
-    g.D.TextDecorator.held c.args.laying.now)) c.in-Items.is
+    ap (λ (a : Around). placed (marking g.D.TextDecorator.view tag) a inside (laying_of g.D.Annotation.EqualCopy.seen
+    g.D.TextDecorator.view.held c.args.laying.now)) c.in-Items.is
     ∙ c.in_err-open_item-in-Items.ensures.narrow (ap Err same) tag p inside

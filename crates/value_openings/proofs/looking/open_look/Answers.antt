@@ -20,6 +20,5 @@ returns-in_err-begin_look-clause-narrow g c = λ e. λ tag p inside.
 pub returns-then-eq-clause-opened : goal.returns-then-eq-clause-opened
 returns-then-eq-clause-opened g c = λ tag p nodes w inside.
     let is : c.args.style ≡ plain = search rules in
-    plain_opens (marking g.D.TextDecorator.text tag g.D.TextDecorator.marks g.D.TextDecorator.after
-    g.D.TextDecorator.pops g.D.TextDecorator.sub) w c.args.style inside (laying_of g.D.Annotation.EqualCopy.seen
-    g.D.TextDecorator.held c.args.laying.now) is
+    plain_opens (marking g.D.TextDecorator.view tag) w c.args.style inside (laying_of g.D.Annotation.EqualCopy.seen
+    g.D.TextDecorator.view.held c.args.laying.now) is

@@ -8,8 +8,7 @@ use Rattle.value_openings.proofs.parts.hold_quote.Goals as goal
 
 pub returns-clause-opened : goal.returns-clause-opened
 returns-clause-opened g c = if_ok_by _ _ c.open_part.result (λ x h. λ tag p nodes w inside.
-    mark_opens (marking g.D.TextDecorator.text tag g.D.TextDecorator.marks g.D.TextDecorator.after
-    g.D.TextDecorator.pops g.D.TextDecorator.sub) quote c.args.least _ _ _ inside _ _ _ _
+    mark_opens (marking g.D.TextDecorator.view tag) quote c.args.least _ _ _ inside _ _ _ _
     c.in_ok-first.ensures.stays c.in_ok-following.ensures.stays
     (c.in_ok-first.ensures.text tag) (c.in_ok-following.ensures.text tag)
     (c.columns_of-columns.ensures ∙ ap (λ (bs : List ℕ). text_columns (chars bs)) c.as_str.ensures.value)
@@ -17,8 +16,7 @@ returns-clause-opened g c = if_ok_by _ _ c.open_part.result (λ x h. λ tag p no
 
 pub returns-clause-narrow : goal.returns-clause-narrow
 returns-clause-narrow g c = λ e. λ tag p inside.
-    mark_opens (marking g.D.TextDecorator.text tag g.D.TextDecorator.marks g.D.TextDecorator.after
-    g.D.TextDecorator.pops g.D.TextDecorator.sub) quote c.args.least _ _ _ inside _ _ _ _
+    mark_opens (marking g.D.TextDecorator.view tag) quote c.args.least _ _ _ inside _ _ _ _
     c.in_ok-first.ensures.stays c.in_ok-following.ensures.stays
     (c.in_ok-first.ensures.text tag) (c.in_ok-following.ensures.text tag)
     (c.columns_of-columns.ensures ∙ ap (λ (bs : List ℕ). text_columns (chars bs)) c.as_str.ensures.value)

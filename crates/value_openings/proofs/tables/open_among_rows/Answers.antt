@@ -21,11 +21,10 @@ returns-in_ok-open_group-in-TableGroup-clause-opened g c = λ nodes.
       works = o.works;
       few = o.few;
       opens = λ tag p w inside. ap (λ (i : RenderInfo). among_rows
-          (marking g.D.TextDecorator.text tag g.D.TextDecorator.marks g.D.TextDecorator.after
-          g.D.TextDecorator.pops g.D.TextDecorator.sub) i c.args.head.now
+          (marking g.D.TextDecorator.view tag) i c.args.head.now
           (widths_seen c.args.rows.widths) (rows_left c.args.rows.rows) c.args.rows.fragments.items inside
-          (in_table (place_of g.D.Annotation.EqualCopy.seen g.D.TextDecorator.held (Rows c.args.rows))
-          (laying_of g.D.Annotation.EqualCopy.seen g.D.TextDecorator.held c.args.laying.now))) c.in-TableGroup.is
+          (in_table (place_of g.D.Annotation.EqualCopy.seen g.D.TextDecorator.view.held (Rows c.args.rows))
+          (laying_of g.D.Annotation.EqualCopy.seen g.D.TextDecorator.view.held c.args.laying.now))) c.in-TableGroup.is
           ∙ o.opens tag p w inside;
     }
 
@@ -36,11 +35,10 @@ returns-in-TableRow-clause-opened g c = λ nodes. if_ok_by _ _ c.open_row.result
   works = o.works;
   few = o.few;
   opens = λ tag p w inside. ap (λ (i : RenderInfo). among_rows
-      (marking g.D.TextDecorator.text tag g.D.TextDecorator.marks g.D.TextDecorator.after
-      g.D.TextDecorator.pops g.D.TextDecorator.sub) i c.args.head.now
+      (marking g.D.TextDecorator.view tag) i c.args.head.now
       (widths_seen c.args.rows.widths) (rows_left c.args.rows.rows) c.args.rows.fragments.items inside
-      (in_table (place_of g.D.Annotation.EqualCopy.seen g.D.TextDecorator.held (Rows c.args.rows))
-      (laying_of g.D.Annotation.EqualCopy.seen g.D.TextDecorator.held c.args.laying.now))) c.in-TableRow.is
+      (in_table (place_of g.D.Annotation.EqualCopy.seen g.D.TextDecorator.view.held (Rows c.args.rows))
+      (laying_of g.D.Annotation.EqualCopy.seen g.D.TextDecorator.view.held c.args.laying.now))) c.in-TableRow.is
       ∙ o.opens tag p w inside;
 }) (c.open_row.ensures.opened nodes)
 
@@ -52,11 +50,10 @@ returns-in_default g c = record {
     works = All-nil WorksOutside;
     few = omega arith;
     opens = λ tag p w inside. nothing_among_rows
-        (marking g.D.TextDecorator.text tag g.D.TextDecorator.marks g.D.TextDecorator.after
-        g.D.TextDecorator.pops g.D.TextDecorator.sub) w c.args.head.now.info
+        (marking g.D.TextDecorator.view tag) w c.args.head.now.info
         c.args.head.now (widths_seen c.args.rows.widths) (rows_left c.args.rows.rows) c.args.rows.fragments.items
-        inside (in_table (place_of g.D.Annotation.EqualCopy.seen g.D.TextDecorator.held (Rows c.args.rows))
-        (laying_of g.D.Annotation.EqualCopy.seen g.D.TextDecorator.held c.args.laying.now))
+        inside (in_table (place_of g.D.Annotation.EqualCopy.seen g.D.TextDecorator.view.held (Rows c.args.rows))
+        (laying_of g.D.Annotation.EqualCopy.seen g.D.TextDecorator.view.held c.args.laying.now))
         c.in_default.not-TableGroup c.in_default.not-TableRow;
   };
   works = c.requires;

@@ -22,15 +22,11 @@ returns-then-not-shown-clause-opened g c = λ nodes.
       works = All-nil WorksOutside;
       few = omega arith;
       opens = λ tag p w inside. row_left_out
-          (marking g.D.TextDecorator.text tag g.D.TextDecorator.marks g.D.TextDecorator.after
-          g.D.TextDecorator.pops g.D.TextDecorator.sub) w c.in_ok-shown.shown
-          (styled (marking g.D.TextDecorator.text tag g.D.TextDecorator.marks g.D.TextDecorator.after
-          g.D.TextDecorator.pops g.D.TextDecorator.sub) c.args.head.now.style
-          (in_turn inside (row_ended (marking g.D.TextDecorator.text tag g.D.TextDecorator.marks g.D.TextDecorator.after
-          g.D.TextDecorator.pops g.D.TextDecorator.sub)))) _ _ hidden
+          (marking g.D.TextDecorator.view tag) w c.in_ok-shown.shown
+          (styled (marking g.D.TextDecorator.view tag) c.args.head.now.style
+          (in_turn inside (row_ended (marking g.D.TextDecorator.view tag)))) _ _ hidden
           (c.in_ok-shown.ensures.begun
-          (marking g.D.TextDecorator.text tag g.D.TextDecorator.marks g.D.TextDecorator.after
-          g.D.TextDecorator.pops g.D.TextDecorator.sub) inside);
+          (marking g.D.TextDecorator.view tag) inside);
     }
 
 pub returns-in_err-look-clause-narrow : goal.returns-in_err-look-clause-narrow
@@ -39,12 +35,9 @@ returns-in_err-look-clause-narrow g c = λ e. λ tag p inside.
     let q = err_from_is_err_and c.from_residual-in_err-look.result c.from_residual-in_err-look.ensures.1 in
     let same : c.in_err-look.field-0.0 ≡ TooNarrow = cc (q.1, q.2, e) in
     row_let_in c.in_ok-shown.shown (styled
-    (marking g.D.TextDecorator.text tag g.D.TextDecorator.marks g.D.TextDecorator.after
-    g.D.TextDecorator.pops g.D.TextDecorator.sub) c.args.head.now.style
-    (in_turn inside (row_ended (marking g.D.TextDecorator.text tag g.D.TextDecorator.marks g.D.TextDecorator.after
-    g.D.TextDecorator.pops g.D.TextDecorator.sub)))) _ _ shown
-    (c.in_ok-shown.ensures.begun (marking g.D.TextDecorator.text tag g.D.TextDecorator.marks g.D.TextDecorator.after
-    g.D.TextDecorator.pops g.D.TextDecorator.sub) inside)
+    (marking g.D.TextDecorator.view tag) c.args.head.now.style
+    (in_turn inside (row_ended (marking g.D.TextDecorator.view tag)))) _ _ shown
+    (c.in_ok-shown.ensures.begun (marking g.D.TextDecorator.view tag) inside)
     ∙ c.in_err-look.ensures.narrow (ap Err same) tag p _
 
 pub returns-clause-opened : goal.returns-clause-opened
@@ -55,17 +48,13 @@ returns-clause-opened g c = λ nodes.
       pushed = pushed_both _ _ _ _ _ c.in_ok-push_some.ensures c.in_ok-push.ensures.items;
       works = all_and_one WorksOutside _ _ (some_all WorksOutside c.in_ok-look.look c.in_ok-look.ensures.ready) tt;
       few = omega (arith, some_few c.in_ok-look.look, length-append (maybe c.in_ok-look.look) (RowEnds ∷ []));
-      opens = λ tag p w inside. row_opens (waiting_of g.D.Annotation.EqualCopy.seen g.D.TextDecorator.held nodes)
-          (marking g.D.TextDecorator.text tag g.D.TextDecorator.marks g.D.TextDecorator.after
-          g.D.TextDecorator.pops g.D.TextDecorator.sub)
+      opens = λ tag p w inside. row_opens (waiting_of g.D.Annotation.EqualCopy.seen g.D.TextDecorator.view.held nodes)
+          (marking g.D.TextDecorator.view tag)
           w c.args.head.now.style inside (maybe c.in_ok-look.look) RowEnds _ _ _ refl
           (row_let_in c.in_ok-shown.shown (styled
-          (marking g.D.TextDecorator.text tag g.D.TextDecorator.marks g.D.TextDecorator.after
-          g.D.TextDecorator.pops g.D.TextDecorator.sub) c.args.head.now.style
-          (in_turn inside (row_ended (marking g.D.TextDecorator.text tag g.D.TextDecorator.marks g.D.TextDecorator.after
-          g.D.TextDecorator.pops g.D.TextDecorator.sub)))) _ _ shown
+          (marking g.D.TextDecorator.view tag) c.args.head.now.style
+          (in_turn inside (row_ended (marking g.D.TextDecorator.view tag)))) _ _ shown
           (c.in_ok-shown.ensures.begun
-          (marking g.D.TextDecorator.text tag g.D.TextDecorator.marks g.D.TextDecorator.after
-          g.D.TextDecorator.pops g.D.TextDecorator.sub) inside))
+          (marking g.D.TextDecorator.view tag) inside))
           (c.in_ok-look.ensures.opened tag p nodes w);
     }

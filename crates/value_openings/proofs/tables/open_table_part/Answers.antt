@@ -12,11 +12,11 @@ pub returns-in_err-open_among_rows-in-Rows-clause-narrow :
 returns-in_err-open_among_rows-in-Rows-clause-narrow g c = λ e. λ content tag p inside.
     let q = err_from_is_err_and c.from_residual.result c.from_residual.ensures.1 in
     let same : c.in_err-open_among_rows-in-Rows.field-0.0 ≡ TooNarrow = cc (q.1, q.2, e) in
-    laid_at_place (marking g.D.TextDecorator.text tag g.D.TextDecorator.marks g.D.TextDecorator.after
-    g.D.TextDecorator.pops g.D.TextDecorator.sub) c.args.head.now content inside
-    (laying_of g.D.Annotation.EqualCopy.seen g.D.TextDecorator.held c.args.laying.now)
-    (place_of g.D.Annotation.EqualCopy.seen g.D.TextDecorator.held (Rows c.in-Rows.rows))
-    (ap (place_of g.D.Annotation.EqualCopy.seen g.D.TextDecorator.held) (sym c.replace.ensures.value ∙ c.in-Rows.is))
+    laid_at_place (marking g.D.TextDecorator.view tag) c.args.head.now content inside
+    (laying_of g.D.Annotation.EqualCopy.seen g.D.TextDecorator.view.held c.args.laying.now)
+    (place_of g.D.Annotation.EqualCopy.seen g.D.TextDecorator.view.held (Rows c.in-Rows.rows))
+    (ap (place_of g.D.Annotation.EqualCopy.seen g.D.TextDecorator.view.held) (sym c.replace.ensures.value ∙
+    c.in-Rows.is))
     ∙ c.in_err-open_among_rows-in-Rows.ensures.narrow (ap Err same) tag p inside
 
 pub returns-in_ok-open_among_rows-in-Rows-clause-opened :
@@ -29,11 +29,10 @@ returns-in_ok-open_among_rows-in-Rows-clause-opened g c = λ content nodes.
       works = o.works;
       few = o.few;
       opens = λ tag p w inside. laid_at_place
-          (marking g.D.TextDecorator.text tag g.D.TextDecorator.marks g.D.TextDecorator.after
-          g.D.TextDecorator.pops g.D.TextDecorator.sub) c.args.head.now content inside
-          (laying_of g.D.Annotation.EqualCopy.seen g.D.TextDecorator.held c.args.laying.now)
-          (place_of g.D.Annotation.EqualCopy.seen g.D.TextDecorator.held (Rows c.in-Rows.rows))
-          (ap (place_of g.D.Annotation.EqualCopy.seen g.D.TextDecorator.held) (sym c.replace.ensures.value
+          (marking g.D.TextDecorator.view tag) c.args.head.now content inside
+          (laying_of g.D.Annotation.EqualCopy.seen g.D.TextDecorator.view.held c.args.laying.now)
+          (place_of g.D.Annotation.EqualCopy.seen g.D.TextDecorator.view.held (Rows c.in-Rows.rows))
+          (ap (place_of g.D.Annotation.EqualCopy.seen g.D.TextDecorator.view.held) (sym c.replace.ensures.value
           ∙ c.in-Rows.is))
           ∙ o.opens tag p w inside;
     }
@@ -44,12 +43,12 @@ returns-in_err-open_among_cells-in-Cells-clause-narrow g c = λ e. λ content ta
     let q = err_from_is_err_and c.from_residual-in_err-open_among_cells-in-Cells.result
     c.from_residual-in_err-open_among_cells-in-Cells.ensures.1 in
     let same : c.in_err-open_among_cells-in-Cells.field-0.0 ≡ TooNarrow = cc (q.1, q.2, e) in
-    laid_at_place (marking g.D.TextDecorator.text tag g.D.TextDecorator.marks g.D.TextDecorator.after
-    g.D.TextDecorator.pops g.D.TextDecorator.sub) c.args.head.now content inside
-    (laying_of g.D.Annotation.EqualCopy.seen g.D.TextDecorator.held c.args.laying.now)
-    (place_of g.D.Annotation.EqualCopy.seen g.D.TextDecorator.held
+    laid_at_place (marking g.D.TextDecorator.view tag) c.args.head.now content inside
+    (laying_of g.D.Annotation.EqualCopy.seen g.D.TextDecorator.view.held c.args.laying.now)
+    (place_of g.D.Annotation.EqualCopy.seen g.D.TextDecorator.view.held
     (Cells c.in-Cells.rows c.in-Cells.slots c.in-Cells.made))
-    (ap (place_of g.D.Annotation.EqualCopy.seen g.D.TextDecorator.held) (sym c.replace.ensures.value ∙ c.in-Cells.is))
+    (ap (place_of g.D.Annotation.EqualCopy.seen g.D.TextDecorator.view.held) (sym c.replace.ensures.value ∙
+    c.in-Cells.is))
     ∙ c.in_err-open_among_cells-in-Cells.ensures.narrow (ap Err same) tag p inside
 
 pub returns-in_ok-open_among_cells-in-Cells-clause-opened :
@@ -62,12 +61,11 @@ returns-in_ok-open_among_cells-in-Cells-clause-opened g c = λ content nodes.
       works = o.works;
       few = o.few;
       opens = λ tag p w inside. laid_at_place
-          (marking g.D.TextDecorator.text tag g.D.TextDecorator.marks g.D.TextDecorator.after
-          g.D.TextDecorator.pops g.D.TextDecorator.sub) c.args.head.now content inside
-          (laying_of g.D.Annotation.EqualCopy.seen g.D.TextDecorator.held c.args.laying.now)
-          (place_of g.D.Annotation.EqualCopy.seen g.D.TextDecorator.held
+          (marking g.D.TextDecorator.view tag) c.args.head.now content inside
+          (laying_of g.D.Annotation.EqualCopy.seen g.D.TextDecorator.view.held c.args.laying.now)
+          (place_of g.D.Annotation.EqualCopy.seen g.D.TextDecorator.view.held
           (Cells c.in-Cells.rows c.in-Cells.slots c.in-Cells.made))
-          (ap (place_of g.D.Annotation.EqualCopy.seen g.D.TextDecorator.held) (sym c.replace.ensures.value
+          (ap (place_of g.D.Annotation.EqualCopy.seen g.D.TextDecorator.view.held) (sym c.replace.ensures.value
           ∙ c.in-Cells.is))
           ∙ o.opens tag p w inside;
     }

@@ -9,10 +9,9 @@ use Rattle.value_openings.proofs.values.hold.Goals as goal
 
 pub returns-in_default : goal.returns-in_default
 returns-in_default g c = record {
-  opened = λ tag p nodes w inside. held_alone (marking g.D.TextDecorator.text tag g.D.TextDecorator.marks
-      g.D.TextDecorator.after g.D.TextDecorator.pops g.D.TextDecorator.sub) w c.args.info.now
+  opened = λ tag p nodes w inside. held_alone (marking g.D.TextDecorator.view tag) w c.args.info.now
       (content_seen c.args.content) inside
-      (laying_of g.D.Annotation.EqualCopy.seen g.D.TextDecorator.held c.args.laying.now) c.in_default.not-Heading
+      (laying_of g.D.Annotation.EqualCopy.seen g.D.TextDecorator.view.held c.args.laying.now) c.in_default.not-Heading
       c.in_default.not-Quote c.in_default.not-Bullets c.in_default.not-Numbers c.in_default.not-Details
       c.in_default.not-Table;
   works = c.requires.works;
@@ -22,15 +21,14 @@ returns-in_default g c = record {
 }
 
 pub returns-in_ok-table-in-Table-clause-opened : goal.returns-in_ok-table-in-Table-clause-opened
-returns-in_ok-table-in-Table-clause-opened g c = λ tag p nodes w inside. table_holds (marking g.D.TextDecorator.text
-    tag g.D.TextDecorator.marks g.D.TextDecorator.after g.D.TextDecorator.pops
-    g.D.TextDecorator.sub) c.args.info.now
-    (content_seen c.args.content) inside (laying_of g.D.Annotation.EqualCopy.seen g.D.TextDecorator.held
+returns-in_ok-table-in-Table-clause-opened g c = λ tag p nodes w inside. table_holds (marking g.D.TextDecorator.view
+    tag) c.args.info.now
+    (content_seen c.args.content) inside (laying_of g.D.Annotation.EqualCopy.seen g.D.TextDecorator.view.held
     c.args.laying.now) _ c.in-Table.is
     (c.in_ok-table-in-Table.ensures.opened tag p nodes w inside
-    ∙ ap (λ b. option_and_then (unwound (marking g.D.TextDecorator.text tag g.D.TextDecorator.marks
-    g.D.TextDecorator.after g.D.TextDecorator.pops
-    g.D.TextDecorator.sub) w (all_waiting g.D.Annotation.EqualCopy.seen g.D.TextDecorator.held nodes (maybe
+    ∙ ap (λ b. option_and_then (unwound (marking g.D.TextDecorator.view tag) w (all_waiting
+    g.D.Annotation.EqualCopy.seen g.D.TextDecorator.view.held nodes (maybe
     c.in_ok-table-in-Table.table)))
-    (where_entered b inside (laying_of g.D.Annotation.EqualCopy.seen g.D.TextDecorator.held c.hold_table.new.laying)))
+    (where_entered b inside (laying_of g.D.Annotation.EqualCopy.seen g.D.TextDecorator.view.held
+    c.hold_table.new.laying)))
     (sym c.is_some-is_shown.ensures))

@@ -21,7 +21,8 @@ returns-clause-opened g c = λ nodes here. if_ok_by _ _ c.open_shown.result (λ 
     length-append (maybe c.in_ok-item.item) (maybe c.in_ok-look.look ++ o.items),
     length-append (maybe c.in_ok-look.look) o.items,
   );
-  opens = λ tag p w inside. value_opens (waiting_of g.D.Annotation.EqualCopy.seen g.D.TextDecorator.held nodes) _ w _
+  opens = λ tag p w inside. value_opens (waiting_of g.D.Annotation.EqualCopy.seen g.D.TextDecorator.view.held nodes) _ w
+      _
       c.args.head.now.style _ _ _ _ _ _ _ _ (c.in_ok-item.ensures.opened tag p nodes w)
       (c.in_ok-look.ensures.opened tag p nodes w) (o.opens tag p w inside);
 }) (c.open_shown.ensures.opened nodes here)

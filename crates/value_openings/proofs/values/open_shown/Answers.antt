@@ -22,11 +22,10 @@ returns-clause-opened g c = λ nodes here. record {
   opens = λ tag p w inside. shown_opens _ w c.args.head.now (content_seen c.args.content) inside _ _ _ _ _ _
       c.in_ok-part.entered c.if-not-entered.false (c.in_ok-lead.ensures.done tag p) (c.in_ok-begin.ensures.done tag p)
       (c.in_ok-part.ensures.opened tag p nodes w) (c.in_ok-follow.ensures.done tag p)
-      ∙ ap (λ i. option_and_then (unwound (marking g.D.TextDecorator.text tag g.D.TextDecorator.marks
-      g.D.TextDecorator.after
-      g.D.TextDecorator.pops g.D.TextDecorator.sub) w (value_ends i ∷ all_waiting g.D.Annotation.EqualCopy.seen
-      g.D.TextDecorator.held nodes
-      (maybe c.in_ok-part.part))) (inside (laying_of g.D.Annotation.EqualCopy.seen g.D.TextDecorator.held
+      ∙ ap (λ i. option_and_then (unwound (marking g.D.TextDecorator.view tag) w (value_ends i ∷ all_waiting
+      g.D.Annotation.EqualCopy.seen
+      g.D.TextDecorator.view.held nodes
+      (maybe c.in_ok-part.part))) (inside (laying_of g.D.Annotation.EqualCopy.seen g.D.TextDecorator.view.held
       c.follow.new.self))) (sym here);
 }
 
@@ -39,10 +38,9 @@ returns-then-not-entered-clause-opened g c = λ nodes here. record {
   opens = λ tag p w inside. shown_alone _ w c.args.head.now (content_seen c.args.content) inside _ _ _ _ _
       c.in_ok-part.entered c.if-not-entered.true (c.in_ok-lead.ensures.done tag p) (c.in_ok-begin.ensures.done tag p)
       (c.in_ok-part.ensures.opened tag p nodes w)
-      ∙ ap (λ i. option_and_then (unwound (marking g.D.TextDecorator.text tag g.D.TextDecorator.marks
-      g.D.TextDecorator.after g.D.TextDecorator.pops
-      g.D.TextDecorator.sub) w (value_ends i ∷ all_waiting g.D.Annotation.EqualCopy.seen g.D.TextDecorator.held nodes
-      (maybe c.in_ok-part.part))) (Some (laying_of g.D.Annotation.EqualCopy.seen g.D.TextDecorator.held
+      ∙ ap (λ i. option_and_then (unwound (marking g.D.TextDecorator.view tag) w (value_ends i ∷ all_waiting
+      g.D.Annotation.EqualCopy.seen g.D.TextDecorator.view.held nodes
+      (maybe c.in_ok-part.part))) (Some (laying_of g.D.Annotation.EqualCopy.seen g.D.TextDecorator.view.held
       c.hold.new.laying))) (sym here);
 }
 

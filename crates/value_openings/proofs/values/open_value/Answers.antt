@@ -28,22 +28,16 @@ returns-in-None-clause-opened g c = λ nodes here.
       pushed = o.pushed ∙ ap (λ v. v ++ o.items) stands.0;
       works = o.works;
       few = o.few;
-      opens = λ tag p w inside. stands.1.1 (marking g.D.TextDecorator.text tag g.D.TextDecorator.marks
-          g.D.TextDecorator.after g.D.TextDecorator.pops
-          g.D.TextDecorator.sub) (content_seen c.args.content) inside
-          ∙ (ap (laid_outside (marking g.D.TextDecorator.text tag g.D.TextDecorator.marks g.D.TextDecorator.after
-          g.D.TextDecorator.pops
-          g.D.TextDecorator.sub) c.args.head.now (content_seen c.args.content) inside) (sym stands.1.0)
+      opens = λ tag p w inside. stands.1.1 (marking g.D.TextDecorator.view tag) (content_seen c.args.content) inside
+          ∙ (ap (laid_outside (marking g.D.TextDecorator.view tag) c.args.head.now (content_seen c.args.content) inside)
+          (sym stands.1.0)
           ∙ o.opens tag p w inside);
     }) (c.open_outside.ensures.opened nodes here)
 
 pub returns-in-None-clause-narrow : goal.returns-in-None-clause-narrow
 returns-in-None-clause-narrow g c = λ e. λ tag p inside.
     let stands = c.in_ok-part.ensures.outside c.in-None.is in
-    stands.1.1 (marking g.D.TextDecorator.text tag g.D.TextDecorator.marks g.D.TextDecorator.after
-    g.D.TextDecorator.pops
-    g.D.TextDecorator.sub) (content_seen c.args.content) inside
-    ∙ (ap (laid_outside (marking g.D.TextDecorator.text tag g.D.TextDecorator.marks g.D.TextDecorator.after
-    g.D.TextDecorator.pops
-    g.D.TextDecorator.sub) c.args.head.now (content_seen c.args.content) inside) (sym stands.1.0)
+    stands.1.1 (marking g.D.TextDecorator.view tag) (content_seen c.args.content) inside
+    ∙ (ap (laid_outside (marking g.D.TextDecorator.view tag) c.args.head.now (content_seen c.args.content) inside) (sym
+    stands.1.0)
     ∙ c.open_outside.ensures.narrow e tag p inside)

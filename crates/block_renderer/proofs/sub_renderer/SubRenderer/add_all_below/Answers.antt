@@ -9,7 +9,7 @@ use Rattle.block_renderer.proofs.sub_renderer.SubRenderer.add_all_below.Goals as
 
 pub loop-cell-init : goal.loop-cell-init
 loop-cell-init g c =
-    let s = sub_of g.D.Annotation.EqualCopy.seen g.D.TextDecorator.held in
+    let s = sub_of g.D.Annotation.EqualCopy.seen g.D.TextDecorator.view.held in
     record {
       done = begun_below (s c.in-Some.first) (map s (into_iter_items c.into_iter-cell-iterator.result))
           (map s c.args.cells.items) (s c.args.self.now) (s c.append_sub.new.self)
@@ -22,7 +22,7 @@ loop-cell-init g c =
 
 pub loop-cell-preserved : goal.loop-cell-preserved
 loop-cell-preserved g c =
-    let s = sub_of g.D.Annotation.EqualCopy.seen g.D.TextDecorator.held in
+    let s = sub_of g.D.Annotation.EqualCopy.seen g.D.TextDecorator.view.held in
     record {
       done = sym (ap (option_and_then (add_below (map s (into_iter_items c.next-in-loop-cell.new.self))))
           c.in_ok-add_one_below.ensures.done)

@@ -7,7 +7,7 @@ use Rattle.block_renderer.proofs.sub_renderer.SubRenderer.add_all_below.Given as
 abbrev pub invariant-loop-cell : goal.invariant-loop-cell
 invariant-loop-cell g l =
     let seen = g.D.Annotation.EqualCopy.seen in
-    let held = g.D.TextDecorator.held in
+    let held = g.D.TextDecorator.view.held in
     record {
       done : add_below (map (sub_of seen held) (into_iter_items l.cell-iterator)) (sub_of seen held l.self)
           ≡ add_first (map (sub_of seen held) l.fn.cells.items) (sub_of seen held l.fn.self);

@@ -10,7 +10,7 @@ use Rattle.block_renderer.proofs.sub_renderer.SubRenderer.add_cells.Goals as goa
 
 pub returns-clause-done : goal.returns-clause-done
 returns-clause-done g c =
-    let s = sub_of g.D.Annotation.EqualCopy.seen g.D.TextDecorator.held c.args.self.now in
+    let s = sub_of g.D.Annotation.EqualCopy.seen g.D.TextDecorator.view.held c.args.self.now in
     let cells = map (cell_of (tags_seen g.D.Annotation.EqualCopy.seen)) c.in_ok-cells.cells.items in
     on_ok_weaker c.add_row.result (λ e. ap (λ o. option_and_then (with_cells c.args.collapse s) o)
     c.in_ok-cells.ensures.cells

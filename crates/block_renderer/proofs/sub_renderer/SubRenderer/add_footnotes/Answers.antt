@@ -9,7 +9,8 @@ use Rattle.block_renderer.proofs.sub_renderer.SubRenderer.add_footnotes.Goals as
 pub returns-clause-done : goal.returns-clause-done
 returns-clause-done g c =
     let seen = g.D.Annotation.EqualCopy.seen in
-    let s = sub_of seen g.D.TextDecorator.held c.args.self.now in
-    footnotes_done (flush (measure_of s) s.annotations s.laid) s (sub_of seen g.D.TextDecorator.held c.flush.new.self)
-    (sub_of seen g.D.TextDecorator.held c.put_footnotes.new.self) (map (line_items seen) c.args.lines.items)
+    let s = sub_of seen g.D.TextDecorator.view.held c.args.self.now in
+    footnotes_done (flush (measure_of s) s.annotations s.laid) s (sub_of seen g.D.TextDecorator.view.held
+    c.flush.new.self)
+    (sub_of seen g.D.TextDecorator.view.held c.put_footnotes.new.self) (map (line_items seen) c.args.lines.items)
     c.in_ok-flush.ensures.done c.in_ok-put_footnotes.ensures.done

@@ -11,6 +11,6 @@ returns-clause-more g c =
     let d = g.D.TextDecorator in
     let plain = c.is_plain.ensures c.if-not-is_plain.false in
     IfOk-weaker c.add_more.result _ _ (λ more h t tag p.
-    more_is (marking d.text tag d.marks d.after d.pops d.sub) (chars c.args.text.now)
-    (sub_of seen d.held c.args.self.now) c.mode-mode.result (laid_of (tags_seen seen) c.add_more.new.self)
+    more_is (marking d.view tag) (chars c.args.text.now)
+    (sub_of seen d.view.held c.args.self.now) c.mode-mode.result (laid_of (tags_seen seen) c.add_more.new.self)
     c.mode-mode.ensures plain.0 plain.1 (h t).0 (h t).1) c.add_more.ensures.more

@@ -10,10 +10,10 @@ returns-clause-done g c =
     let seen = g.D.Annotation.EqualCopy.seen in
     let d = g.D.TextDecorator in
     on_ok_weaker c.add_struck.result (λ h. λ tag p.
-    inline_is (marking d.text tag d.marks d.after d.pops d.sub) (chars c.args.text.now)
-    (sub_of seen d.held c.args.self.now)
+    inline_is (marking d.view tag) (chars c.args.text.now)
+    (sub_of seen d.view.held c.args.self.now)
     c.mode.result c.measure-measure.result (laid_of (tags_seen seen) c.start_awaited.new.self)
-    c.is_ignored.result (Some (sub_of seen d.held c.add_struck.new.self)) c.mode.ensures
+    c.is_ignored.result (Some (sub_of seen d.view.held c.add_struck.new.self)) c.mode.ensures
     c.measure-measure.ensures c.is_ignored.ensures c.if-is_ignored.false
     c.in_ok-start_awaited.ensures.started (h tag p))
     c.add_struck.ensures.done
@@ -22,8 +22,8 @@ pub returns-clause-narrow : goal.returns-clause-narrow
 returns-clause-narrow g c = λ e. λ tag p.
     let seen = g.D.Annotation.EqualCopy.seen in
     let d = g.D.TextDecorator in
-    inline_is (marking d.text tag d.marks d.after d.pops d.sub) (chars c.args.text.now)
-    (sub_of seen d.held c.args.self.now)
+    inline_is (marking d.view tag) (chars c.args.text.now)
+    (sub_of seen d.view.held c.args.self.now)
     c.mode.result c.measure-measure.result (laid_of (tags_seen seen) c.start_awaited.new.self)
     c.is_ignored.result None c.mode.ensures c.measure-measure.ensures c.is_ignored.ensures c.if-is_ignored.false
     c.in_ok-start_awaited.ensures.started (c.add_struck.ensures.narrow e tag p)

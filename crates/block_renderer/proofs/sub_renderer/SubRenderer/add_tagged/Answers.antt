@@ -10,7 +10,7 @@ pub returns-then-is_empty-clause-done : goal.returns-then-is_empty-clause-done
 returns-then-is_empty-clause-done g c = λ tag p.
     let seen = g.D.Annotation.EqualCopy.seen in
     let d = g.D.TextDecorator in
-    empty_plain (marking d.text tag d.marks d.after d.pops d.sub) (chars c.args.text.now)
-    (sub_of seen d.held c.args.self.now) c.measure-measure.result (laid_of (tags_seen seen) c.begin_text.new.self)
+    empty_plain (marking d.view tag) (chars c.args.text.now)
+    (sub_of seen d.view.held c.args.self.now) c.measure-measure.result (laid_of (tags_seen seen) c.begin_text.new.self)
     (empty_text c.args.text.now (sym c.is_empty.ensures ∙ c.if-is_empty.true)) c.measure-measure.ensures
     (grind (arith, nat_tests, c.if-self-gt0.false)) c.in_ok-begin_text.ensures.laid

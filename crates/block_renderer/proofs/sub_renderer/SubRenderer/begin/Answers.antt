@@ -8,7 +8,7 @@ pub returns-clause-done : goal.returns-clause-done
 returns-clause-done g c =
     let d = g.D.TextDecorator in
     on_ok_weaker c.add_inline-result.result (λ h. λ tag p.
-    ap (λ s. add_inline (marking d.text tag d.marks d.after d.pops d.sub) (chars c.args.text.now) s)
+    ap (λ s. add_inline (marking d.view tag) (chars c.args.text.now) s)
     (sym c.in_default.ensures.pushed)
     ∙ h tag p)
     c.add_inline-result.ensures.done
@@ -16,6 +16,6 @@ returns-clause-done g c =
 pub returns-clause-narrow : goal.returns-clause-narrow
 returns-clause-narrow g c = λ e. λ tag p.
     let d = g.D.TextDecorator in
-    ap (λ s. add_inline (marking d.text tag d.marks d.after d.pops d.sub) (chars c.args.text.now) s)
+    ap (λ s. add_inline (marking d.view tag) (chars c.args.text.now) s)
     (sym c.in_default.ensures.pushed)
     ∙ c.add_inline-result.ensures.narrow e tag p

@@ -6,5 +6,5 @@ use Rattle.block_renderer.proofs.sub_renderer.SubRenderer.pop_annotation.Goals a
 pub returns-clause-popped : goal.returns-clause-popped
 returns-clause-popped g c =
     let seen = g.D.Annotation.EqualCopy.seen in
-    ap (λ tags. record (sub_of seen g.D.TextDecorator.held c.args.self.now) { annotations = tags })
+    ap (λ tags. record (sub_of seen g.D.TextDecorator.view.held c.args.self.now) { annotations = tags })
     (ap (map seen) c.drop_last.ensures ∙ mapped_off seen c.args.self.now.annotations.items)

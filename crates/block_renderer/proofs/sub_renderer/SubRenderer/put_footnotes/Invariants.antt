@@ -8,7 +8,7 @@ use Rattle.block_renderer.proofs.sub_renderer.SubRenderer.put_footnotes.Given as
 abbrev pub invariant-loop-line : goal.invariant-loop-line
 invariant-loop-line g l =
     let seen = g.D.Annotation.EqualCopy.seen in
-    let held = g.D.TextDecorator.held in
+    let held = g.D.TextDecorator.view.held in
     record {
       done : fold with_footnote (sub_of seen held l.self) (map (line_items seen) (into_iter_items l.line-iterator))
           ≡ fold with_footnote (sub_of seen held l.fn.self) (map (line_items seen) l.fn.lines.items);

@@ -9,14 +9,15 @@ use Rattle.html_render_tree.proofs.config.RenderConfig.closed.Goals as goal
 
 pub returns-in-Ok-clause-closed : goal.returns-in-Ok-clause-closed
 returns-in-Ok-clause-closed g c = λ tag p.
-    bound_as _ _ (parts_of g.D.Annotation.EqualCopy.seen g.D.TextDecorator.held c.in_ok-text.text)
-    (Some (sub_of g.D.Annotation.EqualCopy.seen g.D.TextDecorator.held c.in-Ok.sub))
+    bound_as _ _ (parts_of g.D.Annotation.EqualCopy.seen g.D.TextDecorator.view.held c.in_ok-text.text)
+    (Some (sub_of g.D.Annotation.EqualCopy.seen g.D.TextDecorator.view.held c.in-Ok.sub))
     (c.in_ok-text.ensures.laid tag p) (c.in-Ok.ensures.closed tag p)
 
 pub returns-in-Err-clause-narrow : goal.returns-in-Err-clause-narrow
 returns-in-Err-clause-narrow g c = λ e.
     let narrow : c.refusal.result ≡ TooNarrow = cc e in
-    inr (λ tag p. bound_as _ _ (parts_of g.D.Annotation.EqualCopy.seen g.D.TextDecorator.held c.in_ok-text.text) None
+    inr (λ tag p. bound_as _ _ (parts_of g.D.Annotation.EqualCopy.seen g.D.TextDecorator.view.held c.in_ok-text.text)
+    None
     (c.in_ok-text.ensures.laid tag p) (c.in-Err.ensures.narrow (ap Err (c.refusal.ensures.narrow narrow)) tag p))
 
 pub returns-in_err-text-clause-narrow : goal.returns-in_err-text-clause-narrow

@@ -11,15 +11,15 @@ pub returns-in-Ok-clause-closed : goal.returns-in-Ok-clause-closed
 returns-in-Ok-clause-closed g c = λ tag p.
     let d = g.D.TextDecorator in
     let seen = g.D.Annotation.EqualCopy.seen in
-    let m = marking d.text tag d.marks d.after d.pops d.sub in
+    let m = marking d.view tag in
     let laws : BareLaws m = record {
       does = λ call s. c.annotations_change_no_text.ensures.step m call s;
       notes = λ notes s. c.annotations_change_no_text.ensures.footnotes notes s;
       bare = λ s. c.annotations_change_no_text.ensures.bare s;
       laid = c.annotations_change_no_page.ensures m;
     } in
-    closed_alike laws seen d.closes (setting_of d.held d.sub c.args.self.now) c.args.width c.args.tree.now
-    (parts_of seen d.held c.in_ok-text.text) (Some (sub_of seen d.held c.in-Ok.sub))
+    closed_alike laws seen d.view.closes (setting_of d.view c.args.self.now) c.args.width c.args.tree.now
+    (parts_of seen d.view.held c.in_ok-text.text) (Some (sub_of seen d.view.held c.in-Ok.sub))
     (c.in_ok-text.ensures.laid tag p) (c.in-Ok.ensures.closed tag p)
 
 pub returns-in-Err-clause-narrow : goal.returns-in-Err-clause-narrow
@@ -28,15 +28,15 @@ returns-in-Err-clause-narrow g c = λ e.
     let d = g.D.TextDecorator in
     let seen = g.D.Annotation.EqualCopy.seen in
     inr (λ tag p.
-    let m = marking d.text tag d.marks d.after d.pops d.sub in
+    let m = marking d.view tag in
     let laws : BareLaws m = record {
       does = λ call s. c.annotations_change_no_text.ensures.step m call s;
       notes = λ notes s. c.annotations_change_no_text.ensures.footnotes notes s;
       bare = λ s. c.annotations_change_no_text.ensures.bare s;
       laid = c.annotations_change_no_page.ensures m;
     } in
-    never_alike laws seen d.closes (setting_of d.held d.sub c.args.self.now) c.args.width c.args.tree.now
-    (parts_of seen d.held c.in_ok-text.text) (c.in_ok-text.ensures.laid tag p)
+    never_alike laws seen d.view.closes (setting_of d.view c.args.self.now) c.args.width c.args.tree.now
+    (parts_of seen d.view.held c.in_ok-text.text) (c.in_ok-text.ensures.laid tag p)
     (c.in-Err.ensures.narrow (ap Err (c.refusal.ensures.narrow narrow)) tag p))
 
 pub returns-in_err-text-clause-narrow : goal.returns-in_err-text-clause-narrow
@@ -46,13 +46,13 @@ returns-in_err-text-clause-narrow g c = λ e.
     let d = g.D.TextDecorator in
     let seen = g.D.Annotation.EqualCopy.seen in
     or_else (λ never. λ tag p.
-    let m = marking d.text tag d.marks d.after d.pops d.sub in
+    let m = marking d.view tag in
     let laws : BareLaws m = record {
       does = λ call s. c.annotations_change_no_text.ensures.step m call s;
       notes = λ notes s. c.annotations_change_no_text.ensures.footnotes notes s;
       bare = λ s. c.annotations_change_no_text.ensures.bare s;
       laid = c.annotations_change_no_page.ensures m;
     } in
-    never_laid laws seen d.closes (setting_of d.held d.sub c.args.self.now) c.args.width c.args.tree.now
+    never_laid laws seen d.view.closes (setting_of d.view c.args.self.now) c.args.width c.args.tree.now
     (never tag p))
     (c.laid.ensures.narrow (c.in_err-text.was ∙ ap Err same))

@@ -7,14 +7,12 @@ use Rattle.html_render_tree.proofs.config.RenderConfig.laid.Goals as goal
 
 pub returns-clause-laid : goal.returns-clause-laid
 returns-clause-laid g c = if_ok_by _ _ c.laid.result (λ text h. λ tag p.
-    ap (λ h. laid_as c.args.keeps (marking g.D.TextDecorator.text tag g.D.TextDecorator.marks g.D.TextDecorator.after
-    g.D.TextDecorator.pops g.D.TextDecorator.sub)
-    (by_decorator h (setting_of g.D.TextDecorator.held g.D.TextDecorator.sub c.args.self.now)) c.args.width
+    ap (λ h. laid_as c.args.keeps (marking g.D.TextDecorator.view tag)
+    (by_decorator h (setting_of g.D.TextDecorator.view c.args.self.now)) c.args.width
     c.args.tree.now) (sym c.in_ok-decorator.ensures) ∙ h tag p) c.laid.ensures.laid
 
 pub returns-clause-narrow : goal.returns-clause-narrow
 returns-clause-narrow g c = λ e. inr (λ tag p.
-    ap (λ h. laid_as c.args.keeps (marking g.D.TextDecorator.text tag g.D.TextDecorator.marks g.D.TextDecorator.after
-    g.D.TextDecorator.pops g.D.TextDecorator.sub)
-    (by_decorator h (setting_of g.D.TextDecorator.held g.D.TextDecorator.sub c.args.self.now)) c.args.width
+    ap (λ h. laid_as c.args.keeps (marking g.D.TextDecorator.view tag)
+    (by_decorator h (setting_of g.D.TextDecorator.view c.args.self.now)) c.args.width
     c.args.tree.now) (sym c.in_ok-decorator.ensures) ∙ c.laid.ensures.narrow e tag p)

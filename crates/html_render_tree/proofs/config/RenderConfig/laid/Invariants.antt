@@ -4,4 +4,4 @@ use Rattle.html_render_tree.proofs.config.RenderConfig.laid.Given as goal
 
 abbrev pub ghost-laid : goal.ghost-laid
 ghost-laid g a =
-    measure_of a.min_wrap_width (prefix_columns (g.D.TextDecorator.text (g.D.TextDecorator.held a.decorator)))
+    measure_of a.min_wrap_width (prefix_columns (g.D.TextDecorator.view.text (g.D.TextDecorator.view.held a.decorator)))

@@ -14,7 +14,7 @@ use Rattle.html_render_tree.proofs.config.RenderConfig.render_to_lines.Goals as 
 
 pub returns-in-Ok-clause-lines : goal.returns-in-Ok-clause-lines
 returns-in-Ok-clause-lines g c = λ tag p.
-    bound_as renderer_lines _ (sub_of g.D.Annotation.EqualCopy.seen g.D.TextDecorator.held c.in_ok-sub.sub)
+    bound_as renderer_lines _ (sub_of g.D.Annotation.EqualCopy.seen g.D.TextDecorator.view.held c.in_ok-sub.sub)
     (Some (map (line_items (tags_seen g.D.Annotation.EqualCopy.seen)) c.in-Ok.lines.items))
     (c.in_ok-sub.ensures.closed tag p) c.in-Ok.ensures.lines
 
@@ -22,7 +22,7 @@ pub returns-clause-narrow : goal.returns-clause-narrow
 returns-clause-narrow g c = λ e.
     let narrow : c.refusal.result ≡ TooNarrow = cc e in
     inr (λ tag p.
-    bound_as renderer_lines _ (sub_of g.D.Annotation.EqualCopy.seen g.D.TextDecorator.held c.in_ok-sub.sub) None
+    bound_as renderer_lines _ (sub_of g.D.Annotation.EqualCopy.seen g.D.TextDecorator.view.held c.in_ok-sub.sub) None
     (c.in_ok-sub.ensures.closed tag p)
     (ap (option_map (map line_shown)) (c.in-Err.ensures.narrow (ap Err (c.refusal.ensures.narrow narrow)))))
 
@@ -34,17 +34,18 @@ returns-in_err-sub-clause-narrow g c = λ e.
 
 pub returns-in-Ok-clause-within : goal.returns-in-Ok-clause-within
 returns-in-Ok-clause-within g c = λ tag p steady numbered off wraps wide. c.pages_keep_the_width.ensures tag
-    (setting_of g.D.TextDecorator.held g.D.TextDecorator.sub c.args.self.now) c.args.width c.args.tree
+    (setting_of g.D.TextDecorator.view c.args.self.now) c.args.width c.args.tree
     (map (line_items (tags_seen g.D.Annotation.EqualCopy.seen)) c.in-Ok.lines.items) steady numbered off wraps wide
-    (bound_as renderer_lines _ (sub_of g.D.Annotation.EqualCopy.seen g.D.TextDecorator.held c.in_ok-sub.sub) (Some _)
+    (bound_as renderer_lines _ (sub_of g.D.Annotation.EqualCopy.seen g.D.TextDecorator.view.held c.in_ok-sub.sub) (Some
+    _)
     (c.in_ok-sub.ensures.closed tag p) c.in-Ok.ensures.lines)
 
 pub returns-clause-roomy : goal.returns-clause-roomy
 returns-clause-roomy g c = λ tag p on wide e.
     let narrow : c.refusal.result ≡ TooNarrow = cc e in
     c.pages_with_room_are_never_too_narrow.ensures tag
-    (setting_of g.D.TextDecorator.held g.D.TextDecorator.sub c.args.self.now) c.args.width c.args.tree on
-    (bound_as renderer_lines _ (sub_of g.D.Annotation.EqualCopy.seen g.D.TextDecorator.held c.in_ok-sub.sub) None
+    (setting_of g.D.TextDecorator.view c.args.self.now) c.args.width c.args.tree on
+    (bound_as renderer_lines _ (sub_of g.D.Annotation.EqualCopy.seen g.D.TextDecorator.view.held c.in_ok-sub.sub) None
     (c.in_ok-sub.ensures.closed tag p)
     (ap (option_map (map line_shown)) (c.in-Err.ensures.narrow (ap Err (c.refusal.ensures.narrow narrow)))))
 
@@ -53,5 +54,5 @@ returns-in_err-sub-clause-roomy g c = λ tag p on wide e.
     let q = err_from_is_err_and c.from_residual.result c.from_residual.ensures.1 in
     let same : c.in_err-sub.field-0.0 ≡ TooNarrow = cc (q.1, q.2, e) in
     never_so_narrow _ c.args.width (λ never. c.pages_with_room_are_never_too_narrow.ensures tag
-    (setting_of g.D.TextDecorator.held g.D.TextDecorator.sub c.args.self.now) c.args.width c.args.tree on
+    (setting_of g.D.TextDecorator.view c.args.self.now) c.args.width c.args.tree on
     (none_bound renderer_lines _ (never tag p))) wide (c.in_err-sub.ensures.narrow (ap Err same))

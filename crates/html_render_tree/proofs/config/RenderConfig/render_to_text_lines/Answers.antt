@@ -14,31 +14,31 @@ pub returns-in-Ok-clause-text : goal.returns-in-Ok-clause-text
 returns-in-Ok-clause-text g c = λ tag p.
     let d = g.D.TextDecorator in
     let seen = g.D.Annotation.EqualCopy.seen in
-    let m = marking d.text tag d.marks d.after d.pops d.sub in
+    let m = marking d.view tag in
     let laws : TextLaws d.Held g.D.Annotation.EqualCopy.Seen = record {
       lines = λ s. c.annotations_change_no_text.ensures.lines s;
       text = λ s. c.annotations_change_no_text.ensures.text s;
     } in
     let shown = map (line_items (tags_seen seen)) c.in-Ok.lines.items in
-    printed_alike m laws seen d.closes (setting_of d.held d.sub c.args.self.now) c.args.width c.args.tree
-    (sub_of seen d.held c.in_ok-sub.sub) (lines_text shown) (c.in_ok-sub.ensures.closed tag p)
-    (text_shown (sub_of seen d.held c.in_ok-sub.sub) shown c.in-Ok.ensures.lines)
+    printed_alike m laws seen d.view.closes (setting_of d.view c.args.self.now) c.args.width c.args.tree
+    (sub_of seen d.view.held c.in_ok-sub.sub) (lines_text shown) (c.in_ok-sub.ensures.closed tag p)
+    (text_shown (sub_of seen d.view.held c.in_ok-sub.sub) shown c.in-Ok.ensures.lines)
 
 pub returns-in-Ok-clause-within : goal.returns-in-Ok-clause-within
 returns-in-Ok-clause-within g c = λ tag p steady numbered off wraps wide.
     let d = g.D.TextDecorator in
     let seen = g.D.Annotation.EqualCopy.seen in
-    let m = marking d.text tag d.marks d.after d.pops d.sub in
+    let m = marking d.view tag in
     let laws : TextLaws d.Held g.D.Annotation.EqualCopy.Seen = record {
       lines = λ s. c.annotations_change_no_text.ensures.lines s;
       text = λ s. c.annotations_change_no_text.ensures.text s;
     } in
     let shown = map (line_items (tags_seen seen)) c.in-Ok.lines.items in
-    c.texts_keep_the_width.ensures tag (setting_of d.held d.sub c.args.self.now) c.args.width c.args.tree
+    c.texts_keep_the_width.ensures tag (setting_of d.view c.args.self.now) c.args.width c.args.tree
     (lines_text shown) steady numbered off wraps wide
-    (printed_alike m laws seen d.closes (setting_of d.held d.sub c.args.self.now) c.args.width c.args.tree
-    (sub_of seen d.held c.in_ok-sub.sub) (lines_text shown) (c.in_ok-sub.ensures.closed tag p)
-    (text_shown (sub_of seen d.held c.in_ok-sub.sub) shown c.in-Ok.ensures.lines))
+    (printed_alike m laws seen d.view.closes (setting_of d.view c.args.self.now) c.args.width c.args.tree
+    (sub_of seen d.view.held c.in_ok-sub.sub) (lines_text shown) (c.in_ok-sub.ensures.closed tag p)
+    (text_shown (sub_of seen d.view.held c.in_ok-sub.sub) shown c.in-Ok.ensures.lines))
 
 pub returns-clause-narrow : goal.returns-clause-narrow
 returns-clause-narrow g c = λ e.
@@ -49,8 +49,9 @@ returns-clause-narrow g c = λ e.
       lines = λ s. c.annotations_change_no_text.ensures.lines s;
       text = λ s. c.annotations_change_no_text.ensures.text s;
     } in
-    inr (λ tag p. (lines_missing (marking d.text tag d.marks d.after d.pops d.sub) laws seen d.closes (setting_of d.held d.sub c.args.self.now) c.args.width
-    c.args.tree (sub_of seen d.held c.in_ok-sub.sub) (c.in_ok-sub.ensures.closed tag p)
+    inr (λ tag p. (lines_missing (marking d.view tag) laws seen d.view.closes (setting_of d.view c.args.self.now)
+    c.args.width
+    c.args.tree (sub_of seen d.view.held c.in_ok-sub.sub) (c.in_ok-sub.ensures.closed tag p)
     (c.in-Err.ensures.narrow (ap Err (c.refusal.ensures.narrow narrow)))))
 
 pub returns-in_err-sub-clause-narrow : goal.returns-in_err-sub-clause-narrow
@@ -64,14 +65,14 @@ returns-clause-roomy g c = λ tag p on wide e.
     let narrow : c.refusal.result ≡ TooNarrow = cc e in
     let d = g.D.TextDecorator in
     let seen = g.D.Annotation.EqualCopy.seen in
-    let m = marking d.text tag d.marks d.after d.pops d.sub in
+    let m = marking d.view tag in
     let laws : TextLaws d.Held g.D.Annotation.EqualCopy.Seen = record {
       lines = λ s. c.annotations_change_no_text.ensures.lines s;
       text = λ s. c.annotations_change_no_text.ensures.text s;
     } in
-    c.pages_with_room_are_never_too_narrow.ensures tag (setting_of d.held d.sub c.args.self.now) c.args.width
-    c.args.tree on ((lines_missing m laws seen d.closes (setting_of d.held d.sub c.args.self.now) c.args.width
-    c.args.tree (sub_of seen d.held c.in_ok-sub.sub) (c.in_ok-sub.ensures.closed tag p)
+    c.pages_with_room_are_never_too_narrow.ensures tag (setting_of d.view c.args.self.now) c.args.width
+    c.args.tree on ((lines_missing m laws seen d.view.closes (setting_of d.view c.args.self.now) c.args.width
+    c.args.tree (sub_of seen d.view.held c.in_ok-sub.sub) (c.in_ok-sub.ensures.closed tag p)
     (c.in-Err.ensures.narrow (ap Err (c.refusal.ensures.narrow narrow)))))
 
 pub returns-in_err-sub-clause-roomy : goal.returns-in_err-sub-clause-roomy
@@ -79,5 +80,5 @@ returns-in_err-sub-clause-roomy g c = λ tag p on wide e.
     let q = err_from_is_err_and c.from_residual.result c.from_residual.ensures.1 in
     let same : c.in_err-sub.field-0.0 ≡ TooNarrow = cc (q.1, q.2, e) in
     never_so_narrow _ c.args.width (λ never. c.pages_with_room_are_never_too_narrow.ensures tag
-    (setting_of g.D.TextDecorator.held g.D.TextDecorator.sub c.args.self.now) c.args.width c.args.tree on
+    (setting_of g.D.TextDecorator.view c.args.self.now) c.args.width c.args.tree on
     (none_bound renderer_lines _ (never tag p))) wide (c.in_err-sub.ensures.narrow (ap Err same))

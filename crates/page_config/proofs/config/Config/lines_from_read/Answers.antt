@@ -9,12 +9,10 @@ use Rattle.render_conversion.specs.declared.error.RenderError.TheVariants.{TooNa
 use Rattle.tagged_lines.specs.Tagged.{line_items}
 
 pub returns-clause-lines : goal.returns-clause-lines
-returns-clause-lines g c = lines_read g.D.Annotation.EqualCopy.seen g.D.TextDecorator.text g.D.TextDecorator.gives
-    g.D.TextDecorator.marks g.D.TextDecorator.after g.D.TextDecorator.pops g.D.TextDecorator.sub
-    g.D.TextDecorator.closes
-    (page_setting g.D.TextDecorator.held g.D.TextDecorator.sub c.args.self) c.args.width
+returns-clause-lines g c = lines_read g.D.Annotation.EqualCopy.seen g.D.TextDecorator.view
+    (page_setting g.D.TextDecorator.view c.args.self) c.args.width
     (g.R.ByteReader.remaining c.args.input.now) c.in_ok-rendering.tree
-    (setting_of g.D.TextDecorator.held g.D.TextDecorator.sub c.in_ok-rendering.rendering)
+    (setting_of g.D.TextDecorator.view c.in_ok-rendering.rendering)
     (map (line_items (tags_seen g.D.Annotation.EqualCopy.seen)) c.in_ok-render_to_lines.field-0.items)
     c.in_ok-rendering.ensures.tree c.in_ok-rendering.ensures.rendering c.in_ok-rendering.ensures.some
     c.in_ok-render_to_lines.ensures.wide c.in_ok-render_to_lines.ensures.lines
@@ -31,11 +29,9 @@ returns-in_err-render_to_lines-clause-narrow g c = λ e.
     c.from_residual-in_err-render_to_lines.ensures.1 in
     let same : c.in_err-render_to_lines.field-0.0 ≡ TooNarrow =
     narrow_error c.in_err-render_to_lines.field-0.0 (cc (q.1, q.2, e)) in
-    narrow_read g.D.Annotation.EqualCopy.seen g.D.TextDecorator.text g.D.TextDecorator.gives
-    g.D.TextDecorator.marks g.D.TextDecorator.after g.D.TextDecorator.pops g.D.TextDecorator.sub
-    g.D.TextDecorator.closes
-    (page_setting g.D.TextDecorator.held g.D.TextDecorator.sub c.args.self) c.args.width
+    narrow_read g.D.Annotation.EqualCopy.seen g.D.TextDecorator.view
+    (page_setting g.D.TextDecorator.view c.args.self) c.args.width
     (g.R.ByteReader.remaining c.args.input.now) c.in_ok-rendering.tree
-    (setting_of g.D.TextDecorator.held g.D.TextDecorator.sub c.in_ok-rendering.rendering) c.in_ok-rendering.ensures.tree
+    (setting_of g.D.TextDecorator.view c.in_ok-rendering.rendering) c.in_ok-rendering.ensures.tree
     c.in_ok-rendering.ensures.rendering c.in_ok-rendering.ensures.some
     (c.in_err-render_to_lines.ensures.narrow (ap Err same))

@@ -10,13 +10,12 @@ use Rattle.page_config.specs.Settings.{page_setting}
 use Rattle.render_conversion.specs.declared.error.RenderError.TheVariants.{TooNarrow}
 
 pub returns-clause-text : goal.returns-clause-text
-returns-clause-text g c = text_read g.D.Annotation.EqualCopy.seen g.D.TextDecorator.text g.D.TextDecorator.gives
-    g.D.TextDecorator.marks g.D.TextDecorator.after g.D.TextDecorator.pops g.D.TextDecorator.sub
-    g.D.TextDecorator.closes
-    (page_setting g.D.TextDecorator.held g.D.TextDecorator.sub c.args.self) c.args.width
+returns-clause-text g c = text_read g.D.Annotation.EqualCopy.seen g.D.TextDecorator.view
+    (page_setting g.D.TextDecorator.view c.args.self) c.args.width
     (g.R.ByteReader.remaining c.args.input.now) c.in_ok-rendering.tree
-    (setting_of g.D.TextDecorator.held g.D.TextDecorator.sub c.in_ok-rendering.rendering)
-    (lines_text (map (line_items (tags_seen g.D.Annotation.EqualCopy.seen)) c.in_ok-render_to_text_lines.field-0.items)) c.in_ok-rendering.ensures.tree
+    (setting_of g.D.TextDecorator.view c.in_ok-rendering.rendering)
+    (lines_text (map (line_items (tags_seen g.D.Annotation.EqualCopy.seen)) c.in_ok-render_to_text_lines.field-0.items))
+    c.in_ok-rendering.ensures.tree
     c.in_ok-rendering.ensures.rendering c.in_ok-rendering.ensures.some c.in_ok-render_to_text_lines.ensures.wide
     c.in_ok-render_to_text_lines.ensures.text
 
@@ -32,11 +31,9 @@ returns-in_err-render_to_text_lines-clause-narrow g c = λ e.
     c.from_residual-in_err-render_to_text_lines.ensures.1 in
     let same : c.in_err-render_to_text_lines.field-0.0 ≡ TooNarrow =
     narrow_error c.in_err-render_to_text_lines.field-0.0 (cc (q.1, q.2, e)) in
-    narrow_read g.D.Annotation.EqualCopy.seen g.D.TextDecorator.text g.D.TextDecorator.gives
-    g.D.TextDecorator.marks g.D.TextDecorator.after g.D.TextDecorator.pops g.D.TextDecorator.sub
-    g.D.TextDecorator.closes
-    (page_setting g.D.TextDecorator.held g.D.TextDecorator.sub c.args.self) c.args.width
+    narrow_read g.D.Annotation.EqualCopy.seen g.D.TextDecorator.view
+    (page_setting g.D.TextDecorator.view c.args.self) c.args.width
     (g.R.ByteReader.remaining c.args.input.now) c.in_ok-rendering.tree
-    (setting_of g.D.TextDecorator.held g.D.TextDecorator.sub c.in_ok-rendering.rendering) c.in_ok-rendering.ensures.tree
+    (setting_of g.D.TextDecorator.view c.in_ok-rendering.rendering) c.in_ok-rendering.ensures.tree
     c.in_ok-rendering.ensures.rendering c.in_ok-rendering.ensures.some
     (c.in_err-render_to_text_lines.ensures.narrow (ap Err same))

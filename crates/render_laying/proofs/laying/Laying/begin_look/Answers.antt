@@ -12,42 +12,28 @@ use Rattle.render_laying.proofs.laying.Laying.begin_look.Goals as goal
 pub returns-clause-done : goal.returns-clause-done
 unfolding style_begins
 returns-clause-done g c = on_ok_weaker c.begin_white_space.result
-    (λ h. λ tag p. turn_on (for_some c.args.style.colour (λ x. says (marking g.D.TextDecorator.text tag
-    g.D.TextDecorator.marks g.D.TextDecorator.after
-    g.D.TextDecorator.pops g.D.TextDecorator.sub) (starts_colour (colour_start x))))
-    (in_turn (for_some c.args.style.background (λ x. says (marking g.D.TextDecorator.text tag
-    g.D.TextDecorator.marks g.D.TextDecorator.after
-    g.D.TextDecorator.pops g.D.TextDecorator.sub) (starts_colour (background_start x))))
-    (for_some c.args.style.white_space (λ x. says (marking g.D.TextDecorator.text tag g.D.TextDecorator.marks
-    g.D.TextDecorator.after
-    g.D.TextDecorator.pops g.D.TextDecorator.sub) (starts_mode x)))) _ _ _
+    (λ h. λ tag p. turn_on (for_some c.args.style.colour (λ x. says (marking g.D.TextDecorator.view tag) (starts_colour
+    (colour_start x))))
+    (in_turn (for_some c.args.style.background (λ x. says (marking g.D.TextDecorator.view tag) (starts_colour
+    (background_start x))))
+    (for_some c.args.style.white_space (λ x. says (marking g.D.TextDecorator.view tag) (starts_mode x)))) _ _ _
     (c.in_ok-begin_colour.ensures.done tag p)
-    (turn_on (for_some c.args.style.background (λ x. says (marking g.D.TextDecorator.text tag
-    g.D.TextDecorator.marks g.D.TextDecorator.after
-    g.D.TextDecorator.pops g.D.TextDecorator.sub) (starts_colour (background_start x))))
-    (for_some c.args.style.white_space (λ x. says (marking g.D.TextDecorator.text tag g.D.TextDecorator.marks
-    g.D.TextDecorator.after
-    g.D.TextDecorator.pops g.D.TextDecorator.sub) (starts_mode x))) _ _ _
+    (turn_on (for_some c.args.style.background (λ x. says (marking g.D.TextDecorator.view tag) (starts_colour
+    (background_start x))))
+    (for_some c.args.style.white_space (λ x. says (marking g.D.TextDecorator.view tag) (starts_mode x))) _ _ _
     (c.in_ok-begin_background.ensures.done tag p) (h tag p))) c.begin_white_space.ensures.done
 
 pub returns-clause-narrow : goal.returns-clause-narrow
 unfolding style_begins
 returns-clause-narrow g c = λ e. λ tag p. turn_on (for_some c.args.style.colour (λ x. says (marking
-    g.D.TextDecorator.text tag g.D.TextDecorator.marks g.D.TextDecorator.after
-    g.D.TextDecorator.pops g.D.TextDecorator.sub) (starts_colour (colour_start x))))
-    (in_turn (for_some c.args.style.background (λ x. says (marking g.D.TextDecorator.text tag
-    g.D.TextDecorator.marks g.D.TextDecorator.after
-    g.D.TextDecorator.pops g.D.TextDecorator.sub) (starts_colour (background_start x))))
-    (for_some c.args.style.white_space (λ x. says (marking g.D.TextDecorator.text tag g.D.TextDecorator.marks
-    g.D.TextDecorator.after
-    g.D.TextDecorator.pops g.D.TextDecorator.sub) (starts_mode x)))) _ _ _
+    g.D.TextDecorator.view tag) (starts_colour (colour_start x))))
+    (in_turn (for_some c.args.style.background (λ x. says (marking g.D.TextDecorator.view tag) (starts_colour
+    (background_start x))))
+    (for_some c.args.style.white_space (λ x. says (marking g.D.TextDecorator.view tag) (starts_mode x)))) _ _ _
     (c.in_ok-begin_colour.ensures.done tag p)
-    (turn_on (for_some c.args.style.background (λ x. says (marking g.D.TextDecorator.text tag
-    g.D.TextDecorator.marks g.D.TextDecorator.after
-    g.D.TextDecorator.pops g.D.TextDecorator.sub) (starts_colour (background_start x))))
-    (for_some c.args.style.white_space (λ x. says (marking g.D.TextDecorator.text tag g.D.TextDecorator.marks
-    g.D.TextDecorator.after
-    g.D.TextDecorator.pops g.D.TextDecorator.sub) (starts_mode x))) _ _ _
+    (turn_on (for_some c.args.style.background (λ x. says (marking g.D.TextDecorator.view tag) (starts_colour
+    (background_start x))))
+    (for_some c.args.style.white_space (λ x. says (marking g.D.TextDecorator.view tag) (starts_mode x))) _ _ _
     (c.in_ok-begin_background.ensures.done tag p) (c.begin_white_space.ensures.narrow e tag p))
 
 pub returns-in_err-begin_colour-clause-narrow : goal.returns-in_err-begin_colour-clause-narrow
@@ -55,15 +41,11 @@ unfolding style_begins
 returns-in_err-begin_colour-clause-narrow g c = λ e. λ tag p.
     let q = err_from_is_err_and c.from_residual.result c.from_residual.ensures.1 in
     let same : c.in_err-begin_colour.field-0.0 ≡ TooNarrow = cc (q.1, q.2, e) in
-    turn_off (for_some c.args.style.colour (λ x. says (marking g.D.TextDecorator.text tag g.D.TextDecorator.marks
-    g.D.TextDecorator.after
-    g.D.TextDecorator.pops g.D.TextDecorator.sub) (starts_colour (colour_start x))))
-    (in_turn (for_some c.args.style.background (λ x. says (marking g.D.TextDecorator.text tag
-    g.D.TextDecorator.marks g.D.TextDecorator.after
-    g.D.TextDecorator.pops g.D.TextDecorator.sub) (starts_colour (background_start x))))
-    (for_some c.args.style.white_space (λ x. says (marking g.D.TextDecorator.text tag g.D.TextDecorator.marks
-    g.D.TextDecorator.after
-    g.D.TextDecorator.pops g.D.TextDecorator.sub) (starts_mode x)))) _
+    turn_off (for_some c.args.style.colour (λ x. says (marking g.D.TextDecorator.view tag) (starts_colour (colour_start
+    x))))
+    (in_turn (for_some c.args.style.background (λ x. says (marking g.D.TextDecorator.view tag) (starts_colour
+    (background_start x))))
+    (for_some c.args.style.white_space (λ x. says (marking g.D.TextDecorator.view tag) (starts_mode x)))) _
     (c.in_err-begin_colour.ensures.narrow (ap Err same) tag p)
 
 pub returns-in_err-begin_background-clause-narrow : goal.returns-in_err-begin_background-clause-narrow
@@ -72,20 +54,13 @@ returns-in_err-begin_background-clause-narrow g c = λ e. λ tag p.
     let q = err_from_is_err_and c.from_residual-in_err-begin_background.result
     c.from_residual-in_err-begin_background.ensures.1 in
     let same : c.in_err-begin_background.field-0.0 ≡ TooNarrow = cc (q.1, q.2, e) in
-    turn_on (for_some c.args.style.colour (λ x. says (marking g.D.TextDecorator.text tag g.D.TextDecorator.marks
-    g.D.TextDecorator.after
-    g.D.TextDecorator.pops g.D.TextDecorator.sub) (starts_colour (colour_start x))))
-    (in_turn (for_some c.args.style.background (λ x. says (marking g.D.TextDecorator.text tag
-    g.D.TextDecorator.marks g.D.TextDecorator.after
-    g.D.TextDecorator.pops g.D.TextDecorator.sub) (starts_colour (background_start x))))
-    (for_some c.args.style.white_space (λ x. says (marking g.D.TextDecorator.text tag g.D.TextDecorator.marks
-    g.D.TextDecorator.after
-    g.D.TextDecorator.pops g.D.TextDecorator.sub) (starts_mode x)))) _ _ _
+    turn_on (for_some c.args.style.colour (λ x. says (marking g.D.TextDecorator.view tag) (starts_colour (colour_start
+    x))))
+    (in_turn (for_some c.args.style.background (λ x. says (marking g.D.TextDecorator.view tag) (starts_colour
+    (background_start x))))
+    (for_some c.args.style.white_space (λ x. says (marking g.D.TextDecorator.view tag) (starts_mode x)))) _ _ _
     (c.in_ok-begin_colour.ensures.done tag p)
-    (turn_off (for_some c.args.style.background (λ x. says (marking g.D.TextDecorator.text tag
-    g.D.TextDecorator.marks g.D.TextDecorator.after
-    g.D.TextDecorator.pops g.D.TextDecorator.sub) (starts_colour (background_start x))))
-    (for_some c.args.style.white_space (λ x. says (marking g.D.TextDecorator.text tag g.D.TextDecorator.marks
-    g.D.TextDecorator.after
-    g.D.TextDecorator.pops g.D.TextDecorator.sub) (starts_mode x))) _
+    (turn_off (for_some c.args.style.background (λ x. says (marking g.D.TextDecorator.view tag) (starts_colour
+    (background_start x))))
+    (for_some c.args.style.white_space (λ x. says (marking g.D.TextDecorator.view tag) (starts_mode x))) _
     (c.in_err-begin_background.ensures.narrow (ap Err same) tag p))

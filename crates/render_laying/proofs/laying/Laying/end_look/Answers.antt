@@ -8,20 +8,13 @@ use Rattle.render_laying.proofs.laying.Laying.end_look.Goals as goal
 
 pub returns-clause-done : goal.returns-clause-done
 unfolding style_ends
-returns-clause-done g c = λ tag p. turn_on (for_some c.args.style.white_space (λ x. says (marking
-    g.D.TextDecorator.text tag g.D.TextDecorator.marks g.D.TextDecorator.after
-    g.D.TextDecorator.pops g.D.TextDecorator.sub) ends_mode))
-    (in_turn (for_some c.args.style.background (λ x. says (marking g.D.TextDecorator.text tag
-    g.D.TextDecorator.marks g.D.TextDecorator.after
-    g.D.TextDecorator.pops g.D.TextDecorator.sub) (ends_colour background_end)))
-    (for_some c.args.style.colour (λ x. says (marking g.D.TextDecorator.text tag g.D.TextDecorator.marks
-    g.D.TextDecorator.after
-    g.D.TextDecorator.pops g.D.TextDecorator.sub) (ends_colour colour_end)))) _ _ _
+returns-clause-done g c = λ tag p. turn_on (for_some c.args.style.white_space (λ x. says (marking g.D.TextDecorator.view
+    tag) ends_mode))
+    (in_turn (for_some c.args.style.background (λ x. says (marking g.D.TextDecorator.view tag) (ends_colour
+    background_end)))
+    (for_some c.args.style.colour (λ x. says (marking g.D.TextDecorator.view tag) (ends_colour colour_end)))) _ _ _
     (c.finish_white_space.ensures.done tag p)
-    (turn_on (for_some c.args.style.background (λ x. says (marking g.D.TextDecorator.text tag
-    g.D.TextDecorator.marks g.D.TextDecorator.after
-    g.D.TextDecorator.pops g.D.TextDecorator.sub) (ends_colour background_end)))
-    (for_some c.args.style.colour (λ x. says (marking g.D.TextDecorator.text tag g.D.TextDecorator.marks
-    g.D.TextDecorator.after
-    g.D.TextDecorator.pops g.D.TextDecorator.sub) (ends_colour colour_end))) _ _ _
+    (turn_on (for_some c.args.style.background (λ x. says (marking g.D.TextDecorator.view tag) (ends_colour
+    background_end)))
+    (for_some c.args.style.colour (λ x. says (marking g.D.TextDecorator.view tag) (ends_colour colour_end))) _ _ _
     (c.finish_background.ensures.done tag p) (c.finish_colour.ensures.done tag p))

@@ -5,9 +5,6 @@ use Rattle.render_laying.proofs.StepLemmas.{turn_on}
 use Rattle.render_laying.proofs.laying.Laying.end_preformatted.Goals as goal
 
 pub returns-clause-done : goal.returns-clause-done
-returns-clause-done g c = λ tag p. turn_on (says (marking g.D.TextDecorator.text tag g.D.TextDecorator.marks
-    g.D.TextDecorator.after
-    g.D.TextDecorator.pops g.D.TextDecorator.sub) ends_preformat)
-    (says (marking g.D.TextDecorator.text tag g.D.TextDecorator.marks g.D.TextDecorator.after
-    g.D.TextDecorator.pops g.D.TextDecorator.sub) ends_block) _ _ _
+returns-clause-done g c = λ tag p. turn_on (says (marking g.D.TextDecorator.view tag) ends_preformat)
+    (says (marking g.D.TextDecorator.view tag) ends_block) _ _ _
     (c.end_preformat.ensures.done tag p) (c.end_block.ensures.done tag p)

@@ -7,10 +7,10 @@ use Rattle.render_laying.proofs.laying.Laying.heading_prefix.Goals as goal
 
 pub returns-clause-text : goal.returns-clause-text
 returns-clause-text g c = if_ok_by _ _ c.header_prefix.result (λ s h. λ tag.
-    marked (marking g.D.TextDecorator.text tag g.D.TextDecorator.marks g.D.TextDecorator.after
-    g.D.TextDecorator.pops g.D.TextDecorator.sub) (header c.args.level) (laying_of g.D.Annotation.EqualCopy.seen
-    g.D.TextDecorator.held c.args.self.now)
-    (sub_of g.D.Annotation.EqualCopy.seen g.D.TextDecorator.held c.current_mut.result.now) _ c.current_mut.ensures.sub
-    (h ∙ ap (λ n. g.D.TextDecorator.text (sub_of g.D.Annotation.EqualCopy.seen g.D.TextDecorator.held
+    marked (marking g.D.TextDecorator.view tag) (header c.args.level) (laying_of g.D.Annotation.EqualCopy.seen
+    g.D.TextDecorator.view.held c.args.self.now)
+    (sub_of g.D.Annotation.EqualCopy.seen g.D.TextDecorator.view.held c.current_mut.result.now) _
+    c.current_mut.ensures.sub
+    (h ∙ ap (λ n. g.D.TextDecorator.view.text (sub_of g.D.Annotation.EqualCopy.seen g.D.TextDecorator.view.held
     c.current_mut.result.now).held (header n)) c.from.ensures))
     c.header_prefix.ensures.answer.answer

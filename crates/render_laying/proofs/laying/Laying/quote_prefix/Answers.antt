@@ -6,9 +6,8 @@ use Rattle.render_laying.proofs.laying.Laying.quote_prefix.Goals as goal
 
 pub returns-clause-text : goal.returns-clause-text
 returns-clause-text g c = if_ok_by _ _ c.quote_prefix.result (λ s h. λ tag.
-    marked (marking g.D.TextDecorator.text tag g.D.TextDecorator.marks g.D.TextDecorator.after
-    g.D.TextDecorator.pops g.D.TextDecorator.sub) quote (laying_of g.D.Annotation.EqualCopy.seen
-    g.D.TextDecorator.held c.args.self.now)
-    (sub_of g.D.Annotation.EqualCopy.seen g.D.TextDecorator.held c.current_mut.result.now) _
+    marked (marking g.D.TextDecorator.view tag) quote (laying_of g.D.Annotation.EqualCopy.seen
+    g.D.TextDecorator.view.held c.args.self.now)
+    (sub_of g.D.Annotation.EqualCopy.seen g.D.TextDecorator.view.held c.current_mut.result.now) _
     c.current_mut.ensures.sub h)
     c.quote_prefix.ensures.answer.answer

@@ -10,10 +10,10 @@ pub returns-clause-done : goal.returns-clause-done
 returns-clause-done g c =
     let seen = g.D.Annotation.EqualCopy.seen in
     let d = g.D.TextDecorator in
-    let p = parts_of seen d.held c.args.self.now in
-    let new = sub_of seen d.held c.add_inline_text.new.self in
+    let p = parts_of seen d.view.held c.args.self.now in
+    let new = sub_of seen d.view.held c.add_inline_text.new.self in
     on_ok_weaker c.add_inline_text.result (λ h. λ tag q.
-    number_added (marking d.text tag d.marks d.after d.pops d.sub) p c.in_ok-number.number
+    number_added (marking d.view tag) p c.in_ok-number.number
     (chars c.as_str.result.now) (Some new) c.if-not-self.false c.in_ok-number.ensures.number
     (ap chars c.as_str.ensures.value ∙ c.in_ok-mark.ensures) (h tag q)
     ∙ ap (λ targets. let parts : Option (Parts d.Held g.D.Annotation.EqualCopy.Seen)
@@ -25,8 +25,9 @@ pub returns-clause-narrow : goal.returns-clause-narrow
 returns-clause-narrow g c = λ e. λ tag p.
     let seen = g.D.Annotation.EqualCopy.seen in
     let d = g.D.TextDecorator in
-    number_added (marking d.text tag d.marks d.after d.pops d.sub)
-    (parts_of seen d.held c.args.self.now) c.in_ok-number.number (chars c.as_str.result.now) None c.if-not-self.false
+    number_added (marking d.view tag)
+    (parts_of seen d.view.held c.args.self.now) c.in_ok-number.number (chars c.as_str.result.now) None
+    c.if-not-self.false
     c.in_ok-number.ensures.number
     (ap chars c.as_str.ensures.value ∙ c.in_ok-mark.ensures)
     (c.add_inline_text.ensures.outcome.narrow e tag p)

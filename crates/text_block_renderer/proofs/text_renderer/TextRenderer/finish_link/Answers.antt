@@ -11,8 +11,8 @@ returns-clause-done g c =
     let seen = g.D.Annotation.EqualCopy.seen in
     let d = g.D.TextDecorator in
     on_ok_weaker c.add_number.result (λ h. λ tag p.
-    ap (λ o. option_and_then (add_part_number (marking d.text tag d.marks d.after d.pops d.sub))
-    (option_map (with_current (parts_of seen d.held c.args.self.now)) o))
+    ap (λ o. option_and_then (add_part_number (marking d.view tag))
+    (option_map (with_current (parts_of seen d.view.held c.args.self.now)) o))
     (c.in_ok-end_link.ensures.outcome.done tag p) ∙ h tag p)
     c.add_number.ensures.done
 
@@ -20,6 +20,6 @@ pub returns-clause-narrow : goal.returns-clause-narrow
 returns-clause-narrow g c = λ e. λ tag p.
     let seen = g.D.Annotation.EqualCopy.seen in
     let d = g.D.TextDecorator in
-    ap (λ o. option_and_then (add_part_number (marking d.text tag d.marks d.after d.pops d.sub))
-    (option_map (with_current (parts_of seen d.held c.args.self.now)) o))
+    ap (λ o. option_and_then (add_part_number (marking d.view tag))
+    (option_map (with_current (parts_of seen d.view.held c.args.self.now)) o))
     (c.in_ok-end_link.ensures.outcome.done tag p) ∙ c.add_number.ensures.narrow e tag p

@@ -7,6 +7,6 @@ use Rattle.text_block_renderer.proofs.text_renderer.TextRenderer.pop.Goals as go
 pub returns-clause-below : goal.returns-clause-below
 returns-clause-below g c = λ below part e.
     let seen = g.D.Annotation.EqualCopy.seen in
-    let held = g.D.TextDecorator.held in
+    let held = g.D.TextDecorator.view.held in
     parts_split (sub_of seen held c.end_part.result) part (parts_of seen held c.end_part.new.self) below
     (sym c.end_part.ensures.popped ∙ e)
