@@ -19,10 +19,10 @@ pub fn block_start<S: TreeSink>(
     page: &mut Parse<S>,
     tag: &Tag,
 ) -> Result<Flow<S::Handle>, ParseFault>
-    requires ready { Ready (state_of S.number S.forest S.quirks page.old) }
-    ensures came { IfOk result (λ flow. came_to flow (state_of S.number S.forest S.quirks page.new)
-        ≡ outcome S.handle (block_start tag.now) (state_of S.number S.forest S.quirks page.old)) }
-    ensures ready { OnOk result (Ready (state_of S.number S.forest S.quirks page.new)) }
+    requires ready { Ready (state_of S.view page.old) }
+    ensures came { IfOk result (λ flow. came_to flow (state_of S.view page.new) ≡ outcome S.view.handle
+        (block_start tag.now) (state_of S.view page.old)) }
+    ensures ready { OnOk result (Ready (state_of S.view page.new)) }
     ensures memory { IfErr result (λ e. e ≡ Memory) }
 {
     page.close_p()?;
@@ -35,10 +35,10 @@ pub fn heading_start<S: TreeSink>(
     page: &mut Parse<S>,
     tag: &Tag,
 ) -> Result<Flow<S::Handle>, ParseFault>
-    requires ready { Ready (state_of S.number S.forest S.quirks page.old) }
-    ensures came { IfOk result (λ flow. came_to flow (state_of S.number S.forest S.quirks page.new)
-        ≡ outcome S.handle (heading_start tag.now) (state_of S.number S.forest S.quirks page.old)) }
-    ensures ready { OnOk result (Ready (state_of S.number S.forest S.quirks page.new)) }
+    requires ready { Ready (state_of S.view page.old) }
+    ensures came { IfOk result (λ flow. came_to flow (state_of S.view page.new) ≡ outcome S.view.handle
+        (heading_start tag.now) (state_of S.view page.old)) }
+    ensures ready { OnOk result (Ready (state_of S.view page.new)) }
     ensures memory { IfErr result (λ e. e ≡ Memory) }
 {
     page.close_p()?;
@@ -52,10 +52,10 @@ pub fn preformatted_start<S: TreeSink>(
     page: &mut Parse<S>,
     tag: &Tag,
 ) -> Result<Flow<S::Handle>, ParseFault>
-    requires ready { Ready (state_of S.number S.forest S.quirks page.old) }
-    ensures came { IfOk result (λ flow. came_to flow (state_of S.number S.forest S.quirks page.new)
-        ≡ outcome S.handle (preformatted_start tag.now) (state_of S.number S.forest S.quirks page.old)) }
-    ensures ready { OnOk result (Ready (state_of S.number S.forest S.quirks page.new)) }
+    requires ready { Ready (state_of S.view page.old) }
+    ensures came { IfOk result (λ flow. came_to flow (state_of S.view page.new) ≡ outcome S.view.handle
+        (preformatted_start tag.now) (state_of S.view page.old)) }
+    ensures ready { OnOk result (Ready (state_of S.view page.new)) }
     ensures memory { IfErr result (λ e. e ≡ Memory) }
 {
     page.close_p()?;
@@ -70,11 +70,10 @@ pub fn form_start<S: TreeSink>(
     page: &mut Parse<S>,
     tag: &Tag,
 ) -> Result<Flow<S::Handle>, ParseFault>
-    requires ready { Ready (state_of S.number S.forest S.quirks page.old) }
-    ensures came { IfOk result (λ flow. came_to flow (state_of S.number S.forest S.quirks page.new)
-        ≡ outcome S.handle (form_start tag.now (state_of S.number S.forest S.quirks page.old))
-        (state_of S.number S.forest S.quirks page.old)) }
-    ensures ready { OnOk result (Ready (state_of S.number S.forest S.quirks page.new)) }
+    requires ready { Ready (state_of S.view page.old) }
+    ensures came { IfOk result (λ flow. came_to flow (state_of S.view page.new) ≡ outcome S.view.handle
+        (form_start tag.now (state_of S.view page.old)) (state_of S.view page.old)) }
+    ensures ready { OnOk result (Ready (state_of S.view page.new)) }
     ensures memory { IfErr result (λ e. e ≡ Memory) }
 {
     if page.has_form() {
@@ -95,10 +94,10 @@ pub fn list_item_start<S: TreeSink>(
     page: &mut Parse<S>,
     tag: &Tag,
 ) -> Result<Flow<S::Handle>, ParseFault>
-    requires ready { Ready (state_of S.number S.forest S.quirks page.old) }
-    ensures came { IfOk result (λ flow. came_to flow (state_of S.number S.forest S.quirks page.new)
-        ≡ outcome S.handle (list_item_start tag.now) (state_of S.number S.forest S.quirks page.old)) }
-    ensures ready { OnOk result (Ready (state_of S.number S.forest S.quirks page.new)) }
+    requires ready { Ready (state_of S.view page.old) }
+    ensures came { IfOk result (λ flow. came_to flow (state_of S.view page.new) ≡ outcome S.view.handle
+        (list_item_start tag.now) (state_of S.view page.old)) }
+    ensures ready { OnOk result (Ready (state_of S.view page.new)) }
     ensures memory { IfErr result (λ e. e ≡ Memory) }
 {
     page.refuse_frameset();
@@ -113,10 +112,10 @@ pub fn definition_start<S: TreeSink>(
     page: &mut Parse<S>,
     tag: &Tag,
 ) -> Result<Flow<S::Handle>, ParseFault>
-    requires ready { Ready (state_of S.number S.forest S.quirks page.old) }
-    ensures came { IfOk result (λ flow. came_to flow (state_of S.number S.forest S.quirks page.new)
-        ≡ outcome S.handle (definition_start tag.now) (state_of S.number S.forest S.quirks page.old)) }
-    ensures ready { OnOk result (Ready (state_of S.number S.forest S.quirks page.new)) }
+    requires ready { Ready (state_of S.view page.old) }
+    ensures came { IfOk result (λ flow. came_to flow (state_of S.view page.new) ≡ outcome S.view.handle
+        (definition_start tag.now) (state_of S.view page.old)) }
+    ensures ready { OnOk result (Ready (state_of S.view page.new)) }
     ensures memory { IfErr result (λ e. e ≡ Memory) }
 {
     page.refuse_frameset();
@@ -131,10 +130,10 @@ pub fn plaintext_start<S: TreeSink>(
     page: &mut Parse<S>,
     tag: &Tag,
 ) -> Result<Flow<S::Handle>, ParseFault>
-    requires ready { Ready (state_of S.number S.forest S.quirks page.old) }
-    ensures came { IfOk result (λ flow. came_to flow (state_of S.number S.forest S.quirks page.new)
-        ≡ outcome S.handle (plaintext_start tag.now) (state_of S.number S.forest S.quirks page.old)) }
-    ensures ready { OnOk result (Ready (state_of S.number S.forest S.quirks page.new)) }
+    requires ready { Ready (state_of S.view page.old) }
+    ensures came { IfOk result (λ flow. came_to flow (state_of S.view page.new) ≡ outcome S.view.handle
+        (plaintext_start tag.now) (state_of S.view page.old)) }
+    ensures ready { OnOk result (Ready (state_of S.view page.new)) }
     ensures memory { IfErr result (λ e. e ≡ Memory) }
 {
     page.close_p()?;
@@ -147,11 +146,10 @@ pub fn button_start<S: TreeSink>(
     page: &mut Parse<S>,
     tag: &Tag,
 ) -> Result<Flow<S::Handle>, ParseFault>
-    requires ready { Ready (state_of S.number S.forest S.quirks page.old) }
-    ensures came { IfOk result (λ flow. came_to flow (state_of S.number S.forest S.quirks page.new)
-        ≡ outcome S.handle (button_start tag.now (state_of S.number S.forest S.quirks page.old))
-        (state_of S.number S.forest S.quirks page.old)) }
-    ensures ready { OnOk result (Ready (state_of S.number S.forest S.quirks page.new)) }
+    requires ready { Ready (state_of S.view page.old) }
+    ensures came { IfOk result (λ flow. came_to flow (state_of S.view page.new) ≡ outcome S.view.handle
+        (button_start tag.now (state_of S.view page.old)) (state_of S.view page.old)) }
+    ensures ready { OnOk result (Ready (state_of S.view page.new)) }
     ensures memory { IfErr result (λ e. e ≡ Memory) }
 {
     if page.in_scope(ElementSet::Button) {
@@ -173,11 +171,10 @@ pub fn table_start<S: TreeSink>(
     page: &mut Parse<S>,
     tag: &Tag,
 ) -> Result<Flow<S::Handle>, ParseFault>
-    requires ready { Ready (state_of S.number S.forest S.quirks page.old) }
-    ensures came { IfOk result (λ flow. came_to flow (state_of S.number S.forest S.quirks page.new)
-        ≡ outcome S.handle (table_start tag.now (state_of S.number S.forest S.quirks page.old))
-        (state_of S.number S.forest S.quirks page.old)) }
-    ensures ready { OnOk result (Ready (state_of S.number S.forest S.quirks page.new)) }
+    requires ready { Ready (state_of S.view page.old) }
+    ensures came { IfOk result (λ flow. came_to flow (state_of S.view page.new) ≡ outcome S.view.handle
+        (table_start tag.now (state_of S.view page.old)) (state_of S.view page.old)) }
+    ensures ready { OnOk result (Ready (state_of S.view page.new)) }
     ensures memory { IfErr result (λ e. e ≡ Memory) }
 {
     if page.kept.quirks == QuirksMode::Quirks {
@@ -196,11 +193,10 @@ pub fn body_start<S: TreeSink>(
     page: &mut Parse<S>,
     tag: &Tag,
 ) -> Result<Flow<S::Handle>, ParseFault>
-    requires ready { Ready (state_of S.number S.forest S.quirks page.old) }
-    ensures came { IfOk result (λ flow. came_to flow (state_of S.number S.forest S.quirks page.new)
-        ≡ outcome S.handle (body_start tag.now (state_of S.number S.forest S.quirks page.old))
-        (state_of S.number S.forest S.quirks page.old)) }
-    ensures ready { OnOk result (Ready (state_of S.number S.forest S.quirks page.new)) }
+    requires ready { Ready (state_of S.view page.old) }
+    ensures came { IfOk result (λ flow. came_to flow (state_of S.view page.new) ≡ outcome S.view.handle
+        (body_start tag.now (state_of S.view page.old)) (state_of S.view page.old)) }
+    ensures ready { OnOk result (Ready (state_of S.view page.new)) }
     ensures memory { IfErr result (λ e. e ≡ Memory) }
 {
     if page.has_template() {
@@ -219,11 +215,10 @@ pub fn frameset_start<S: TreeSink>(
     page: &mut Parse<S>,
     tag: &Tag,
 ) -> Result<Flow<S::Handle>, ParseFault>
-    requires ready { Ready (state_of S.number S.forest S.quirks page.old) }
-    ensures came { IfOk result (λ flow. came_to flow (state_of S.number S.forest S.quirks page.new)
-        ≡ outcome S.handle (frameset_start tag.now (state_of S.number S.forest S.quirks page.old))
-        (state_of S.number S.forest S.quirks page.old)) }
-    ensures ready { OnOk result (Ready (state_of S.number S.forest S.quirks page.new)) }
+    requires ready { Ready (state_of S.view page.old) }
+    ensures came { IfOk result (λ flow. came_to flow (state_of S.view page.new) ≡ outcome S.view.handle
+        (frameset_start tag.now (state_of S.view page.old)) (state_of S.view page.old)) }
+    ensures ready { OnOk result (Ready (state_of S.view page.new)) }
     ensures memory { IfErr result (λ e. e ≡ Memory) }
 {
     if !page.kept.frameset_ok {

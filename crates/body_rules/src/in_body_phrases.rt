@@ -28,12 +28,11 @@ pub fn anchor_start<S: TreeSink>(
     page: &mut Parse<S>,
     tag: &Tag,
 ) -> Result<Flow<S::Handle>, ParseFault>
-    requires ready { Ready (state_of S.number S.forest S.quirks page.old) }
+    requires ready { Ready (state_of S.view page.old) }
     requires formatting { is_one_of formatting tag.now.name ≡ true }
-    ensures came { IfOk result (λ flow. came_to flow (state_of S.number S.forest S.quirks page.new)
-        ≡ outcome S.handle (anchor_start tag.now (state_of S.number S.forest S.quirks page.old))
-        (state_of S.number S.forest S.quirks page.old)) }
-    ensures ready { OnOk result (Ready (state_of S.number S.forest S.quirks page.new)) }
+    ensures came { IfOk result (λ flow. came_to flow (state_of S.view page.new) ≡ outcome S.view.handle
+        (anchor_start tag.now (state_of S.view page.old)) (state_of S.view page.old)) }
+    ensures ready { OnOk result (Ready (state_of S.view page.new)) }
     ensures memory { IfErr result (λ e. e ≡ Memory) }
 {
     let Some(listed) = page.tree.last_listed(&tag.name) else {
@@ -52,11 +51,11 @@ pub fn formatting_start<S: TreeSink>(
     page: &mut Parse<S>,
     tag: &Tag,
 ) -> Result<Flow<S::Handle>, ParseFault>
-    requires ready { Ready (state_of S.number S.forest S.quirks page.old) }
+    requires ready { Ready (state_of S.view page.old) }
     requires formatting { is_one_of formatting tag.now.name ≡ true }
-    ensures came { IfOk result (λ flow. came_to flow (state_of S.number S.forest S.quirks page.new)
-        ≡ outcome S.handle (formatting_start tag.now) (state_of S.number S.forest S.quirks page.old)) }
-    ensures ready { OnOk result (Ready (state_of S.number S.forest S.quirks page.new)) }
+    ensures came { IfOk result (λ flow. came_to flow (state_of S.view page.new) ≡ outcome S.view.handle
+        (formatting_start tag.now) (state_of S.view page.old)) }
+    ensures ready { OnOk result (Ready (state_of S.view page.new)) }
     ensures memory { IfErr result (λ e. e ≡ Memory) }
 {
     page.reconstruct()?;
@@ -69,11 +68,11 @@ pub fn no_break_start<S: TreeSink>(
     page: &mut Parse<S>,
     tag: &Tag,
 ) -> Result<Flow<S::Handle>, ParseFault>
-    requires ready { Ready (state_of S.number S.forest S.quirks page.old) }
+    requires ready { Ready (state_of S.view page.old) }
     requires formatting { is_one_of formatting tag.now.name ≡ true }
-    ensures came { IfOk result (λ flow. came_to flow (state_of S.number S.forest S.quirks page.new)
-        ≡ outcome S.handle (no_break_start tag.now) (state_of S.number S.forest S.quirks page.old)) }
-    ensures ready { OnOk result (Ready (state_of S.number S.forest S.quirks page.new)) }
+    ensures came { IfOk result (λ flow. came_to flow (state_of S.view page.new) ≡ outcome S.view.handle
+        (no_break_start tag.now) (state_of S.view page.old)) }
+    ensures ready { OnOk result (Ready (state_of S.view page.new)) }
     ensures memory { IfErr result (λ e. e ≡ Memory) }
 {
     page.reconstruct()?;
@@ -87,10 +86,10 @@ pub fn marked_start<S: TreeSink>(
     page: &mut Parse<S>,
     tag: &Tag,
 ) -> Result<Flow<S::Handle>, ParseFault>
-    requires ready { Ready (state_of S.number S.forest S.quirks page.old) }
-    ensures came { IfOk result (λ flow. came_to flow (state_of S.number S.forest S.quirks page.new)
-        ≡ outcome S.handle (marked_start tag.now) (state_of S.number S.forest S.quirks page.old)) }
-    ensures ready { OnOk result (Ready (state_of S.number S.forest S.quirks page.new)) }
+    requires ready { Ready (state_of S.view page.old) }
+    ensures came { IfOk result (λ flow. came_to flow (state_of S.view page.new) ≡ outcome S.view.handle
+        (marked_start tag.now) (state_of S.view page.old)) }
+    ensures ready { OnOk result (Ready (state_of S.view page.new)) }
     ensures memory { IfErr result (λ e. e ≡ Memory) }
 {
     page.reconstruct()?;
@@ -105,10 +104,10 @@ pub fn void_phrase_start<S: TreeSink>(
     page: &mut Parse<S>,
     tag: &Tag,
 ) -> Result<Flow<S::Handle>, ParseFault>
-    requires ready { Ready (state_of S.number S.forest S.quirks page.old) }
-    ensures came { IfOk result (λ flow. came_to flow (state_of S.number S.forest S.quirks page.new)
-        ≡ outcome S.handle (void_phrase_start tag.now) (state_of S.number S.forest S.quirks page.old)) }
-    ensures ready { OnOk result (Ready (state_of S.number S.forest S.quirks page.new)) }
+    requires ready { Ready (state_of S.view page.old) }
+    ensures came { IfOk result (λ flow. came_to flow (state_of S.view page.new) ≡ outcome S.view.handle
+        (void_phrase_start tag.now) (state_of S.view page.old)) }
+    ensures ready { OnOk result (Ready (state_of S.view page.new)) }
     ensures memory { IfErr result (λ e. e ≡ Memory) }
 {
     page.reconstruct()?;
@@ -122,10 +121,10 @@ pub fn image_start<S: TreeSink>(
     page: &mut Parse<S>,
     tag: &Tag,
 ) -> Result<Flow<S::Handle>, ParseFault>
-    requires ready { Ready (state_of S.number S.forest S.quirks page.old) }
-    ensures came { IfOk result (λ flow. came_to flow (state_of S.number S.forest S.quirks page.new)
-        ≡ outcome S.handle (image_start tag.now) (state_of S.number S.forest S.quirks page.old)) }
-    ensures ready { OnOk result (Ready (state_of S.number S.forest S.quirks page.new)) }
+    requires ready { Ready (state_of S.view page.old) }
+    ensures came { IfOk result (λ flow. came_to flow (state_of S.view page.new) ≡ outcome S.view.handle
+        (image_start tag.now) (state_of S.view page.old)) }
+    ensures ready { OnOk result (Ready (state_of S.view page.new)) }
     ensures memory { IfErr result (λ e. e ≡ Memory) }
 {
     page.reconstruct()?;
@@ -139,11 +138,10 @@ pub fn input_start<S: TreeSink>(
     page: &mut Parse<S>,
     tag: &Tag,
 ) -> Result<Flow<S::Handle>, ParseFault>
-    requires ready { Ready (state_of S.number S.forest S.quirks page.old) }
-    ensures came { IfOk result (λ flow. came_to flow (state_of S.number S.forest S.quirks page.new)
-        ≡ outcome S.handle (input_start tag.now (state_of S.number S.forest S.quirks page.old))
-        (state_of S.number S.forest S.quirks page.old)) }
-    ensures ready { OnOk result (Ready (state_of S.number S.forest S.quirks page.new)) }
+    requires ready { Ready (state_of S.view page.old) }
+    ensures came { IfOk result (λ flow. came_to flow (state_of S.view page.new) ≡ outcome S.view.handle
+        (input_start tag.now (state_of S.view page.old)) (state_of S.view page.old)) }
+    ensures ready { OnOk result (Ready (state_of S.view page.new)) }
     ensures memory { IfErr result (λ e. e ≡ Memory) }
 {
     if page.in_scope(ElementSet::Select) {
@@ -163,10 +161,10 @@ pub fn void_source_start<S: TreeSink>(
     page: &mut Parse<S>,
     tag: &Tag,
 ) -> Result<Flow<S::Handle>, ParseFault>
-    requires ready { Ready (state_of S.number S.forest S.quirks page.old) }
-    ensures came { IfOk result (λ flow. came_to flow (state_of S.number S.forest S.quirks page.new)
-        ≡ outcome S.handle (void_source_start tag.now) (state_of S.number S.forest S.quirks page.old)) }
-    ensures ready { OnOk result (Ready (state_of S.number S.forest S.quirks page.new)) }
+    requires ready { Ready (state_of S.view page.old) }
+    ensures came { IfOk result (λ flow. came_to flow (state_of S.view page.new) ≡ outcome S.view.handle
+        (void_source_start tag.now) (state_of S.view page.old)) }
+    ensures ready { OnOk result (Ready (state_of S.view page.new)) }
     ensures memory { IfErr result (λ e. e ≡ Memory) }
 {
     page.insert_void(tag)?;
@@ -178,11 +176,10 @@ pub fn rule_start<S: TreeSink>(
     page: &mut Parse<S>,
     tag: &Tag,
 ) -> Result<Flow<S::Handle>, ParseFault>
-    requires ready { Ready (state_of S.number S.forest S.quirks page.old) }
-    ensures came { IfOk result (λ flow. came_to flow (state_of S.number S.forest S.quirks page.new)
-        ≡ outcome S.handle (rule_start tag.now (state_of S.number S.forest S.quirks page.old))
-        (state_of S.number S.forest S.quirks page.old)) }
-    ensures ready { OnOk result (Ready (state_of S.number S.forest S.quirks page.new)) }
+    requires ready { Ready (state_of S.view page.old) }
+    ensures came { IfOk result (λ flow. came_to flow (state_of S.view page.new) ≡ outcome S.view.handle
+        (rule_start tag.now (state_of S.view page.old)) (state_of S.view page.old)) }
+    ensures ready { OnOk result (Ready (state_of S.view page.new)) }
     ensures memory { IfErr result (λ e. e ≡ Memory) }
 {
     if page.in_scope(ElementSet::Select) {
@@ -199,10 +196,10 @@ pub fn textarea_start<S: TreeSink>(
     page: &mut Parse<S>,
     tag: &Tag,
 ) -> Result<Flow<S::Handle>, ParseFault>
-    requires ready { Ready (state_of S.number S.forest S.quirks page.old) }
-    ensures came { IfOk result (λ flow. came_to flow (state_of S.number S.forest S.quirks page.new)
-        ≡ outcome S.handle (textarea_start tag.now) (state_of S.number S.forest S.quirks page.old)) }
-    ensures ready { OnOk result (Ready (state_of S.number S.forest S.quirks page.new)) }
+    requires ready { Ready (state_of S.view page.old) }
+    ensures came { IfOk result (λ flow. came_to flow (state_of S.view page.new) ≡ outcome S.view.handle
+        (textarea_start tag.now) (state_of S.view page.old)) }
+    ensures ready { OnOk result (Ready (state_of S.view page.new)) }
     ensures memory { IfErr result (λ e. e ≡ Memory) }
 {
     page.insert(tag)?;
@@ -213,10 +210,10 @@ pub fn textarea_start<S: TreeSink>(
 
 /// "xmp".
 pub fn xmp_start<S: TreeSink>(page: &mut Parse<S>, tag: &Tag) -> Result<Flow<S::Handle>, ParseFault>
-    requires ready { Ready (state_of S.number S.forest S.quirks page.old) }
-    ensures came { IfOk result (λ flow. came_to flow (state_of S.number S.forest S.quirks page.new)
-        ≡ outcome S.handle (xmp_start tag.now) (state_of S.number S.forest S.quirks page.old)) }
-    ensures ready { OnOk result (Ready (state_of S.number S.forest S.quirks page.new)) }
+    requires ready { Ready (state_of S.view page.old) }
+    ensures came { IfOk result (λ flow. came_to flow (state_of S.view page.new) ≡ outcome S.view.handle
+        (xmp_start tag.now) (state_of S.view page.old)) }
+    ensures ready { OnOk result (Ready (state_of S.view page.new)) }
     ensures memory { IfErr result (λ e. e ≡ Memory) }
 {
     page.close_p()?;
@@ -231,10 +228,10 @@ pub fn iframe_start<S: TreeSink>(
     page: &mut Parse<S>,
     tag: &Tag,
 ) -> Result<Flow<S::Handle>, ParseFault>
-    requires ready { Ready (state_of S.number S.forest S.quirks page.old) }
-    ensures came { IfOk result (λ flow. came_to flow (state_of S.number S.forest S.quirks page.new)
-        ≡ outcome S.handle (iframe_start tag.now) (state_of S.number S.forest S.quirks page.old)) }
-    ensures ready { OnOk result (Ready (state_of S.number S.forest S.quirks page.new)) }
+    requires ready { Ready (state_of S.view page.old) }
+    ensures came { IfOk result (λ flow. came_to flow (state_of S.view page.new) ≡ outcome S.view.handle
+        (iframe_start tag.now) (state_of S.view page.old)) }
+    ensures ready { OnOk result (Ready (state_of S.view page.new)) }
     ensures memory { IfErr result (λ e. e ≡ Memory) }
 {
     page.refuse_frameset();
@@ -247,10 +244,10 @@ pub fn noembed_start<S: TreeSink>(
     page: &mut Parse<S>,
     tag: &Tag,
 ) -> Result<Flow<S::Handle>, ParseFault>
-    requires ready { Ready (state_of S.number S.forest S.quirks page.old) }
-    ensures came { IfOk result (λ flow. came_to flow (state_of S.number S.forest S.quirks page.new)
-        ≡ outcome S.handle (noembed_start tag.now) (state_of S.number S.forest S.quirks page.old)) }
-    ensures ready { OnOk result (Ready (state_of S.number S.forest S.quirks page.new)) }
+    requires ready { Ready (state_of S.view page.old) }
+    ensures came { IfOk result (λ flow. came_to flow (state_of S.view page.new) ≡ outcome S.view.handle
+        (noembed_start tag.now) (state_of S.view page.old)) }
+    ensures ready { OnOk result (Ready (state_of S.view page.new)) }
     ensures memory { IfErr result (λ e. e ≡ Memory) }
 {
     page.insert(tag)?;
@@ -262,11 +259,10 @@ pub fn noscript_start<S: TreeSink>(
     page: &mut Parse<S>,
     tag: &Tag,
 ) -> Result<Flow<S::Handle>, ParseFault>
-    requires ready { Ready (state_of S.number S.forest S.quirks page.old) }
-    ensures came { IfOk result (λ flow. came_to flow (state_of S.number S.forest S.quirks page.new)
-        ≡ outcome S.handle (noscript_in_body tag.now (state_of S.number S.forest S.quirks page.old))
-        (state_of S.number S.forest S.quirks page.old)) }
-    ensures ready { OnOk result (Ready (state_of S.number S.forest S.quirks page.new)) }
+    requires ready { Ready (state_of S.view page.old) }
+    ensures came { IfOk result (λ flow. came_to flow (state_of S.view page.new) ≡ outcome S.view.handle
+        (noscript_in_body tag.now (state_of S.view page.old)) (state_of S.view page.old)) }
+    ensures ready { OnOk result (Ready (state_of S.view page.new)) }
     ensures memory { IfErr result (λ e. e ≡ Memory) }
 {
     if page.kept.options.scripting_enabled {
@@ -280,11 +276,10 @@ pub fn select_start<S: TreeSink>(
     page: &mut Parse<S>,
     tag: &Tag,
 ) -> Result<Flow<S::Handle>, ParseFault>
-    requires ready { Ready (state_of S.number S.forest S.quirks page.old) }
-    ensures came { IfOk result (λ flow. came_to flow (state_of S.number S.forest S.quirks page.new)
-        ≡ outcome S.handle (select_start tag.now (state_of S.number S.forest S.quirks page.old))
-        (state_of S.number S.forest S.quirks page.old)) }
-    ensures ready { OnOk result (Ready (state_of S.number S.forest S.quirks page.new)) }
+    requires ready { Ready (state_of S.view page.old) }
+    ensures came { IfOk result (λ flow. came_to flow (state_of S.view page.new) ≡ outcome S.view.handle
+        (select_start tag.now (state_of S.view page.old)) (state_of S.view page.old)) }
+    ensures ready { OnOk result (Ready (state_of S.view page.new)) }
     ensures memory { IfErr result (λ e. e ≡ Memory) }
 {
     if page.in_scope(ElementSet::Select) {
@@ -302,11 +297,10 @@ pub fn option_start<S: TreeSink>(
     page: &mut Parse<S>,
     tag: &Tag,
 ) -> Result<Flow<S::Handle>, ParseFault>
-    requires ready { Ready (state_of S.number S.forest S.quirks page.old) }
-    ensures came { IfOk result (λ flow. came_to flow (state_of S.number S.forest S.quirks page.new)
-        ≡ outcome S.handle (option_start tag.now (state_of S.number S.forest S.quirks page.old))
-        (state_of S.number S.forest S.quirks page.old)) }
-    ensures ready { OnOk result (Ready (state_of S.number S.forest S.quirks page.new)) }
+    requires ready { Ready (state_of S.view page.old) }
+    ensures came { IfOk result (λ flow. came_to flow (state_of S.view page.new) ≡ outcome S.view.handle
+        (option_start tag.now (state_of S.view page.old)) (state_of S.view page.old)) }
+    ensures ready { OnOk result (Ready (state_of S.view page.new)) }
     ensures memory { IfErr result (λ e. e ≡ Memory) }
 {
     if page.in_scope(ElementSet::Select) {
@@ -324,11 +318,10 @@ pub fn option_group_start<S: TreeSink>(
     page: &mut Parse<S>,
     tag: &Tag,
 ) -> Result<Flow<S::Handle>, ParseFault>
-    requires ready { Ready (state_of S.number S.forest S.quirks page.old) }
-    ensures came { IfOk result (λ flow. came_to flow (state_of S.number S.forest S.quirks page.new)
-        ≡ outcome S.handle (option_group_start tag.now (state_of S.number S.forest S.quirks page.old))
-        (state_of S.number S.forest S.quirks page.old)) }
-    ensures ready { OnOk result (Ready (state_of S.number S.forest S.quirks page.new)) }
+    requires ready { Ready (state_of S.view page.old) }
+    ensures came { IfOk result (λ flow. came_to flow (state_of S.view page.new) ≡ outcome S.view.handle
+        (option_group_start tag.now (state_of S.view page.old)) (state_of S.view page.old)) }
+    ensures ready { OnOk result (Ready (state_of S.view page.new)) }
     ensures memory { IfErr result (λ e. e ≡ Memory) }
 {
     if page.in_scope(ElementSet::Select) {
@@ -346,11 +339,10 @@ pub fn ruby_base_start<S: TreeSink>(
     page: &mut Parse<S>,
     tag: &Tag,
 ) -> Result<Flow<S::Handle>, ParseFault>
-    requires ready { Ready (state_of S.number S.forest S.quirks page.old) }
-    ensures came { IfOk result (λ flow. came_to flow (state_of S.number S.forest S.quirks page.new)
-        ≡ outcome S.handle (ruby_base_start tag.now (state_of S.number S.forest S.quirks page.old))
-        (state_of S.number S.forest S.quirks page.old)) }
-    ensures ready { OnOk result (Ready (state_of S.number S.forest S.quirks page.new)) }
+    requires ready { Ready (state_of S.view page.old) }
+    ensures came { IfOk result (λ flow. came_to flow (state_of S.view page.new) ≡ outcome S.view.handle
+        (ruby_base_start tag.now (state_of S.view page.old)) (state_of S.view page.old)) }
+    ensures ready { OnOk result (Ready (state_of S.view page.new)) }
     ensures memory { IfErr result (λ e. e ≡ Memory) }
 {
     if page.in_scope(ElementSet::Ruby) {
@@ -365,11 +357,10 @@ pub fn ruby_text_start<S: TreeSink>(
     page: &mut Parse<S>,
     tag: &Tag,
 ) -> Result<Flow<S::Handle>, ParseFault>
-    requires ready { Ready (state_of S.number S.forest S.quirks page.old) }
-    ensures came { IfOk result (λ flow. came_to flow (state_of S.number S.forest S.quirks page.new)
-        ≡ outcome S.handle (ruby_text_start tag.now (state_of S.number S.forest S.quirks page.old))
-        (state_of S.number S.forest S.quirks page.old)) }
-    ensures ready { OnOk result (Ready (state_of S.number S.forest S.quirks page.new)) }
+    requires ready { Ready (state_of S.view page.old) }
+    ensures came { IfOk result (λ flow. came_to flow (state_of S.view page.new) ≡ outcome S.view.handle
+        (ruby_text_start tag.now (state_of S.view page.old)) (state_of S.view page.old)) }
+    ensures ready { OnOk result (Ready (state_of S.view page.new)) }
     ensures memory { IfErr result (λ e. e ≡ Memory) }
 {
     if page.in_scope(ElementSet::Ruby) {
@@ -384,10 +375,10 @@ pub fn other_start<S: TreeSink>(
     page: &mut Parse<S>,
     tag: &Tag,
 ) -> Result<Flow<S::Handle>, ParseFault>
-    requires ready { Ready (state_of S.number S.forest S.quirks page.old) }
-    ensures came { IfOk result (λ flow. came_to flow (state_of S.number S.forest S.quirks page.new)
-        ≡ outcome S.handle (other_start tag.now) (state_of S.number S.forest S.quirks page.old)) }
-    ensures ready { OnOk result (Ready (state_of S.number S.forest S.quirks page.new)) }
+    requires ready { Ready (state_of S.view page.old) }
+    ensures came { IfOk result (λ flow. came_to flow (state_of S.view page.new) ≡ outcome S.view.handle
+        (other_start tag.now) (state_of S.view page.old)) }
+    ensures ready { OnOk result (Ready (state_of S.view page.new)) }
     ensures memory { IfErr result (λ e. e ≡ Memory) }
 {
     page.reconstruct()?;
@@ -400,10 +391,10 @@ pub fn math_start<S: TreeSink>(
     page: &mut Parse<S>,
     tag: &Tag,
 ) -> Result<Flow<S::Handle>, ParseFault>
-    requires ready { Ready (state_of S.number S.forest S.quirks page.old) }
-    ensures came { IfOk result (λ flow. came_to flow (state_of S.number S.forest S.quirks page.new)
-        ≡ outcome S.handle (math_start tag.now) (state_of S.number S.forest S.quirks page.old)) }
-    ensures ready { OnOk result (Ready (state_of S.number S.forest S.quirks page.new)) }
+    requires ready { Ready (state_of S.view page.old) }
+    ensures came { IfOk result (λ flow. came_to flow (state_of S.view page.new) ≡ outcome S.view.handle
+        (math_start tag.now) (state_of S.view page.old)) }
+    ensures ready { OnOk result (Ready (state_of S.view page.new)) }
     ensures memory { IfErr result (λ e. e ≡ Memory) }
 {
     page.reconstruct()?;
@@ -413,10 +404,10 @@ pub fn math_start<S: TreeSink>(
 
 /// "svg".
 pub fn svg_start<S: TreeSink>(page: &mut Parse<S>, tag: &Tag) -> Result<Flow<S::Handle>, ParseFault>
-    requires ready { Ready (state_of S.number S.forest S.quirks page.old) }
-    ensures came { IfOk result (λ flow. came_to flow (state_of S.number S.forest S.quirks page.new)
-        ≡ outcome S.handle (svg_start tag.now) (state_of S.number S.forest S.quirks page.old)) }
-    ensures ready { OnOk result (Ready (state_of S.number S.forest S.quirks page.new)) }
+    requires ready { Ready (state_of S.view page.old) }
+    ensures came { IfOk result (λ flow. came_to flow (state_of S.view page.new) ≡ outcome S.view.handle
+        (svg_start tag.now) (state_of S.view page.old)) }
+    ensures ready { OnOk result (Ready (state_of S.view page.new)) }
     ensures memory { IfErr result (λ e. e ≡ Memory) }
 {
     page.reconstruct()?;

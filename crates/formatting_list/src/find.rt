@@ -19,7 +19,7 @@ fn is_entry_of<H: Copy, S: TreeSink<Handle = H>>(
     sink: &S,
     target: H,
 ) -> bool
-    ensures { result ≡ is_of (S.number target) (entry_of S.number entry.now) }
+    ensures { result ≡ is_of (S.view.number target) (entry_of S.view.number entry.now) }
 {
     match entry {
         FormatEntry::Element(handle, _) => sink.same_node(*handle, target),
@@ -33,8 +33,8 @@ pub(crate) fn position<H: Copy, S: TreeSink<Handle = H>>(
     sink: &S,
     target: H,
 ) -> Option<usize>
-    ensures found { IfSome result (StandsAt S.number (S.number target) entries.now) }
-    ensures missing { result ≡ None → is_listed (S.number target) (entries_of S.number entries.now) ≡ false }
+    ensures found { IfSome result (StandsAt S.view.number (S.view.number target) entries.now) }
+    ensures missing { result ≡ None → is_listed (S.view.number target) (entries_of S.view.number entries.now) ≡ false }
 {
     let mut at = entries.len();
     'back: while at > 0 {
@@ -84,7 +84,7 @@ fn is_behind_marker<H: Copy, S: TreeSink<Handle = H>>(
     sink: &S,
     target: H,
 ) -> bool
-    ensures { result ≡ is_listed (S.number target) (up_to_marker (entries_of S.number entries.now)) }
+    ensures { result ≡ is_listed (S.view.number target) (up_to_marker (entries_of S.view.number entries.now)) }
 {
     let mut rest = entries;
     'back: while let Some((handle, _, before)) = last_element(rest) {
@@ -103,8 +103,8 @@ pub(crate) fn is_behind_marker_without<H: Copy, S: TreeSink<Handle = H>>(
     target: H,
     without: H,
 ) -> bool
-    ensures { result ≡ is_listed (S.number target)
-        (up_to_marker (without_entry (S.number without) (entries_of S.number entries.now))) }
+    ensures { result ≡ is_listed (S.view.number target) (up_to_marker (without_entry (S.view.number without)
+        (entries_of S.view.number entries.now))) }
 {
     let mut rest = entries;
     'back: while let Some((handle, _, before)) = last_element(rest) {

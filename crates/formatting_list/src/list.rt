@@ -100,7 +100,7 @@ impl<H: Copy> FormattingList<H> {
 
     /// Whether an element is listed.
     pub fn contains<S: TreeSink<Handle = H>>(&self, sink: &S, target: H) -> bool
-        ensures { result ≡ is_listed (S.number target) (entries_of S.number self.now) }
+        ensures { result ≡ is_listed (S.view.number target) (entries_of S.view.number self.now) }
     {
         position(self.entries.as_slice(), sink, target).is_some()
     }
@@ -112,15 +112,16 @@ impl<H: Copy> FormattingList<H> {
         target: H,
         without: H,
     ) -> bool
-        ensures { result ≡ is_listed (S.number target)
-            (up_to_marker (without_entry (S.number without) (entries_of S.number self.now))) }
+        ensures { result ≡ is_listed (S.view.number target) (up_to_marker (without_entry (S.view.number without)
+            (entries_of S.view.number self.now))) }
     {
         is_behind_marker_without(self.entries.as_slice(), sink, target, without)
     }
 
     /// The start tag that an element that is listed was made for.
     pub fn tag_of<S: TreeSink<Handle = H>>(&self, sink: &S, target: H) -> Option<&Tag>
-        ensures { option_map (λ tag. tag.now) result ≡ tag_in (S.number target) (entries_of S.number self.now) }
+        ensures { option_map (λ tag. tag.now) result ≡ tag_in (S.view.number target) (entries_of S.view.number
+            self.now) }
     {
         let at = position(self.entries.as_slice(), sink, target)?;
         match &self.entries[at] {
@@ -131,7 +132,8 @@ impl<H: Copy> FormattingList<H> {
 
     /// Takes an element's entry off, where it is listed.
     pub fn remove<S: TreeSink<Handle = H>>(&mut self, sink: &S, target: H)
-        ensures { entries_of S.number self.new ≡ without_entry (S.number target) (entries_of S.number self.old) }
+        ensures { entries_of S.view.number self.new ≡ without_entry (S.view.number target) (entries_of S.view.number
+            self.old) }
     {
         if let Some(at) = position(self.entries.as_slice(), sink, target) {
             take_off(&mut self.entries, &mut self.counts, at);
@@ -140,8 +142,8 @@ impl<H: Copy> FormattingList<H> {
 
     /// Gives an element's entry to another, with its tag.
     pub fn hand_over<S: TreeSink<Handle = H>>(&mut self, sink: &S, target: H, to: H)
-        ensures { entries_of S.number self.new
-            ≡ handed_over (S.number target) (S.number to) (entries_of S.number self.old) }
+        ensures { entries_of S.view.number self.new ≡ handed_over (S.view.number target) (S.view.number to)
+            (entries_of S.view.number self.old) }
     {
         if let Some(at) = position(self.entries.as_slice(), sink, target) {
             if let FormatEntry::Element(handle, _) = &mut self.entries[at] {
@@ -170,8 +172,8 @@ impl<H: Copy> FormattingList<H> {
         to: H,
         after: H,
     ) -> Result<(), AllocError>
-        ensures ok { OnOk result (entries_of S.number self.new
-            ≡ moved_behind (S.number target) (S.number to) (S.number after) (entries_of S.number self.old)) }
+        ensures ok { OnOk result (entries_of S.view.number self.new ≡ moved_behind (S.view.number target)
+            (S.view.number to) (S.view.number after) (entries_of S.view.number self.old)) }
         ensures err { OnErr result (self.new ≡ self.old) }
     {
         let Some(at) = position(self.entries.as_slice(), sink, target) else {

@@ -14,11 +14,10 @@ use tree_words::InsertionMode;
 
 /// The text of the element that was inserted is read up to its end tag, in the mode "text".
 pub fn read_raw<S: TreeSink>(page: &mut Parse<S>, kind: RawKind) -> Flow<S::Handle>
-    requires ready { Ready (state_of S.number S.forest S.quirks page.old) }
+    requires ready { Ready (state_of S.view page.old) }
     ensures asks { result ≡ Asks (RawData kind) }
-    ensures seen { state_of S.number S.forest S.quirks page.new ≡ entered (raw kind)
-        (state_of S.number S.forest S.quirks page.old) }
-    ensures ready { Ready (state_of S.number S.forest S.quirks page.new) }
+    ensures seen { state_of S.view page.new ≡ entered (raw kind) (state_of S.view page.old) }
+    ensures ready { Ready (state_of S.view page.new) }
 {
     page.kept.original = page.kept.mode;
     page.kept.mode = InsertionMode::Text;

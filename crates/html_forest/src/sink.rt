@@ -5,7 +5,7 @@ ghost use Rattle.html_forest.specs.Conditions.{CanPut, CanReparent};
 ghost use Rattle.html_forest.specs.Forest.{Forest, IsElement, comment, contents_of, instruction};
 ghost use Rattle.html_forest.specs.Forest.{is_integration_point, name_of, nodes};
 ghost use Rattle.html_forest.specs.Places.{based_on, before, below, put, with_doctype};
-ghost use Rattle.html_forest.specs.Sinks.{child_of};
+ghost use Rattle.html_forest.specs.Sinks.{SinkView, child_of};
 ghost use Rattle.html_forest.specs.declared.sink.QuirksMode.{QuirksMode as Quirks};
 
 use html_lexemes::{Attribute, Attributes, ErrorMessage, ParseFault, QualName, Text};
@@ -48,13 +48,7 @@ pub trait TreeSink {
     /// What a finished tree is given as.
     type Output;
 
-    ghost number: { Self.Handle → ℕ };
-
-    ghost handle: { ℕ → Self.Handle };
-
-    ghost forest: { Self → Forest };
-
-    ghost quirks: { Self → Quirks };
+    ghost view: { SinkView Self Self.Handle };
 
     ghost tree: { Self.Output → Forest };
 
@@ -62,23 +56,23 @@ pub trait TreeSink {
 
     /// The finished tree.
     fn finish(self) -> Self::Output
-        ensures forest { tree result ≡ forest self }
-        ensures quirks { tree_quirks result ≡ quirks self };
+        ensures forest { tree result ≡ view.forest self }
+        ensures quirks { tree_quirks result ≡ view.quirks self };
 
     /// Takes note of a parse error.
     fn parse_error(&mut self, message: ErrorMessage) -> Result<(), ParseFault>
-        ensures forest { forest self.new ≡ forest self.old }
-        ensures quirks { quirks self.new ≡ quirks self.old }
+        ensures forest { view.forest self.new ≡ view.forest self.old }
+        ensures quirks { view.quirks self.new ≡ view.quirks self.old }
         ensures memory { IfErr result (λ e. e ≡ Memory) };
 
     /// The document.
     fn get_document(&self) -> Self::Handle
-        ensures { number result ≡ 0 };
+        ensures { view.number result ≡ 0 };
 
     /// The name of an element.
     fn elem_name(&self, target: Self::Handle) -> &QualName
-        requires { IsElement (number target) (forest self.now) }
-        ensures { result.now ≡ name_of (number target) (forest self.now) };
+        requires { IsElement (view.number target) (view.forest self.now) }
+        ensures { result.now ≡ name_of (view.number target) (view.forest self.now) };
 
     /// An element more, which stands nowhere yet (WHATWG DOM, 4.9, "create an element").
     fn create_element(
@@ -87,27 +81,27 @@ pub trait TreeSink {
         attrs: Attributes,
         flags: ElementFlags,
     ) -> Result<Self::Handle, ParseFault>
-        ensures number { IfOk result (λ made. number made ≡ nodes (forest self.old)) }
-        ensures forest { OnOk result (forest self.new ≡ made_element name attrs flags.template
-            flags.mathml_annotation_xml_integration_point (forest self.old)) }
-        ensures refused { OnErr result (forest self.new ≡ forest self.old) }
-        ensures quirks { quirks self.new ≡ quirks self.old }
+        ensures number { IfOk result (λ made. view.number made ≡ nodes (view.forest self.old)) }
+        ensures forest { OnOk result (view.forest self.new ≡ made_element name attrs flags.template
+            flags.mathml_annotation_xml_integration_point (view.forest self.old)) }
+        ensures refused { OnErr result (view.forest self.new ≡ view.forest self.old) }
+        ensures quirks { view.quirks self.new ≡ view.quirks self.old }
         ensures memory { IfErr result (λ e. e ≡ Memory) };
 
     /// A comment more, which stands nowhere yet (WHATWG DOM, 4.14).
     fn create_comment(&mut self, text: Text) -> Result<Self::Handle, ParseFault>
-        ensures number { IfOk result (λ made. number made ≡ nodes (forest self.old)) }
-        ensures forest { OnOk result (forest self.new ≡ made (comment text) (forest self.old)) }
-        ensures refused { OnErr result (forest self.new ≡ forest self.old) }
-        ensures quirks { quirks self.new ≡ quirks self.old }
+        ensures number { IfOk result (λ made. view.number made ≡ nodes (view.forest self.old)) }
+        ensures forest { OnOk result (view.forest self.new ≡ made (comment text) (view.forest self.old)) }
+        ensures refused { OnErr result (view.forest self.new ≡ view.forest self.old) }
+        ensures quirks { view.quirks self.new ≡ view.quirks self.old }
         ensures memory { IfErr result (λ e. e ≡ Memory) };
 
     /// A processing instruction more, which stands nowhere yet (WHATWG DOM, 4.13).
     fn create_pi(&mut self, target: Text, text: Text) -> Result<Self::Handle, ParseFault>
-        ensures number { IfOk result (λ made. number made ≡ nodes (forest self.old)) }
-        ensures forest { OnOk result (forest self.new ≡ made (instruction target text) (forest self.old)) }
-        ensures refused { OnErr result (forest self.new ≡ forest self.old) }
-        ensures quirks { quirks self.new ≡ quirks self.old }
+        ensures number { IfOk result (λ made. view.number made ≡ nodes (view.forest self.old)) }
+        ensures forest { OnOk result (view.forest self.new ≡ made (instruction target text) (view.forest self.old)) }
+        ensures refused { OnErr result (view.forest self.new ≡ view.forest self.old) }
+        ensures quirks { view.quirks self.new ≡ view.quirks self.old }
         ensures memory { IfErr result (λ e. e ≡ Memory) };
 
     /// Puts a node or a text behind the children of a node (WHATWG DOM, 4.2.3, "append").
@@ -116,11 +110,11 @@ pub trait TreeSink {
         parent: Self::Handle,
         child: NodeOrText<Self::Handle>,
     ) -> Result<(), ParseFault>
-        requires { CanPut (below (number parent)) (child_of number child) (forest self.old) }
-        ensures forest { OnOk result (forest self.new
-            ≡ put (below (number parent)) (child_of number child) (forest self.old)) }
-        ensures refused { OnErr result (forest self.new ≡ forest self.old) }
-        ensures quirks { quirks self.new ≡ quirks self.old }
+        requires { CanPut (below (view.number parent)) (child_of view.number child) (view.forest self.old) }
+        ensures forest { OnOk result (view.forest self.new ≡ put (below (view.number parent))
+            (child_of view.number child) (view.forest self.old)) }
+        ensures refused { OnErr result (view.forest self.new ≡ view.forest self.old) }
+        ensures quirks { view.quirks self.new ≡ view.quirks self.old }
         ensures memory { IfErr result (λ e. e ≡ Memory) };
 
     /// Puts a node or a text right before a child (WHATWG DOM, 4.2.3, "insert").
@@ -129,11 +123,11 @@ pub trait TreeSink {
         sibling: Self::Handle,
         child: NodeOrText<Self::Handle>,
     ) -> Result<(), ParseFault>
-        requires { CanPut (before (number sibling)) (child_of number child) (forest self.old) }
-        ensures forest { OnOk result (forest self.new
-            ≡ put (before (number sibling)) (child_of number child) (forest self.old)) }
-        ensures refused { OnErr result (forest self.new ≡ forest self.old) }
-        ensures quirks { quirks self.new ≡ quirks self.old }
+        requires { CanPut (before (view.number sibling)) (child_of view.number child) (view.forest self.old) }
+        ensures forest { OnOk result (view.forest self.new ≡ put (before (view.number sibling))
+            (child_of view.number child) (view.forest self.old)) }
+        ensures refused { OnErr result (view.forest self.new ≡ view.forest self.old) }
+        ensures quirks { view.quirks self.new ≡ view.quirks self.old }
         ensures memory { IfErr result (λ e. e ≡ Memory) };
 
     /// Puts a node or a text right before an element that has a parent, else behind the children of another (WHATWG
@@ -144,13 +138,13 @@ pub trait TreeSink {
         prev_element: Self::Handle,
         child: NodeOrText<Self::Handle>,
     ) -> Result<(), ParseFault>
-        requires { CanPut (based_on (number element) (number prev_element) (forest self.old))
-            (child_of number child) (forest self.old) }
-        ensures forest { OnOk result (forest self.new
-            ≡ put (based_on (number element) (number prev_element) (forest self.old))
-            (child_of number child) (forest self.old)) }
-        ensures refused { OnErr result (forest self.new ≡ forest self.old) }
-        ensures quirks { quirks self.new ≡ quirks self.old }
+        requires { CanPut (based_on (view.number element) (view.number prev_element) (view.forest self.old))
+            (child_of view.number child) (view.forest self.old) }
+        ensures forest { OnOk result (view.forest self.new
+            ≡ put (based_on (view.number element) (view.number prev_element)
+            (view.forest self.old)) (child_of view.number child) (view.forest self.old)) }
+        ensures refused { OnErr result (view.forest self.new ≡ view.forest self.old) }
+        ensures quirks { view.quirks self.new ≡ view.quirks self.old }
         ensures memory { IfErr result (λ e. e ≡ Memory) };
 
     /// Puts a doctype behind the children of the document (WHATWG DOM, 4.6).
@@ -160,9 +154,10 @@ pub trait TreeSink {
         public_id: Text,
         system_id: Text,
     ) -> Result<(), ParseFault>
-        ensures forest { OnOk result (forest self.new ≡ with_doctype name public_id system_id (forest self.old)) }
-        ensures refused { OnErr result (forest self.new ≡ forest self.old) }
-        ensures quirks { quirks self.new ≡ quirks self.old }
+        ensures forest { OnOk result (view.forest self.new ≡ with_doctype name public_id system_id
+            (view.forest self.old)) }
+        ensures refused { OnErr result (view.forest self.new ≡ view.forest self.old) }
+        ensures quirks { view.quirks self.new ≡ view.quirks self.old }
         ensures memory { IfErr result (λ e. e ≡ Memory) };
 
     /// Adds the attributes whose names an element lacks (WHATWG HTML, 13.2.6.4.7, `html` and `body`).
@@ -171,10 +166,11 @@ pub trait TreeSink {
         target: Self::Handle,
         attrs: Attributes,
     ) -> Result<(), ParseFault>
-        requires { IsElement (number target) (forest self.old) }
-        ensures forest { OnOk result (forest self.new ≡ with_attributes (number target) attrs (forest self.old)) }
-        ensures refused { OnErr result (forest self.new ≡ forest self.old) }
-        ensures quirks { quirks self.new ≡ quirks self.old }
+        requires { IsElement (view.number target) (view.forest self.old) }
+        ensures forest { OnOk result (view.forest self.new ≡ with_attributes (view.number target) attrs
+            (view.forest self.old)) }
+        ensures refused { OnErr result (view.forest self.new ≡ view.forest self.old) }
+        ensures quirks { view.quirks self.new ≡ view.quirks self.old }
         ensures memory { IfErr result (λ e. e ≡ Memory) };
 
     /// Says that a control belongs to a form (WHATWG HTML, 4.10.18.3).
@@ -185,15 +181,15 @@ pub trait TreeSink {
         element: Self::Handle,
         prev_element: Option<Self::Handle>,
     ) -> Result<(), ParseFault>
-        ensures forest { forest self.new ≡ forest self.old }
-        ensures quirks { quirks self.new ≡ quirks self.old }
+        ensures forest { view.forest self.new ≡ view.forest self.old }
+        ensures quirks { view.quirks self.new ≡ view.quirks self.old }
         ensures memory { IfErr result (λ e. e ≡ Memory) };
 
     /// Takes a node out of its parent's children, where it has one (WHATWG DOM, 4.2.3, "remove").
     fn remove_from_parent(&mut self, target: Self::Handle) -> Result<(), ParseFault>
-        ensures forest { OnOk result (forest self.new ≡ detached (number target) (forest self.old)) }
-        ensures refused { OnErr result (forest self.new ≡ forest self.old) }
-        ensures quirks { quirks self.new ≡ quirks self.old }
+        ensures forest { OnOk result (view.forest self.new ≡ detached (view.number target) (view.forest self.old)) }
+        ensures refused { OnErr result (view.forest self.new ≡ view.forest self.old) }
+        ensures quirks { view.quirks self.new ≡ view.quirks self.old }
         ensures memory { IfErr result (λ e. e ≡ Memory) };
 
     /// Puts all children of a node behind those of another (WHATWG HTML, 13.2.6.4.7, adoption agency).
@@ -202,52 +198,52 @@ pub trait TreeSink {
         node: Self::Handle,
         new_parent: Self::Handle,
     ) -> Result<(), ParseFault>
-        requires { CanReparent (number node) (number new_parent) (forest self.old) }
-        ensures forest { OnOk result (forest self.new
-            ≡ reparented (number node) (number new_parent) (forest self.old)) }
-        ensures refused { OnErr result (forest self.new ≡ forest self.old) }
-        ensures quirks { quirks self.new ≡ quirks self.old }
+        requires { CanReparent (view.number node) (view.number new_parent) (view.forest self.old) }
+        ensures forest { OnOk result (view.forest self.new ≡ reparented (view.number node) (view.number new_parent)
+            (view.forest self.old)) }
+        ensures refused { OnErr result (view.forest self.new ≡ view.forest self.old) }
+        ensures quirks { view.quirks self.new ≡ view.quirks self.old }
         ensures memory { IfErr result (λ e. e ≡ Memory) };
 
     /// What holds a template's contents (WHATWG HTML, 4.12.3).
     fn get_template_contents(&self, target: Self::Handle) -> Self::Handle
-        requires { (n : ℕ) × (contents_of (number target) (forest self.now) ≡ Some n) }
-        ensures { contents_of (number target) (forest self.now) ≡ Some (number result) };
+        requires { (n : ℕ) × (contents_of (view.number target) (view.forest self.now) ≡ Some n) }
+        ensures { contents_of (view.number target) (view.forest self.now) ≡ Some (view.number result) };
 
     /// Whether two handles are of one node.
     fn same_node(&self, x: Self::Handle, y: Self::Handle) -> bool
-        ensures { result ≡ (number x == number y) };
+        ensures { result ≡ (view.number x == view.number y) };
 
     /// Sets the quirks mode.
     fn set_quirks_mode(&mut self, mode: QuirksMode) -> Result<(), ParseFault>
-        ensures forest { forest self.new ≡ forest self.old }
-        ensures quirks { OnOk result (quirks self.new ≡ mode) }
-        ensures refused { OnErr result (quirks self.new ≡ quirks self.old) }
+        ensures forest { view.forest self.new ≡ view.forest self.old }
+        ensures quirks { OnOk result (view.quirks self.new ≡ mode) }
+        ensures refused { OnErr result (view.quirks self.new ≡ view.quirks self.old) }
         ensures memory { IfErr result (λ e. e ≡ Memory) };
 
     /// Says that a script must not run (WHATWG HTML, 13.2.6.4.4).
     fn mark_script_already_started(&mut self, target: Self::Handle) -> Result<(), ParseFault>
-        requires { IsElement (number target) (forest self.old) }
-        ensures forest { forest self.new ≡ forest self.old }
-        ensures quirks { quirks self.new ≡ quirks self.old }
+        requires { IsElement (view.number target) (view.forest self.old) }
+        ensures forest { view.forest self.new ≡ view.forest self.old }
+        ensures quirks { view.quirks self.new ≡ view.quirks self.old }
         ensures memory { IfErr result (λ e. e ≡ Memory) };
 
     /// Says that an element is no longer open (WHATWG HTML, 13.2.4.2).
     fn pop(&mut self, target: Self::Handle) -> Result<(), ParseFault>
-        requires { IsElement (number target) (forest self.old) }
-        ensures forest { forest self.new ≡ forest self.old }
-        ensures quirks { quirks self.new ≡ quirks self.old }
+        requires { IsElement (view.number target) (view.forest self.old) }
+        ensures forest { view.forest self.new ≡ view.forest self.old }
+        ensures quirks { view.quirks self.new ≡ view.quirks self.old }
         ensures memory { IfErr result (λ e. e ≡ Memory) };
 
     /// Whether an element is an `annotation-xml` element whose contents are HTML.
     fn is_mathml_annotation_xml_integration_point(&self, target: Self::Handle) -> bool
-        requires { IsElement (number target) (forest self.now) }
-        ensures { result ≡ is_integration_point (number target) (forest self.now) };
+        requires { IsElement (view.number target) (view.forest self.now) }
+        ensures { result ≡ is_integration_point (view.number target) (view.forest self.now) };
 
     /// Says which line of the page is read, from 1.
     fn set_current_line(&mut self, line: u64) -> Result<(), ParseFault>
-        ensures forest { forest self.new ≡ forest self.old }
-        ensures quirks { quirks self.new ≡ quirks self.old }
+        ensures forest { view.forest self.new ≡ view.forest self.old }
+        ensures quirks { view.quirks self.new ≡ view.quirks self.old }
         ensures memory { IfErr result (λ e. e ≡ Memory) };
 
     /// Whether a declarative shadow root was attached to an element (WHATWG HTML, 13.2.6.4.4).
@@ -257,8 +253,8 @@ pub trait TreeSink {
         template: Self::Handle,
         attrs: &[Attribute],
     ) -> Result<bool, ParseFault>
-        ensures forest { forest self.new ≡ forest self.old }
-        ensures quirks { quirks self.new ≡ quirks self.old }
+        ensures forest { view.forest self.new ≡ view.forest self.old }
+        ensures quirks { view.quirks self.new ≡ view.quirks self.old }
         ensures memory { IfErr result (λ e. e ≡ Memory) };
 
     /// Says that an option was closed, which a `selectedcontent` element may show (WHATWG HTML, 4.10.10).
@@ -266,9 +262,9 @@ pub trait TreeSink {
         &mut self,
         option: Self::Handle,
     ) -> Result<(), ParseFault>
-        ensures forest { forest self.new ≡ forest self.old }
-        ensures quirks { quirks self.new ≡ quirks self.old }
+        ensures forest { view.forest self.new ≡ view.forest self.old }
+        ensures quirks { view.quirks self.new ≡ view.quirks self.old }
         ensures memory { IfErr result (λ e. e ≡ Memory) };
 
-    ghost named: { (target : Self.Handle) → handle (number target) ≡ target };
+    ghost named: { (target : Self.Handle) → view.handle (view.number target) ≡ target };
 }

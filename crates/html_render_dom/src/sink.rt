@@ -20,13 +20,12 @@ impl TreeSink for RcDom {
     ghost use Rattle.std.proofs.Common.{refl};
     ghost use Rattle.html_render_dom.specs.Numbers.{handle_of, number_of};
 
-    ghost number = { number_of };
-
-    ghost handle = { handle_of };
-
-    ghost forest = { λ dom. dom.forest };
-
-    ghost quirks = { λ dom. dom.quirks };
+    ghost view = { record {
+      number = number_of;
+      handle = handle_of;
+      forest = λ dom. dom.forest;
+      quirks = λ dom. dom.quirks;
+    } };
 
     ghost tree = { λ dom. dom.forest };
 

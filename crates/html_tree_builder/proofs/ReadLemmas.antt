@@ -1,6 +1,7 @@
 -- What a parser was fed with, and a rest of the page: by what its tokenizer does.
 use Rattle.std.proofs.Common.{◌≡◌, ◌++◌, ℕ, List, [], subst, append_assoc}
 use Rattle.html_forest.specs.Forest.{Forest}
+use Rattle.html_forest.specs.Sinks.{SinkView}
 use Rattle.html_forest.specs.declared.sink.QuirksMode.{QuirksMode}
 use Rattle.html_tree_state.specs.Building.{Parts}
 use Rattle.tree_builder.specs.Parsed.{parsed}
@@ -17,8 +18,8 @@ read_on new old queue before piece left none pushed reads rest final now =
     let whole : old ((before ++ piece) ++ rest) final = subst (λ cs. old (cs ++ rest) final) pushed longer in
     subst (λ cs. old cs final) (append_assoc before piece rest) whole
 
--- A sink of trees in another state, with the same nodes and quirks mode, is the same tree that is being built.
-pub same_parsed : {H S : Type 0} (number : H → ℕ) (forest : S → Forest) (quirks : S → QuirksMode) (kept : Kept H)
-    (held : Parts H) (new old : S) → forest new ≡ forest old → quirks new ≡ quirks old →
-    parsed number forest quirks kept held new ≡ parsed number forest quirks kept held old
-same_parsed number forest quirks kept held new old nodes mode = cc (nodes, mode)
+-- A sink of trees in another state, with the same nodes and view.quirks mode, is the same tree that is being built.
+pub same_parsed : {H S : Type 0} (view : SinkView S H) (kept : Kept H)
+    (held : Parts H) (new old : S) → view.forest new ≡ view.forest old → view.quirks new ≡ view.quirks old →
+    parsed view kept held new ≡ parsed view kept held old
+same_parsed view kept held new old nodes mode = cc (nodes, mode)

@@ -41,15 +41,16 @@ pub fn parse_fragment_for_element<S: TreeSink + Drop>(
     scripting: bool,
     form: Option<S::Handle>,
 ) -> Result<Parser<S>, ParseFault>
-    requires forest { IsForest (S.forest sink) }
-    requires context { IsElement (S.number context) (S.forest sink) }
+    requires forest { IsForest (S.view.forest sink) }
+    requires context { IsElement (S.view.number context) (S.view.forest sink) }
     ensures memory { IfErr result (λ e. e ≡ Memory) }
-    ensures fit { IfOk result (λ parser. IsFit S.number S.forest S.quirks parser) }
+    ensures fit { IfOk result (λ parser. IsFit S.view parser) }
     ensures works { IfOk result (λ parser. has_failed parser ≡ false) }
     ensures begins { IfOk result (λ parser. (text : List ℕ) (final : State) →
-        Completes S.number S.handle S.forest S.quirks parser text final →
-        FragmentReadsTo S.handle (beginning table opts (S.forest sink) (S.quirks sink))
-        (record { context = S.number context; form = option_map S.number form; scripting = scripting }) text final) }
+        Completes S.view parser text final →
+        FragmentReadsTo S.view.handle (beginning table opts (S.view.forest sink) (S.view.quirks sink))
+        (record { context = S.view.number context; form = option_map S.view.number form; scripting = scripting }) text
+        final) }
 {
     let ParseOpts {
         tokenizer,
@@ -69,14 +70,13 @@ fn parser_from<S: TreeSink>(
     first: TextState,
     table: ReferenceTable,
 ) -> Parser<S>
-    requires ready { IsReady (state_in S.number S.forest S.quirks builder) }
-    requires hears { (item : Item) → IsWelcome (state_in S.number S.forest S.quirks builder) item }
-    ensures fit { IsFit S.number S.forest S.quirks result }
+    requires ready { IsReady (state_in S.view builder) }
+    requires hears { (item : Item) → IsWelcome (state_in S.view builder) item }
+    ensures fit { IsFit S.view result }
     ensures works { has_failed result ≡ false }
-    ensures begins { (begun : State) (state : SeenTextState) → state_in S.number S.forest S.quirks builder ≡ begun →
-        first ≡ state → (text : List ℕ) (final : State) →
-        Completes S.number S.handle S.forest S.quirks result text final →
-        Reading table (meaning S.handle) (mode_from state opts) begun (page_text opts.discard_bom text) final }
+    ensures begins { (begun : State) (state : SeenTextState) → state_in S.view builder ≡ begun → first ≡ state
+        → (text : List ℕ) (final : State) → Completes S.view result text final → Reading table (meaning S.view.handle)
+        (mode_from state opts) begun (page_text opts.discard_bom text) final }
 {
     let mut opts = opts;
     opts.initial_state = Some(first);
@@ -100,14 +100,15 @@ pub fn parse_fragment<S: TreeSink + Drop>(
     attrs: Attributes,
     scripting: bool,
 ) -> Result<Parser<S>, ParseFault>
-    requires forest { IsForest (S.forest sink) }
+    requires forest { IsForest (S.view.forest sink) }
     ensures memory { IfErr result (λ e. e ≡ Memory) }
-    ensures fit { IfOk result (λ parser. IsFit S.number S.forest S.quirks parser) }
+    ensures fit { IfOk result (λ parser. IsFit S.view parser) }
     ensures works { IfOk result (λ parser. has_failed parser ≡ false) }
     ensures begins { IfOk result (λ parser. (text : List ℕ) (final : State) →
-        Completes S.number S.handle S.forest S.quirks parser text final →
-        FragmentReadsTo S.handle (beginning table opts (made_context name attrs (S.forest sink)) (S.quirks sink))
-        (record { context = nodes (S.forest sink); form = None; scripting = scripting }) text final) }
+        Completes S.view parser text final →
+        FragmentReadsTo S.view.handle (beginning table opts (made_context name attrs (S.view.forest sink))
+        (S.view.quirks sink))
+        (record { context = nodes (S.view.forest sink); form = None; scripting = scripting }) text final) }
 {
     let (sink, context) = with_context(sink, name, attrs)?;
     parse_fragment_for_element(alloc, sink, opts, table, context, scripting, None)
@@ -125,11 +126,11 @@ pub fn parse_fragment_pieces<S: TreeSink + Drop>(
     scripting: bool,
     pieces: Vec<String>,
 ) -> Result<S::Output, ParseFault>
-    requires { IsForest (S.forest sink) }
+    requires { IsForest (S.view.forest sink) }
     ensures memory { IfErr result (λ e. e ≡ Memory) }
-    ensures grown { IfOk result (λ output. IsTreeOfFragment S.handle
-        (beginning table opts (made_context name attrs (S.forest sink)) (S.quirks sink))
-        (record { context = nodes (S.forest sink); form = None; scripting = scripting }) (joined pieces.items)
+    ensures grown { IfOk result (λ output. IsTreeOfFragment S.view.handle
+        (beginning table opts (made_context name attrs (S.view.forest sink)) (S.view.quirks sink))
+        (record { context = nodes (S.view.forest sink); form = None; scripting = scripting }) (joined pieces.items)
         (S.tree output) (S.tree_quirks output)) }
 {
     let parser = parse_fragment(alloc, sink, opts, table, name, attrs, scripting)?;
@@ -141,12 +142,11 @@ fn tree_fed<S: TreeSink + Drop>(
     parser: Parser<S>,
     pieces: Vec<String>,
 ) -> Result<S::Output, ParseFault>
-    requires fit { IsFit S.number S.forest S.quirks parser }
+    requires fit { IsFit S.view parser }
     requires works { has_failed parser ≡ false }
     ensures memory { IfErr result (λ e. e ≡ Memory) }
-    ensures grown { IfOk result (λ output. IsGrown
-        (Completes S.number S.handle S.forest S.quirks parser (joined pieces.items))
-        (S.tree output) (S.tree_quirks output)) }
+    ensures grown { IfOk result (λ output. IsGrown (Completes S.view parser (joined pieces.items)) (S.tree output)
+        (S.tree_quirks output)) }
 {
     let mut parser = parser;
     match parser.process_all(pieces) {
@@ -164,13 +164,13 @@ fn with_context<S: TreeSink + Drop>(
     name: QualName,
     attrs: Attributes,
 ) -> Result<(S, S::Handle), ParseFault>
-    requires { IsForest (S.forest sink) }
+    requires { IsForest (S.view.forest sink) }
     ensures memory { IfErr result (λ e. e ≡ Memory) }
-    ensures number { IfOk result (λ made. S.number made.1 ≡ nodes (S.forest sink)) }
-    ensures forest { IfOk result (λ made. S.forest made.0 ≡ made_context name attrs (S.forest sink)) }
-    ensures quirks { IfOk result (λ made. S.quirks made.0 ≡ S.quirks sink) }
-    ensures keeps { IfOk result (λ made. IsForest (S.forest made.0)) }
-    ensures element { IfOk result (λ made. IsElement (S.number made.1) (S.forest made.0)) }
+    ensures number { IfOk result (λ made. S.view.number made.1 ≡ nodes (S.view.forest sink)) }
+    ensures forest { IfOk result (λ made. S.view.forest made.0 ≡ made_context name attrs (S.view.forest sink)) }
+    ensures quirks { IfOk result (λ made. S.view.quirks made.0 ≡ S.view.quirks sink) }
+    ensures keeps { IfOk result (λ made. IsForest (S.view.forest made.0)) }
+    ensures element { IfOk result (λ made. IsElement (S.view.number made.1) (S.view.forest made.0)) }
 {
     making_keeps_a_forest();
     elements_stay();

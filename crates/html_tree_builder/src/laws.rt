@@ -18,10 +18,10 @@ use tree_builder::TreeBuilder;
 
 /// A page has one tree: whoever parses equal texts with equal options, in whatever pieces, has equal forests.
 pub fn a_page_has_one_tree<S: TreeSink>()
-    ensures forest { (from : Beginning) (text : List ℕ) (one other : Forest) (mode second : Quirks) →
-        IsTreeOfPage S.handle from text one mode → IsTreeOfPage S.handle from text other second → one ≡ other }
-    ensures quirks { (from : Beginning) (text : List ℕ) (one other : Forest) (mode second : Quirks) →
-        IsTreeOfPage S.handle from text one mode → IsTreeOfPage S.handle from text other second → mode ≡ second }
+    ensures forest { (from : Beginning) (text : List ℕ) (one other : Forest) (mode second : Quirks) → IsTreeOfPage
+        S.view.handle from text one mode → IsTreeOfPage S.view.handle from text other second → one ≡ other }
+    ensures quirks { (from : Beginning) (text : List ℕ) (one other : Forest) (mode second : Quirks) → IsTreeOfPage
+        S.view.handle from text one mode → IsTreeOfPage S.view.handle from text other second → mode ≡ second }
 {
     one_reading::<TreeBuilder<S>>();
 }
@@ -30,11 +30,11 @@ pub fn a_page_has_one_tree<S: TreeSink>()
 /// equal forests.
 pub fn a_fragment_has_one_tree<S: TreeSink>()
     ensures forest { (from : Beginning) (fragment : Fragment) (text : List ℕ) (one other : Forest)
-        (mode second : Quirks) → IsTreeOfFragment S.handle from fragment text one mode →
-        IsTreeOfFragment S.handle from fragment text other second → one ≡ other }
+        (mode second : Quirks) → IsTreeOfFragment S.view.handle from fragment text one mode → IsTreeOfFragment
+        S.view.handle from fragment text other second → one ≡ other }
     ensures quirks { (from : Beginning) (fragment : Fragment) (text : List ℕ) (one other : Forest)
-        (mode second : Quirks) → IsTreeOfFragment S.handle from fragment text one mode →
-        IsTreeOfFragment S.handle from fragment text other second → mode ≡ second }
+        (mode second : Quirks) → IsTreeOfFragment S.view.handle from fragment text one mode → IsTreeOfFragment
+        S.view.handle from fragment text other second → mode ≡ second }
 {
     one_reading::<TreeBuilder<S>>();
 }
@@ -42,10 +42,8 @@ pub fn a_fragment_has_one_tree<S: TreeSink>()
 /// Somebody else may change a builder behind its tokenizer, if the state of tree construction stays.
 pub(crate) fn a_builder_may_change_but_for_its_state<S: TreeSink>()
     ensures { (tokenizer : Tokenizer (TreeBuilder S S.Handle S.Output)) (builder : TreeBuilder S S.Handle S.Output)
-        (holds : HoldsIn tokenizer) →
-        state_in S.number S.forest S.quirks builder ≡ state_in S.number S.forest S.quirks tokenizer.sink →
-        GoesOnAs (state_in S.number S.forest S.quirks) (meaning S.handle) IsReady IsWelcome
-        tokenizer (with_sink builder tokenizer holds) }
+        (holds : HoldsIn tokenizer) → state_in S.view builder ≡ state_in S.view tokenizer.sink → GoesOnAs
+        (state_in S.view) (meaning S.view.handle) IsReady IsWelcome tokenizer (with_sink builder tokenizer holds) }
 {
     a_sink_may_change_but_for_its_state::<TreeBuilder<S>>();
 }

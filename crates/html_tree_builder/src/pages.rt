@@ -23,12 +23,11 @@ pub fn parse_document<S: TreeSink>(
     opts: ParseOpts,
     table: ReferenceTable,
 ) -> Parser<S>
-    requires { IsForest (S.forest sink) }
-    ensures fit { IsFit S.number S.forest S.quirks result }
+    requires { IsForest (S.view.forest sink) }
+    ensures fit { IsFit S.view result }
     ensures works { has_failed result ≡ false }
-    ensures begins { (page : List ℕ) (final : State) →
-        Completes S.number S.handle S.forest S.quirks result page final →
-        ReadsTo S.handle (beginning table opts (S.forest sink) (S.quirks sink)) page final }
+    ensures begins { (page : List ℕ) (final : State) → Completes S.view result page final → ReadsTo S.view.handle
+        (beginning table opts (S.view.forest sink) (S.view.quirks sink)) page final }
 {
     let ParseOpts {
         tokenizer,
@@ -51,11 +50,10 @@ pub fn parse_pieces<S: TreeSink + Drop>(
     table: ReferenceTable,
     pieces: Vec<String>,
 ) -> Result<S::Output, ParseFault>
-    requires { IsForest (S.forest sink) }
+    requires { IsForest (S.view.forest sink) }
     ensures memory { IfErr result (λ e. e ≡ Memory) }
-    ensures grown { IfOk result (λ output. IsTreeOfPage S.handle
-        (beginning table opts (S.forest sink) (S.quirks sink)) (joined pieces.items)
-        (S.tree output) (S.tree_quirks output)) }
+    ensures grown { IfOk result (λ output. IsTreeOfPage S.view.handle (beginning table opts (S.view.forest sink)
+        (S.view.quirks sink)) (joined pieces.items) (S.tree output) (S.tree_quirks output)) }
 {
     let mut parser = parse_document(alloc, sink, opts, table);
     match parser.process_all(pieces) {

@@ -42,14 +42,13 @@ impl<S: TreeSink> Parser<S> {
     /// Reads a piece of the page's text.
     #[tactic(auto, unfolding(crate::specs::Parsers::has_failed, crate::specs::Parsers::IsFit, crate::specs::Parsers::Completes))]
     pub fn process(&mut self, piece: String) -> Result<(), ParseFault>
-        requires { IsFit S.number S.forest S.quirks self.old }
-        ensures fit { IsFit S.number S.forest S.quirks self.new }
+        requires { IsFit S.view self.old }
+        ensures fit { IsFit S.view self.new }
         ensures memory { has_failed self.old ≡ false → IfErr result (λ e. e ≡ Memory) }
         ensures failed { has_failed self.old ≡ true → result ≡ Err Failed }
         ensures works { has_failed self.new ≡ is_err result }
-        ensures reads { OnOk result ((rest : List ℕ) (final : State) →
-            Completes S.number S.handle S.forest S.quirks self.new rest final →
-            Completes S.number S.handle S.forest S.quirks self.old (chars (string_bytes piece) ++ rest) final) }
+        ensures reads { OnOk result ((rest : List ℕ) (final : State) → Completes S.view self.new rest final → Completes
+            S.view self.old (chars (string_bytes piece) ++ rest) final) }
     {
         if self.is_over {
             return Err(ParseFault::Failed);
@@ -72,14 +71,13 @@ impl<S: TreeSink> Parser<S> {
 
     /// Reads the pieces of a text, one after another. Behind a refused call it is refused, even without pieces.
     pub fn process_all(&mut self, pieces: Vec<String>) -> Result<(), ParseFault>
-        requires { IsFit S.number S.forest S.quirks self.old }
-        ensures fit { IsFit S.number S.forest S.quirks self.new }
+        requires { IsFit S.view self.old }
+        ensures fit { IsFit S.view self.new }
         ensures memory { has_failed self.old ≡ false → IfErr result (λ e. e ≡ Memory) }
         ensures failed { has_failed self.old ≡ true → result ≡ Err Failed }
         ensures works { has_failed self.new ≡ is_err result }
-        ensures reads { OnOk result ((rest : List ℕ) (final : State) →
-            Completes S.number S.handle S.forest S.quirks self.new rest final →
-            Completes S.number S.handle S.forest S.quirks self.old (joined pieces.items ++ rest) final) }
+        ensures reads { OnOk result ((rest : List ℕ) (final : State) → Completes S.view self.new rest final → Completes
+            S.view self.old (joined pieces.items ++ rest) final) }
     {
         if self.has_failed() {
             return Err(ParseFault::Failed);
@@ -93,13 +91,12 @@ impl<S: TreeSink> Parser<S> {
     /// Tells the sink of trees of an error that the parser did not find. Nothing else changes.
     #[tactic(auto, unfolding(crate::specs::Parsers::has_failed, crate::specs::Parsers::IsFit, crate::specs::Parsers::Completes))]
     pub fn error(&mut self, message: String) -> Result<(), ParseFault>
-        ensures fit { IsFit S.number S.forest S.quirks self.old → IsFit S.number S.forest S.quirks self.new }
+        ensures fit { IsFit S.view self.old → IsFit S.view self.new }
         ensures memory { has_failed self.old ≡ false → IfErr result (λ e. e ≡ Memory) }
         ensures failed { has_failed self.old ≡ true → result ≡ Err Failed }
         ensures works { has_failed self.new ≡ is_err result }
-        ensures reads { OnOk result ((rest : List ℕ) (final : State) →
-            Completes S.number S.handle S.forest S.quirks self.new rest final →
-            Completes S.number S.handle S.forest S.quirks self.old rest final) }
+        ensures reads { OnOk result ((rest : List ℕ) (final : State) → Completes S.view self.new rest final → Completes
+            S.view self.old rest final) }
     {
         if self.is_over {
             return Err(ParseFault::Failed);
@@ -114,11 +111,12 @@ impl<S: TreeSink> Parser<S> {
     // reads what is left, and the end of the page
     #[tactic(auto, unfolding(crate::specs::Parsers::has_failed, crate::specs::Parsers::IsFit, crate::specs::Parsers::Completes))]
     fn end(&mut self) -> Result<(), ParseFault>
-        requires { IsFit S.number S.forest S.quirks self.old }
+        requires { IsFit S.view self.old }
         ensures memory { has_failed self.old ≡ false → IfErr result (λ e. e ≡ Memory) }
         ensures failed { has_failed self.old ≡ true → result ≡ Err Failed }
-        ensures grown { OnOk result (IsGrown (Completes S.number S.handle S.forest S.quirks self.old [])
-            (S.forest self.new.tokenizer.sink.page.tree.sink) (S.quirks self.new.tokenizer.sink.page.tree.sink)) }
+        ensures grown { OnOk result (IsGrown (Completes S.view self.old [])
+            (S.view.forest self.new.tokenizer.sink.page.tree.sink)
+            (S.view.quirks self.new.tokenizer.sink.page.tree.sink)) }
     {
         if self.is_over {
             return Err(ParseFault::Failed);
@@ -150,11 +148,11 @@ impl<S: TreeSink + Drop> Parser<S> {
 
     /// Reads the end of the page, and gives the finished tree.
     pub fn finish(self) -> Result<S::Output, ParseFault>
-        requires { IsFit S.number S.forest S.quirks self }
+        requires { IsFit S.view self }
         ensures memory { has_failed self ≡ false → IfErr result (λ e. e ≡ Memory) }
         ensures failed { has_failed self ≡ true → result ≡ Err Failed }
-        ensures grown { IfOk result (λ output. IsGrown (Completes S.number S.handle S.forest S.quirks self [])
-            (S.tree output) (S.tree_quirks output)) }
+        ensures grown { IfOk result (λ output. IsGrown (Completes S.view self []) (S.tree output)
+            (S.tree_quirks output)) }
     {
         let mut parser = self;
         let ended = parser.end();
@@ -167,11 +165,10 @@ impl<S: TreeSink + Drop> Parser<S> {
 
     /// Reads the last piece of the page, or its only one, and the end.
     pub fn one(self, piece: String) -> Result<S::Output, ParseFault>
-        requires { IsFit S.number S.forest S.quirks self }
+        requires { IsFit S.view self }
         ensures memory { has_failed self ≡ false → IfErr result (λ e. e ≡ Memory) }
         ensures failed { has_failed self ≡ true → result ≡ Err Failed }
-        ensures grown { IfOk result (λ output. IsGrown
-            (Completes S.number S.handle S.forest S.quirks self (chars (string_bytes piece)))
+        ensures grown { IfOk result (λ output. IsGrown (Completes S.view self (chars (string_bytes piece)))
             (S.tree output) (S.tree_quirks output)) }
     {
         let mut parser = self;
@@ -187,8 +184,8 @@ fn tell_error<S: TreeSink>(
     tokenizer: &mut Tokenizer<TreeBuilder<S>>,
     message: ErrorMessage,
 ) -> Result<(), ParseFault>
-    ensures as_before { GoesOnAs (state_in S.number S.forest S.quirks) (meaning S.handle) IsReady IsWelcome
-        tokenizer.old tokenizer.new }
+    ensures as_before { GoesOnAs (state_in S.view) (meaning S.view.handle) IsReady IsWelcome tokenizer.old
+        tokenizer.new }
     ensures memory { IfErr result (λ e. e ≡ Memory) }
 {
     a_builder_may_change_but_for_its_state::<S>();

@@ -43,11 +43,11 @@ impl<S: TreeSink> Construction<S> {
     /// Closes formatting elements for an end tag's name, where they needn't be nested well ("run the adoption agency
     /// algorithm").
     pub fn adoption_agency(&mut self, name: &LocalName) -> Result<(), ParseFault>
-        requires { Sound (seen S.number S.forest S.quirks self.old.held self.old.sink) }
-        ensures seen { OnOk result (seen S.number S.forest S.quirks self.new.held self.new.sink
-            ≡ adoption name.now (seen S.number S.forest S.quirks self.old.held self.old.sink)) }
-        ensures sound { OnOk result (Sound (seen S.number S.forest S.quirks self.new.held self.new.sink)) }
-        ensures forest { IsForest (S.forest self.new.sink) }
+        requires { Sound (seen S.view self.old.held self.old.sink) }
+        ensures seen { OnOk result (seen S.view self.new.held self.new.sink ≡ adoption name.now
+            (seen S.view self.old.held self.old.sink)) }
+        ensures sound { OnOk result (Sound (seen S.view self.new.held self.new.sink)) }
+        ensures forest { IsForest (S.view.forest self.new.sink) }
         ensures memory { IfErr result (λ e. e ≡ Memory) }
     {
         if self.is_current_unlisted(name) {
@@ -66,8 +66,8 @@ impl<S: TreeSink> Construction<S> {
 
     // whether the current node is of that name, and isn't listed
     fn is_current_unlisted(&self, name: &LocalName) -> bool
-        requires { Sound (seen S.number S.forest S.quirks self.now.held self.now.sink) }
-        ensures { result ≡ is_unlisted name.now (seen S.number S.forest S.quirks self.now.held self.now.sink) }
+        requires { Sound (seen S.view self.now.held self.now.sink) }
+        ensures { result ≡ is_unlisted name.now (seen S.view self.now.held self.now.sink) }
     {
         let Some(current) = self.current_node() else {
             return false;
@@ -78,12 +78,11 @@ impl<S: TreeSink> Construction<S> {
 
     // one turn
     fn adoption_turn(&mut self, name: &LocalName) -> Result<TurnOutcome, ParseFault>
-        requires { Sound (seen S.number S.forest S.quirks self.old.held self.old.sink) }
-        ensures turn { IfOk result (λ outcome.
-            turn_of outcome (seen S.number S.forest S.quirks self.new.held self.new.sink)
-            ≡ turn name.now (seen S.number S.forest S.quirks self.old.held self.old.sink)) }
-        ensures sound { OnOk result (Sound (seen S.number S.forest S.quirks self.new.held self.new.sink)) }
-        ensures forest { IsForest (S.forest self.new.sink) }
+        requires { Sound (seen S.view self.old.held self.old.sink) }
+        ensures turn { IfOk result (λ outcome. turn_of outcome (seen S.view self.new.held self.new.sink)
+            ≡ turn name.now (seen S.view self.old.held self.old.sink)) }
+        ensures sound { OnOk result (Sound (seen S.view self.new.held self.new.sink)) }
+        ensures forest { IsForest (S.view.forest self.new.sink) }
         ensures memory { IfErr result (λ e. e ≡ Memory) }
     {
         let Some(element) = self.held.formatting().last_named(name) else {
@@ -98,17 +97,15 @@ impl<S: TreeSink> Construction<S> {
 
     // one turn with a formatting element
     fn turn_with(&mut self, element: S::Handle, tag: Tag) -> Result<TurnOutcome, ParseFault>
-        requires sound { Sound (seen S.number S.forest S.quirks self.old.held self.old.sink) }
-        requires tagged { tag_in (S.number element)
-            (seen S.number S.forest S.quirks self.old.held self.old.sink).formatting ≡ Some tag }
-        requires listed { is_listed (S.number element)
-            (up_to_marker (seen S.number S.forest S.quirks self.old.held self.old.sink).formatting) ≡ true }
-        ensures turn { IfOk result (λ outcome.
-            turn_of outcome (seen S.number S.forest S.quirks self.new.held self.new.sink)
-            ≡ turn_by (Some tag) (S.number element)
-            (seen S.number S.forest S.quirks self.old.held self.old.sink)) }
-        ensures sound { OnOk result (Sound (seen S.number S.forest S.quirks self.new.held self.new.sink)) }
-        ensures forest { IsForest (S.forest self.new.sink) }
+        requires sound { Sound (seen S.view self.old.held self.old.sink) }
+        requires tagged { tag_in (S.view.number element) (seen S.view self.old.held self.old.sink).formatting
+            ≡ Some tag }
+        requires listed { is_listed (S.view.number element)
+            (up_to_marker (seen S.view self.old.held self.old.sink).formatting) ≡ true }
+        ensures turn { IfOk result (λ outcome. turn_of outcome (seen S.view self.new.held self.new.sink) ≡ turn_by
+            (Some tag) (S.view.number element) (seen S.view self.old.held self.old.sink)) }
+        ensures sound { OnOk result (Sound (seen S.view self.new.held self.new.sink)) }
+        ensures forest { IsForest (S.view.forest self.new.sink) }
         ensures memory { IfErr result (λ e. e ≡ Memory) }
     {
         if !self.is_element_open(element) {
@@ -129,15 +126,14 @@ impl<S: TreeSink> Construction<S> {
 
     // one turn with a formatting element and a furthest block
     fn adopt(&mut self, element: S::Handle, block: S::Handle, tag: Tag) -> Result<(), ParseFault>
-        requires can { CanAdopt (S.number element) (S.number block)
-            (seen S.number S.forest S.quirks self.old.held self.old.sink) }
-        requires tagged { tag_in (S.number element)
-            (seen S.number S.forest S.quirks self.old.held self.old.sink).formatting ≡ Some tag }
-        ensures seen { OnOk result (seen S.number S.forest S.quirks self.new.held self.new.sink
-            ≡ adopted (S.number element) (S.number block) tag
-            (seen S.number S.forest S.quirks self.old.held self.old.sink)) }
-        ensures sound { OnOk result (Sound (seen S.number S.forest S.quirks self.new.held self.new.sink)) }
-        ensures forest { IsForest (S.forest self.new.sink) }
+        requires can { CanAdopt (S.view.number element) (S.view.number block)
+            (seen S.view self.old.held self.old.sink) }
+        requires tagged { tag_in (S.view.number element) (seen S.view self.old.held self.old.sink).formatting
+            ≡ Some tag }
+        ensures seen { OnOk result (seen S.view self.new.held self.new.sink ≡ adopted (S.view.number element)
+            (S.view.number block) tag (seen S.view self.old.held self.old.sink)) }
+        ensures sound { OnOk result (Sound (seen S.view self.new.held self.new.sink)) }
+        ensures forest { IsForest (S.view.forest self.new.sink) }
         ensures memory { IfErr result (λ e. e ≡ Memory) }
     {
         let ancestor = self.element_above(element);
@@ -153,12 +149,11 @@ impl<S: TreeSink> Construction<S> {
         element: S::Handle,
         block: S::Handle,
     ) -> Result<WalkPoint<S::Handle>, ParseFault>
-        requires { CanAdopt (S.number element) (S.number block)
-            (seen S.number S.forest S.quirks self.old.held self.old.sink) }
-        ensures walked { IfOk result (λ walk. IsWalkedUp (S.number element) (S.number block)
-            (seen S.number S.forest S.quirks self.old.held self.old.sink)
-            (walk_of S.number walk (seen S.number S.forest S.quirks self.new.held self.new.sink))) }
-        ensures forest { IsForest (S.forest self.new.sink) }
+        requires { CanAdopt (S.view.number element) (S.view.number block) (seen S.view self.old.held self.old.sink) }
+        ensures walked { IfOk result (λ walk. IsWalkedUp (S.view.number element) (S.view.number block)
+            (seen S.view self.old.held self.old.sink) (walk_of S.view.number walk (seen S.view self.new.held
+            self.new.sink))) }
+        ensures forest { IsForest (S.view.forest self.new.sink) }
         ensures memory { IfErr result (λ e. e ≡ Memory) }
     {
         laws_of_forests();
@@ -189,17 +184,15 @@ impl<S: TreeSink> Construction<S> {
         block: S::Handle,
         walk: WalkPoint<S::Handle>,
     ) -> Result<WalkPoint<S::Handle>, ParseFault>
-        requires sound { Sound (seen S.number S.forest S.quirks self.old.held self.old.sink) }
-        requires open { IsIn (S.number node) (seen S.number S.forest S.quirks self.old.held self.old.sink).stack }
-        requires last { IsIn (S.number walk.last)
-            (nearer (S.number node) (seen S.number S.forest S.quirks self.old.held self.old.sink).stack) }
-        ensures seen { IfOk result (λ further.
-            walk_of S.number further (seen S.number S.forest S.quirks self.new.held self.new.sink)
-            ≡ stepped (tag_in (S.number node)
-            (seen S.number S.forest S.quirks self.old.held self.old.sink).formatting) is_late
-            (S.number block) (S.number node)
-            (walk_of S.number walk (seen S.number S.forest S.quirks self.old.held self.old.sink))) }
-        ensures forest { IsForest (S.forest self.new.sink) }
+        requires sound { Sound (seen S.view self.old.held self.old.sink) }
+        requires open { IsIn (S.view.number node) (seen S.view self.old.held self.old.sink).stack }
+        requires last { IsIn (S.view.number walk.last) (nearer (S.view.number node) (seen S.view self.old.held
+            self.old.sink).stack) }
+        ensures seen { IfOk result (λ further. walk_of S.view.number further (seen S.view self.new.held self.new.sink)
+            ≡ stepped (tag_in (S.view.number node) (seen S.view self.old.held self.old.sink).formatting) is_late
+            (S.view.number block) (S.view.number node) (walk_of S.view.number walk (seen S.view self.old.held
+            self.old.sink))) }
+        ensures forest { IsForest (S.view.forest self.new.sink) }
         ensures memory { IfErr result (λ e. e ≡ Memory) }
     {
         let Some(tag) = self.held.formatting().tag_of(&self.sink, node) else {
@@ -227,10 +220,10 @@ impl<S: TreeSink> Construction<S> {
 
     /// Takes an element's entry off the list of active formatting elements.
     pub fn remove_from_list(&mut self, element: S::Handle)
-        requires { Sound (seen S.number S.forest S.quirks self.old.held self.old.sink) }
-        ensures seen { seen S.number S.forest S.quirks self.new.held self.new.sink
-            ≡ unlisted (S.number element) (seen S.number S.forest S.quirks self.old.held self.old.sink) }
-        ensures sound { Sound (seen S.number S.forest S.quirks self.new.held self.new.sink) }
+        requires { Sound (seen S.view self.old.held self.old.sink) }
+        ensures seen { seen S.view self.new.held self.new.sink ≡ unlisted (S.view.number element)
+            (seen S.view self.old.held self.old.sink) }
+        ensures sound { Sound (seen S.view self.new.held self.new.sink) }
     {
         laws_of_forests();
         adopting_keeps_sound();

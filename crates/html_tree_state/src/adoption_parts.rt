@@ -20,10 +20,10 @@ use tree_building::{InsertionPoint, adopting_keeps_sound, adopting_may_be_done, 
 impl<S: TreeSink> Construction<S> {
     // makes an HTML element for a tag, which stands nowhere yet
     fn make_element_for(&mut self, tag: Tag) -> Result<S::Handle, ParseFault>
-        ensures number { IfOk result (λ element. S.number element ≡ nodes (S.forest self.old.sink)) }
-        ensures forest { OnOk result (S.forest self.new.sink ≡ made_for tag (S.forest self.old.sink)) }
-        ensures refused { OnErr result (S.forest self.new.sink ≡ S.forest self.old.sink) }
-        ensures quirks { S.quirks self.new.sink ≡ S.quirks self.old.sink }
+        ensures number { IfOk result (λ element. S.view.number element ≡ nodes (S.view.forest self.old.sink)) }
+        ensures forest { OnOk result (S.view.forest self.new.sink ≡ made_for tag (S.view.forest self.old.sink)) }
+        ensures refused { OnErr result (S.view.forest self.new.sink ≡ S.view.forest self.old.sink) }
+        ensures quirks { S.view.quirks self.new.sink ≡ S.view.quirks self.old.sink }
         ensures held { self.new.held ≡ self.old.held }
         ensures memory { IfErr result (λ e. e ≡ Memory) }
     {
@@ -40,15 +40,14 @@ impl<S: TreeSink> Construction<S> {
         tag: Tag,
         last: S::Handle,
     ) -> Result<S::Handle, ParseFault>
-        requires sound { Sound (seen S.number S.forest S.quirks self.old.held self.old.sink) }
-        requires can { CanCopy (S.number element) (S.number last) tag
-            (seen S.number S.forest S.quirks self.old.held self.old.sink) }
-        ensures number { IfOk result (λ copy. S.number copy ≡ nodes (S.forest self.old.sink)) }
-        ensures seen { OnOk result (seen S.number S.forest S.quirks self.new.held self.new.sink
-            ≡ copied (S.number element) tag (S.number last)
-            (seen S.number S.forest S.quirks self.old.held self.old.sink)) }
-        ensures sound { OnOk result (Sound (seen S.number S.forest S.quirks self.new.held self.new.sink)) }
-        ensures forest { IsForest (S.forest self.new.sink) }
+        requires sound { Sound (seen S.view self.old.held self.old.sink) }
+        requires can { CanCopy (S.view.number element) (S.view.number last) tag (seen S.view self.old.held
+            self.old.sink) }
+        ensures number { IfOk result (λ copy. S.view.number copy ≡ nodes (S.view.forest self.old.sink)) }
+        ensures seen { OnOk result (seen S.view self.new.held self.new.sink ≡ copied (S.view.number element) tag
+            (S.view.number last) (seen S.view self.old.held self.old.sink)) }
+        ensures sound { OnOk result (Sound (seen S.view self.new.held self.new.sink)) }
+        ensures forest { IsForest (S.view.forest self.new.sink) }
         ensures memory { IfErr result (λ e. e ≡ Memory) }
     {
         laws_of_forests();
@@ -68,14 +67,13 @@ impl<S: TreeSink> Construction<S> {
         last: S::Handle,
         ancestor: Option<S::Handle>,
     ) -> Result<(), ParseFault>
-        requires sound { Sound (seen S.number S.forest S.quirks self.old.held self.old.sink) }
-        requires can { IsAncestor (S.number last) (option_map S.number ancestor)
-            (seen S.number S.forest S.quirks self.old.held self.old.sink) }
-        ensures seen { OnOk result (seen S.number S.forest S.quirks self.new.held self.new.sink
-            ≡ placed (S.number last) (ancestor_of (option_map S.number ancestor))
-            (seen S.number S.forest S.quirks self.old.held self.old.sink)) }
-        ensures sound { OnOk result (Sound (seen S.number S.forest S.quirks self.new.held self.new.sink)) }
-        ensures forest { IsForest (S.forest self.new.sink) }
+        requires sound { Sound (seen S.view self.old.held self.old.sink) }
+        requires can { IsAncestor (S.view.number last) (option_map S.view.number ancestor) (seen S.view self.old.held
+            self.old.sink) }
+        ensures seen { OnOk result (seen S.view self.new.held self.new.sink ≡ placed (S.view.number last)
+            (ancestor_of (option_map S.view.number ancestor)) (seen S.view self.old.held self.old.sink)) }
+        ensures sound { OnOk result (Sound (seen S.view self.new.held self.new.sink)) }
+        ensures forest { IsForest (S.view.forest self.new.sink) }
         ensures memory { IfErr result (λ e. e ≡ Memory) }
     {
         laws_of_forests();
@@ -87,12 +85,11 @@ impl<S: TreeSink> Construction<S> {
 
     // the appropriate place for the common ancestor
     fn point_for(&self, ancestor: Option<S::Handle>) -> InsertionPoint<S::Handle>
-        requires sound { Sound (seen S.number S.forest S.quirks self.now.held self.now.sink) }
-        requires open { IfSome ancestor (λ element. IsIn (S.number element)
-            (seen S.number S.forest S.quirks self.now.held self.now.sink).stack) }
-        ensures { place_of S.number (S.forest self.now.sink) result
-            ≡ place_for (ancestor_of (option_map S.number ancestor))
-            (seen S.number S.forest S.quirks self.now.held self.now.sink) }
+        requires sound { Sound (seen S.view self.now.held self.now.sink) }
+        requires open { IfSome ancestor (λ element. IsIn (S.view.number element) (seen S.view self.now.held
+            self.now.sink).stack) }
+        ensures { place_of S.view.number (S.view.forest self.now.sink) result ≡ place_for
+            (ancestor_of (option_map S.view.number ancestor)) (seen S.view self.now.held self.now.sink) }
     {
         match ancestor {
             Some(element) => self.appropriate_place_for_insertion(element),
@@ -109,14 +106,13 @@ impl<S: TreeSink> Construction<S> {
         block: S::Handle,
         tag: Tag,
     ) -> Result<(), ParseFault>
-        requires sound { Sound (seen S.number S.forest S.quirks self.old.held self.old.sink) }
-        requires can { CanTakeOver (S.number element) (S.number block) tag
-            (seen S.number S.forest S.quirks self.old.held self.old.sink) }
-        ensures seen { OnOk result (seen S.number S.forest S.quirks self.new.held self.new.sink
-            ≡ taken_over (option_map S.number bookmark) (S.number element) (S.number block) tag
-            (seen S.number S.forest S.quirks self.old.held self.old.sink)) }
-        ensures sound { OnOk result (Sound (seen S.number S.forest S.quirks self.new.held self.new.sink)) }
-        ensures forest { IsForest (S.forest self.new.sink) }
+        requires sound { Sound (seen S.view self.old.held self.old.sink) }
+        requires can { CanTakeOver (S.view.number element) (S.view.number block) tag (seen S.view self.old.held
+            self.old.sink) }
+        ensures seen { OnOk result (seen S.view self.new.held self.new.sink ≡ taken_over (option_map S.view.number
+            bookmark) (S.view.number element) (S.view.number block) tag (seen S.view self.old.held self.old.sink)) }
+        ensures sound { OnOk result (Sound (seen S.view self.new.held self.new.sink)) }
+        ensures forest { IsForest (S.view.forest self.new.sink) }
         ensures memory { IfErr result (λ e. e ≡ Memory) }
     {
         laws_of_forests();

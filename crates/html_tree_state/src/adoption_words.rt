@@ -17,18 +17,16 @@ use tree_building::{last_element, position};
 impl<S: TreeSink> Construction<S> {
     /// Whether an element is open.
     pub fn is_open(&self, element: S::Handle) -> bool
-        ensures { result ≡ is_in (S.number element)
-            (seen S.number S.forest S.quirks self.now.held self.now.sink).stack }
+        ensures { result ≡ is_in (S.view.number element) (seen S.view self.now.held self.now.sink).stack }
     {
         position(self.held.open_elements(), &self.sink, element).is_some()
     }
 
     /// Whether an element is open; it is not looked for where no element of its name is.
     pub fn is_element_open(&self, element: S::Handle) -> bool
-        requires sound { Sound (seen S.number S.forest S.quirks self.now.held self.now.sink) }
-        requires element { IsElement (S.number element) (S.forest self.now.sink) }
-        ensures { result ≡ is_in (S.number element)
-            (seen S.number S.forest S.quirks self.now.held self.now.sink).stack }
+        requires sound { Sound (seen S.view self.now.held self.now.sink) }
+        requires element { IsElement (S.view.number element) (S.view.forest self.now.sink) }
+        ensures { result ≡ is_in (S.view.number element) (seen S.view self.now.held self.now.sink).stack }
     {
         if self
             .held
@@ -42,10 +40,10 @@ impl<S: TreeSink> Construction<S> {
 
     /// The latest element behind the last marker whose tag has a name.
     pub fn last_listed(&self, name: &LocalName) -> Option<S::Handle>
-        requires { Sound (seen S.number S.forest S.quirks self.now.held self.now.sink) }
-        ensures named { option_map S.number result ≡ last_named name.now
-            (seen S.number S.forest S.quirks self.now.held self.now.sink).formatting }
-        ensures element { IfSome result (λ element. IsElement (S.number element) (S.forest self.now.sink)) }
+        requires { Sound (seen S.view self.now.held self.now.sink) }
+        ensures named { option_map S.view.number result ≡ last_named name.now (seen S.view self.now.held
+            self.now.sink).formatting }
+        ensures element { IfSome result (λ element. IsElement (S.view.number element) (S.view.forest self.now.sink)) }
     {
         let element = self.held.formatting().last_named(name)?;
         Some(element)
@@ -53,9 +51,9 @@ impl<S: TreeSink> Construction<S> {
 
     /// Whether an element is in scope: it stands before the first barrier, or is that barrier.
     pub fn is_element_in_scope(&self, element: S::Handle) -> bool
-        requires { Sound (seen S.number S.forest S.quirks self.now.held self.now.sink) }
-        ensures { result ≡ is_in (S.number element) (up_to scope_barriers (S.forest self.now.sink)
-            (seen S.number S.forest S.quirks self.now.held self.now.sink).stack) }
+        requires { Sound (seen S.view self.now.held self.now.sink) }
+        ensures { result ≡ is_in (S.view.number element) (up_to scope_barriers (S.view.forest self.now.sink)
+            (seen S.view self.now.held self.now.sink).stack) }
     {
         let mut open = self.held.open_elements();
         while let Some((node, lower)) = open.split_last() {
@@ -72,9 +70,9 @@ impl<S: TreeSink> Construction<S> {
 
     /// The furthest block: of the special elements that are nearer to the current node than an element, the farthest.
     pub(crate) fn furthest_block(&self, element: S::Handle) -> Option<S::Handle>
-        requires { Sound (seen S.number S.forest S.quirks self.now.held self.now.sink) }
-        ensures { option_map S.number result ≡ furthest_block_of (S.number element)
-            (seen S.number S.forest S.quirks self.now.held self.now.sink) }
+        requires { Sound (seen S.view self.now.held self.now.sink) }
+        ensures { option_map S.view.number result ≡ furthest_block_of (S.view.number element)
+            (seen S.view self.now.held self.now.sink) }
     {
         let mut open = self.held.open_elements();
         let mut block = None;
@@ -92,8 +90,8 @@ impl<S: TreeSink> Construction<S> {
 
     /// What an open element stands in: the open element above it, if there is one.
     pub(crate) fn element_above(&self, element: S::Handle) -> Option<S::Handle>
-        ensures { option_map S.number result ≡ first_of (farther (S.number element)
-            (seen S.number S.forest S.quirks self.now.held self.now.sink).stack) }
+        ensures { option_map S.view.number result ≡ first_of (farther (S.view.number element)
+            (seen S.view self.now.held self.now.sink).stack) }
     {
         let open = self.held.open_elements();
         match position(open, &self.sink, element) {
@@ -105,9 +103,8 @@ impl<S: TreeSink> Construction<S> {
     /// The open element that has so many before it.
     pub(crate) fn element_at(&self, index: usize) -> S::Handle
         requires { index < length self.now.held.open_elements }
-        ensures { (tops : List ℕ) (n : ℕ) (lows : List ℕ) →
-            (seen S.number S.forest S.quirks self.now.held self.now.sink).stack ≡ tops ++ n ∷ lows →
-            length lows ≡ index → S.number result ≡ n }
+        ensures { (tops : List ℕ) (n : ℕ) (lows : List ℕ) → (seen S.view self.now.held self.now.sink).stack ≡ tops ++ n
+            ∷ lows → length lows ≡ index → S.view.number result ≡ n }
     {
         self.held.open_elements()[index]
     }

@@ -18,12 +18,11 @@ use tree_building::{InsertionPoint, first_element, laws_of_forests};
 impl<S: TreeSink> Construction<S> {
     /// Inserts a comment at the appropriate place ("insert a comment").
     pub fn append_comment(&mut self, text: Text) -> Result<(), ParseFault>
-        requires { Sound (seen S.number S.forest S.quirks self.old.held self.old.sink) }
-        ensures seen { OnOk result (seen S.number S.forest S.quirks self.new.held self.new.sink
-            ≡ commented_at (here (seen S.number S.forest S.quirks self.old.held self.old.sink)) text
-            (seen S.number S.forest S.quirks self.old.held self.old.sink)) }
-        ensures sound { OnOk result (Sound (seen S.number S.forest S.quirks self.new.held self.new.sink)) }
-        ensures forest { IsForest (S.forest self.new.sink) }
+        requires { Sound (seen S.view self.old.held self.old.sink) }
+        ensures seen { OnOk result (seen S.view self.new.held self.new.sink ≡ commented_at
+            (here (seen S.view self.old.held self.old.sink)) text (seen S.view self.old.held self.old.sink)) }
+        ensures sound { OnOk result (Sound (seen S.view self.new.held self.new.sink)) }
+        ensures forest { IsForest (S.view.forest self.new.sink) }
         ensures memory { IfErr result (λ e. e ≡ Memory) }
     {
         let point = self.insertion_point();
@@ -32,11 +31,11 @@ impl<S: TreeSink> Construction<S> {
 
     /// Inserts a comment behind the children of the document.
     pub fn append_comment_to_document(&mut self, text: Text) -> Result<(), ParseFault>
-        requires { Sound (seen S.number S.forest S.quirks self.old.held self.old.sink) }
-        ensures seen { OnOk result (seen S.number S.forest S.quirks self.new.held self.new.sink
-            ≡ commented_at (below 0) text (seen S.number S.forest S.quirks self.old.held self.old.sink)) }
-        ensures sound { OnOk result (Sound (seen S.number S.forest S.quirks self.new.held self.new.sink)) }
-        ensures forest { IsForest (S.forest self.new.sink) }
+        requires { Sound (seen S.view self.old.held self.old.sink) }
+        ensures seen { OnOk result (seen S.view self.new.held self.new.sink ≡ commented_at (below 0) text
+            (seen S.view self.old.held self.old.sink)) }
+        ensures sound { OnOk result (Sound (seen S.view self.new.held self.new.sink)) }
+        ensures forest { IsForest (S.view.forest self.new.sink) }
         ensures memory { IfErr result (λ e. e ≡ Memory) }
     {
         let point = InsertionPoint::LastChild(self.sink.get_document());
@@ -45,12 +44,12 @@ impl<S: TreeSink> Construction<S> {
 
     /// Inserts a comment behind the children of the root, or of the document where nothing is open.
     pub fn append_comment_to_html(&mut self, text: Text) -> Result<(), ParseFault>
-        requires { Sound (seen S.number S.forest S.quirks self.old.held self.old.sink) }
-        ensures seen { OnOk result (seen S.number S.forest S.quirks self.new.held self.new.sink
-            ≡ commented_at (below (root_of (seen S.number S.forest S.quirks self.old.held self.old.sink).stack)) text
-            (seen S.number S.forest S.quirks self.old.held self.old.sink)) }
-        ensures sound { OnOk result (Sound (seen S.number S.forest S.quirks self.new.held self.new.sink)) }
-        ensures forest { IsForest (S.forest self.new.sink) }
+        requires { Sound (seen S.view self.old.held self.old.sink) }
+        ensures seen { OnOk result (seen S.view self.new.held self.new.sink ≡ commented_at
+            (below (root_of (seen S.view self.old.held self.old.sink).stack)) text (seen S.view self.old.held
+            self.old.sink)) }
+        ensures sound { OnOk result (Sound (seen S.view self.new.held self.new.sink)) }
+        ensures forest { IsForest (S.view.forest self.new.sink) }
         ensures memory { IfErr result (λ e. e ≡ Memory) }
     {
         let point = self.root_point();
@@ -59,11 +58,11 @@ impl<S: TreeSink> Construction<S> {
 
     /// Puts a doctype behind the children of the document. What it doesn't name is the empty text.
     pub fn append_doctype_to_document(&mut self, doctype: Doctype) -> Result<(), ParseFault>
-        requires { Sound (seen S.number S.forest S.quirks self.old.held self.old.sink) }
-        ensures seen { OnOk result (seen S.number S.forest S.quirks self.new.held self.new.sink
-            ≡ with_doctype_of doctype (seen S.number S.forest S.quirks self.old.held self.old.sink)) }
-        ensures sound { OnOk result (Sound (seen S.number S.forest S.quirks self.new.held self.new.sink)) }
-        ensures forest { IsForest (S.forest self.new.sink) }
+        requires { Sound (seen S.view self.old.held self.old.sink) }
+        ensures seen { OnOk result (seen S.view self.new.held self.new.sink ≡ with_doctype_of doctype
+            (seen S.view self.old.held self.old.sink)) }
+        ensures sound { OnOk result (Sound (seen S.view self.new.held self.new.sink)) }
+        ensures forest { IsForest (S.view.forest self.new.sink) }
         ensures memory { IfErr result (λ e. e ≡ Memory) }
     {
         laws_of_forests();
@@ -78,10 +77,11 @@ impl<S: TreeSink> Construction<S> {
 
     // behind the children of the root, or of the document
     fn root_point(&self) -> InsertionPoint<S::Handle>
-        requires { Sound (seen S.number S.forest S.quirks self.now.held self.now.sink) }
-        ensures place { place_of S.number (S.forest self.now.sink) result
-            ≡ below (root_of (seen S.number S.forest S.quirks self.now.held self.now.sink).stack) }
-        ensures there { IsPlace (place_of S.number (S.forest self.now.sink) result) (S.forest self.now.sink) }
+        requires { Sound (seen S.view self.now.held self.now.sink) }
+        ensures place { place_of S.view.number (S.view.forest self.now.sink) result
+            ≡ below (root_of (seen S.view self.now.held self.now.sink).stack) }
+        ensures there { IsPlace (place_of S.view.number (S.view.forest self.now.sink) result)
+            (S.view.forest self.now.sink) }
     {
         laws_of_forests();
         match first_element(self.held.open_elements()) {
@@ -96,13 +96,14 @@ impl<S: TreeSink> Construction<S> {
         point: InsertionPoint<S::Handle>,
         text: Text,
     ) -> Result<(), ParseFault>
-        requires sound { Sound (seen S.number S.forest S.quirks self.old.held self.old.sink) }
-        requires place { IsPlace (place_of S.number (S.forest self.old.sink) point) (S.forest self.old.sink) }
-        ensures seen { OnOk result (seen S.number S.forest S.quirks self.new.held self.new.sink
-            ≡ commented_at (place_of S.number (S.forest self.old.sink) point) text
-            (seen S.number S.forest S.quirks self.old.held self.old.sink)) }
-        ensures sound { OnOk result (Sound (seen S.number S.forest S.quirks self.new.held self.new.sink)) }
-        ensures forest { IsForest (S.forest self.new.sink) }
+        requires sound { Sound (seen S.view self.old.held self.old.sink) }
+        requires place { IsPlace (place_of S.view.number (S.view.forest self.old.sink) point)
+            (S.view.forest self.old.sink) }
+        ensures seen { OnOk result (seen S.view self.new.held self.new.sink ≡ commented_at
+            (place_of S.view.number (S.view.forest self.old.sink) point) text (seen S.view self.old.held
+            self.old.sink)) }
+        ensures sound { OnOk result (Sound (seen S.view self.new.held self.new.sink)) }
+        ensures forest { IsForest (S.view.forest self.new.sink) }
         ensures memory { IfErr result (λ e. e ≡ Memory) }
     {
         laws_of_forests();
@@ -117,13 +118,12 @@ impl<S: TreeSink> Construction<S> {
         target: S::Handle,
         attrs: Attributes,
     ) -> Result<(), ParseFault>
-        requires sound { Sound (seen S.number S.forest S.quirks self.old.held self.old.sink) }
-        requires element { IsElement (S.number target) (S.forest self.old.sink) }
-        ensures seen { OnOk result (seen S.number S.forest S.quirks self.new.held self.new.sink
-            ≡ with_attributes_of (S.number target) attrs
-            (seen S.number S.forest S.quirks self.old.held self.old.sink)) }
-        ensures sound { OnOk result (Sound (seen S.number S.forest S.quirks self.new.held self.new.sink)) }
-        ensures forest { IsForest (S.forest self.new.sink) }
+        requires sound { Sound (seen S.view self.old.held self.old.sink) }
+        requires element { IsElement (S.view.number target) (S.view.forest self.old.sink) }
+        ensures seen { OnOk result (seen S.view self.new.held self.new.sink ≡ with_attributes_of (S.view.number target)
+            attrs (seen S.view self.old.held self.old.sink)) }
+        ensures sound { OnOk result (Sound (seen S.view self.new.held self.new.sink)) }
+        ensures forest { IsForest (S.view.forest self.new.sink) }
         ensures memory { IfErr result (λ e. e ≡ Memory) }
     {
         laws_of_forests();
@@ -133,11 +133,11 @@ impl<S: TreeSink> Construction<S> {
 
     /// Sets the quirks mode.
     pub fn set_quirks_mode(&mut self, mode: QuirksMode) -> Result<(), ParseFault>
-        requires { Sound (seen S.number S.forest S.quirks self.old.held self.old.sink) }
-        ensures seen { OnOk result (seen S.number S.forest S.quirks self.new.held self.new.sink
-            ≡ record (seen S.number S.forest S.quirks self.old.held self.old.sink) { quirks = mode }) }
-        ensures sound { OnOk result (Sound (seen S.number S.forest S.quirks self.new.held self.new.sink)) }
-        ensures forest { IsForest (S.forest self.new.sink) }
+        requires { Sound (seen S.view self.old.held self.old.sink) }
+        ensures seen { OnOk result (seen S.view self.new.held self.new.sink
+            ≡ record (seen S.view self.old.held self.old.sink) { quirks = mode }) }
+        ensures sound { OnOk result (Sound (seen S.view self.new.held self.new.sink)) }
+        ensures forest { IsForest (S.view.forest self.new.sink) }
         ensures memory { IfErr result (λ e. e ≡ Memory) }
     {
         self.sink.set_quirks_mode(mode)?;

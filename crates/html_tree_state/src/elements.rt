@@ -24,13 +24,12 @@ impl<S: TreeSink> Construction<S> {
         name: QualName,
         attrs: Attributes,
     ) -> Result<S::Handle, ParseFault>
-        requires { Sound (seen S.number S.forest S.quirks self.old.held self.old.sink) }
-        ensures number { IfOk result (λ element. S.number element ≡ nodes (S.forest self.old.sink)) }
-        ensures seen { OnOk result (seen S.number S.forest S.quirks self.new.held self.new.sink
-            ≡ inserted_by push (here (seen S.number S.forest S.quirks self.old.held self.old.sink)) name attrs
-            (seen S.number S.forest S.quirks self.old.held self.old.sink)) }
-        ensures sound { OnOk result (Sound (seen S.number S.forest S.quirks self.new.held self.new.sink)) }
-        ensures forest { IsForest (S.forest self.new.sink) }
+        requires { Sound (seen S.view self.old.held self.old.sink) }
+        ensures number { IfOk result (λ element. S.view.number element ≡ nodes (S.view.forest self.old.sink)) }
+        ensures seen { OnOk result (seen S.view self.new.held self.new.sink ≡ inserted_by push
+            (here (seen S.view self.old.held self.old.sink)) name attrs (seen S.view self.old.held self.old.sink)) }
+        ensures sound { OnOk result (Sound (seen S.view self.new.held self.new.sink)) }
+        ensures forest { IsForest (S.view.forest self.new.sink) }
         ensures memory { IfErr result (λ e. e ≡ Memory) }
     {
         let point = self.insertion_point();
@@ -46,14 +45,15 @@ impl<S: TreeSink> Construction<S> {
         name: QualName,
         attrs: Attributes,
     ) -> Result<S::Handle, ParseFault>
-        requires sound { Sound (seen S.number S.forest S.quirks self.old.held self.old.sink) }
-        requires place { IsPlace (place_of S.number (S.forest self.old.sink) point) (S.forest self.old.sink) }
-        ensures number { IfOk result (λ element. S.number element ≡ nodes (S.forest self.old.sink)) }
-        ensures seen { OnOk result (seen S.number S.forest S.quirks self.new.held self.new.sink
-            ≡ inserted_by push (place_of S.number (S.forest self.old.sink) point) name attrs
-            (seen S.number S.forest S.quirks self.old.held self.old.sink)) }
-        ensures sound { OnOk result (Sound (seen S.number S.forest S.quirks self.new.held self.new.sink)) }
-        ensures forest { IsForest (S.forest self.new.sink) }
+        requires sound { Sound (seen S.view self.old.held self.old.sink) }
+        requires place { IsPlace (place_of S.view.number (S.view.forest self.old.sink) point)
+            (S.view.forest self.old.sink) }
+        ensures number { IfOk result (λ element. S.view.number element ≡ nodes (S.view.forest self.old.sink)) }
+        ensures seen { OnOk result (seen S.view self.new.held self.new.sink ≡ inserted_by push
+            (place_of S.view.number (S.view.forest self.old.sink) point) name attrs (seen S.view self.old.held
+            self.old.sink)) }
+        ensures sound { OnOk result (Sound (seen S.view self.new.held self.new.sink)) }
+        ensures forest { IsForest (S.view.forest self.new.sink) }
         ensures memory { IfErr result (λ e. e ≡ Memory) }
     {
         laws_of_forests();
@@ -74,14 +74,15 @@ impl<S: TreeSink> Construction<S> {
         name: QualName,
         attrs: Attributes,
     ) -> Result<S::Handle, ParseFault>
-        requires sound { Sound (seen S.number S.forest S.quirks self.old.held self.old.sink) }
-        requires place { IsPlace (place_of S.number (S.forest self.old.sink) point) (S.forest self.old.sink) }
-        ensures number { IfOk result (λ element. S.number element ≡ nodes (S.forest self.old.sink)) }
-        ensures seen { OnOk result (seen S.number S.forest S.quirks self.new.held self.new.sink
-            ≡ with_element (place_of S.number (S.forest self.old.sink) point) name attrs
-            (seen S.number S.forest S.quirks self.old.held self.old.sink)) }
+        requires sound { Sound (seen S.view self.old.held self.old.sink) }
+        requires place { IsPlace (place_of S.view.number (S.view.forest self.old.sink) point)
+            (S.view.forest self.old.sink) }
+        ensures number { IfOk result (λ element. S.view.number element ≡ nodes (S.view.forest self.old.sink)) }
+        ensures seen { OnOk result (seen S.view self.new.held self.new.sink ≡ with_element
+            (place_of S.view.number (S.view.forest self.old.sink) point) name attrs (seen S.view self.old.held
+            self.old.sink)) }
         ensures held { self.new.held ≡ self.old.held }
-        ensures forest { IsForest (S.forest self.new.sink) }
+        ensures forest { IsForest (S.view.forest self.new.sink) }
         ensures memory { IfErr result (λ e. e ≡ Memory) }
     {
         laws_of_forests();

@@ -16,9 +16,8 @@ use name_sets::{ElementSet, is_special};
 impl<S: TreeSink> Construction<S> {
     /// Whether an element of a set is open.
     pub fn has_open(&self, wanted: ElementSet<'_>) -> bool
-        requires { Sound (seen S.number S.forest S.quirks self.now.held self.now.sink) }
-        ensures { result ≡ is_open (elements_of wanted.entry)
-            (seen S.number S.forest S.quirks self.now.held self.now.sink) }
+        requires { Sound (seen S.view self.now.held self.now.sink) }
+        ensures { result ≡ is_open (elements_of wanted.entry) (seen S.view self.now.held self.now.sink) }
     {
         if self.held.counts().has_none(wanted) {
             return false;
@@ -35,11 +34,11 @@ impl<S: TreeSink> Construction<S> {
 
     /// Pops the open elements up to one, and that one.
     pub fn pop_with(&mut self, element: S::Handle) -> Result<(), ParseFault>
-        requires { Sound (seen S.number S.forest S.quirks self.old.held self.old.sink) }
-        ensures seen { OnOk result (seen S.number S.forest S.quirks self.new.held self.new.sink
-            ≡ popped_with (S.number element) (seen S.number S.forest S.quirks self.old.held self.old.sink)) }
-        ensures sound { OnOk result (Sound (seen S.number S.forest S.quirks self.new.held self.new.sink)) }
-        ensures forest { IsForest (S.forest self.new.sink) }
+        requires { Sound (seen S.view self.old.held self.old.sink) }
+        ensures seen { OnOk result (seen S.view self.new.held self.new.sink ≡ popped_with (S.view.number element)
+            (seen S.view self.old.held self.old.sink)) }
+        ensures sound { OnOk result (Sound (seen S.view self.new.held self.new.sink)) }
+        ensures forest { IsForest (S.view.forest self.new.sink) }
         ensures memory { IfErr result (λ e. e ≡ Memory) }
     {
         while let Some(current) = self.current_node() {
@@ -54,9 +53,9 @@ impl<S: TreeSink> Construction<S> {
 
     /// The first element of a name from the current node up, where no special element stands before it.
     fn element_before_special(&self, name: &LocalName) -> Option<S::Handle>
-        requires { Sound (seen S.number S.forest S.quirks self.now.held self.now.sink) }
-        ensures { option_map S.number result ≡ named_before_special name.now (S.forest self.now.sink)
-            (seen S.number S.forest S.quirks self.now.held self.now.sink).stack }
+        requires { Sound (seen S.view self.now.held self.now.sink) }
+        ensures { option_map S.view.number result ≡ named_before_special name.now (S.view.forest self.now.sink)
+            (seen S.view self.now.held self.now.sink).stack }
     {
         if self.held.counts().has_none(ElementSet::Named(name)) {
             return None;
@@ -77,11 +76,11 @@ impl<S: TreeSink> Construction<S> {
 
     /// Closes the first element of a name that stands before any special one ("any other end tag").
     pub fn process_end_tag_in_body(&mut self, name: &LocalName) -> Result<(), ParseFault>
-        requires { Sound (seen S.number S.forest S.quirks self.old.held self.old.sink) }
-        ensures seen { OnOk result (seen S.number S.forest S.quirks self.new.held self.new.sink
-            ≡ closed_by_other_end name.now (seen S.number S.forest S.quirks self.old.held self.old.sink)) }
-        ensures sound { OnOk result (Sound (seen S.number S.forest S.quirks self.new.held self.new.sink)) }
-        ensures forest { IsForest (S.forest self.new.sink) }
+        requires { Sound (seen S.view self.old.held self.old.sink) }
+        ensures seen { OnOk result (seen S.view self.new.held self.new.sink ≡ closed_by_other_end name.now
+            (seen S.view self.old.held self.old.sink)) }
+        ensures sound { OnOk result (Sound (seen S.view self.new.held self.new.sink)) }
+        ensures forest { IsForest (S.view.forest self.new.sink) }
         ensures memory { IfErr result (λ e. e ≡ Memory) }
     {
         let Some(element) = self.element_before_special(name) else {

@@ -15,8 +15,8 @@ use tree_building::tree_words::{closes_foreign, is_of_html, stops_break_out};
 impl<S: TreeSink> Construction<S> {
     /// The adjusted current node: a fragment's context while no more than its root is open, else the current node.
     pub fn adjusted_current_node(&self, context: Option<S::Handle>) -> Option<S::Handle>
-        ensures { option_map S.number result ≡ adjusted_current (option_map S.number context)
-            (seen S.number S.forest S.quirks self.now.held self.now.sink).stack }
+        ensures { option_map S.view.number result ≡ adjusted_current (option_map S.view.number context)
+            (seen S.view self.now.held self.now.sink).stack }
     {
         match context {
             Some(context) if self.held.open_elements().len() <= 1 => Some(context),
@@ -26,11 +26,11 @@ impl<S: TreeSink> Construction<S> {
 
     /// Pops the open elements until breaking out of foreign content stops at the current node.
     pub fn break_out_of_foreign_content(&mut self) -> Result<(), ParseFault>
-        requires { Sound (seen S.number S.forest S.quirks self.old.held self.old.sink) }
-        ensures seen { OnOk result (seen S.number S.forest S.quirks self.new.held self.new.sink
-            ≡ broken_out (seen S.number S.forest S.quirks self.old.held self.old.sink)) }
-        ensures sound { OnOk result (Sound (seen S.number S.forest S.quirks self.new.held self.new.sink)) }
-        ensures forest { IsForest (S.forest self.new.sink) }
+        requires { Sound (seen S.view self.old.held self.old.sink) }
+        ensures seen { OnOk result (seen S.view self.new.held self.new.sink ≡ broken_out (seen S.view self.old.held
+            self.old.sink)) }
+        ensures sound { OnOk result (Sound (seen S.view self.new.held self.new.sink)) }
+        ensures forest { IsForest (S.view.forest self.new.sink) }
         ensures memory { IfErr result (λ e. e ≡ Memory) }
     {
         while let Some(current) = self.current_node() {
@@ -52,13 +52,13 @@ impl<S: TreeSink> Construction<S> {
         &mut self,
         name: &LocalName,
     ) -> Result<bool, ParseFault>
-        requires { Sound (seen S.number S.forest S.quirks self.old.held self.old.sink) }
-        ensures closed { IfOk result (λ closed. closed ≡ is_some (named_foreign name.now (S.forest self.old.sink)
-            (seen S.number S.forest S.quirks self.old.held self.old.sink).stack)) }
-        ensures seen { OnOk result (seen S.number S.forest S.quirks self.new.held self.new.sink
-            ≡ closed_by_foreign_end name.now (seen S.number S.forest S.quirks self.old.held self.old.sink)) }
-        ensures sound { OnOk result (Sound (seen S.number S.forest S.quirks self.new.held self.new.sink)) }
-        ensures forest { IsForest (S.forest self.new.sink) }
+        requires { Sound (seen S.view self.old.held self.old.sink) }
+        ensures closed { IfOk result (λ closed. closed ≡ is_some (named_foreign name.now (S.view.forest self.old.sink)
+            (seen S.view self.old.held self.old.sink).stack)) }
+        ensures seen { OnOk result (seen S.view self.new.held self.new.sink ≡ closed_by_foreign_end name.now
+            (seen S.view self.old.held self.old.sink)) }
+        ensures sound { OnOk result (Sound (seen S.view self.new.held self.new.sink)) }
+        ensures forest { IsForest (S.view.forest self.new.sink) }
         ensures memory { IfErr result (λ e. e ≡ Memory) }
     {
         let Some(element) = self.foreign_element(name) else {
@@ -70,9 +70,9 @@ impl<S: TreeSink> Construction<S> {
 
     // the first element of an end tag's name from the current node up, where no element of HTML stands before it
     fn foreign_element(&self, name: &LocalName) -> Option<S::Handle>
-        requires { Sound (seen S.number S.forest S.quirks self.now.held self.now.sink) }
-        ensures { option_map S.number result ≡ named_foreign name.now (S.forest self.now.sink)
-            (seen S.number S.forest S.quirks self.now.held self.now.sink).stack }
+        requires { Sound (seen S.view self.now.held self.now.sink) }
+        ensures { option_map S.view.number result ≡ named_foreign name.now (S.view.forest self.now.sink)
+            (seen S.view self.now.held self.now.sink).stack }
     {
         if self.held.counts().has_no_foreign(name) {
             return None;

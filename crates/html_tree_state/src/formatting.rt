@@ -19,11 +19,11 @@ use tree_building::{PushFlag, adopting_keeps_sound, laws_of_forests};
 impl<S: TreeSink> Construction<S> {
     /// Puts a marker into the list.
     pub fn insert_marker(&mut self) -> Result<(), ParseFault>
-        requires { Sound (seen S.number S.forest S.quirks self.old.held self.old.sink) }
-        ensures seen { OnOk result (seen S.number S.forest S.quirks self.new.held self.new.sink
-            ≡ marked (seen S.number S.forest S.quirks self.old.held self.old.sink)) }
-        ensures sound { OnOk result (Sound (seen S.number S.forest S.quirks self.new.held self.new.sink)) }
-        ensures forest { IsForest (S.forest self.new.sink) }
+        requires { Sound (seen S.view self.old.held self.old.sink) }
+        ensures seen { OnOk result (seen S.view self.new.held self.new.sink ≡ marked (seen S.view self.old.held
+            self.old.sink)) }
+        ensures sound { OnOk result (Sound (seen S.view self.new.held self.new.sink)) }
+        ensures forest { IsForest (S.view.forest self.new.sink) }
         ensures memory { IfErr result (λ e. e ≡ Memory) }
     {
         laws_of_forests();
@@ -33,10 +33,9 @@ impl<S: TreeSink> Construction<S> {
 
     /// Clears the list up to the last marker.
     pub fn clear_active_formatting_to_marker(&mut self)
-        requires { Sound (seen S.number S.forest S.quirks self.old.held self.old.sink) }
-        ensures seen { seen S.number S.forest S.quirks self.new.held self.new.sink
-            ≡ cleared (seen S.number S.forest S.quirks self.old.held self.old.sink) }
-        ensures sound { Sound (seen S.number S.forest S.quirks self.new.held self.new.sink) }
+        requires { Sound (seen S.view self.old.held self.old.sink) }
+        ensures seen { seen S.view self.new.held self.new.sink ≡ cleared (seen S.view self.old.held self.old.sink) }
+        ensures sound { Sound (seen S.view self.new.held self.new.sink) }
     {
         laws_of_forests();
         self.held.clear_to_marker();
@@ -44,12 +43,12 @@ impl<S: TreeSink> Construction<S> {
 
     /// Inserts an HTML element for a tag, which becomes the current node ("insert an HTML element").
     pub fn insert_element_for(&mut self, tag: &Tag) -> Result<S::Handle, ParseFault>
-        requires { Sound (seen S.number S.forest S.quirks self.old.held self.old.sink) }
-        ensures number { IfOk result (λ element. S.number element ≡ nodes (S.forest self.old.sink)) }
-        ensures seen { OnOk result (seen S.number S.forest S.quirks self.new.held self.new.sink
-            ≡ inserted_for tag.now (seen S.number S.forest S.quirks self.old.held self.old.sink)) }
-        ensures sound { OnOk result (Sound (seen S.number S.forest S.quirks self.new.held self.new.sink)) }
-        ensures forest { IsForest (S.forest self.new.sink) }
+        requires { Sound (seen S.view self.old.held self.old.sink) }
+        ensures number { IfOk result (λ element. S.view.number element ≡ nodes (S.view.forest self.old.sink)) }
+        ensures seen { OnOk result (seen S.view self.new.held self.new.sink ≡ inserted_for tag.now
+            (seen S.view self.old.held self.old.sink)) }
+        ensures sound { OnOk result (Sound (seen S.view self.new.held self.new.sink)) }
+        ensures forest { IsForest (S.view.forest self.new.sink) }
         ensures memory { IfErr result (λ e. e ≡ Memory) }
     {
         let name = QualName::new(Namespace::Html, tag.name.try_clone()?);
@@ -60,13 +59,13 @@ impl<S: TreeSink> Construction<S> {
     /// Inserts a formatting element for a tag, and lists it; of three behind the last marker that are alike the
     /// earliest goes.
     pub fn insert_formatting_element(&mut self, tag: Tag) -> Result<S::Handle, ParseFault>
-        requires sound { Sound (seen S.number S.forest S.quirks self.old.held self.old.sink) }
+        requires sound { Sound (seen S.view self.old.held self.old.sink) }
         requires formatting { is_one_of formatting tag.name ≡ true }
-        ensures number { IfOk result (λ element. S.number element ≡ nodes (S.forest self.old.sink)) }
-        ensures seen { OnOk result (seen S.number S.forest S.quirks self.new.held self.new.sink
-            ≡ inserted_formatting tag (seen S.number S.forest S.quirks self.old.held self.old.sink)) }
-        ensures sound { OnOk result (Sound (seen S.number S.forest S.quirks self.new.held self.new.sink)) }
-        ensures forest { IsForest (S.forest self.new.sink) }
+        ensures number { IfOk result (λ element. S.view.number element ≡ nodes (S.view.forest self.old.sink)) }
+        ensures seen { OnOk result (seen S.view self.new.held self.new.sink ≡ inserted_formatting tag
+            (seen S.view self.old.held self.old.sink)) }
+        ensures sound { OnOk result (Sound (seen S.view self.new.held self.new.sink)) }
+        ensures forest { IsForest (S.view.forest self.new.sink) }
         ensures memory { IfErr result (λ e. e ≡ Memory) }
     {
         laws_of_forests();
@@ -77,10 +76,10 @@ impl<S: TreeSink> Construction<S> {
 
     /// Takes an element off the stack of open elements, wherever it stands.
     pub fn remove_from_stack(&mut self, element: S::Handle)
-        requires { Sound (seen S.number S.forest S.quirks self.old.held self.old.sink) }
-        ensures seen { seen S.number S.forest S.quirks self.new.held self.new.sink
-            ≡ taken_off (S.number element) (seen S.number S.forest S.quirks self.old.held self.old.sink) }
-        ensures sound { Sound (seen S.number S.forest S.quirks self.new.held self.new.sink) }
+        requires { Sound (seen S.view self.old.held self.old.sink) }
+        ensures seen { seen S.view self.new.held self.new.sink ≡ taken_off (S.view.number element)
+            (seen S.view self.old.held self.old.sink) }
+        ensures sound { Sound (seen S.view self.new.held self.new.sink) }
     {
         adopting_keeps_sound();
         self.held.take_off(&self.sink, element);
@@ -89,11 +88,11 @@ impl<S: TreeSink> Construction<S> {
     /// Takes an element off the stack of open elements, wherever it stands; it is not looked for where none of its name
     /// is open.
     pub fn remove_element_from_stack(&mut self, element: S::Handle)
-        requires sound { Sound (seen S.number S.forest S.quirks self.old.held self.old.sink) }
-        requires element { IsElement (S.number element) (S.forest self.old.sink) }
-        ensures seen { seen S.number S.forest S.quirks self.new.held self.new.sink
-            ≡ taken_off (S.number element) (seen S.number S.forest S.quirks self.old.held self.old.sink) }
-        ensures sound { Sound (seen S.number S.forest S.quirks self.new.held self.new.sink) }
+        requires sound { Sound (seen S.view self.old.held self.old.sink) }
+        requires element { IsElement (S.view.number element) (S.view.forest self.old.sink) }
+        ensures seen { seen S.view self.new.held self.new.sink ≡ taken_off (S.view.number element)
+            (seen S.view self.old.held self.old.sink) }
+        ensures sound { Sound (seen S.view self.new.held self.new.sink) }
     {
         if self.is_element_open(element) {
             self.remove_from_stack(element);
@@ -102,11 +101,11 @@ impl<S: TreeSink> Construction<S> {
 
     /// Closes a p element that is in button scope ("close a p element").
     pub fn close_p_element_in_button_scope(&mut self) -> Result<(), ParseFault>
-        requires { Sound (seen S.number S.forest S.quirks self.old.held self.old.sink) }
-        ensures seen { OnOk result (seen S.number S.forest S.quirks self.new.held self.new.sink
-            ≡ with_closed_p (seen S.number S.forest S.quirks self.old.held self.old.sink)) }
-        ensures sound { OnOk result (Sound (seen S.number S.forest S.quirks self.new.held self.new.sink)) }
-        ensures forest { IsForest (S.forest self.new.sink) }
+        requires { Sound (seen S.view self.old.held self.old.sink) }
+        ensures seen { OnOk result (seen S.view self.new.held self.new.sink ≡ with_closed_p (seen S.view self.old.held
+            self.old.sink)) }
+        ensures sound { OnOk result (Sound (seen S.view self.new.held self.new.sink)) }
+        ensures forest { IsForest (S.view.forest self.new.sink) }
         ensures memory { IfErr result (λ e. e ≡ Memory) }
     {
         if self.in_scope(Scope::ButtonScope, ElementSet::Paragraph) {

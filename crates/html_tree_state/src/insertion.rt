@@ -20,11 +20,11 @@ use tree_building::{InsertionPoint, last_element, laws_of_forests};
 impl<S: TreeSink> Construction<S> {
     /// Where a node is inserted into an open element: behind its children, those of its contents if it is a template.
     fn point_inside(&self, target: S::Handle) -> InsertionPoint<S::Handle>
-        requires element { IsElement (S.number target) (S.forest self.now.sink) }
-        requires template { is_template (S.number target) (S.forest self.now.sink) ≡ true →
-            (c : ℕ) × (contents_of (S.number target) (S.forest self.now.sink) ≡ Some c) }
-        ensures { place_of S.number (S.forest self.now.sink) result
-            ≡ inside (S.number target) (S.forest self.now.sink) }
+        requires element { IsElement (S.view.number target) (S.view.forest self.now.sink) }
+        requires template { is_template (S.view.number target) (S.view.forest self.now.sink) ≡ true → (c : ℕ)
+            × (contents_of (S.view.number target) (S.view.forest self.now.sink) ≡ Some c) }
+        ensures { place_of S.view.number (S.view.forest self.now.sink) result ≡ inside (S.view.number target)
+            (S.view.forest self.now.sink) }
     {
         if is_html(self.sink.elem_name(target), "template") {
             InsertionPoint::LastChild(self.sink.get_template_contents(target))
@@ -36,9 +36,9 @@ impl<S: TreeSink> Construction<S> {
     /// Where a node is inserted that is fostered: into the last template or before the last table, whichever is nearer
     /// to the current node, else into the root.
     fn foster_point(&self) -> InsertionPoint<S::Handle>
-        requires { Sound (seen S.number S.forest S.quirks self.now.held self.now.sink) }
-        ensures { place_of S.number (S.forest self.now.sink) result ≡ foster_place (S.forest self.now.sink)
-            (seen S.number S.forest S.quirks self.now.held self.now.sink).stack }
+        requires { Sound (seen S.view self.now.held self.now.sink) }
+        ensures { place_of S.view.number (S.view.forest self.now.sink) result ≡ foster_place
+            (S.view.forest self.now.sink) (seen S.view self.now.held self.now.sink).stack }
     {
         let mut open = self.held.open_elements();
         while let Some((element, lower)) = open.split_last() {
@@ -63,12 +63,12 @@ impl<S: TreeSink> Construction<S> {
     /// The appropriate place for inserting a node into a target: fostered where foster parenting is on and the target
     /// is a part of a table.
     pub fn appropriate_place_for_insertion(&self, target: S::Handle) -> InsertionPoint<S::Handle>
-        requires sound { Sound (seen S.number S.forest S.quirks self.now.held self.now.sink) }
-        requires element { IsElement (S.number target) (S.forest self.now.sink) }
-        requires template { is_template (S.number target) (S.forest self.now.sink) ≡ true →
-            (c : ℕ) × (contents_of (S.number target) (S.forest self.now.sink) ≡ Some c) }
-        ensures { place_of S.number (S.forest self.now.sink) result
-            ≡ place_for (S.number target) (seen S.number S.forest S.quirks self.now.held self.now.sink) }
+        requires sound { Sound (seen S.view self.now.held self.now.sink) }
+        requires element { IsElement (S.view.number target) (S.view.forest self.now.sink) }
+        requires template { is_template (S.view.number target) (S.view.forest self.now.sink) ≡ true → (c : ℕ)
+            × (contents_of (S.view.number target) (S.view.forest self.now.sink) ≡ Some c) }
+        ensures { place_of S.view.number (S.view.forest self.now.sink) result ≡ place_for (S.view.number target)
+            (seen S.view self.now.held self.now.sink) }
     {
         if self.held.is_fostering() && is_foster_target(self.sink.elem_name(target)) {
             self.foster_point()
@@ -79,10 +79,11 @@ impl<S: TreeSink> Construction<S> {
 
     /// The appropriate place for inserting a node: that of the current node, or the document where nothing is open.
     pub fn insertion_point(&self) -> InsertionPoint<S::Handle>
-        requires { Sound (seen S.number S.forest S.quirks self.now.held self.now.sink) }
-        ensures place { place_of S.number (S.forest self.now.sink) result
-            ≡ here (seen S.number S.forest S.quirks self.now.held self.now.sink) }
-        ensures there { IsPlace (place_of S.number (S.forest self.now.sink) result) (S.forest self.now.sink) }
+        requires { Sound (seen S.view self.now.held self.now.sink) }
+        ensures place { place_of S.view.number (S.view.forest self.now.sink) result
+            ≡ here (seen S.view self.now.held self.now.sink) }
+        ensures there { IsPlace (place_of S.view.number (S.view.forest self.now.sink) result)
+            (S.view.forest self.now.sink) }
     {
         laws_of_forests();
         match self.current_node() {
@@ -97,13 +98,13 @@ impl<S: TreeSink> Construction<S> {
         point: InsertionPoint<S::Handle>,
         child: NodeOrText<S::Handle>,
     ) -> Result<(), ParseFault>
-        requires { CanPut (place_of S.number (S.forest self.old.sink) point) (child_of S.number child)
-            (S.forest self.old.sink) }
-        ensures forest { OnOk result (S.forest self.new.sink
-            ≡ put (place_of S.number (S.forest self.old.sink) point) (child_of S.number child)
-            (S.forest self.old.sink)) }
-        ensures refused { OnErr result (S.forest self.new.sink ≡ S.forest self.old.sink) }
-        ensures quirks { S.quirks self.new.sink ≡ S.quirks self.old.sink }
+        requires { CanPut (place_of S.view.number (S.view.forest self.old.sink) point) (child_of S.view.number child)
+            (S.view.forest self.old.sink) }
+        ensures forest { OnOk result (S.view.forest self.new.sink
+            ≡ put (place_of S.view.number (S.view.forest self.old.sink) point) (child_of S.view.number child)
+            (S.view.forest self.old.sink)) }
+        ensures refused { OnErr result (S.view.forest self.new.sink ≡ S.view.forest self.old.sink) }
+        ensures quirks { S.view.quirks self.new.sink ≡ S.view.quirks self.old.sink }
         ensures held { self.new.held ≡ self.old.held }
         ensures memory { IfErr result (λ e. e ≡ Memory) }
     {
@@ -120,11 +121,11 @@ impl<S: TreeSink> Construction<S> {
 
     /// Inserts characters at the appropriate place. No characters change nothing.
     pub fn append_text(&mut self, text: Text) -> Result<(), ParseFault>
-        requires { Sound (seen S.number S.forest S.quirks self.old.held self.old.sink) }
-        ensures seen { OnOk result (seen S.number S.forest S.quirks self.new.held self.new.sink
-            ≡ said text (seen S.number S.forest S.quirks self.old.held self.old.sink)) }
-        ensures sound { OnOk result (Sound (seen S.number S.forest S.quirks self.new.held self.new.sink)) }
-        ensures forest { IsForest (S.forest self.new.sink) }
+        requires { Sound (seen S.view self.old.held self.old.sink) }
+        ensures seen { OnOk result (seen S.view self.new.held self.new.sink ≡ said text (seen S.view self.old.held
+            self.old.sink)) }
+        ensures sound { OnOk result (Sound (seen S.view self.new.held self.new.sink)) }
+        ensures forest { IsForest (S.view.forest self.new.sink) }
         ensures memory { IfErr result (λ e. e ≡ Memory) }
     {
         laws_of_forests();

@@ -17,19 +17,18 @@ use name_sets::{ElementSet, is_address_div_or_p, is_special};
 impl<S: TreeSink> Construction<S> {
     /// The current node, where an element is open.
     pub fn current_node(&self) -> Option<S::Handle>
-        ensures { option_map S.number result
-            ≡ first_of (seen S.number S.forest S.quirks self.now.held self.now.sink).stack }
+        ensures { option_map S.view.number result ≡ first_of (seen S.view self.now.held self.now.sink).stack }
     {
         self.held.open_elements().last().copied()
     }
 
     /// Pops the current node, where an element is open.
     pub fn pop(&mut self) -> Result<(), ParseFault>
-        requires { Sound (seen S.number S.forest S.quirks self.old.held self.old.sink) }
-        ensures seen { OnOk result (seen S.number S.forest S.quirks self.new.held self.new.sink
-            ≡ popped (seen S.number S.forest S.quirks self.old.held self.old.sink)) }
-        ensures sound { OnOk result (Sound (seen S.number S.forest S.quirks self.new.held self.new.sink)) }
-        ensures forest { IsForest (S.forest self.new.sink) }
+        requires { Sound (seen S.view self.old.held self.old.sink) }
+        ensures seen { OnOk result (seen S.view self.new.held self.new.sink ≡ popped (seen S.view self.old.held
+            self.old.sink)) }
+        ensures sound { OnOk result (Sound (seen S.view self.new.held self.new.sink)) }
+        ensures forest { IsForest (S.view.forest self.new.sink) }
         ensures memory { IfErr result (λ e. e ≡ Memory) }
     {
         let Some(element) = self.current_node() else {
@@ -43,11 +42,11 @@ impl<S: TreeSink> Construction<S> {
     /// Pops the current nodes whose end tags are implied, but for those of a set (WHATWG HTML, 13.2.6.3, "generate
     /// implied end tags").
     pub fn generate_implied_end_tags(&mut self, except: ElementSet<'_>) -> Result<(), ParseFault>
-        requires { Sound (seen S.number S.forest S.quirks self.old.held self.old.sink) }
-        ensures seen { OnOk result (seen S.number S.forest S.quirks self.new.held self.new.sink
-            ≡ implied (elements_of except.entry) (seen S.number S.forest S.quirks self.old.held self.old.sink)) }
-        ensures sound { OnOk result (Sound (seen S.number S.forest S.quirks self.new.held self.new.sink)) }
-        ensures forest { IsForest (S.forest self.new.sink) }
+        requires { Sound (seen S.view self.old.held self.old.sink) }
+        ensures seen { OnOk result (seen S.view self.new.held self.new.sink ≡ implied (elements_of except.entry)
+            (seen S.view self.old.held self.old.sink)) }
+        ensures sound { OnOk result (Sound (seen S.view self.new.held self.new.sink)) }
+        ensures forest { IsForest (S.view.forest self.new.sink) }
         ensures memory { IfErr result (λ e. e ≡ Memory) }
     {
         while let Some(current) = self.current_node() {
@@ -61,11 +60,11 @@ impl<S: TreeSink> Construction<S> {
 
     /// Pops the open elements up to the first one of a set, and that one.
     pub fn pop_to(&mut self, set: ElementSet<'_>) -> Result<(), ParseFault>
-        requires { Sound (seen S.number S.forest S.quirks self.old.held self.old.sink) }
-        ensures seen { OnOk result (seen S.number S.forest S.quirks self.new.held self.new.sink
-            ≡ popped_to (elements_of set.entry) (seen S.number S.forest S.quirks self.old.held self.old.sink)) }
-        ensures sound { OnOk result (Sound (seen S.number S.forest S.quirks self.new.held self.new.sink)) }
-        ensures forest { IsForest (S.forest self.new.sink) }
+        requires { Sound (seen S.view self.old.held self.old.sink) }
+        ensures seen { OnOk result (seen S.view self.new.held self.new.sink ≡ popped_to (elements_of set.entry)
+            (seen S.view self.old.held self.old.sink)) }
+        ensures sound { OnOk result (Sound (seen S.view self.new.held self.new.sink)) }
+        ensures forest { IsForest (S.view.forest self.new.sink) }
         ensures memory { IfErr result (λ e. e ≡ Memory) }
     {
         while let Some(current) = self.current_node() {
@@ -80,11 +79,11 @@ impl<S: TreeSink> Construction<S> {
 
     /// Pops the open elements up to the first one of a set, which stays.
     pub fn pop_down_to(&mut self, set: ElementSet<'_>) -> Result<(), ParseFault>
-        requires { Sound (seen S.number S.forest S.quirks self.old.held self.old.sink) }
-        ensures seen { OnOk result (seen S.number S.forest S.quirks self.new.held self.new.sink
-            ≡ popped_down_to (elements_of set.entry) (seen S.number S.forest S.quirks self.old.held self.old.sink)) }
-        ensures sound { OnOk result (Sound (seen S.number S.forest S.quirks self.new.held self.new.sink)) }
-        ensures forest { IsForest (S.forest self.new.sink) }
+        requires { Sound (seen S.view self.old.held self.old.sink) }
+        ensures seen { OnOk result (seen S.view self.new.held self.new.sink ≡ popped_down_to (elements_of set.entry)
+            (seen S.view self.old.held self.old.sink)) }
+        ensures sound { OnOk result (Sound (seen S.view self.new.held self.new.sink)) }
+        ensures forest { IsForest (S.view.forest self.new.sink) }
         ensures memory { IfErr result (λ e. e ≡ Memory) }
     {
         while let Some(current) = self.current_node() {
@@ -99,11 +98,11 @@ impl<S: TreeSink> Construction<S> {
     /// Closes the list item or the definition of a set that stands before any special element but `address`, `div` and
     /// `p`, where there is one (WHATWG HTML, 13.2.6.4.7, start tags "li", "dd" and "dt").
     pub fn close_item(&mut self, set: ElementSet<'_>) -> Result<(), ParseFault>
-        requires { Sound (seen S.number S.forest S.quirks self.old.held self.old.sink) }
-        ensures seen { OnOk result (seen S.number S.forest S.quirks self.new.held self.new.sink
-            ≡ with_closed_item (elements_of set.entry) (seen S.number S.forest S.quirks self.old.held self.old.sink)) }
-        ensures sound { OnOk result (Sound (seen S.number S.forest S.quirks self.new.held self.new.sink)) }
-        ensures forest { IsForest (S.forest self.new.sink) }
+        requires { Sound (seen S.view self.old.held self.old.sink) }
+        ensures seen { OnOk result (seen S.view self.new.held self.new.sink ≡ with_closed_item (elements_of set.entry)
+            (seen S.view self.old.held self.old.sink)) }
+        ensures sound { OnOk result (Sound (seen S.view self.new.held self.new.sink)) }
+        ensures forest { IsForest (S.view.forest self.new.sink) }
         ensures memory { IfErr result (λ e. e ≡ Memory) }
     {
         if self.has_item(set) {
@@ -115,9 +114,9 @@ impl<S: TreeSink> Construction<S> {
 
     // whether an element of a set stands before any special element but those three
     fn has_item(&self, set: ElementSet<'_>) -> bool
-        requires { Sound (seen S.number S.forest S.quirks self.now.held self.now.sink) }
-        ensures { result ≡ is_item_open (elements_of set.entry) (S.forest self.now.sink)
-            (seen S.number S.forest S.quirks self.now.held self.now.sink).stack }
+        requires { Sound (seen S.view self.now.held self.now.sink) }
+        ensures { result ≡ is_item_open (elements_of set.entry) (S.view.forest self.now.sink)
+            (seen S.view self.now.held self.now.sink).stack }
     {
         if self.held.counts().has_none(set) {
             return false;

@@ -18,11 +18,11 @@ impl<S: TreeSink> Construction<S> {
     /// Opens anew each listed element behind the last marker, and behind the last one that is open ("reconstruct the
     /// active formatting elements").
     pub fn reconstruct_active_formatting_elements(&mut self) -> Result<(), ParseFault>
-        requires { Sound (seen S.number S.forest S.quirks self.old.held self.old.sink) }
-        ensures seen { OnOk result (seen S.number S.forest S.quirks self.new.held self.new.sink
-            ≡ reconstructed (seen S.number S.forest S.quirks self.old.held self.old.sink)) }
-        ensures sound { OnOk result (Sound (seen S.number S.forest S.quirks self.new.held self.new.sink)) }
-        ensures forest { IsForest (S.forest self.new.sink) }
+        requires { Sound (seen S.view self.old.held self.old.sink) }
+        ensures seen { OnOk result (seen S.view self.new.held self.new.sink ≡ reconstructed (seen S.view self.old.held
+            self.old.sink)) }
+        ensures sound { OnOk result (Sound (seen S.view self.new.held self.new.sink)) }
+        ensures forest { IsForest (S.view.forest self.new.sink) }
         ensures memory { IfErr result (λ e. e ≡ Memory) }
     {
         let mut index = self.first_to_make();
@@ -35,8 +35,8 @@ impl<S: TreeSink> Construction<S> {
 
     // how many entries need not be made anew
     fn first_to_make(&self) -> usize
-        ensures { made_from result (seen S.number S.forest S.quirks self.now.held self.now.sink)
-            ≡ reconstructed (seen S.number S.forest S.quirks self.now.held self.now.sink) }
+        ensures { made_from result (seen S.view self.now.held self.now.sink) ≡ reconstructed (seen S.view self.now.held
+            self.now.sink) }
     {
         kept_entries(
             self.held.formatting().as_slice(),
@@ -47,13 +47,13 @@ impl<S: TreeSink> Construction<S> {
 
     // makes the element of an entry anew, and gives the entry to it
     fn make_anew(&mut self, index: usize) -> Result<(), ParseFault>
-        requires sound { Sound (seen S.number S.forest S.quirks self.old.held self.old.sink) }
+        requires sound { Sound (seen S.view self.old.held self.old.sink) }
         requires within { index < length self.old.held.entries }
-        ensures made { OnOk result (made_from (index + 1) (seen S.number S.forest S.quirks self.new.held self.new.sink)
-            ≡ made_from index (seen S.number S.forest S.quirks self.old.held self.old.sink)) }
+        ensures made { OnOk result (made_from (index + 1) (seen S.view self.new.held self.new.sink) ≡ made_from index
+            (seen S.view self.old.held self.old.sink)) }
         ensures size { OnOk result (length self.new.held.entries ≡ length self.old.held.entries) }
-        ensures sound { OnOk result (Sound (seen S.number S.forest S.quirks self.new.held self.new.sink)) }
-        ensures forest { IsForest (S.forest self.new.sink) }
+        ensures sound { OnOk result (Sound (seen S.view self.new.held self.new.sink)) }
+        ensures forest { IsForest (S.view.forest self.new.sink) }
         ensures memory { IfErr result (λ e. e ≡ Memory) }
     {
         laws_of_forests();
@@ -69,7 +69,7 @@ impl<S: TreeSink> Construction<S> {
 
 // whether an entry is a marker, or that of an open element
 fn stays<H: Copy, S: TreeSink<Handle = H>>(entry: &FormatEntry<H>, elements: &[H], sink: &S) -> bool
-    ensures { result ≡ is_kept (stack_of S.number elements.now) (entry_of S.number entry.now) }
+    ensures { result ≡ is_kept (stack_of S.view.number elements.now) (entry_of S.view.number entry.now) }
 {
     match entry {
         FormatEntry::Element(handle, _) => position(elements, sink, *handle).is_some(),
@@ -83,7 +83,8 @@ fn kept_entries<H: Copy, S: TreeSink<Handle = H>>(
     elements: &[H],
     sink: &S,
 ) -> usize
-    ensures { result ≡ length (made_already (stack_of S.number elements.now) (entries_of S.number entries.now)) }
+    ensures { result ≡ length (made_already (stack_of S.view.number elements.now) (entries_of S.view.number
+        entries.now)) }
 {
     let mut at = entries.len();
     'back: while at > 0 {

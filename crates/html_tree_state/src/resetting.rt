@@ -28,9 +28,9 @@ impl<S: TreeSink> Construction<S> {
         has_head: bool,
         template_mode: Option<InsertionMode>,
     ) -> InsertionMode
-        requires { Sound (seen S.number S.forest S.quirks self.now.held self.now.sink) }
+        requires { Sound (seen S.view self.now.held self.now.sink) }
         ensures { result ≡ reset_mode (option_map (λ name. name.now) context.entry) has_head template_mode
-            (names_of (seen S.number S.forest S.quirks self.now.held self.now.sink)) }
+            (names_of (seen S.view self.now.held self.now.sink)) }
     {
         let mut open = self.held.open_elements();
         while let Some((element, lower)) = open.split_last() {

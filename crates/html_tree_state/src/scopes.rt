@@ -13,9 +13,9 @@ impl<S: TreeSink> Construction<S> {
     /// Whether an element of a set is in a scope: from the current node up it stands before the first barrier, or is
     /// that barrier.
     pub fn in_scope(&self, scope: Scope, wanted: ElementSet<'_>) -> bool
-        requires { Sound (seen S.number S.forest S.quirks self.now.held self.now.sink) }
-        ensures { result ≡ is_in_scope (barriers_of scope) (elements_of wanted.entry)
-            (seen S.number S.forest S.quirks self.now.held self.now.sink) }
+        requires { Sound (seen S.view self.now.held self.now.sink) }
+        ensures { result ≡ is_in_scope (barriers_of scope) (elements_of wanted.entry) (seen S.view self.now.held
+            self.now.sink) }
     {
         if self.held.counts().has_none(wanted) {
             return false;

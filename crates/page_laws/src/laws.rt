@@ -21,7 +21,7 @@ pub fn a_page_is_at_its_beginning()
 /// Where a page tells no start tag of a template or a frameset, each character that it tells as text, but white space
 /// and U+FFFD, stands in its tree as often as it was told.
 pub fn a_tree_keeps_the_text_of_its_page<S: TreeSink>()
-    ensures { KeepsTextOfTree S.handle }
+    ensures { KeepsTextOfTree S.view.handle }
 {
     the_text_of_a_page_is_kept::<S::Handle>();
 }
@@ -29,7 +29,7 @@ pub fn a_tree_keeps_the_text_of_its_page<S: TreeSink>()
 /// Where a page begins on a document without elements, the document's one child element is `html`, whose first two are
 /// `head`, and then `body` or, where the page told a start tag `frameset`, `frameset` (WHATWG HTML, 4.1.1).
 pub fn a_tree_has_its_skeleton<S: TreeSink>()
-    ensures { HasSkeletonOfTree S.handle }
+    ensures { HasSkeletonOfTree S.view.handle }
 {
     a_page_has_its_skeleton::<S::Handle>();
 }

@@ -19,16 +19,15 @@ pub(crate) fn feed<S: TreeSink>(
     parser: &mut Parser<S>,
     piece: &[u8],
 ) -> Result<(), ParseFault>
-    requires fit { IsFit S.number S.forest S.quirks parser.old }
+    requires fit { IsFit S.view parser.old }
     requires decodes { decoder.old.has_failed ≡ false }
     requires parses { has_failed parser.old ≡ false }
-    ensures fit { IsFit S.number S.forest S.quirks parser.new }
+    ensures fit { IsFit S.view parser.new }
     ensures memory { IfErr result (λ e. e ≡ Memory) }
     ensures decodes { OnOk result (decoder.new.has_failed ≡ false) }
     ensures parses { OnOk result (has_failed parser.new ≡ false) }
-    ensures reads { OnOk result ((rest : List ℕ) (final : State) →
-        Completes S.number S.handle S.forest S.quirks parser.new (replaced_text (decoder.new.held ++ rest)) final →
-        Completes S.number S.handle S.forest S.quirks parser.old
+    ensures reads { OnOk result ((rest : List ℕ) (final : State) → Completes S.view parser.new
+        (replaced_text (decoder.new.held ++ rest)) final → Completes S.view parser.old
         (replaced_text (decoder.old.held ++ (piece.now ++ rest))) final) }
 {
     let text = decoder.push(alloc, piece)?;
@@ -43,12 +42,11 @@ pub(crate) fn end<S: TreeSink + Drop>(
 ) -> Result<S::Output, ParseFault>
 where
     S::Output: Drop,
-    requires fit { IsFit S.number S.forest S.quirks parser }
+    requires fit { IsFit S.view parser }
     requires decodes { decoder.has_failed ≡ false }
     requires parses { has_failed parser ≡ false }
     ensures memory { IfErr result (λ e. e ≡ Memory) }
-    ensures grown { IfOk result (λ output. IsGrown
-        (Completes S.number S.handle S.forest S.quirks parser (replaced_text decoder.held))
+    ensures grown { IfOk result (λ output. IsGrown (Completes S.view parser (replaced_text decoder.held))
         (S.tree output) (S.tree_quirks output)) }
 {
     let text = decoder.finish(alloc)?;

@@ -35,8 +35,8 @@ pub fn a_page_has_a_tree_of_bytes()
 
 // a page has a tree, whatever its text
 fn a_page_has_a_tree<S: TreeSink>()
-    ensures { (from : Beginning) (text : List ℕ) →
-        (forest : Forest) × (mode : Quirks) × IsTreeOfPage S.handle from text forest mode }
+    ensures { (from : Beginning) (text : List ℕ) → (forest : Forest) × (mode : Quirks) × IsTreeOfPage S.view.handle
+        from text forest mode }
 {
     some_reading::<TreeBuilder<S>>();
 }

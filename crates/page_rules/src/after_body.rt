@@ -18,10 +18,10 @@ use tree_words::InsertionMode;
 
 /// Anything else: the body goes on.
 pub fn body_again<S: TreeSink>(page: &mut Parse<S>) -> Result<Flow<S::Handle>, ParseFault>
-    requires ready { Ready (state_of S.number S.forest S.quirks page.old) }
-    ensures came { IfOk result (λ flow. came_to flow (state_of S.number S.forest S.quirks page.new)
-        ≡ outcome S.handle (again body_again) (state_of S.number S.forest S.quirks page.old)) }
-    ensures ready { OnOk result (Ready (state_of S.number S.forest S.quirks page.new)) }
+    requires ready { Ready (state_of S.view page.old) }
+    ensures came { IfOk result (λ flow. came_to flow (state_of S.view page.new) ≡ outcome S.view.handle
+        (again body_again) (state_of S.view page.old)) }
+    ensures ready { OnOk result (Ready (state_of S.view page.new)) }
     ensures memory { IfErr result (λ e. e ≡ Memory) }
 {
     page.go_to(InsertionMode::InBody);
@@ -33,10 +33,10 @@ pub fn after_body_comment<S: TreeSink>(
     page: &mut Parse<S>,
     text: Text,
 ) -> Result<Flow<S::Handle>, ParseFault>
-    requires ready { Ready (state_of S.number S.forest S.quirks page.old) }
-    ensures came { IfOk result (λ flow. came_to flow (state_of S.number S.forest S.quirks page.new)
-        ≡ outcome S.handle (after_body_comment text) (state_of S.number S.forest S.quirks page.old)) }
-    ensures ready { OnOk result (Ready (state_of S.number S.forest S.quirks page.new)) }
+    requires ready { Ready (state_of S.view page.old) }
+    ensures came { IfOk result (λ flow. came_to flow (state_of S.view page.new) ≡ outcome S.view.handle
+        (after_body_comment text) (state_of S.view page.old)) }
+    ensures ready { OnOk result (Ready (state_of S.view page.new)) }
     ensures memory { IfErr result (λ e. e ≡ Memory) }
 {
     page.comment_to_root(text)?;
@@ -49,11 +49,10 @@ pub fn after_body_start<S: TreeSink>(
     group: TagGroup,
     tag: &Tag,
 ) -> Result<Flow<S::Handle>, ParseFault>
-    requires ready { Ready (state_of S.number S.forest S.quirks page.old) }
-    ensures came { IfOk result (λ flow. came_to flow (state_of S.number S.forest S.quirks page.new)
-        ≡ outcome S.handle (after_body_start group tag.now (state_of S.number S.forest S.quirks page.old))
-        (state_of S.number S.forest S.quirks page.old)) }
-    ensures ready { OnOk result (Ready (state_of S.number S.forest S.quirks page.new)) }
+    requires ready { Ready (state_of S.view page.old) }
+    ensures came { IfOk result (λ flow. came_to flow (state_of S.view page.new) ≡ outcome S.view.handle
+        (after_body_start group tag.now (state_of S.view page.old)) (state_of S.view page.old)) }
+    ensures ready { OnOk result (Ready (state_of S.view page.new)) }
     ensures memory { IfErr result (λ e. e ≡ Memory) }
 {
     match group {
@@ -67,11 +66,10 @@ pub fn after_body_end<S: TreeSink>(
     page: &mut Parse<S>,
     group: TagGroup,
 ) -> Result<Flow<S::Handle>, ParseFault>
-    requires ready { Ready (state_of S.number S.forest S.quirks page.old) }
-    ensures came { IfOk result (λ flow. came_to flow (state_of S.number S.forest S.quirks page.new)
-        ≡ outcome S.handle (after_body_end group (state_of S.number S.forest S.quirks page.old))
-        (state_of S.number S.forest S.quirks page.old)) }
-    ensures ready { OnOk result (Ready (state_of S.number S.forest S.quirks page.new)) }
+    requires ready { Ready (state_of S.view page.old) }
+    ensures came { IfOk result (λ flow. came_to flow (state_of S.view page.new) ≡ outcome S.view.handle
+        (after_body_end group (state_of S.view page.old)) (state_of S.view page.old)) }
+    ensures ready { OnOk result (Ready (state_of S.view page.new)) }
     ensures memory { IfErr result (λ e. e ≡ Memory) }
 {
     match group {
@@ -90,10 +88,10 @@ pub fn after_body_end<S: TreeSink>(
 pub fn after_body_end_of_file<S: TreeSink>(
     page: &mut Parse<S>,
 ) -> Result<Flow<S::Handle>, ParseFault>
-    requires ready { Ready (state_of S.number S.forest S.quirks page.old) }
-    ensures came { IfOk result (λ flow. came_to flow (state_of S.number S.forest S.quirks page.new)
-        ≡ outcome S.handle after_body_end_of_file (state_of S.number S.forest S.quirks page.old)) }
-    ensures ready { OnOk result (Ready (state_of S.number S.forest S.quirks page.new)) }
+    requires ready { Ready (state_of S.view page.old) }
+    ensures came { IfOk result (λ flow. came_to flow (state_of S.view page.new) ≡ outcome S.view.handle
+        after_body_end_of_file (state_of S.view page.old)) }
+    ensures ready { OnOk result (Ready (state_of S.view page.new)) }
     ensures memory { IfErr result (λ e. e ≡ Memory) }
 {
     Ok(stop_parsing())

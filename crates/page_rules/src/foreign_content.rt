@@ -22,9 +22,9 @@ use tree_words::{InsertionMode, is_of_html, takes_start_as_html, takes_text_as_h
 
 /// Whether the mode takes text, by the rules for HTML.
 pub fn takes_text_here<S: TreeSink>(page: &Parse<S>) -> bool
-    requires ready { Ready (state_of S.number S.forest S.quirks page.now) }
-    ensures text { (c : ℕ) → result ≡ is_by_mode (character c) (state_of S.number S.forest S.quirks page.now) }
-    ensures null { result ≡ is_by_mode null (state_of S.number S.forest S.quirks page.now) }
+    requires ready { Ready (state_of S.view page.now) }
+    ensures text { (c : ℕ) → result ≡ is_by_mode (character c) (state_of S.view page.now) }
+    ensures null { result ≡ is_by_mode null (state_of S.view page.now) }
 {
     if is_text(page.kept.mode) {
         return true;
@@ -41,8 +41,8 @@ pub fn takes_text_here<S: TreeSink>(page: &Parse<S>) -> bool
 
 /// Whether the mode takes a start tag, by the rules for HTML.
 pub fn takes_start_here<S: TreeSink>(page: &Parse<S>, tag: &Tag) -> bool
-    requires ready { Ready (state_of S.number S.forest S.quirks page.now) }
-    ensures { result ≡ is_by_mode (start tag.now) (state_of S.number S.forest S.quirks page.now) }
+    requires ready { Ready (state_of S.view page.now) }
+    ensures { result ≡ is_by_mode (start tag.now) (state_of S.view page.now) }
 {
     if is_text(page.kept.mode) {
         return true;
@@ -59,10 +59,10 @@ pub fn takes_start_here<S: TreeSink>(page: &Parse<S>, tag: &Tag) -> bool
 
 /// Whether the mode takes comments, doctypes and end tags, by the rules for HTML.
 pub fn is_html_here<S: TreeSink>(page: &Parse<S>) -> bool
-    requires ready { Ready (state_of S.number S.forest S.quirks page.now) }
-    ensures comment { (cs : List ℕ) → result ≡ is_by_mode (comment cs) (state_of S.number S.forest S.quirks page.now) }
-    ensures doctype { (d : Doctype) → result ≡ is_by_mode (doctype d) (state_of S.number S.forest S.quirks page.now) }
-    ensures finish { (t : AnyTag) → result ≡ is_by_mode (finish t) (state_of S.number S.forest S.quirks page.now) }
+    requires ready { Ready (state_of S.view page.now) }
+    ensures comment { (cs : List ℕ) → result ≡ is_by_mode (comment cs) (state_of S.view page.now) }
+    ensures doctype { (d : Doctype) → result ≡ is_by_mode (doctype d) (state_of S.view page.now) }
+    ensures finish { (t : AnyTag) → result ≡ is_by_mode (finish t) (state_of S.view page.now) }
 {
     if is_text(page.kept.mode) {
         return true;
@@ -78,11 +78,10 @@ pub fn foreign_start<S: TreeSink>(
     page: &mut Parse<S>,
     tag: &Tag,
 ) -> Result<Flow<S::Handle>, ParseFault>
-    requires ready { Ready (state_of S.number S.forest S.quirks page.old) }
-    ensures came { IfOk result (λ flow. came_to flow (state_of S.number S.forest S.quirks page.new)
-        ≡ outcome S.handle (foreign_start tag.now (state_of S.number S.forest S.quirks page.old))
-        (state_of S.number S.forest S.quirks page.old)) }
-    ensures ready { OnOk result (Ready (state_of S.number S.forest S.quirks page.new)) }
+    requires ready { Ready (state_of S.view page.old) }
+    ensures came { IfOk result (λ flow. came_to flow (state_of S.view page.new) ≡ outcome S.view.handle
+        (foreign_start tag.now (state_of S.view page.old)) (state_of S.view page.old)) }
+    ensures ready { OnOk result (Ready (state_of S.view page.new)) }
     ensures memory { IfErr result (λ e. e ≡ Memory) }
 {
     let ns = namespace_here(page)?;
@@ -94,14 +93,13 @@ pub fn foreign_start<S: TreeSink>(
 /// none nothing changes, and the mode takes the tag.
 #[tactic(auto, unfolding(tree_rules::specs::Actions::act))]
 pub fn close_foreign_end<S: TreeSink>(page: &mut Parse<S>, tag: &Tag) -> Result<bool, ParseFault>
-    requires ready { Ready (state_of S.number S.forest S.quirks page.old) }
-    ensures closed { IfOk result (λ closed. closed ≡ is_some (named_foreign tag.now.name
-        (state_of S.number S.forest S.quirks page.old).tree.forest
-        (state_of S.number S.forest S.quirks page.old).tree.stack)) }
-    ensures seen { IfOk result (λ closed. state_of S.number S.forest S.quirks page.new ≡ (if closed then act
-        (close_foreign tag.now.name) (state_of S.number S.forest S.quirks page.old) else
-        state_of S.number S.forest S.quirks page.old)) }
-    ensures ready { OnOk result (Ready (state_of S.number S.forest S.quirks page.new)) }
+    requires ready { Ready (state_of S.view page.old) }
+    ensures closed { IfOk result (λ closed. closed
+        ≡ is_some (named_foreign tag.now.name (state_of S.view page.old).tree.forest
+        (state_of S.view page.old).tree.stack)) }
+    ensures seen { IfOk result (λ closed. state_of S.view page.new ≡ (if closed then act (close_foreign tag.now.name)
+        (state_of S.view page.old) else state_of S.view page.old)) }
+    ensures ready { OnOk result (Ready (state_of S.view page.new)) }
     ensures memory { IfErr result (λ e. e ≡ Memory) }
 {
     actions_keep_what_is_ready();
@@ -111,9 +109,9 @@ pub fn close_foreign_end<S: TreeSink>(page: &mut Parse<S>, tag: &Tag) -> Result<
 
 // the namespace of the adjusted current node
 fn namespace_here<S: TreeSink>(page: &Parse<S>) -> Result<Namespace, ParseFault>
-    requires ready { Ready (state_of S.number S.forest S.quirks page.now) }
-    ensures namespace { IfOk result (λ ns. ns ≡ namespace_at (state_of S.number S.forest S.quirks page.now).tree.forest
-        (node_here (state_of S.number S.forest S.quirks page.now))) }
+    requires ready { Ready (state_of S.view page.now) }
+    ensures namespace { IfOk result (λ ns. ns ≡ namespace_at (state_of S.view page.now).tree.forest
+        (node_here (state_of S.view page.now))) }
     ensures memory { IfErr result (λ e. e ≡ Memory) }
 {
     let Some(node) = node_here(page) else {
@@ -125,9 +123,9 @@ fn namespace_here<S: TreeSink>(page: &Parse<S>) -> Result<Namespace, ParseFault>
 
 // the adjusted current node
 fn node_here<S: TreeSink>(page: &Parse<S>) -> Option<S::Handle>
-    requires ready { Ready (state_of S.number S.forest S.quirks page.now) }
-    ensures node { option_map S.number result ≡ node_here (state_of S.number S.forest S.quirks page.now) }
-    ensures there { IfSome result (λ node. IsElement (S.number node) (S.forest page.now.tree.sink)) }
+    requires ready { Ready (state_of S.view page.now) }
+    ensures node { option_map S.view.number result ≡ node_here (state_of S.view page.now) }
+    ensures there { IfSome result (λ node. IsElement (S.view.number node) (S.view.forest page.now.tree.sink)) }
 {
     page.adjusted_current_node()
 }

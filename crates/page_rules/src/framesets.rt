@@ -23,11 +23,10 @@ pub fn in_frameset_start<S: TreeSink>(
     group: TagGroup,
     tag: &Tag,
 ) -> Result<Flow<S::Handle>, ParseFault>
-    requires ready { Ready (state_of S.number S.forest S.quirks page.old) }
-    ensures came { IfOk result (λ flow. came_to flow (state_of S.number S.forest S.quirks page.new)
-        ≡ outcome S.handle (in_frameset_start group tag.now (state_of S.number S.forest S.quirks page.old))
-        (state_of S.number S.forest S.quirks page.old)) }
-    ensures ready { OnOk result (Ready (state_of S.number S.forest S.quirks page.new)) }
+    requires ready { Ready (state_of S.view page.old) }
+    ensures came { IfOk result (λ flow. came_to flow (state_of S.view page.new) ≡ outcome S.view.handle
+        (in_frameset_start group tag.now (state_of S.view page.old)) (state_of S.view page.old)) }
+    ensures ready { OnOk result (Ready (state_of S.view page.new)) }
     ensures memory { IfErr result (λ e. e ≡ Memory) }
 {
     match group {
@@ -50,11 +49,10 @@ pub fn in_frameset_end<S: TreeSink>(
     page: &mut Parse<S>,
     group: TagGroup,
 ) -> Result<Flow<S::Handle>, ParseFault>
-    requires ready { Ready (state_of S.number S.forest S.quirks page.old) }
-    ensures came { IfOk result (λ flow. came_to flow (state_of S.number S.forest S.quirks page.new)
-        ≡ outcome S.handle (in_frameset_end group (state_of S.number S.forest S.quirks page.old))
-        (state_of S.number S.forest S.quirks page.old)) }
-    ensures ready { OnOk result (Ready (state_of S.number S.forest S.quirks page.new)) }
+    requires ready { Ready (state_of S.view page.old) }
+    ensures came { IfOk result (λ flow. came_to flow (state_of S.view page.new) ≡ outcome S.view.handle
+        (in_frameset_end group (state_of S.view page.old)) (state_of S.view page.old)) }
+    ensures ready { OnOk result (Ready (state_of S.view page.new)) }
     ensures memory { IfErr result (λ e. e ≡ Memory) }
 {
     match group {
@@ -65,11 +63,10 @@ pub fn in_frameset_end<S: TreeSink>(
 
 // a frameset is closed; the root stays. Behind the outermost frameset of a page the mode is another.
 fn close_frameset<S: TreeSink>(page: &mut Parse<S>) -> Result<Flow<S::Handle>, ParseFault>
-    requires ready { Ready (state_of S.number S.forest S.quirks page.old) }
-    ensures came { IfOk result (λ flow. came_to flow (state_of S.number S.forest S.quirks page.new)
-        ≡ outcome S.handle (frameset_closed (state_of S.number S.forest S.quirks page.old).tree.stack
-        (state_of S.number S.forest S.quirks page.old)) (state_of S.number S.forest S.quirks page.old)) }
-    ensures ready { OnOk result (Ready (state_of S.number S.forest S.quirks page.new)) }
+    requires ready { Ready (state_of S.view page.old) }
+    ensures came { IfOk result (λ flow. came_to flow (state_of S.view page.new) ≡ outcome S.view.handle
+        (frameset_closed (state_of S.view page.old).tree.stack (state_of S.view page.old)) (state_of S.view page.old)) }
+    ensures ready { OnOk result (Ready (state_of S.view page.new)) }
     ensures memory { IfErr result (λ e. e ≡ Memory) }
 {
     let Some(outer) = below_current(page) else {
@@ -91,8 +88,7 @@ fn close_frameset<S: TreeSink>(page: &mut Parse<S>) -> Result<Flow<S::Handle>, P
 
 // the element below the current node
 fn below_current<S: TreeSink>(page: &Parse<S>) -> Option<S::Handle>
-    ensures { option_map S.number result ≡ first_of (below_current
-        (state_of S.number S.forest S.quirks page.now).tree.stack) }
+    ensures { option_map S.view.number result ≡ first_of (below_current (state_of S.view page.now).tree.stack) }
 {
     let (_, lower) = page.tree.held.open_elements().split_last()?;
     lower.last().copied()

@@ -18,11 +18,10 @@ pub fn text_mode_end<S: TreeSink>(
     page: &mut Parse<S>,
     group: TagGroup,
 ) -> Result<Flow<S::Handle>, ParseFault>
-    requires ready { Ready (state_of S.number S.forest S.quirks page.old) }
-    ensures came { IfOk result (λ flow. came_to flow (state_of S.number S.forest S.quirks page.new)
-        ≡ outcome S.handle (text_mode_end group (state_of S.number S.forest S.quirks page.old))
-        (state_of S.number S.forest S.quirks page.old)) }
-    ensures ready { OnOk result (Ready (state_of S.number S.forest S.quirks page.new)) }
+    requires ready { Ready (state_of S.view page.old) }
+    ensures came { IfOk result (λ flow. came_to flow (state_of S.view page.new) ≡ outcome S.view.handle
+        (text_mode_end group (state_of S.view page.old)) (state_of S.view page.old)) }
+    ensures ready { OnOk result (Ready (state_of S.view page.new)) }
     ensures memory { IfErr result (λ e. e ≡ Memory) }
 {
     match group {
@@ -42,10 +41,10 @@ pub fn text_mode_end<S: TreeSink>(
 pub fn text_mode_end_of_file<S: TreeSink>(
     page: &mut Parse<S>,
 ) -> Result<Flow<S::Handle>, ParseFault>
-    requires ready { Ready (state_of S.number S.forest S.quirks page.old) }
-    ensures came { IfOk result (λ flow. came_to flow (state_of S.number S.forest S.quirks page.new)
-        ≡ outcome S.handle text_mode_end_of_file (state_of S.number S.forest S.quirks page.old)) }
-    ensures ready { OnOk result (Ready (state_of S.number S.forest S.quirks page.new)) }
+    requires ready { Ready (state_of S.view page.old) }
+    ensures came { IfOk result (λ flow. came_to flow (state_of S.view page.new) ≡ outcome S.view.handle
+        text_mode_end_of_file (state_of S.view page.old)) }
+    ensures ready { OnOk result (Ready (state_of S.view page.new)) }
     ensures memory { IfErr result (λ e. e ≡ Memory) }
 {
     page.mark_script()?;
@@ -55,10 +54,9 @@ pub fn text_mode_end_of_file<S: TreeSink>(
 
 // the element is popped, and the mode that stood is gone back to
 fn end_text<S: TreeSink>(page: &mut Parse<S>) -> Result<(), ParseFault>
-    requires ready { Ready (state_of S.number S.forest S.quirks page.old) }
-    ensures seen { OnOk result (state_of S.number S.forest S.quirks page.new ≡ act go_back (act pop
-        (state_of S.number S.forest S.quirks page.old))) }
-    ensures ready { OnOk result (Ready (state_of S.number S.forest S.quirks page.new)) }
+    requires ready { Ready (state_of S.view page.old) }
+    ensures seen { OnOk result (state_of S.view page.new ≡ act go_back (act pop (state_of S.view page.old))) }
+    ensures ready { OnOk result (Ready (state_of S.view page.new)) }
     ensures memory { IfErr result (λ e. e ≡ Memory) }
 {
     page.pop()?;
@@ -68,7 +66,7 @@ fn end_text<S: TreeSink>(page: &mut Parse<S>) -> Result<(), ParseFault>
 
 // the current node; the document where nothing is open
 fn current<S: TreeSink>(page: &Parse<S>) -> S::Handle
-    ensures { S.number result ≡ current_of (state_of S.number S.forest S.quirks page.now).tree.stack }
+    ensures { S.view.number result ≡ current_of (state_of S.view page.now).tree.stack }
 {
     match page.tree.current_node() {
         Some(current) => current,

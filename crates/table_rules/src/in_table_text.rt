@@ -19,11 +19,10 @@ use tree_words::InsertionMode;
 
 /// Text of a table: its characters are collected.
 pub fn collect_text<S: TreeSink>(page: &mut Parse<S>) -> Result<Flow<S::Handle>, ParseFault>
-    requires ready { Ready (state_of S.number S.forest S.quirks page.old) }
-    ensures came { IfOk result (λ flow. came_to flow (state_of S.number S.forest S.quirks page.new)
-        ≡ outcome S.handle (again (forget_pending ∷ hold_mode ∷ go_to InTableText ∷ []))
-        (state_of S.number S.forest S.quirks page.old)) }
-    ensures ready { OnOk result (Ready (state_of S.number S.forest S.quirks page.new)) }
+    requires ready { Ready (state_of S.view page.old) }
+    ensures came { IfOk result (λ flow. came_to flow (state_of S.view page.new) ≡ outcome S.view.handle
+        (again (forget_pending ∷ hold_mode ∷ go_to InTableText ∷ [])) (state_of S.view page.old)) }
+    ensures ready { OnOk result (Ready (state_of S.view page.new)) }
     ensures memory { IfErr result (λ e. e ≡ Memory) }
 {
     page.forget_pending();
@@ -34,11 +33,10 @@ pub fn collect_text<S: TreeSink>(page: &mut Parse<S>) -> Result<Flow<S::Handle>,
 
 /// Anything but a character: the pending characters are inserted, and the mode that stood takes the token.
 pub fn in_table_text_other<S: TreeSink>(page: &mut Parse<S>) -> Result<Flow<S::Handle>, ParseFault>
-    requires ready { Ready (state_of S.number S.forest S.quirks page.old) }
-    ensures came { IfOk result (λ flow. came_to flow (state_of S.number S.forest S.quirks page.new)
-        ≡ outcome S.handle (in_table_text_other (state_of S.number S.forest S.quirks page.old))
-        (state_of S.number S.forest S.quirks page.old)) }
-    ensures ready { OnOk result (Ready (state_of S.number S.forest S.quirks page.new)) }
+    requires ready { Ready (state_of S.view page.old) }
+    ensures came { IfOk result (λ flow. came_to flow (state_of S.view page.new) ≡ outcome S.view.handle
+        (in_table_text_other (state_of S.view page.old)) (state_of S.view page.old)) }
+    ensures ready { OnOk result (Ready (state_of S.view page.new)) }
     ensures memory { IfErr result (λ e. e ≡ Memory) }
 {
     let text = take_pending(page);
@@ -50,11 +48,10 @@ pub fn in_table_text_other<S: TreeSink>(page: &mut Parse<S>) -> Result<Flow<S::H
 // The pending characters. None are left.
 #[tactic(auto, unfolding(tree_rules::specs::Actions::act))]
 fn take_pending<S: TreeSink>(page: &mut Parse<S>) -> Text
-    requires ready { Ready (state_of S.number S.forest S.quirks page.old) }
-    ensures text { result ≡ (state_of S.number S.forest S.quirks page.old).pending }
-    ensures seen { state_of S.number S.forest S.quirks page.new ≡ act forget_pending
-        (state_of S.number S.forest S.quirks page.old) }
-    ensures ready { Ready (state_of S.number S.forest S.quirks page.new) }
+    requires ready { Ready (state_of S.view page.old) }
+    ensures text { result ≡ (state_of S.view page.old).pending }
+    ensures seen { state_of S.view page.new ≡ act forget_pending (state_of S.view page.old) }
+    ensures ready { Ready (state_of S.view page.new) }
 {
     actions_keep_what_is_ready();
     let none = Text::from(String::new(*page.kept.template_modes.allocator()));
@@ -63,10 +60,9 @@ fn take_pending<S: TreeSink>(page: &mut Parse<S>) -> Text
 
 // White space alone is inserted; other text as in a body, with foster parenting.
 fn say_pending<S: TreeSink>(page: &mut Parse<S>, text: Text) -> Result<(), ParseFault>
-    requires ready { Ready (state_of S.number S.forest S.quirks page.old) }
-    ensures seen { OnOk result (state_of S.number S.forest S.quirks page.new ≡ act_all (pending_said text)
-        (state_of S.number S.forest S.quirks page.old)) }
-    ensures ready { OnOk result (Ready (state_of S.number S.forest S.quirks page.new)) }
+    requires ready { Ready (state_of S.view page.old) }
+    ensures seen { OnOk result (state_of S.view page.new ≡ act_all (pending_said text) (state_of S.view page.old)) }
+    ensures ready { OnOk result (Ready (state_of S.view page.new)) }
     ensures memory { IfErr result (λ e. e ≡ Memory) }
 {
     if is_all_white_space(text.as_str()) {

@@ -16,65 +16,64 @@ use tree_rules::open_elements_are_elements;
 impl<S: TreeSink> Parse<S> {
     /// Whether an element of a set is in scope.
     pub fn in_scope(&self, wanted: ElementSet<'_>) -> bool
-        requires { Ready (state_of S.number S.forest S.quirks self.now) }
-        ensures { result ≡ in_scope (elements_of wanted.entry) (state_of S.number S.forest S.quirks self.now) }
+        requires { Ready (state_of S.view self.now) }
+        ensures { result ≡ in_scope (elements_of wanted.entry) (state_of S.view self.now) }
     {
         self.tree.in_scope(Scope::Default, wanted)
     }
 
     /// Whether an element of a set is in list item scope.
     pub fn in_list_item_scope(&self, wanted: ElementSet<'_>) -> bool
-        requires { Ready (state_of S.number S.forest S.quirks self.now) }
-        ensures { result
-            ≡ in_list_item_scope (elements_of wanted.entry) (state_of S.number S.forest S.quirks self.now) }
+        requires { Ready (state_of S.view self.now) }
+        ensures { result ≡ in_list_item_scope (elements_of wanted.entry) (state_of S.view self.now) }
     {
         self.tree.in_scope(Scope::ListItemScope, wanted)
     }
 
     /// Whether an element of a set is in button scope.
     pub fn in_button_scope(&self, wanted: ElementSet<'_>) -> bool
-        requires { Ready (state_of S.number S.forest S.quirks self.now) }
-        ensures { result ≡ in_button_scope (elements_of wanted.entry) (state_of S.number S.forest S.quirks self.now) }
+        requires { Ready (state_of S.view self.now) }
+        ensures { result ≡ in_button_scope (elements_of wanted.entry) (state_of S.view self.now) }
     {
         self.tree.in_scope(Scope::ButtonScope, wanted)
     }
 
     /// Whether an element of a set is in table scope.
     pub fn in_table_scope(&self, wanted: ElementSet<'_>) -> bool
-        requires { Ready (state_of S.number S.forest S.quirks self.now) }
-        ensures { result ≡ in_table_scope (elements_of wanted.entry) (state_of S.number S.forest S.quirks self.now) }
+        requires { Ready (state_of S.view self.now) }
+        ensures { result ≡ in_table_scope (elements_of wanted.entry) (state_of S.view self.now) }
     {
         self.tree.in_scope(Scope::TableScope, wanted)
     }
 
     /// Whether an element itself is in scope.
     pub fn is_itself_in_scope(&self, element: S::Handle) -> bool
-        requires { Ready (state_of S.number S.forest S.quirks self.now) }
-        ensures { result ≡ is_itself_in_scope (S.number element) (state_of S.number S.forest S.quirks self.now) }
+        requires { Ready (state_of S.view self.now) }
+        ensures { result ≡ is_itself_in_scope (S.view.number element) (state_of S.view self.now) }
     {
         self.tree.is_element_in_scope(element)
     }
 
     /// Whether a template is open.
     pub fn has_template(&self) -> bool
-        requires { Ready (state_of S.number S.forest S.quirks self.now) }
-        ensures { result ≡ has_template (state_of S.number S.forest S.quirks self.now) }
+        requires { Ready (state_of S.view self.now) }
+        ensures { result ≡ has_template (state_of S.view self.now) }
     {
         self.tree.has_open(ElementSet::Template)
     }
 
     /// Whether a form is open that no template holds.
     pub fn has_form(&self) -> bool
-        requires { Ready (state_of S.number S.forest S.quirks self.now) }
-        ensures { result ≡ has_form (state_of S.number S.forest S.quirks self.now) }
+        requires { Ready (state_of S.view self.now) }
+        ensures { result ≡ has_form (state_of S.view self.now) }
     {
         self.kept.form.is_some() && !self.has_template()
     }
 
     /// Whether the current node is one of a set.
     pub fn current_is(&self, wanted: ElementSet<'_>) -> bool
-        requires { Ready (state_of S.number S.forest S.quirks self.now) }
-        ensures { result ≡ current_is (elements_of wanted.entry) (state_of S.number S.forest S.quirks self.now) }
+        requires { Ready (state_of S.view self.now) }
+        ensures { result ≡ current_is (elements_of wanted.entry) (state_of S.view self.now) }
     {
         match self.tree.current_node() {
             Some(current) => wanted.contains(self.tree.sink.elem_name(current)),
@@ -84,8 +83,8 @@ impl<S: TreeSink> Parse<S> {
 
     /// Whether text is a table's: the current node is a part of a table, or a template.
     pub fn collects_text(&self) -> bool
-        requires { Ready (state_of S.number S.forest S.quirks self.now) }
-        ensures { result ≡ collects_text (state_of S.number S.forest S.quirks self.now) }
+        requires { Ready (state_of S.view self.now) }
+        ensures { result ≡ collects_text (state_of S.view self.now) }
     {
         match self.tree.current_node() {
             Some(current) => collects_table_text(self.tree.sink.elem_name(current)),
@@ -95,21 +94,20 @@ impl<S: TreeSink> Parse<S> {
 
     /// The root, which was opened first.
     pub fn root(&self) -> Option<S::Handle>
-        requires { Ready (state_of S.number S.forest S.quirks self.now) }
-        ensures root { option_map S.number result ≡ first_opened
-            (state_of S.number S.forest S.quirks self.now).tree.stack }
-        ensures there { IfSome result (λ root. is_in (S.number root)
-            (state_of S.number S.forest S.quirks self.now).tree.stack ≡ true) }
+        requires { Ready (state_of S.view self.now) }
+        ensures root { option_map S.view.number result ≡ first_opened (state_of S.view self.now).tree.stack }
+        ensures there { IfSome result (λ root. is_in (S.view.number root) (state_of S.view self.now).tree.stack
+            ≡ true) }
     {
         self.tree.held.open_elements().first().copied()
     }
 
     /// The element that was opened second, where it is a body.
     pub fn body(&self) -> Option<S::Handle>
-        requires { Ready (state_of S.number S.forest S.quirks self.now) }
-        ensures body { option_map S.number result ≡ body_of (state_of S.number S.forest S.quirks self.now) }
-        ensures there { IfSome result (λ body. is_in (S.number body)
-            (state_of S.number S.forest S.quirks self.now).tree.stack ≡ true) }
+        requires { Ready (state_of S.view self.now) }
+        ensures body { option_map S.view.number result ≡ body_of (state_of S.view self.now) }
+        ensures there { IfSome result (λ body. is_in (S.view.number body) (state_of S.view self.now).tree.stack
+            ≡ true) }
     {
         open_elements_are_elements();
         let second = self.second()?;
@@ -122,10 +120,9 @@ impl<S: TreeSink> Parse<S> {
 
     // the element that was opened second
     fn second(&self) -> Option<S::Handle>
-        ensures second { option_map S.number result ≡ second_opened
-            (state_of S.number S.forest S.quirks self.now).tree.stack }
-        ensures there { IfSome result (λ second. is_in (S.number second)
-            (state_of S.number S.forest S.quirks self.now).tree.stack ≡ true) }
+        ensures second { option_map S.view.number result ≡ second_opened (state_of S.view self.now).tree.stack }
+        ensures there { IfSome result (λ second. is_in (S.view.number second) (state_of S.view self.now).tree.stack
+            ≡ true) }
     {
         self.tree.held.open_elements().get(1).copied()
     }

@@ -17,10 +17,9 @@ impl<S: TreeSink> Parse<S> {
     /// The mode becomes another.
     #[tactic(auto, unfolding(tree_rules::specs::Actions::act))]
     pub fn go_to(&mut self, mode: InsertionMode)
-        requires ready { Ready (state_of S.number S.forest S.quirks self.old) }
-        ensures seen { state_of S.number S.forest S.quirks self.new ≡ act (go_to mode)
-            (state_of S.number S.forest S.quirks self.old) }
-        ensures ready { Ready (state_of S.number S.forest S.quirks self.new) }
+        requires ready { Ready (state_of S.view self.old) }
+        ensures seen { state_of S.view self.new ≡ act (go_to mode) (state_of S.view self.old) }
+        ensures ready { Ready (state_of S.view self.new) }
     {
         actions_keep_what_is_ready();
         self.kept.mode = but_text(mode);
@@ -29,10 +28,9 @@ impl<S: TreeSink> Parse<S> {
     /// The mode is kept as the original one.
     #[tactic(auto, unfolding(tree_rules::specs::Actions::act))]
     pub fn hold_mode(&mut self)
-        requires ready { Ready (state_of S.number S.forest S.quirks self.old) }
-        ensures seen { state_of S.number S.forest S.quirks self.new ≡ act hold_mode
-            (state_of S.number S.forest S.quirks self.old) }
-        ensures ready { Ready (state_of S.number S.forest S.quirks self.new) }
+        requires ready { Ready (state_of S.view self.old) }
+        ensures seen { state_of S.view self.new ≡ act hold_mode (state_of S.view self.old) }
+        ensures ready { Ready (state_of S.view self.new) }
     {
         actions_keep_what_is_ready();
         self.kept.original = self.kept.mode;
@@ -41,10 +39,9 @@ impl<S: TreeSink> Parse<S> {
     /// The mode becomes the original one.
     #[tactic(auto, unfolding(tree_rules::specs::Actions::act))]
     pub fn go_back(&mut self)
-        requires ready { Ready (state_of S.number S.forest S.quirks self.old) }
-        ensures seen { state_of S.number S.forest S.quirks self.new ≡ act go_back
-            (state_of S.number S.forest S.quirks self.old) }
-        ensures ready { Ready (state_of S.number S.forest S.quirks self.new) }
+        requires ready { Ready (state_of S.view self.old) }
+        ensures seen { state_of S.view self.new ≡ act go_back (state_of S.view self.old) }
+        ensures ready { Ready (state_of S.view self.new) }
     {
         actions_keep_what_is_ready();
         self.kept.mode = out_of_text(self.kept.original);
@@ -53,10 +50,10 @@ impl<S: TreeSink> Parse<S> {
     /// A template is opened that has a mode.
     #[tactic(auto, unfolding(tree_rules::specs::Actions::act))]
     pub fn push_template_mode(&mut self, mode: InsertionMode) -> Result<(), ParseFault>
-        requires ready { Ready (state_of S.number S.forest S.quirks self.old) }
-        ensures seen { OnOk result (state_of S.number S.forest S.quirks self.new ≡ act (push_template_mode mode)
-            (state_of S.number S.forest S.quirks self.old)) }
-        ensures ready { OnOk result (Ready (state_of S.number S.forest S.quirks self.new)) }
+        requires ready { Ready (state_of S.view self.old) }
+        ensures seen { OnOk result (state_of S.view self.new ≡ act (push_template_mode mode)
+            (state_of S.view self.old)) }
+        ensures ready { OnOk result (Ready (state_of S.view self.new)) }
         ensures memory { IfErr result (λ e. e ≡ Memory) }
     {
         actions_keep_what_is_ready();
@@ -67,10 +64,9 @@ impl<S: TreeSink> Parse<S> {
     /// The last template's mode is dropped.
     #[tactic(auto, unfolding(tree_rules::specs::Actions::act))]
     pub fn pop_template_mode(&mut self)
-        requires ready { Ready (state_of S.number S.forest S.quirks self.old) }
-        ensures seen { state_of S.number S.forest S.quirks self.new ≡ act pop_template_mode
-            (state_of S.number S.forest S.quirks self.old) }
-        ensures ready { Ready (state_of S.number S.forest S.quirks self.new) }
+        requires ready { Ready (state_of S.view self.old) }
+        ensures seen { state_of S.view self.new ≡ act pop_template_mode (state_of S.view self.old) }
+        ensures ready { Ready (state_of S.view self.new) }
     {
         actions_keep_what_is_ready();
         self.kept.template_modes.pop();
@@ -79,10 +75,9 @@ impl<S: TreeSink> Parse<S> {
     /// The current node is the head.
     #[tactic(auto, unfolding(tree_rules::specs::Actions::act))]
     pub fn keep_head(&mut self)
-        requires ready { Ready (state_of S.number S.forest S.quirks self.old) }
-        ensures seen { state_of S.number S.forest S.quirks self.new ≡ act keep_head
-            (state_of S.number S.forest S.quirks self.old) }
-        ensures ready { Ready (state_of S.number S.forest S.quirks self.new) }
+        requires ready { Ready (state_of S.view self.old) }
+        ensures seen { state_of S.view self.new ≡ act keep_head (state_of S.view self.old) }
+        ensures ready { Ready (state_of S.view self.new) }
     {
         actions_keep_what_is_ready();
         self.kept.head = self.tree.current_node();
@@ -91,10 +86,9 @@ impl<S: TreeSink> Parse<S> {
     /// The current node is the form.
     #[tactic(auto, unfolding(tree_rules::specs::Actions::act))]
     pub fn keep_form(&mut self)
-        requires ready { Ready (state_of S.number S.forest S.quirks self.old) }
-        ensures seen { state_of S.number S.forest S.quirks self.new ≡ act keep_form
-            (state_of S.number S.forest S.quirks self.old) }
-        ensures ready { Ready (state_of S.number S.forest S.quirks self.new) }
+        requires ready { Ready (state_of S.view self.old) }
+        ensures seen { state_of S.view self.new ≡ act keep_form (state_of S.view self.old) }
+        ensures ready { Ready (state_of S.view self.new) }
     {
         actions_keep_what_is_ready();
         self.kept.form = self.tree.current_node();
@@ -103,10 +97,9 @@ impl<S: TreeSink> Parse<S> {
     /// No form is open.
     #[tactic(auto, unfolding(tree_rules::specs::Actions::act))]
     pub fn forget_form(&mut self)
-        requires ready { Ready (state_of S.number S.forest S.quirks self.old) }
-        ensures seen { state_of S.number S.forest S.quirks self.new ≡ act forget_form
-            (state_of S.number S.forest S.quirks self.old) }
-        ensures ready { Ready (state_of S.number S.forest S.quirks self.new) }
+        requires ready { Ready (state_of S.view self.old) }
+        ensures seen { state_of S.view self.new ≡ act forget_form (state_of S.view self.old) }
+        ensures ready { Ready (state_of S.view self.new) }
     {
         actions_keep_what_is_ready();
         self.kept.form = None;
@@ -115,10 +108,9 @@ impl<S: TreeSink> Parse<S> {
     /// No frameset may take the body's place.
     #[tactic(auto, unfolding(tree_rules::specs::Actions::act))]
     pub fn refuse_frameset(&mut self)
-        requires ready { Ready (state_of S.number S.forest S.quirks self.old) }
-        ensures seen { state_of S.number S.forest S.quirks self.new ≡ act refuse_frameset
-            (state_of S.number S.forest S.quirks self.old) }
-        ensures ready { Ready (state_of S.number S.forest S.quirks self.new) }
+        requires ready { Ready (state_of S.view self.old) }
+        ensures seen { state_of S.view self.new ≡ act refuse_frameset (state_of S.view self.old) }
+        ensures ready { Ready (state_of S.view self.new) }
     {
         actions_keep_what_is_ready();
         self.kept.frameset_ok = false;
@@ -127,10 +119,9 @@ impl<S: TreeSink> Parse<S> {
     /// A line feed that comes next is left out.
     #[tactic(auto, unfolding(tree_rules::specs::Actions::act))]
     pub fn skip_next_line_feed(&mut self)
-        requires ready { Ready (state_of S.number S.forest S.quirks self.old) }
-        ensures seen { state_of S.number S.forest S.quirks self.new ≡ act skip_next_line_feed
-            (state_of S.number S.forest S.quirks self.old) }
-        ensures ready { Ready (state_of S.number S.forest S.quirks self.new) }
+        requires ready { Ready (state_of S.view self.old) }
+        ensures seen { state_of S.view self.new ≡ act skip_next_line_feed (state_of S.view self.old) }
+        ensures ready { Ready (state_of S.view self.new) }
     {
         actions_keep_what_is_ready();
         self.kept.skip_lf = true;
@@ -139,10 +130,9 @@ impl<S: TreeSink> Parse<S> {
     /// The mode is reset to what the open elements ask for (WHATWG HTML, 13.2.4.1).
     #[tactic(auto, unfolding(tree_rules::specs::Actions::act))]
     pub fn reset(&mut self)
-        requires ready { Ready (state_of S.number S.forest S.quirks self.old) }
-        ensures seen { state_of S.number S.forest S.quirks self.new ≡ act reset
-            (state_of S.number S.forest S.quirks self.old) }
-        ensures ready { Ready (state_of S.number S.forest S.quirks self.new) }
+        requires ready { Ready (state_of S.view self.old) }
+        ensures seen { state_of S.view self.new ≡ act reset (state_of S.view self.old) }
+        ensures ready { Ready (state_of S.view self.new) }
     {
         actions_keep_what_is_ready();
         self.kept.mode = but_text(self.mode_by_elements());
@@ -150,8 +140,8 @@ impl<S: TreeSink> Parse<S> {
 
     // the mode that the open elements ask for
     fn mode_by_elements(&self) -> InsertionMode
-        requires { Ready (state_of S.number S.forest S.quirks self.now) }
-        ensures { result ≡ mode_by_elements (state_of S.number S.forest S.quirks self.now) }
+        requires { Ready (state_of S.view self.now) }
+        ensures { result ≡ mode_by_elements (state_of S.view self.now) }
     {
         let has_head = self.kept.head.is_some();
         let template_mode = self.kept.template_modes.last().copied();
@@ -170,10 +160,9 @@ impl<S: TreeSink> Parse<S> {
     /// The pending characters are dropped.
     #[tactic(auto, unfolding(tree_rules::specs::Actions::act))]
     pub fn forget_pending(&mut self)
-        requires ready { Ready (state_of S.number S.forest S.quirks self.old) }
-        ensures seen { state_of S.number S.forest S.quirks self.new ≡ act forget_pending
-            (state_of S.number S.forest S.quirks self.old) }
-        ensures ready { Ready (state_of S.number S.forest S.quirks self.new) }
+        requires ready { Ready (state_of S.view self.old) }
+        ensures seen { state_of S.view self.new ≡ act forget_pending (state_of S.view self.old) }
+        ensures ready { Ready (state_of S.view self.new) }
     {
         actions_keep_what_is_ready();
         self.kept.pending = Text::from(String::new(*self.kept.template_modes.allocator()));
@@ -182,10 +171,10 @@ impl<S: TreeSink> Parse<S> {
     /// Characters are put behind the pending ones.
     #[tactic(auto, unfolding(tree_rules::specs::Actions::act))]
     pub fn keep_pending(&mut self, more: &str) -> Result<(), ParseFault>
-        requires ready { Ready (state_of S.number S.forest S.quirks self.old) }
-        ensures seen { OnOk result (state_of S.number S.forest S.quirks self.new ≡ fold (λ s c. act (keep_pending c) s)
-            (state_of S.number S.forest S.quirks self.old) (chars more.now)) }
-        ensures ready { OnOk result (Ready (state_of S.number S.forest S.quirks self.new)) }
+        requires ready { Ready (state_of S.view self.old) }
+        ensures seen { OnOk result (state_of S.view self.new ≡ fold (λ s c. act (keep_pending c) s)
+            (state_of S.view self.old) (chars more.now)) }
+        ensures ready { OnOk result (Ready (state_of S.view self.new)) }
         ensures memory { IfErr result (λ e. e ≡ Memory) }
     {
         actions_keep_what_is_ready();

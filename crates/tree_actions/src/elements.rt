@@ -20,10 +20,10 @@ impl<S: TreeSink> Parse<S> {
     /// An element is inserted for a tag ("insert an HTML element").
     #[tactic(auto, unfolding(tree_rules::specs::Actions::act))]
     pub fn insert(&mut self, tag: &Tag) -> Result<(), ParseFault>
-        requires ready { Ready (state_of S.number S.forest S.quirks self.old) }
-        ensures seen { OnOk result (state_of S.number S.forest S.quirks self.new ≡ act (insert at_place tag.now)
-            (state_of S.number S.forest S.quirks self.old)) }
-        ensures ready { OnOk result (Ready (state_of S.number S.forest S.quirks self.new)) }
+        requires ready { Ready (state_of S.view self.old) }
+        ensures seen { OnOk result (state_of S.view self.new ≡ act (insert at_place tag.now)
+            (state_of S.view self.old)) }
+        ensures ready { OnOk result (Ready (state_of S.view self.new)) }
         ensures memory { IfErr result (λ e. e ≡ Memory) }
     {
         actions_keep_what_is_ready();
@@ -36,10 +36,10 @@ impl<S: TreeSink> Parse<S> {
     /// An element without contents is inserted for a tag, and popped at once.
     #[tactic(auto, unfolding(tree_rules::specs::Actions::act))]
     pub fn insert_void(&mut self, tag: &Tag) -> Result<(), ParseFault>
-        requires ready { Ready (state_of S.number S.forest S.quirks self.old) }
-        ensures seen { OnOk result (state_of S.number S.forest S.quirks self.new ≡ act (insert_void at_place tag.now)
-            (state_of S.number S.forest S.quirks self.old)) }
-        ensures ready { OnOk result (Ready (state_of S.number S.forest S.quirks self.new)) }
+        requires ready { Ready (state_of S.view self.old) }
+        ensures seen { OnOk result (state_of S.view self.new ≡ act (insert_void at_place tag.now)
+            (state_of S.view self.old)) }
+        ensures ready { OnOk result (Ready (state_of S.view self.new)) }
         ensures memory { IfErr result (λ e. e ≡ Memory) }
     {
         actions_keep_what_is_ready();
@@ -52,10 +52,10 @@ impl<S: TreeSink> Parse<S> {
     /// An element is inserted for a tag, into the head where that is known.
     #[tactic(auto, unfolding(tree_rules::specs::Actions::act))]
     pub fn insert_into_head(&mut self, tag: &Tag) -> Result<(), ParseFault>
-        requires ready { Ready (state_of S.number S.forest S.quirks self.old) }
-        ensures seen { OnOk result (state_of S.number S.forest S.quirks self.new ≡ act (insert into_head tag.now)
-            (state_of S.number S.forest S.quirks self.old)) }
-        ensures ready { OnOk result (Ready (state_of S.number S.forest S.quirks self.new)) }
+        requires ready { Ready (state_of S.view self.old) }
+        ensures seen { OnOk result (state_of S.view self.new ≡ act (insert into_head tag.now)
+            (state_of S.view self.old)) }
+        ensures ready { OnOk result (Ready (state_of S.view self.new)) }
         ensures memory { IfErr result (λ e. e ≡ Memory) }
     {
         actions_keep_what_is_ready();
@@ -71,10 +71,10 @@ impl<S: TreeSink> Parse<S> {
     /// An element without contents is inserted for a tag, into the head where that is known, and popped at once.
     #[tactic(auto, unfolding(tree_rules::specs::Actions::act))]
     pub fn insert_void_into_head(&mut self, tag: &Tag) -> Result<(), ParseFault>
-        requires ready { Ready (state_of S.number S.forest S.quirks self.old) }
-        ensures seen { OnOk result (state_of S.number S.forest S.quirks self.new ≡ act (insert_void into_head tag.now)
-            (state_of S.number S.forest S.quirks self.old)) }
-        ensures ready { OnOk result (Ready (state_of S.number S.forest S.quirks self.new)) }
+        requires ready { Ready (state_of S.view self.old) }
+        ensures seen { OnOk result (state_of S.view self.new ≡ act (insert_void into_head tag.now)
+            (state_of S.view self.old)) }
+        ensures ready { OnOk result (Ready (state_of S.view self.new)) }
         ensures memory { IfErr result (λ e. e ≡ Memory) }
     {
         actions_keep_what_is_ready();
@@ -95,11 +95,10 @@ impl<S: TreeSink> Parse<S> {
     /// An element of a name, a word of ASCII characters, is inserted without attributes.
     #[tactic(auto, unfolding(tree_rules::specs::Actions::act))]
     pub fn insert_named(&mut self, word: &str) -> Result<(), ParseFault>
-        requires ready { Ready (state_of S.number S.forest S.quirks self.old) }
+        requires ready { Ready (state_of S.view self.old) }
         requires ascii { IsTrue (is_ascii_word word.now) }
-        ensures seen { OnOk result (state_of S.number S.forest S.quirks self.new ≡ act (insert_named word.now)
-            (state_of S.number S.forest S.quirks self.old)) }
-        ensures ready { OnOk result (Ready (state_of S.number S.forest S.quirks self.new)) }
+        ensures seen { OnOk result (state_of S.view self.new ≡ act (insert_named word.now) (state_of S.view self.old)) }
+        ensures ready { OnOk result (Ready (state_of S.view self.new)) }
         ensures memory { IfErr result (λ e. e ≡ Memory) }
     {
         actions_keep_what_is_ready();
@@ -113,10 +112,9 @@ impl<S: TreeSink> Parse<S> {
     /// A comment is inserted.
     #[tactic(auto, unfolding(tree_rules::specs::Actions::act))]
     pub fn insert_comment(&mut self, text: Text) -> Result<(), ParseFault>
-        requires ready { Ready (state_of S.number S.forest S.quirks self.old) }
-        ensures seen { OnOk result (state_of S.number S.forest S.quirks self.new ≡ act (insert_comment text)
-            (state_of S.number S.forest S.quirks self.old)) }
-        ensures ready { OnOk result (Ready (state_of S.number S.forest S.quirks self.new)) }
+        requires ready { Ready (state_of S.view self.old) }
+        ensures seen { OnOk result (state_of S.view self.new ≡ act (insert_comment text) (state_of S.view self.old)) }
+        ensures ready { OnOk result (Ready (state_of S.view self.new)) }
         ensures memory { IfErr result (λ e. e ≡ Memory) }
     {
         actions_keep_what_is_ready();
@@ -127,10 +125,10 @@ impl<S: TreeSink> Parse<S> {
     /// A comment is put behind the children of the document.
     #[tactic(auto, unfolding(tree_rules::specs::Actions::act))]
     pub fn comment_to_document(&mut self, text: Text) -> Result<(), ParseFault>
-        requires ready { Ready (state_of S.number S.forest S.quirks self.old) }
-        ensures seen { OnOk result (state_of S.number S.forest S.quirks self.new ≡ act (comment_to_document text)
-            (state_of S.number S.forest S.quirks self.old)) }
-        ensures ready { OnOk result (Ready (state_of S.number S.forest S.quirks self.new)) }
+        requires ready { Ready (state_of S.view self.old) }
+        ensures seen { OnOk result (state_of S.view self.new ≡ act (comment_to_document text)
+            (state_of S.view self.old)) }
+        ensures ready { OnOk result (Ready (state_of S.view self.new)) }
         ensures memory { IfErr result (λ e. e ≡ Memory) }
     {
         actions_keep_what_is_ready();
@@ -141,10 +139,9 @@ impl<S: TreeSink> Parse<S> {
     /// A comment is put behind the children of the root.
     #[tactic(auto, unfolding(tree_rules::specs::Actions::act))]
     pub fn comment_to_root(&mut self, text: Text) -> Result<(), ParseFault>
-        requires ready { Ready (state_of S.number S.forest S.quirks self.old) }
-        ensures seen { OnOk result (state_of S.number S.forest S.quirks self.new ≡ act (comment_to_root text)
-            (state_of S.number S.forest S.quirks self.old)) }
-        ensures ready { OnOk result (Ready (state_of S.number S.forest S.quirks self.new)) }
+        requires ready { Ready (state_of S.view self.old) }
+        ensures seen { OnOk result (state_of S.view self.new ≡ act (comment_to_root text) (state_of S.view self.old)) }
+        ensures ready { OnOk result (Ready (state_of S.view self.new)) }
         ensures memory { IfErr result (λ e. e ≡ Memory) }
     {
         actions_keep_what_is_ready();
@@ -155,10 +152,10 @@ impl<S: TreeSink> Parse<S> {
     /// A doctype is put behind the children of the document.
     #[tactic(auto, unfolding(tree_rules::specs::Actions::act))]
     pub fn append_doctype(&mut self, doctype: Doctype) -> Result<(), ParseFault>
-        requires ready { Ready (state_of S.number S.forest S.quirks self.old) }
-        ensures seen { OnOk result (state_of S.number S.forest S.quirks self.new ≡ act (append_doctype doctype)
-            (state_of S.number S.forest S.quirks self.old)) }
-        ensures ready { OnOk result (Ready (state_of S.number S.forest S.quirks self.new)) }
+        requires ready { Ready (state_of S.view self.old) }
+        ensures seen { OnOk result (state_of S.view self.new
+            ≡ act (append_doctype doctype) (state_of S.view self.old)) }
+        ensures ready { OnOk result (Ready (state_of S.view self.new)) }
         ensures memory { IfErr result (λ e. e ≡ Memory) }
     {
         actions_keep_what_is_ready();
@@ -169,10 +166,9 @@ impl<S: TreeSink> Parse<S> {
     /// The quirks mode is set.
     #[tactic(auto, unfolding(tree_rules::specs::Actions::act))]
     pub fn set_quirks(&mut self, mode: QuirksMode) -> Result<(), ParseFault>
-        requires ready { Ready (state_of S.number S.forest S.quirks self.old) }
-        ensures seen { OnOk result (state_of S.number S.forest S.quirks self.new ≡ act (set_quirks mode)
-            (state_of S.number S.forest S.quirks self.old)) }
-        ensures ready { OnOk result (Ready (state_of S.number S.forest S.quirks self.new)) }
+        requires ready { Ready (state_of S.view self.old) }
+        ensures seen { OnOk result (state_of S.view self.new ≡ act (set_quirks mode) (state_of S.view self.old)) }
+        ensures ready { OnOk result (Ready (state_of S.view self.new)) }
         ensures memory { IfErr result (λ e. e ≡ Memory) }
     {
         actions_keep_what_is_ready();
@@ -184,10 +180,9 @@ impl<S: TreeSink> Parse<S> {
     /// Characters are inserted.
     #[tactic(auto, unfolding(tree_rules::specs::Actions::act))]
     pub fn say(&mut self, text: Text) -> Result<(), ParseFault>
-        requires ready { Ready (state_of S.number S.forest S.quirks self.old) }
-        ensures seen { OnOk result (state_of S.number S.forest S.quirks self.new ≡ act (say text)
-            (state_of S.number S.forest S.quirks self.old)) }
-        ensures ready { OnOk result (Ready (state_of S.number S.forest S.quirks self.new)) }
+        requires ready { Ready (state_of S.view self.old) }
+        ensures seen { OnOk result (state_of S.view self.new ≡ act (say text) (state_of S.view self.old)) }
+        ensures ready { OnOk result (Ready (state_of S.view self.new)) }
         ensures memory { IfErr result (λ e. e ≡ Memory) }
     {
         actions_keep_what_is_ready();
@@ -202,11 +197,11 @@ impl<S: TreeSink> Parse<S> {
         element: S::Handle,
         attrs: &Attributes,
     ) -> Result<(), ParseFault>
-        requires ready { Ready (state_of S.number S.forest S.quirks self.old) }
-        requires there { is_in (S.number element) (state_of S.number S.forest S.quirks self.old).tree.stack ≡ true }
-        ensures seen { OnOk result (state_of S.number S.forest S.quirks self.new ≡ act (add_attributes (S.number
-            element) attrs.now) (state_of S.number S.forest S.quirks self.old)) }
-        ensures ready { OnOk result (Ready (state_of S.number S.forest S.quirks self.new)) }
+        requires ready { Ready (state_of S.view self.old) }
+        requires there { is_in (S.view.number element) (state_of S.view self.old).tree.stack ≡ true }
+        ensures seen { OnOk result (state_of S.view self.new ≡ act (add_attributes (S.view.number element) attrs.now)
+            (state_of S.view self.old)) }
+        ensures ready { OnOk result (Ready (state_of S.view self.new)) }
         ensures memory { IfErr result (λ e. e ≡ Memory) }
     {
         actions_keep_what_is_ready();
@@ -219,10 +214,9 @@ impl<S: TreeSink> Parse<S> {
     /// Foster parenting is turned on or off.
     #[tactic(auto, unfolding(tree_rules::specs::Actions::act))]
     pub fn set_fostering(&mut self, is_on: bool)
-        requires ready { Ready (state_of S.number S.forest S.quirks self.old) }
-        ensures seen { state_of S.number S.forest S.quirks self.new ≡ act (foster is_on)
-            (state_of S.number S.forest S.quirks self.old) }
-        ensures ready { Ready (state_of S.number S.forest S.quirks self.new) }
+        requires ready { Ready (state_of S.view self.old) }
+        ensures seen { state_of S.view self.new ≡ act (foster is_on) (state_of S.view self.old) }
+        ensures ready { Ready (state_of S.view self.new) }
     {
         actions_keep_what_is_ready();
         self.tree.held.set_fostering(is_on);
@@ -232,11 +226,11 @@ impl<S: TreeSink> Parse<S> {
     /// once.
     #[tactic(auto, unfolding(tree_rules::specs::Actions::act))]
     pub fn insert_void_as(&mut self, word: &str, tag: &Tag) -> Result<(), ParseFault>
-        requires ready { Ready (state_of S.number S.forest S.quirks self.old) }
+        requires ready { Ready (state_of S.view self.old) }
         requires ascii { IsTrue (is_ascii_word word.now) }
-        ensures seen { OnOk result (state_of S.number S.forest S.quirks self.new ≡ act (insert_void at_place (record
-            tag.now { name = word.now })) (state_of S.number S.forest S.quirks self.old)) }
-        ensures ready { OnOk result (Ready (state_of S.number S.forest S.quirks self.new)) }
+        ensures seen { OnOk result (state_of S.view self.new ≡ act (insert_void at_place (record
+            tag.now { name = word.now })) (state_of S.view self.old)) }
+        ensures ready { OnOk result (Ready (state_of S.view self.new)) }
         ensures memory { IfErr result (λ e. e ≡ Memory) }
     {
         actions_keep_what_is_ready();
@@ -250,11 +244,11 @@ impl<S: TreeSink> Parse<S> {
     /// An element of a name, a word of ASCII characters, is inserted without attributes, and popped at once.
     #[tactic(auto, unfolding(tree_rules::specs::Actions::act))]
     pub fn insert_void_named(&mut self, word: &str) -> Result<(), ParseFault>
-        requires ready { Ready (state_of S.number S.forest S.quirks self.old) }
+        requires ready { Ready (state_of S.view self.old) }
         requires ascii { IsTrue (is_ascii_word word.now) }
-        ensures seen { OnOk result (state_of S.number S.forest S.quirks self.new ≡ act (insert_void at_place (bare
-            word.now)) (state_of S.number S.forest S.quirks self.old)) }
-        ensures ready { OnOk result (Ready (state_of S.number S.forest S.quirks self.new)) }
+        ensures seen { OnOk result (state_of S.view self.new ≡ act (insert_void at_place (bare word.now))
+            (state_of S.view self.old)) }
+        ensures ready { OnOk result (Ready (state_of S.view self.new)) }
         ensures memory { IfErr result (λ e. e ≡ Memory) }
     {
         actions_keep_what_is_ready();
@@ -267,10 +261,9 @@ impl<S: TreeSink> Parse<S> {
 
     /// An element is inserted for a tag, at the appropriate place or into the head.
     pub fn insert_at(&mut self, target: Target, tag: &Tag) -> Result<(), ParseFault>
-        requires ready { Ready (state_of S.number S.forest S.quirks self.old) }
-        ensures seen { OnOk result (state_of S.number S.forest S.quirks self.new ≡ act (insert target tag.now)
-            (state_of S.number S.forest S.quirks self.old)) }
-        ensures ready { OnOk result (Ready (state_of S.number S.forest S.quirks self.new)) }
+        requires ready { Ready (state_of S.view self.old) }
+        ensures seen { OnOk result (state_of S.view self.new ≡ act (insert target tag.now) (state_of S.view self.old)) }
+        ensures ready { OnOk result (Ready (state_of S.view self.new)) }
         ensures memory { IfErr result (λ e. e ≡ Memory) }
     {
         match target {
@@ -281,10 +274,10 @@ impl<S: TreeSink> Parse<S> {
 
     /// An element without contents is inserted for a tag, at the appropriate place or into the head.
     pub fn insert_void_at(&mut self, target: Target, tag: &Tag) -> Result<(), ParseFault>
-        requires ready { Ready (state_of S.number S.forest S.quirks self.old) }
-        ensures seen { OnOk result (state_of S.number S.forest S.quirks self.new ≡ act (insert_void target tag.now)
-            (state_of S.number S.forest S.quirks self.old)) }
-        ensures ready { OnOk result (Ready (state_of S.number S.forest S.quirks self.new)) }
+        requires ready { Ready (state_of S.view self.old) }
+        ensures seen { OnOk result (state_of S.view self.new ≡ act (insert_void target tag.now)
+            (state_of S.view self.old)) }
+        ensures ready { OnOk result (Ready (state_of S.view self.new)) }
         ensures memory { IfErr result (λ e. e ≡ Memory) }
     {
         match target {

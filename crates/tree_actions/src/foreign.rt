@@ -16,11 +16,10 @@ impl<S: TreeSink> Parse<S> {
     /// The adjusted current node: a fragment's context while no more than its root is open, else the current node
     /// (WHATWG HTML, 13.2.4.2).
     pub fn adjusted_current_node(&self) -> Option<S::Handle>
-        requires ready { Ready (state_of S.number S.forest S.quirks self.now) }
-        ensures node { option_map S.number result ≡ adjusted_current
-            (state_of S.number S.forest S.quirks self.now).context
-            (state_of S.number S.forest S.quirks self.now).tree.stack }
-        ensures there { IfSome result (λ node. IsElement (S.number node) (S.forest self.now.tree.sink)) }
+        requires ready { Ready (state_of S.view self.now) }
+        ensures node { option_map S.view.number result ≡ adjusted_current (state_of S.view self.now).context
+            (state_of S.view self.now).tree.stack }
+        ensures there { IfSome result (λ node. IsElement (S.view.number node) (S.view.forest self.now.tree.sink)) }
     {
         adjusted_current_nodes_are_elements();
         let node = self.tree.adjusted_current_node(self.kept.context)?;
@@ -30,10 +29,10 @@ impl<S: TreeSink> Parse<S> {
     /// An element is inserted for a tag in a namespace; one that closes itself is popped at once.
     #[tactic(auto, unfolding(tree_rules::specs::Actions::act))]
     pub fn insert_foreign(&mut self, ns: Namespace, tag: &Tag) -> Result<(), ParseFault>
-        requires ready { Ready (state_of S.number S.forest S.quirks self.old) }
-        ensures seen { OnOk result (state_of S.number S.forest S.quirks self.new ≡ act (insert_foreign ns tag.now)
-            (state_of S.number S.forest S.quirks self.old)) }
-        ensures ready { OnOk result (Ready (state_of S.number S.forest S.quirks self.new)) }
+        requires ready { Ready (state_of S.view self.old) }
+        ensures seen { OnOk result (state_of S.view self.new ≡ act (insert_foreign ns tag.now)
+            (state_of S.view self.old)) }
+        ensures ready { OnOk result (Ready (state_of S.view self.new)) }
         ensures memory { IfErr result (λ e. e ≡ Memory) }
     {
         actions_keep_what_is_ready();
@@ -51,10 +50,9 @@ impl<S: TreeSink> Parse<S> {
     /// Elements are popped until breaking out of foreign content stops.
     #[tactic(auto, unfolding(tree_rules::specs::Actions::act))]
     pub fn break_out(&mut self) -> Result<(), ParseFault>
-        requires ready { Ready (state_of S.number S.forest S.quirks self.old) }
-        ensures seen { OnOk result (state_of S.number S.forest S.quirks self.new ≡ act break_out
-            (state_of S.number S.forest S.quirks self.old)) }
-        ensures ready { OnOk result (Ready (state_of S.number S.forest S.quirks self.new)) }
+        requires ready { Ready (state_of S.view self.old) }
+        ensures seen { OnOk result (state_of S.view self.new ≡ act break_out (state_of S.view self.old)) }
+        ensures ready { OnOk result (Ready (state_of S.view self.new)) }
         ensures memory { IfErr result (λ e. e ≡ Memory) }
     {
         actions_keep_what_is_ready();
@@ -65,10 +63,10 @@ impl<S: TreeSink> Parse<S> {
     /// An element of foreign content is closed that has a name.
     #[tactic(auto, unfolding(tree_rules::specs::Actions::act))]
     pub fn close_foreign(&mut self, name: &LocalName) -> Result<(), ParseFault>
-        requires ready { Ready (state_of S.number S.forest S.quirks self.old) }
-        ensures seen { OnOk result (state_of S.number S.forest S.quirks self.new ≡ act (close_foreign name.now)
-            (state_of S.number S.forest S.quirks self.old)) }
-        ensures ready { OnOk result (Ready (state_of S.number S.forest S.quirks self.new)) }
+        requires ready { Ready (state_of S.view self.old) }
+        ensures seen { OnOk result (state_of S.view self.new
+            ≡ act (close_foreign name.now) (state_of S.view self.old)) }
+        ensures ready { OnOk result (Ready (state_of S.view self.new)) }
         ensures memory { IfErr result (λ e. e ≡ Memory) }
     {
         actions_keep_what_is_ready();
@@ -79,10 +77,10 @@ impl<S: TreeSink> Parse<S> {
     /// A node is taken out of the tree; it stays open.
     #[tactic(auto, unfolding(tree_rules::specs::Actions::act))]
     pub fn take_out(&mut self, element: S::Handle) -> Result<(), ParseFault>
-        requires ready { Ready (state_of S.number S.forest S.quirks self.old) }
-        ensures seen { OnOk result (state_of S.number S.forest S.quirks self.new ≡ act (take_out (S.number element))
-            (state_of S.number S.forest S.quirks self.old)) }
-        ensures ready { OnOk result (Ready (state_of S.number S.forest S.quirks self.new)) }
+        requires ready { Ready (state_of S.view self.old) }
+        ensures seen { OnOk result (state_of S.view self.new ≡ act (take_out (S.view.number element))
+            (state_of S.view self.old)) }
+        ensures ready { OnOk result (Ready (state_of S.view self.new)) }
         ensures memory { IfErr result (λ e. e ≡ Memory) }
     {
         actions_keep_what_is_ready();

@@ -22,9 +22,9 @@ impl<S: TreeSink> Parse<S> {
         name: QualName,
         attrs: Attributes,
     ) -> Result<(), ParseFault>
-        requires ready { Ready (state_of S.number S.forest S.quirks self.old) }
-        ensures seen { OnOk result (state_of S.number S.forest S.quirks self.new ≡ with_tree (λ b. inserted_by push
-            (here b) name attrs b) (state_of S.number S.forest S.quirks self.old)) }
+        requires ready { Ready (state_of S.view self.old) }
+        ensures seen { OnOk result (state_of S.view self.new ≡ with_tree (λ b. inserted_by push (here b) name attrs b)
+            (state_of S.view self.old)) }
         ensures memory { IfErr result (λ e. e ≡ Memory) }
     {
         let Some(form) = self.form_owner(&name, &attrs) else {
@@ -39,9 +39,8 @@ impl<S: TreeSink> Parse<S> {
 
     // the form that an element of a name and attributes belongs to
     fn form_owner(&self, name: &QualName, attrs: &Attributes) -> Option<S::Handle>
-        requires { Ready (state_of S.number S.forest S.quirks self.now) }
-        ensures { option_map S.number result ≡ form_owner name.now attrs.now
-            (state_of S.number S.forest S.quirks self.now) }
+        requires { Ready (state_of S.view self.now) }
+        ensures { option_map S.view.number result ≡ form_owner name.now attrs.now (state_of S.view self.now) }
     {
         if self.has_form() && takes_form(name, attrs) {
             self.kept.form
@@ -57,7 +56,7 @@ impl<S: TreeSink> Parse<S> {
         form: S::Handle,
         point: InsertionPoint<S::Handle>,
     ) -> Result<(), ParseFault>
-        ensures seen { state_of S.number S.forest S.quirks self.new ≡ state_of S.number S.forest S.quirks self.old }
+        ensures seen { state_of S.view self.new ≡ state_of S.view self.old }
         ensures memory { IfErr result (λ e. e ≡ Memory) }
     {
         let (place, above) = match point {

@@ -13,9 +13,9 @@ use name_sets::is_html;
 impl<S: TreeSink> Parse<S> {
     /// The sink of trees is told that the current node must not run, where it is a script. No node changes.
     pub fn mark_script(&mut self) -> Result<(), ParseFault>
-        requires ready { Ready (state_of S.number S.forest S.quirks self.old) }
-        ensures seen { state_of S.number S.forest S.quirks self.new ≡ state_of S.number S.forest S.quirks self.old }
-        ensures ready { Ready (state_of S.number S.forest S.quirks self.new) }
+        requires ready { Ready (state_of S.view self.old) }
+        ensures seen { state_of S.view self.new ≡ state_of S.view self.old }
+        ensures ready { Ready (state_of S.view self.new) }
         ensures memory { IfErr result (λ e. e ≡ Memory) }
     {
         let Some(script) = self.open_script() else {
@@ -26,9 +26,9 @@ impl<S: TreeSink> Parse<S> {
 
     /// The same of a fragment alone.
     pub fn mark_script_of_fragment(&mut self) -> Result<(), ParseFault>
-        requires ready { Ready (state_of S.number S.forest S.quirks self.old) }
-        ensures seen { state_of S.number S.forest S.quirks self.new ≡ state_of S.number S.forest S.quirks self.old }
-        ensures ready { Ready (state_of S.number S.forest S.quirks self.new) }
+        requires ready { Ready (state_of S.view self.old) }
+        ensures seen { state_of S.view self.new ≡ state_of S.view self.old }
+        ensures ready { Ready (state_of S.view self.new) }
         ensures memory { IfErr result (λ e. e ≡ Memory) }
     {
         if self.kept.context.is_none() {
@@ -39,8 +39,8 @@ impl<S: TreeSink> Parse<S> {
 
     // the current node, where it is a script
     fn open_script(&self) -> Option<S::Handle>
-        requires { Ready (state_of S.number S.forest S.quirks self.now) }
-        ensures { IfSome result (λ script. IsElement (S.number script) (S.forest self.now.tree.sink)) }
+        requires { Ready (state_of S.view self.now) }
+        ensures { IfSome result (λ script. IsElement (S.view.number script) (S.view.forest self.now.tree.sink)) }
     {
         let current = self.tree.current_node()?;
         if is_html(self.tree.sink.elem_name(current), "script") {

@@ -22,10 +22,9 @@ impl<S: TreeSink> Parse<S> {
     /// The current node is popped.
     #[tactic(auto, unfolding(tree_rules::specs::Actions::act))]
     pub fn pop(&mut self) -> Result<(), ParseFault>
-        requires ready { Ready (state_of S.number S.forest S.quirks self.old) }
-        ensures seen { OnOk result (state_of S.number S.forest S.quirks self.new ≡ act pop
-            (state_of S.number S.forest S.quirks self.old)) }
-        ensures ready { OnOk result (Ready (state_of S.number S.forest S.quirks self.new)) }
+        requires ready { Ready (state_of S.view self.old) }
+        ensures seen { OnOk result (state_of S.view self.new ≡ act pop (state_of S.view self.old)) }
+        ensures ready { OnOk result (Ready (state_of S.view self.new)) }
         ensures memory { IfErr result (λ e. e ≡ Memory) }
     {
         actions_keep_what_is_ready();
@@ -36,10 +35,10 @@ impl<S: TreeSink> Parse<S> {
     /// The current node is popped, where it is one of a set.
     #[tactic(auto, unfolding(tree_rules::specs::Actions::act))]
     pub fn pop_if(&mut self, set: ElementSet<'_>) -> Result<(), ParseFault>
-        requires ready { Ready (state_of S.number S.forest S.quirks self.old) }
-        ensures seen { OnOk result (state_of S.number S.forest S.quirks self.new ≡ act (pop_if (elements_of set.entry))
-            (state_of S.number S.forest S.quirks self.old)) }
-        ensures ready { OnOk result (Ready (state_of S.number S.forest S.quirks self.new)) }
+        requires ready { Ready (state_of S.view self.old) }
+        ensures seen { OnOk result (state_of S.view self.new ≡ act (pop_if (elements_of set.entry))
+            (state_of S.view self.old)) }
+        ensures ready { OnOk result (Ready (state_of S.view self.new)) }
         ensures memory { IfErr result (λ e. e ≡ Memory) }
     {
         actions_keep_what_is_ready();
@@ -52,10 +51,10 @@ impl<S: TreeSink> Parse<S> {
     /// The open elements up to the first one of a set are popped, and that one.
     #[tactic(auto, unfolding(tree_rules::specs::Actions::act))]
     pub fn pop_to(&mut self, set: ElementSet<'_>) -> Result<(), ParseFault>
-        requires ready { Ready (state_of S.number S.forest S.quirks self.old) }
-        ensures seen { OnOk result (state_of S.number S.forest S.quirks self.new ≡ act (pop_to (elements_of set.entry))
-            (state_of S.number S.forest S.quirks self.old)) }
-        ensures ready { OnOk result (Ready (state_of S.number S.forest S.quirks self.new)) }
+        requires ready { Ready (state_of S.view self.old) }
+        ensures seen { OnOk result (state_of S.view self.new ≡ act (pop_to (elements_of set.entry))
+            (state_of S.view self.old)) }
+        ensures ready { OnOk result (Ready (state_of S.view self.new)) }
         ensures memory { IfErr result (λ e. e ≡ Memory) }
     {
         actions_keep_what_is_ready();
@@ -66,10 +65,10 @@ impl<S: TreeSink> Parse<S> {
     /// The open elements up to the first one of a set are popped; that one stays.
     #[tactic(auto, unfolding(tree_rules::specs::Actions::act))]
     pub fn pop_down_to(&mut self, set: ElementSet<'_>) -> Result<(), ParseFault>
-        requires ready { Ready (state_of S.number S.forest S.quirks self.old) }
-        ensures seen { OnOk result (state_of S.number S.forest S.quirks self.new ≡ act (pop_down_to (elements_of
-            set.entry)) (state_of S.number S.forest S.quirks self.old)) }
-        ensures ready { OnOk result (Ready (state_of S.number S.forest S.quirks self.new)) }
+        requires ready { Ready (state_of S.view self.old) }
+        ensures seen { OnOk result (state_of S.view self.new ≡ act (pop_down_to (elements_of set.entry))
+            (state_of S.view self.old)) }
+        ensures ready { OnOk result (Ready (state_of S.view self.new)) }
         ensures memory { IfErr result (λ e. e ≡ Memory) }
     {
         actions_keep_what_is_ready();
@@ -80,10 +79,9 @@ impl<S: TreeSink> Parse<S> {
     /// An element is taken off the stack.
     #[tactic(auto, unfolding(tree_rules::specs::Actions::act))]
     pub fn take_off(&mut self, element: S::Handle)
-        requires ready { Ready (state_of S.number S.forest S.quirks self.old) }
-        ensures seen { state_of S.number S.forest S.quirks self.new ≡ act (take_off (S.number element))
-            (state_of S.number S.forest S.quirks self.old) }
-        ensures ready { Ready (state_of S.number S.forest S.quirks self.new) }
+        requires ready { Ready (state_of S.view self.old) }
+        ensures seen { state_of S.view self.new ≡ act (take_off (S.view.number element)) (state_of S.view self.old) }
+        ensures ready { Ready (state_of S.view self.new) }
     {
         actions_keep_what_is_ready();
         self.tree.remove_from_stack(element);
@@ -92,11 +90,10 @@ impl<S: TreeSink> Parse<S> {
     /// An element is taken off the stack; it is not looked for where none of its name is open.
     #[tactic(auto, unfolding(tree_rules::specs::Actions::act))]
     pub fn take_off_element(&mut self, element: S::Handle)
-        requires ready { Ready (state_of S.number S.forest S.quirks self.old) }
-        requires element { IsElement (S.number element) (S.forest self.old.tree.sink) }
-        ensures seen { state_of S.number S.forest S.quirks self.new ≡ act (take_off (S.number element))
-            (state_of S.number S.forest S.quirks self.old) }
-        ensures ready { Ready (state_of S.number S.forest S.quirks self.new) }
+        requires ready { Ready (state_of S.view self.old) }
+        requires element { IsElement (S.view.number element) (S.view.forest self.old.tree.sink) }
+        ensures seen { state_of S.view self.new ≡ act (take_off (S.view.number element)) (state_of S.view self.old) }
+        ensures ready { Ready (state_of S.view self.new) }
     {
         actions_keep_what_is_ready();
         self.tree.remove_element_from_stack(element);
@@ -105,10 +102,10 @@ impl<S: TreeSink> Parse<S> {
     /// Implied end tags are generated, but for those of a set.
     #[tactic(auto, unfolding(tree_rules::specs::Actions::act))]
     pub fn imply_but(&mut self, set: ElementSet<'_>) -> Result<(), ParseFault>
-        requires ready { Ready (state_of S.number S.forest S.quirks self.old) }
-        ensures seen { OnOk result (state_of S.number S.forest S.quirks self.new ≡ act (imply_but (elements_of
-            set.entry)) (state_of S.number S.forest S.quirks self.old)) }
-        ensures ready { OnOk result (Ready (state_of S.number S.forest S.quirks self.new)) }
+        requires ready { Ready (state_of S.view self.old) }
+        ensures seen { OnOk result (state_of S.view self.new ≡ act (imply_but (elements_of set.entry))
+            (state_of S.view self.old)) }
+        ensures ready { OnOk result (Ready (state_of S.view self.new)) }
         ensures memory { IfErr result (λ e. e ≡ Memory) }
     {
         actions_keep_what_is_ready();
@@ -119,10 +116,9 @@ impl<S: TreeSink> Parse<S> {
     /// A p element that is in button scope is closed.
     #[tactic(auto, unfolding(tree_rules::specs::Actions::act))]
     pub fn close_p(&mut self) -> Result<(), ParseFault>
-        requires ready { Ready (state_of S.number S.forest S.quirks self.old) }
-        ensures seen { OnOk result (state_of S.number S.forest S.quirks self.new ≡ act close_p
-            (state_of S.number S.forest S.quirks self.old)) }
-        ensures ready { OnOk result (Ready (state_of S.number S.forest S.quirks self.new)) }
+        requires ready { Ready (state_of S.view self.old) }
+        ensures seen { OnOk result (state_of S.view self.new ≡ act close_p (state_of S.view self.old)) }
+        ensures ready { OnOk result (Ready (state_of S.view self.new)) }
         ensures memory { IfErr result (λ e. e ≡ Memory) }
     {
         actions_keep_what_is_ready();
@@ -133,10 +129,10 @@ impl<S: TreeSink> Parse<S> {
     /// A list item or a definition is closed.
     #[tactic(auto, unfolding(tree_rules::specs::Actions::act))]
     pub fn close_item(&mut self, set: ElementSet<'_>) -> Result<(), ParseFault>
-        requires ready { Ready (state_of S.number S.forest S.quirks self.old) }
-        ensures seen { OnOk result (state_of S.number S.forest S.quirks self.new ≡ act (close_item (elements_of
-            set.entry)) (state_of S.number S.forest S.quirks self.old)) }
-        ensures ready { OnOk result (Ready (state_of S.number S.forest S.quirks self.new)) }
+        requires ready { Ready (state_of S.view self.old) }
+        ensures seen { OnOk result (state_of S.view self.new ≡ act (close_item (elements_of set.entry))
+            (state_of S.view self.old)) }
+        ensures ready { OnOk result (Ready (state_of S.view self.new)) }
         ensures memory { IfErr result (λ e. e ≡ Memory) }
     {
         actions_keep_what_is_ready();
@@ -147,10 +143,9 @@ impl<S: TreeSink> Parse<S> {
     /// An element is closed that no rule of its own closes ("any other end tag").
     #[tactic(auto, unfolding(tree_rules::specs::Actions::act))]
     pub fn close_other(&mut self, name: &LocalName) -> Result<(), ParseFault>
-        requires ready { Ready (state_of S.number S.forest S.quirks self.old) }
-        ensures seen { OnOk result (state_of S.number S.forest S.quirks self.new ≡ act (close_other name.now)
-            (state_of S.number S.forest S.quirks self.old)) }
-        ensures ready { OnOk result (Ready (state_of S.number S.forest S.quirks self.new)) }
+        requires ready { Ready (state_of S.view self.old) }
+        ensures seen { OnOk result (state_of S.view self.new ≡ act (close_other name.now) (state_of S.view self.old)) }
+        ensures ready { OnOk result (Ready (state_of S.view self.new)) }
         ensures memory { IfErr result (λ e. e ≡ Memory) }
     {
         actions_keep_what_is_ready();
@@ -161,11 +156,11 @@ impl<S: TreeSink> Parse<S> {
     /// An element with formatting is inserted for a tag, and listed.
     #[tactic(auto, unfolding(tree_rules::specs::Actions::act))]
     pub fn insert_formatting(&mut self, tag: &Tag) -> Result<(), ParseFault>
-        requires ready { Ready (state_of S.number S.forest S.quirks self.old) }
+        requires ready { Ready (state_of S.view self.old) }
         requires formatting { is_one_of formatting tag.now.name ≡ true }
-        ensures seen { OnOk result (state_of S.number S.forest S.quirks self.new ≡ act (insert_formatting tag.now)
-            (state_of S.number S.forest S.quirks self.old)) }
-        ensures ready { OnOk result (Ready (state_of S.number S.forest S.quirks self.new)) }
+        ensures seen { OnOk result (state_of S.view self.new ≡ act (insert_formatting tag.now)
+            (state_of S.view self.old)) }
+        ensures ready { OnOk result (Ready (state_of S.view self.new)) }
         ensures memory { IfErr result (λ e. e ≡ Memory) }
     {
         actions_keep_what_is_ready();
@@ -177,10 +172,9 @@ impl<S: TreeSink> Parse<S> {
     /// The active formatting elements are reconstructed.
     #[tactic(auto, unfolding(tree_rules::specs::Actions::act))]
     pub fn reconstruct(&mut self) -> Result<(), ParseFault>
-        requires ready { Ready (state_of S.number S.forest S.quirks self.old) }
-        ensures seen { OnOk result (state_of S.number S.forest S.quirks self.new ≡ act reconstruct
-            (state_of S.number S.forest S.quirks self.old)) }
-        ensures ready { OnOk result (Ready (state_of S.number S.forest S.quirks self.new)) }
+        requires ready { Ready (state_of S.view self.old) }
+        ensures seen { OnOk result (state_of S.view self.new ≡ act reconstruct (state_of S.view self.old)) }
+        ensures ready { OnOk result (Ready (state_of S.view self.new)) }
         ensures memory { IfErr result (λ e. e ≡ Memory) }
     {
         actions_keep_what_is_ready();
@@ -191,10 +185,9 @@ impl<S: TreeSink> Parse<S> {
     /// A marker is put into the list of active formatting elements.
     #[tactic(auto, unfolding(tree_rules::specs::Actions::act))]
     pub fn put_marker(&mut self) -> Result<(), ParseFault>
-        requires ready { Ready (state_of S.number S.forest S.quirks self.old) }
-        ensures seen { OnOk result (state_of S.number S.forest S.quirks self.new ≡ act put_marker
-            (state_of S.number S.forest S.quirks self.old)) }
-        ensures ready { OnOk result (Ready (state_of S.number S.forest S.quirks self.new)) }
+        requires ready { Ready (state_of S.view self.old) }
+        ensures seen { OnOk result (state_of S.view self.new ≡ act put_marker (state_of S.view self.old)) }
+        ensures ready { OnOk result (Ready (state_of S.view self.new)) }
         ensures memory { IfErr result (λ e. e ≡ Memory) }
     {
         actions_keep_what_is_ready();
@@ -205,10 +198,9 @@ impl<S: TreeSink> Parse<S> {
     /// The list of active formatting elements is cleared up to the last marker.
     #[tactic(auto, unfolding(tree_rules::specs::Actions::act))]
     pub fn clear_to_marker(&mut self)
-        requires ready { Ready (state_of S.number S.forest S.quirks self.old) }
-        ensures seen { state_of S.number S.forest S.quirks self.new ≡ act clear_to_marker
-            (state_of S.number S.forest S.quirks self.old) }
-        ensures ready { Ready (state_of S.number S.forest S.quirks self.new) }
+        requires ready { Ready (state_of S.view self.old) }
+        ensures seen { state_of S.view self.new ≡ act clear_to_marker (state_of S.view self.old) }
+        ensures ready { Ready (state_of S.view self.new) }
     {
         actions_keep_what_is_ready();
         self.tree.clear_active_formatting_to_marker();
@@ -217,10 +209,9 @@ impl<S: TreeSink> Parse<S> {
     /// An element's entry is taken off the list.
     #[tactic(auto, unfolding(tree_rules::specs::Actions::act))]
     pub fn unlist(&mut self, element: S::Handle)
-        requires ready { Ready (state_of S.number S.forest S.quirks self.old) }
-        ensures seen { state_of S.number S.forest S.quirks self.new ≡ act (unlist (S.number element))
-            (state_of S.number S.forest S.quirks self.old) }
-        ensures ready { Ready (state_of S.number S.forest S.quirks self.new) }
+        requires ready { Ready (state_of S.view self.old) }
+        ensures seen { state_of S.view self.new ≡ act (unlist (S.view.number element)) (state_of S.view self.old) }
+        ensures ready { Ready (state_of S.view self.new) }
     {
         actions_keep_what_is_ready();
         self.tree.remove_from_list(element);
@@ -229,12 +220,11 @@ impl<S: TreeSink> Parse<S> {
     /// The adoption agency closes an element of a name. What was an element stays one.
     #[tactic(auto, unfolding(tree_rules::specs::Actions::act))]
     pub fn adopt(&mut self, name: &LocalName) -> Result<(), ParseFault>
-        requires ready { Ready (state_of S.number S.forest S.quirks self.old) }
-        ensures seen { OnOk result (state_of S.number S.forest S.quirks self.new ≡ act (adopt name.now)
-            (state_of S.number S.forest S.quirks self.old)) }
-        ensures elements { OnOk result ((n : ℕ) → IsElement n (S.forest self.old.tree.sink) →
-            IsElement n (S.forest self.new.tree.sink)) }
-        ensures ready { OnOk result (Ready (state_of S.number S.forest S.quirks self.new)) }
+        requires ready { Ready (state_of S.view self.old) }
+        ensures seen { OnOk result (state_of S.view self.new ≡ act (adopt name.now) (state_of S.view self.old)) }
+        ensures elements { OnOk result ((n : ℕ) → IsElement n (S.view.forest self.old.tree.sink) → IsElement n
+            (S.view.forest self.new.tree.sink)) }
+        ensures ready { OnOk result (Ready (state_of S.view self.new)) }
         ensures memory { IfErr result (λ e. e ≡ Memory) }
     {
         actions_keep_what_is_ready();
@@ -246,10 +236,10 @@ impl<S: TreeSink> Parse<S> {
     /// An element of a name that is in scope is closed by the adoption agency, and what it leaves is reconstructed.
     #[tactic(auto, unfolding(tree_rules::specs::Actions::act))]
     pub fn adopt_in_scope(&mut self, name: &LocalName) -> Result<(), ParseFault>
-        requires ready { Ready (state_of S.number S.forest S.quirks self.old) }
-        ensures seen { OnOk result (state_of S.number S.forest S.quirks self.new ≡ act (adopt_in_scope name.now)
-            (state_of S.number S.forest S.quirks self.old)) }
-        ensures ready { OnOk result (Ready (state_of S.number S.forest S.quirks self.new)) }
+        requires ready { Ready (state_of S.view self.old) }
+        ensures seen { OnOk result (state_of S.view self.new ≡ act (adopt_in_scope name.now)
+            (state_of S.view self.old)) }
+        ensures ready { OnOk result (Ready (state_of S.view self.new)) }
         ensures memory { IfErr result (λ e. e ≡ Memory) }
     {
         actions_keep_what_is_ready();

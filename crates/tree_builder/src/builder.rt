@@ -22,9 +22,9 @@ pub struct TreeBuilder<S: TreeSink> {
 impl<S: TreeSink> TreeBuilder<S> {
     /// Before the first token of a page. The sink's nodes are a forest, whose document has no children yet.
     pub fn new(alloc: Global, sink: S, opts: TreeBuilderOpts) -> TreeBuilder<S>
-        requires { IsForest (S.forest sink) }
-        ensures begun { state_of S.number S.forest S.quirks result.page ≡ begun opts (S.forest sink) (S.quirks sink) }
-        ensures ready { IsReady (state_of S.number S.forest S.quirks result.page) }
+        requires { IsForest (S.view.forest sink) }
+        ensures begun { state_of S.view result.page ≡ begun opts (S.view.forest sink) (S.view.quirks sink) }
+        ensures ready { IsReady (state_of S.view result.page) }
     {
         actions_keep_what_is_ready();
         let quirks = opts.quirks_mode;

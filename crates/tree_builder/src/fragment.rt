@@ -32,13 +32,12 @@ impl<S: TreeSink + Drop> TreeBuilder<S> {
         form: Option<S::Handle>,
         opts: TreeBuilderOpts,
     ) -> Result<TreeBuilder<S>, ParseFault>
-        requires forest { IsForest (S.forest sink) }
-        requires context { IsElement (S.number context) (S.forest sink) }
-        ensures begun { IfOk result (λ made. state_of S.number S.forest S.quirks made.page ≡ begun_fragment opts
-            (S.number context) (option_map S.number form) (S.forest sink) (S.quirks sink)) }
-        ensures ready { IfOk result (λ made. IsReady (state_of S.number S.forest S.quirks made.page)) }
-        ensures hears { IfOk result (λ made. (item : Item) → IsWelcome (state_of S.number S.forest S.quirks made.page)
-            item) }
+        requires forest { IsForest (S.view.forest sink) }
+        requires context { IsElement (S.view.number context) (S.view.forest sink) }
+        ensures begun { IfOk result (λ made. state_of S.view made.page ≡ begun_fragment opts (S.view.number context)
+            (option_map S.view.number form) (S.view.forest sink) (S.view.quirks sink)) }
+        ensures ready { IfOk result (λ made. IsReady (state_of S.view made.page)) }
+        ensures hears { IfOk result (λ made. (item : Item) → IsWelcome (state_of S.view made.page) item) }
         ensures memory { IfErr result (λ e. e ≡ Memory) }
     {
         let is_template = is_html(sink.elem_name(context), "template");
@@ -60,9 +59,9 @@ impl<S: TreeSink> TreeBuilder<S> {
     /// The state in which the text of a fragment begins, by its context; `scripting` says whether scripts would run
     /// where the context stands. Of a whole page it is `Data`.
     pub fn tokenizer_state_for_context_elem(&self, scripting: bool) -> State
-        requires { IsReady (state_of S.number S.forest S.quirks self.now.page) }
-        ensures { result ≡ state_for scripting (option_map (λ context. name_of (S.number context)
-            (S.forest self.now.page.tree.sink)) self.now.page.kept.context) }
+        requires { IsReady (state_of S.view self.now.page) }
+        ensures { result ≡ state_for scripting (option_map (λ context. name_of (S.view.number context)
+            (S.view.forest self.now.page.tree.sink)) self.now.page.kept.context) }
     {
         match self.page.kept.context {
             Some(context) => context_state(self.page.tree.sink.elem_name(context), scripting),
@@ -99,11 +98,11 @@ pub fn context_state(name: &QualName, scripting: bool) -> State
 
 // what is built is a fragment
 fn put_context<S: TreeSink>(page: &mut Parse<S>, context: S::Handle, form: Option<S::Handle>)
-    requires ready { Ready (state_of S.number S.forest S.quirks page.old) }
-    requires element { IsElement (S.number context) (S.forest page.old.tree.sink) }
-    ensures seen { state_of S.number S.forest S.quirks page.new ≡ with_context (S.number context) (option_map S.number
-        form) (state_of S.number S.forest S.quirks page.old) }
-    ensures ready { Ready (state_of S.number S.forest S.quirks page.new) }
+    requires ready { Ready (state_of S.view page.old) }
+    requires element { IsElement (S.view.number context) (S.view.forest page.old.tree.sink) }
+    ensures seen { state_of S.view page.new ≡ with_context (S.view.number context) (option_map S.view.number form)
+        (state_of S.view page.old) }
+    ensures ready { Ready (state_of S.view page.new) }
 {
     page.kept.context = Some(context);
     page.kept.form = form;
@@ -111,10 +110,10 @@ fn put_context<S: TreeSink>(page: &mut Parse<S>, context: S::Handle, form: Optio
 
 // the root is opened, and the mode is reset
 fn open_root<S: TreeSink>(page: &mut Parse<S>, is_template: bool) -> Result<(), ParseFault>
-    requires ready { Ready (state_of S.number S.forest S.quirks page.old) }
-    ensures seen { OnOk result (state_of S.number S.forest S.quirks page.new ≡ act_all (root_actions is_template)
-        (state_of S.number S.forest S.quirks page.old)) }
-    ensures ready { OnOk result (Ready (state_of S.number S.forest S.quirks page.new)) }
+    requires ready { Ready (state_of S.view page.old) }
+    ensures seen { OnOk result (state_of S.view page.new ≡ act_all (root_actions is_template)
+        (state_of S.view page.old)) }
+    ensures ready { OnOk result (Ready (state_of S.view page.new)) }
     ensures memory { IfErr result (λ e. e ≡ Memory) }
 {
     page.insert_named("html")?;

@@ -17,9 +17,8 @@ pub(crate) fn tell_characters<S: TreeSink>(
     page: &mut Parse<S>,
     text: Text,
 ) -> Result<(), ParseFault>
-    requires ready { Ready (state_of S.number S.forest S.quirks page.old) }
-    ensures seen { OnOk result (state_of S.number S.forest S.quirks page.new ≡ step
-        (state_of S.number S.forest S.quirks page.old) (characters text)) }
+    requires ready { Ready (state_of S.view page.old) }
+    ensures seen { OnOk result (state_of S.view page.new ≡ step (state_of S.view page.old) (characters text)) }
     ensures memory { IfErr result (λ e. e ≡ Memory) }
 {
     let Some((first, rest)) = first_and_rest(text.as_str()) else {
@@ -37,9 +36,8 @@ pub(crate) fn tell_characters<S: TreeSink>(
 
 /// NUL.
 pub(crate) fn tell_null<S: TreeSink>(page: &mut Parse<S>) -> Result<(), ParseFault>
-    requires ready { Ready (state_of S.number S.forest S.quirks page.old) }
-    ensures seen { OnOk result (state_of S.number S.forest S.quirks page.new ≡ step
-        (state_of S.number S.forest S.quirks page.old) null_character) }
+    requires ready { Ready (state_of S.view page.old) }
+    ensures seen { OnOk result (state_of S.view page.new ≡ step (state_of S.view page.old) null_character) }
     ensures memory { IfErr result (λ e. e ≡ Memory) }
 {
     page.kept.skip_lf = false;
@@ -49,9 +47,8 @@ pub(crate) fn tell_null<S: TreeSink>(page: &mut Parse<S>) -> Result<(), ParseFau
 
 /// A comment.
 pub(crate) fn tell_comment<S: TreeSink>(page: &mut Parse<S>, text: Text) -> Result<(), ParseFault>
-    requires ready { Ready (state_of S.number S.forest S.quirks page.old) }
-    ensures seen { OnOk result (state_of S.number S.forest S.quirks page.new ≡ step
-        (state_of S.number S.forest S.quirks page.old) (comment_item text)) }
+    requires ready { Ready (state_of S.view page.old) }
+    ensures seen { OnOk result (state_of S.view page.new ≡ step (state_of S.view page.old) (comment_item text)) }
     ensures memory { IfErr result (λ e. e ≡ Memory) }
 {
     page.kept.skip_lf = false;
@@ -64,9 +61,8 @@ pub(crate) fn tell_doctype<S: TreeSink>(
     page: &mut Parse<S>,
     doctype: Doctype,
 ) -> Result<(), ParseFault>
-    requires ready { Ready (state_of S.number S.forest S.quirks page.old) }
-    ensures seen { OnOk result (state_of S.number S.forest S.quirks page.new ≡ step
-        (state_of S.number S.forest S.quirks page.old) (doctype_item doctype)) }
+    requires ready { Ready (state_of S.view page.old) }
+    ensures seen { OnOk result (state_of S.view page.new ≡ step (state_of S.view page.old) (doctype_item doctype)) }
     ensures memory { IfErr result (λ e. e ≡ Memory) }
 {
     page.kept.skip_lf = false;
@@ -79,9 +75,8 @@ pub(crate) fn tell_error<S: TreeSink>(
     page: &mut Parse<S>,
     message: ErrorMessage,
 ) -> Result<(), ParseFault>
-    requires ready { Ready (state_of S.number S.forest S.quirks page.old) }
-    ensures seen { OnOk result (state_of S.number S.forest S.quirks page.new ≡ step
-        (state_of S.number S.forest S.quirks page.old) error) }
+    requires ready { Ready (state_of S.view page.old) }
+    ensures seen { OnOk result (state_of S.view page.new ≡ step (state_of S.view page.old) error) }
     ensures memory { IfErr result (λ e. e ≡ Memory) }
 {
     page.kept.skip_lf = false;
@@ -91,9 +86,8 @@ pub(crate) fn tell_error<S: TreeSink>(
 
 /// The end of the page.
 pub(crate) fn tell_end<S: TreeSink>(page: &mut Parse<S>) -> Result<(), ParseFault>
-    requires ready { Ready (state_of S.number S.forest S.quirks page.old) }
-    ensures seen { OnOk result (state_of S.number S.forest S.quirks page.new ≡ step
-        (state_of S.number S.forest S.quirks page.old) end_of_file) }
+    requires ready { Ready (state_of S.view page.old) }
+    ensures seen { OnOk result (state_of S.view page.new ≡ step (state_of S.view page.old) end_of_file) }
     ensures memory { IfErr result (λ e. e ≡ Memory) }
 {
     page.kept.skip_lf = false;
@@ -107,11 +101,9 @@ pub(crate) fn tell_tag<S: TreeSink>(
     page: &mut Parse<S>,
     mut tag: Tag,
 ) -> Result<TokenSinkResult<S::Handle>, ParseFault>
-    requires ready { Ready (state_of S.number S.forest S.quirks page.old) }
-    ensures seen { OnOk result (state_of S.number S.forest S.quirks page.new ≡ step
-        (state_of S.number S.forest S.quirks page.old) (tag_item tag)) }
-    ensures reply { IfOk result (λ answer. answer ≡ reply S.handle (state_of S.number S.forest S.quirks page.old)
-        (tag_item tag)) }
+    requires ready { Ready (state_of S.view page.old) }
+    ensures seen { OnOk result (state_of S.view page.new ≡ step (state_of S.view page.old) (tag_item tag)) }
+    ensures reply { IfOk result (λ answer. answer ≡ reply S.view.handle (state_of S.view page.old) (tag_item tag)) }
     ensures memory { IfErr result (λ e. e ≡ Memory) }
 {
     tag.attrs.share()?;
@@ -123,11 +115,9 @@ fn answer_tag<S: TreeSink>(
     page: &mut Parse<S>,
     tag: &Tag,
 ) -> Result<TokenSinkResult<S::Handle>, ParseFault>
-    requires ready { Ready (state_of S.number S.forest S.quirks page.old) }
-    ensures seen { OnOk result (state_of S.number S.forest S.quirks page.new ≡ step
-        (state_of S.number S.forest S.quirks page.old) (tag_item tag.now)) }
-    ensures reply { IfOk result (λ answer. answer ≡ reply S.handle (state_of S.number S.forest S.quirks page.old)
-        (tag_item tag.now)) }
+    requires ready { Ready (state_of S.view page.old) }
+    ensures seen { OnOk result (state_of S.view page.new ≡ step (state_of S.view page.old) (tag_item tag.now)) }
+    ensures reply { IfOk result (λ answer. answer ≡ reply S.view.handle (state_of S.view page.old) (tag_item tag.now)) }
     ensures memory { IfErr result (λ e. e ≡ Memory) }
 {
     page.kept.skip_lf = false;
@@ -140,11 +130,9 @@ pub(crate) fn tell<S: TreeSink>(
     token: Token,
     line: u64,
 ) -> Result<TokenSinkResult<S::Handle>, ParseFault>
-    requires ready { Ready (state_of S.number S.forest S.quirks page.old) }
-    ensures seen { OnOk result (state_of S.number S.forest S.quirks page.new ≡ step
-        (state_of S.number S.forest S.quirks page.old) (item_of token)) }
-    ensures reply { IfOk result (λ answer. answer ≡ reply S.handle (state_of S.number S.forest S.quirks page.old)
-        (item_of token)) }
+    requires ready { Ready (state_of S.view page.old) }
+    ensures seen { OnOk result (state_of S.view page.new ≡ step (state_of S.view page.old) (item_of token)) }
+    ensures reply { IfOk result (λ answer. answer ≡ reply S.view.handle (state_of S.view page.old) (item_of token)) }
     ensures memory { IfErr result (λ e. e ≡ Memory) }
 {
     page.tree.sink.set_current_line(line)?;

@@ -16,8 +16,8 @@ pub fn tells_twice<S: TreeSink>(
     later: Token,
     line: u64,
 ) -> Result<TokenSinkResult<S::Handle>, ParseFault>
-    requires { IsFit (state_of S.number S.forest S.quirks builder.old.page) }
-    ensures fit { IsFit (state_of S.number S.forest S.quirks builder.new.page) }
+    requires { IsFit (state_of S.view builder.old.page) }
+    ensures fit { IsFit (state_of S.view builder.new.page) }
     ensures failed { IfErr result (λ e. e ≡ Failed) }
     ensures works { builder.new.page.kept.has_failed ≡ is_err result }
 {
@@ -29,8 +29,8 @@ pub fn tells_twice<S: TreeSink>(
 
 /// Ends a page and, where that is refused, ends it again, which is refused as `Failed`.
 pub fn ends_twice<S: TreeSink>(builder: &mut TreeBuilder<S>) -> Result<(), ParseFault>
-    requires { IsFit (state_of S.number S.forest S.quirks builder.old.page) }
-    ensures fit { IsFit (state_of S.number S.forest S.quirks builder.new.page) }
+    requires { IsFit (state_of S.view builder.old.page) }
+    ensures fit { IsFit (state_of S.view builder.new.page) }
     ensures failed { IfErr result (λ e. e ≡ Failed) }
     ensures works { builder.new.page.kept.has_failed ≡ is_err result }
 {

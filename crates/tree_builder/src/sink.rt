@@ -32,9 +32,9 @@ impl<S: TreeSink> TokenSink for TreeBuilder<S> {
 
     ghost Abstract = { State };
 
-    ghost state = { λ b. state_of S.number S.forest S.quirks b.page };
+    ghost state = { λ b. state_of S.view b.page };
 
-    ghost means = { meaning S.handle };
+    ghost means = { meaning S.view.handle };
 
     ghost ready = { IsReady };
 
@@ -42,9 +42,9 @@ impl<S: TreeSink> TokenSink for TreeBuilder<S> {
 
     ghost close = { λ s. s };
 
-    ghost lawful = { meaning-lawful S.handle };
+    ghost lawful = { meaning-lawful S.view.handle };
 
-    ghost hearing = { meaning-hearing S.handle };
+    ghost hearing = { meaning-hearing S.view.handle };
 
     /// Takes a token by the rules of tree construction. What isn't text, an error, an end tag or the end is refused as
     /// `Failed` while an element's text is read, and so is every token behind the end; else the error is allocation
@@ -54,14 +54,13 @@ impl<S: TreeSink> TokenSink for TreeBuilder<S> {
         token: Token,
         line: u64,
     ) -> Result<TokenSinkResult<S::Handle>, ParseFault>
-        requires { IsFit (state_of S.number S.forest S.quirks self.old.page) }
-        ensures fit { IsFit (state_of S.number S.forest S.quirks self.new.page) }
-        ensures state { IfOk result (λ _. state_of S.number S.forest S.quirks self.new.page ≡ step
-            (state_of S.number S.forest S.quirks self.old.page) (item_of token)) }
-        ensures reply { IfOk result (λ answer. answer ≡ reply S.handle
-            (state_of S.number S.forest S.quirks self.old.page) (item_of token)) }
-        ensures refused { IsWelcome (state_of S.number S.forest S.quirks self.old.page) (item_of token) → IfErr result
-            (λ e. e ≡ Memory) }
+        requires { IsFit (state_of S.view self.old.page) }
+        ensures fit { IsFit (state_of S.view self.new.page) }
+        ensures state { IfOk result (λ _. state_of S.view self.new.page ≡ step (state_of S.view self.old.page)
+            (item_of token)) }
+        ensures reply { IfOk result (λ answer. answer ≡ reply S.view.handle (state_of S.view self.old.page)
+            (item_of token)) }
+        ensures refused { IsWelcome (state_of S.view self.old.page) (item_of token) → IfErr result (λ e. e ≡ Memory) }
         ensures failed { self.old.page.kept.has_failed ≡ true → result ≡ Err Failed }
         ensures ended { self.old.page.kept.is_over ≡ true → result ≡ Err Failed }
         ensures misplaced { ¬ (IsHeard (is_text self.old.page.kept.mode) (item_of token)) → result ≡ Err Failed }
@@ -83,10 +82,9 @@ impl<S: TreeSink> TokenSink for TreeBuilder<S> {
     /// Tells the sink of trees that the open elements are so no longer, from the current node on. Behind a refused call
     /// it is refused as `Failed`; else the error is allocation failure.
     fn end(&mut self) -> Result<(), ParseFault>
-        requires { IsFit (state_of S.number S.forest S.quirks self.old.page) }
-        ensures fit { IsFit (state_of S.number S.forest S.quirks self.new.page) }
-        ensures closed { IfOk result (λ _. state_of S.number S.forest S.quirks self.new.page ≡
-            state_of S.number S.forest S.quirks self.old.page) }
+        requires { IsFit (state_of S.view self.old.page) }
+        ensures fit { IsFit (state_of S.view self.new.page) }
+        ensures closed { IfOk result (λ _. state_of S.view self.new.page ≡ state_of S.view self.old.page) }
         ensures refused { self.old.page.kept.has_failed ≡ false → IfErr result (λ e. e ≡ Memory) }
         ensures failed { self.old.page.kept.has_failed ≡ true → result ≡ Err Failed }
         ensures works { self.new.page.kept.has_failed ≡ is_err result }
@@ -153,9 +151,8 @@ fn is_markup(token: &Token) -> bool
 
 // the open elements are told of, the current node first
 fn tell_closed<S: TreeSink>(page: &mut Parse<S>) -> Result<(), ParseFault>
-    requires ready { Ready (state_of S.number S.forest S.quirks page.old) }
-    ensures seen { OnOk result (state_of S.number S.forest S.quirks page.new ≡
-        state_of S.number S.forest S.quirks page.old) }
+    requires ready { Ready (state_of S.view page.old) }
+    ensures seen { OnOk result (state_of S.view page.new ≡ state_of S.view page.old) }
     ensures memory { IfErr result (λ e. e ≡ Memory) }
 {
     tell_popped(page.tree.held.open_elements(), &mut page.tree.sink)
@@ -163,9 +160,9 @@ fn tell_closed<S: TreeSink>(page: &mut Parse<S>) -> Result<(), ParseFault>
 
 // elements are told of, the last first
 fn tell_popped<S: TreeSink>(open: &[S::Handle], sink: &mut S) -> Result<(), ParseFault>
-    requires { (n : ℕ) → IsIn n (stack_of S.number open.now) → IsElement n (S.forest sink.old) }
-    ensures forest { S.forest sink.new ≡ S.forest sink.old }
-    ensures quirks { S.quirks sink.new ≡ S.quirks sink.old }
+    requires { (n : ℕ) → IsIn n (stack_of S.view.number open.now) → IsElement n (S.view.forest sink.old) }
+    ensures forest { S.view.forest sink.new ≡ S.view.forest sink.old }
+    ensures quirks { S.view.quirks sink.new ≡ S.view.quirks sink.old }
     ensures memory { IfErr result (λ e. e ≡ Memory) }
 {
     let mut rest = open;

@@ -11,6 +11,7 @@ use Rattle.formatting_list.specs.Entries.{Entry, entries_of, entry_of, formatted
 use Rattle.formatting_list.specs.declared.entry.FormatEntry.{FormatEntry}
 use Rattle.formatting_list.specs.declared.entry.FormatEntry.TheVariants.{Element, Marker}
 use Rattle.html_forest.specs.Forest.{Forest, nodes}
+use Rattle.html_forest.specs.Sinks.{SinkView}
 use Rattle.html_forest.specs.declared.sink.QuirksMode.{QuirksMode}
 use Rattle.name_sets.specs.Sets.{is_one_of}
 use Rattle.name_sets.specs.TagSets.{formatting}
@@ -247,63 +248,64 @@ kept_length number stack xs m x some within read is =
     ∙ ap (made_already stack) (sym (entries_more number xs m x some within read)))
 
 -- what is seen behind a step
-pub record IsMadeAnew {H S : Type 0} (number : H → ℕ) (forest : S → Forest) (quirks : S → QuirksMode) (index : ℕ)
+pub record IsMadeAnew {H S : Type 0} (view : SinkView S H) (index : ℕ)
     (p o : Parts H) (s t : S) : Type 0 where
-  pub made : made_from (index + 1) (seen number forest quirks p s) ≡ made_from index (seen number forest quirks o t)
+  pub made : made_from (index + 1) (seen view p s) ≡ made_from index (seen view o t)
   pub size : length p.entries ≡ length o.entries
-  pub sound : Sound (seen number forest quirks p s)
+  pub sound : Sound (seen view p s)
 
-pub made_marker : {H S : Type 0} (number : H → ℕ) (forest : S → Forest) (quirks : S → QuirksMode) (index : ℕ)
+pub made_marker : {H S : Type 0} (view : SinkView S H) (index : ℕ)
     (o : Parts H) (t : S) (x : FormatEntry H) → index < length o.entries → x ≡ slice_index_or o.entries index x →
     x ≡ Marker →
-    made_from (index + 1) (seen number forest quirks o t) ≡ made_from index (seen number forest quirks o t)
-made_marker number forest quirks index o t x within read is =
-    let at = cut_at number index x o.entries within read in
-    marker_from (entries_of number at.back) (entries_of number at.front) index (seen number forest quirks o t)
-    (at.cut ∙ ap (λ e. entries_of number at.back ++ entry_of number e ∷ entries_of number at.front) is) at.earlier
+    made_from (index + 1) (seen view o t) ≡ made_from index (seen view o t)
+made_marker view index o t x within read is =
+    let at = cut_at view.number index x o.entries within read in
+    marker_from (entries_of view.number at.back) (entries_of view.number at.front) index (seen view o t)
+    (at.cut ∙ ap (λ e. entries_of view.number at.back ++ entry_of view.number e ∷ entries_of view.number at.front) is)
+    at.earlier
 
-pub made_element : {H S : Type 0} (number : H → ℕ) (forest : S → Forest) (quirks : S → QuirksMode) (index : ℕ)
+pub made_element : {H S : Type 0} (view : SinkView S H) (index : ℕ)
     (p q o : Parts H) (s t : S) (x : FormatEntry H) (h to : H) (tag copy : Tag) → Laws →
-    Sound (seen number forest quirks o t) → index < length o.entries → x ≡ slice_index_or o.entries index x →
+    Sound (seen view o t) → index < length o.entries → x ≡ slice_index_or o.entries index x →
     x ≡ Element h tag → copy ≡ tag →
-    seen number forest quirks q s ≡ inserted_for copy (seen number forest quirks o t) → number to ≡ nodes (forest t) →
+    seen view q s ≡ inserted_for copy (seen view o t) → view.number to ≡ nodes (view.forest t) →
     p.open_elements ≡ q.open_elements →
     ((entry : FormatEntry H) (front back : List (FormatEntry H)) → q.entries ≡ front ++ entry ∷ back →
     length front ≡ index → p.entries ≡ front ++ given to entry ∷ back) →
-    p.is_fostering ≡ q.is_fostering → p.counts ≡ q.counts → IsMadeAnew number forest quirks index p o s t
-made_element number forest quirks index p q o s t x h to tag copy laws sound within read is same_tag was new open_is
+    p.is_fostering ≡ q.is_fostering → p.counts ≡ q.counts → IsMadeAnew view index p o s t
+made_element view index p q o s t x h to tag copy laws sound within read is same_tag was new open_is
     entries_are fostering_is counts_are =
-    let b : Building = seen number forest quirks o t in
-    let at = cut_at number index x o.entries within read in
-    let later = entries_of number at.back in
-    let earlier = entries_of number at.front in
-    let cut : entries_of number o.entries ≡ later ++ formatted (number h) tag ∷ earlier
-    = at.cut ∙ ap (λ e. later ++ entry_of number e ∷ earlier) is in
-    let entries : entries_of number p.entries ≡ later ++ formatted (nodes (forest t)) tag ∷ earlier
-    = given_seen number index o.entries q.entries p.entries x h to tag at is within
+    let b : Building = seen view o t in
+    let at = cut_at view.number index x o.entries within read in
+    let later = entries_of view.number at.back in
+    let earlier = entries_of view.number at.front in
+    let cut : entries_of view.number o.entries ≡ later ++ formatted (view.number h) tag ∷ earlier
+    = at.cut ∙ ap (λ e. later ++ entry_of view.number e ∷ earlier) is in
+    let entries : entries_of view.number p.entries ≡ later ++ formatted (nodes (view.forest t)) tag ∷ earlier
+    = given_seen view.number index o.entries q.entries p.entries x h to tag at is within
     (ap (λ (y : Building). y.formatting) was) entries_are
     ∙ ap (λ (m : ℕ). later ++ formatted m tag ∷ earlier) new in
-    let whole : seen number forest quirks p s ≡ renewed later tag earlier b
-    = seen_listed number forest quirks p q s (inserted_for tag b)
-    (later ++ formatted (nodes (forest t)) tag ∷ earlier) open_is entries fostering_is counts_are
+    let whole : seen view p s ≡ renewed later tag earlier b
+    = seen_listed view p q s (inserted_for tag b)
+    (later ++ formatted (nodes (view.forest t)) tag ∷ earlier) open_is entries fostering_is counts_are
     (was ∙ ap (λ (v : Tag). inserted_for v b) same_tag) in
     record {
       made = ap (made_from (index + 1)) whole
-          ∙ renewed_from later earlier (number h) tag index b cut at.earlier;
+          ∙ renewed_from later earlier (view.number h) tag index b cut at.earlier;
       size = omega (
         arith,
-        as_many number p.entries,
-        as_many number o.entries,
+        as_many view.number p.entries,
+        as_many view.number o.entries,
         ap length entries,
         ap length cut,
-        length-append later (formatted (nodes (forest t)) tag ∷ earlier),
-        length-append later (formatted (number h) tag ∷ earlier),
+        length-append later (formatted (nodes (view.forest t)) tag ∷ earlier),
+        length-append later (formatted (view.number h) tag ∷ earlier),
       );
-      sound = subst Sound (sym whole) (renewed_sound laws later earlier (number h) tag b cut sound);
+      sound = subst Sound (sym whole) (renewed_sound laws later earlier (view.number h) tag b cut sound);
     }
 
-pub all_made : {H S : Type 0} (number : H → ℕ) (forest : S → Forest) (quirks : S → QuirksMode) (index : ℕ)
+pub all_made : {H S : Type 0} (view : SinkView S H) (index : ℕ)
     (p : Parts H) (s : S) → length p.entries ≤ index →
-    made_from index (seen number forest quirks p s) ≡ seen number forest quirks p s
-all_made number forest quirks index p s within =
-    made_from_end (seen number forest quirks p s) index (omega (arith, as_many number p.entries, within))
+    made_from index (seen view p s) ≡ seen view p s
+all_made view index p s within =
+    made_from_end (seen view p s) index (omega (arith, as_many view.number p.entries, within))

@@ -4,6 +4,7 @@ use Rattle.std.proofs.Common.{codes, option_map}
 use Rattle.html_forest.specs.Changes.{detached}
 use Rattle.html_forest.specs.Conditions.{CanMove, CanPut, IsPlace, is_from}
 use Rattle.html_forest.specs.Forest.{Forest, Holds, IsElementKind, element_of}
+use Rattle.html_forest.specs.Sinks.{SinkView}
 use Rattle.html_forest.specs.Orders.{Above, AtOrAbove, IsIn, IsParent}
 use Rattle.html_forest.specs.Places.{Place, node, put_node}
 use Rattle.html_forest.specs.declared.sink.QuirksMode.{QuirksMode}
@@ -123,12 +124,12 @@ ancestor_sound last ancestor b laws sound is =
     (placed_sound last is.uppers is.lows b laws sound is.can)
 
 -- what is seen once the last node is taken out, and where it may then be put
-pub seen_out : {H S : Type 0} (number : H → ℕ) (forest : S → Forest) (quirks : S → QuirksMode) (p : Parts H) (s t : S)
-    (last : ℕ) → Laws → Sound (seen number forest quirks p s) → forest t ≡ detached last (forest s) →
-    quirks t ≡ quirks s → seen number forest quirks p t ≡ out_of_place last (seen number forest quirks p s)
-seen_out number forest quirks p s t last laws sound forest_is quirks_is =
-    seen_changed number forest quirks p p s t (detached last (forest s)) refl forest_is quirks_is
-    (out_kept laws p.counts (seen number forest quirks p s) sound last)
+pub seen_out : {H S : Type 0} (view : SinkView S H) (p : Parts H) (s t : S)
+    (last : ℕ) → Laws → Sound (seen view p s) → view.forest t ≡ detached last (view.forest s) →
+    view.quirks t ≡ view.quirks s → seen view p t ≡ out_of_place last (seen view p s)
+seen_out view p s t last laws sound forest_is quirks_is =
+    seen_changed view p p s t (detached last (view.forest s)) refl forest_is quirks_is
+    (out_kept laws p.counts (seen view p s) sound last)
 
 pub can_put_last : (last : ℕ) (ancestor : Option ℕ) (b out : Building) (place : Place) → Laws → Sound b →
     IsAncestor last ancestor b → out ≡ out_of_place last b → place ≡ place_for (ancestor_of ancestor) out →
@@ -151,16 +152,16 @@ put_is last ancestor b out place out_is place_is =
     ∙ ap (λ (y : Building). let x : Building =
     record y { forest = put_node (place_for ancestor y) last y.forest } in x) out_is
 
-pub seen_placed : {H S : Type 0} (number : H → ℕ) (forest : S → Forest) (quirks : S → QuirksMode) (p q : Parts H)
-    (s t : S) (last ancestor : ℕ) (b : Building) (place : Place) → Laws → Sound (seen number forest quirks p s) →
-    seen number forest quirks p s ≡ out_of_place last b →
-    place ≡ place_for ancestor (seen number forest quirks p s) → q ≡ p →
-    forest t ≡ put_node place last (forest s) → quirks t ≡ quirks s →
-    seen number forest quirks q t ≡ placed last ancestor b
-seen_placed number forest quirks p q s t last ancestor b place laws sound out_is place_is held_is forest_is quirks_is =
-    let out = seen number forest quirks p s in
-    let changed : seen number forest quirks q t ≡ record out { forest = put_node place last (forest s) } =
-    seen_changed number forest quirks p q s t (put_node place last (forest s)) held_is forest_is quirks_is
-    (kept_by laws p.counts out sound (put_node place last (forest s))
-    (λ n is. laws.put_stays place last n (forest s))) in
+pub seen_placed : {H S : Type 0} (view : SinkView S H) (p q : Parts H)
+    (s t : S) (last ancestor : ℕ) (b : Building) (place : Place) → Laws → Sound (seen view p s) →
+    seen view p s ≡ out_of_place last b →
+    place ≡ place_for ancestor (seen view p s) → q ≡ p →
+    view.forest t ≡ put_node place last (view.forest s) → view.quirks t ≡ view.quirks s →
+    seen view q t ≡ placed last ancestor b
+seen_placed view p q s t last ancestor b place laws sound out_is place_is held_is forest_is quirks_is =
+    let out = seen view p s in
+    let changed : seen view q t ≡ record out { forest = put_node place last (view.forest s) } =
+    seen_changed view p q s t (put_node place last (view.forest s)) held_is forest_is quirks_is
+    (kept_by laws p.counts out sound (put_node place last (view.forest s))
+    (λ n is. laws.put_stays place last n (view.forest s))) in
     changed ∙ put_is last ancestor b out place out_is place_is

@@ -5,6 +5,7 @@ use Rattle.std.specs.Prelude.{ℕ, Bool, List, bytes_eq, map, reverse}
 use Rattle.formatting_list.specs.Entries.{Entry, entries_of}
 use Rattle.formatting_list.specs.declared.entry.FormatEntry.{FormatEntry}
 use Rattle.html_forest.specs.Forest.{Forest, name_of}
+use Rattle.html_forest.specs.Sinks.{SinkView}
 use Rattle.html_forest.specs.declared.sink.QuirksMode.{QuirksMode}
 use Rattle.name_sets.specs.Counts.{counts_of}
 
@@ -32,12 +33,12 @@ abbrev pub are_counted : List ℕ → List ℕ → Forest → Bool
 are_counted counts stack f = bytes_eq counts (counts_of (map (λ n. name_of n f) stack))
 
 -- what is held and a sink, by what a sink means
-abbrev pub seen : {H S : Type 0} → (H → ℕ) → (S → Forest) → (S → QuirksMode) → Parts H → S → Building
-seen number forest quirks parts sink = record {
-  stack = stack_of number parts.open_elements;
-  formatting = entries_of number parts.entries;
+abbrev pub seen : {H S : Type 0} → SinkView S H → Parts H → S → Building
+seen view parts sink = record {
+  stack = stack_of view.number parts.open_elements;
+  formatting = entries_of view.number parts.entries;
   fostering = parts.is_fostering;
-  forest = forest sink;
-  quirks = quirks sink;
-  counted = are_counted parts.counts (stack_of number parts.open_elements) (forest sink);
+  forest = view.forest sink;
+  quirks = view.quirks sink;
+  counted = are_counted parts.counts (stack_of view.number parts.open_elements) (view.forest sink);
 }

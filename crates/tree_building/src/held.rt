@@ -85,15 +85,15 @@ impl<H: Copy> Held<H> {
 
     /// An element becomes the current node.
     pub fn push<S: TreeSink<Handle = H>>(&mut self, sink: &S, element: H) -> Result<(), AllocError>
-        requires element { IsElement (S.number element) (S.forest sink.now) }
-        requires counted { are_counted self.old.counts (stack_of S.number self.old.open_elements)
-            (S.forest sink.now) ≡ true }
-        ensures open { OnOk result (stack_of S.number self.new.open_elements
-            ≡ S.number element ∷ stack_of S.number self.old.open_elements) }
+        requires element { IsElement (S.view.number element) (S.view.forest sink.now) }
+        requires counted { are_counted self.old.counts (stack_of S.view.number self.old.open_elements)
+            (S.view.forest sink.now) ≡ true }
+        ensures open { OnOk result (stack_of S.view.number self.new.open_elements ≡ S.view.number element ∷ stack_of
+            S.view.number self.old.open_elements) }
         ensures entries { self.new.entries ≡ self.old.entries }
         ensures fostering { self.new.is_fostering ≡ self.old.is_fostering }
-        ensures counted { OnOk result (are_counted self.new.counts (stack_of S.number self.new.open_elements)
-            (S.forest sink.now) ≡ true) }
+        ensures counted { OnOk result (are_counted self.new.counts (stack_of S.view.number self.new.open_elements)
+            (S.view.forest sink.now) ≡ true) }
         ensures err { OnErr result (self.new ≡ self.old) }
     {
         self.open_elements.push(element)?;
@@ -104,16 +104,16 @@ impl<H: Copy> Held<H> {
 
     /// The current node is no longer open, where an element is.
     pub fn pop<S: TreeSink<Handle = H>>(&mut self, sink: &S)
-        requires elements { (n : ℕ) → IsIn n (stack_of S.number self.old.open_elements) →
-            IsElement n (S.forest sink.now) }
-        requires counted { are_counted self.old.counts (stack_of S.number self.old.open_elements)
-            (S.forest sink.now) ≡ true }
-        ensures open { stack_of S.number self.new.open_elements
-            ≡ below_current (stack_of S.number self.old.open_elements) }
+        requires elements { (n : ℕ) → IsIn n (stack_of S.view.number self.old.open_elements) → IsElement n
+            (S.view.forest sink.now) }
+        requires counted { are_counted self.old.counts (stack_of S.view.number self.old.open_elements)
+            (S.view.forest sink.now) ≡ true }
+        ensures open { stack_of S.view.number self.new.open_elements ≡ below_current
+            (stack_of S.view.number self.old.open_elements) }
         ensures entries { self.new.entries ≡ self.old.entries }
         ensures fostering { self.new.is_fostering ≡ self.old.is_fostering }
-        ensures counted { are_counted self.new.counts (stack_of S.number self.new.open_elements)
-            (S.forest sink.now) ≡ true }
+        ensures counted { are_counted self.new.counts (stack_of S.view.number self.new.open_elements)
+            (S.view.forest sink.now) ≡ true }
     {
         if let Some(element) = self.open_elements.pop() {
             self.counts.remove(sink.elem_name(element));
@@ -172,8 +172,8 @@ impl<H: Copy> Held<H> {
     /// Takes an element's entry off the list.
     pub fn unlist<S: TreeSink<Handle = H>>(&mut self, sink: &S, element: H)
         ensures open { self.new.open_elements ≡ self.old.open_elements }
-        ensures entries { entries_of S.number self.new.entries
-            ≡ without_entry (S.number element) (entries_of S.number self.old.entries) }
+        ensures entries { entries_of S.view.number self.new.entries ≡ without_entry (S.view.number element)
+            (entries_of S.view.number self.old.entries) }
         ensures fostering { self.new.is_fostering ≡ self.old.is_fostering }
         ensures counts { self.new.counts ≡ self.old.counts }
     {
@@ -195,17 +195,17 @@ impl<H: Copy> Held<H> {
 
     /// Takes an element off the stack, wherever it stands.
     pub fn take_off<S: TreeSink<Handle = H>>(&mut self, sink: &S, element: H)
-        requires distinct { AreDistinct (stack_of S.number self.old.open_elements) }
-        requires elements { (n : ℕ) → IsIn n (stack_of S.number self.old.open_elements) →
-            IsElement n (S.forest sink.now) }
-        requires counted { are_counted self.old.counts (stack_of S.number self.old.open_elements)
-            (S.forest sink.now) ≡ true }
-        ensures open { stack_of S.number self.new.open_elements
-            ≡ left_out (S.number element) (stack_of S.number self.old.open_elements) }
+        requires distinct { AreDistinct (stack_of S.view.number self.old.open_elements) }
+        requires elements { (n : ℕ) → IsIn n (stack_of S.view.number self.old.open_elements) → IsElement n
+            (S.view.forest sink.now) }
+        requires counted { are_counted self.old.counts (stack_of S.view.number self.old.open_elements)
+            (S.view.forest sink.now) ≡ true }
+        ensures open { stack_of S.view.number self.new.open_elements ≡ left_out (S.view.number element)
+            (stack_of S.view.number self.old.open_elements) }
         ensures entries { self.new.entries ≡ self.old.entries }
         ensures fostering { self.new.is_fostering ≡ self.old.is_fostering }
-        ensures counted { are_counted self.new.counts (stack_of S.number self.new.open_elements)
-            (S.forest sink.now) ≡ true }
+        ensures counted { are_counted self.new.counts (stack_of S.view.number self.new.open_elements)
+            (S.view.forest sink.now) ≡ true }
     {
         if leave_out(&mut self.open_elements, sink, element) {
             self.counts.remove(sink.elem_name(element));
@@ -214,16 +214,17 @@ impl<H: Copy> Held<H> {
 
     /// Gives an element's place among the open ones to another of its name.
     pub fn replace<S: TreeSink<Handle = H>>(&mut self, sink: &S, element: H, to: H)
-        requires distinct { AreDistinct (stack_of S.number self.old.open_elements) }
-        requires name { name_of (S.number to) (S.forest sink.now) ≡ name_of (S.number element) (S.forest sink.now) }
-        requires counted { are_counted self.old.counts (stack_of S.number self.old.open_elements)
-            (S.forest sink.now) ≡ true }
-        ensures open { stack_of S.number self.new.open_elements
-            ≡ replaced (S.number element) (S.number to) (stack_of S.number self.old.open_elements) }
+        requires distinct { AreDistinct (stack_of S.view.number self.old.open_elements) }
+        requires name { name_of (S.view.number to) (S.view.forest sink.now) ≡ name_of (S.view.number element)
+            (S.view.forest sink.now) }
+        requires counted { are_counted self.old.counts (stack_of S.view.number self.old.open_elements)
+            (S.view.forest sink.now) ≡ true }
+        ensures open { stack_of S.view.number self.new.open_elements ≡ replaced (S.view.number element)
+            (S.view.number to) (stack_of S.view.number self.old.open_elements) }
         ensures entries { self.new.entries ≡ self.old.entries }
         ensures fostering { self.new.is_fostering ≡ self.old.is_fostering }
-        ensures counted { are_counted self.new.counts (stack_of S.number self.new.open_elements)
-            (S.forest sink.now) ≡ true }
+        ensures counted { are_counted self.new.counts (stack_of S.view.number self.new.open_elements)
+            (S.view.forest sink.now) ≡ true }
     {
         put_in_place_of(&mut self.open_elements, sink, element, to);
     }
@@ -235,15 +236,15 @@ impl<H: Copy> Held<H> {
         element: H,
         opened: H,
     ) -> Result<(), AllocError>
-        requires element { IsElement (S.number opened) (S.forest sink.now) }
-        requires counted { are_counted self.old.counts (stack_of S.number self.old.open_elements)
-            (S.forest sink.now) ≡ true }
-        ensures open { OnOk result (stack_of S.number self.new.open_elements
-            ≡ put_before (S.number element) (S.number opened) (stack_of S.number self.old.open_elements)) }
+        requires element { IsElement (S.view.number opened) (S.view.forest sink.now) }
+        requires counted { are_counted self.old.counts (stack_of S.view.number self.old.open_elements)
+            (S.view.forest sink.now) ≡ true }
+        ensures open { OnOk result (stack_of S.view.number self.new.open_elements ≡ put_before (S.view.number element)
+            (S.view.number opened) (stack_of S.view.number self.old.open_elements)) }
         ensures entries { self.new.entries ≡ self.old.entries }
         ensures fostering { self.new.is_fostering ≡ self.old.is_fostering }
-        ensures counted { OnOk result (are_counted self.new.counts (stack_of S.number self.new.open_elements)
-            (S.forest sink.now) ≡ true) }
+        ensures counted { OnOk result (are_counted self.new.counts (stack_of S.view.number self.new.open_elements)
+            (S.view.forest sink.now) ≡ true) }
         ensures err { OnErr result (self.new ≡ self.old) }
     {
         if insert_below(&mut self.open_elements, sink, element, opened)? {
@@ -256,8 +257,8 @@ impl<H: Copy> Held<H> {
     /// Gives an element's entry to another.
     pub fn hand_over<S: TreeSink<Handle = H>>(&mut self, sink: &S, element: H, to: H)
         ensures open { self.new.open_elements ≡ self.old.open_elements }
-        ensures entries { entries_of S.number self.new.entries
-            ≡ handed_over (S.number element) (S.number to) (entries_of S.number self.old.entries) }
+        ensures entries { entries_of S.view.number self.new.entries ≡ handed_over (S.view.number element)
+            (S.view.number to) (entries_of S.view.number self.old.entries) }
         ensures fostering { self.new.is_fostering ≡ self.old.is_fostering }
         ensures counts { self.new.counts ≡ self.old.counts }
     {
@@ -274,8 +275,8 @@ impl<H: Copy> Held<H> {
         copy: H,
     ) -> Result<(), AllocError>
         ensures open { self.new.open_elements ≡ self.old.open_elements }
-        ensures entries { OnOk result (entries_of S.number self.new.entries ≡ entries_at
-            (option_map S.number bookmark) (S.number element) (S.number copy) (entries_of S.number self.old.entries)) }
+        ensures entries { OnOk result (entries_of S.view.number self.new.entries ≡ entries_at (option_map S.view.number
+            bookmark) (S.view.number element) (S.view.number copy) (entries_of S.view.number self.old.entries)) }
         ensures fostering { self.new.is_fostering ≡ self.old.is_fostering }
         ensures counts { self.new.counts ≡ self.old.counts }
         ensures err { OnErr result (self.new ≡ self.old) }
@@ -292,10 +293,10 @@ impl<H: Copy> Held<H> {
 
 // takes an element off, where it is one of these, and says whether it was
 fn leave_out<H: Copy, S: TreeSink<Handle = H>>(elements: &mut Vec<H>, sink: &S, element: H) -> bool
-    requires { AreDistinct (stack_of S.number elements.old.items) }
-    ensures left { stack_of S.number elements.new.items
-        ≡ left_out (S.number element) (stack_of S.number elements.old.items) }
-    ensures was_there { result ≡ is_in (S.number element) (stack_of S.number elements.old.items) }
+    requires { AreDistinct (stack_of S.view.number elements.old.items) }
+    ensures left { stack_of S.view.number elements.new.items ≡ left_out (S.view.number element)
+        (stack_of S.view.number elements.old.items) }
+    ensures was_there { result ≡ is_in (S.view.number element) (stack_of S.view.number elements.old.items) }
 {
     let Some(at) = position(elements.as_slice(), sink, element) else {
         return false;
@@ -311,9 +312,9 @@ fn put_in_place_of<H: Copy, S: TreeSink<Handle = H>>(
     element: H,
     to: H,
 )
-    requires { AreDistinct (stack_of S.number elements.old.items) }
-    ensures { stack_of S.number elements.new.items
-        ≡ replaced (S.number element) (S.number to) (stack_of S.number elements.old.items) }
+    requires { AreDistinct (stack_of S.view.number elements.old.items) }
+    ensures { stack_of S.view.number elements.new.items ≡ replaced (S.view.number element) (S.view.number to)
+        (stack_of S.view.number elements.old.items) }
 {
     if let Some(at) = position(elements.as_slice(), sink, element) {
         elements[at] = to;
@@ -327,9 +328,10 @@ fn insert_below<H: Copy, S: TreeSink<Handle = H>>(
     element: H,
     opened: H,
 ) -> Result<bool, AllocError>
-    ensures ok { OnOk result (stack_of S.number elements.new.items
-        ≡ put_before (S.number element) (S.number opened) (stack_of S.number elements.old.items)) }
-    ensures was_there { IfOk result (λ there. there ≡ is_in (S.number element) (stack_of S.number elements.old.items)) }
+    ensures ok { OnOk result (stack_of S.view.number elements.new.items ≡ put_before (S.view.number element)
+        (S.view.number opened) (stack_of S.view.number elements.old.items)) }
+    ensures was_there { IfOk result (λ there. there ≡ is_in (S.view.number element)
+        (stack_of S.view.number elements.old.items)) }
     ensures err { OnErr result (elements.new.items ≡ elements.old.items) }
 {
     let Some(at) = position(elements.as_slice(), sink, element) else {
@@ -345,8 +347,8 @@ pub fn position<H: Copy, S: TreeSink<Handle = H>>(
     sink: &S,
     target: H,
 ) -> Option<usize>
-    ensures found { IfSome result (IsOpenAt S.number (S.number target) elements.now) }
-    ensures missing { result ≡ None → is_in (S.number target) (stack_of S.number elements.now) ≡ false }
+    ensures found { IfSome result (IsOpenAt S.view.number (S.view.number target) elements.now) }
+    ensures missing { result ≡ None → is_in (S.view.number target) (stack_of S.view.number elements.now) ≡ false }
 {
     let mut at = elements.len();
     'back: while at > 0 {

@@ -14,7 +14,7 @@ use std::alloc::Global;
 
 /// A comment below the document, and others right before it: one, so many without words, and another.
 pub(crate) fn crowd<S: TreeSink>(alloc: Global, sink: &mut S, count: u32) -> Result<(), ParseFault>
-    requires { S.forest sink.old ≡ page_alone }
+    requires { S.view.forest sink.old ≡ page_alone }
 {
     let last = begin(alloc, sink)?;
     put_remark(alloc, sink, last, "first")?;
@@ -23,9 +23,9 @@ pub(crate) fn crowd<S: TreeSink>(alloc: Global, sink: &mut S, count: u32) -> Res
 }
 
 fn begin<S: TreeSink>(alloc: Global, sink: &mut S) -> Result<S::Handle, ParseFault>
-    requires { S.forest sink.old ≡ page_alone }
-    ensures { IfOk result (λ last. IsForest (S.forest sink.new)
-        × IsPlace (before (S.number last)) (S.forest sink.new)) }
+    requires { S.view.forest sink.old ≡ page_alone }
+    ensures { IfOk result (λ last. IsForest (S.view.forest sink.new) × IsPlace (before (S.view.number last))
+        (S.view.forest sink.new)) }
 {
     a_page_alone_is_a_forest();
     making_keeps_a_forest();
@@ -43,9 +43,9 @@ fn put_remarks<S: TreeSink>(
     last: S::Handle,
     count: u32,
 ) -> Result<(), ParseFault>
-    requires { IsForest (S.forest sink.old) × IsPlace (before (S.number last)) (S.forest sink.old) }
-    ensures { OnOk result (IsForest (S.forest sink.new)
-        × IsPlace (before (S.number last)) (S.forest sink.new)) }
+    requires { IsForest (S.view.forest sink.old) × IsPlace (before (S.view.number last)) (S.view.forest sink.old) }
+    ensures { OnOk result (IsForest (S.view.forest sink.new) × IsPlace (before (S.view.number last))
+        (S.view.forest sink.new)) }
 {
     'remarks: for _ in 0..count {
         put_remark(alloc, sink, last, "")?;
@@ -60,9 +60,9 @@ fn put_remark<S: TreeSink>(
     last: S::Handle,
     text: &str,
 ) -> Result<(), ParseFault>
-    requires { IsForest (S.forest sink.old) × IsPlace (before (S.number last)) (S.forest sink.old) }
-    ensures { OnOk result (IsForest (S.forest sink.new)
-        × IsPlace (before (S.number last)) (S.forest sink.new)) }
+    requires { IsForest (S.view.forest sink.old) × IsPlace (before (S.view.number last)) (S.view.forest sink.old) }
+    ensures { OnOk result (IsForest (S.view.forest sink.new) × IsPlace (before (S.view.number last))
+        (S.view.forest sink.new)) }
 {
     making_keeps_a_forest();
     putting_keeps_a_forest();

@@ -16,8 +16,8 @@ pub(crate) fn add_twice<S: TreeSink>(
     more: Attributes,
     most: Attributes,
 ) -> Result<(), ParseFault>
-    requires { S.forest sink.old ≡ page_alone }
-    ensures { OnOk result (S.forest sink.new ≡ with_both name attrs more most) }
+    requires { S.view.forest sink.old ≡ page_alone }
+    ensures { OnOk result (S.view.forest sink.new ≡ with_both name attrs more most) }
 {
     let document = sink.get_document();
     let html = sink.create_element(name, attrs, PLAIN)?;
@@ -35,8 +35,8 @@ pub(crate) fn fill_template<S: TreeSink>(
     inside: QualName,
     below: QualName,
 ) -> Result<(), ParseFault>
-    requires { S.forest sink.old ≡ page_alone }
-    ensures { OnOk result (S.forest sink.new ≡ template_page template inside below) }
+    requires { S.view.forest sink.old ≡ page_alone }
+    ensures { OnOk result (S.view.forest sink.new ≡ template_page template inside below) }
 {
     let flags = ElementFlags {
         template: true,
@@ -61,9 +61,9 @@ pub(crate) fn tell_all<S: TreeSink>(
     message: ErrorMessage,
     mode: QuirksMode,
 ) -> Result<bool, ParseFault>
-    requires { S.forest sink.old ≡ page_alone }
-    ensures forest { OnOk result (S.forest sink.new ≡ one_element name) }
-    ensures quirks { OnOk result (S.quirks sink.new ≡ mode) }
+    requires { S.view.forest sink.old ≡ page_alone }
+    ensures forest { OnOk result (S.view.forest sink.new ≡ one_element name) }
+    ensures quirks { OnOk result (S.view.quirks sink.new ≡ mode) }
 {
     let document = sink.get_document();
     let html = sink.create_element(name, Attributes::new(alloc), PLAIN)?;
@@ -87,8 +87,8 @@ pub(crate) fn ask<S: TreeSink>(
     first: QualName,
     second: QualName,
 ) -> Result<(bool, bool, bool, bool, QualName), ParseFault>
-    requires { S.forest sink.old ≡ page_alone }
-    ensures forest { OnOk result (S.forest sink.new ≡ point_page first second) }
+    requires { S.view.forest sink.old ≡ page_alone }
+    ensures forest { OnOk result (S.view.forest sink.new ≡ point_page first second) }
     ensures points { IfOk result (λ found. (found.0 ≡ true) × (found.1 ≡ false)) }
     ensures same { IfOk result (λ found. (found.2 ≡ true) × (found.3 ≡ false)) }
     ensures name { IfOk result (λ found. found.4 ≡ first) }

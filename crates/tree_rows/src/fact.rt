@@ -67,7 +67,7 @@ fn is_asked<S: TreeSink>(
     alloc: Global,
     fact: &Fact,
 ) -> Result<bool, ParseFault>
-    requires { Sound (seen S.number S.forest S.quirks tree.now.held tree.now.sink) }
+    requires { Sound (seen S.view tree.now.held tree.now.sink) }
 {
     Ok(match *fact {
         Fact::Scopes(name, default, list_item, button, table) => {

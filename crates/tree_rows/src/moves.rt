@@ -16,8 +16,8 @@ pub(crate) fn move_siblings<S: TreeSink>(
     second: QualName,
     third: QualName,
 ) -> Result<(), ParseFault>
-    requires { S.forest sink.old ≡ page_alone }
-    ensures { OnOk result (S.forest sink.new ≡ moved first second third) }
+    requires { S.view.forest sink.old ≡ page_alone }
+    ensures { OnOk result (S.view.forest sink.new ≡ moved first second third) }
 {
     let document = sink.get_document();
     let a = sink.create_element(first, Attributes::new(alloc), PLAIN)?;
@@ -41,8 +41,8 @@ pub(crate) fn foster<S: TreeSink>(
     first: QualName,
     second: QualName,
 ) -> Result<(), ParseFault>
-    requires { S.forest sink.old ≡ page_alone }
-    ensures { OnOk result (S.forest sink.new ≡ fostered table first second) }
+    requires { S.view.forest sink.old ≡ page_alone }
+    ensures { OnOk result (S.view.forest sink.new ≡ fostered table first second) }
 {
     let document = sink.get_document();
     let table = sink.create_element(table, Attributes::new(alloc), PLAIN)?;
@@ -64,8 +64,8 @@ pub(crate) fn wrap_children<S: TreeSink>(
     second: QualName,
     inner: QualName,
 ) -> Result<(), ParseFault>
-    requires { S.forest sink.old ≡ page_alone }
-    ensures { OnOk result (S.forest sink.new ≡ reparented_page outer first second inner) }
+    requires { S.view.forest sink.old ≡ page_alone }
+    ensures { OnOk result (S.view.forest sink.new ≡ reparented_page outer first second inner) }
 {
     let document = sink.get_document();
     let outer = sink.create_element(outer, Attributes::new(alloc), PLAIN)?;
@@ -89,8 +89,8 @@ pub(crate) fn give_children<S: TreeSink>(
     to: QualName,
     second: QualName,
 ) -> Result<(), ParseFault>
-    requires { S.forest sink.old ≡ page_alone }
-    ensures { OnOk result (S.forest sink.new ≡ given_page from first to second) }
+    requires { S.view.forest sink.old ≡ page_alone }
+    ensures { OnOk result (S.view.forest sink.new ≡ given_page from first to second) }
 {
     let document = sink.get_document();
     let from = sink.create_element(from, Attributes::new(alloc), PLAIN)?;
@@ -113,8 +113,8 @@ pub(crate) fn refill<S: TreeSink>(
     first: QualName,
     second: QualName,
 ) -> Result<(), ParseFault>
-    requires { S.forest sink.old ≡ page_alone }
-    ensures { OnOk result (S.forest sink.new ≡ refilled_page outer first second) }
+    requires { S.view.forest sink.old ≡ page_alone }
+    ensures { OnOk result (S.view.forest sink.new ≡ refilled_page outer first second) }
 {
     let document = sink.get_document();
     let outer = sink.create_element(outer, Attributes::new(alloc), PLAIN)?;

@@ -22,8 +22,8 @@ pub(crate) fn build_outline<S: TreeSink>(
     names: (QualName, QualName, QualName),
     attrs: (Attributes, Attributes, Attributes),
 ) -> Result<(), ParseFault>
-    requires { S.forest sink.old ≡ page_alone }
-    ensures { OnOk result (S.forest sink.new ≡ outline doctype.name doctype.public_id doctype.system_id
+    requires { S.view.forest sink.old ≡ page_alone }
+    ensures { OnOk result (S.view.forest sink.new ≡ outline doctype.name doctype.public_id doctype.system_id
         (names.0, attrs.0) (names.1, attrs.1) (names.2, attrs.2)) }
 {
     let document = sink.get_document();
@@ -44,8 +44,8 @@ pub(crate) fn build_remarks<S: TreeSink>(
     target: Text,
     said: Text,
 ) -> Result<(), ParseFault>
-    requires { S.forest sink.old ≡ page_alone }
-    ensures { OnOk result (S.forest sink.new ≡ with_remarks text target said) }
+    requires { S.view.forest sink.old ≡ page_alone }
+    ensures { OnOk result (S.view.forest sink.new ≡ with_remarks text target said) }
 {
     let document = sink.get_document();
     let comment = sink.create_comment(text)?;

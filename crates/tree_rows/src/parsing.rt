@@ -34,7 +34,7 @@ fn parsed<S: TreeSink + Drop>(
     message: String,
     last: Option<String>,
 ) -> Result<S::Output, ParseFault>
-    requires { IsForest (S.forest sink) }
+    requires { IsForest (S.view.forest sink) }
 {
     let mut parser = parse_document(alloc, sink, ParseOpts::default(), table);
     // a refused call is reported by the next one
@@ -63,7 +63,7 @@ fn parsed_in_a_form<S: TreeSink + Drop>(
     context: QualName,
     piece: String,
 ) -> Result<S::Output, ParseFault>
-    requires { S.forest sink ≡ page_alone }
+    requires { S.view.forest sink ≡ page_alone }
 {
     a_page_alone_is_a_forest();
     making_keeps_a_forest();

@@ -123,7 +123,7 @@ fn outline<S: TreeSink>(
     sink: &mut S,
     names: (QualName, QualName, QualName),
 ) -> Result<(), ParseFault>
-    requires { S.forest sink.old ≡ page_alone }
+    requires { S.view.forest sink.old ≡ page_alone }
 {
     let doctype = Declared {
         name: Text::from_str(alloc, "html")?,
@@ -136,7 +136,7 @@ fn outline<S: TreeSink>(
 }
 
 fn remarks<S: TreeSink>(alloc: Global, sink: &mut S) -> Result<(), ParseFault>
-    requires { S.forest sink.old ≡ page_alone }
+    requires { S.view.forest sink.old ≡ page_alone }
 {
     let text = Text::from_str(alloc, "x")?;
     let target = Text::from_str(alloc, "go")?;
@@ -145,7 +145,7 @@ fn remarks<S: TreeSink>(alloc: Global, sink: &mut S) -> Result<(), ParseFault>
 }
 
 fn added<S: TreeSink>(alloc: Global, sink: &mut S, name: QualName) -> Result<(), ParseFault>
-    requires { S.forest sink.old ≡ page_alone }
+    requires { S.view.forest sink.old ≡ page_alone }
 {
     let attrs = attributes(alloc, &[("a", "1")])?;
     let more = attributes(alloc, &[("b", "2"), ("a", "3")])?;
@@ -159,7 +159,7 @@ fn build<S: TreeSink>(
     page: &Page,
     words: &[&str; 4],
 ) -> Result<(), ParseFault>
-    requires { S.forest sink.old ≡ page_alone }
+    requires { S.view.forest sink.old ≡ page_alone }
 {
     let ((a, b), (c, d)) = html_names(alloc, words)?;
     match page {

@@ -46,8 +46,8 @@ pub(crate) enum Step {
 
 /// Nothing open, and a page's document alone.
 pub(crate) fn begun<S: TreeSink>(alloc: Global, sink: S) -> Construction<S>
-    requires { S.forest sink ≡ page_alone }
-    ensures { Sound (seen S.number S.forest S.quirks result.held result.sink) }
+    requires { S.view.forest sink ≡ page_alone }
+    ensures { Sound (seen S.view result.held result.sink) }
 {
     a_page_alone_is_a_forest();
     Construction {
@@ -62,8 +62,8 @@ pub(crate) fn take_all<S: TreeSink>(
     alloc: Global,
     steps: &[Step],
 ) -> Result<(), ParseFault>
-    requires { Sound (seen S.number S.forest S.quirks tree.old.held tree.old.sink) }
-    ensures { OnOk result (Sound (seen S.number S.forest S.quirks tree.new.held tree.new.sink)) }
+    requires { Sound (seen S.view tree.old.held tree.old.sink) }
+    ensures { OnOk result (Sound (seen S.view tree.new.held tree.new.sink)) }
 {
     'steps: for step in steps {
         take(tree, alloc, step)?;
@@ -76,8 +76,8 @@ fn take<S: TreeSink>(
     alloc: Global,
     step: &Step,
 ) -> Result<(), ParseFault>
-    requires { Sound (seen S.number S.forest S.quirks tree.old.held tree.old.sink) }
-    ensures { OnOk result (Sound (seen S.number S.forest S.quirks tree.new.held tree.new.sink)) }
+    requires { Sound (seen S.view tree.old.held tree.old.sink) }
+    ensures { OnOk result (Sound (seen S.view tree.new.held tree.new.sink)) }
 {
     match *step {
         Step::Open(name) => open(tree, alloc, Namespace::Html, name),
@@ -102,8 +102,8 @@ fn take<S: TreeSink>(
 
 // those that take no memory of their own
 fn take_other<S: TreeSink>(tree: &mut Construction<S>, step: &Step) -> Result<(), ParseFault>
-    requires { Sound (seen S.number S.forest S.quirks tree.old.held tree.old.sink) }
-    ensures { OnOk result (Sound (seen S.number S.forest S.quirks tree.new.held tree.new.sink)) }
+    requires { Sound (seen S.view tree.old.held tree.old.sink) }
+    ensures { OnOk result (Sound (seen S.view tree.new.held tree.new.sink)) }
 {
     match *step {
         Step::Foster(is_fostering) => foster(tree, is_fostering),
@@ -129,8 +129,8 @@ fn open<S: TreeSink>(
     ns: Namespace,
     name: &str,
 ) -> Result<(), ParseFault>
-    requires { Sound (seen S.number S.forest S.quirks tree.old.held tree.old.sink) }
-    ensures { OnOk result (Sound (seen S.number S.forest S.quirks tree.new.held tree.new.sink)) }
+    requires { Sound (seen S.view tree.old.held tree.old.sink) }
+    ensures { OnOk result (Sound (seen S.view tree.new.held tree.new.sink)) }
 {
     let name = QualName::new(ns, LocalName::from_str(alloc, name)?);
     tree.insert_element(PushFlag::Push, name, Attributes::new(alloc))?;
@@ -143,8 +143,8 @@ fn format<S: TreeSink>(
     name: &str,
     pairs: &[(&str, &str)],
 ) -> Result<(), ParseFault>
-    requires { Sound (seen S.number S.forest S.quirks tree.old.held tree.old.sink) }
-    ensures { OnOk result (Sound (seen S.number S.forest S.quirks tree.new.held tree.new.sink)) }
+    requires { Sound (seen S.view tree.old.held tree.old.sink) }
+    ensures { OnOk result (Sound (seen S.view tree.new.held tree.new.sink)) }
 {
     let tag = start_tag(alloc, name, attributes(alloc, pairs)?)?;
     if is_formatting_tag(&tag.name) {
@@ -154,8 +154,8 @@ fn format<S: TreeSink>(
 }
 
 fn add<S: TreeSink>(tree: &mut Construction<S>, attrs: Attributes) -> Result<(), ParseFault>
-    requires { Sound (seen S.number S.forest S.quirks tree.old.held tree.old.sink) }
-    ensures { OnOk result (Sound (seen S.number S.forest S.quirks tree.new.held tree.new.sink)) }
+    requires { Sound (seen S.view tree.old.held tree.old.sink) }
+    ensures { OnOk result (Sound (seen S.view tree.new.held tree.new.sink)) }
 {
     match tree.current_node() {
         Some(current) => tree.add_attributes_if_missing(current, attrs),
@@ -164,8 +164,8 @@ fn add<S: TreeSink>(tree: &mut Construction<S>, attrs: Attributes) -> Result<(),
 }
 
 fn foster<S: TreeSink>(tree: &mut Construction<S>, is_fostering: bool)
-    requires { Sound (seen S.number S.forest S.quirks tree.old.held tree.old.sink) }
-    ensures { Sound (seen S.number S.forest S.quirks tree.new.held tree.new.sink) }
+    requires { Sound (seen S.view tree.old.held tree.old.sink) }
+    ensures { Sound (seen S.view tree.new.held tree.new.sink) }
 {
     tree.held.set_fostering(is_fostering);
 }

@@ -26,8 +26,8 @@ pub(crate) fn say_around<S: TreeSink>(
     sink: &mut S,
     name: QualName,
 ) -> Result<(), ParseFault>
-    requires { S.forest sink.old ≡ page_alone }
-    ensures { OnOk result (S.forest sink.new ≡ said_page name) }
+    requires { S.view.forest sink.old ≡ page_alone }
+    ensures { OnOk result (S.view.forest sink.new ≡ said_page name) }
 {
     let document = sink.get_document();
     let a = sink.create_element(name, Attributes::new(alloc), PLAIN)?;

@@ -23,11 +23,10 @@ use tree_words::InsertionMode;
 
 /// The end of the page.
 pub fn page_end<S: TreeSink>(page: &mut Parse<S>) -> Result<Flow<S::Handle>, ParseFault>
-    requires ready { Ready (state_of S.number S.forest S.quirks page.old) }
-    ensures came { IfOk result (λ flow. came_to flow (state_of S.number S.forest S.quirks page.new)
-        ≡ outcome S.handle (end_of_file_row (state_of S.number S.forest S.quirks page.old).mode
-        (state_of S.number S.forest S.quirks page.old)) (state_of S.number S.forest S.quirks page.old)) }
-    ensures ready { OnOk result (Ready (state_of S.number S.forest S.quirks page.new)) }
+    requires ready { Ready (state_of S.view page.old) }
+    ensures came { IfOk result (λ flow. came_to flow (state_of S.view page.new) ≡ outcome S.view.handle
+        (end_of_file_row (state_of S.view page.old).mode (state_of S.view page.old)) (state_of S.view page.old)) }
+    ensures ready { OnOk result (Ready (state_of S.view page.new)) }
     ensures memory { IfErr result (λ e. e ≡ Memory) }
 {
     match page.kept.mode {
@@ -57,11 +56,10 @@ pub fn page_end<S: TreeSink>(page: &mut Parse<S>) -> Result<Flow<S::Handle>, Par
 
 /// A comment.
 pub fn comment<S: TreeSink>(page: &mut Parse<S>, text: &Text) -> Result<Flow<S::Handle>, ParseFault>
-    requires ready { Ready (state_of S.number S.forest S.quirks page.old) }
-    ensures came { IfOk result (λ flow. came_to flow (state_of S.number S.forest S.quirks page.new)
-        ≡ outcome S.handle (comment_row (state_of S.number S.forest S.quirks page.old).mode text.now
-        (state_of S.number S.forest S.quirks page.old)) (state_of S.number S.forest S.quirks page.old)) }
-    ensures ready { OnOk result (Ready (state_of S.number S.forest S.quirks page.new)) }
+    requires ready { Ready (state_of S.view page.old) }
+    ensures came { IfOk result (λ flow. came_to flow (state_of S.view page.new) ≡ outcome S.view.handle
+        (comment_row (state_of S.view page.old).mode text.now (state_of S.view page.old)) (state_of S.view page.old)) }
+    ensures ready { OnOk result (Ready (state_of S.view page.new)) }
     ensures memory { IfErr result (λ e. e ≡ Memory) }
 {
     match page.kept.mode {
@@ -100,11 +98,11 @@ pub fn doctype<S: TreeSink>(
     page: &mut Parse<S>,
     doctype: &Doctype,
 ) -> Result<Flow<S::Handle>, ParseFault>
-    requires ready { Ready (state_of S.number S.forest S.quirks page.old) }
-    ensures came { IfOk result (λ flow. came_to flow (state_of S.number S.forest S.quirks page.new)
-        ≡ outcome S.handle (doctype_row (state_of S.number S.forest S.quirks page.old).mode doctype.now
-        (state_of S.number S.forest S.quirks page.old)) (state_of S.number S.forest S.quirks page.old)) }
-    ensures ready { OnOk result (Ready (state_of S.number S.forest S.quirks page.new)) }
+    requires ready { Ready (state_of S.view page.old) }
+    ensures came { IfOk result (λ flow. came_to flow (state_of S.view page.new) ≡ outcome S.view.handle
+        (doctype_row (state_of S.view page.old).mode doctype.now (state_of S.view page.old))
+        (state_of S.view page.old)) }
+    ensures ready { OnOk result (Ready (state_of S.view page.new)) }
     ensures memory { IfErr result (λ e. e ≡ Memory) }
 {
     match page.kept.mode {

@@ -20,10 +20,10 @@ pub fn take_tag<S: TreeSink>(
     page: &mut Parse<S>,
     tag: &Tag,
 ) -> Result<TokenSinkResult<S::Handle>, ParseFault>
-    requires ready { Ready (state_of S.number S.forest S.quirks page.old) }
-    ensures came { IfOk result (λ answer. finished answer (state_of S.number S.forest S.quirks page.new) ≡ settled_as
-        S.handle (taken (mark_by tag.now.kind tag.now) (state_of S.number S.forest S.quirks page.old))) }
-    ensures ready { OnOk result (Ready (state_of S.number S.forest S.quirks page.new)) }
+    requires ready { Ready (state_of S.view page.old) }
+    ensures came { IfOk result (λ answer. finished answer (state_of S.view page.new) ≡ settled_as S.view.handle
+        (taken (mark_by tag.now.kind tag.now) (state_of S.view page.old))) }
+    ensures ready { OnOk result (Ready (state_of S.view page.new)) }
     ensures memory { IfErr result (λ e. e ≡ Memory) }
 {
     the_rank_falls();
@@ -43,10 +43,10 @@ pub fn take_comment<S: TreeSink>(
     page: &mut Parse<S>,
     text: &Text,
 ) -> Result<TokenSinkResult<S::Handle>, ParseFault>
-    requires ready { Ready (state_of S.number S.forest S.quirks page.old) }
-    ensures came { IfOk result (λ answer. finished answer (state_of S.number S.forest S.quirks page.new) ≡ settled_as
-        S.handle (taken (comment text.now) (state_of S.number S.forest S.quirks page.old))) }
-    ensures ready { OnOk result (Ready (state_of S.number S.forest S.quirks page.new)) }
+    requires ready { Ready (state_of S.view page.old) }
+    ensures came { IfOk result (λ answer. finished answer (state_of S.view page.new) ≡ settled_as S.view.handle
+        (taken (comment text.now) (state_of S.view page.old))) }
+    ensures ready { OnOk result (Ready (state_of S.view page.new)) }
     ensures memory { IfErr result (λ e. e ≡ Memory) }
 {
     the_rank_falls();
@@ -65,10 +65,10 @@ pub fn take_doctype<S: TreeSink>(
     page: &mut Parse<S>,
     doctype: &Doctype,
 ) -> Result<TokenSinkResult<S::Handle>, ParseFault>
-    requires ready { Ready (state_of S.number S.forest S.quirks page.old) }
-    ensures came { IfOk result (λ answer. finished answer (state_of S.number S.forest S.quirks page.new) ≡ settled_as
-        S.handle (taken (doctype_mark doctype.now) (state_of S.number S.forest S.quirks page.old))) }
-    ensures ready { OnOk result (Ready (state_of S.number S.forest S.quirks page.new)) }
+    requires ready { Ready (state_of S.view page.old) }
+    ensures came { IfOk result (λ answer. finished answer (state_of S.view page.new) ≡ settled_as S.view.handle
+        (taken (doctype_mark doctype.now) (state_of S.view page.old))) }
+    ensures ready { OnOk result (Ready (state_of S.view page.new)) }
     ensures memory { IfErr result (λ e. e ≡ Memory) }
 {
     the_rank_falls();
@@ -84,10 +84,10 @@ pub fn take_doctype<S: TreeSink>(
 
 /// NUL.
 pub fn take_null<S: TreeSink>(page: &mut Parse<S>) -> Result<TokenSinkResult<S::Handle>, ParseFault>
-    requires ready { Ready (state_of S.number S.forest S.quirks page.old) }
-    ensures came { IfOk result (λ answer. finished answer (state_of S.number S.forest S.quirks page.new) ≡ settled_as
-        S.handle (taken null (state_of S.number S.forest S.quirks page.old))) }
-    ensures ready { OnOk result (Ready (state_of S.number S.forest S.quirks page.new)) }
+    requires ready { Ready (state_of S.view page.old) }
+    ensures came { IfOk result (λ answer. finished answer (state_of S.view page.new) ≡ settled_as S.view.handle
+        (taken null (state_of S.view page.old))) }
+    ensures ready { OnOk result (Ready (state_of S.view page.new)) }
     ensures memory { IfErr result (λ e. e ≡ Memory) }
 {
     the_rank_falls();
@@ -105,10 +105,10 @@ pub fn take_null<S: TreeSink>(page: &mut Parse<S>) -> Result<TokenSinkResult<S::
 pub fn take_page_end<S: TreeSink>(
     page: &mut Parse<S>,
 ) -> Result<TokenSinkResult<S::Handle>, ParseFault>
-    requires ready { Ready (state_of S.number S.forest S.quirks page.old) }
-    ensures came { IfOk result (λ answer. finished answer (state_of S.number S.forest S.quirks page.new) ≡ settled_as
-        S.handle (taken end_of_file (state_of S.number S.forest S.quirks page.old))) }
-    ensures ready { OnOk result (Ready (state_of S.number S.forest S.quirks page.new)) }
+    requires ready { Ready (state_of S.view page.old) }
+    ensures came { IfOk result (λ answer. finished answer (state_of S.view page.new) ≡ settled_as S.view.handle
+        (taken end_of_file (state_of S.view page.old))) }
+    ensures ready { OnOk result (Ready (state_of S.view page.new)) }
     ensures memory { IfErr result (λ e. e ≡ Memory) }
 {
     the_rank_falls();

@@ -24,10 +24,9 @@ use tree_texts::{TextClass, runs_of_text};
 /// Characters of text, where no line feed is left out. Where the mode treats all of them alike they become a node's
 /// text, or a part of one, as they are.
 pub fn take_text<S: TreeSink>(page: &mut Parse<S>, text: Text) -> Result<(), ParseFault>
-    requires calm { IsCalm (state_of S.number S.forest S.quirks page.old) }
-    ensures seen { OnOk result (state_of S.number S.forest S.quirks page.new ≡ took text
-        (state_of S.number S.forest S.quirks page.old)) }
-    ensures calm { OnOk result (IsCalm (state_of S.number S.forest S.quirks page.new)) }
+    requires calm { IsCalm (state_of S.view page.old) }
+    ensures seen { OnOk result (state_of S.view page.new ≡ took text (state_of S.view page.old)) }
+    ensures calm { OnOk result (IsCalm (state_of S.view page.new)) }
     ensures memory { IfErr result (λ e. e ≡ Memory) }
 {
     if is_without_characters(text.as_str()) {
@@ -45,12 +44,11 @@ fn take_settled<S: TreeSink>(
     text: Text,
     is_space: bool,
 ) -> Result<(), ParseFault>
-    requires calm { IsCalm (state_of S.number S.forest S.quirks page.old) }
-    requires settled { IsSettled is_space (state_of S.number S.forest S.quirks page.old) }
+    requires calm { IsCalm (state_of S.view page.old) }
+    requires settled { IsSettled is_space (state_of S.view page.old) }
     requires first { first_passes (is_alike is_space) text ≡ true }
-    ensures seen { OnOk result (state_of S.number S.forest S.quirks page.new ≡ took text
-        (state_of S.number S.forest S.quirks page.old)) }
-    ensures calm { OnOk result (IsCalm (state_of S.number S.forest S.quirks page.new)) }
+    ensures seen { OnOk result (state_of S.view page.new ≡ took text (state_of S.view page.old)) }
+    ensures calm { OnOk result (IsCalm (state_of S.view page.new)) }
     ensures memory { IfErr result (λ e. e ≡ Memory) }
 {
     runs_of_text();
@@ -69,10 +67,9 @@ fn take_settled<S: TreeSink>(
 
 // characters of text, run by run
 fn take_runs<S: TreeSink>(page: &mut Parse<S>, text: &str) -> Result<(), ParseFault>
-    requires calm { IsCalm (state_of S.number S.forest S.quirks page.old) }
-    ensures seen { OnOk result (state_of S.number S.forest S.quirks page.new ≡ took (chars text.now)
-        (state_of S.number S.forest S.quirks page.old)) }
-    ensures calm { OnOk result (IsCalm (state_of S.number S.forest S.quirks page.new)) }
+    requires calm { IsCalm (state_of S.view page.old) }
+    ensures seen { OnOk result (state_of S.view page.new ≡ took (chars text.now) (state_of S.view page.old)) }
+    ensures calm { OnOk result (IsCalm (state_of S.view page.new)) }
     ensures memory { IfErr result (λ e. e ≡ Memory) }
 {
     let mut rest = text;
@@ -84,13 +81,13 @@ fn take_runs<S: TreeSink>(page: &mut Parse<S>, text: &str) -> Result<(), ParseFa
 
 // The longest run in front that the mode which takes the first character treats alike; the answer is what is left.
 fn take_run<'a, S: TreeSink>(page: &mut Parse<S>, text: &'a str) -> Result<&'a str, ParseFault>
-    requires calm { IsCalm (state_of S.number S.forest S.quirks page.old) }
+    requires calm { IsCalm (state_of S.view page.old) }
     requires some { chars text.now ≡ [] → ⊥ }
-    ensures seen { IfOk result (λ left. took (chars left.now) (state_of S.number S.forest S.quirks page.new) ≡ took
-        (chars text.now) (state_of S.number S.forest S.quirks page.old)) }
+    ensures seen { IfOk result (λ left. took (chars left.now) (state_of S.view page.new) ≡ took (chars text.now)
+        (state_of S.view page.old)) }
     ensures less { IfOk result (λ left. length (chars left.now) < length (chars text.now)) }
     ensures utf8 { IfOk result (λ left. IsUtf8 left.now) }
-    ensures calm { OnOk result (IsCalm (state_of S.number S.forest S.quirks page.new)) }
+    ensures calm { OnOk result (IsCalm (state_of S.view page.new)) }
     ensures memory { IfErr result (λ e. e ≡ Memory) }
 {
     let is_space = first_is_white_space(text);
@@ -105,14 +102,14 @@ fn take_front<'a, S: TreeSink>(
     text: &'a str,
     is_space: bool,
 ) -> Result<&'a str, ParseFault>
-    requires calm { IsCalm (state_of S.number S.forest S.quirks page.old) }
-    requires settled { IsSettled is_space (state_of S.number S.forest S.quirks page.old) }
+    requires calm { IsCalm (state_of S.view page.old) }
+    requires settled { IsSettled is_space (state_of S.view page.old) }
     requires first { first_passes (is_alike is_space) (chars text.now) ≡ true }
-    ensures seen { IfOk result (λ left. took (chars left.now) (state_of S.number S.forest S.quirks page.new) ≡ took
-        (chars text.now) (state_of S.number S.forest S.quirks page.old)) }
+    ensures seen { IfOk result (λ left. took (chars left.now) (state_of S.view page.new) ≡ took (chars text.now)
+        (state_of S.view page.old)) }
     ensures less { IfOk result (λ left. length (chars left.now) < length (chars text.now)) }
     ensures utf8 { IfOk result (λ left. IsUtf8 left.now) }
-    ensures calm { OnOk result (IsCalm (state_of S.number S.forest S.quirks page.new)) }
+    ensures calm { OnOk result (IsCalm (state_of S.view page.new)) }
     ensures memory { IfErr result (λ e. e ≡ Memory) }
 {
     runs_of_text();
@@ -133,11 +130,11 @@ fn take_front<'a, S: TreeSink>(
 
 // text goes from mode to mode, up to one that takes it
 fn hand_on<S: TreeSink>(page: &mut Parse<S>, is_space: bool) -> Result<(), ParseFault>
-    requires calm { IsCalm (state_of S.number S.forest S.quirks page.old) }
+    requires calm { IsCalm (state_of S.view page.old) }
     ensures same { OnOk result ((c : ℕ) (cs : List ℕ) → is_white_space c ≡ is_space → took (c ∷ cs)
-        (state_of S.number S.forest S.quirks page.new) ≡ took (c ∷ cs) (state_of S.number S.forest S.quirks page.old)) }
-    ensures settled { OnOk result (IsSettled is_space (state_of S.number S.forest S.quirks page.new)) }
-    ensures calm { OnOk result (IsCalm (state_of S.number S.forest S.quirks page.new)) }
+        (state_of S.view page.new) ≡ took (c ∷ cs) (state_of S.view page.old)) }
+    ensures settled { OnOk result (IsSettled is_space (state_of S.view page.new)) }
+    ensures calm { OnOk result (IsCalm (state_of S.view page.new)) }
     ensures memory { IfErr result (λ e. e ≡ Memory) }
 {
     'rules: while is_handed_on(page, is_space) {
@@ -148,13 +145,11 @@ fn hand_on<S: TreeSink>(page: &mut Parse<S>, is_space: bool) -> Result<(), Parse
 
 // the mode hands text on once
 fn pass_on<S: TreeSink>(page: &mut Parse<S>, is_space: bool) -> Result<(), ParseFault>
-    requires calm { IsCalm (state_of S.number S.forest S.quirks page.old) }
-    requires mode { AreByMode (state_of S.number S.forest S.quirks page.old) }
-    requires handed { IsHandedOn (text_row (state_of S.number S.forest S.quirks page.old).mode is_space
-        (state_of S.number S.forest S.quirks page.old)) }
-    ensures passed { OnOk result (IsPassedOn is_space (state_of S.number S.forest S.quirks page.old)
-        (state_of S.number S.forest S.quirks page.new)) }
-    ensures ready { OnOk result (Ready (state_of S.number S.forest S.quirks page.new)) }
+    requires calm { IsCalm (state_of S.view page.old) }
+    requires mode { AreByMode (state_of S.view page.old) }
+    requires handed { IsHandedOn (text_row (state_of S.view page.old).mode is_space (state_of S.view page.old)) }
+    ensures passed { OnOk result (IsPassedOn is_space (state_of S.view page.old) (state_of S.view page.new)) }
+    ensures ready { OnOk result (Ready (state_of S.view page.new)) }
     ensures memory { IfErr result (λ e. e ≡ Memory) }
 {
     runs_of_text();
@@ -164,10 +159,10 @@ fn pass_on<S: TreeSink>(page: &mut Parse<S>, is_space: bool) -> Result<(), Parse
 
 // whether the mode hands text on
 fn is_handed_on<S: TreeSink>(page: &Parse<S>, is_space: bool) -> bool
-    requires ready { Ready (state_of S.number S.forest S.quirks page.now) }
-    ensures yes { result ≡ true → AreByMode (state_of S.number S.forest S.quirks page.now) × IsHandedOn (text_row
-        (state_of S.number S.forest S.quirks page.now).mode is_space (state_of S.number S.forest S.quirks page.now)) }
-    ensures no { result ≡ false → IsSettled is_space (state_of S.number S.forest S.quirks page.now) }
+    requires ready { Ready (state_of S.view page.now) }
+    ensures yes { result ≡ true → AreByMode (state_of S.view page.now) × IsHandedOn
+        (text_row (state_of S.view page.now).mode is_space (state_of S.view page.now)) }
+    ensures no { result ≡ false → IsSettled is_space (state_of S.view page.now) }
 {
     if !takes_text_here(page) {
         return false;
@@ -177,10 +172,9 @@ fn is_handed_on<S: TreeSink>(page: &Parse<S>, is_space: bool) -> bool
 
 // characters are inserted; others than white space refuse framesets
 fn say_told<S: TreeSink>(page: &mut Parse<S>, run: Text) -> Result<(), ParseFault>
-    requires ready { Ready (state_of S.number S.forest S.quirks page.old) }
-    ensures seen { OnOk result (state_of S.number S.forest S.quirks page.new ≡ told run
-        (state_of S.number S.forest S.quirks page.old)) }
-    ensures ready { OnOk result (Ready (state_of S.number S.forest S.quirks page.new)) }
+    requires ready { Ready (state_of S.view page.old) }
+    ensures seen { OnOk result (state_of S.view page.new ≡ told run (state_of S.view page.old)) }
+    ensures ready { OnOk result (Ready (state_of S.view page.new)) }
     ensures memory { IfErr result (λ e. e ≡ Memory) }
 {
     let is_space = are_white_space(run.as_str());
@@ -194,14 +188,13 @@ fn say_told<S: TreeSink>(page: &mut Parse<S>, run: Text) -> Result<(), ParseFaul
 
 // a run by the mode
 fn say_as<S: TreeSink>(page: &mut Parse<S>, class: TextClass, run: Text) -> Result<(), ParseFault>
-    requires calm { IsCalm (state_of S.number S.forest S.quirks page.old) }
-    requires mode { AreByMode (state_of S.number S.forest S.quirks page.old) }
-    requires all { AreOfClass class run (state_of S.number S.forest S.quirks page.old) }
+    requires calm { IsCalm (state_of S.view page.old) }
+    requires mode { AreByMode (state_of S.view page.old) }
+    requires all { AreOfClass class run (state_of S.view page.old) }
     requires some { run ≡ [] → ⊥ }
     requires apart { class ≡ HandedOn → ⊥ }
-    ensures seen { OnOk result (state_of S.number S.forest S.quirks page.new ≡ took run
-        (state_of S.number S.forest S.quirks page.old)) }
-    ensures calm { OnOk result (IsCalm (state_of S.number S.forest S.quirks page.new)) }
+    ensures seen { OnOk result (state_of S.view page.new ≡ took run (state_of S.view page.old)) }
+    ensures calm { OnOk result (IsCalm (state_of S.view page.new)) }
     ensures memory { IfErr result (λ e. e ≡ Memory) }
 {
     runs_of_text();

@@ -16,9 +16,8 @@ use tree_words::InsertionMode;
 
 /// How the mode takes characters, all white space or none, by the rules for HTML.
 pub fn text_class<S: TreeSink>(page: &Parse<S>, is_space: bool) -> TextClass
-    requires ready { Ready (state_of S.number S.forest S.quirks page.now) }
-    ensures { IsOfClass result is_space (text_row (state_of S.number S.forest S.quirks page.now).mode is_space
-        (state_of S.number S.forest S.quirks page.now)) }
+    requires ready { Ready (state_of S.view page.now) }
+    ensures { IsOfClass result is_space (text_row (state_of S.view page.now).mode is_space (state_of S.view page.now)) }
 {
     match page.kept.mode {
         InsertionMode::Initial | InsertionMode::BeforeHtml | InsertionMode::BeforeHead => {
@@ -70,9 +69,8 @@ pub fn text_class<S: TreeSink>(page: &Parse<S>, is_space: bool) -> TextClass
 
 // in a table text is collected where the current node is a part of it
 fn class_in_table<S: TreeSink>(page: &Parse<S>) -> TextClass
-    requires ready { Ready (state_of S.number S.forest S.quirks page.now) }
-    ensures { (is_space : Bool) → IsOfClass result is_space (in_table_text_row is_space
-        (state_of S.number S.forest S.quirks page.now)) }
+    requires ready { Ready (state_of S.view page.now) }
+    ensures { (is_space : Bool) → IsOfClass result is_space (in_table_text_row is_space (state_of S.view page.now)) }
 {
     if page.collects_text() {
         return TextClass::HandedOn;
@@ -82,8 +80,8 @@ fn class_in_table<S: TreeSink>(page: &Parse<S>) -> TextClass
 
 // in a group of columns white space is inserted
 fn class_in_column_group<S: TreeSink>(page: &Parse<S>, is_space: bool) -> TextClass
-    requires ready { Ready (state_of S.number S.forest S.quirks page.now) }
-    ensures { IsOfClass result is_space (in_column_group_text is_space (state_of S.number S.forest S.quirks page.now)) }
+    requires ready { Ready (state_of S.view page.now) }
+    ensures { IsOfClass result is_space (in_column_group_text is_space (state_of S.view page.now)) }
 {
     if is_space {
         return TextClass::Inserted;

@@ -24,11 +24,11 @@ pub fn hand_text_on<S: TreeSink>(
     page: &mut Parse<S>,
     is_space: bool,
 ) -> Result<Flow<S::Handle>, ParseFault>
-    requires ready { Ready (state_of S.number S.forest S.quirks page.old) }
-    ensures came { IfOk result (λ flow. came_to flow (state_of S.number S.forest S.quirks page.new)
-        ≡ outcome S.handle (for_null (text_row (state_of S.number S.forest S.quirks page.old).mode is_space
-        (state_of S.number S.forest S.quirks page.old))) (state_of S.number S.forest S.quirks page.old)) }
-    ensures ready { OnOk result (Ready (state_of S.number S.forest S.quirks page.new)) }
+    requires ready { Ready (state_of S.view page.old) }
+    ensures came { IfOk result (λ flow. came_to flow (state_of S.view page.new) ≡ outcome S.view.handle
+        (for_null (text_row (state_of S.view page.old).mode is_space (state_of S.view page.old)))
+        (state_of S.view page.old)) }
+    ensures ready { OnOk result (Ready (state_of S.view page.new)) }
     ensures memory { IfErr result (λ e. e ≡ Memory) }
 {
     match page.kept.mode {
@@ -103,11 +103,10 @@ pub fn hand_text_on<S: TreeSink>(
 
 // text in a table is collected where the current node is a part of a table
 fn collect_text_here<S: TreeSink>(page: &mut Parse<S>) -> Result<Flow<S::Handle>, ParseFault>
-    requires ready { Ready (state_of S.number S.forest S.quirks page.old) }
-    ensures came { IfOk result (λ flow. came_to flow (state_of S.number S.forest S.quirks page.new)
-        ≡ outcome S.handle (for_null (in_table_text_row false (state_of S.number S.forest S.quirks page.old)))
-        (state_of S.number S.forest S.quirks page.old)) }
-    ensures ready { OnOk result (Ready (state_of S.number S.forest S.quirks page.new)) }
+    requires ready { Ready (state_of S.view page.old) }
+    ensures came { IfOk result (λ flow. came_to flow (state_of S.view page.new) ≡ outcome S.view.handle
+        (for_null (in_table_text_row false (state_of S.view page.old))) (state_of S.view page.old)) }
+    ensures ready { OnOk result (Ready (state_of S.view page.new)) }
     ensures memory { IfErr result (λ e. e ≡ Memory) }
 {
     if !page.collects_text() {

@@ -4,10 +4,10 @@ use Rattle.formatting_list.proofs.find.is_behind_marker_without.Given as goal
 
 -- neither was passed
 abbrev pub invariant-back : goal.invariant-back
-invariant-back g l = is_listed (g.S.TreeSink.number l.target)
-    (up_to_marker (without_entry (g.S.TreeSink.number l.without) (entries_of g.S.TreeSink.number l.rest)))
-    ≡ is_listed (g.S.TreeSink.number l.target)
-    (up_to_marker (without_entry (g.S.TreeSink.number l.without) (entries_of g.S.TreeSink.number l.entries)))
+invariant-back g l = is_listed (g.S.TreeSink.view.number l.target)
+    (up_to_marker (without_entry (g.S.TreeSink.view.number l.without) (entries_of g.S.TreeSink.view.number l.rest)))
+    ≡ is_listed (g.S.TreeSink.view.number l.target)
+    (up_to_marker (without_entry (g.S.TreeSink.view.number l.without) (entries_of g.S.TreeSink.view.number l.entries)))
 
 abbrev pub decreases-back : goal.decreases-back
 decreases-back g l = length l.rest

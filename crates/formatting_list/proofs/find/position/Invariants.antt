@@ -5,7 +5,8 @@ use Rattle.formatting_list.proofs.find.position.Given as goal
 -- the element stands nowhere behind
 abbrev pub invariant-back : goal.invariant-back
 invariant-back g l = (l.at ≤ length l.entries)
-    × (is_listed (g.S.TreeSink.number l.target) (entries_of g.S.TreeSink.number (drop l.at l.entries)) ≡ false)
+    × (is_listed (g.S.TreeSink.view.number l.target) (entries_of g.S.TreeSink.view.number (drop l.at l.entries))
+    ≡ false)
 
 abbrev pub decreases-back : goal.decreases-back
 decreases-back g l = l.at

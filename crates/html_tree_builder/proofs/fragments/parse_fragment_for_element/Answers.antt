@@ -6,11 +6,11 @@ use Rattle.tree_builder.specs.Begun.{begun_fragment, context_state}
 pub returns-clause-begins : goal.returns-clause-begins
 returns-clause-begins g c = λ text final does.
     let tree = g.S.TreeSink in
-    let context = tree.number c.args.context in
-    let nodes = tree.forest c.args.sink in
+    let context = tree.view.number c.args.context in
+    let nodes = tree.view.forest c.args.sink in
     c.parser_from.ensures.begins
-    (begun_fragment c.args.opts.tree_builder context (option_map tree.number c.args.form) nodes
-    (tree.quirks c.args.sink))
+    (begun_fragment c.args.opts.tree_builder context (option_map tree.view.number c.args.form) nodes
+    (tree.view.quirks c.args.sink))
     (context_state c.args.scripting (name_of context nodes))
     c.in_ok-builder.ensures.begun
     (c.context_state-first.ensures ∙ ap (context_state c.args.scripting) c.elem_name.ensures)

@@ -15,8 +15,8 @@ new-requires g c = record { is_ready = c.requires.ready; hears = λ item kind. c
 pub returns-clause-begins : goal.returns-clause-begins
 unfolding Completes
 returns-clause-begins g c = λ begun first is_begun is_first text final does.
-    let state = state_in g.S.TreeSink.number g.S.TreeSink.forest g.S.TreeSink.quirks in
-    let means = meaning g.S.TreeSink.handle in
+    let state = state_in g.S.TreeSink.view in
+    let means = meaning g.S.TreeSink.view.handle in
     let opts = c.args.opts in
     let pages : List ℕ = page_text opts.discard_bom text in
     let read : tokenizers.Completes state means c.new.result text final = subst

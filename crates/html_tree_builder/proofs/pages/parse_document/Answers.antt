@@ -10,8 +10,8 @@ use Rattle.tree_rules.specs.Settling.{meaning}
 pub returns-clause-begins : goal.returns-clause-begins
 unfolding Completes
 returns-clause-begins g c = λ page final does.
-    let state = state_in g.S.TreeSink.number g.S.TreeSink.forest g.S.TreeSink.quirks in
-    let means = meaning g.S.TreeSink.handle in
+    let state = state_in g.S.TreeSink.view in
+    let means = meaning g.S.TreeSink.view.handle in
     let opts = c.args.opts.tokenizer in
     let read : tokenizers.Completes state means c.new.result page final = subst
     (λ q. tokenizers.Completes state means c.new.result (q.text ++ page) final) c.new-2.ensures does in

@@ -9,5 +9,5 @@ returns-clause-as_before g c =
       page = record { kept = page.kept; tree = record { held = page.tree.held; sink = c.parse_error.new.self } };
     } in
     c.a_builder_may_change_but_for_its_state.ensures c.args.tokenizer.now builder _
-    (same_parsed g.S.TreeSink.number g.S.TreeSink.forest g.S.TreeSink.quirks page.kept page.tree.held
+    (same_parsed g.S.TreeSink.view page.kept page.tree.held
     c.parse_error.new.self page.tree.sink c.parse_error.ensures.forest c.parse_error.ensures.quirks)

@@ -7,7 +7,7 @@ use Rattle.html_tree_state.proofs.reconstruction.kept_entries.Given as goal
 -- none of those that were passed stays
 abbrev pub invariant-back : goal.invariant-back
 invariant-back g l =
-    let number = g.S.TreeSink.number in
+    let number = g.S.TreeSink.view.number in
     (l.at ≤ length l.entries)
     × (made_already (stack_of number l.elements) (entries_of number (take l.at l.entries))
     ≡ made_already (stack_of number l.elements) (entries_of number l.entries))

@@ -9,7 +9,7 @@ returns-clause-grown g c =
     let sink = g.S.TreeSink in
     IfOk-weaker c.one.result _ _
     (λ output grown. subst
-    (λ cs. IsGrown (Completes sink.number sink.handle sink.forest sink.quirks c.args.parser cs)
+    (λ cs. IsGrown (Completes sink.view c.args.parser cs)
     (sink.tree output) (sink.tree_quirks output))
     c.in_ok-text.ensures.text grown)
     c.one.ensures.grown

@@ -6,12 +6,12 @@ use Rattle.page_reading.proofs.feeding.feed.Goals as goal
 
 pub returns-clause-reads : goal.returns-clause-reads
 returns-clause-reads g c =
-    let number = g.S.TreeSink.number in
-    let handle = g.S.TreeSink.handle in
-    let forest = g.S.TreeSink.forest in
-    let quirks = g.S.TreeSink.quirks in
+    let number = g.S.TreeSink.view.number in
+    let handle = g.S.TreeSink.view.handle in
+    let forest = g.S.TreeSink.view.forest in
+    let quirks = g.S.TreeSink.view.quirks in
     on_ok_weaker c.process.result
-    (λ reads. fed (Completes number handle forest quirks c.process.new.self)
-    (Completes number handle forest quirks c.args.parser.now) c.args.decoder.now.held c.push.new.self.held
+    (λ reads. fed (Completes g.S.TreeSink.view c.process.new.self)
+    (Completes g.S.TreeSink.view c.args.parser.now) c.args.decoder.now.held c.push.new.self.held
     c.args.piece.now (chars (string_bytes c.in_ok-text.text)) c.in_ok-text.ensures.text reads)
     c.process.ensures.reads

@@ -5,6 +5,6 @@ use Rattle.page_reading.proofs.TreeLemmas.{tree_of_reading}
 use Rattle.html_tree_builder.specs.Begun.{begun}
 
 pub returns : goal.returns
-returns g c = λ from text. tree_of_reading g.S.TreeSink.handle from text (c.some_reading.ensures from.table
+returns g c = λ from text. tree_of_reading g.S.TreeSink.view.handle from text (c.some_reading.ensures from.table
     (first_mode from.options.tokenizer) (begun from.options.tree_builder from.forest from.quirks)
     (page_text from.options.tokenizer.discard_bom text))

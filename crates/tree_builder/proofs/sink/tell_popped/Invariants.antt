@@ -7,9 +7,9 @@ abbrev pub invariant-elements : goal.invariant-elements
 invariant-elements g l =
     let tree = g.S.TreeSink in
     record {
-      elements : AreElements (tree.forest l.sink) (stack_of tree.number l.rest);
-      forest : tree.forest l.sink ≡ tree.forest l.fn.sink;
-      quirks : tree.quirks l.sink ≡ tree.quirks l.fn.sink;
+      elements : AreElements (tree.view.forest l.sink) (stack_of tree.view.number l.rest);
+      forest : tree.view.forest l.sink ≡ tree.view.forest l.fn.sink;
+      quirks : tree.view.quirks l.sink ≡ tree.view.quirks l.fn.sink;
     }
 
 abbrev pub decreases-elements : goal.decreases-elements

@@ -7,7 +7,7 @@ use Rattle.tree_building.proofs.held.insert_below.Goals as goal
 
 pub returns-clause-ok : goal.returns-clause-ok
 returns-clause-ok g c =
-    let number = g.S.TreeSink.number in
+    let number = g.S.TreeSink.view.number in
     let at = subst (λ (xs : List g.row.H.Denot). IsOpenAt number (number c.args.element) xs c.in-Some.at)
     c.as_slice.ensures.value c.in-Some.ensures.found in
     ap (stack_of number) c.in_ok-insert.ensures.items
@@ -15,7 +15,7 @@ returns-clause-ok g c =
 
 pub returns-in_default-clause-ok : goal.returns-in_default-clause-ok
 returns-in_default-clause-ok g c =
-    let number = g.S.TreeSink.number in
+    let number = g.S.TreeSink.view.number in
     let none = subst (λ (xs : List g.row.H.Denot). is_in (number c.args.element) (stack_of number xs) ≡ false)
     c.as_slice.ensures.value (c.position.ensures.missing c.in_default.is) in
     sym (put_before_none (number c.args.element) (number c.args.opened)
@@ -23,13 +23,13 @@ returns-in_default-clause-ok g c =
 
 pub returns-clause-was_there : goal.returns-clause-was_there
 returns-clause-was_there g c =
-    let number = g.S.TreeSink.number in
+    let number = g.S.TreeSink.view.number in
     let at = subst (λ (xs : List g.row.H.Denot). IsOpenAt number (number c.args.element) xs c.in-Some.at)
     c.as_slice.ensures.value c.in-Some.ensures.found in
     sym at.is_there
 
 pub returns-in_default-clause-was_there : goal.returns-in_default-clause-was_there
 returns-in_default-clause-was_there g c =
-    let number = g.S.TreeSink.number in
+    let number = g.S.TreeSink.view.number in
     sym (subst (λ (xs : List g.row.H.Denot). is_in (number c.args.element) (stack_of number xs) ≡ false)
     c.as_slice.ensures.value (c.position.ensures.missing c.in_default.is))

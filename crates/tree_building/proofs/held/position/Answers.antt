@@ -7,7 +7,7 @@ use Rattle.tree_building.proofs.held.position.Goals as goal
 
 pub returns-then-same_node-clause-found : goal.returns-then-same_node-clause-found
 returns-then-same_node-clause-found g c =
-    let number = g.S.TreeSink.number in
+    let number = g.S.TreeSink.view.number in
     let e : c.back.at ≡ suc (c.back.at - 1) = omega arith in
     let P : ℕ → Type 0 = λ v. is_in (number c.args.target) (stack_of number (drop v c.args.elements.now)) ≡ false in
     open_at number (number c.args.target) c.args.elements.now (c.back.at - 1) c.index-elements-at.result (omega arith)
@@ -16,7 +16,7 @@ returns-then-same_node-clause-found g c =
 
 pub back-preserved : goal.back-preserved
 back-preserved g c =
-    let number = g.S.TreeSink.number in
+    let number = g.S.TreeSink.view.number in
     let e : c.back.at ≡ suc (c.back.at - 1) = omega arith in
     let P : ℕ → Type 0 = λ v. is_in (number c.args.target) (stack_of number (drop v c.args.elements.now)) ≡ false in
     let other : (number c.args.target == number c.index-elements-at.result) ≡ false =

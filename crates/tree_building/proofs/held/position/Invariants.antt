@@ -6,7 +6,7 @@ use Rattle.tree_building.proofs.held.position.Given as goal
 -- the element is none of those behind
 abbrev pub invariant-back : goal.invariant-back
 invariant-back g l = (l.at ≤ length l.elements)
-    × (is_in (g.S.TreeSink.number l.target) (stack_of g.S.TreeSink.number (drop l.at l.elements)) ≡ false)
+    × (is_in (g.S.TreeSink.view.number l.target) (stack_of g.S.TreeSink.view.number (drop l.at l.elements)) ≡ false)
 
 abbrev pub decreases-back : goal.decreases-back
 decreases-back g l = l.at

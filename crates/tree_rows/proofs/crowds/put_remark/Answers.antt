@@ -12,14 +12,14 @@ pub append_before_sibling-requires : goal.append_before_sibling-requires
 append_before_sibling-requires g c =
     let cs = c.in_ok-from_str.field-0 in
     rw (c.in_ok-remark.ensures.forest, c.in_ok-remark.ensures.number)
-    (c.what_was_made_may_be_put.ensures.leaf (before (g.S.TreeSink.number c.args.last)) (comment cs)
-    (g.S.TreeSink.forest c.args.sink.now) c.requires.0 c.requires.1 refl (not_document cs))
+    (c.what_was_made_may_be_put.ensures.leaf (before (g.S.TreeSink.view.number c.args.last)) (comment cs)
+    (g.S.TreeSink.view.forest c.args.sink.now) c.requires.0 c.requires.1 refl (not_document cs))
 
 pub returns : goal.returns
 returns g c =
     let cs = c.in_ok-from_str.field-0 in
-    let f = g.S.TreeSink.forest c.args.sink.now in
-    let s = g.S.TreeSink.number c.args.last in
+    let f = g.S.TreeSink.view.forest c.args.sink.now in
+    let s = g.S.TreeSink.view.number c.args.last in
     let forest = c.making_keeps_a_forest.ensures.leaf (comment cs) f c.requires.0 refl in
     let can = c.what_was_made_may_be_put.ensures.leaf (before s) (comment cs) f c.requires.0 c.requires.1 refl
     (not_document cs) in
@@ -30,7 +30,8 @@ returns g c =
           c.requires.1.1)),
     ) in
     on_ok_weaker c.append_before_sibling.result
-    (λ e. kept s (g.S.TreeSink.number c.in_ok-remark.remark) cs f (g.S.TreeSink.forest c.create_comment.new.self)
-    (g.S.TreeSink.forest c.append_before_sibling.new.self) c.in_ok-remark.ensures.number
+    (λ e. kept s (g.S.TreeSink.view.number c.in_ok-remark.remark) cs f (g.S.TreeSink.view.forest
+    c.create_comment.new.self)
+    (g.S.TreeSink.view.forest c.append_before_sibling.new.self) c.in_ok-remark.ensures.number
     c.in_ok-remark.ensures.forest e (c.putting_keeps_a_forest.ensures (before s) (node (nodes f))
     (made (comment cs) f) forest can) place) c.append_before_sibling.ensures.forest

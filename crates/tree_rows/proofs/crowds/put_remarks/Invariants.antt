@@ -5,4 +5,5 @@ use Rattle.tree_rows.proofs.crowds.put_remarks.Given as goal
 
 abbrev pub invariant-remarks : goal.invariant-remarks
 invariant-remarks g l =
-    IsForest (g.S.TreeSink.forest l.sink) × IsPlace (before (g.S.TreeSink.number l.last)) (g.S.TreeSink.forest l.sink)
+    IsForest (g.S.TreeSink.view.forest l.sink) × IsPlace (before (g.S.TreeSink.view.number l.last))
+    (g.S.TreeSink.view.forest l.sink)

@@ -25,7 +25,7 @@ get_template_contents-contents-requires g c = (
 pub append-requires-2 : goal.append-requires-2
 append-requires-2 g c =
     let s = g.S.TreeSink in
-    let e : contents_of (s.number c.in_ok-template.template) (s.forest c.create_element-2.new.self) ≡ Some 2 =
+    let e : contents_of (s.view.number c.in_ok-template.template) (s.view.forest c.create_element-2.new.self) ≡ Some 2 =
     rw (
       c.in_ok-a.ensures.forest,
       c.in_ok-append.ensures.forest,
@@ -34,7 +34,7 @@ append-requires-2 g c =
       c.requires,
       c.get_document-document.ensures,
     ) refl in
-    let n : s.number c.get_template_contents-contents.result ≡ 2 =
+    let n : s.view.number c.get_template_contents-contents.result ≡ 2 =
     same_some _ _ (sym c.get_template_contents-contents.ensures ∙ e) in
     rw (
       n,
@@ -51,7 +51,7 @@ append-requires-2 g c =
 pub append-requires-3 : goal.append-requires-3
 append-requires-3 g c =
     let s = g.S.TreeSink in
-    let e : contents_of (s.number c.in_ok-template.template) (s.forest c.create_element-2.new.self) ≡ Some 2 =
+    let e : contents_of (s.view.number c.in_ok-template.template) (s.view.forest c.create_element-2.new.self) ≡ Some 2 =
     rw (
       c.in_ok-a.ensures.forest,
       c.in_ok-append.ensures.forest,
@@ -60,7 +60,7 @@ append-requires-3 g c =
       c.requires,
       c.get_document-document.ensures,
     ) refl in
-    let n : s.number c.get_template_contents-contents.result ≡ 2 =
+    let n : s.view.number c.get_template_contents-contents.result ≡ 2 =
     same_some _ _ (sym c.get_template_contents-contents.ensures ∙ e) in
     rw (
       c.in_ok-b.ensures.forest,

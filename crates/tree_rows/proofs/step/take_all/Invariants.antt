@@ -5,4 +5,4 @@ use Rattle.tree_rows.proofs.step.take_all.Given as goal
 abbrev pub invariant-steps : goal.invariant-steps
 invariant-steps g l =
     let tree = g.S.TreeSink in
-    Sound (seen tree.number tree.forest tree.quirks l.tree.held l.tree.sink)
+    Sound (seen tree.view l.tree.held l.tree.sink)

@@ -15,8 +15,8 @@ append-requires-2 g c =
     let s = g.S.TreeSink in
     let name = c.args.name in
     let d = c.get_document-document.ensures in
-    let n : s.number c.in_ok-a.a ≡ 1 = rw (c.in_ok-a.ensures.number, c.requires) refl in
-    let p0 : s.forest c.append.new.self ≡ one_element name =
+    let n : s.view.number c.in_ok-a.a ≡ 1 = rw (c.in_ok-a.ensures.number, c.requires) refl in
+    let p0 : s.view.forest c.append.new.self ≡ one_element name =
     rw (c.in_ok-append.ensures.forest, c.in_ok-a.ensures.forest, c.new.ensures, n, c.requires, d) refl in
     rw (p0, d) (words_below 0 [] (one_element name) refl)
 
@@ -25,10 +25,10 @@ append-requires-3 g c =
     let s = g.S.TreeSink in
     let name = c.args.name in
     let d = c.get_document-document.ensures in
-    let n : s.number c.in_ok-a.a ≡ 1 = rw (c.in_ok-a.ensures.number, c.requires) refl in
-    let p0 : s.forest c.append.new.self ≡ one_element name =
+    let n : s.view.number c.in_ok-a.a ≡ 1 = rw (c.in_ok-a.ensures.number, c.requires) refl in
+    let p0 : s.view.forest c.append.new.self ≡ one_element name =
     rw (c.in_ok-append.ensures.forest, c.in_ok-a.ensures.forest, c.new.ensures, n, c.requires, d) refl in
-    let p1 : s.forest c.append-2.new.self ≡ said_one name =
+    let p1 : s.view.forest c.append-2.new.self ≡ said_one name =
     rw (c.in_ok-append-2.ensures.forest, d, c.in_ok-first.ensures, p0) (one_is name) in
     rw (p1, d) (one_at name)
 
@@ -37,12 +37,12 @@ append_before_sibling-requires g c =
     let s = g.S.TreeSink in
     let name = c.args.name in
     let d = c.get_document-document.ensures in
-    let n : s.number c.in_ok-a.a ≡ 1 = rw (c.in_ok-a.ensures.number, c.requires) refl in
-    let p0 : s.forest c.append.new.self ≡ one_element name =
+    let n : s.view.number c.in_ok-a.a ≡ 1 = rw (c.in_ok-a.ensures.number, c.requires) refl in
+    let p0 : s.view.forest c.append.new.self ≡ one_element name =
     rw (c.in_ok-append.ensures.forest, c.in_ok-a.ensures.forest, c.new.ensures, n, c.requires, d) refl in
-    let p1 : s.forest c.append-2.new.self ≡ said_one name =
+    let p1 : s.view.forest c.append-2.new.self ≡ said_one name =
     rw (c.in_ok-append-2.ensures.forest, d, c.in_ok-first.ensures, p0) (one_is name) in
-    let p2 : s.forest c.append-3.new.self ≡ said_two name =
+    let p2 : s.view.forest c.append-3.new.self ≡ said_two name =
     rw (c.in_ok-append-3.ensures.forest, d, c.in_ok-second.ensures, p1) (two_is name) in
     rw (p2, n) (two_at name)
 
@@ -51,14 +51,14 @@ append_based_on_parent_node-requires g c =
     let s = g.S.TreeSink in
     let name = c.args.name in
     let d = c.get_document-document.ensures in
-    let n : s.number c.in_ok-a.a ≡ 1 = rw (c.in_ok-a.ensures.number, c.requires) refl in
-    let p0 : s.forest c.append.new.self ≡ one_element name =
+    let n : s.view.number c.in_ok-a.a ≡ 1 = rw (c.in_ok-a.ensures.number, c.requires) refl in
+    let p0 : s.view.forest c.append.new.self ≡ one_element name =
     rw (c.in_ok-append.ensures.forest, c.in_ok-a.ensures.forest, c.new.ensures, n, c.requires, d) refl in
-    let p1 : s.forest c.append-2.new.self ≡ said_one name =
+    let p1 : s.view.forest c.append-2.new.self ≡ said_one name =
     rw (c.in_ok-append-2.ensures.forest, d, c.in_ok-first.ensures, p0) (one_is name) in
-    let p2 : s.forest c.append-3.new.self ≡ said_two name =
+    let p2 : s.view.forest c.append-3.new.self ≡ said_two name =
     rw (c.in_ok-append-3.ensures.forest, d, c.in_ok-second.ensures, p1) (two_is name) in
-    let p3 : s.forest c.append_before_sibling.new.self ≡ said_three name =
+    let p3 : s.view.forest c.append_before_sibling.new.self ≡ said_three name =
     rw (c.in_ok-append_before_sibling.ensures.forest, n, c.in_ok-third.ensures, p2) (three_is name) in
     rw (p3, n, d) (three_at name)
 
@@ -67,18 +67,18 @@ append_based_on_parent_node-requires-2 g c =
     let s = g.S.TreeSink in
     let name = c.args.name in
     let d = c.get_document-document.ensures in
-    let n : s.number c.in_ok-a.a ≡ 1 = rw (c.in_ok-a.ensures.number, c.requires) refl in
-    let p0 : s.forest c.append.new.self ≡ one_element name =
+    let n : s.view.number c.in_ok-a.a ≡ 1 = rw (c.in_ok-a.ensures.number, c.requires) refl in
+    let p0 : s.view.forest c.append.new.self ≡ one_element name =
     rw (c.in_ok-append.ensures.forest, c.in_ok-a.ensures.forest, c.new.ensures, n, c.requires, d) refl in
-    let p1 : s.forest c.append-2.new.self ≡ said_one name =
+    let p1 : s.view.forest c.append-2.new.self ≡ said_one name =
     rw (c.in_ok-append-2.ensures.forest, d, c.in_ok-first.ensures, p0) (one_is name) in
-    let p2 : s.forest c.append-3.new.self ≡ said_two name =
+    let p2 : s.view.forest c.append-3.new.self ≡ said_two name =
     rw (c.in_ok-append-3.ensures.forest, d, c.in_ok-second.ensures, p1) (two_is name) in
-    let p3 : s.forest c.append_before_sibling.new.self ≡ said_three name =
+    let p3 : s.view.forest c.append_before_sibling.new.self ≡ said_three name =
     rw (c.in_ok-append_before_sibling.ensures.forest, n, c.in_ok-third.ensures, p2) (three_is name) in
-    let p4 : s.forest c.append_based_on_parent_node.new.self ≡ said_four name =
+    let p4 : s.view.forest c.append_based_on_parent_node.new.self ≡ said_four name =
     rw (c.in_ok-append_based_on_parent_node.ensures.forest, n, d, c.in_ok-fourth.ensures, p3) (four_is name) in
-    let p5 : s.forest c.remove_from_parent.new.self ≡ detached 1 (said_four name) =
+    let p5 : s.view.forest c.remove_from_parent.new.self ≡ detached 1 (said_four name) =
     rw (c.in_ok-remove_from_parent.ensures.forest, n, p4) refl in
     rw (p5, n, d) (gone_at name)
 
@@ -87,17 +87,17 @@ returns g c =
     let s = g.S.TreeSink in
     let name = c.args.name in
     let d = c.get_document-document.ensures in
-    let n : s.number c.in_ok-a.a ≡ 1 = rw (c.in_ok-a.ensures.number, c.requires) refl in
-    let p0 : s.forest c.append.new.self ≡ one_element name =
+    let n : s.view.number c.in_ok-a.a ≡ 1 = rw (c.in_ok-a.ensures.number, c.requires) refl in
+    let p0 : s.view.forest c.append.new.self ≡ one_element name =
     rw (c.in_ok-append.ensures.forest, c.in_ok-a.ensures.forest, c.new.ensures, n, c.requires, d) refl in
-    let p1 : s.forest c.append-2.new.self ≡ said_one name =
+    let p1 : s.view.forest c.append-2.new.self ≡ said_one name =
     rw (c.in_ok-append-2.ensures.forest, d, c.in_ok-first.ensures, p0) (one_is name) in
-    let p2 : s.forest c.append-3.new.self ≡ said_two name =
+    let p2 : s.view.forest c.append-3.new.self ≡ said_two name =
     rw (c.in_ok-append-3.ensures.forest, d, c.in_ok-second.ensures, p1) (two_is name) in
-    let p3 : s.forest c.append_before_sibling.new.self ≡ said_three name =
+    let p3 : s.view.forest c.append_before_sibling.new.self ≡ said_three name =
     rw (c.in_ok-append_before_sibling.ensures.forest, n, c.in_ok-third.ensures, p2) (three_is name) in
-    let p4 : s.forest c.append_based_on_parent_node.new.self ≡ said_four name =
+    let p4 : s.view.forest c.append_based_on_parent_node.new.self ≡ said_four name =
     rw (c.in_ok-append_based_on_parent_node.ensures.forest, n, d, c.in_ok-fourth.ensures, p3) (four_is name) in
-    let p5 : s.forest c.remove_from_parent.new.self ≡ detached 1 (said_four name) =
+    let p5 : s.view.forest c.remove_from_parent.new.self ≡ detached 1 (said_four name) =
     rw (c.in_ok-remove_from_parent.ensures.forest, n, p4) refl in
     rw (c.in_ok-append_based_on_parent_node-2.ensures.forest, n, d, c.in_ok-fifth.ensures, p5) (page_is name)

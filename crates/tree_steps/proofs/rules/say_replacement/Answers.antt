@@ -9,7 +9,7 @@ use Rattle.tree_steps.proofs.rules.say_replacement.Goals as goal
 pub returns-clause-came : goal.returns-clause-came
 returns-clause-came g c =
     let tree = g.S.TreeSink in
-    let old = parsed tree.number tree.forest tree.quirks c.args.page.now.kept c.args.page.now.tree.held
+    let old = parsed tree.view c.args.page.now.kept c.args.page.now.tree.held
     c.args.page.now.tree.sink in
     ap (finished Continue) (c.in_ok-say.ensures.seen
     ∙ ap (λ (cs : List ℕ). act (say cs) old) (c.in_ok-replacement.ensures ∙ replacement_is))

@@ -6,11 +6,11 @@ use Rattle.tree_steps.proofs.rules.start_rule.Goals as goal
 pub returns-clause-came : goal.returns-clause-came
 returns-clause-came g c =
     let tree = g.S.TreeSink in
-    let old = parsed tree.number tree.forest tree.quirks c.args.page.now.kept c.args.page.now.tree.held
+    let old = parsed tree.view c.args.page.now.kept c.args.page.now.tree.held
     c.args.page.now.tree.sink in
-    let mid = parsed tree.number tree.forest tree.quirks c.break_out.new.self.kept c.break_out.new.self.tree.held
+    let mid = parsed tree.view c.break_out.new.self.kept c.break_out.new.self.tree.held
     c.break_out.new.self.tree.sink in
-    broken_start_came tree.handle c.args.tag.now c.args.group old mid c.start_tag-2.result _
+    broken_start_came tree.view.handle c.args.tag.now c.args.group old mid c.start_tag-2.result _
     (sym c.takes_start_here.ensures ∙ c.if-takes_start_here.false)
     (sym c.breaks_out.ensures ∙ c.if-not-breaks_out.false) c.requires.group c.in_ok-break_out.ensures.seen
     c.start_tag-2.ensures.came

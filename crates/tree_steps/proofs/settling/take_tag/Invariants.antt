@@ -7,8 +7,8 @@ use Rattle.tree_steps.proofs.settling.take_tag.Given as goal
 abbrev pub invariant-rules : goal.invariant-rules
 invariant-rules g l =
     let tree = g.S.TreeSink in
-    let now = parsed tree.number tree.forest tree.quirks l.page.kept l.page.tree.held l.page.tree.sink in
-    let first = parsed tree.number tree.forest tree.quirks l.fn.page.kept l.fn.page.tree.held l.fn.page.tree.sink in
+    let now = parsed tree.view l.page.kept l.page.tree.held l.page.tree.sink in
+    let first = parsed tree.view l.fn.page.kept l.fn.page.tree.held l.fn.page.tree.sink in
     record {
       ready : Ready now;
       same : taken (mark_by l.fn.tag.kind l.fn.tag) now
@@ -19,4 +19,4 @@ abbrev pub decreases-rules : goal.decreases-rules
 decreases-rules g l =
     let tree = g.S.TreeSink in
     rank (mark_by l.fn.tag.kind l.fn.tag)
-    (parsed tree.number tree.forest tree.quirks l.page.kept l.page.tree.held l.page.tree.sink)
+    (parsed tree.view l.page.kept l.page.tree.held l.page.tree.sink)

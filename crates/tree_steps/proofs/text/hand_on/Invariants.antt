@@ -9,8 +9,8 @@ use Rattle.tree_steps.proofs.text.hand_on.Given as goal
 abbrev pub invariant-rules : goal.invariant-rules
 invariant-rules g l =
     let tree = g.S.TreeSink in
-    let now = parsed tree.number tree.forest tree.quirks l.page.kept l.page.tree.held l.page.tree.sink in
-    let first = parsed tree.number tree.forest tree.quirks l.fn.page.kept l.fn.page.tree.held l.fn.page.tree.sink in
+    let now = parsed tree.view l.page.kept l.page.tree.held l.page.tree.sink in
+    let first = parsed tree.view l.fn.page.kept l.fn.page.tree.held l.fn.page.tree.sink in
     record {
       calm : IsCalm now;
       same : (c : ℕ) (cs : List ℕ) → is_white_space c ≡ l.is_space → took (c ∷ cs) now ≡ took (c ∷ cs) first;
@@ -19,4 +19,4 @@ invariant-rules g l =
 abbrev pub decreases-rules : goal.decreases-rules
 decreases-rules g l =
     let tree = g.S.TreeSink in
-    rank null (parsed tree.number tree.forest tree.quirks l.page.kept l.page.tree.held l.page.tree.sink)
+    rank null (parsed tree.view l.page.kept l.page.tree.held l.page.tree.sink)

@@ -11,9 +11,9 @@ returns-then-not-takes_text_here-clause-seen g c =
     let tree = g.S.TreeSink in
     let cs = chars c.args.text.now in
     let page = c.args.page.now in
-    let old : State = parsed tree.number tree.forest tree.quirks page.kept page.tree.held page.tree.sink in
+    let old : State = parsed tree.view page.kept page.tree.held page.tree.sink in
     let made = c.say_told.new.page in
-    let new : State = parsed tree.number tree.forest tree.quirks made.kept made.tree.held made.tree.sink in
+    let new : State = parsed tree.view made.kept made.tree.held made.tree.sink in
     none_left cs old new (as_foreign c.runs_of_text.ensures cs old new c.takes_text_here.result c.requires.calm
     c.takes_text_here.ensures.text c.if-not-takes_text_here.true
     (c.in_ok-say_told.ensures.seen ∙ ap (λ l. told l old) c.in_ok-from_str.ensures))
@@ -27,9 +27,9 @@ returns-then-is_same_class-clause-seen g c =
     let tree = g.S.TreeSink in
     let cs = chars c.args.text.now in
     let page = c.args.page.now in
-    let old : State = parsed tree.number tree.forest tree.quirks page.kept page.tree.held page.tree.sink in
+    let old : State = parsed tree.view page.kept page.tree.held page.tree.sink in
     let made = c.say_as.new.page in
-    let new : State = parsed tree.number tree.forest tree.quirks made.kept made.tree.held made.tree.sink in
+    let new : State = parsed tree.view made.kept made.tree.held made.tree.sink in
     none_left cs old new (c.in_ok-say_as.ensures.seen ∙ ap (λ l. took l old) c.in_ok-from_str-2.ensures)
 
 pub returns-then-is_same_class-clause-less : goal.returns-then-is_same_class-clause-less
@@ -41,7 +41,7 @@ say_as-requires-2-clause-all g c =
     let tree = g.S.TreeSink in
     let cs = chars c.args.text.now in
     let page = c.args.page.now in
-    let old : State = parsed tree.number tree.forest tree.quirks page.kept page.tree.held page.tree.sink in
+    let old : State = parsed tree.view page.kept page.tree.held page.tree.sink in
     front_all c.text_class-class.result c.args.is_space cs c.in_ok-from_str-3.field-0 old
     (c.in_ok-from_str-3.ensures ∙ c.split_alike.ensures.front) c.text_class-class.ensures
 
@@ -50,9 +50,9 @@ returns-clause-seen g c =
     let tree = g.S.TreeSink in
     let cs = chars c.args.text.now in
     let page = c.args.page.now in
-    let old : State = parsed tree.number tree.forest tree.quirks page.kept page.tree.held page.tree.sink in
+    let old : State = parsed tree.view page.kept page.tree.held page.tree.sink in
     let made = c.say_as-2.new.page in
-    let new : State = parsed tree.number tree.forest tree.quirks made.kept made.tree.held made.tree.sink in
+    let new : State = parsed tree.view made.kept made.tree.held made.tree.sink in
     took_front (is_alike c.args.is_space) cs c.in_ok-from_str-3.field-0 (chars c.split_alike.result.1.now) old
     new (c.in_ok-from_str-3.ensures ∙ c.split_alike.ensures.front) c.split_alike.ensures.rest
     c.in_ok-say_as-2.ensures.seen

@@ -11,8 +11,8 @@ pub returns-clause-seen : goal.returns-clause-seen
 returns-clause-seen g c =
     let tree = g.S.TreeSink in
     let page = c.args.page.now in
-    let old : State = parsed tree.number tree.forest tree.quirks page.kept page.tree.held page.tree.sink in
+    let old : State = parsed tree.view page.kept page.tree.held page.tree.sink in
     let made = c.runs.page in
-    let new : State = parsed tree.number tree.forest tree.quirks made.kept made.tree.held made.tree.sink in
+    let new : State = parsed tree.view made.kept made.tree.held made.tree.sink in
     all_taken (chars c.runs.rest.now) (chars c.args.text.now) old new
     (c.is_without_characters.ensures.yes c.runs-test.false) c.runs.invariant.same

@@ -8,8 +8,8 @@ use Rattle.tree_steps.proofs.text.take_runs.Given as goal
 abbrev pub invariant-runs : goal.invariant-runs
 invariant-runs g l =
     let tree = g.S.TreeSink in
-    let now = parsed tree.number tree.forest tree.quirks l.page.kept l.page.tree.held l.page.tree.sink in
-    let first = parsed tree.number tree.forest tree.quirks l.fn.page.kept l.fn.page.tree.held l.fn.page.tree.sink in
+    let now = parsed tree.view l.page.kept l.page.tree.held l.page.tree.sink in
+    let first = parsed tree.view l.fn.page.kept l.fn.page.tree.held l.fn.page.tree.sink in
     record {
       calm : IsCalm now;
       utf8 : shadow (Utf8 l.rest);

@@ -10,9 +10,9 @@ pub returns-clause-seen : goal.returns-clause-seen
 returns-clause-seen g c =
     let tree = g.S.TreeSink in
     let page = c.args.page.now in
-    let old : State = parsed tree.number tree.forest tree.quirks page.kept page.tree.held page.tree.sink in
+    let old : State = parsed tree.view page.kept page.tree.held page.tree.sink in
     let settled = c.hand_on.new.page in
-    let mid : State = parsed tree.number tree.forest tree.quirks settled.kept settled.tree.held settled.tree.sink in
+    let mid : State = parsed tree.view settled.kept settled.tree.held settled.tree.sink in
     c.in_ok-take_settled.ensures.seen
     ∙ same_of c.first_is_white_space-is_space.result c.args.text old mid
     (subst (λ cs. first_passes (is_alike c.first_is_white_space-is_space.result) cs ≡ true) c.as_str-2.ensures

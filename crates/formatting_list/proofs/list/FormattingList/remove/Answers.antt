@@ -7,17 +7,18 @@ use Rattle.formatting_list.proofs.list.FormattingList.remove.Goals as goal
 
 pub returns-in-Some : goal.returns-in-Some
 returns-in-Some g c =
-    ap (entries_of g.S.TreeSink.number)
+    ap (entries_of g.S.TreeSink.view.number)
     (c.take_off.ensures.items ∙ ap (λ v. remove v c.in-Some.at) (sym c.as_slice.ensures.value))
-    ∙ removed g.S.TreeSink.number (g.S.TreeSink.number c.args.target) c.as_slice.result.now c.in-Some.at
+    ∙ removed g.S.TreeSink.view.number (g.S.TreeSink.view.number c.args.target) c.as_slice.result.now c.in-Some.at
     c.in-Some.ensures.found
-    ∙ ap (λ v. without_entry (g.S.TreeSink.number c.args.target) (entries_of g.S.TreeSink.number v))
+    ∙ ap (λ v. without_entry (g.S.TreeSink.view.number c.args.target) (entries_of g.S.TreeSink.view.number v))
     (c.as_slice.ensures.value ∙ c.self.view_is)
 
 pub returns-in_default : goal.returns-in_default
 returns-in_default g c =
-    ap (entries_of g.S.TreeSink.number) (sym (c.as_slice.ensures.value ∙ c.self.view_is))
-    ∙ sym (without_entry_none (g.S.TreeSink.number c.args.target) (entries_of g.S.TreeSink.number c.as_slice.result.now)
+    ap (entries_of g.S.TreeSink.view.number) (sym (c.as_slice.ensures.value ∙ c.self.view_is))
+    ∙ sym (without_entry_none (g.S.TreeSink.view.number c.args.target) (entries_of g.S.TreeSink.view.number
+    c.as_slice.result.now)
     (c.position.ensures.missing c.in_default.is))
-    ∙ ap (λ v. without_entry (g.S.TreeSink.number c.args.target) (entries_of g.S.TreeSink.number v))
+    ∙ ap (λ v. without_entry (g.S.TreeSink.view.number c.args.target) (entries_of g.S.TreeSink.view.number v))
     (c.as_slice.ensures.value ∙ c.self.view_is)

@@ -4,6 +4,6 @@ use Rattle.formatting_list.proofs.list.FormattingList.stands_behind_marker.Goals
 
 pub returns : goal.returns
 returns g c = c.is_behind_marker_without.ensures
-    ∙ ap (λ v. is_listed (g.S.TreeSink.number c.args.target)
-    (up_to_marker (without_entry (g.S.TreeSink.number c.args.without) (entries_of g.S.TreeSink.number v))))
+    ∙ ap (λ v. is_listed (g.S.TreeSink.view.number c.args.target)
+    (up_to_marker (without_entry (g.S.TreeSink.view.number c.args.without) (entries_of g.S.TreeSink.view.number v))))
     (c.as_slice.ensures.value ∙ c.self.view_is)

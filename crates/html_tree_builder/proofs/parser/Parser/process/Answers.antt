@@ -8,8 +8,8 @@ use Rattle.tree_rules.specs.Settling.{meaning}
 pub returns-clause-reads : goal.returns-clause-reads
 unfolding Completes
 returns-clause-reads g c =
-    let state = state_in g.S.TreeSink.number g.S.TreeSink.forest g.S.TreeSink.quirks in
-    let means = meaning g.S.TreeSink.handle in
+    let state = state_in g.S.TreeSink.view in
+    let means = meaning g.S.TreeSink.view.handle in
     read_on (tokenizers.Completes state means c.feed_on.new.self)
     (tokenizers.Completes state means c.args.self.now.tokenizer)
     c.push_back.new.self.text c.args.self.now.input_buffer.text (chars (string_bytes c.args.piece))

@@ -8,14 +8,14 @@ use Rattle.tree_rules.specs.State.{State}
 -- what is left of the pieces, read by the parser as it stands, is what the parser made of them at first
 abbrev pub invariant-pieces : goal.invariant-pieces
 invariant-pieces g l =
-    let number = g.S.TreeSink.number in
-    let handle = g.S.TreeSink.handle in
-    let forest = g.S.TreeSink.forest in
-    let quirks = g.S.TreeSink.quirks in
+    let number = g.S.TreeSink.view.number in
+    let handle = g.S.TreeSink.view.handle in
+    let forest = g.S.TreeSink.view.forest in
+    let quirks = g.S.TreeSink.view.quirks in
     record {
-      fit : IsFit number forest quirks l.self;
+      fit : IsFit g.S.TreeSink.view l.self;
       works : has_failed l.self ≡ false;
       reads : (rest : List ℕ) (final : State) →
-          Completes number handle forest quirks l.self (joined (into_iter_items l.piece-iterator) ++ rest) final →
-          Completes number handle forest quirks l.fn.self (joined l.fn.pieces.items ++ rest) final;
+          Completes g.S.TreeSink.view l.self (joined (into_iter_items l.piece-iterator) ++ rest) final →
+          Completes g.S.TreeSink.view l.fn.self (joined l.fn.pieces.items ++ rest) final;
     }

@@ -9,13 +9,14 @@ use Rattle.html_tree_state.proofs.construction.Construction.add_attributes_if_mi
 pub returns-clause-seen : goal.returns-clause-seen
 returns-clause-seen g c =
     let tree = g.S.TreeSink in
-    let b = seen tree.number tree.forest tree.quirks c.args.self.now.held c.args.self.now.sink in
-    seen_changed tree.number tree.forest tree.quirks c.args.self.now.held c.args.self.now.held
+    let b = seen tree.view c.args.self.now.held c.args.self.now.sink in
+    seen_changed tree.view c.args.self.now.held c.args.self.now.held
     c.args.self.now.sink c.add_attrs_if_missing.new.self _ refl c.in_ok-add_attrs_if_missing.ensures.forest
     c.add_attrs_if_missing.ensures.quirks
     (attributed_kept c.laws_of_forests.ensures c.args.self.now.held.counts b c.requires.sound
-    (tree.number c.args.target) c.args.attrs)
+    (tree.view.number c.args.target) c.args.attrs)
 
 pub returns-clause-sound : goal.returns-clause-sound
 returns-clause-sound g c = subst Sound (sym (returns-clause-seen g c))
-    (attributed_sound c.laws_of_forests.ensures (g.S.TreeSink.number c.args.target) c.args.attrs _ c.requires.sound)
+    (attributed_sound c.laws_of_forests.ensures (g.S.TreeSink.view.number c.args.target) c.args.attrs _
+    c.requires.sound)

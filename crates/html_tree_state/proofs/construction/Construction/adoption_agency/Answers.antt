@@ -7,8 +7,8 @@ use Rattle.html_tree_state.proofs.construction.Construction.adoption_agency.Goal
 pub returns-clause-seen : goal.returns-clause-seen
 returns-clause-seen g c =
     let tree = g.S.TreeSink in
-    let first = seen tree.number tree.forest tree.quirks c.args.self.now.held c.args.self.now.sink in
-    let now = seen tree.number tree.forest tree.quirks c.turns.self.held c.turns.self.sink in
+    let first = seen tree.view c.args.self.now.held c.args.self.now.sink in
+    let now = seen tree.view c.turns.self.held c.turns.self.sink in
     let none : c.turns.left ≡ 0 = omega (arith, c.turns-test.false) in
     sym (ap (λ k. turns k c.args.name.now now) none) ∙ c.turns.invariant.same
     ∙ sym (ap (λ b. if b then popped first else turns 8 c.args.name.now first)

@@ -7,8 +7,8 @@ use Rattle.html_tree_state.proofs.construction.Construction.adoption_agency.Give
 abbrev pub invariant-turns : goal.invariant-turns
 invariant-turns g l =
     let tree = g.S.TreeSink in
-    let now = seen tree.number tree.forest tree.quirks l.self.held l.self.sink in
-    let first = seen tree.number tree.forest tree.quirks l.initial.self.held l.initial.self.sink in
+    let now = seen tree.view l.self.held l.self.sink in
+    let first = seen tree.view l.initial.self.held l.initial.self.sink in
     record { sound : Sound now; same : turns l.left l.name now ≡ turns 8 l.name first }
 
 abbrev pub decreases-turns : goal.decreases-turns

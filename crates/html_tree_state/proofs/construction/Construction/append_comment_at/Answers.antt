@@ -9,21 +9,22 @@ use Rattle.html_tree_state.proofs.construction.Construction.append_comment_at.Go
 
 pub insert_at-requires : goal.insert_at-requires
 insert_at-requires g c =
-    can_put_comment c.laws_of_forests.ensures g.S.TreeSink.number c.args.point
-    (g.S.TreeSink.number c.in_ok-comment.comment) _ _ _ c.in_ok-comment.ensures.forest
+    can_put_comment c.laws_of_forests.ensures g.S.TreeSink.view.number c.args.point
+    (g.S.TreeSink.view.number c.in_ok-comment.comment) _ _ _ c.in_ok-comment.ensures.forest
     c.in_ok-comment.ensures.number c.requires.sound.forest c.requires.place
 
 pub returns-clause-seen : goal.returns-clause-seen
 returns-clause-seen g c =
     let tree = g.S.TreeSink in
-    let b = seen tree.number tree.forest tree.quirks c.args.self.now.held c.args.self.now.sink in
-    let forest = put_comment g.S.TreeSink.number c.args.point (g.S.TreeSink.number c.in_ok-comment.comment) _ _ _ _
+    let b = seen tree.view c.args.self.now.held c.args.self.now.sink in
+    let forest = put_comment g.S.TreeSink.view.number c.args.point (g.S.TreeSink.view.number c.in_ok-comment.comment) _
+    _ _ _
     c.in_ok-insert_at.ensures.forest c.in_ok-comment.ensures.forest c.in_ok-comment.ensures.number in
-    seen_changed tree.number tree.forest tree.quirks c.args.self.now.held c.insert_at.new.self.held
+    seen_changed tree.view c.args.self.now.held c.insert_at.new.self.held
     c.args.self.now.sink c.insert_at.new.self.sink _ c.insert_at.ensures.held forest
     (c.insert_at.ensures.quirks ∙ c.create_comment.ensures.quirks)
     (comment_kept c.laws_of_forests.ensures c.args.self.now.held.counts b c.requires.sound
-    (place_of tree.number (tree.forest c.args.self.now.sink) c.args.point) c.args.text)
+    (place_of tree.view.number (tree.view.forest c.args.self.now.sink) c.args.point) c.args.text)
 
 pub returns-clause-sound : goal.returns-clause-sound
 returns-clause-sound g c = subst Sound (sym (returns-clause-seen g c))

@@ -12,11 +12,11 @@ pub returns-clause-seen : goal.returns-clause-seen
 returns-clause-seen g c =
     let tree = g.S.TreeSink in
     let d = c.args.doctype in
-    let b = seen tree.number tree.forest tree.quirks c.args.self.now.held c.args.self.now.sink in
+    let b = seen tree.view c.args.self.now.held c.args.self.now.sink in
     let name = c.unwrap_or-name.result in
     let public_id = c.unwrap_or-public_id.result in
     let system_id = c.unwrap_or-system_id.result in
-    seen_changed tree.number tree.forest tree.quirks c.args.self.now.held c.args.self.now.held c.args.self.now.sink
+    seen_changed tree.view c.args.self.now.held c.args.self.now.held c.args.self.now.sink
     c.append_doctype_to_document.new.self _ refl
     (c.in_ok-append_doctype_to_document.ensures.forest
     ∙ doctype_is d name public_id system_id c.from.result c.from-2.result c.from-3.result b.forest

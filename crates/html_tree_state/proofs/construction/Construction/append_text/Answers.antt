@@ -11,10 +11,10 @@ use Rattle.html_tree_state.proofs.construction.Construction.append_text.Goals as
 pub returns-clause-seen : goal.returns-clause-seen
 returns-clause-seen g c =
     let tree = g.S.TreeSink in
-    let b = seen tree.number tree.forest tree.quirks c.args.self.now.held c.args.self.now.sink in
-    let place = place_of tree.number (tree.forest c.args.self.now.sink) c.insertion_point-point.result in
+    let b = seen tree.view c.args.self.now.held c.args.self.now.sink in
+    let place = place_of tree.view.number (tree.view.forest c.args.self.now.sink) c.insertion_point-point.result in
     on_ok c.insert_at.result _ _
-    (λ forest_is. seen_changed tree.number tree.forest tree.quirks c.args.self.now.held c.insert_at.new.self.held
+    (λ forest_is. seen_changed tree.view c.args.self.now.held c.insert_at.new.self.held
     c.args.self.now.sink c.insert_at.new.self.sink (put place (words c.args.text) b.forest) c.insert_at.ensures.held
     forest_is c.insert_at.ensures.quirks
     (said_kept c.laws_of_forests.ensures c.args.self.now.held.counts b c.requires place c.args.text)

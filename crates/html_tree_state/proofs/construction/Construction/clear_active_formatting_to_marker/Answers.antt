@@ -5,7 +5,7 @@ use Rattle.tree_building.proofs.ListedLemmas.{cleared_sound}
 use Rattle.html_tree_state.proofs.construction.Construction.clear_active_formatting_to_marker.Goals as goal
 
 pub returns-clause-seen : goal.returns-clause-seen
-returns-clause-seen g c = grind (arith, common_steps, c.clear_to_marker.ensures.entries g.S.TreeSink.number)
+returns-clause-seen g c = grind (arith, common_steps, c.clear_to_marker.ensures.entries g.S.TreeSink.view.number)
 
 pub returns-clause-sound : goal.returns-clause-sound
 returns-clause-sound g c = subst Sound (sym (returns-clause-seen g c))

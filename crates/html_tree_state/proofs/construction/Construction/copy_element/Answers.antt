@@ -10,37 +10,39 @@ use Rattle.html_tree_state.proofs.construction.Construction.copy_element.Goals a
 pub append-requires : goal.append-requires
 append-requires g c =
     let tree = g.S.TreeSink in
-    can_put_copy (tree.number c.args.element) (tree.number c.args.last) (tree.number c.in_ok-copy.copy) c.args.tag
-    (seen tree.number tree.forest tree.quirks c.args.self.now.held c.args.self.now.sink)
-    (tree.forest c.make_element_for.new.self.sink) (tree.forest c.remove_from_parent.new.self)
+    can_put_copy (tree.view.number c.args.element) (tree.view.number c.args.last) (tree.view.number c.in_ok-copy.copy)
+    c.args.tag
+    (seen tree.view c.args.self.now.held c.args.self.now.sink)
+    (tree.view.forest c.make_element_for.new.self.sink) (tree.view.forest c.remove_from_parent.new.self)
     c.laws_of_forests.ensures c.requires.sound c.requires.can c.in_ok-copy.ensures.number
     c.in_ok-copy.ensures.forest c.in_ok-remove_from_parent.ensures.forest
 
 pub replace-requires-clause-name : goal.replace-requires-clause-name
 replace-requires-clause-name g c =
     let tree = g.S.TreeSink in
-    let b = seen tree.number tree.forest tree.quirks c.args.self.now.held c.args.self.now.sink in
-    let n = tree.number c.args.element in
-    let last = tree.number c.args.last in
-    let forest_is = copied_forest n last (tree.number c.in_ok-copy.copy) c.args.tag b
-    (tree.forest c.make_element_for.new.self.sink) (tree.forest c.remove_from_parent.new.self)
-    (tree.forest c.append.new.self) c.in_ok-copy.ensures.number c.in_ok-copy.ensures.forest
+    let b = seen tree.view c.args.self.now.held c.args.self.now.sink in
+    let n = tree.view.number c.args.element in
+    let last = tree.view.number c.args.last in
+    let forest_is = copied_forest n last (tree.view.number c.in_ok-copy.copy) c.args.tag b
+    (tree.view.forest c.make_element_for.new.self.sink) (tree.view.forest c.remove_from_parent.new.self)
+    (tree.view.forest c.append.new.self) c.in_ok-copy.ensures.number c.in_ok-copy.ensures.forest
     c.in_ok-remove_from_parent.ensures.forest c.in_ok-append.ensures.forest in
-    subst (λ f. name_of (tree.number c.in_ok-copy.copy) f ≡ name_of n f) (sym forest_is)
+    subst (λ f. name_of (tree.view.number c.in_ok-copy.copy) f ≡ name_of n f) (sym forest_is)
     (ap (λ k. name_of k (copied n c.args.tag last b).forest) c.in_ok-copy.ensures.number
     ∙ copied_names n last c.args.tag b c.laws_of_forests.ensures c.requires.sound c.requires.can)
 
 pub replace-requires-clause-counted : goal.replace-requires-clause-counted
 replace-requires-clause-counted g c =
     let tree = g.S.TreeSink in
-    let b = seen tree.number tree.forest tree.quirks c.args.self.now.held c.args.self.now.sink in
-    let n = tree.number c.args.element in
-    let last = tree.number c.args.last in
-    let forest_is = copied_forest n last (tree.number c.in_ok-copy.copy) c.args.tag b
-    (tree.forest c.make_element_for.new.self.sink) (tree.forest c.remove_from_parent.new.self)
-    (tree.forest c.append.new.self) c.in_ok-copy.ensures.number c.in_ok-copy.ensures.forest
+    let b = seen tree.view c.args.self.now.held c.args.self.now.sink in
+    let n = tree.view.number c.args.element in
+    let last = tree.view.number c.args.last in
+    let forest_is = copied_forest n last (tree.view.number c.in_ok-copy.copy) c.args.tag b
+    (tree.view.forest c.make_element_for.new.self.sink) (tree.view.forest c.remove_from_parent.new.self)
+    (tree.view.forest c.append.new.self) c.in_ok-copy.ensures.number c.in_ok-copy.ensures.forest
     c.in_ok-remove_from_parent.ensures.forest c.in_ok-append.ensures.forest in
-    ap₂ (λ (p : Parts g.row.S-Handle.Denot) (f : Forest). are_counted p.counts (stack_of tree.number p.open_elements) f)
+    ap₂ (λ (p : Parts g.row.S-Handle.Denot) (f : Forest). are_counted p.counts (stack_of tree.view.number
+    p.open_elements) f)
     c.make_element_for.ensures.held forest_is
     ∙ copied_kept n last c.args.tag c.args.self.now.held.counts b c.laws_of_forests.ensures c.requires.sound
     ∙ c.requires.sound.counted
@@ -48,21 +50,22 @@ replace-requires-clause-counted g c =
 pub returns-clause-seen : goal.returns-clause-seen
 returns-clause-seen g c =
     let tree = g.S.TreeSink in
-    let b = seen tree.number tree.forest tree.quirks c.args.self.now.held c.args.self.now.sink in
-    let n = tree.number c.args.element in
-    let last = tree.number c.args.last in
-    let forest_is = copied_forest n last (tree.number c.in_ok-copy.copy) c.args.tag b
-    (tree.forest c.make_element_for.new.self.sink) (tree.forest c.remove_from_parent.new.self)
-    (tree.forest c.append.new.self) c.in_ok-copy.ensures.number c.in_ok-copy.ensures.forest
+    let b = seen tree.view c.args.self.now.held c.args.self.now.sink in
+    let n = tree.view.number c.args.element in
+    let last = tree.view.number c.args.last in
+    let forest_is = copied_forest n last (tree.view.number c.in_ok-copy.copy) c.args.tag b
+    (tree.view.forest c.make_element_for.new.self.sink) (tree.view.forest c.remove_from_parent.new.self)
+    (tree.view.forest c.append.new.self) c.in_ok-copy.ensures.number c.in_ok-copy.ensures.forest
     c.in_ok-remove_from_parent.ensures.forest c.in_ok-append.ensures.forest in
-    seen_is tree.number tree.forest tree.quirks c.hand_over.new.self c.append.new.self (copied n c.args.tag last b)
+    seen_is tree.view c.hand_over.new.self c.append.new.self (copied n c.args.tag last b)
     (search rules) (search rules) (search rules) forest_is (search rules)
-    (ap₂ (λ counts handles. are_counted counts (stack_of tree.number handles) (tree.forest c.append.new.self))
+    (ap₂ (λ counts handles. are_counted counts (stack_of tree.view.number handles) (tree.view.forest c.append.new.self))
     c.hand_over.ensures.counts c.hand_over.ensures.open ∙ c.replace.ensures.counted ∙ sym c.requires.sound.counted)
 
 pub returns-clause-sound : goal.returns-clause-sound
 returns-clause-sound g c = subst Sound (sym (returns-clause-seen g c))
-    (c.adopting_keeps_sound.ensures.copied (g.S.TreeSink.number c.args.element) (g.S.TreeSink.number c.args.last)
+    (c.adopting_keeps_sound.ensures.copied (g.S.TreeSink.view.number c.args.element) (g.S.TreeSink.view.number
+    c.args.last)
     c.args.tag _ c.laws_of_forests.ensures c.requires.sound c.requires.can)
 
 pub returns-clause-forest : goal.returns-clause-forest

@@ -9,8 +9,8 @@ use Rattle.html_tree_state.proofs.construction.Construction.first_to_make.Goals 
 pub returns : goal.returns
 returns g c =
     let tree = g.S.TreeSink in
-    made_from_first (seen tree.number tree.forest tree.quirks c.args.self.now.held c.args.self.now.sink)
+    made_from_first (seen tree.view c.args.self.now.held c.args.self.now.sink)
     c.kept_entries.result (c.kept_entries.ensures
     ∙ ap₂ (λ (o : List g.row.S-Handle.Denot) (e : List (FormatEntry g.row.S-Handle.Denot)).
-    length (made_already (stack_of tree.number o) (entries_of tree.number e)))
+    length (made_already (stack_of tree.view.number o) (entries_of tree.view.number e)))
     c.open_elements.ensures (c.as_slice.ensures ∙ c.formatting.ensures))

@@ -7,12 +7,12 @@ use Rattle.html_tree_state.proofs.construction.Construction.foreign_element.Give
 abbrev pub invariant-loop-element : goal.invariant-loop-element
 invariant-loop-element g l =
     let tree = g.S.TreeSink in
-    let f = tree.forest l.self.sink in
+    let f = tree.view.forest l.self.sink in
     record {
-      elements : AreElements f (stack_of tree.number l.open);
+      elements : AreElements f (stack_of tree.view.number l.open);
       same : named_foreign l.name f
-          (seen tree.number tree.forest tree.quirks l.self.held l.self.sink).stack
-          ≡ named_foreign l.name f (stack_of tree.number l.open);
+          (seen tree.view l.self.held l.self.sink).stack
+          ≡ named_foreign l.name f (stack_of tree.view.number l.open);
     }
 
 abbrev pub decreases-loop-element : goal.decreases-loop-element

@@ -7,11 +7,11 @@ use Rattle.html_tree_state.proofs.construction.Construction.foster_point.Given a
 abbrev pub invariant-loop-element : goal.invariant-loop-element
 invariant-loop-element g l =
     let tree = g.S.TreeSink in
-    let f = tree.forest l.self.sink in
-    let all = (seen tree.number tree.forest tree.quirks l.self.held l.self.sink).stack in
+    let f = tree.view.forest l.self.sink in
+    let all = (seen tree.view l.self.held l.self.sink).stack in
     record {
-      elements : AreOpen f (stack_of tree.number l.open);
-      same : foster_place f (stack_of tree.number l.open) ≡ foster_place f all;
+      elements : AreOpen f (stack_of tree.view.number l.open);
+      same : foster_place f (stack_of tree.view.number l.open) ≡ foster_place f all;
     }
 
 abbrev pub decreases-loop-element : goal.decreases-loop-element

@@ -8,12 +8,13 @@ use Rattle.html_tree_state.proofs.construction.Construction.furthest_block.Given
 abbrev pub invariant-loop-node : goal.invariant-loop-node
 invariant-loop-node g l =
     let tree = g.S.TreeSink in
-    let n = tree.number l.element in
-    let f = tree.forest l.self.sink in
+    let n = tree.view.number l.element in
+    let f = tree.view.forest l.self.sink in
     record {
-      elements : AreElements f (stack_of tree.number l.open);
-      same : furthest_block n (seen tree.number tree.forest tree.quirks l.self.held l.self.sink)
-          ≡ or_nearer (last_special f (nearer n (stack_of tree.number l.open))) (option_map tree.number l.block);
+      elements : AreElements f (stack_of tree.view.number l.open);
+      same : furthest_block n (seen tree.view l.self.held l.self.sink)
+          ≡ or_nearer (last_special f (nearer n (stack_of tree.view.number l.open))) (option_map tree.view.number
+          l.block);
     }
 
 abbrev pub decreases-loop-node : goal.decreases-loop-node

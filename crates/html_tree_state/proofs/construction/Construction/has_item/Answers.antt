@@ -6,7 +6,7 @@ use Rattle.name_sets.specs.Wanted.{elements_of}
 
 pub returns-then-has_none : goal.returns-then-has_none
 returns-then-has_none g c =
-    let f = g.S.TreeSink.forest c.args.self.now.sink in
-    let stack = stack_of g.S.TreeSink.number c.args.self.now.held.open_elements in
+    let f = g.S.TreeSink.view.forest c.args.self.now.sink in
+    let stack = stack_of g.S.TreeSink.view.number c.args.self.now.held.open_elements in
     sym (no_item (elements_of c.args.set) f stack (c.has_none.ensures.none (names_in f stack)
     (c.counts.ensures ∙ counts_are c.args.self.now.held.counts stack f c.requires.counted) c.if-has_none.true))

@@ -9,11 +9,11 @@ use Rattle.html_tree_state.proofs.construction.Construction.has_open.Given as go
 abbrev pub invariant-loop-element : goal.invariant-loop-element
 invariant-loop-element g l =
     let tree = g.S.TreeSink in
-    let f = tree.forest l.self.sink in
+    let f = tree.view.forest l.self.sink in
     record {
-      elements : AreElements f (stack_of tree.number l.open);
-      same : is_open (elements_of l.wanted) (seen tree.number tree.forest tree.quirks l.self.held l.self.sink)
-          ≡ has_any (elements_of l.wanted) f (stack_of tree.number l.open);
+      elements : AreElements f (stack_of tree.view.number l.open);
+      same : is_open (elements_of l.wanted) (seen tree.view l.self.held l.self.sink)
+          ≡ has_any (elements_of l.wanted) f (stack_of tree.view.number l.open);
     }
 
 abbrev pub decreases-loop-element : goal.decreases-loop-element

@@ -8,12 +8,12 @@ use Rattle.html_tree_state.proofs.construction.Construction.in_scope.Given as go
 
 abbrev pub invariant-loop-element : goal.invariant-loop-element
 invariant-loop-element g l =
-    let number = g.S.TreeSink.number in
-    let f = g.S.TreeSink.forest l.self.sink in
+    let number = g.S.TreeSink.view.number in
+    let f = g.S.TreeSink.view.forest l.self.sink in
     record {
       elements : AreElements f (stack_of number l.open);
       same : is_in_scope (barriers_of l.scope) (elements_of l.wanted)
-          (seen number g.S.TreeSink.forest g.S.TreeSink.quirks l.self.held l.self.sink)
+          (seen g.S.TreeSink.view l.self.held l.self.sink)
           ≡ has_any (elements_of l.wanted) f (up_to (barriers_of l.scope) f (stack_of number l.open));
     }
 

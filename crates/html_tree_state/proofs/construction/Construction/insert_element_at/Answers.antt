@@ -12,11 +12,11 @@ use Rattle.html_tree_state.proofs.construction.Construction.insert_element_at.Go
 pub push-requires-clause-element : goal.push-requires-clause-element
 push-requires-clause-element g c =
     let tree = g.S.TreeSink in
-    let b = seen tree.number tree.forest tree.quirks c.args.self.now.held c.args.self.now.sink in
-    let place = place_of tree.number (tree.forest c.args.self.now.sink) c.args.point in
+    let b = seen tree.view c.args.self.now.held c.args.self.now.sink in
+    let place = place_of tree.view.number (tree.view.forest c.args.self.now.sink) c.args.point in
     let sound = inserted_sound c.laws_of_forests.ensures place c.args.name c.args.attrs b c.requires.sound
     c.requires.place in
-    subst (λ n. IsElement n (tree.forest c.put_element.new.self.sink)) (sym c.in_ok-element.ensures.number)
+    subst (λ n. IsElement n (tree.view.forest c.put_element.new.self.sink)) (sym c.in_ok-element.ensures.number)
     (subst (λ (x : Building). IsElement (nodes b.forest) x.forest) (sym c.in_ok-element.ensures.seen)
     (sound.elements (nodes b.forest) (inl refl)))
 
@@ -27,14 +27,14 @@ push-requires-clause-counted g c =
 pub returns-in_ok-push-in-Push-clause-seen : goal.returns-in_ok-push-in-Push-clause-seen
 returns-in_ok-push-in-Push-clause-seen g c =
     let tree = g.S.TreeSink in
-    let b = seen tree.number tree.forest tree.quirks c.args.self.now.held c.args.self.now.sink in
-    let place = place_of tree.number (tree.forest c.args.self.now.sink) c.args.point in
+    let b = seen tree.view c.args.self.now.held c.args.self.now.sink in
+    let place = place_of tree.view.number (tree.view.forest c.args.self.now.sink) c.args.point in
     let made = c.in_ok-element.ensures.seen in
-    seen_is tree.number tree.forest tree.quirks c.push.new.self c.put_element.new.self.sink
+    seen_is tree.view c.push.new.self c.put_element.new.self.sink
     (inserted_at place c.args.name c.args.attrs b)
     (c.in_ok-push-in-Push.ensures.open
     ∙ ap₂ (λ n ns. n ∷ ns) c.in_ok-element.ensures.number (ap (λ (x : Building). x.stack) made))
-    (ap (entries_of tree.number) c.push.ensures.entries ∙ ap (λ (x : Building). x.formatting) made)
+    (ap (entries_of tree.view.number) c.push.ensures.entries ∙ ap (λ (x : Building). x.formatting) made)
     (c.push.ensures.fostering ∙ ap (λ (x : Building). x.fostering) made)
     (ap (λ (x : Building). x.forest) made) (ap (λ (x : Building). x.quirks) made)
     (c.in_ok-push-in-Push.ensures.counted ∙ sym c.requires.sound.counted)

@@ -10,11 +10,11 @@ use Rattle.html_tree_state.proofs.construction.Construction.insert_formatting_el
 pub returns-clause-seen : goal.returns-clause-seen
 returns-clause-seen g c =
     let tree = g.S.TreeSink in
-    seen_pushed tree.number tree.forest tree.quirks c.push_formatting.new.self c.insert_element_for.new.self.held
+    seen_pushed tree.view c.push_formatting.new.self c.insert_element_for.new.self.held
     c.insert_element_for.new.self.sink
-    (inserted_for c.args.tag (seen tree.number tree.forest tree.quirks c.args.self.now.held c.args.self.now.sink))
-    (tree.number c.in_ok-element.element) (nodes (tree.forest c.args.self.now.sink)) c.args.tag
-    c.push_formatting.ensures.open (c.in_ok-push_formatting.ensures.entries tree.number)
+    (inserted_for c.args.tag (seen tree.view c.args.self.now.held c.args.self.now.sink))
+    (tree.view.number c.in_ok-element.element) (nodes (tree.view.forest c.args.self.now.sink)) c.args.tag
+    c.push_formatting.ensures.open (c.in_ok-push_formatting.ensures.entries tree.view.number)
     c.push_formatting.ensures.fostering c.push_formatting.ensures.counts c.in_ok-element.ensures.seen
     c.in_ok-element.ensures.number
 

@@ -6,7 +6,7 @@ use Rattle.html_tree_state.proofs.construction.Construction.insert_marker.Goals 
 
 pub returns-clause-seen : goal.returns-clause-seen
 returns-clause-seen g c =
-    grind (arith, common_steps, c.in_ok-push_marker.ensures.entries g.S.TreeSink.number)
+    grind (arith, common_steps, c.in_ok-push_marker.ensures.entries g.S.TreeSink.view.number)
 
 pub returns-clause-sound : goal.returns-clause-sound
 returns-clause-sound g c = subst Sound (sym (returns-clause-seen g c))

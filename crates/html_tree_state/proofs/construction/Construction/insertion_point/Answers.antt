@@ -8,5 +8,5 @@ returns-in-Some-clause-place g c = search rules
 
 pub returns-in-Some-clause-there : goal.returns-in-Some-clause-there
 returns-in-Some-clause-there g c =
-    subst (λ p. IsPlace p (g.S.TreeSink.forest c.args.self.now.sink)) (sym (returns-in-Some-clause-place g c))
+    subst (λ p. IsPlace p (g.S.TreeSink.view.forest c.args.self.now.sink)) (sym (returns-in-Some-clause-place g c))
     (here_there c.laws_of_forests.ensures _ c.requires)

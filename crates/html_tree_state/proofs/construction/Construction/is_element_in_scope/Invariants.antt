@@ -9,13 +9,13 @@ use Rattle.html_tree_state.proofs.construction.Construction.is_element_in_scope.
 abbrev pub invariant-loop-node : goal.invariant-loop-node
 invariant-loop-node g l =
     let tree = g.S.TreeSink in
-    let n = tree.number l.element in
-    let f = tree.forest l.self.sink in
+    let n = tree.view.number l.element in
+    let f = tree.view.forest l.self.sink in
     record {
-      elements : AreElements f (stack_of tree.number l.open);
+      elements : AreElements f (stack_of tree.view.number l.open);
       same : is_in n (up_to scope_barriers f
-          (seen tree.number tree.forest tree.quirks l.self.held l.self.sink).stack)
-          ≡ is_in n (up_to scope_barriers f (stack_of tree.number l.open));
+          (seen tree.view l.self.held l.self.sink).stack)
+          ≡ is_in n (up_to scope_barriers f (stack_of tree.view.number l.open));
     }
 
 abbrev pub decreases-loop-node : goal.decreases-loop-node

@@ -7,8 +7,8 @@ use Rattle.name_sets.specs.Counts.{counts_of}
 pub returns-then-has_none_named : goal.returns-then-has_none_named
 returns-then-has_none_named g c =
     let tree = g.S.TreeSink in
-    sym (unopened (tree.number c.args.element) (stack_of tree.number c.args.self.now.held.open_elements)
-    (tree.forest c.args.self.now.sink) c.args.self.now.held.counts c.has_none_named.result
+    sym (unopened (tree.view.number c.args.element) (stack_of tree.view.number c.args.self.now.held.open_elements)
+    (tree.view.forest c.args.self.now.sink) c.args.self.now.held.counts c.has_none_named.result
     (λ front back are. c.has_none_named.ensures front back
     (c.counts.ensures ∙ are ∙ ap (λ x. counts_of (front ++ x ∷ back)) (sym c.elem_name.ensures)))
     c.requires.sound.counted c.if-has_none_named.true)

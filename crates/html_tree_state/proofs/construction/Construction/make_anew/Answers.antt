@@ -9,18 +9,18 @@ pub returns-in_default-clause-made : goal.returns-in_default-clause-made
 returns-in_default-clause-made g c =
     let tree = g.S.TreeSink in
     let x = c.index-as_slice-index.result in
-    made_marker tree.number tree.forest tree.quirks c.args.index c.args.self.now.held c.args.self.now.sink x
+    made_marker tree.view c.args.index c.args.self.now.held c.args.self.now.sink x
     c.requires.within (c.index-as_slice-index.is
     ∙ ap (λ (v : List (FormatEntry g.row.S-Handle.Denot)). slice_index_or v c.args.index x)
     (c.as_slice.ensures ∙ c.formatting.ensures)) c.in_default.is
 
-made_anew : (g : Over) (c : goal.After-drop-tag-3 g) → IsMadeAnew g.S.TreeSink.number g.S.TreeSink.forest
-    g.S.TreeSink.quirks c.args.index c.give.new.self c.args.self.now.held c.insert_element_for.new.self.sink
+made_anew : (g : Over) (c : goal.After-drop-tag-3 g) → IsMadeAnew g.S.TreeSink.view c.args.index c.give.new.self
+    c.args.self.now.held c.insert_element_for.new.self.sink
     c.args.self.now.sink
 made_anew g c =
     let tree = g.S.TreeSink in
     let x = c.index-as_slice-index.result in
-    made_element tree.number tree.forest tree.quirks c.args.index c.give.new.self c.insert_element_for.new.self.held
+    made_element tree.view c.args.index c.give.new.self c.insert_element_for.new.self.held
     c.args.self.now.held c.insert_element_for.new.self.sink c.args.self.now.sink x c.in-Element.field-0
     c.in_ok-element.element c.in-Element.tag c.in_ok-tag.tag c.laws_of_forests.ensures c.requires.sound
     c.requires.within (c.index-as_slice-index.is
@@ -40,7 +40,7 @@ returns-clause-sound g c = (made_anew g c).sound
 
 pub give-requires : goal.give-requires
 give-requires g c =
-    let number = g.S.TreeSink.number in
+    let number = g.S.TreeSink.view.number in
     omega (
       arith,
       as_many number c.args.self.now.held.entries,

@@ -8,8 +8,8 @@ use Rattle.html_tree_state.proofs.construction.Construction.pop_down_to.Given as
 abbrev pub invariant-loop-current : goal.invariant-loop-current
 invariant-loop-current g l =
     let tree = g.S.TreeSink in
-    let now = seen tree.number tree.forest tree.quirks l.self.held l.self.sink in
-    let first = seen tree.number tree.forest tree.quirks l.initial.self.held l.initial.self.sink in
+    let now = seen tree.view l.self.held l.self.sink in
+    let first = seen tree.view l.initial.self.held l.initial.self.sink in
     record {
       sound : Sound now;
       same : popped_down_to (elements_of l.set) now ≡ popped_down_to (elements_of l.set)

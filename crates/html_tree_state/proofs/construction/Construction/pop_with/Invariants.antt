@@ -7,11 +7,11 @@ use Rattle.html_tree_state.proofs.construction.Construction.pop_with.Given as go
 abbrev pub invariant-loop-current : goal.invariant-loop-current
 invariant-loop-current g l =
     let tree = g.S.TreeSink in
-    let now = seen tree.number tree.forest tree.quirks l.self.held l.self.sink in
-    let first = seen tree.number tree.forest tree.quirks l.initial.self.held l.initial.self.sink in
+    let now = seen tree.view l.self.held l.self.sink in
+    let first = seen tree.view l.initial.self.held l.initial.self.sink in
     record {
       sound : Sound now;
-      same : popped_with (tree.number l.element) now ≡ popped_with (tree.number l.element)
+      same : popped_with (tree.view.number l.element) now ≡ popped_with (tree.view.number l.element)
           first;
     }
 

@@ -12,20 +12,22 @@ use Rattle.html_tree_state.proofs.construction.Construction.put_element.Goals as
 
 pub insert_at-requires : goal.insert_at-requires
 insert_at-requires g c =
-    can_put_new c.laws_of_forests.ensures g.S.TreeSink.number c.args.point
-    (g.S.TreeSink.number c.in_ok-element.element) _ _ _ _ _ _ c.in_ok-element.ensures.forest
+    can_put_new c.laws_of_forests.ensures g.S.TreeSink.view.number c.args.point
+    (g.S.TreeSink.view.number c.in_ok-element.element) _ _ _ _ _ _ c.in_ok-element.ensures.forest
     c.in_ok-element.ensures.number c.requires.sound.forest c.requires.place
 
 pub returns-clause-seen : goal.returns-clause-seen
 returns-clause-seen g c =
     let tree = g.S.TreeSink in
-    let b = seen tree.number tree.forest tree.quirks c.args.self.now.held c.args.self.now.sink in
-    let forest = put_new g.S.TreeSink.number c.args.point (g.S.TreeSink.number c.in_ok-element.element) _ _ _ _ _ _ _
+    let b = seen tree.view c.args.self.now.held c.args.self.now.sink in
+    let forest = put_new g.S.TreeSink.view.number c.args.point (g.S.TreeSink.view.number c.in_ok-element.element) _ _ _
+    _ _ _ _
     c.in_ok-insert_at.ensures.forest c.in_ok-element.ensures.forest c.in_ok-element.ensures.number in
-    let place = place_of tree.number (tree.forest c.args.self.now.sink) c.args.point in
-    let with_flags : tree.forest c.insert_at.new.self.sink ≡ (with_element place c.args.name c.args.attrs b).forest =
+    let place = place_of tree.view.number (tree.view.forest c.args.self.now.sink) c.args.point in
+    let with_flags : tree.view.forest c.insert_at.new.self.sink ≡ (with_element place c.args.name c.args.attrs
+    b).forest =
     cc (forest, c.element_flags-flags.ensures.template, c.element_flags-flags.ensures.point) in
-    seen_changed tree.number tree.forest tree.quirks c.args.self.now.held c.insert_at.new.self.held
+    seen_changed tree.view c.args.self.now.held c.insert_at.new.self.held
     c.args.self.now.sink c.insert_at.new.self.sink _ c.insert_at.ensures.held with_flags
     (c.insert_at.ensures.quirks ∙ c.create_element.ensures.quirks)
     (element_kept c.laws_of_forests.ensures c.args.self.now.held.counts b c.requires.sound place c.args.name

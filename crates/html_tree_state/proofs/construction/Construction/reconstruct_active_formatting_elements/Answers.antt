@@ -7,5 +7,5 @@ returns-clause-seen g c =
     let tree = g.S.TreeSink in
     let within : length c.forward.self.held.entries ≤ c.forward.index
     = omega (arith, ap length (c.as_slice.ensures ∙ c.formatting.ensures), c.forward-test.false) in
-    sym (all_made tree.number tree.forest tree.quirks c.forward.index c.forward.self.held c.forward.self.sink within)
+    sym (all_made tree.view c.forward.index c.forward.self.held c.forward.self.sink within)
     ∙ c.forward.invariant.same

@@ -7,8 +7,8 @@ use Rattle.html_tree_state.proofs.construction.Construction.reconstruct_active_f
 abbrev pub invariant-forward : goal.invariant-forward
 invariant-forward g l =
     let tree = g.S.TreeSink in
-    let now = seen tree.number tree.forest tree.quirks l.self.held l.self.sink in
-    let first = seen tree.number tree.forest tree.quirks l.initial.self.held l.initial.self.sink in
+    let now = seen tree.view l.self.held l.self.sink in
+    let first = seen tree.view l.initial.self.held l.initial.self.sink in
     record { sound : Sound now; same : made_from l.index now ≡ reconstructed first }
 
 abbrev pub decreases-forward : goal.decreases-forward

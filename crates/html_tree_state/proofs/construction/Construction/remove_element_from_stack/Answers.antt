@@ -6,6 +6,6 @@ use Rattle.html_tree_state.proofs.construction.Construction.remove_element_from_
 pub returns-else-is_element_open-clause-seen : goal.returns-else-is_element_open-clause-seen
 returns-else-is_element_open-clause-seen g c =
     let tree = g.S.TreeSink in
-    let b : Building = seen tree.number tree.forest tree.quirks c.args.self.now.held c.args.self.now.sink in
-    ap (λ ns. record b { stack = ns }) (sym (left_out_none (tree.number c.args.element) b.stack
+    let b : Building = seen tree.view c.args.self.now.held c.args.self.now.sink in
+    ap (λ ns. record b { stack = ns }) (sym (left_out_none (tree.view.number c.args.element) b.stack
     (sym c.is_element_open.ensures ∙ c.if-is_element_open.false)))

@@ -7,5 +7,5 @@ returns-clause-seen g c = search rules
 
 pub returns-clause-sound : goal.returns-clause-sound
 returns-clause-sound g c = subst Sound (sym (returns-clause-seen g c))
-    (c.adopting_keeps_sound.ensures.unlisted (g.S.TreeSink.number c.args.element) _ c.laws_of_forests.ensures
+    (c.adopting_keeps_sound.ensures.unlisted (g.S.TreeSink.view.number c.args.element) _ c.laws_of_forests.ensures
     c.requires)

@@ -7,4 +7,4 @@ returns-clause-seen g c = search rules
 
 pub returns-clause-sound : goal.returns-clause-sound
 returns-clause-sound g c = subst Sound (sym (returns-clause-seen g c))
-    (c.adopting_keeps_sound.ensures.taken_off (g.S.TreeSink.number c.args.element) _ c.requires)
+    (c.adopting_keeps_sound.ensures.taken_off (g.S.TreeSink.view.number c.args.element) _ c.requires)

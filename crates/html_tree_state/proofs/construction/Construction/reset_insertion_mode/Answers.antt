@@ -11,7 +11,7 @@ use Rattle.html_tree_state.proofs.construction.Construction.reset_insertion_mode
 
 pub loop-element-init : goal.loop-element-init
 loop-element-init g c =
-    let number = g.S.TreeSink.number in
+    let number = g.S.TreeSink.view.number in
     record {
       elements = record {
         are = λ n i. c.requires.elements n
@@ -19,14 +19,14 @@ loop-element-init g c =
       };
       same = ap (λ (o : List g.row.S-Handle.Denot). reset_mode (option_map (λ name. name.now) c.args.context)
           c.args.has_head c.args.template_mode
-          (map (λ n. name_of n (g.S.TreeSink.forest c.args.self.now.sink)) (stack_of number o)))
+          (map (λ n. name_of n (g.S.TreeSink.view.forest c.args.self.now.sink)) (stack_of number o)))
           (sym c.open_elements-open.ensures);
     }
 
 pub returns-in-Some-own_mode : goal.returns-in-Some-own_mode
 returns-in-Some-own_mode g c =
-    let number = g.S.TreeSink.number in
-    let name_at = λ (n : ℕ). name_of n (g.S.TreeSink.forest c.args.self.now.sink) in
+    let number = g.S.TreeSink.view.number in
+    let name_at = λ (n : ℕ). name_of n (g.S.TreeSink.view.forest c.args.self.now.sink) in
     let held : 0 < length c.in-Some.lower.now = grind (arith, nat_tests, c.is_empty.ensures, c.if-is_empty.false) in
     let own = ap (λ (n : QualName). own_mode n false c.args.has_head c.args.template_mode)
     (sym c.elem_name-name.ensures) ∙ sym c.own_mode.ensures ∙ c.in-Some-own_mode.is in
@@ -38,8 +38,8 @@ returns-in-Some-own_mode g c =
 
 pub loop-element-preserved : goal.loop-element-preserved
 loop-element-preserved g c =
-    let number = g.S.TreeSink.number in
-    let name_at = λ (n : ℕ). name_of n (g.S.TreeSink.forest c.args.self.now.sink) in
+    let number = g.S.TreeSink.view.number in
+    let name_at = λ (n : ℕ). name_of n (g.S.TreeSink.view.forest c.args.self.now.sink) in
     let held : 0 < length c.in-Some.lower.now = grind (arith, nat_tests, c.is_empty.ensures, c.if-is_empty.false) in
     let own = ap (λ (n : QualName). own_mode n false c.args.has_head c.args.template_mode)
     (sym c.elem_name-name.ensures) ∙ sym c.own_mode.ensures ∙ c.in_default-own_mode.is in

@@ -9,13 +9,13 @@ use Rattle.html_tree_state.proofs.construction.Construction.reset_insertion_mode
 abbrev pub invariant-loop-element : goal.invariant-loop-element
 invariant-loop-element g l =
     let tree = g.S.TreeSink in
-    let f = tree.forest l.self.sink in
+    let f = tree.view.forest l.self.sink in
     record {
-      elements : AreElements f (stack_of tree.number l.open);
+      elements : AreElements f (stack_of tree.view.number l.open);
       same : reset_mode (option_map (λ name. name.now) l.context) l.has_head l.template_mode
-          (names_of (seen tree.number tree.forest tree.quirks l.self.held l.self.sink))
+          (names_of (seen tree.view l.self.held l.self.sink))
           ≡ reset_mode (option_map (λ name. name.now) l.context) l.has_head l.template_mode
-          (map (λ n. name_of n f) (stack_of tree.number l.open));
+          (map (λ n. name_of n f) (stack_of tree.view.number l.open));
     }
 
 abbrev pub decreases-loop-element : goal.decreases-loop-element

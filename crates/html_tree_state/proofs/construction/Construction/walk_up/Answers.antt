@@ -10,37 +10,40 @@ use Rattle.html_tree_state.proofs.construction.Construction.walk_up.Goals as goa
 pub returns-in_default-clause-walked : goal.returns-in_default-clause-walked
 returns-in_default-clause-walked g c =
     let tree = g.S.TreeSink in
-    let b = seen tree.number tree.forest tree.quirks c.args.self.now.held c.args.self.now.sink in
-    let none = subst (λ (o : List g.row.S-Handle.Denot). is_in (tree.number c.args.block) (stack_of tree.number o)
+    let b = seen tree.view c.args.self.now.held c.args.self.now.sink in
+    let none = subst (λ (o : List g.row.S-Handle.Denot). is_in (tree.view.number c.args.block)
+    (stack_of tree.view.number o)
     ≡ false) c.open_elements.ensures (c.position.ensures.missing c.in_default.is) in
     absurd (let k : true ≡ false =
-    sym (block_open (tree.number c.args.element) (tree.number c.args.block) b c.requires) ∙ none in cc)
+    sym (block_open (tree.view.number c.args.element) (tree.view.number c.args.block) b c.requires) ∙ none in cc)
 
 pub up-init : goal.up-init
 up-init g c =
     let tree = g.S.TreeSink in
-    let b = seen tree.number tree.forest tree.quirks c.args.self.now.held c.args.self.now.sink in
-    let at = subst (λ (o : List g.row.S-Handle.Denot). IsOpenAt tree.number (tree.number c.args.block) o
+    let b = seen tree.view c.args.self.now.held c.args.self.now.sink in
+    let at = subst (λ (o : List g.row.S-Handle.Denot). IsOpenAt tree.view.number (tree.view.number c.args.block) o
     c.in-Some.start) c.open_elements.ensures c.in-Some.ensures.found in
-    walking_begins (tree.number c.args.element) (tree.number c.args.block) b c.in-Some.start c.requires
-    (above_length tree.number c.args.self.now.held.open_elements c.in-Some.start _ at.within at.before_it)
+    walking_begins (tree.view.number c.args.element) (tree.view.number c.args.block) b c.in-Some.start c.requires
+    (above_length tree.view.number c.args.self.now.held.open_elements c.in-Some.start _ at.within at.before_it)
 
 pub element_at-node-requires : goal.element_at-node-requires
 element_at-node-requires g c =
     let tree = g.S.TreeSink in
-    let first = seen tree.number tree.forest tree.quirks c.args.self.now.held c.args.self.now.sink in
-    let now = walk_of tree.number c.up.walk (seen tree.number tree.forest tree.quirks c.up.self.held c.up.self.sink) in
-    let open_length = same_length tree.number c.up.self.held.open_elements in
-    let below = within (tree.number c.args.element) (tree.number c.args.block) first c.in-Some.start c.up.index now
+    let first = seen tree.view c.args.self.now.held c.args.self.now.sink in
+    let now = walk_of tree.view.number c.up.walk (seen tree.view c.up.self.held c.up.self.sink) in
+    let open_length = same_length tree.view.number c.up.self.held.open_elements in
+    let below = within (tree.view.number c.args.element) (tree.view.number c.args.block) first c.in-Some.start
+    c.up.index now
     c.up.invariant in
     omega (arith, open_length, below, c.up-test.true)
 
 pub returns-then-same_node-clause-walked : goal.returns-then-same_node-clause-walked
 returns-then-same_node-clause-walked g c =
     let tree = g.S.TreeSink in
-    let first = seen tree.number tree.forest tree.quirks c.args.self.now.held c.args.self.now.sink in
-    let now = walk_of tree.number c.up.walk (seen tree.number tree.forest tree.quirks c.up.self.held c.up.self.sink) in
-    walk_ends (tree.number c.args.element) (tree.number c.args.block) (tree.number c.element_at-node.result) first
+    let first = seen tree.view c.args.self.now.held c.args.self.now.sink in
+    let now = walk_of tree.view.number c.up.walk (seen tree.view c.up.self.held c.up.self.sink) in
+    walk_ends (tree.view.number c.args.element) (tree.view.number c.args.block)
+    (tree.view.number c.element_at-node.result) first
     c.in-Some.start c.up.index now c.laws_of_forests.ensures c.up.invariant (omega arith) c.element_at-node.ensures
     (sym c.same_node.ensures ∙ c.if-same_node.true)
 
@@ -50,11 +53,11 @@ take_step-requires-clause-sound g c = c.up.invariant.walk.sound
 pub take_step-requires-clause-open : goal.take_step-requires-clause-open
 take_step-requires-clause-open g c =
     let tree = g.S.TreeSink in
-    let first = seen tree.number tree.forest tree.quirks c.args.self.now.held c.args.self.now.sink in
-    let now = walk_of tree.number c.up.walk (seen tree.number tree.forest tree.quirks c.up.self.held c.up.self.sink) in
-    let n = tree.number c.args.element in
-    let block = tree.number c.args.block in
-    let m = tree.number c.element_at-node.result in
+    let first = seen tree.view c.args.self.now.held c.args.self.now.sink in
+    let now = walk_of tree.view.number c.up.walk (seen tree.view c.up.self.held c.up.self.sink) in
+    let n = tree.view.number c.args.element in
+    let block = tree.view.number c.args.block in
+    let m = tree.view.number c.element_at-node.result in
     next_open n block m first c.in-Some.start (c.up.index - 1) now c.laws_of_forests.ensures
     (walk_next n block m first c.in-Some.start c.up.index now c.laws_of_forests.ensures c.up.invariant (omega arith)
     c.element_at-node.ensures (sym c.same_node.ensures ∙ c.if-same_node.false))
@@ -62,11 +65,11 @@ take_step-requires-clause-open g c =
 pub take_step-requires-clause-last : goal.take_step-requires-clause-last
 take_step-requires-clause-last g c =
     let tree = g.S.TreeSink in
-    let first = seen tree.number tree.forest tree.quirks c.args.self.now.held c.args.self.now.sink in
-    let now = walk_of tree.number c.up.walk (seen tree.number tree.forest tree.quirks c.up.self.held c.up.self.sink) in
-    let n = tree.number c.args.element in
-    let block = tree.number c.args.block in
-    let m = tree.number c.element_at-node.result in
+    let first = seen tree.view c.args.self.now.held c.args.self.now.sink in
+    let now = walk_of tree.view.number c.up.walk (seen tree.view c.up.self.held c.up.self.sink) in
+    let n = tree.view.number c.args.element in
+    let block = tree.view.number c.args.block in
+    let m = tree.view.number c.element_at-node.result in
     next_below n block m first c.in-Some.start (c.up.index - 1) now c.laws_of_forests.ensures
     (walk_next n block m first c.in-Some.start c.up.index now c.laws_of_forests.ensures c.up.invariant (omega arith)
     c.element_at-node.ensures (sym c.same_node.ensures ∙ c.if-same_node.false))
@@ -74,11 +77,11 @@ take_step-requires-clause-last g c =
 pub up-preserved : goal.up-preserved
 up-preserved g c =
     let tree = g.S.TreeSink in
-    let first = seen tree.number tree.forest tree.quirks c.args.self.now.held c.args.self.now.sink in
-    let now = walk_of tree.number c.up.walk (seen tree.number tree.forest tree.quirks c.up.self.held c.up.self.sink) in
-    let n = tree.number c.args.element in
-    let block = tree.number c.args.block in
-    let m = tree.number c.element_at-node.result in
+    let first = seen tree.view c.args.self.now.held c.args.self.now.sink in
+    let now = walk_of tree.view.number c.up.walk (seen tree.view c.up.self.held c.up.self.sink) in
+    let n = tree.view.number c.args.element in
+    let block = tree.view.number c.args.block in
+    let m = tree.view.number c.element_at-node.result in
     step_taken n block m first c.in-Some.start (c.up.index - 1) now c.laws_of_forests.ensures
     (walk_next n block m first c.in-Some.start c.up.index now c.laws_of_forests.ensures c.up.invariant (omega arith)
     c.element_at-node.ensures (sym c.same_node.ensures ∙ c.if-same_node.false)) _ _ refl c.in_ok-walk.ensures.seen
@@ -86,8 +89,9 @@ up-preserved g c =
 pub returns-clause-walked : goal.returns-clause-walked
 returns-clause-walked g c =
     let tree = g.S.TreeSink in
-    let first = seen tree.number tree.forest tree.quirks c.args.self.now.held c.args.self.now.sink in
-    let now = walk_of tree.number c.up.walk (seen tree.number tree.forest tree.quirks c.up.self.held c.up.self.sink) in
-    let some = some_left (tree.number c.args.element) (tree.number c.args.block) first c.in-Some.start c.up.index now
+    let first = seen tree.view c.args.self.now.held c.args.self.now.sink in
+    let now = walk_of tree.view.number c.up.walk (seen tree.view c.up.self.held c.up.self.sink) in
+    let some = some_left (tree.view.number c.args.element) (tree.view.number c.args.block) first c.in-Some.start
+    c.up.index now
     c.up.invariant in
     absurd (omega (arith, some, c.up-test.false))

@@ -15,5 +15,5 @@ returns-clause-ready g c =
 pub add_attributes_if_missing-requires-clause-element :
     goal.add_attributes_if_missing-requires-clause-element
 add_attributes_if_missing-requires-clause-element g c =
-    c.open_elements_are_elements.ensures _ (parsed g.S.TreeSink.number g.S.TreeSink.forest g.S.TreeSink.quirks
+    c.open_elements_are_elements.ensures _ (parsed g.S.TreeSink.view
     c.args.self.now.kept c.args.self.now.tree.held c.args.self.now.tree.sink) c.requires.ready c.requires.there

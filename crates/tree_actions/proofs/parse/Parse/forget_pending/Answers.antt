@@ -8,6 +8,6 @@ use Rattle.tree_actions.proofs.parse.Parse.forget_pending.Goals as goal
 
 pub returns-clause-seen : goal.returns-clause-seen
 unfolding act
-returns-clause-seen g c = with_pending (parsed g.S.TreeSink.number g.S.TreeSink.forest g.S.TreeSink.quirks
+returns-clause-seen g c = with_pending (parsed g.S.TreeSink.view
     c.args.self.now.kept c.args.self.now.tree.held c.args.self.now.tree.sink)
     (c.from.ensures ∙ (ap chars c.new.ensures.bytes ∙ chars-nil))

@@ -14,8 +14,8 @@ returns-clause-seen g c =
     let sink = g.S.TreeSink in
     let kept = c.args.self.now.kept in
     let tree = c.args.self.now.tree in
-    let old = seen sink.number sink.forest sink.quirks tree.held tree.sink in
-    ap (λ (b : Building). record (parsed sink.number sink.forest sink.quirks kept tree.held tree.sink) { tree = b })
+    let old = seen sink.view tree.held tree.sink in
+    ap (λ (b : Building). record (parsed sink.view kept tree.held tree.sink) { tree = b })
     (c.in_ok-insert_formatting_element.ensures.seen
     ∙ (ap (λ (t : Tag). inserted_formatting t old) c.in_ok-tag.ensures
     ∙ formatting_listed c.args.tag.now old c.requires.formatting))

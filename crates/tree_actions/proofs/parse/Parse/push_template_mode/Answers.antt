@@ -7,7 +7,7 @@ use Rattle.tree_actions.proofs.parse.Parse.push_template_mode.Goals as goal
 
 pub returns-clause-seen : goal.returns-clause-seen
 unfolding act
-returns-clause-seen g c = with_modes (parsed g.S.TreeSink.number g.S.TreeSink.forest g.S.TreeSink.quirks
+returns-clause-seen g c = with_modes (parsed g.S.TreeSink.view
     c.args.self.now.kept c.args.self.now.tree.held c.args.self.now.tree.sink)
     (pushed_modes _ _ _ c.in_ok-push.ensures.items)
 

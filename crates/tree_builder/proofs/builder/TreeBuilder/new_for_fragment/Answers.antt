@@ -12,8 +12,8 @@ pub returns-in-Ok-clause-hears : goal.returns-in-Ok-clause-hears
 returns-in-Ok-clause-hears g c =
     let tree = g.S.TreeSink in
     subst (λ (s : State). (item : Item) → IsWelcome s item) (sym (returns-in-Ok-clause-begun g c))
-    (fragment_welcomes c.args.opts (tree.number c.args.context) (option_map tree.number c.args.form)
-    (tree.forest c.args.sink) (tree.quirks c.args.sink))
+    (fragment_welcomes c.args.opts (tree.view.number c.args.context) (option_map tree.view.number c.args.form)
+    (tree.view.forest c.args.sink) (tree.view.quirks c.args.sink))
 
 pub returns-in-Ok-clause-ready : goal.returns-in-Ok-clause-ready
 returns-in-Ok-clause-ready g c = record {

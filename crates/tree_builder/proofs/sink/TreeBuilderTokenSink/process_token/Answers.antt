@@ -24,12 +24,12 @@ pub returns-in-Ok-clause-fit : goal.returns-in-Ok-clause-fit
 returns-in-Ok-clause-fit g c =
     let tree = g.S.TreeSink in
     let page = c.args.self.now.page in
-    let s : State = parsed tree.number tree.forest tree.quirks page.kept page.tree.held page.tree.sink in
+    let s : State = parsed tree.view page.kept page.tree.held page.tree.sink in
     λ _. still_ready s _ (item_of c.args.token) (c.requires (search rules)) (returns-in-Ok-clause-state g c)
 
 pub returns-in-Ok-clause-works : goal.returns-in-Ok-clause-works
 returns-in-Ok-clause-works g c =
     let tree = g.S.TreeSink in
     let page = c.args.self.now.page in
-    let s : State = parsed tree.number tree.forest tree.quirks page.kept page.tree.held page.tree.sink in
+    let s : State = parsed tree.view page.kept page.tree.held page.tree.sink in
     (still_ready s _ (item_of c.args.token) (c.requires (search rules)) (returns-in-Ok-clause-state g c)).works

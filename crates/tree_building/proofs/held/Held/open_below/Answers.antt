@@ -9,8 +9,8 @@ use Rattle.tree_building.proofs.held.Held.open_below.Goals as goal
 
 pub add-requires : goal.add-requires
 add-requires g c =
-    let number = g.S.TreeSink.number in
-    let f = g.S.TreeSink.forest c.args.sink.now in
+    let number = g.S.TreeSink.view.number in
+    let f = g.S.TreeSink.view.forest c.args.sink.now in
     let items = c.self.inside.open_elements.items in
     let counted = subst (λ (p : Parts g.row.H.Denot). are_counted p.counts (stack_of number p.open_elements) f ≡ true)
     (sym c.self.view_is) c.requires.counted in
@@ -22,8 +22,8 @@ add-requires g c =
 
 pub returns-then-branch-clause-counted : goal.returns-then-branch-clause-counted
 returns-then-branch-clause-counted g c =
-    let number = g.S.TreeSink.number in
-    let f = g.S.TreeSink.forest c.args.sink.now in
+    let number = g.S.TreeSink.view.number in
+    let f = g.S.TreeSink.view.forest c.args.sink.now in
     let items = c.self.inside.open_elements.items in
     let counted = subst (λ (p : Parts g.row.H.Denot). are_counted p.counts (stack_of number p.open_elements) f ≡ true)
     (sym c.self.view_is) c.requires.counted in
@@ -37,8 +37,8 @@ returns-then-branch-clause-counted g c =
 
 pub returns-else-branch-clause-counted : goal.returns-else-branch-clause-counted
 returns-else-branch-clause-counted g c =
-    let number = g.S.TreeSink.number in
-    let f = g.S.TreeSink.forest c.args.sink.now in
+    let number = g.S.TreeSink.view.number in
+    let f = g.S.TreeSink.view.forest c.args.sink.now in
     let items = c.self.inside.open_elements.items in
     let counted = subst (λ (p : Parts g.row.H.Denot). are_counted p.counts (stack_of number p.open_elements) f ≡ true)
     (sym c.self.view_is) c.requires.counted in

@@ -6,8 +6,8 @@ use Rattle.tree_building.proofs.held.Held.pop.Goals as goal
 
 pub remove-requires : goal.remove-requires
 remove-requires g c =
-    let number = g.S.TreeSink.number in
-    let f = g.S.TreeSink.forest c.args.sink.now in
+    let number = g.S.TreeSink.view.number in
+    let f = g.S.TreeSink.view.forest c.args.sink.now in
     let items = c.self.inside.open_elements.items in
     let counted = subst (λ (p : Parts g.row.H.Denot). are_counted p.counts (stack_of number p.open_elements) f ≡ true)
     (sym c.self.view_is) c.requires.counted in
@@ -18,8 +18,8 @@ remove-requires g c =
 
 pub returns-in-Some-clause-counted : goal.returns-in-Some-clause-counted
 returns-in-Some-clause-counted g c =
-    let number = g.S.TreeSink.number in
-    let f = g.S.TreeSink.forest c.args.sink.now in
+    let number = g.S.TreeSink.view.number in
+    let f = g.S.TreeSink.view.forest c.args.sink.now in
     let items = c.self.inside.open_elements.items in
     let counted = subst (λ (p : Parts g.row.H.Denot). are_counted p.counts (stack_of number p.open_elements) f ≡ true)
     (sym c.self.view_is) c.requires.counted in

@@ -7,8 +7,8 @@ use Rattle.tree_building.proofs.held.Held.push.Goals as goal
 
 pub add-requires : goal.add-requires
 add-requires g c =
-    let number = g.S.TreeSink.number in
-    let f = g.S.TreeSink.forest c.args.sink.now in
+    let number = g.S.TreeSink.view.number in
+    let f = g.S.TreeSink.view.forest c.args.sink.now in
     let counted = subst (λ (p : Parts g.row.H.Denot). are_counted p.counts (stack_of number p.open_elements) f ≡ true)
     (sym c.self.view_is) c.requires.counted in
     may_count number f c.self.inside.counts c.self.inside.open_elements.items c.len.result
@@ -16,8 +16,8 @@ add-requires g c =
 
 pub returns-clause-counted : goal.returns-clause-counted
 returns-clause-counted g c =
-    let number = g.S.TreeSink.number in
-    let f = g.S.TreeSink.forest c.args.sink.now in
+    let number = g.S.TreeSink.view.number in
+    let f = g.S.TreeSink.view.forest c.args.sink.now in
     let items = c.self.inside.open_elements.items in
     let counted = subst (λ (p : Parts g.row.H.Denot). are_counted p.counts (stack_of number p.open_elements) f ≡ true)
     (sym c.self.view_is) c.requires.counted in

@@ -9,7 +9,7 @@ use Rattle.tree_building.proofs.held.Held.take_off.Goals as goal
 
 pub elem_name-requires : goal.elem_name-requires
 elem_name-requires g c =
-    let number = g.S.TreeSink.number in
+    let number = g.S.TreeSink.view.number in
     c.requires.elements (number c.args.element)
     (subst (λ (p : Parts g.row.H.Denot). IsIn (number c.args.element) (stack_of number p.open_elements)) c.self.view_is
     (is_in_them (number c.args.element) (stack_of number c.self.inside.open_elements.items)
@@ -17,8 +17,8 @@ elem_name-requires g c =
 
 pub remove-requires : goal.remove-requires
 remove-requires g c =
-    let number = g.S.TreeSink.number in
-    let f = g.S.TreeSink.forest c.args.sink.now in
+    let number = g.S.TreeSink.view.number in
+    let f = g.S.TreeSink.view.forest c.args.sink.now in
     let items = c.self.inside.open_elements.items in
     let counted = subst (λ (p : Parts g.row.H.Denot). are_counted p.counts (stack_of number p.open_elements) f ≡ true)
     (sym c.self.view_is) c.requires.counted in
@@ -30,8 +30,8 @@ remove-requires g c =
 
 pub returns-then-leave_out-clause-counted : goal.returns-then-leave_out-clause-counted
 returns-then-leave_out-clause-counted g c =
-    let number = g.S.TreeSink.number in
-    let f = g.S.TreeSink.forest c.args.sink.now in
+    let number = g.S.TreeSink.view.number in
+    let f = g.S.TreeSink.view.forest c.args.sink.now in
     let items = c.self.inside.open_elements.items in
     let counted = subst (λ (p : Parts g.row.H.Denot). are_counted p.counts (stack_of number p.open_elements) f ≡ true)
     (sym c.self.view_is) c.requires.counted in
@@ -46,8 +46,8 @@ returns-then-leave_out-clause-counted g c =
 
 pub returns-else-leave_out-clause-counted : goal.returns-else-leave_out-clause-counted
 returns-else-leave_out-clause-counted g c =
-    let number = g.S.TreeSink.number in
-    let f = g.S.TreeSink.forest c.args.sink.now in
+    let number = g.S.TreeSink.view.number in
+    let f = g.S.TreeSink.view.forest c.args.sink.now in
     let items = c.self.inside.open_elements.items in
     let counted = subst (λ (p : Parts g.row.H.Denot). are_counted p.counts (stack_of number p.open_elements) f ≡ true)
     (sym c.self.view_is) c.requires.counted in
