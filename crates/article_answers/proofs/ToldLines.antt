@@ -1,4 +1,4 @@
--- Lines that are told are those of the article's answer.
+-- Lines that are emitted are those of the article's answer.
 use Rattle.std.proofs.Common.{◌≡◌, ℕ, List, [], ◌∷◌, map, Option, None, Some, refl, sym, ap, subst, ◌∙◌}
 use Rattle.std.specs.Option.{option_map}
 use Rattle.std.specs.Prelude.{Result, Err}

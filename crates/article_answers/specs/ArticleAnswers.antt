@@ -51,6 +51,6 @@ IsAnswerToPage c width title blocks expected = (bytes : List ℕ) (answer : Page
     → IsUtf8 bytes → chars bytes ≡ article_text title blocks
     → HasAnswer plain_marking (λ _. tt) plain_closes c width bytes answer → answer ≡ expected
 
--- what stands on lines that are told
+-- what stands on lines that are emitted
 abbrev pub shown_of : List ArticleLine → List (List (Item Tag))
 shown_of shown = map (λ l. line_items tag_of l.line) shown

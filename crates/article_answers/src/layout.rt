@@ -40,7 +40,7 @@ pub trait LayArticle {
     /// knows nothing of pages, so what `config` says of these changes no line here.
     ///
     /// It is `TooNarrow` just where the page is: where the width is 0, where a heading or an item has fewer columns
-    /// behind its prefix than it asks for, and where a character is wider than lines; else where allocation fails.
+    /// after its prefix than it asks for, and where a character is wider than lines; else where allocation fails.
     /// Paragraphs alone are never refused where a line of text may have two columns (`paragraphs`).
     ///
     /// What is said between two breaks shows each visible character once, in order (`shown`), on no more lines than any

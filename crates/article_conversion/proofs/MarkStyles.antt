@@ -38,7 +38,7 @@ pub unset_by : (name : List ℕ) → style_seen true name ≡ all_unset → (dec
 unset_by name e true = e
 unset_by name e false = refl
 
--- of an element with marks they say what stands before and behind its contents
+-- of an element with marks they say what stands before and after its contents
 abbrev part_of : List ℕ → Part
 part_of mark = record { look = plain; hidden = false; content = Some mark }
 

@@ -90,7 +90,7 @@ trees_of_listed (span name attributes kids rest) (suc k) n f front behind e befo
 abbrev node_document : List ℕ → Node
 node_document children = record { kind = document; children = children }
 
--- behind nodes of a document, the body's contents
+-- after nodes of a document, the body's contents
 in_body : (content : Content) (n k : ℕ) (front : Forest) → length front ≡ n → (held : size content ≤ k) →
     each_before (tree_before k (front ++ listed n content)) (roots n content) ≡ trees_of_content content
 in_body content n k front before held =

@@ -1,4 +1,4 @@
--- Lines that are told are exchanged as the article's are.
+-- Lines that are emitted are exchanged as the article's are.
 use Rattle.std.proofs.Common.{◌≡◌, ℕ, Bool, true, false, not, List, [], ◌∷◌, map, Option, None, Some, if◌then◌else◌}
 use Rattle.std.proofs.Common.{refl, sym, ap, ◌∙◌}
 use Rattle.std.specs.Option.{option_map}

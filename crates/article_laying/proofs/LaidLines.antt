@@ -37,7 +37,7 @@ module _ (o : Options) where
       ≡ behind (k + count_items items) (ts ++ targets_of_items o items)
       (lay_items o width k ts columns least number items lines)
 
-  -- blocks behind what came before
+  -- blocks after what came before
   further : (rest : Blocks) → Is rest → (width k : ℕ) (us more : List (List ℕ)) (j : ℕ) (lines : List Line) →
       us ++ targets_of o rest ≡ more → k + count rest ≡ j →
       laid o width rest (at k us lines) ≡ behind j more (lay o width k us rest lines)

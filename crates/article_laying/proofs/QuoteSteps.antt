@@ -4,7 +4,7 @@ use Rattle.std.specs.Option.{option_and_then, option_map}
 use Rattle.article_laying.specs.Walks.{At, behind_quote, with_quote}
 use Rattle.article_layout.specs.Layouts.{Line, Options, parted, prefixed, quote_prefix, room}
 
--- what it holds is laid out in the room that its prefix leaves, and put behind the prefix
+-- what it holds is laid out in the room that its prefix leaves, and put after the prefix
 pub quoted : (o : Options) (w least within : ℕ) (inside : ℕ → At → Option At) (s inner : At) (lines : List Line) →
     room w 2 least ≡ Some within → inside within (record s { lines = [] }) ≡ Some inner →
     lines ≡ parted o w s.lines ++ prefixed o w quote_prefix quote_prefix inner.lines →

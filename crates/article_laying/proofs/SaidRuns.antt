@@ -70,7 +70,7 @@ module _ (m : Measure) where
     Is is = (tag : Tag) (ts : List (List ℕ)) (b : Laid Tag) →
         said o m tag is (at ts b) ≡ behind (ts ++ targets_in o is) (run m (parts tag ts is) b)
 
-    -- behind what was said before
+    -- after what was said before
     further : (is : Inlines) → Is is → (tag : Tag) (us vs : List (List ℕ)) (x : Option (Laid Tag)) →
         us ++ targets_in o is ≡ vs → option_and_then (said o m tag is) (behind us x)
         ≡ behind vs (option_and_then (run m (parts tag us is)) x)

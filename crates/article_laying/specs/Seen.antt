@@ -1,4 +1,4 @@
--- What contracts see of an article's lines, while they are laid out and when they are told.
+-- What contracts see of an article's lines, while they are laid out and when they are emitted.
 use Rattle.std.specs.Prelude.{ℕ, List, Option, Some, Vec, filter, map, not}
 use Rattle.article_laying.specs.declared.layout.ArticleLine.{ArticleLine}
 use Rattle.article_laying.specs.declared.line_list.LineList.{LineList}
@@ -35,7 +35,7 @@ at_of lines behind = record {
   targets = all_targets behind.targets;
 }
 
--- a line that is told
+-- a line that is emitted
 pub record Told : Type 0 where
   pub items : List (Item Tag)
   pub paragraph : Option ℕ
@@ -46,6 +46,6 @@ told_of l = record { items = line_items tag_of l.line; paragraph = l.paragraph }
 abbrev pub told : Line → Told
 told l = record { items = l.items; paragraph = l.number }
 
--- the lines that are told and are not of a paragraph
+-- the lines that are emitted and are not of a paragraph
 abbrev pub others_told : ℕ → List Told → List Told
 others_told n lines = filter (λ l. not (is_number n l.paragraph)) lines

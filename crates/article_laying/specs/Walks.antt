@@ -96,7 +96,7 @@ abbrev pub with_heading : Options → ℕ → ℕ → Inlines → At → Option 
 with_heading o width level is s = option_map (λ new. behind_paragraph o is s (parted o width s.lines
     ++ prefixed o width (heading_prefix level) (heading_prefix level) new)) (heading_lines o width level is s)
 
--- an item's lines behind its prefix
+-- an item's lines after its prefix
 abbrev pub behind_item : Options → ℕ → ℕ → Option ℤ → At → At → At
 behind_item o width columns at s inner =
     record inner { lines = s.lines ++ prefixed o width (to_room columns (item_prefix at)) (spaces columns) inner.lines }
@@ -105,7 +105,7 @@ abbrev pub with_item : Options → (width columns least : ℕ) → Option ℤ �
 with_item o width columns least at inside s = option_map (behind_item o width columns at s)
     (option_and_then (λ within. inside within (record s { lines = [] })) (room width columns least))
 
--- a quote's lines behind its prefix
+-- a quote's lines after its prefix
 abbrev pub behind_quote : Options → ℕ → At → At → At
 behind_quote o width s inner = record inner {
   lines = parted o width s.lines ++ prefixed o width quote_prefix quote_prefix inner.lines;
@@ -136,7 +136,7 @@ abbrev mutual
       option_and_then (laid_items o width columns least (next_number at) rest)
       (with_item o width columns least at (λ within inner. laid o within kids inner) s)
 
--- ---- behind the last block
+-- ---- after the last block
 
 -- the targets are a block of their own, where there are any
 abbrev pub with_notes : Options → ℕ → List (List ℕ) → List Line → List Line

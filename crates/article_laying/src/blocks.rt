@@ -22,7 +22,7 @@ use render_laying::spaces;
 use std::alloc::Global;
 use text_pieces::BlockError;
 
-/// Lays out blocks, one after another, behind the lines so far.
+/// Lays out blocks, one after another, after the lines so far.
 #[cycle(laying)]
 pub(crate) fn lay_blocks(
     alloc: Global,
@@ -83,7 +83,7 @@ fn lay_block(
     }
 }
 
-/// Lays out a paragraph, behind an empty line where a line has content.
+/// Lays out a paragraph, after an empty line where a line has content.
 fn lay_paragraph(
     alloc: Global,
     room: Room,
@@ -103,7 +103,7 @@ fn lay_paragraph(
     Ok(())
 }
 
-/// Lays out a heading: its lines behind as many marks as its level.
+/// Lays out a heading: its lines after as many marks as its level.
 fn lay_heading(
     alloc: Global,
     room: Room,
@@ -128,7 +128,7 @@ fn lay_heading(
     Ok(())
 }
 
-/// Lays out a quote, behind an empty line where a line has content: its lines behind a prefix.
+/// Lays out a quote, after an empty line where a line has content: its lines after a prefix.
 #[cycle(laying)]
 fn lay_quote(
     alloc: Global,
@@ -156,7 +156,7 @@ fn lay_quote(
     Ok(())
 }
 
-/// Lays out a list, behind an empty line where a line has content: its items behind prefixes of so many columns.
+/// Lays out a list, after an empty line where a line has content: its items after prefixes of so many columns.
 #[cycle(laying)]
 fn lay_list(
     alloc: Global,
@@ -195,7 +195,7 @@ fn lay_list(
     Ok(())
 }
 
-/// Lays out an item, in what is left of the room behind its prefix.
+/// Lays out an item, in what is left of the room after its prefix.
 #[cycle(laying)]
 fn lay_item(
     alloc: Global,

@@ -1,4 +1,4 @@
-//! The targets of links, behind the last block.
+//! The targets of links, after the last block.
 ghost use Rattle.std.specs.Prelude.{◌≡◌, ◌++◌, chars, map, string_bytes, IfOk, OnOk};
 ghost use Rattle.article_laying.specs.Lines.{line_of, tag_of};
 ghost use Rattle.article_laying.specs.Seen.{lines_of};
@@ -19,7 +19,7 @@ use std::alloc::{AllocError, Global};
 use tagged_lines::TaggedLine;
 use text_pieces::has_text;
 
-/// Adds the targets that have footnotes as a block of their own, where they stand behind the article and there are any.
+/// Adds the targets that have footnotes as a block of their own, where they stand after the article and there are any.
 pub(crate) fn add_footnotes(
     alloc: Global,
     room: Room,

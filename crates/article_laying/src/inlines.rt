@@ -161,7 +161,7 @@ pub(crate) fn shown_mark(options: LineOptions, mark: &str) -> &str
     if options.decorates { mark } else { "" }
 }
 
-/// Says a link, unless it shows nothing: its contents in brackets, and its footnote's number where targets stand behind
+/// Says a link, unless it shows nothing: its contents in brackets, and its footnote's number where targets stand after
 /// the article.
 #[cycle(saying)]
 fn say_link(
@@ -195,7 +195,7 @@ fn say_link(
     say_number(alloc, room, block, targets, tag)
 }
 
-/// Says the number of the last link's footnote, where targets stand behind the article.
+/// Says the number of the last link's footnote, where targets stand after the article.
 fn say_number(
     alloc: Global,
     room: Room,

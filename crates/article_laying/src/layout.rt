@@ -40,7 +40,7 @@ pub struct ArticleLine {
 }
 
 /// The lines of blocks at a width, in columns, by recursion on them. It is `TooNarrow` where the width is 0, where a
-/// heading or an item has fewer columns behind its prefix than it asks for, and where a character is wider than lines;
+/// heading or an item has fewer columns after its prefix than it asks for, and where a character is wider than lines;
 /// else refused since allocation fails. Paragraphs alone are never refused where a line of text may have two columns.
 ///
 /// What is said between two breaks shows each visible character once, in order, on no more lines than any legal layout

@@ -49,7 +49,7 @@ fn holds_text(text: &str) -> bool
     !text.is_empty()
 }
 
-/// The line behind a prefix, filled where lines are.
+/// The line after a prefix, filled where lines are.
 fn prefixed(alloc: Global, room: Room, prefix: &str, line: &Line) -> Result<Line, AllocError>
     ensures { IfOk result (λ all. line_of all
         ≡ behind (options_of room.options) room.width (chars prefix.now) (line_of line.now)) }
@@ -117,7 +117,7 @@ impl LineList {
         Ok(())
     }
 
-    /// Adds lines, the first behind one prefix, the others behind another.
+    /// Adds lines, the first after one prefix, the others after another.
     pub(crate) fn append_behind(
         &mut self,
         alloc: Global,

@@ -17,7 +17,7 @@ pub struct LineOptions {
     pub pads: bool,
     /// Whether marks stand around bold, emphasised and code contents.
     pub decorates: bool,
-    /// Whether the targets of links stand behind the article, and a number behind each link.
+    /// Whether the targets of links stand after the article, and a number after each link.
     pub footnotes: bool,
     /// Whether links to equal targets share one number and one footnote.
     pub shares_footnotes: bool,
@@ -58,7 +58,7 @@ impl Room {
         }
     }
 
-    /// The room behind a prefix of so many columns, of what asks for so many with it. It is `TooNarrow` where fewer are
+    /// The room after a prefix of so many columns, of what asks for so many with it. It is `TooNarrow` where fewer are
     /// left, or none.
     pub(crate) fn behind(self, prefix: usize, least: usize) -> Result<Room, BlockError>
         ensures room { IfOk result (λ r. room self.width prefix least ≡ Some r.width) }

@@ -95,7 +95,7 @@ module _ (kept : KeepsMarkers) (o : Options) where
         } else laid lines false) (content_is lines)
         ∙ started_by lines awaits (has_content lines))
 
-    -- lines behind prefixes
+    -- lines after prefixes
     module _ (within : ℕ) where
       others_added : (following : List ℕ) (lines before : List Line) (awaits : Bool) →
           fold (add_prefixed (measure o within) m outermost following) (laid before awaits) (map cell_of lines)
@@ -212,7 +212,7 @@ module _ (kept : KeepsMarkers) (o : Options) where
       option_and_then (flush (measure o width) outermost) (run_blocks o width ts a (laid lines awaits))
       ≡ option_map (λ all. laid all (awaits_behind a awaits)) (lay o width k ts a lines)
 
-  -- what stands behind a paragraph
+  -- what stands after a paragraph
   rest_laid : (width k : ℕ) (ts : List (List ℕ)) (rest : Blocks) (before : List Line) (ran : Option (Laid Tag))
       (new : Option (List Line)) →
       option_and_then (flush (measure o width) outermost) ran
@@ -232,7 +232,7 @@ module _ (kept : KeepsMarkers) (o : Options) where
       ∙ ap Some (behind_lines before lines true))
       ∙ h lines
 
-  -- what stands behind a block that was laid
+  -- what stands after a block that was laid
   then_laid : (width k : ℕ) (ts : List (List ℕ)) (rest : Blocks) (awaits : Bool) (x : Option (Laid Tag))
       (y : Option (List Line)) →
       x ≡ option_map (λ lines. laid lines awaits) y → ((lines : List Line) → IsLaid width k ts rest lines awaits) →

@@ -44,7 +44,7 @@ same_map : (w : ℕ) (ls : List (List (Item Tag))) → map (padded w None) ls �
 same_map w [] = refl
 same_map w (l ∷ ls) = ap (λ t. l ∷ t) (same_map w ls)
 
--- the markers of normal text are on its lines, or wait behind them
+-- the markers of normal text are on its lines, or wait after them
 abbrev pub KeepsMarkers : Type 0
 KeepsMarkers = (w : ℕ) (s : List (Source Tag)) → flat_map (markers_of {S = Tag}) (normal_lines w s)
     ++ normal_waiting w s

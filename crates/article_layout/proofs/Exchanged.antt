@@ -52,7 +52,7 @@ module _ (o : Options) (number : ℕ) where
   some_alike ls ms x y p q a =
       subst (λ l. Alike number l y) (same_Some ls x p) (subst (Alike number ls) (same_Some ms y q) a)
 
-  -- ---- the same blocks behind lines that are alike
+  -- ---- the same blocks after lines that are alike
   mutual
     pub same_lay : (w k : ℕ) (ts : List (List ℕ)) (a : Blocks) (ls ms x y : List Line) → lay o w k ts a ls ≡ Some x →
         lay o w k ts a ms ≡ Some y → Alike number ls ms → Alike number x y

@@ -65,7 +65,7 @@ module _ (kept : KeepsMarkers) (o : Options) (width : ℕ) where
       ∙ notes_added (suc n) targets (before ++ map (note_line o width) own) awaits
       ∙ ap (λ ls. at ls awaits) (append_assoc before (map (note_line o width) own) (notes_from o width (suc n) targets))
 
-  -- ---- behind the last block
+  -- ---- after the last block
 
   abbrev ended : Option (Laid Tag) → Option (Laid Tag)
   ended x = option_and_then (flush m outermost) x

@@ -14,7 +14,7 @@ abbrev pub text_before : List ℕ → Values → Values
 text_before [] rest = rest
 text_before (c ∷ cs) rest = value (plain_head (infos.Text (c ∷ cs))) none rest
 
--- a mark stands before what a span holds, and behind it
+-- a mark stands before what a span holds, and after it
 abbrev pub marked : List ℕ → Values → Values
 marked mark inside = text_before mark (joined inside (text_before mark none))
 

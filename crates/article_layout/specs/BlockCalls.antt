@@ -16,12 +16,12 @@ use Rattle.article_layout.specs.Layouts.{Options, Tag, how_many, outermost, item
 use Rattle.article_layout.specs.Layouts.{least_of_items, next_number, parts_of, quote_prefix, room, room_of_numbers}
 use Rattle.article_layout.specs.Layouts.{targets_in, targets_of, targets_of_items, to_room}
 
--- the lines of another block behind prefixes
+-- the lines of another block after prefixes
 abbrev pub append : Options → (width within : ℕ) → List ℕ → List ℕ → Laid Tag → Laid Tag → Laid Tag
 append o width within first following sub b =
     add_block (measure o within) (measure o width) outermost first following sub.lines b
 
--- behind links to these targets
+-- after links to these targets
 abbrev mutual
   pub run_blocks : Options → ℕ → List (List ℕ) → Blocks → Laid Tag → Option (Laid Tag)
   run_blocks o width ts no_blocks b = Some b
@@ -73,7 +73,7 @@ awaits_behind (quote kids rest) b = awaits_behind rest true
 awaits_behind (bullets items rest) b = awaits_behind rest false
 awaits_behind (numbers first items rest) b = awaits_behind rest false
 
--- ---- behind the last block
+-- ---- after the last block
 
 -- the lines of targets, numbered from a number on
 abbrev pub add_notes : Options → (width number : ℕ) → List (List ℕ) → Laid Tag → Laid Tag

@@ -123,7 +123,7 @@ abbrev pub number_mark : Options → List (List ℕ) → List ℕ
 number_mark o ts =
     if o.footnotes then codes "[" ++ decimal (last_number o.shares_footnotes ts) ++ codes "]" else []
 
--- within so many annotations, behind links to these targets
+-- within so many annotations, after links to these targets
 abbrev pub parts_of : Options → Tag → List (List ℕ) → Inlines → List Part
 parts_of o d ts no_inlines = []
 parts_of o d ts (words cs rest) = says cs d ∷ parts_of o d ts rest
@@ -202,7 +202,7 @@ abbrev pub if_fits : {A : Type 0} → Bool → A → Option A
 if_fits true a = Some a
 if_fits false a = None
 
--- behind links to these targets
+-- after links to these targets
 abbrev pub paragraph_lines : Options → (width number : ℕ) → List (List ℕ) → Inlines → Option (List Line)
 paragraph_lines o width k ts is = let ss = stretches None [] (parts_of o outermost ts is) in
     if_fits (all_fit o width ss) (lines_of_stretches o width k ss)
@@ -252,7 +252,7 @@ abbrev mutual
   least_of_items o no_items = 0
   least_of_items o (item kids rest) = max (least_of o kids) (least_of_items o rest)
 
--- the columns behind a prefix: at least so many are asked for, and one
+-- the columns after a prefix: at least so many are asked for, and one
 abbrev pub room : (width prefix least : ℕ) → Option ℕ
 room width prefix least = if_fits (nat_le (max (least - prefix) 1) (width - prefix)) (width - prefix)
 
@@ -272,7 +272,7 @@ behind o width prefix l = record {
   number = l.number;
 }
 
--- the first line behind one prefix, the others behind another
+-- the first line after one prefix, the others after another
 abbrev pub prefixed : Options → ℕ → List ℕ → List ℕ → List Line → List Line
 prefixed o width first following [] = []
 prefixed o width first following (l ∷ lines) = behind o width first l ∷ map (behind o width following) lines
@@ -280,11 +280,11 @@ prefixed o width first following (l ∷ lines) = behind o width first l ∷ map 
 abbrev pub to_room : ℕ → List ℕ → List ℕ
 to_room n cs = cs ++ spaces (n - length cs)
 
--- the number behind an item's; numbers stop at the greatest of 64 bits
+-- the number after an item's; numbers stop at the greatest of 64 bits
 abbrev pub next_number : Option ℤ → Option ℤ
 next_number at = option_map (λ z. number_after z 1) at
 
--- the lines behind those of a part, from a paragraph of a number on, behind links to these targets
+-- the lines after those of a part, from a paragraph of a number on, after links to these targets
 abbrev mutual
   pub lay : Options → (width number : ℕ) → List (List ℕ) → Blocks → List Line → Option (List Line)
   lay o width k ts no_blocks lines = Some lines
@@ -326,7 +326,7 @@ layout o footnotes width blocks =
     then parted o width lines ++ footnotes (noted_targets o.shares_footnotes (targets_of o blocks)) else lines))
     (lay o width 0 [] blocks [])
 
--- ---- the targets behind the last block
+-- ---- the targets after the last block
 
 abbrev pub note_line : Options → ℕ → List (Item Tag) → Line
 note_line o width items = record {

@@ -39,7 +39,7 @@ pub fn paragraphs_are_never_refused()
         → (lines : List Line) × (article_lines o width a ≡ Some lines) }
 {}
 
-/// The calls of a paragraph's texts and breaks, on a block of lines whose text has ended, lay just its lines behind
+/// The calls of a paragraph's texts and breaks, on a block of lines whose text has ended, lay just its lines after
 /// those of the block; and they are refused just where it has none.
 pub fn calls_of_a_paragraph()
     ensures { (o : Options) (width number : ℕ) (links : List (List ℕ)) (is : Inlines) (before : List (CellLine Tag))
@@ -61,7 +61,7 @@ pub fn calls_of_an_article()
     normal_lines_keep_markers::<Vec<()>>();
 }
 
-/// The calls of an article's blocks and of its targets behind them lay just its lines, and are refused just where it
+/// The calls of an article's blocks and of its targets after them lay just its lines, and are refused just where it
 /// has none.
 pub fn calls_of_a_whole_article()
     ensures { (o : Options) (width : ℕ) (a : Blocks) → option_map (λ (b : Laid Tag). b.lines)

@@ -10,7 +10,7 @@ use article_layout::calls_of_a_whole_article;
 use article_walk::values_of_a_page_are_its_calls;
 
 /// The values of an article none of whose texts is empty are rendered as the lines of the article, with its targets
-/// behind them, and a width is too narrow for them only where the article has no lines: where no part may pass the
+/// after them, and a width is too narrow for them only where the article has no lines: where no part may pass the
 /// width.
 pub fn articles_are_laid()
     ensures { (c : Setting (Unit {0})) (decorates : Bool) (width : ℕ) (blocks : Blocks)

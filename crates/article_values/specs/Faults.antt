@@ -11,7 +11,7 @@ use Rattle.article_values.specs.declared.error.ArticleError.TheVariants.{BadLeve
 use Rattle.article_values.specs.declared.error.ArticleError.TheVariants.{ForbiddenCharacter, LinkInLink, NeighbourTexts}
 use Rattle.article_values.specs.declared.error.ArticleError.TheVariants.{TooDeep}
 
--- the fault where the test holds, else what is told later
+-- the fault where the test holds, else what comes later
 abbrev pub fault_where : Bool → ArticleError → Option ArticleError → Option ArticleError
 fault_where true fault later = Some fault
 fault_where false fault later = later

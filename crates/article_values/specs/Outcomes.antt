@@ -1,4 +1,4 @@
--- What a check tells.
+-- What a check says.
 use Rattle.std.specs.Prelude.{Bool, true, false, Option, None, Some, Result, Ok, Err}
 use Rattle.article_values.specs.Articles.{Inlines, line_break, link, no_inlines, span, words}
 use Rattle.article_values.specs.Faults.{first_fault}

@@ -10,7 +10,7 @@ use Rattle.article_values.specs.declared.values.Inline.TheOpen.{Inline-F}
 use Rattle.article_values.specs.declared.values.Block.{Block, fold-Block}
 use Rattle.article_values.specs.declared.values.Block.TheOpen.{Block-F}
 
--- each before what follows it, and the end behind the last
+-- each before what follows it, and the end after the last
 abbrev pub in_turn : {A : Type 0} → A → List (A → A) → A
 in_turn end [] = end
 in_turn end (before ∷ others) = before (in_turn end others)

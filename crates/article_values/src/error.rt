@@ -7,7 +7,7 @@ pub enum ArticleError {
     /// A [`Text`](crate::Inline::Text) without a character: no page holds one.
     #[error("an empty text")]
     EmptyText,
-    /// A [`Text`](crate::Inline::Text) just behind another: in a page the two are one text.
+    /// A [`Text`](crate::Inline::Text) just after another: in a page the two are one text.
     #[error("two texts side by side")]
     NeighbourTexts,
     /// A NUL or a carriage return in a text, a title or the target of a link: a page's reader changes both.

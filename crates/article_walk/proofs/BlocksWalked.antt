@@ -50,7 +50,7 @@ next_mark_is : (number : Option ℤ) → next_mark (mark_at number) ≡ mark_at 
 next_mark_is None = refl
 next_mark_is (Some z) = refl
 
--- the number behind items
+-- the number after items
 abbrev number_behind : Items → Option ℤ → Option ℤ
 number_behind no_items number = number
 number_behind (item kids rest) number = number_behind rest (next_number number)

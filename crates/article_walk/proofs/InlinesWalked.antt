@@ -30,7 +30,7 @@ use Rattle.article_walk.proofs.PagesLaid.{said}
 use Rattle.article_walk.proofs.SaidTexts.{IsQuiet, both_behind, break_quiet, chained, empty_first, empty_last, run_both}
 use Rattle.article_walk.proofs.SaidTexts.{run_quiet, say, say_quiet, then_quiet}
 
--- what is done to a block of lines in a renderer, and what is done behind it
+-- what is done to a block of lines in a renderer, and what is done after it
 pub next : (f : Layings → Option Layings) (g : Laid Tag → Option (Laid Tag)) (here there : Laid Tag → Layings)
     (x : Option (Laid Tag)) → IsQuiet x →
     ((b : Laid Tag) → b.awaits ≡ false → f (here b) ≡ option_map there (g b)) →
@@ -299,7 +299,7 @@ module _ (given : RenderOptions) (decorates : Bool) (min_wrap : ℕ) (held : Uni
   unfolding begins ends holds leading following style_begins
   linked_walked target inside rest p ts d b = ap (option_and_then (walk rest)) (around_it (walk inside) _ _)
 
-  -- the bracket behind a link, and its number
+  -- the bracket after a link, and its number
   abbrev closed : Measure → Tag → List ℕ → Laid Tag → Option (Laid Tag)
   closed w d mark b = option_and_then (say w d mark) (say w (within d) (codes "]") b)
 

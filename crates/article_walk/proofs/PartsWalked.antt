@@ -1,4 +1,4 @@
--- Parts of a page behind prefixes: what a walk makes of them in a renderer, as calls of blocks of lines.
+-- Parts of a page after prefixes: what a walk makes of them in a renderer, as calls of blocks of lines.
 use Rattle.std.proofs.Common.{◌≡◌, ℕ, ◌-◌, max, Bool, true, false, List, [], ◌∷◌, Option, None, Some, if◌then◌else◌}
 use Rattle.std.proofs.Common.{refl, sym, ap, ◌∙◌}
 use Rattle.std.specs.Option.{option_and_then, option_map}
@@ -90,7 +90,7 @@ module _ (given : RenderOptions) (decorates : Bool) (min_wrap : ℕ) (held : Uni
   abbrev pub ms : Place → Measure
   ms = m given decorates min_wrap held
 
-  -- ---- a part behind prefixes
+  -- ---- a part after prefixes
 
   room_by : (f : ℕ → Layings) (fits : Bool) (n asked : ℕ) →
       option_map f (if fits then Some n else (if false then Some asked else None)) ≡ option_map f (if_fits fits n)
@@ -123,7 +123,7 @@ module _ (given : RenderOptions) (decorates : Bool) (min_wrap : ℕ) (held : Uni
       by (Some b) None = refl
       by (Some b) (Some sub) = refl
 
-  -- what is laid out in a part, behind prefixes in the block around it
+  -- what is laid out in a part, after prefixes in the block around it
   abbrev pub put : Place → (columns least : ℕ) → (first following : List ℕ) → (ℕ → Option (Laid Tag)) → Laid Tag
       → Option (Laid Tag)
   put p columns least first following go b = option_and_then (λ within. option_and_then

@@ -154,7 +154,7 @@ module _ (m : Measure) where
       by None = refl
       by (Some text) = refl
 
-  -- behind a text it changes nothing, whatever its tag
+  -- after a text it changes nothing, whatever its tag
   pub empty_last : (d e : Tag) (cs : List ℕ) (b : Laid Tag) → option_and_then (say m e []) (say m d cs b) ≡ say m d cs b
   empty_last d e cs b = entered_then d e cs (enter_mode m d Normal cs b)
 

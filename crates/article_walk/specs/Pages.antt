@@ -48,7 +48,7 @@ renderer_at given held p tag b = record {
   strikeouts = 0;
 }
 
--- a page of that renderer, behind links to these targets
+-- a page of that renderer, after links to these targets
 abbrev pub parts_at : RenderOptions → (held : Unit {0}) → Place → (targets : List (List ℕ)) → Tag → Laid Tag
     → Parts (Unit {0}) (Unit {0})
 parts_at given held p targets tag b =

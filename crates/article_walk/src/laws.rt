@@ -18,7 +18,7 @@ ghost use Rattle.text_block_renderer.specs.PlainText.{plain_marking};
 ghost use Rattle.text_decorators.specs.Texts.{plain_text};
 ghost use Rattle.text_marks.specs.Marks.{header, quote, unordered_item};
 
-/// At least, an article's values ask for as many columns as the layout says that the article asks for, behind the
+/// At least, an article's values ask for as many columns as the layout says that the article asks for, after the
 /// marks of plain text: of blocks, of a list's items and of what a paragraph says. The mark of a heading has its level
 /// and one more in columns, those of a quote and of a bullet have two, and the numbers of a list as many as the layout
 /// leaves them.
@@ -38,7 +38,7 @@ pub fn values_ask_for_what_the_article_asks()
 
 /// The values of what a paragraph says, none of whose texts is empty, are laid out in a renderer of plain text as the
 /// layout's calls of texts and breaks: what these calls make of the block of lines in the renderer, the values do, and
-/// where the calls come to nothing, the values do. The targets of its links stand behind those before it.
+/// where the calls come to nothing, the values do. The targets of its links stand after those before it.
 pub fn values_of_a_paragraph_are_its_calls()
     ensures { (given : RenderOptions) (decorates : Bool) (min_wrap : ℕ) (held : Unit {0}) (place : Place)
         (targets : List (List ℕ)) (tag : Tag) (block : Laid Tag) (inlines : Inlines) → AreFilled inlines
@@ -50,7 +50,7 @@ pub fn values_of_a_paragraph_are_its_calls()
 
 /// The values of an article's blocks, none of whose texts is empty, are laid out in a renderer of plain text as the
 /// layout's calls of blocks: headings, quotes and items in renderers of their own, in the room that their prefixes
-/// leave, and nowhere where the calls come to nothing. The targets of their links stand behind those before them.
+/// leave, and nowhere where the calls come to nothing. The targets of their links stand after those before them.
 pub fn values_of_blocks_are_their_calls()
     ensures { (given : RenderOptions) (decorates : Bool) (min_wrap : ℕ) (held : Unit {0}) (place : Place)
         (targets : List (List ℕ)) (block : Laid Tag) (blocks : Blocks) → AreFilledBlocks blocks

@@ -1,4 +1,4 @@
--- A document, told.
+-- A document, emitted.
 use Rattle.std.proofs.Common.{◌≡◌, ℕ, List, [], ◌∷◌, Option, codes}
 use Rattle.std.specs.Prelude.{Result, Ok, Err}
 use Rattle.html_serializer.specs.Calls.{Call, Reply, doctype_of, finish, reply_of, start}
@@ -11,7 +11,7 @@ use Rattle.article_writing.specs.Tells.{Tells}
 use Rattle.article_writing.proofs.Telling.{handed_on, one_told, then_told}
 
 module _ {S : Type 0} (means : S → Call → Reply → S → Type 0) where
-  -- nothing is left to tell
+  -- nothing is left to emit
   whole_told : {A : Type 0} (s t : S) (r : Result A SerializeFault) (every : List Call → List Call) →
       Tells means s t r every (λ more. more) → IsTold means s (every []) (reply_of r) t
   whole_told s t (Ok value) every told = told [] _ t (all t)

@@ -1,4 +1,4 @@
--- How much there is to tell in an element: a measure of the telling, which goes as deep as an article is nested.
+-- How much there is to emit in an element: a measure of the emission, which goes as deep as an article is nested.
 use Rattle.std.proofs.Common.{ℕ, suc}
 use Rattle.article_values.proofs.Weights.{blocks_weight, items_weight}
 use Rattle.article_values.specs.Sizes.{inlines_size}

@@ -1,4 +1,4 @@
--- What was told before others, put together.
+-- What was emitted before others, put together.
 use Rattle.std.proofs.Common.{◌≡◌, ℕ, suc, ◌+◌, ◌<◌, List, [], ◌∷◌, drop, length, get_or, subst, sym, ap, ◌∙◌, refl}
 use Rattle.std.proofs.Common.{add-one, drop-cons}
 use Rattle.std.specs.Prelude.{Result, Ok, Err}
@@ -16,7 +16,7 @@ err_same : {A : Type 0} {r : Result A SerializeFault} {a b : SerializeFault} →
 err_same e f = cc
 
 module _ {S : Type 0} (means : S → Call → Reply → S → Type 0) where
-  -- no memory, before anything is told
+  -- no memory, before anything is emitted
   pub none_told : {X A : Type 0} (s : S) (first others : X → List Call) (r : Result A SerializeFault)
       (fault : SerializeFault) → r ≡ Err fault → fault ≡ Memory → Tells means s s r first others
   none_told s first others (Ok value) fault e f = cc
@@ -29,7 +29,7 @@ module _ {S : Type 0} (means : S → Call → Reply → S → Type 0) where
   one_told s t call others (Ok value) told = λ x reply end rest. further s t call (others x) reply end told rest
   one_told s t call others (Err fault) told = λ x. cut s t call (others x) fault told
 
-  -- behind what was told before
+  -- after what was emitted before
   pub then_told : {X Y A B : Type 0} (s t u : S) (a : Result A SerializeFault) (value : A) (r : Result B SerializeFault)
       (first others : X → List Call) (rest : Y → List Call) (at : Y → X) → a ≡ Ok value →
       Tells means s t a first others → Tells means t u r (λ y. others (at y)) rest →
@@ -79,7 +79,7 @@ module _ {S : Type 0} (means : S → Call → Reply → S → Type 0) where
   -- ---- one after another
 
   module _ {A : Type 0} (calls : List A → List Call → List Call) (first : S) (every : List A) where
-    -- what tells those that are left tells all
+    -- what emits those that are left emits all
     abbrev pub IsLeft : S → ℕ → Type 0
     IsLeft now i = (more : List Call) (reply : Reply) (end : S) →
         IsTold means now (calls (drop i every) more) reply end → IsTold means first (calls every more) reply end

@@ -1,4 +1,4 @@
--- What telling a part of an article makes of a serializer, and what stands in an element.
+-- What the emission of a part of an article makes of a serializer, and what stands in an element.
 use Rattle.std.specs.Prelude.{List, Result, Ok, Err, chars, option_map}
 use Rattle.html_serializer.specs.Calls.{Call, Reply, refused}
 use Rattle.html_serializer.specs.Told.{IsTold}
@@ -10,7 +10,7 @@ use Rattle.written_articles.specs.Tellings.{head_content, root_content, text_con
 use Rattle.article_writing.specs.declared.inner.Inner.{Inner}
 use Rattle.article_writing.specs.declared.inner.Inner.TheVariants.{Blocks, Head, Inlines, Items, Root, Text}
 
--- Some calls before others: where they were told, whatever tells the others then tells all from the beginning; a
+-- Some calls before others: where they were emitted, whatever emits the others then emits all from the beginning; a
 -- refusal among them is one among all.
 abbrev pub Tells : {S X A : Type 0} → (S → Call → Reply → S → Type 0) → S → S → Result A SerializeFault →
     (all others : X → List Call) → Type 0

@@ -1,4 +1,4 @@
-//! Blocks and items, told to a serializer.
+//! Blocks and items, emitted to a serializer.
 ghost use Rattle.std.specs.Prelude.{List};
 ghost use Rattle.html_serializer.specs.Calls.{Call};
 ghost use Rattle.article_values.specs.Articles.{Blocks as SeenBlocks, numbers, heading, no_blocks};

@@ -1,4 +1,4 @@
-//! Elements, told to a serializer with what stands in them.
+//! Elements, emitted to a serializer with what stands in them.
 //!
 //! The calls go as deep as an article is nested, which is 256 at most.
 ghost use Rattle.std.specs.Prelude.{◌∷◌, [], List, chars};

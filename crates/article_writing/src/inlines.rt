@@ -1,4 +1,4 @@
-//! Inlines, told to a serializer.
+//! Inlines, emitted to a serializer.
 ghost use Rattle.std.specs.Prelude.{List, chars};
 ghost use Rattle.html_serializer.specs.Calls.{Call};
 ghost use Rattle.article_values.specs.Articles.{Inlines as SeenInlines, link, no_inlines};

@@ -1,4 +1,4 @@
-//! Articles, written: what is told of one to a serializer, and its written form (WHATWG HTML, 13.3).
+//! Articles, written: what is emitted of one to a serializer, and its written form (WHATWG HTML, 13.3).
 //!
 //! # What is proved
 //!

@@ -17,7 +17,7 @@ use written_articles::{
     a_document_is_told, an_article_is_written_back, first_numbers_fit, no_text_is_two_articles,
 };
 
-/// An article, which can be told to a serializer as the page that is written of it (WHATWG HTML, 13.3).
+/// An article, which can be emitted to a serializer as the page that is written of it (WHATWG HTML, 13.3).
 #[derive(Drop)]
 pub struct SerializableArticle<'a> {
     /// The article.
@@ -53,8 +53,8 @@ pub trait WriteArticle {
     /// The blocks of the body.
     ghost blocks: { Self → SeenBlocks };
 
-    /// Writes the article's page (WHATWG HTML, 13.3), which is that of no other article. It doesn't flush the writer. The
-    /// error is the writer's refusal, or allocation failure; then a beginning is written.
+    /// Writes the article's page (WHATWG HTML, 13.3), which is that of no other article. It doesn't flush the writer.
+    /// The error is the writer's refusal, or allocation failure; then a beginning is written.
     fn write_html<W: ByteWriter>(&self, alloc: Global, writer: &mut W) -> Result<(), SerializeFault>
         ensures ok { OnOk result (Grows (article_text (title self.now) (blocks self.now)) (W.contents writer.old)
             (W.contents writer.new)) }
@@ -83,7 +83,7 @@ impl WriteArticle for Article {
         an_article_is_written_back();
         no_text_is_two_articles();
         first_numbers_fit();
-        // That an article has no fault is told by the call that lends its blocks.
+        // That an article has no fault is shown by the call that lends its blocks.
         self.blocks();
         let page = SerializableArticle { article: self };
         serialize(alloc, writer, &page, SerializeOpts::default())

@@ -1,4 +1,4 @@
--- Lines of another block that are added behind no prefix, where no marker waits and lines are not filled.
+-- Lines of another block that are added after no prefix, where no marker waits and lines are not filled.
 use Rattle.std.specs.Prelude.{◌≡◌, ℕ, Bool, true, false, ◌||◌, List, [], ◌∷◌, ◌++◌, map, fold, refl}
 use Rattle.std.specs.Prelude.{All, length, take, drop, Result, Ok, Err, OnOk}
 use Rattle.std.proofs.Common.{◌+◌, ◌<◌, ◌≤◌, suc, set, sym, ap, subst, ◌∙◌, arith}

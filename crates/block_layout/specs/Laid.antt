@@ -44,7 +44,7 @@ padding m tag = if m.pads then Some tag else None
 abbrev pub with_line : {S : Type 0} → BlockLine S → Bool → Laid S → Laid S
 with_line line content b = record b { lines = b.lines ++ (record { line = line; content = content }) ∷ [] }
 
--- a line of text, behind the markers that wait, and filled
+-- a line of text, after the markers that wait, and filled
 abbrev pub add_line : {S : Type 0} → Measure → S → Bool → List (Item S) → Laid S → Laid S
 add_line m tag content items b = record (with_line
     (text (padded m.width (padding m tag) (map (λ name. marker name) b.markers ++ items))) content b) { markers = [] }
@@ -161,7 +161,7 @@ abbrev pub add_text : {S : Type 0} → Measure → S → WhiteSpace → List ℕ
 add_text m tag mode cs main further b =
     option_and_then (run_on m tag mode cs main further) (enter_mode m tag mode cs b)
 
--- behind a block, normal text of white space alone is no text
+-- after a block, normal text of white space alone is no text
 abbrev pub is_ignored : {S : Type 0} → WhiteSpace → List ℕ → Laid S → Bool
 is_ignored mode cs b = b.awaits && (not (is_preserved mode) && list_all is_whitespace cs)
 
@@ -210,12 +210,12 @@ abbrev pub content_as_text : {S : Type 0} → BlockLine S → Bool → Bool
 content_as_text (text items) content = content
 content_as_text (border b) content = is_filled b.segments
 
--- a line of another block, which has the first measure, behind a prefix
+-- a line of another block, which has the first measure, after a prefix
 abbrev pub add_prefixed : {S : Type 0} → Measure → Measure → S → List ℕ → Laid S → CellLine S → Laid S
 add_prefixed other m tag prefix b l = add_line m tag (content_as_text l.line l.content || is_filled prefix)
     (tagged prefix tag ++ as_text tag (finished other l.line)) b
 
--- lines of another block, the first behind one prefix, the others behind another
+-- lines of another block, the first after one prefix, the others after another
 abbrev pub add_block : {S : Type 0} → Measure → Measure → S → List ℕ → List ℕ → List (CellLine S) → Laid S → Laid S
 add_block other m tag first following [] b = b
 add_block other m tag first following (l ∷ lines) b =

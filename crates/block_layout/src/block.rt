@@ -13,7 +13,7 @@ use text_borders::{BorderHoriz, RenderLine};
 use text_cells::{BlockLines, HangingCell, LaidLine};
 use text_pieces::{BlockError, LaidText, has_text};
 
-/// A block of lines, and the text that runs behind them. A call that is refused leaves a part of what it was to add.
+/// A block of lines, and the text that runs after them. A call that is refused leaves a part of what it was to add.
 pub struct BlockLayout<T> {
     pub(crate) lines: LaidLines<T>,
     pub(crate) running: Option<Running<T>>,
@@ -81,7 +81,7 @@ impl<T: EqualCopy + Drop> BlockLayout<T> {
         }
     }
 
-    /// Adds a line of text, behind the markers that wait, and filled where lines are.
+    /// Adds a line of text, after the markers that wait, and filled where lines are.
     pub(crate) fn add_line(
         &mut self,
         measure: Measure,
@@ -142,7 +142,7 @@ impl<T: EqualCopy + Drop> BlockLayout<T> {
         Ok(())
     }
 
-    /// Adds lines of text, the first behind the markers that wait, filled where lines are. It fails only if allocation
+    /// Adds lines of text, the first after the markers that wait, filled where lines are. It fails only if allocation
     /// fails.
     pub fn add_lines(
         &mut self,
@@ -189,7 +189,7 @@ impl<T: EqualCopy + Drop> BlockLayout<T> {
         self.markers.append(&mut waiting)
     }
 
-    /// Adds an empty line behind the text that runs. Refused as `flush`.
+    /// Adds an empty line after the text that runs. Refused as `flush`.
     pub fn add_empty_line(&mut self, measure: Measure, tag: &T) -> Result<(), BlockError>
         ensures kinds { IfErr result (λ e. (e ≡ errors.TooNarrow) ⊎ (e ≡ errors.Memory)) }
         ensures added { OnOk result (add_empty_line measure (T.seen tag.now) (laid_of T.seen self.old)

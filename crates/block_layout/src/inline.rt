@@ -21,7 +21,7 @@ impl<T: EqualCopy + Drop> BlockLayout<T> {
     ghost use Rattle.block_layout.specs.Laid.{without_running};
     ghost use Rattle.block_layout.specs.Laid.{is_ignored, start_awaited, mark, break_line, break_of, broken_line};
 
-    /// Adds text behind what runs; a text of another mode of white space ends that first. Where it begins to run here,
+    /// Adds text after what runs; a text of another mode of white space ends that first. Where it begins to run here,
     /// its lines are filled with spaces of the tag. Refused as `flush`.
     #[inline(always)]
     pub fn add_text(
@@ -155,7 +155,7 @@ impl<T: EqualCopy + Drop> BlockLayout<T> {
         Ok(())
     }
 
-    /// Whether the text is none: behind a block normal text of white space alone is ignored, until a block starts or an
+    /// Whether the text is none: after a block normal text of white space alone is ignored, until a block starts or an
     /// empty line is added.
     pub fn is_ignored(&self, mode: WhiteSpace, text: &str) -> bool
         ensures { result ≡ is_ignored mode (chars text.now) (laid_of T.seen self.now) }

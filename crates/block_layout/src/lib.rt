@@ -7,13 +7,13 @@
 //! whether the next text starts a block; the markers that wait for a line of text; the cells that go on from the
 //! last row. How wide lines are, and the tag of what is added, come with each call.
 //!
-//! - `flush`: the text that runs becomes lines, each behind the markers that waited, and filled where lines are;
+//! - `flush`: the text that runs becomes lines, each after the markers that waited, and filled where lines are;
 //!   the markers that found none wait
-//! - `add_empty_line`, `start_block`, `start_table`, `end_block`, `start_awaited`: an empty line behind what runs;
+//! - `add_empty_line`, `start_block`, `start_table`, `end_block`, `start_awaited`: an empty line after what runs;
 //!   one only where a line has content, by a number that is kept beside the lines, so that none is looked at again;
 //!   no cells that go on; the next text starts a block
-//! - `add_text`, `is_ignored`, `record_frag_start`: text behind what runs, a text of another mode ending it unless
-//!   one of the two is empty; behind a block normal text of white space alone is none; a marker in the text that
+//! - `add_text`, `is_ignored`, `record_frag_start`: text after what runs, a text of another mode ending it unless
+//!   one of the two is empty; after a block normal text of white space alone is none; a marker in the text that
 //!   runs, which waits for the next word and gives it no mode
 //! - `add_more`: text of one tag, added just as `add_text` adds it, whatever the measure and the tag that would
 //!   fill lines, where a text runs that it does not end, and no block is awaited; whether it was, and where not,
@@ -21,7 +21,7 @@
 //! - `break_line`: a line of text that has columns ends, else there is an empty line
 //! - `add_horizontal_border`, `put_border`, `add_slashes`: a border of so many columns
 //! - `begin_text`: what an empty text does, without its tags
-//! - `add_block`: the lines of another block, each behind its prefix, borders made text; where there is no prefix,
+//! - `add_block`: the lines of another block, each after its prefix, borders made text; where there is no prefix,
 //!   no marker and no filling, 32 lines or more become wide texts, which are not looked at again
 //! - `add_row`: the row that `across` makes of the cells: the last line, where it is a border, is the one above; a
 //!   line has content where it has a character

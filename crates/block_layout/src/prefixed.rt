@@ -25,7 +25,7 @@ impl<T: EqualCopy + Drop> BlockLayout<T> {
     ghost use Rattle.block_layout.specs.LaidRows.{add_slashes};
     ghost use Rattle.text_borders.specs.Borders.{plain, horizontal};
 
-    /// Adds a border of so many columns behind the text that runs. Refused as `flush`.
+    /// Adds a border of so many columns after the text that runs. Refused as `flush`.
     pub fn add_horizontal_border(
         &mut self,
         measure: Measure,
@@ -66,7 +66,7 @@ impl<T: EqualCopy + Drop> BlockLayout<T> {
         self.add_border(border)
     }
 
-    /// Adds the lines of another block, which has the first measure, behind prefixes: the first line's and the others'.
+    /// Adds the lines of another block, which has the first measure, after prefixes: the first line's and the others'.
     /// A border among them becomes text. The error is allocation failure alone.
     pub fn add_block(
         &mut self,
@@ -163,7 +163,7 @@ impl<T: EqualCopy + Drop> BlockLayout<T> {
     }
 }
 
-/// The line behind a prefix with the tag.
+/// The line after a prefix with the tag.
 fn behind_prefix<T: EqualCopy + Drop>(
     alloc: Global,
     prefix: &str,
@@ -316,7 +316,7 @@ fn content_as_text<T: EqualCopy + Drop>(line: &RenderLine<T>, content: bool) -> 
     }
 }
 
-/// Whether a line behind a prefix has content.
+/// Whether a line after a prefix has content.
 fn has_content_behind(prefix: &str, content: bool) -> bool
     ensures { result ≡ (content || is_filled (chars prefix.now)) }
 {

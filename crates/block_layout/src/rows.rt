@@ -229,7 +229,7 @@ impl<T: EqualCopy + Drop> BlockLayout<T> {
         Ok(())
     }
 
-    /// Adds the first text behind the markers that wait.
+    /// Adds the first text after the markers that wait.
     fn add_marked_texts(
         &mut self,
         measure: Measure,

@@ -67,7 +67,7 @@ impl<T: EqualCopy + Drop> Running<T> {
         self.text.has_columns()
     }
 
-    /// Adds text behind what there is. What was refused is to be thrown away.
+    /// Adds text after what there is. What was refused is to be thrown away.
     #[inline(always)]
     pub(crate) fn add_text(
         &mut self,
@@ -160,7 +160,7 @@ fn is_other_mode(mode: WhiteSpace, other: WhiteSpace) -> bool
     mode != other
 }
 
-/// The mode of a text that had another, or none, behind more of it.
+/// The mode of a text that had another, or none, after more of it.
 #[inline(always)]
 fn mode_behind(mode: WhiteSpace, text: &str, begun: Option<WhiteSpace>) -> Option<WhiteSpace>
     ensures { result ≡ mode_behind mode (chars text.now) begun }

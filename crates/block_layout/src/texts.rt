@@ -1,4 +1,4 @@
-//! Lines of text: behind markers, filled, and made of borders.
+//! Lines of text: after markers, filled, and made of borders.
 ghost use Rattle.std.specs.Prelude.{◌≡◌, ◌++◌, map, if◌then◌else◌, None, Some, chars, All, IfOk, OnOk};
 ghost use Rattle.tagged_lines.specs.Tagged.{line_items, marker, IsJoined};
 ghost use Rattle.text_pieces.specs.Sources.{is_filled, names};
@@ -16,7 +16,7 @@ use text_borders::{BorderHoriz, RenderLine};
 use text_cells::LaidLine;
 use text_wrapping::pad;
 
-/// The line behind markers.
+/// The line after markers.
 pub(crate) fn behind_names<T: EqualCopy + Drop>(
     waiting: &[String],
     line: TaggedLine<T>,

@@ -1,4 +1,4 @@
--- Lines behind a page.
+-- Lines after a page.
 use Rattle.std.specs.Prelude.{◌≡◌, ℕ, Bool, true, false, List, [], ◌∷◌, Option, None, Some, refl, if◌then◌else◌}
 use Rattle.std.specs.Option.{option_map}
 use Rattle.std.proofs.Common.{sym, ap, ◌∙◌, fold}
@@ -17,7 +17,7 @@ put_all : {H A : Type 0} (s : Sub H A) (b : Laid (List A)) (lines : List (List (
 put_all s b [] = refl
 put_all s b (items ∷ lines) = put_all s (add_footnote s b items) lines
 
--- behind a flush that is done, the lines are added
+-- after a flush that is done, the lines are added
 pub footnotes_done : {H A : Type 0} (o : Option (Laid (List A))) (s mid new : Sub H A) (lines : List (List (Item A)))
     → on_laid s o ≡ Some mid → new ≡ fold with_footnote mid lines
     → on_laid s (option_map (λ b. fold (add_footnote s) b lines) o) ≡ Some new

@@ -19,7 +19,7 @@ other_branch : {B : Type 0} (b : Bool) (x y : B) → b ≡ false → (if b then 
 other_branch true x y e = cc
 other_branch false x y e = refl
 
--- a text that isn't ignored, behind a block that may have been started
+-- a text that isn't ignored, after a block that may have been started
 pub inline_is : {H A : Type 0} (m : Marking H A) (cs : List ℕ) (s : Sub H A) (mode : WhiteSpace) (measure : Measure)
     (laid : Laid (List A)) (b : Bool) (o : Option (Sub H A)) → mode ≡ mode_of s → measure ≡ measure_of s
     → b ≡ is_ignored mode cs s.laid → b ≡ false → start_awaited measure s.annotations s.laid ≡ Some laid

@@ -1,4 +1,4 @@
--- Lines behind a page.
+-- Lines after a page.
 use Rattle.std.specs.Prelude.{ℕ, List, Option, None, Some, fold, if◌then◌else◌}
 use Rattle.std.specs.Option.{option_map}
 use Rattle.tagged_lines.specs.Tagged.{Item}
@@ -14,7 +14,7 @@ abbrev pub add_footnotes : {H A : Type 0} → List (List (Item A)) → Sub H A �
 add_footnotes lines s = on_laid s (option_map (λ b. fold (add_footnote s) b lines)
     (flush (measure_of s) s.annotations s.laid))
 
--- where lines behind the page are cut
+-- where lines after the page are cut
 abbrev pub footnote_width : {H A : Type 0} → Sub H A → Option ℕ
 footnote_width s = if s.options.wrap_links then Some s.width else None
 

@@ -16,7 +16,7 @@ impl<D: TextDecorator + Drop> SubRenderer<D> {
     ghost use Rattle.renderer_calls.specs.Renderers.{on_laid, preformatted_added, tagged_added, text_added, add_inline};
     ghost use Rattle.block_renderer.specs.Seen.{sub_of, Comes, Fails, IsJoinedSub};
 
-    /// Adds text, unless it is ignored behind a block.
+    /// Adds text, unless it is ignored after a block.
     #[inline(always)]
     pub(crate) fn add_inline(&mut self, text: &str) -> Result<(), BlockError>
         ensures kinds { IfErr result (λ e. (e ≡ errors.TooNarrow) ⊎ (e ≡ errors.Memory)) }
@@ -58,7 +58,7 @@ impl<D: TextDecorator + Drop> SubRenderer<D> {
         self.preformats == 0 && (!self.options.use_unicode_strikeout || self.strikeouts == 0)
     }
 
-    /// Adds text that doesn't go on what runs as it is, unless it is ignored behind a block.
+    /// Adds text that doesn't go on what runs as it is, unless it is ignored after a block.
     #[inline(always)]
     fn add_other(&mut self, text: &str) -> Result<(), BlockError>
         ensures kinds { IfErr result (λ e. (e ≡ errors.TooNarrow) ⊎ (e ≡ errors.Memory)) }

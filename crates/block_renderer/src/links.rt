@@ -1,4 +1,4 @@
-//! Lines behind a page.
+//! Lines after a page.
 ghost use Rattle.std.specs.Prelude.{◌≡◌, ◌⊎◌, false, true, None, Some, fold, map, is_err, Err, IfOk, IfErr, OnOk};
 ghost use Rattle.std.specs.Prelude.{OnErr};
 ghost use Rattle.tagged_lines.specs.Tagged.{line_items};
@@ -19,9 +19,9 @@ impl<D: TextDecorator + Drop> SubRenderer<D> {
     ghost use Rattle.renderer_calls.specs.Renderers.{with_held};
     ghost use Rattle.block_renderer.specs.Seen.{sub_of, has_failed, IsJoinedSub};
 
-    /// Makes the text that runs lines, and adds what lines behind the page give: each annotation stands alone, and
+    /// Makes the text that runs lines, and adds what lines after the page give: each annotation stands alone, and
     /// lines are cut at the block's width where links are wrapped. Refused as `TooNarrow` where a character of the text
-    /// that runs is wider than its lines and may not stand alone, as `Memory`, or as `Failed` behind a refusal.
+    /// that runs is wider than its lines and may not stand alone, as `Memory`, or as `Failed` after a refusal.
     pub fn fmt_links(&mut self, lines: Vec<TaggedLine<D::Annotation>>) -> Result<(), BlockError>
         ensures outcome { IsOutcome result (has_failed self.old) (has_failed self.new)
             (add_footnotes (map (line_items D.Annotation.seen) lines.items) (sub_of D.Annotation.seen D.view.held
@@ -73,7 +73,7 @@ impl<D: TextDecorator + Drop> SubRenderer<D> {
             .add_lines(measure, &self.annotations, &self.annotations, lines)
     }
 
-    /// Where lines behind the page are cut.
+    /// Where lines after the page are cut.
     fn footnote_width(&self) -> Option<usize>
         ensures { result ≡ footnote_width (sub_of D.Annotation.seen D.view.held self.now) }
     {
@@ -83,7 +83,7 @@ impl<D: TextDecorator + Drop> SubRenderer<D> {
         None
     }
 
-    /// The lines after the page whose links have these targets. The error is `Failed` behind a refusal, else `Memory`,
+    /// The lines after the page whose links have these targets. The error is `Failed` after a refusal, else `Memory`,
     /// and leaves the renderer as it was, but that it has failed.
     pub fn finalise(
         &mut self,

@@ -17,7 +17,7 @@ impl<D: TextDecorator + Drop> SubRenderer<D> {
     ghost use Rattle.renderer_calls.specs.Renderers.{slashed, ruled, add_below, add_first, add_rows_below};
     ghost use Rattle.block_renderer.specs.Seen.{sub_of, IsJoinedSub};
 
-    /// Adds the lines of another renderer behind prefixes.
+    /// Adds the lines of another renderer after prefixes.
     pub(crate) fn add_sub(
         &mut self,
         other: SubRenderer<D>,

@@ -14,7 +14,7 @@ impl<D: TextDecorator + Drop> SubRenderer<D> {
     ghost use Rattle.renderer_calls.specs.Renderers.{lines_of_sub};
     ghost use Rattle.block_renderer.specs.Seen.{sub_of, has_failed};
 
-    /// The characters of the lines, a line end behind each. Refused as `into_lines`.
+    /// The characters of the lines, a line end after each. Refused as `into_lines`.
     pub fn into_string(self) -> Result<String, BlockError>
         ensures failed { has_failed self ≡ true → result ≡ Err errors.Failed }
         ensures kinds { has_failed self ≡ false → IfErr result (λ e. (e ≡ errors.TooNarrow) ⊎ (e ≡ errors.Memory)) }

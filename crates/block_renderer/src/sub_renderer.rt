@@ -171,7 +171,7 @@ impl<D: TextDecorator + Drop> SubRenderer<D> {
     }
 
     /// An empty renderer of so many columns for a part of the block in which white space and preformatting go on as
-    /// they stand here; strikeouts don't. The error is `Failed` behind a refusal, else `Memory`.
+    /// they stand here; strikeouts don't. The error is `Failed` after a refusal, else `Memory`.
     pub fn new_part_renderer(&mut self, width: usize) -> Result<SubRenderer<D>, BlockError>
         ensures part { IsAnswered result (has_failed self.old) (has_failed self.new) (sub_of D.Annotation.seen
             D.view.held self.new ≡ sub_of D.Annotation.seen D.view.held self.old)
@@ -238,7 +238,7 @@ impl<D: TextDecorator + Drop> SubRenderer<D> {
 
     /// The lines of the block, those of the text that runs too, filled where lines are. Refused as `TooNarrow` where a
     /// character of the text that runs is wider than its lines and may not stand alone, as `Memory`, or as `Failed`
-    /// behind a refusal. The lines are joined where the renderer's texts are.
+    /// after a refusal. The lines are joined where the renderer's texts are.
     pub fn into_lines(self) -> Result<Vec<RenderLine<Vec<D::Annotation>>>, BlockError>
         ensures failed { has_failed self ≡ true → result ≡ Err errors.Failed }
         ensures kinds { has_failed self ≡ false → IfErr result (λ e. (e ≡ errors.TooNarrow) ⊎ (e ≡ errors.Memory)) }
@@ -288,8 +288,8 @@ impl<D: TextDecorator + Drop> SubRenderer<D> {
         laid.into_laid_lines()
     }
 
-    /// The columns that are left behind a prefix of `prefix_len` columns, where these are at least `min_width` and at
-    /// least 1; `min_width` counts columns behind the prefix, those of the prefix not among them. Where fewer are left,
+    /// The columns that are left after a prefix of `prefix_len` columns, where these are at least `min_width` and at
+    /// least 1; `min_width` counts columns after the prefix, those of the prefix not among them. Where fewer are left,
     /// `min_width`, or 1 if it is 0, is given if lines may pass the block's width, and the error is else `TooNarrow`.
     /// After a refused call the answer is the same.
     pub fn width_minus(&self, prefix_len: usize, min_width: usize) -> Result<usize, TooNarrow>

@@ -23,7 +23,7 @@ use html_lexemes::{Namespace, ParseFault, Tag};
 use name_sets::ElementSet;
 use tree_words::is_hidden;
 
-/// "a": one that is listed behind the last marker is closed.
+/// "a": one that is listed after the last marker is closed.
 pub fn anchor_start<S: TreeSink>(
     page: &mut Parse<S>,
     tag: &Tag,

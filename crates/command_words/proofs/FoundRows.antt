@@ -1,4 +1,4 @@
--- What clap makes of all words: the faults of its walk, and the rows of its walk with the flags' defaults behind them.
+-- What clap makes of all words: the faults of its walk, and the rows of its walk with the flags' defaults after them.
 use Rattle.std.proofs.Common.{◌≡◌, ◌∙◌, ◌++◌, ◌∷◌, ◌||◌, [], Bool, cond, true, false, List, Option, Some, None}
 use Rattle.std.proofs.Common.{flat_map, refl, sym, ap, codes, append-nil}
 use Rattle.std.specs.Prelude.{fold, if◌then◌else◌, is_some}

@@ -1,4 +1,4 @@
--- Items that clap takes one behind the other, and what is held behind some of them.
+-- Items that clap takes one after the other, and what is held after some of them.
 use Rattle.std.proofs.Common.{◌≡◌, ◌∙◌, ◌++◌, ◌∷◌, ◌||◌, [], Bool, true, false, List, Option, Some, None, refl, ap}
 use Rattle.std.specs.Str.{bytes_eq}
 use Rattle.clap.specs.Walk.{Row, Text, has_row, settled_rows}
@@ -25,7 +25,7 @@ abbrev pub pended : List Row → Option Item → List Row
 pended rows None = rows
 pended rows (Some item) = rows ++ row_in item ∷ []
 
--- the file behind `--`
+-- the file after `--`
 abbrev pub behind : Ending → List Item
 behind bare = []
 behind dashes = []

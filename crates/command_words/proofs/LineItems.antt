@@ -1,4 +1,4 @@
--- Items that clap takes one behind the other are those of a line of the grammar.
+-- Items that clap takes one after the other are those of a line of the grammar.
 use Rattle.std.proofs.Common.{◌≡◌, ◌∙◌, ◌++◌, ◌≤◌, ◌||◌, ◌∷◌, [], ℕ, Bool, cond, not, zero, suc, true, false, List}
 use Rattle.std.proofs.Common.{Option, Some, None, map, length, refl, sym, ap, subst, arith}
 use Rattle.std.specs.List.{All}
@@ -273,7 +273,7 @@ fewer name item rest short = go (bytes_eq (id_in item) (id_of name)) short
     go true s = omega arith
     go false s = s
 
--- behind an item its name is used no more, and what was not used stays so
+-- after an item its name is used no more, and what was not used stays so
 none_later : (name : Name) (rows : List Row) (item : Item) (rest : List Item) → length (uses_at name (item ∷ rest)) ≤ 1
     → (has_row (id_of name) rows ≡ true → uses_at name (item ∷ rest) ≡ [])
     → has_row (id_of name) (rows ++ row_in item ∷ []) ≡ true → uses_at name rest ≡ []

@@ -1,4 +1,4 @@
--- Clap's walk over the words of an item, over a line, and over what stands behind `--`.
+-- Clap's walk over the words of an item, over a line, and over what stands after `--`.
 use Rattle.std.proofs.Common.{◌≡◌, ◌∙◌, ◌++◌, ◌∷◌, [], ℕ, Bool, true, false, List, Option, Some, None, map, flat_map}
 use Rattle.std.proofs.Common.{refl, sym, ap, subst, codes, append-nil, append_assoc}
 use Rattle.std.specs.Prelude.{fold}
@@ -32,7 +32,7 @@ use Rattle.command_words.proofs.WordTurns.{wants_next, wants_turn}
 abbrev pub end_of : Walk → List Text → Walk
 end_of w words = fold (walked shape.rules []) w words
 
--- what fails at the words, or behind them, where what is held is used
+-- what fails at the words, or after them, where what is held is used
 abbrev pub fault_over : Walk → List Text → Kinds
 fault_over w words = or_else (walk_fault shape [] w words) (settle_fault shape.rules false (end_of w words).held)
 
@@ -100,7 +100,7 @@ stands rows p = rest_at (held_with rows p) (place rows p)
 abbrev pub waits : Valued → List Row → Walk
 waits option rows = wait_at option rows (position_in (has_row file_id rows))
 
--- behind `--`
+-- after `--`
 abbrev pub trails : Waiting → List Row → Option Item → Walk
 trails waiting rows p = trail_at waiting (held_with rows p) (place rows p)
 
@@ -172,7 +172,7 @@ wants_now option rows p =
 
 -- ---- what an item leads to, where what is held is used well
 
--- what is held behind it
+-- what is held after it
 abbrev pub carried : Item → Option Item
 carried (apart option value) = Some (apart option value)
 carried (joined option value) = None
@@ -275,7 +275,7 @@ item_leads (joined option value) rows p runs fresh fine written = joined_leads r
 item_leads (flag option) rows p runs fresh fine written = flag_leads rows p runs option fresh fine
 item_leads (file name) rows p runs fresh fine written = file_leads rows p runs name written fresh
 
--- ---- what stands behind `--`
+-- ---- what stands after `--`
 
 pub dashes_leads : (rows : List Row) (p : Option Item) → Leads (stands rows p) (two_hyphens ∷ []) (trails idle rows p)
 dashes_leads rows p = leads_word _ _ _ (dashes_turn idle (held_with rows p) (place rows p))

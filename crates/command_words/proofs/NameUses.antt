@@ -111,7 +111,7 @@ pub files_are : (items : List Item) → flat_map file_in items ≡ values_at fil
 files_are [] = refl
 files_are (item ∷ rest) = (λ i. file_one item i ++ files_are rest i) ∙ sym (values_step filed item rest)
 
--- ---- the file behind `--` is the file of one more item
+-- ---- the file after `--` is the file of one more item
 
 no_value_behind : (option : Valued) (ending : Ending) → values_in option (behind ending) ≡ []
 no_value_behind option bare = refl

@@ -129,7 +129,7 @@ named_sort text other is (flag_name option e) = flagging option (ap (λ t. 45 �
 named_sort text other is (help_name e) = helping (inl (ap (λ t. 45 ∷ 45 ∷ t) e))
 named_sort text other is (no_name e) = straying (unknown_stray (45 ∷ 45 ∷ text) text None other is e)
 
--- with a value behind it
+-- with a value after it
 valued_sort : (text name value : Text) → text ≡ name ++ 61 ∷ value → bytes_eq (45 ∷ 45 ∷ text) two_hyphens ≡ false
     → long_of (45 ∷ 45 ∷ text) ≡ Some (name, Some value) → Known name
     → Sort (45 ∷ 45 ∷ text)

@@ -115,7 +115,7 @@ module _ (waiting : Waiting) (h : Held) (position : ℕ) (word name : Text) (oth
       unfolding walked
       wants_next long takes = simp (no_command waiting word, other, long, found, takes)
 
--- ---- letters behind a hyphen
+-- ---- letters after a hyphen
 
 or_else_twice : (a b c : Kinds) (k : ErrorKind) → or_else (or_else (or_else a (k ∷ [])) b) c ≡ or_else a (k ∷ [])
 or_else_twice [] b c k = refl
@@ -237,7 +237,7 @@ module _ (name : Valued) (rows : List Row) (position : ℕ) (word : Text) (stand
     option_takes_one name,
   )
 
--- ---- `--`, and the words behind it
+-- ---- `--`, and the words after it
 
 pub dashes_turn : (waiting : Waiting) (h : Held) (position : ℕ) → turn (walk_at waiting h position) two_hyphens ≡ []
 dashes_turn waiting h position = simp (no_command waiting two_hyphens)

@@ -71,7 +71,7 @@ verdict_as rows p words fault same e (forbidden refused) = forbidden (refusal_as
 unknown : (fault : Kinds) → fault ≡ UnknownArgument ∷ [] → IsRefusal fault
 unknown fault is = (UnknownArgument, (λ same. let bad : UnknownArgument ≡ DisplayHelp = same in cc), is)
 
--- ---- behind `--`
+-- ---- after `--`
 
 name_verdict : (rows : List Row) (p : Option Item) (name : Text) (rest : List Text) → Runs rows (listed p)
     → Verdict rows p (two_hyphens ∷ name ∷ rest)
@@ -228,7 +228,7 @@ module _ (option : Valued) (rows : List Row) where
   abbrev at_now : ℕ
   at_now = position_in (has_row file_id rows)
 
-  -- behind `--` the option has no value
+  -- after `--` the option has no value
   trail_refused : (rest : List Text) → IsRefusal
       (fault_over (trail_at (waiting_for option) (bare_held option rows) at_now) rest)
   trail_refused [] = invalid option rows _ (fault_end (trail_at (waiting_for option) (bare_held option rows) at_now))

@@ -53,7 +53,7 @@ IsWritten (joined option value) = ⊤
 IsWritten (flag option) = ⊤
 IsWritten (file name) = IsPlain name
 
--- How a line ends: with its items; or with the word `--`, behind which no word is an option, and then a file's name or
+-- How a line ends: with its items; or with the word `--`, after which no word is an option, and then a file's name or
 -- nothing.
 pub data Ending : Type 0 where
   bare : Ending
@@ -105,7 +105,7 @@ file_behind (named name) = name ∷ []
 abbrev pub files_in : List Item → Ending → List (List ℕ)
 files_in items ending = flat_map file_in items ++ file_behind ending
 
--- a value says a number: it is decimal digits, behind a sign or none, of a number from 0 to the most in 32 bits (`+8`
+-- a value says a number: it is decimal digits, after a sign or none, of a number from 0 to the most in 32 bits (`+8`
 -- says 8, and `-0` says 0)
 abbrev pub Says : List ℕ → ℕ → Type 0
 Says value n = IsNumeral 10 (without_leading_sign value) × (signed_digits_value 10 value ≡ pos n) × (n < 2 ^ 32)
@@ -133,7 +133,7 @@ IsGiven (suc zero) given = given ≡ true
 IsGiven (suc (suc more)) given = ⊥
 
 -- What words ask for: the columns of a line of the page's text; rich text; marks of emphasis; the targets of links
--- behind the page, and each once there; the file of a table of references; the most bytes of a page; the file of the
+-- after the page, and each once there; the file of a table of references; the most bytes of a page; the file of the
 -- page.
 pub record Asked : Type 0 where
   pub width : ℕ
@@ -164,7 +164,7 @@ pub record Asks (words : List (List ℕ)) (asked : Asked) : Type 0 where
   pub line : words ≡ flat_map words_of items ++ words_of_ending ending
   pub asks : IsLine items ending asked
 
--- `--help`, or a hyphen and then `h` (104), with more characters behind it or none, which are not read
+-- `--help`, or a hyphen and then `h` (104), with more characters after it or none, which are not read
 abbrev pub IsHelpWord : List ℕ → Type 0
 IsHelpWord word =
     (word ≡ codes "--help") ⊎ ((flags : List ℕ) × (word ≡ codes "-" ++ flags) × (slice_get (chars flags) 0 ≡ Some 104))

@@ -1,4 +1,4 @@
--- What is told of words that are no request.
+-- What is reported of words that are no request.
 use Rattle.std.specs.Prelude.{ℕ, List, codes, string_bytes}
 use Rattle.std.specs.Str.{trim_end}
 use Rattle.command_words.specs.declared.words.WordFault.{WordFault}

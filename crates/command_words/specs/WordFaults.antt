@@ -17,7 +17,8 @@ Explains words (faults.Words text) = ((asked : Asked) → Asks words asked → �
 Explains words faults.NotUtf8 = ⊥
 Explains words faults.Memory = ⊤
 
--- Words that could not be had, for this kind of error: memory ran out, or one is no text. (The runtime tells no other.)
+-- Words that could not be had, for this kind of error: memory ran out, or one is no text. (The runtime reports no
+-- other.)
 abbrev pub fault_of_kind : IoKind → WordFault
 fault_of_kind io_kinds.OutOfMemory = faults.Memory
 fault_of_kind _ = faults.NotUtf8

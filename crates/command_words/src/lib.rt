@@ -3,14 +3,14 @@
 //! # What is proved
 //!
 //! The command line is a list of items (`specs/CommandWords.antt`): options with a value, in two words or in one,
-//! options without, the name of a file; then nothing, or `--` and a name behind it. Each option and the file stand
+//! options without, the name of a file; then nothing, or `--` and a name after it. Each option and the file stand
 //! once at most. `Asks words asked` says that words are such a line, and what they ask for.
 //!
 //! - `read_words`: an `Ok` comes only from words that are a line, and has just what they ask for (`asked`); words
 //!   that are a line are refused at most where allocation fails (`answered`); `Words` comes only where they are no
 //!   line and ask for no help, and `Help` only where they ask for it (`explained`), which is written or refused
 //!   where allocation fails (`helped`)
-//! - `request_of`: the words behind the program's name as `read_words`; a word that is not UTF-8 is `NotUtf8`, and
+//! - `request_of`: the words after the program's name as `read_words`; a word that is not UTF-8 is `NotUtf8`, and
 //!   only allocation failure `Memory`
 //! - `WordFault::text`: the texts, exactly
 //!

@@ -69,7 +69,7 @@ fn without_options<'a>(alloc: Global) -> Command<'a>
         .no_binary_name(true)
 }
 
-/// The command with its options, in the order in which the help tells them.
+/// The command with its options, in the order in which the help lists them.
 pub(crate) fn command<'a>(alloc: Global) -> Result<Command<'a>, AllocError>
     ensures { IfOk result (λ command. app_of command ≡ program) }
 {

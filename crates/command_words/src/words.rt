@@ -25,9 +25,9 @@ pub struct Request {
     pub rich: bool,
     /// Marks of emphasis, strong text, terms and code.
     pub decorate: bool,
-    /// The targets of links behind the page, also where the text is one that goes without them.
+    /// The targets of links after the page, also where the text is one that goes without them.
     pub footnotes: bool,
-    /// One number and one footnote for links to equal targets, where targets stand behind the page.
+    /// One number and one footnote for links to equal targets, where targets stand after the page.
     pub shared_footnotes: bool,
     /// The file of a table of references; else the basic ones are known.
     pub references: Option<String>,
@@ -81,7 +81,7 @@ impl WordFault {
 /// The width where the words name none.
 const DEFAULT_WIDTH: usize = 80;
 
-/// Reads the words behind the program's name.
+/// Reads the words after the program's name.
 pub fn read_words(alloc: Global, words: &[String]) -> Result<Request, WordFault>
     ensures asked { IfOk result (λ request. Asks (map string_bytes words.now) (asked_of request)) }
     ensures explained { IfErr result (Explains (map string_bytes words.now)) }

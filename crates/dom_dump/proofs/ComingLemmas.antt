@@ -28,7 +28,7 @@ ends_some a c = omega (arith, length-append a (c ∷ []))
 line_some : (level : ℕ) (kind : Kind) → 0 < length (line_text level kind)
 line_some level kind = ends_some (replicate level 0x20 ++ kind_text kind) 0xA
 
--- the first of some siblings, with the others behind it
+-- the first of some siblings, with the others after it
 pub row-put : (level : ℕ) (left others : List ℕ) (n : Handle) → left ≡ number_of n ∷ others
     → Some (record { node = n; others = others; level = level }) ≡ row level left
 row-put level left others n e = ap (row level) (sym e)

@@ -92,7 +92,7 @@ element_ready f node ns turns forest is e ready =
     ready-visits f (turns ++ End node ∷ []) ns (ready-push f turns (End node) ready is)
     (λ m i. inner_plain f (number_of node) forest m (subst (IsIn m) e i))
 
--- a walk that goes on: what tells the calls that are left tells all
+-- a walk that goes on: what emits the calls that are left emits all
 pub record IsGoing {S : Type 0} (means : S → Call → Reply → S → Type 0) (f : Forest) (first : S) (calls : List Call)
     (now : S) (turns : List Turn) : Type 0 where
   pub told : (reply : Reply) (u : S) → IsTold means now (pending f turns) reply u → IsTold means first calls reply u

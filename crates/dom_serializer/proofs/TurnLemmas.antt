@@ -34,7 +34,7 @@ pub ready-visits : (f : Forest) (ts : List Turn) (ns : List ℕ) → AreReady f 
 ready-visits f ts [] h plain = subst (AreReady f) (sym (append-nil ts)) h
 ready-visits f ts (n ∷ ns) h plain = ready-push f ts (Row (handle_of n) ns) h plain
 
--- the first of some nodes, with the others behind it
+-- the first of some nodes, with the others after it
 pub visits-put : (ts new : List Turn) (ns others : List ℕ) (n : Handle) → ns ≡ number_of n ∷ others
     → new ≡ ts ++ Row n others ∷ [] → new ≡ ts ++ visits ns
 visits-put ts new ns others n e put = put ∙ ap (λ l. ts ++ visits l) (sym e)
@@ -42,7 +42,7 @@ visits-put ts new ns others n e put = put ∙ ap (λ l. ts ++ visits l) (sym e)
 pub visits-none : (ts : List Turn) (ns : List ℕ) → ns ≡ [] → ts ≡ ts ++ visits ns
 visits-none ts ns e = sym (append-nil ts) ∙ ap (λ l. ts ++ visits l) (sym e)
 
--- a node is told before those behind it
+-- a node is emitted before those after it
 pub row-calls : (f : Forest) (ts put : List Turn) (n : Handle) (others : List ℕ) → put ≡ ts ++ visits others
     → calls_of_turn f (Row n others) ++ pending f ts ≡ calls_of_turn f (Visit n) ++ pending f put
 row-calls f ts put n others e =

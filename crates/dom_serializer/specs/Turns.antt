@@ -1,4 +1,4 @@
--- What is still to be told of a forest, the last turn first.
+-- What is still to be emitted of a forest, the last turn first.
 use Rattle.std.specs.Prelude.{ℕ, Bool, true, false, List, [], ◌∷◌, ◌++◌}
 use Rattle.html_forest.specs.Forest.{Forest, IsElement, Kind, comment, doctype, document, element, instruction}
 use Rattle.html_forest.specs.Forest.{name_of, nodes, text}
@@ -17,7 +17,7 @@ calls_of_turn f (Row n others) =
     joined (calls_within (nodes f) f) (number_of n ∷ children_left others)
 calls_of_turn f (End n) = finish (name_of (number_of n) f) ∷ []
 
--- the calls of turns, of which the last comes first, and others behind them
+-- the calls of turns, of which the last comes first, and others after them
 abbrev pub pending_before : Forest → List Turn → List Call → List Call
 pending_before f [] later = later
 pending_before f (t ∷ ts) later = pending_before f ts (calls_of_turn f t ++ later)
@@ -25,7 +25,7 @@ pending_before f (t ∷ ts) later = pending_before f ts (calls_of_turn f t ++ la
 abbrev pub pending : Forest → List Turn → List Call
 pending f ts = pending_before f ts []
 
--- a node that is to be told is no document, and what ends is an element
+-- a node that is to be emitted is no document, and what ends is an element
 abbrev pub IsReady : Forest → Turn → Type 0
 IsReady f (Visit n) = ¬ (IsDocument (number_of n) f)
 IsReady f (Row n others) = (m : ℕ) → IsIn m (number_of n ∷ children_left others) → ¬ (IsDocument m f)
@@ -35,7 +35,7 @@ abbrev pub AreReady : Forest → List Turn → Type 0
 AreReady f [] = Unit {0}
 AreReady f (t ∷ ts) = IsReady f t × AreReady f ts
 
--- nodes that are to be told, in one turn
+-- nodes that are to be emitted, in one turn
 abbrev pub visits : List ℕ → List Turn
 visits [] = []
 visits (n ∷ ns) = Row (handle_of n) ns ∷ []

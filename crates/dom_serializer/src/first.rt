@@ -12,7 +12,7 @@ use html_render_dom::{Handle, RcDom};
 use html_serializer::{TraversalScope, a_walk_goes_one_step_on};
 use std::alloc::{AllocError, Global};
 
-// what is to be told of a node
+// what is to be emitted of a node
 pub(crate) fn first_turns<'a>(
     alloc: Global,
     dom: &'a RcDom,
@@ -28,7 +28,7 @@ pub(crate) fn first_turns<'a>(
     let mut turns: Vec<Turn<'a>> = Vec::new(alloc);
     match scope {
         TraversalScope::IncludeNode => {
-            // a document is told by what stands in it
+            // a document is emitted by what stands in it
             if stands_for_document(dom, node) {
                 push_visits(&mut turns, inner(dom, node))?;
                 return Ok(turns);

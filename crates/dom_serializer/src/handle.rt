@@ -7,7 +7,7 @@ use html_render_dom::{Handle, RcDom};
 use html_serializer::{Serialize, SerializeFault, Serializer, TraversalScope};
 use std::alloc::Global;
 
-/// A tree with one of its nodes, which can be told to a serializer (WHATWG HTML, 13.3).
+/// A tree with one of its nodes, which can be emitted to a serializer (WHATWG HTML, 13.3).
 #[derive(Drop)]
 pub struct SerializableHandle<'a> {
     dom: &'a RcDom,

@@ -1,4 +1,4 @@
-//! Trees in memory, told to serializers (WHATWG HTML, 13.3).
+//! Trees in memory, emitted to serializers (WHATWG HTML, 13.3).
 //!
 //! # What is proved
 //!

@@ -1,4 +1,4 @@
-//! What is still to be told, told.
+//! What is still to be emitted, emitted.
 ghost use Rattle.std.specs.Prelude.{◌≡◌, ◌++◌, IfErr, OnOk};
 ghost use Rattle.dom_serializer.specs.Steps.{IsStep};
 ghost use Rattle.dom_serializer.specs.Turns.{AreReady, IsReady, calls_of_turn, pending};
@@ -16,7 +16,7 @@ use html_lexemes::{Attributes, QualName};
 use html_render_dom::{ChildNodes, Handle, NodeData, RcDom};
 use html_serializer::{SerializeFault, Serializer, a_walk_goes_one_step_on};
 
-// tells all that is still to be told, the last turn first
+// emits all that is still to be emitted, the last turn first
 pub(crate) fn tell_all<'a, S: Serializer>(
     dom: &'a RcDom,
     turns: &mut Vec<Turn<'a>>,
@@ -32,7 +32,7 @@ pub(crate) fn tell_all<'a, S: Serializer>(
     Ok(())
 }
 
-// tells a turn, and puts what stands in it before what is still to be told
+// emits a turn, and puts what stands in it before what is still to be emitted
 fn tell<'a, S: Serializer>(
     dom: &'a RcDom,
     turn: Turn<'a>,
@@ -54,7 +54,7 @@ fn tell<'a, S: Serializer>(
     }
 }
 
-// tells the first of some nodes, and puts the others before what is still to be told
+// emits the first of some nodes, and puts the others before what is still to be emitted
 fn visit_first<'a, S: Serializer>(
     dom: &'a RcDom,
     node: Handle,
@@ -75,7 +75,7 @@ fn visit_first<'a, S: Serializer>(
     visit(dom, node, turns, serializer)
 }
 
-// tells the end of an element
+// emits the end of an element
 fn end<'a, S: Serializer>(
     dom: &'a RcDom,
     node: Handle,
@@ -109,7 +109,7 @@ fn element_name(dom: &RcDom, node: Handle) -> &QualName
     }
 }
 
-// tells a node, or its beginning, with what stands in it still to be told
+// emits a node, or its beginning, with what stands in it still to be emitted
 fn visit<'a, S: Serializer>(
     dom: &'a RcDom,
     node: Handle,
@@ -141,7 +141,7 @@ fn visit<'a, S: Serializer>(
     }
 }
 
-// tells the beginning of an element
+// emits the beginning of an element
 fn begin<'a, S: Serializer>(
     dom: &'a RcDom,
     node: Handle,

@@ -1,4 +1,4 @@
-//! Nodes that are still to be told.
+//! Nodes that are still to be emitted.
 ghost use Rattle.std.specs.Prelude.{◌≡◌, ◌++◌, OnOk};
 ghost use Rattle.dom_serializer.specs.Turns.{visits};
 ghost use Rattle.html_render_dom.specs.ChildNodes.{children_left};
@@ -7,7 +7,7 @@ use crate::turn::Turn;
 use html_render_dom::ChildNodes;
 use std::alloc::AllocError;
 
-// one turn for all of them, and none where there is none: so each turn tells something
+// one turn for all of them, and none where there is none: so each turn emits something
 pub(crate) fn push_visits<'a>(
     turns: &mut Vec<Turn<'a>>,
     nodes: ChildNodes<'a>,

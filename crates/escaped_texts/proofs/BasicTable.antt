@@ -36,7 +36,7 @@ unless false h = refl
 apart : (q name : List ℕ) → goes_on q ≡ true → goes_on name ≡ false → q ≡ name → ⊥
 apart q name h k e = let wrong : true ≡ false = sym h ∙ ap goes_on e ∙ k in cc
 
--- a text that goes on behind a semicolon is none that doesn't
+-- a text that goes on after a semicolon is none that doesn't
 other_name : (q name : List ℕ) → goes_on q ≡ true → goes_on name ≡ false → is_eq (slice_cmp nat_cmp q name) ≡ false
 other_name q name h k = unless (is_eq (slice_cmp nat_cmp q name))
     (λ e. apart q name h k

@@ -12,7 +12,7 @@ use Rattle.reference_tables.specs.References.{References}
 use Rattle.html_serializer.specs.Escapes.{escaped_character}
 use Rattle.escaped_texts.specs.Escaped.{KnowsEscapes}
 
--- what is found behind the `&` of an escaped character
+-- what is found after the `&` of an escaped character
 abbrev pub found : ℕ → List ℕ → Found
 found c rest = record { characters = c ∷ []; closed = true; rest = rest }
 
@@ -28,7 +28,7 @@ pub data Written (table : References) (c : ℕ) : List ℕ → Type 0 where
   as_itself : (c == 38) ≡ false → (c == 60) ≡ false → Written table c (c ∷ [])
 
 module _ (table : References) (knows : KnowsEscapes table) where
-  -- no name goes on behind a semicolon
+  -- no name goes on after a semicolon
   none_behind : (front : List ℕ) (c : ℕ) (more cs : List ℕ) → named_from table (front ++ 59 ∷ c ∷ more) cs ≡ None
   none_behind front c more [] =
       ap (option_map (by_value (front ++ 59 ∷ c ∷ more) []))

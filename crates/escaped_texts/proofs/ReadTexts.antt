@@ -87,7 +87,7 @@ one_lexeme table foreign mode c _ rest (by_name name n is) z h =
 
 module _ {A H : Type 0} (table : References) (knows : KnowsEscapes table) (means : Meaning A H) {ready : A → Type 0}
     (lawful : IsLawful means ready) (mode : Mode) (reads : ReadsReferences mode.text) (rest : List ℕ) (final : A) where
-  -- The characters of a text are told one by one, which is as if they were told together.
+  -- The characters of a text are emitted one by one, which is as if they were emitted together.
   pub told_text : (state : A) (cs : List ℕ) → HasNoNul cs →
       Reading table means mode (means.step state (characters cs)) rest final →
       Reading table means mode state (escaped false cs ++ rest) final

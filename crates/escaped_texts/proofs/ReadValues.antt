@@ -16,7 +16,7 @@ use Rattle.escaped_texts.proofs.ReadTexts.{first_no_nul, later_no_nul, no_first,
 no_cut : (c : ℕ) (cs : List ℕ) → (34 == c) ≡ false → after (34 ∷ []) (c ∷ cs) ≡ None
 no_cut c cs h = let e = other_way 34 c h in cc
 
--- a text without quotes is cut at the quote behind it
+-- a text without quotes is cut at the quote after it
 pub cut_at_quote : (cs rest : List ℕ) → is_in 34 cs ≡ false →
     cut (after (34 ∷ [])) (cs ++ 34 ∷ rest) ≡ Some (record { slice = cs; rest = rest })
 cut_at_quote [] rest h = refl

@@ -16,7 +16,7 @@ pub record KnowsEscapes (table : References) : Type 0 where
   pub space : finite.get table (codes "nbsp;") ≡ Some (160 ∷ [])
   pub ends : (front : List ℕ) (c : ℕ) (more : List ℕ) → finite.get table (front ++ 59 ∷ c ∷ more) ≡ None
 
--- NUL is told apart from text, and escapes don't hide it
+-- NUL is distinguished from text, and escapes don't hide it
 abbrev pub HasNoNul : List ℕ → Type 0
 HasNoNul cs = is_in 0 cs ≡ false
 

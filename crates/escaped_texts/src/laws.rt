@@ -15,7 +15,7 @@ use html_grammar::laws::{one_reading, some_reading};
 use html_lexemes::ReferenceTable;
 use html_serializer::an_escape_holds_no_markup;
 
-/// The reading of an escaped text, whatever follows it, tells the text: in ordinary text, and in that of a title or a
+/// The reading of an escaped text, whatever follows it, emits the text: in ordinary text, and in that of a title or a
 /// text area, for every sink.
 pub fn an_escaped_text_is_read_back<S: TokenSink>()
     ensures { (table : References) (mode : SeenMode) (state : S.Abstract) (cs rest : List ℕ) (final : S.Abstract) →

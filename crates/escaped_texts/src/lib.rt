@@ -6,7 +6,7 @@
 //! has no name with a semicolon before its end (`KnowsEscapes`), and for texts without NUL.
 //!
 //! - `an_escaped_text_is_read_back`: in ordinary text and in RCDATA, for every lawful sink, whatever follows: the
-//!   reading of an escaped text and a rest is the reading of the rest behind the text itself, in both directions
+//!   reading of an escaped text and a rest is the reading of the rest after the text itself, in both directions
 //! - `an_escaped_value_is_read_back`: an escaped value between quotes ends at the second quote, whatever follows,
 //!   and its reading is the value
 //! - `the_basic_table_knows_escapes`: the table of the five basic references is such a table

@@ -108,7 +108,7 @@ front_columns text run n cut all e =
     let same = chars-IsAscii (take n text) (are_ascii (take n text) all) in
     omega arith ∙ ap text_columns (sym (ap chars e ∙ same))
 
--- what stands in front goes on the line, and what is behind it is placed as before
+-- what stands in front goes on the line, and what is after it is placed as before
 pub behind_front : {S : Type 0} (width : Option ℕ) (text run rest : List ℕ) (n most : ℕ) (tag : S) (cut : Cut S)
     (line : List (Item S)) → IsUtf8 text → IsCharBoundary text n → All IsPrintable (take n text) → n ≤ most
     → HasRoomFor width cut.line most → run ≡ take n text → rest ≡ drop n text

@@ -19,7 +19,7 @@ cut_of seen cut = record { done = map (line_items seen) cut.done.items; line = l
 abbrev pub HasJoinedTexts : {T S : Type 0} → (T → S) → CutLines T → Type 0
 HasJoinedTexts seen cut = All (IsJoined seen) cut.done.items × IsJoined seen cut.line
 
--- the lines that a line behind the page gives, cut where there is a width
+-- the lines that a line after the page gives, cut where there is a width
 abbrev pub lines_within : {A : Type 0} → Option ℕ → List (Item A) → List (List (Item (List A)))
 lines_within None items = footnote_lines false 0 items
 lines_within (Some width) items = footnote_lines true width items

@@ -1,4 +1,4 @@
--- Lines behind a page.
+-- Lines after a page.
 use Rattle.std.specs.Prelude.{ℕ, ◌+◌, ◌==◌, nat_le, Bool, not, ◌||◌, List, [], ◌∷◌, ◌++◌, map, fold, if◌then◌else◌}
 use Rattle.tagged_lines.specs.Columns.{width_of}
 use Rattle.tagged_lines.specs.Tagged.{Item, character, marker, line_columns}
@@ -28,7 +28,7 @@ abbrev pub noted : {A : Type 0} → Item A → Item (List A)
 noted (character c tag) = character (if c == 0xA then 0x20 else c) (tag ∷ [])
 noted (marker name) = marker name
 
--- the lines that a line behind the page gives: cut at the width, where such lines are
+-- the lines that a line after the page gives: cut at the width, where such lines are
 abbrev pub footnote_lines : {A : Type 0} → Bool → ℕ → List (Item A) → List (List (Item (List A)))
 footnote_lines wraps width items =
     if wraps then all_lines (fold (placed width) nothing_cut (map noted items)) else map noted items ∷ []

@@ -86,7 +86,7 @@ impl<T: EqualCopy + Drop> CutLines<T> {
         self.push_text(width, text.as_str(), &tag)
     }
 
-    /// Adds what stands in front of a text and goes on the line at hand as it is; the text behind it.
+    /// Adds what stands in front of a text and goes on the line at hand as it is; the text after it.
     fn push_run<'t>(
         &mut self,
         width: Option<usize>,

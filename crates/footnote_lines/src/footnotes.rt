@@ -1,4 +1,4 @@
-//! Lines behind a page.
+//! Lines after a page.
 ghost use Rattle.std.specs.Prelude.{◌≡◌, [], ◌∷◌, fold, map, chars, string_bytes, All, OnOk, IfOk};
 ghost use Rattle.tagged_lines.specs.Tagged.{line_items, element_items, tagged, IsJoined};
 ghost use Rattle.footnote_lines.specs.Cuts.{cut_of, tags_seen, HasJoinedTexts, placed_noted, lines_within};
@@ -7,7 +7,7 @@ use crate::cutting::CutLines;
 use std::alloc::{AllocError, Global};
 use tagged_lines::{EqualCopy, TaggedLine, TaggedLineElement, TaggedString};
 
-/// The lines that a line behind the page gives, each character under its annotation alone: a line end is a space, and
+/// The lines that a line after the page gives, each character under its annotation alone: a line end is a space, and
 /// lines are cut at the width, where there is one. The error is allocation failure alone.
 pub fn footnote_lines<A: EqualCopy + Drop>(
     alloc: Global,

@@ -1,4 +1,4 @@
-//! Laws of lines behind a page: each is the contract of a function that does nothing.
+//! Laws of lines after a page: each is the contract of a function that does nothing.
 ghost use Rattle.std.specs.Prelude.{ℕ, ◌≤◌, All, true, List};
 ghost use Rattle.tagged_lines.specs.Tagged.{Item, line_columns};
 ghost use Rattle.footnote_lines.specs.Footnotes.{footnote_lines};

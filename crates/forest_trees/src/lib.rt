@@ -8,8 +8,8 @@
 //! # What is proved
 //!
 //! - `a_tree_goes_one_step_on`: a law: of the first of some nodes of a forest the tree is what that is, with its
-//!   children's trees in it, and the others' behind it; of no nodes there is none
-//! - `trees_stand_in_order`: a law: the trees of nodes and of others behind them are those of the one before those
+//!   children's trees in it, and the others' after it; of no nodes there is none
+//! - `trees_stand_in_order`: a law: the trees of nodes and of others after them are those of the one before those
 //!   of the other
 //! - `a_walk_takes_three_steps_a_node`: a law: a walk of trees takes three steps for each of their nodes
 //!

@@ -161,7 +161,7 @@ named_none number name (Element h t ∷ xs) none =
     (cond-false (is_named name t) _ _ (none_counts (is_named name t) _ (sym more ∙ none)))
     (named_none number name xs (omega (arith, none, more)))
 
--- alike behind the last marker are at most those that are alike
+-- alike after the last marker are at most those that are alike
 alike_behind : (tag : Tag) (es : List Entry) → count_alike tag (up_to_marker es) ≤ count_alike tag es
 alike_behind tag [] = omega arith
 alike_behind tag (marker ∷ es) = omega arith
@@ -216,7 +216,7 @@ pub popped : {H : Type 0} (number : H → ℕ) (xs ys : List (FormatEntry H)) (h
 popped number xs ys h tag split = sym (ap (λ v. before_marker (entries_of number v)) split
     ∙ ap before_marker (entries_of-push number ys (Element h tag)))
 
--- the entry that was counted is not put behind the others
+-- the entry that was counted is not put after the others
 pub fewer_counted : (counts : TagCounts) (held : List Tag) (tag : Tag) → IsCounted (held ++ tag ∷ []) counts →
     IsCounted held counts
 fewer_counted counts held tag counted = record {

@@ -1,4 +1,4 @@
--- The search for the earliest of the elements behind the last marker that are alike.
+-- The search for the earliest of the elements after the last marker that are alike.
 use Rattle.std.proofs.Common.{◌≡◌, ℕ, ◌+◌, ◌<◌, ◌≤◌, ◌==◌, false, true, cond, ◌&&◌, List, [], ◌∷◌, ◌++◌}
 use Rattle.std.proofs.Common.{length, refl, sym, ap, ap₂, ◌∙◌, arith}
 use Rattle.std.specs.List.{remove}
@@ -17,7 +17,7 @@ use Rattle.formatting_list.specs.declared.entry.FormatEntry.TheVariants.{Element
 use Rattle.formatting_list.proofs.EntryLemmas.{entries_of-push}
 use Rattle.formatting_list.proofs.PlaceLemmas.{drop_behind}
 
--- how many behind the last marker are alike
+-- how many after the last marker are alike
 abbrev pub heads : Tag → List Entry → ℕ
 heads tag entries = count_alike tag (up_to_marker entries)
 

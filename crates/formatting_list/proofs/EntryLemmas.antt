@@ -128,7 +128,7 @@ module _ {H : Type 0} (number : H → ℕ) (name : List ℕ) (xs before : List (
       last_named name (entries_of number xs) ≡ last_named name (entries_of number before)
   named_before isnt = ap (last_named name) shown ∙ cond-false (is_named name tag) _ _ isnt
 
--- behind the last marker, and there without an entry
+-- after the last marker, and there without an entry
 without_at_marker : (m : ℕ) (es : List Entry) → up_to_marker es ≡ [] → up_to_marker (without_entry m es) ≡ []
 without_at_marker m [] e = refl
 without_at_marker m (marker ∷ es) e = refl

@@ -1,4 +1,4 @@
--- At most three elements that are alike stand behind the last marker, whatever is done.
+-- At most three elements that are alike stand after the last marker, whatever is done.
 use Rattle.std.proofs.Common.{◌≡◌, ℕ, ◌+◌, ◌<◌, ◌≤◌, ◌==◌, Bool, false, true, cond, ◌&&◌, List, [], ◌∷◌, ◌++◌, ◌⊎◌}
 use Rattle.std.proofs.Common.{Some, refl, sym, ap, subst, inl, inr, ◌∙◌, arith}
 use Rattle.std.specs.Bool.{nat_lt}
@@ -21,7 +21,7 @@ few_formatted : (n : ℕ) (held : Tag) (es : List Entry) → AreFew es →
     ((t : Tag) → cond (are_alike held t) 1 0 + heads t es ≤ 3) → AreFew (formatted n held ∷ es)
 few_formatted n held es few room = ((λ t. omega (arith, heads-cons t n held es, room t)), few)
 
--- what stands behind an element has as many that are alike, or fewer
+-- what stands after an element has as many that are alike, or fewer
 heads_behind : (t : Tag) (n : ℕ) (held : Tag) (es : List Entry) → heads t es ≤ heads t (formatted n held ∷ es)
 heads_behind t n held es = omega (arith, heads-cons t n held es)
 
@@ -161,7 +161,7 @@ few_given n m held (formatted k tag ∷ front) back few = (
   few_given n m held front back few.1,
 )
 
--- an entry behind the last marker is moved behind another
+-- an entry after the last marker is moved after another
 record IsTaken (n : ℕ) (es : List Entry) : Type 0 where
   tag : Tag
   held : tag_in n es ≡ Some tag

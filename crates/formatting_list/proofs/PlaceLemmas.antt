@@ -160,7 +160,7 @@ module _ {H : Type 0} (number : H → ℕ) (n : ℕ) where
   is_found xs None found missing = sym (missing refl)
   is_found xs (Some k) found missing = sym (listed xs k found)
 
-  -- it is moved behind another
+  -- it is moved after another
   pub stays : (es : List Entry) (m after : ℕ) → is_listed n es ≡ false → es ≡ moved_behind n m after es
   stays es m after none = rw (tag_in_none n es none) refl
 

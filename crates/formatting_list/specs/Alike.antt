@@ -27,7 +27,7 @@ is_alike tag (formatted n held) = are_alike held tag
 abbrev pub count_alike : Tag → List Entry → ℕ
 count_alike tag entries = count_by (is_alike tag) entries
 
--- Wherever the list is cut, at most three elements that are alike stand behind the last marker.
+-- Wherever the list is cut, at most three elements that are alike stand after the last marker.
 abbrev pub AreFew : List Entry → Type 0
 AreFew [] = Unit {0}
 AreFew (entry ∷ rest) = ((tag : Tag) → count_alike tag (up_to_marker (entry ∷ rest)) ≤ 3) × AreFew rest

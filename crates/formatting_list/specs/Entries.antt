@@ -18,7 +18,7 @@ entry_of number (Element handle tag) = formatted (number handle) tag
 abbrev pub entries_of : {H : Type 0} → (H → ℕ) → List (FormatEntry H) → List Entry
 entries_of number entries = reverse (map (entry_of number) entries)
 
--- the entries behind the last marker
+-- the entries after the last marker
 abbrev pub up_to_marker : List Entry → List Entry
 up_to_marker [] = []
 up_to_marker (marker ∷ rest) = []
@@ -48,7 +48,7 @@ abbrev pub tag_in : ℕ → List Entry → Option Tag
 tag_in n [] = None
 tag_in n (entry ∷ rest) = if is_of n entry then tag_if entry else tag_in n rest
 
--- the latest element behind the last marker whose tag has a name
+-- the latest element after the last marker whose tag has a name
 abbrev pub is_named : List ℕ → Tag → Bool
 is_named name tag = bytes_eq tag.name name
 
@@ -75,12 +75,12 @@ abbrev pub handed_over : ℕ → ℕ → List Entry → List Entry
 handed_over n m [] = []
 handed_over n m (entry ∷ rest) = if is_of n entry then given_to m entry ∷ rest else entry ∷ handed_over n m rest
 
--- an entry is put right behind an element's, that is, later in the list; where it isn't listed, before all others
+-- an entry is put right after an element's, that is, later in the list; where it isn't listed, before all others
 abbrev pub put_behind : ℕ → Entry → List Entry → List Entry
 put_behind n new [] = new ∷ []
 put_behind n new (entry ∷ rest) = if is_of n entry then new ∷ entry ∷ rest else entry ∷ put_behind n new rest
 
--- An element's entry goes right behind that of another, and to an element that has taken its place. An element that
+-- An element's entry goes right after that of another, and to an element that has taken its place. An element that
 -- isn't listed changes nothing.
 abbrev pub moved_behind : ℕ → ℕ → ℕ → List Entry → List Entry
 moved_behind n m after entries = move (tag_in n entries) where

@@ -20,18 +20,18 @@ pub record StandsAt {H : Type 0} (number : H → ℕ) (n : ℕ) (entries : List 
   pub found : number held ≡ n
   pub last : is_listed n (entries_of number back) ≡ false
 
--- Nothing stands behind the last marker.
+-- Nothing stands after the last marker.
 abbrev pub IsAtMarker : {H : Type 0} → List (FormatEntry H) → Type 0
 IsAtMarker {H} entries = (number : H → ℕ) → up_to_marker (entries_of number entries) ≡ []
 
--- Behind the last marker three or more are alike, and the earliest of them has so many entries before it.
+-- After the last marker three or more are alike, and the earliest of them has so many entries before it.
 pub record IsEarliest {H : Type 0} (tag : Tag) (entries : List (FormatEntry H)) (k : ℕ) : Type 0 where
   pub within : k < length entries
   pub many : (number : H → ℕ) → nat_lt 2 (count_alike tag (up_to_marker (entries_of number entries))) ≡ true
   pub goes : (number : H → ℕ) →
       entries_of number (remove entries k) ≡ without_earliest tag (entries_of number entries)
 
--- Behind the last marker at most two are alike.
+-- After the last marker at most two are alike.
 abbrev pub HasRoom : {H : Type 0} → Tag → List (FormatEntry H) → Type 0
 HasRoom {H} tag entries = (number : H → ℕ) →
     nat_lt 2 (count_alike tag (up_to_marker (entries_of number entries))) ≡ false

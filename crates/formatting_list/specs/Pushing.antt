@@ -6,7 +6,7 @@ use Rattle.html_lexemes.specs.declared.token.Tag.{Tag}
 use Rattle.formatting_list.specs.Alike.{count_alike, is_alike}
 use Rattle.formatting_list.specs.Entries.{Entry, formatted, marker, up_to_marker}
 
--- the earliest of the elements behind the last marker that are alike is the one behind which, in this list, none is
+-- the earliest of the elements after the last marker that are alike is the one after which, in this list, none is
 abbrev pub without_earliest : Tag → List Entry → List Entry
 without_earliest tag [] = []
 without_earliest tag (marker ∷ rest) = marker ∷ rest

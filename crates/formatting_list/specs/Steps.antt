@@ -1,4 +1,4 @@
--- What an iterator over the entries behind the last marker gives next.
+-- What an iterator over the entries after the last marker gives next.
 use Rattle.std.specs.Prelude.{◌≡◌, ℕ, List, [], ◌∷◌, Option, None, Some, length, reverse, take}
 use Rattle.std.specs.Borrow.{Bor}
 use Rattle.html_lexemes.specs.declared.token.Tag.{Tag}

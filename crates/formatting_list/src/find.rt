@@ -10,7 +10,7 @@ use crate::entry::FormatEntry;
 use html_forest::TreeSink;
 use html_lexemes::{LocalName, Tag};
 
-/// How many elements behind the last marker may be alike ("Noah's Ark clause").
+/// How many elements after the last marker may be alike ("Noah's Ark clause").
 const MOST_ALIKE: usize = 3;
 
 /// Whether an entry is that of an element.
@@ -60,7 +60,7 @@ pub(crate) fn last_element<H: Copy>(
     }
 }
 
-/// The latest element behind the last marker whose tag has a name.
+/// The latest element after the last marker whose tag has a name.
 pub(crate) fn last_of_name<'a, H: Copy>(
     entries: &'a [FormatEntry<H>],
     name: &LocalName,
@@ -78,7 +78,7 @@ pub(crate) fn last_of_name<'a, H: Copy>(
     None
 }
 
-// whether an element stands behind the last marker
+// whether an element stands after the last marker
 fn is_behind_marker<H: Copy, S: TreeSink<Handle = H>>(
     entries: &[FormatEntry<H>],
     sink: &S,
@@ -96,7 +96,7 @@ fn is_behind_marker<H: Copy, S: TreeSink<Handle = H>>(
     false
 }
 
-/// Whether an element stands behind the last marker, once the latest entry of another is taken off.
+/// Whether an element stands after the last marker, once the latest entry of another is taken off.
 pub(crate) fn is_behind_marker_without<H: Copy, S: TreeSink<Handle = H>>(
     entries: &[FormatEntry<H>],
     sink: &S,
@@ -126,7 +126,7 @@ fn is_alike(held: &Tag, tag: &Tag) -> bool
     held.equiv_modulo_attr_order(tag)
 }
 
-/// Where three or more entries behind the last marker were made for such a tag: how many stand before the earliest. At
+/// Where three or more entries after the last marker were made for such a tag: how many stand before the earliest. At
 /// most so many were, also before the marker, and the walk ends with the last of these.
 pub(crate) fn earliest_of_three<H: Copy>(
     entries: &[FormatEntry<H>],

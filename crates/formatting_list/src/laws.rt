@@ -12,7 +12,7 @@ pub fn tags_that_are_alike_are_equivalent()
     ensures { (a b : SeenTag) → IsTrue (are_alike a b) ↔ IsEquivalent a b }
 {}
 
-/// At most three elements that are alike stand behind the last marker, whatever is done to the list.
+/// At most three elements that are alike stand after the last marker, whatever is done to the list.
 pub fn at_most_three_are_alike()
     ensures pushed { (n : ℕ) (tag : SeenTag) (entries : List Entry) → AreFew entries → AreFew (pushed n tag entries) }
     ensures marked { (entries : List Entry) → AreFew entries → AreFew (marker ∷ entries) }

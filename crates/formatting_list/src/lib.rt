@@ -6,18 +6,18 @@
 //! their elements, the latest first (`entries_of`), whatever the numbers are.
 //!
 //! - `FormattingList::new`, `as_slice`: no entries; the entries, lent
-//! - `push_marker`, `push_element`, `clear_to_marker`: a marker behind all; an element behind all, of three that
+//! - `push_marker`, `push_element`, `clear_to_marker`: a marker after all; an element after all, of three that
 //!   are alike the earliest gone; what stands before the last marker
-//! - `last_named`, `contains`, `tag_of`: the latest element of a name behind the last marker; whether an element is
+//! - `last_named`, `contains`, `tag_of`: the latest element of a name after the last marker; whether an element is
 //!   listed, and its tag
-//! - `stands_behind_marker`: whether an element is listed behind the last marker, once another's entry is taken off
+//! - `stands_behind_marker`: whether an element is listed after the last marker, once another's entry is taken off
 //! - `remove`, `hand_over`, `move_behind`, `give`: an entry is taken off; another element takes it over; it goes
-//!   right behind another's; the entry of a place goes to another element
-//! - `iter_to_marker`, `ActiveFormattingIter::next`: each entry behind the last marker, the latest first, with its
+//!   right after another's; the entry of a place goes to another element
+//! - `iter_to_marker`, `ActiveFormattingIter::next`: each entry after the last marker, the latest first, with its
 //!   place and tag, then `None` for good
 //! - `tags_that_are_alike_are_equivalent`: a law: the test of two tags is that they are the same but for the order
 //!   of their attributes
-//! - `at_most_three_are_alike`: a law: at most three elements that are alike stand behind the last marker, wherever
+//! - `at_most_three_are_alike`: a law: at most three elements that are alike stand after the last marker, wherever
 //!   the list is cut, whatever is done to it
 //!
 //! A refused call leaves the list as it was. The definitions are computed on rows. `rt plant` lets nothing through;

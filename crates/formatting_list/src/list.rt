@@ -53,7 +53,7 @@ impl<H: Copy> FormattingList<H> {
         self.entries.as_slice()
     }
 
-    /// Puts a marker behind all entries ("insert a marker at the end").
+    /// Puts a marker after all entries ("insert a marker at the end").
     pub fn push_marker(&mut self) -> Result<(), AllocError>
         ensures ok { OnOk result ((number : H → ℕ) →
             entries_of number self.new ≡ marker ∷ entries_of number self.old) }
@@ -63,7 +63,7 @@ impl<H: Copy> FormattingList<H> {
         Ok(())
     }
 
-    /// Puts an element behind all entries; of three behind the last marker that were made for such a tag the earliest
+    /// Puts an element after all entries; of three after the last marker that were made for such a tag the earliest
     /// goes. Where fewer than three entries have the tag's print, it compares with none, else with those from the end
     /// until it has come by as many as have it, or to the marker; of another name it looks at no attributes.
     pub fn push_element(&mut self, handle: H, tag: Tag) -> Result<(), AllocError>
@@ -80,14 +80,14 @@ impl<H: Copy> FormattingList<H> {
         Ok(())
     }
 
-    /// Takes off the entries behind the last marker, and the marker ("clear the list up to the last marker").
+    /// Takes off the entries after the last marker, and the marker ("clear the list up to the last marker").
     pub fn clear_to_marker(&mut self)
         ensures { (number : H → ℕ) → entries_of number self.new ≡ before_marker (entries_of number self.old) }
     {
         take_off_to_marker(&mut self.entries, &mut self.counts);
     }
 
-    /// The latest element behind the last marker whose tag has this name. Where no tag in the list has it, it goes over
+    /// The latest element after the last marker whose tag has this name. Where no tag in the list has it, it goes over
     /// no entries.
     pub fn last_named(&self, name: &LocalName) -> Option<H>
         ensures { (number : H → ℕ) → option_map number result ≡ last_named name.now (entries_of number self.now) }
@@ -105,7 +105,7 @@ impl<H: Copy> FormattingList<H> {
         position(self.entries.as_slice(), sink, target).is_some()
     }
 
-    /// Whether an element is listed behind the last marker, once another is not listed any more.
+    /// Whether an element is listed after the last marker, once another is not listed any more.
     pub fn stands_behind_marker<S: TreeSink<Handle = H>>(
         &self,
         sink: &S,
@@ -164,7 +164,7 @@ impl<H: Copy> FormattingList<H> {
         *handle = to;
     }
 
-    /// Puts an element's entry right behind that of another, and gives it to the element that has taken its place.
+    /// Puts an element's entry right after that of another, and gives it to the element that has taken its place.
     pub fn move_behind<S: TreeSink<Handle = H>>(
         &mut self,
         sink: &S,
@@ -191,7 +191,7 @@ impl<H: Copy> FormattingList<H> {
         Ok(())
     }
 
-    /// The entries behind the last marker, the latest first.
+    /// The entries after the last marker, the latest first.
     pub fn iter_to_marker(&self) -> ActiveFormattingIter<'_, H>
         ensures entries { all_of result ≡ self.now }
         ensures left { left_of result ≡ length self.now }

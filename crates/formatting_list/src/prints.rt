@@ -1,4 +1,4 @@
-//! Prints of names and of tags: numbers by which most of what is not the same is told apart without comparing it.
+//! Prints of names and of tags: numbers by which most of what is not the same is distinguished without comparing it.
 ghost use Rattle.std.specs.Prelude.{◌≡◌, chars};
 ghost use Rattle.formatting_list.specs.Prints.{attribute_print, mixed, name_print, squared, tag_print, text_print};
 

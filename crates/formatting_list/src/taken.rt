@@ -26,7 +26,7 @@ pub(crate) fn take_off<H: Copy>(
     }
 }
 
-/// Takes the entries behind the last marker off, and the marker.
+/// Takes the entries after the last marker off, and the marker.
 pub(crate) fn take_off_to_marker<H: Copy>(entries: &mut Vec<FormatEntry<H>>, counts: &mut TagCounts)
     ensures items { (number : H → ℕ) →
         entries_of number entries.new.items ≡ before_marker (entries_of number entries.old.items) }

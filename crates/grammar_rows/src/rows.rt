@@ -363,7 +363,7 @@ fn items_of_rows()
     ensures at_the_end { (table : References) → items_from table false 60 ordinary_mode [] ≡ [] }
 {}
 
-// the kind of text behind an answer, behind a tag and at the start (WHATWG HTML, 13.2.5.1 to 13.2.5.5)
+// the kind of text after an answer, after a tag and at the start (WHATWG HTML, 13.2.5.1 to 13.2.5.5)
 fn modes_of_rows()
     ensures behind_answers { map (text_behind {H = ℕ})
         (Continue ∷ Script 1 ∷ Plaintext ∷ EncodingIndicator (codes "utf-8") ∷ [])

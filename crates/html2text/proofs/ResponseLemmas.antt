@@ -29,7 +29,7 @@ pub first_part : {old a : Option (List ℕ)} (front back : List ℕ) → Appends
     AppendsPart old a (front ++ back)
 first_part {old} {a} front back p = part_written front back (nothing_written old (front ++ back) false) p refl
 
--- a text, and a part of the one behind it
+-- a text, and a part of the one after it
 pub later_part : {old a b : Option (List ℕ)} (front back : List ℕ) → Appends old a front → AppendsPart a b back →
     AppendsPart old b (front ++ back)
 later_part {old} {a} {b} front back added p =
@@ -46,7 +46,7 @@ appends_kept (Some xs) None b bytes added kept = absurd added
 appends_kept (Some xs) (Some ys) None bytes added kept = absurd kept
 appends_kept (Some xs) (Some ys) (Some zs) bytes added kept = kept ∙ added
 
--- the words of a command line behind the program's name
+-- the words of a command line after the program's name
 abbrev pub asked_words : {A B : Type 0} → Vec (String A) B → List (List ℕ)
 asked_words words = words_behind_name (map string_bytes words.items)
 

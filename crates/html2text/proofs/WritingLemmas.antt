@@ -17,7 +17,7 @@ pub record IsWritten (old now : Option (List ℕ)) (bytes rest : List ℕ) (fail
 pub nothing_written : (a : Option (List ℕ)) (bytes : List ℕ) (failed : Bool) → IsWritten a a bytes bytes failed failed
 nothing_written a bytes failed = record { front = []; whole = refl; added = Appends-nil a; stays = λ h. h }
 
--- a front of the rest was written, and what is behind it is left
+-- a front of the rest was written, and what is after it is left
 pub more_written : {old a b : Option (List ℕ)} {bytes rest : List ℕ} {f g h : Bool} (front after : List ℕ)
     → IsWritten old a bytes rest f g → Appends a b front → rest ≡ front ++ after → (g ≡ true → h ≡ true) →
     IsWritten old b bytes after f h

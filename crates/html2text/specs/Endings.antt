@@ -28,7 +28,7 @@ EndsBy IsText Narrow Nothing most bytes read_failed write_failed flushed before 
     IsRefusalBy Narrow Nothing bytes (read_failed || write_failed) most before after error
     × (Untouched ⊎ ((write_failed ≡ true) × IfSome bytes (λ page. GainsPart (IsText page) old new)))
 
--- What is asked for was written and passed on, or why it was not, and what was told of that.
+-- What is asked for was written and passed on, or why it was not, and what was reported of that.
 abbrev pub IsAnswered : Asked → Files → Bytes → (read_failed write_failed flushed : Bool) → (before after : ℕ)
     → (old new : Bytes) → (Unread Untouched Silent : Type 0) → (Told : List ℕ → Type 0) → Outcome → Type 0
 IsAnswered asked files input read_failed write_failed flushed before after old new Unread Untouched Silent Told

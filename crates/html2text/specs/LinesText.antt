@@ -8,7 +8,7 @@ use Rattle.tagged_lines.specs.declared.tagged_string.TaggedLineElement.{TaggedLi
 abbrev pub newline : List ℕ
 newline = 10 ∷ []
 
--- the bytes of elements' texts, one behind the other
+-- the bytes of elements' texts, one after the other
 abbrev pub elements_bytes : {T : Type 0} → List (TaggedLineElement T) → List ℕ
 elements_bytes es = flat_map element_text es
 

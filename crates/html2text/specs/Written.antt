@@ -36,7 +36,7 @@ abbrev pub asked_rules : Asked → List SeenRule
 asked_rules asked = if is_decorated asked then decorating_rules else []
 
 -- what a page is read and rendered by for what is asked, with these references: as pages are where nothing else is
--- said, with or without these marks; with targets of links behind a page with marks, and where they are asked for; and
+-- said, with or without these marks; with targets of links after a page with marks, and where they are asked for; and
 -- each of these targets once, where that is asked for
 pub record IsSetting (asked : Asked) (names : References) (c : PageSetting (Unit {0})) : Type 0 where
   pub table : c.table ≡ names

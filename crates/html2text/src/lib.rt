@@ -24,7 +24,7 @@
 //! What is not pinned: that memory is found; that a file is opened or read where it could be (of a file nobody sees
 //! whether a read has failed, so `read or write failed` may be reported of any that is named); a body of a device's
 //! flush that doesn't pass the call on; the help text and clap's wording, of which the tests ask a part alone; and
-//! that `respond` leaves its reader at the end of the page. So a `respond` that tells allocation failure for every
+//! that `respond` leaves its reader at the end of the page. So a `respond` that reports allocation failure for every
 //! page would be proved; the tests call it with ample memory, and with files. `serve` reaches real devices and
 //! files, of which no clause knows the bytes: its contract says that it ends with 0, 1, 2 or 3, and the stored run
 //! of html2text_program shows that it hands the words, the files and standard output to `respond`: a page in a file

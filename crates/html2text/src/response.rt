@@ -28,8 +28,8 @@ use std::io;
 /// Answers a command line, the program's name first, and gives the exit status: 0 where the text of the page was
 /// written to `output` and passed on, or the help was; 1 where the page was refused or its file not opened, or a device
 /// failed; 2 where the words were refused; 3 where no table of references was had from the file that they name. The
-/// page is that of the file that they name, or of `input`. Each fault is one text on `errors`, behind `html2text: `;
-/// where `errors` fails there is nobody left to tell.
+/// page is that of the file that they name, or of `input`. Each fault is one text on `errors`, after `html2text: `;
+/// where `errors` fails there is nobody left to notify.
 pub fn respond<F: FileOpener, R: ByteReader, W: ByteWriter, E: ByteWriter>(
     alloc: Global,
     words: io::Result<Vec<String>>,
@@ -47,7 +47,7 @@ pub fn respond<F: FileOpener, R: ByteReader, W: ByteWriter, E: ByteWriter>(
     ensures passed_on { result ≡ 0 → (W.has_failed output.new ≡ false) × (W.was_flushed output.new ≡ true) }
     ensures silent { result ≡ 0 → errors.new ≡ errors.old }
 
-    // The page was refused or its file not opened, or a device failed: for this error, which is told.
+    // The page was refused or its file not opened, or a device failed: for this error, which is reported.
     ensures refused { result ≡ 1 → (error : Error)
         × Complains (E.has_failed errors.new) (E.contents errors.old) (E.contents errors.new) (error_text error)
         × IfOk words (λ all. IsAskedRefusal (words_behind_name (map string_bytes all.items)) (F.bytes_of files.now)
@@ -58,13 +58,13 @@ pub fn respond<F: FileOpener, R: ByteReader, W: ByteWriter, E: ByteWriter>(
         × IfOk words (λ all. WritesAskedPart (words_behind_name (map string_bytes all.items)) (F.bytes_of files.now)
         (R.remaining input.old) (W.contents output.old) (W.contents output.new))) }
 
-    // The words were refused: for this fault, which is told; nothing was read and nothing written.
+    // The words were refused: for this fault, which is reported; nothing was read and nothing written.
     ensures words { result ≡ 2 → (fault : WordFault)
         × Complains (E.has_failed errors.new) (E.contents errors.old) (E.contents errors.new) (fault_text fault)
         × IsRefusedWith words fault }
     ensures unread { result ≡ 2 → (input.new ≡ input.old) × (output.new ≡ output.old) }
 
-    // There was no table: for this fault, which is told; no page was read and nothing written.
+    // There was no table: for this fault, which is reported; no page was read and nothing written.
     ensures table { result ≡ 3 → (fault : TableFault)
         × Complains (E.has_failed errors.new) (E.contents errors.old) (E.contents errors.new) (table_text fault)
         × IfOk words (λ all. IsAskedTableRefusal (words_behind_name (map string_bytes all.items))
@@ -77,8 +77,8 @@ pub fn respond<F: FileOpener, R: ByteReader, W: ByteWriter, E: ByteWriter>(
     exit_status(&outcome)
 }
 
-/// Does what words ask for, or tells what is wrong with them: writes the text of the page of the file that is named, or
-/// of `input`, or the help, to `output`, and each fault to `errors`, behind `html2text: `.
+/// Does what words ask for, or says what is wrong with them: writes the text of the page of the file that is named, or
+/// of `input`, or the help, to `output`, and each fault to `errors`, after `html2text: `.
 pub fn carry_out<F: FileOpener, R: ByteReader, W: ByteWriter, E: ByteWriter>(
     alloc: Global,
     request: Result<Request, WordFault>,
@@ -131,7 +131,7 @@ pub fn carry_out<F: FileOpener, R: ByteReader, W: ByteWriter, E: ByteWriter>(
     }
 }
 
-/// Writes the text of the page that is asked for, or tells why there is none.
+/// Writes the text of the page that is asked for, or says why there is none.
 fn answer<F: FileOpener, R: ByteReader, W: ByteWriter, E: ByteWriter>(
     alloc: Global,
     request: &Request,
@@ -206,7 +206,7 @@ fn refuse<E: ByteWriter>(errors: &mut E, error: Error) -> Outcome
     Outcome::Page(error)
 }
 
-/// Writes the help that was asked for, or tells what is wrong with the words.
+/// Writes the help that was asked for, or says what is wrong with the words.
 fn tell_fault<W: ByteWriter, E: ByteWriter>(
     fault: &WordFault,
     output: &mut W,
@@ -235,7 +235,7 @@ fn tell_fault<W: ByteWriter, E: ByteWriter>(
     }
 }
 
-/// Writes the help, or tells that its writer failed.
+/// Writes the help, or says that its writer failed.
 fn show_help<W: ByteWriter, E: ByteWriter>(text: &str, output: &mut W, errors: &mut E) -> Outcome
     ensures outcomes { (result ≡ Outcome.Done) ⊎ (result ≡ Outcome.Page Error.IoError) }
     ensures done { result ≡ Outcome.Done → Appends (W.contents output.old) (W.contents output.new) text.now }
@@ -270,7 +270,7 @@ fn write_through<W: ByteWriter>(output: &mut W, bytes: &[u8]) -> Result<(), Devi
 fn complain<E: ByteWriter>(errors: &mut E, text: &str)
     ensures { Complains (E.has_failed errors.new) (E.contents errors.old) (E.contents errors.new) text.now }
 {
-    // Where it can't be told there is nobody left to tell.
+    // Where it can't be reported there is nobody left to notify.
     let _ = write_complaint(errors, text);
 }
 

@@ -45,7 +45,7 @@ pub in_middle : (n : ℕ) (front rest : List ℕ) → IsIn n (front ++ n ∷ res
 in_middle n [] rest = inl refl
 in_middle n (m ∷ front) rest = inr (in_middle n front rest)
 
--- a number that is there stands behind some and in front of others
+-- a number that is there stands after some and in front of others
 pub record Standing (n : ℕ) (ms : List ℕ) : Type 0 where
   pub front : List ℕ
   pub rest : List ℕ

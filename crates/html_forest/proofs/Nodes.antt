@@ -1,4 +1,4 @@
--- What stands at a node behind a change, and what a change of a kind keeps.
+-- What stands at a node after a change, and what a change of a kind keeps.
 use Rattle.std.proofs.Common.{◌≡◌, ℕ, zero, suc, ◌⊎◌, inl, inr, refl, sym, ap, subst, List, [], ◌∷◌, None, Some, map}
 use Rattle.std.proofs.Common.{arith}
 use Rattle.html_lexemes.specs.declared.names.Attribute.{Attribute}
@@ -73,7 +73,7 @@ contents_made (suc q) kind [] e = refl
 contents_made zero kind (x ∷ f) e = refl
 contents_made (suc q) kind (x ∷ f) e = contents_made q kind f e
 
--- where contents are, behind a node more
+-- where contents are, after a node more
 pub contents_made_at : (q : ℕ) (kind : Kind) (f : Forest) →
     (contents_of q (made kind f) ≡ contents_of q f) ⊎
     ((q ≡ nodes f) × (contents_of q (made kind f) ≡ (element_of kind).contents))

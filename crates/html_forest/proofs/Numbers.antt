@@ -1,4 +1,4 @@
--- Which numbers are among others behind a change of a list, and that they stay distinct.
+-- Which numbers are among others after a change of a list, and that they stay distinct.
 use Rattle.std.proofs.Common.{◌≡◌, ℕ, ◌⊎◌, inl, inr, refl, sym, ◌∙◌, Bool, true, false, List, [], ◌∷◌, ◌++◌, ◌==◌}
 use Rattle.std.proofs.Common.{if◌then◌else◌, eqb-true, eq-eqb}
 use Rattle.html_forest.specs.Changes.{left_out}

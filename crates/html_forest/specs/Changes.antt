@@ -16,7 +16,7 @@ changed (suc n) g (x ∷ f) = x ∷ changed n g f
 abbrev pub made : Kind → Forest → Forest
 made kind f = f ++ record { kind = kind; children = [] } ∷ []
 
--- An element more. A template is made with a node that holds its contents, behind it.
+-- An element more. A template is made with a node that holds its contents, after it.
 abbrev pub contents_number : Bool → Forest → Option ℕ
 contents_number true f = Some (nodes f + 1)
 contents_number false f = None
@@ -56,7 +56,7 @@ without_child n x = record { kind = x.kind; children = left_out n x.children }
 abbrev pub detached : ℕ → Forest → Forest
 detached n f = map (without_child n) f
 
--- the children of a node go behind those of another
+-- the children of a node go after those of another
 abbrev pub childless : Node → Node
 childless x = record { kind = x.kind; children = [] }
 

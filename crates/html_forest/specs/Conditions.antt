@@ -9,7 +9,7 @@ abbrev pub is_from : Place → ℕ
 is_from (below p) = p
 is_from (before s) = s
 
--- a place is behind the children of a node that is there, or before a child
+-- a place is after the children of a node that is there, or before a child
 abbrev pub IsPlace : Place → Forest → Type 0
 IsPlace (below p) f = Holds p f
 IsPlace (before s) f = (p : ℕ) × IsIn s (children_at p f)

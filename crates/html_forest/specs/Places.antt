@@ -1,4 +1,4 @@
--- Where a node or a text is put: behind the last child of a node, or right before a child (WHATWG DOM, 4.2.3; WHATWG
+-- Where a node or a text is put: after the last child of a node, or right before a child (WHATWG DOM, 4.2.3; WHATWG
 -- HTML, 13.2.6.1).
 use Rattle.std.specs.Prelude.{ℕ, List, [], ◌∷◌, ◌++◌, Option, None, Some, map, ◌==◌, if◌then◌else◌}
 use Rattle.html_forest.specs.Changes.{changed, made, saying}
@@ -13,7 +13,7 @@ pub data Child : Type 0 where
   node : ℕ → Child
   words : List ℕ → Child
 
--- a child more, behind the others or before one of them
+-- a child more, after the others or before one of them
 abbrev pub behind : ℕ → Node → Node
 behind c x = record { kind = x.kind; children = x.children ++ c ∷ [] }
 
@@ -79,6 +79,6 @@ abbrev pub parent_at : Place → Forest → Option ℕ
 parent_at (below p) f = Some p
 parent_at (before s) f = parent_of s f
 
--- a doctype more, behind the children of the page's document
+-- a doctype more, after the children of the page's document
 abbrev pub with_doctype : (name public_id system_id : List ℕ) → Forest → Forest
 with_doctype name public_id system_id f = put_node (below 0) (nodes f) (made (doctype name public_id system_id) f)

@@ -12,8 +12,8 @@
 //!   `reparenting_keeps_a_forest`, `attributes_keep_a_forest`: each change keeps a forest one, where its condition
 //!   (specs/Conditions.antt) holds; what was taken out is free to be put, and stands above nothing that it didn't
 //!   stand above before
-//! - `texts_side_by_side_are_one`: a text that is put behind another is one with it
-//! - `a_node_stands_where_it_was_put`, `a_node_taken_out_stands_nowhere`: behind the last child, or right before
+//! - `texts_side_by_side_are_one`: a text that is put after another is one with it
+//! - `a_node_stands_where_it_was_put`, `a_node_taken_out_stands_nowhere`: after the last child, or right before
 //!   the sibling, and nowhere else; siblings stay in their order
 //! - `what_was_not_named_stays`, `attributes_are_added`: every other node keeps what it is and its children; an
 //!   element keeps its name, contents and children

@@ -104,7 +104,7 @@ pub trait TreeSink {
         ensures quirks { view.quirks self.new ≡ view.quirks self.old }
         ensures memory { IfErr result (λ e. e ≡ Memory) };
 
-    /// Puts a node or a text behind the children of a node (WHATWG DOM, 4.2.3, "append").
+    /// Puts a node or a text after the children of a node (WHATWG DOM, 4.2.3, "append").
     fn append(
         &mut self,
         parent: Self::Handle,
@@ -130,7 +130,7 @@ pub trait TreeSink {
         ensures quirks { view.quirks self.new ≡ view.quirks self.old }
         ensures memory { IfErr result (λ e. e ≡ Memory) };
 
-    /// Puts a node or a text right before an element that has a parent, else behind the children of another (WHATWG
+    /// Puts a node or a text right before an element that has a parent, else after the children of another (WHATWG
     /// HTML, 13.2.6.1, foster parent).
     fn append_based_on_parent_node(
         &mut self,
@@ -147,7 +147,7 @@ pub trait TreeSink {
         ensures quirks { view.quirks self.new ≡ view.quirks self.old }
         ensures memory { IfErr result (λ e. e ≡ Memory) };
 
-    /// Puts a doctype behind the children of the document (WHATWG DOM, 4.6).
+    /// Puts a doctype after the children of the document (WHATWG DOM, 4.6).
     fn append_doctype_to_document(
         &mut self,
         name: Text,
@@ -192,7 +192,7 @@ pub trait TreeSink {
         ensures quirks { view.quirks self.new ≡ view.quirks self.old }
         ensures memory { IfErr result (λ e. e ≡ Memory) };
 
-    /// Puts all children of a node behind those of another (WHATWG HTML, 13.2.6.4.7, adoption agency).
+    /// Puts all children of a node after those of another (WHATWG HTML, 13.2.6.4.7, adoption agency).
     fn reparent_children(
         &mut self,
         node: Self::Handle,

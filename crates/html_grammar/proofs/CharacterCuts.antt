@@ -16,7 +16,7 @@ use Rattle.html_grammar.specs.Read.{cut_of}
 use Rattle.html_grammar.specs.References.{value_of}
 use Rattle.html_grammar.specs.Slices.{after, cut, longer}
 
--- characters behind which another one stands, in a text by its bytes
+-- characters after which another one stands, in a text by its bytes
 record IsCutThere (cs front : List ℕ) (c : ℕ) (rest : List ℕ) : Type 0 where
   behind : List ℕ
   whole : cs ≡ front ++ c ∷ behind

@@ -122,7 +122,7 @@ public_at-is d q cs id rest h =
     ap (λ i. closed_public q (with_public d i) rest) h.id_is ∙
     ap (closed_public q (with_public d (identifier q cs))) h.rest_is
 
--- the words behind a name
+-- the words after a name
 pub behind_keyword-public : (d : Doctype) (cs rest : List ℕ) → Some rest ≡ after_word (codes "public") cs →
     behind_public d (without_spaces rest) ≡ behind_keyword d cs
 behind_keyword-public d cs rest h =

@@ -153,7 +153,7 @@ in_text kind table foreign mode (c ∷ cs) h = in_kind_of_text kind mode h table
 -- ---- sinks
 
 module _ {A H : Type 0} (means : Meaning A H) (welcomes : A → Item → Type 0) (hearing : IsHearing means welcomes) where
-  -- items that are welcome are so behind an item that is
+  -- items that are welcome are so after an item that is
   pub welcome_on : (state : A) (item : Item) (items : List Item) → IsWithin item → welcomes state item →
       AreWelcome welcomes state items → AreWelcome welcomes (means.step state item) items
   welcome_on state item [] i w h = tt

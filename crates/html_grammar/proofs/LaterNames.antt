@@ -1,4 +1,4 @@
--- The set of the names behind a tag's first attributes.
+-- The set of the names after a tag's first attributes.
 use Rattle.std.proofs.Common.{◌≡◌, ℕ, ◌≤◌, ◌<◌, Bool, true, false, cond, ◌||◌, ◌&&◌, List, [], ◌∷◌, ◌++◌, length, take}
 use Rattle.std.proofs.Common.{drop, refl, sym, ap, ◌∙◌, arith, length-append, ⊎_elim}
 use Rattle.std.proofs.Math.Bool.{or-false}
@@ -37,7 +37,7 @@ first-or-later n name xs =
     ap (is_named name) (sym (take-append-drop n xs)) ∙ list_any-append (λ a. bytes_eq a.name.local name) (take n xs)
     (drop n xs)
 
--- the names behind the first, with one attribute more
+-- the names after the first, with one attribute more
 pub later-more : (n : ℕ) (name : List ℕ) (xs : List Attribute) (a : Attribute)
     → is_named name (drop n (xs ++ a ∷ []))
     ≡ (is_named name (drop n xs) || (nat_le n (length xs) && bytes_eq a.name.local name))

@@ -77,7 +77,7 @@ chosen_true b x y e = ap (λ c. if c then x else y) (sym e)
 pub chosen_false : {X : Type 0} (b : Bool) (x y : X) → b ≡ false → y ≡ (if b then x else y)
 chosen_false b x y e = ap (λ c. if c then x else y) (sym e)
 
--- the kind of the text behind a character of script data
+-- the kind of the text after a character of script data
 pub opened : (cs : List ℕ) → begins (codes "<!--") cs ≡ true → ScriptDataEscaped Escaped ≡ kind_behind ScriptData cs
 opened cs e = chosen_true (begins (codes "<!--") cs) (ScriptDataEscaped Escaped) ScriptData e
 
@@ -124,7 +124,7 @@ word_found word cs rest e = some_if (begins_word word cs) (drop (length word) cs
 pub no_word : (word cs : List ℕ) → None ≡ after_word word cs → begins_word word cs ≡ false
 no_word word cs e = none_if (begins_word word cs) (drop (length word) cs) e
 
--- what stands behind `<!`
+-- what stands after `<!`
 pub declared_comment : (foreign : Bool) (mode : Mode) (cs rest : List ℕ) → Some rest ≡ after (codes "--") cs →
     comment_lexeme mode (comment_slice rest) ≡ declaration foreign mode cs
 declared_comment foreign mode cs rest e =

@@ -1,4 +1,4 @@
--- Numbers behind a number sign.
+-- Numbers after a number sign.
 use Rattle.std.proofs.Common.{◌≡◌, ◌⊎◌, ℕ, ◌+◌, ◌*◌, ◌<◌, ◌≤◌, min, Bool, true, false, ◌&&◌, ◌||◌, cond, IsTrue, List}
 use Rattle.std.proofs.Common.{[], ◌∷◌, ◌++◌, length, drop, eqb, fold, Option, Some, None, MatchOption, is_some}
 use Rattle.std.proofs.Common.{unwrap_or, option_map, Bor, IsUtf8, inl, inr, refl, sym, ap, subst, ◌∙◌, arith}
@@ -60,7 +60,7 @@ digit_given : (base d value : ℕ) (r : Option ℕ) → IsTrue (is_digit base d)
 digit_given base d value None is h e = absurd (h (ltb-true (digit_value d) base is))
 digit_given base d value (Some v) is h e = e ∙ h.1
 
--- the digits behind the first ones are to come: `number` is what the first spell, as far as `most`
+-- the digits after the first ones are to come: `number` is what the first spell, as far as `most`
 pub record IsCounting (base most : ℕ) (digits left : List ℕ) (number : ℕ) : Type 0 where
   pub is_text : IsUtf8 left
   pub all : IsTrue (list_all (is_digit base) (chars left))

@@ -92,7 +92,7 @@ module _ {A H : Type 0} (table : References) (means : Meaning A H) where
   pub some : (mode : Mode) (state : A) (cs : List ℕ) → HasReading mode state cs
   some mode state cs = some_below (suc (length cs)) mode state cs (omega arith)
 
-  -- a means.step of a reader from what it found, in place of the state that it told to
+  -- a means.step of a reader from what it found, in place of the state that it emitted to
   pub told_on : (mode : Mode) (state next : A) (cs : List ℕ) (items : List Item) (behind : Mode) (rest : List ℕ)
       (final : A) → lexeme table (means.foreign state) mode cs ≡ told items behind rest →
       next ≡ fold means.step state items → Reads behind next rest final → Reads mode state cs final

@@ -48,7 +48,7 @@ module _ (mark : List ℕ → Option (List ℕ)) where
   cut_shortest [] c e = absurd (none-some c e)
   cut_shortest (x ∷ cs) c e = one_more x cs (mark (x ∷ cs)) (cut mark cs) c refl refl (λ d is. cut_shortest cs d is) e
 
-  -- no mark begins at the first character or behind it
+  -- no mark begins at the first character or after it
   none_on : (x : ℕ) (cs : List ℕ) (here : Option (List ℕ)) (later : Option Cut) → mark (x ∷ cs) ≡ here →
       cut mark cs ≡ later → (cut mark cs ≡ None → HasNoMark mark cs) → cut mark (x ∷ cs) ≡ None
       → (front : List ℕ) (c : ℕ) (back : List ℕ) → x ∷ cs ≡ front ++ c ∷ back → mark (c ∷ back) ≡ None

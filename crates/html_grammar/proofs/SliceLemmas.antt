@@ -15,7 +15,7 @@ use Rattle.html_grammar.specs.Slices.{Cut, after, begins, begins_word, cut, fron
 pub no_bytes : (bs : List ℕ) → length bs ≡ 0 → chars bs ≡ []
 no_bytes bs none = ap chars (nil_from_length bs none) ∙ chars-nil
 
--- what is left behind a front that is a text is one
+-- what is left after a front that is a text is one
 left_text : (bs left : List ℕ) (n : ℕ) → IsUtf8 bs → n ≤ length bs → IsUtf8 (take n bs) → left ≡ drop n bs → IsUtf8 left
 left_text bs left n u le read e = subst IsUtf8 (sym e) (IsUtf8-drop bs n u (IsCharBoundary-from_take bs n u le read))
 

@@ -89,7 +89,7 @@ value_shorter cs =
     either_within (begins (61 ∷ []) spaces) (length cs) (written_value past) nothing
     (wider (length past) (length cs) (written_value past) (written_shorter past) within) kept
 
--- what follows an attribute is no longer than what stands behind its first character
+-- what follows an attribute is no longer than what stands after its first character
 abbrev HasBehindWithin : ℕ → Option (Attribute × List ℕ) → Type 0
 HasBehindWithin n o = IfSome o (λ read. length read.1 ≤ n)
 

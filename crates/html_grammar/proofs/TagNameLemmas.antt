@@ -25,7 +25,7 @@ ends_in (d ∷ front) c = rw (ne_eqb (length (front ++ c ∷ [])) 0 (longer fron
   longer [] c e = omega arith
   longer (d ∷ front) c e = omega arith
 
--- what ends with `/` has it behind the others
+-- what ends with `/` has it after the others
 abbrev HasSlashBehind : List ℕ → Type 0
 HasSlashBehind cs = (front : List ℕ) × (cs ≡ front ++ 47 ∷ [])
 

@@ -162,7 +162,7 @@ within_value table cs =
 
 -- ---- the value
 
--- what stands behind a character of a value
+-- what stands after a character of a value
 abbrev pub behind_character : References → ℕ → List ℕ → Option Found
 behind_character table c cs = cond (eqb c 38) (reference_in_value table cs) None
 

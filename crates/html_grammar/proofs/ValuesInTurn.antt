@@ -31,7 +31,7 @@ module _ (table : References) where
   is_from (suc n) (c ∷ cs) le =
       is_step n c cs (c == 38) (reference_in_value table cs) refl refl (within_value table cs) (omega arith) (is_from n)
 
-  -- a step is known by what stands behind its character
+  -- a step is known by what stands after its character
   found_there : (b : Bool) (c : ℕ) (cs : List ℕ) → (c == 38) ≡ b → (c ≡ 38 → reference_in_value table cs ≡ None) →
       cond b (reference_in_value table cs) None ≡ None
   found_there true c cs e h = h (eqb-true c 38 e)

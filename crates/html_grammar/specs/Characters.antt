@@ -1,4 +1,4 @@
--- Characters as the grammar of a page tells them apart (WHATWG Infra, 4.6; WHATWG HTML, 13.2.5).
+-- Characters as the grammar of a page distinguishes them (WHATWG Infra, 4.6; WHATWG HTML, 13.2.5).
 use Rattle.std.specs.Prelude.{ℕ, Bool, ◌==◌, ◌&&◌, ◌||◌, nat_lt, nat_le, if◌then◌else◌, List, map}
 use Rattle.std.specs.Char.{to_ascii_lowercase, digit_value}
 

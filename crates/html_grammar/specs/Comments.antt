@@ -27,7 +27,7 @@ found_or_ended (Some cut) cs = cut
 abbrev pub empty_comment : List ℕ → Cut
 empty_comment rest = record { slice = []; rest = rest }
 
--- The comment behind `<!--`: empty before `>` and `->`, else the shortest slice before an end mark.
+-- The comment after `<!--`: empty before `>` and `->`, else the shortest slice before an end mark.
 abbrev pub comment_slice : List ℕ → Cut
 comment_slice cs =
     if begins (codes ">") cs then empty_comment (drop 1 cs)

@@ -36,7 +36,7 @@ identifier quote cs = shown_text (front_while (λ c. not (ends_identifier quote 
 abbrev pub behind_identifier : ℕ → List ℕ → List ℕ
 behind_identifier quote cs = rest_while (λ c. not (ends_identifier quote c)) cs
 
--- behind a system identifier: `>`, the end, or what is skipped without setting the flag
+-- after a system identifier: `>`, the end, or what is skipped without setting the flag
 abbrev pub behind_system : Doctype → List ℕ → DoctypeEnd
 behind_system doctype [] = record { doctype = with_quirks doctype; rest = [] }
 behind_system doctype (c ∷ cs) = skipped doctype (c ∷ cs)
@@ -72,7 +72,7 @@ abbrev pub public_at : Doctype → ℕ → List ℕ → DoctypeEnd
 public_at doctype quote cs =
     closed_public quote (with_public doctype (identifier quote cs)) (behind_identifier quote cs)
 
--- behind `PUBLIC` and `SYSTEM`, over spaces: a quoted identifier, or the flag
+-- after `PUBLIC` and `SYSTEM`, over spaces: a quoted identifier, or the flag
 abbrev pub behind_public : Doctype → List ℕ → DoctypeEnd
 behind_public doctype [] = skipped (with_quirks doctype) []
 behind_public doctype (c ∷ cs) = if is_quote c then public_at doctype c cs else skipped (with_quirks doctype) (c ∷ cs)
@@ -95,6 +95,6 @@ behind_spaces cs =
     else behind_keyword (named_doctype (Some (name_of (front_while (λ c. not (ends_unquoted c)) cs))))
     (without_spaces (rest_while (λ c. not (ends_unquoted c)) cs))
 
--- The doctype behind `<!doctype`.
+-- The doctype after `<!doctype`.
 abbrev pub doctype_at : List ℕ → DoctypeEnd
 doctype_at cs = behind_spaces (without_spaces cs)

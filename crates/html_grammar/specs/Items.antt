@@ -1,4 +1,4 @@
--- What a tokenizer tells, as contracts see it: tokens without the wording of errors.
+-- What a tokenizer emits, as contracts see it: tokens without the wording of errors.
 use Rattle.std.specs.Prelude.{ℕ, List}
 use Rattle.html_lexemes.specs.declared.token.Tag.{Tag}
 use Rattle.html_lexemes.specs.declared.token.Doctype.{Doctype}

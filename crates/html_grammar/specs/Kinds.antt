@@ -20,7 +20,7 @@ abbrev pub IsOfTag : TextKind → TagKind → Type 0
 IsOfTag kind EndTag = Unit {0}
 IsOfTag kind StartTag = HasMarkup kind
 
--- In other text characters, errors, an end tag and the end alone are told.
+-- In other text characters, errors, an end tag and the end alone are emitted.
 abbrev pub IsOf : TextKind → Item → Type 0
 IsOf kind (characters cs) = Unit {0}
 IsOf kind error = Unit {0}
@@ -30,7 +30,7 @@ IsOf kind null_character = HasMarkup kind
 IsOf kind (comment cs) = HasMarkup kind
 IsOf kind (doctype d) = HasMarkup kind
 
--- neither a tag, behind which the text may be of another kind, nor the end
+-- neither a tag, after which the text may be of another kind, nor the end
 abbrev pub IsWithin : Item → Type 0
 IsWithin (characters cs) = Unit {0}
 IsWithin error = Unit {0}
@@ -50,15 +50,15 @@ LexemeOf kind nothing = Unit {0}
 LexemeOf kind (told items behind rest) = AreWithin kind items × (HasMarkup behind.text → HasMarkup kind)
 LexemeOf kind (tagged t rest) = IsOf kind (tag t)
 
--- What a sink that welcomes an item keeps to: what it welcomes beside an item, it welcomes behind it; and behind a tag
--- it welcomes what is told in the text that it asked for. The end, behind which nothing is told, is left out.
+-- What a sink that welcomes an item keeps to: what it welcomes beside an item, it welcomes after it; and after a tag
+-- it welcomes what is emitted in the text that it asked for. The end, after which nothing is emitted, is left out.
 pub record IsHearing {A H : Type 0} (means : Meaning A H) (welcomes : A → Item → Type 0) : Type 0 where
   pub goes_on : (state : A) (item later : Item) → IsWithin item → welcomes state item → welcomes state later →
       welcomes (means.step state item) later
   pub asks : (state : A) (t : Tag) (later : Item) → welcomes state (tag t) →
       IsOf (text_behind (means.reply state (tag t))) later → welcomes (means.step state (tag t)) later
 
--- A sink is ready, and welcomes all that is told in a kind of text.
+-- A sink is ready, and welcomes all that is emitted in a kind of text.
 pub record IsReadyFor {A : Type 0} (ready : A → Type 0) (welcomes : A → Item → Type 0) (kind : TextKind)
     (state : A) : Type 0 where
   pub is_ready : ready state

@@ -34,7 +34,7 @@ one_character mode c rest = told (characters (c ∷ []) ∷ []) mode rest
 abbrev pub ordinary_item : ℕ → Item
 ordinary_item c = if c == 0 then null_character else characters (c ∷ [])
 
--- A reference in text (13.2.5.72): without its semicolon it is an error, told before its characters. Without a
+-- A reference in text (13.2.5.72): without its semicolon it is an error, emitted before its characters. Without a
 -- reference `&` is text.
 abbrev pub error_unless : Bool → List Item
 error_unless true = []
@@ -59,7 +59,7 @@ doctype_lexeme mode end = told (doctype end.doctype ∷ []) mode end.rest
 abbrev pub cdata_lexeme : Mode → Cut → Lexeme
 cdata_lexeme mode cut = told (map ordinary_item cut.slice) mode cut.rest
 
--- behind `</` (13.2.5.7): a letter opens a tag, `>` ends nothing, another character opens a bogus comment; at the end
+-- after `</` (13.2.5.7): a letter opens a tag, `>` ends nothing, another character opens a bogus comment; at the end
 -- `<` is text
 abbrev pub behind_slash : References → Mode → List ℕ → Lexeme
 behind_slash table mode [] = one_character mode 60 (codes "/")
@@ -67,7 +67,7 @@ behind_slash table mode (c ∷ cs) =
     if is_letter c then tag_lexeme (tag_at table EndTag (c ∷ cs))
     else (if c == 62 then told (error ∷ []) mode cs else comment_lexeme mode (bogus_comment_slice (c ∷ cs)))
 
--- behind `<!` (13.2.5.42)
+-- after `<!` (13.2.5.42)
 abbrev pub declaration : Bool → Mode → List ℕ → Lexeme
 declaration foreign mode cs =
     if begins (codes "--") cs then comment_lexeme mode (comment_slice (drop 2 cs))
@@ -76,7 +76,7 @@ declaration foreign mode cs =
     cdata_lexeme mode (cut_or_all (cut (after (codes "]]>")) (drop 7 cs)) (drop 7 cs))
     else comment_lexeme mode (bogus_comment_slice cs)))
 
--- behind `<` in ordinary text (13.2.5.6)
+-- after `<` in ordinary text (13.2.5.6)
 abbrev pub markup : References → Bool → Mode → List ℕ → Lexeme
 markup table foreign mode [] = one_character mode 60 []
 markup table foreign mode (c ∷ cs) =
@@ -90,7 +90,7 @@ ordinary_lexeme table foreign mode c cs =
     if c == 60 then markup table foreign mode cs
     else (if c == 38 then reference_lexeme mode cs (reference table cs) else told (ordinary_item c ∷ []) mode cs)
 
--- the end tag of an element's text, behind `<`: `/`, letters that are the last start tag's name, and the end of a name
+-- the end tag of an element's text, after `<`: `/`, letters that are the last start tag's name, and the end of a name
 -- (13.2.5.11)
 abbrev pub is_last : Option (List ℕ) → List ℕ → Bool
 is_last None name = false
@@ -105,7 +105,7 @@ ends_raw_text last cs =
     begins (codes "/") cs && named_end_tag last (front_while is_letter (drop 1 cs)) (rest_while is_letter (drop 1 cs))
 
 -- In script data `<!--` begins an escaped part, which `-->` ends; in it `<script` begins a double escaped part, which
--- `</script` ends (13.2.5.18 to 13.2.5.31). Each is one character of text, behind which the other kind of text begins.
+-- `</script` ends (13.2.5.18 to 13.2.5.31). Each is one character of text, after which the other kind of text begins.
 abbrev pub begins_tag : List ℕ → List ℕ → Bool
 begins_tag word cs = begins_word word cs && first_passes ends_tag_name (drop (length word) cs)
 

@@ -1,4 +1,4 @@
--- What a sink means: its state behind an item, its reply to it, and whether the adjusted current node is foreign.
+-- What a sink means: its state after an item, its reply to it, and whether the adjusted current node is foreign.
 use Rattle.std.specs.Prelude.{Bool}
 use Rattle.html_lexemes.specs.declared.token.TokenSinkResult.{TokenSinkResult}
 use Rattle.html_grammar.specs.Items.{Item}

@@ -33,7 +33,7 @@ abbrev pub last_behind : TagKind → List ℕ → Option (List ℕ) → Option (
 last_behind StartTag name last = Some name
 last_behind EndTag name last = last
 
--- the mode behind a tag
+-- the mode after a tag
 abbrev pub mode_behind : {H : Type 0} → Mode → Tag → TokenSinkResult H → Mode
 mode_behind mode t answer =
     record { text = text_behind answer; last_start_tag = last_behind t.kind t.name mode.last_start_tag }

@@ -1,4 +1,4 @@
--- The reading of a page: its lexemes in order, folded with a sink's step, whose answers choose how the text behind a
+-- The reading of a page: its lexemes in order, folded with a sink's step, whose answers choose how the text after a
 -- tag is read.
 use Rattle.std.specs.Prelude.{◌≡◌, ℕ, List, [], ◌∷◌, ◌++◌, fold}
 use Rattle.reference_tables.specs.References.{References}
@@ -10,7 +10,7 @@ use Rattle.html_grammar.specs.Modes.{mode_behind}
 use Rattle.html_grammar.specs.declared.modes.Mode.{Mode}
 use Rattle.html_lexemes.specs.declared.token.Tag.{Tag}
 
--- In a mode and from a state of the sink, a text leaves the sink in a state; the end is told last.
+-- In a mode and from a state of the sink, a text leaves the sink in a state; the end is emitted last.
 pub data Reading {A H : Type 0} (table : References) (means : Meaning A H) : Mode → A → List ℕ → A → Type 0 where
   ends : (mode : Mode) (state : A) (cs : List ℕ) (final : A) →
       lexeme table (means.foreign state) mode cs ≡ nothing → final ≡ means.step state end_of_file →
@@ -45,7 +45,7 @@ IsAnswered error = ⊥
 IsAnswered end_of_file = ⊥
 
 -- What a sink keeps to: texts that follow each other are as one, an empty text changes nothing, a tag alone is
--- answered, what a sink asks for stays, and an error changes at most how a LF right behind it is taken.
+-- answered, what a sink asks for stays, and an error changes at most how a LF right after it is taken.
 pub record IsLawful {A H : Type 0} (means : Meaning A H) (ready : A → Type 0) : Type 0 where
   pub joins : (state : A) (cs ds : List ℕ) →
       means.step (means.step state (characters cs)) (characters ds) ≡ means.step state (characters (cs ++ ds))
@@ -57,6 +57,6 @@ pub record IsLawful {A H : Type 0} (means : Meaning A H) (ready : A → Type 0) 
   pub still_answers : (state : A) (item : Item) → means.reply (means.step state error) item ≡ means.reply state item
   pub still_foreign : (state : A) → means.foreign (means.step state error) ≡ means.foreign state
 
--- A sink that was told all is told that it is over, once.
+-- A sink that was given all is notified of the end, once.
 abbrev pub IsClosed : {A : Type 0} → (A → A) → (A → Type 0) → A → Type 0
 IsClosed {A} close reads closed = (final : A) × (reads final × (closed ≡ close final))

@@ -9,7 +9,7 @@ use Rattle.reference_tables.specs.References.{References}
 use Rattle.html_grammar.specs.Characters.{is_alphanumeric, is_between, is_digit, shown}
 use Rattle.html_grammar.specs.Slices.{begins, first_passes, front_while, rest_while}
 
--- a reference that stands behind a `&`: its characters, whether a semicolon ends it, and what follows it
+-- a reference that stands after a `&`: its characters, whether a semicolon ends it, and what follows it
 pub record Found : Type 0 where
   pub characters : List ℕ
   pub closed : Bool
@@ -52,7 +52,7 @@ numbered n = if n == 0 || is_between 0xD800 0xDFFF n || nat_lt 0x10FFFF n then 0
 abbrev pub number_of : ℕ → List ℕ → ℕ
 number_of base digits = fold (λ n d. n * base + digit_value d) 0 digits
 
--- behind `#`, or behind `#x`: digits, at least one, and an optional semicolon
+-- after `#`, or after `#x`: digits, at least one, and an optional semicolon
 abbrev pub numeric_of : ℕ → List ℕ → List ℕ → Option Found
 numeric_of base digits rest =
     if length digits == 0
@@ -72,7 +72,7 @@ is_x c = c == 120 || c == 88
 abbrev pub behind_number_sign : List ℕ → Option Found
 behind_number_sign cs = if first_passes is_x cs then numeric 16 (drop 1 cs) else numeric 10 cs
 
--- The reference that stands behind a `&`, if there is one: a number behind `#`, else the longest name that follows.
+-- The reference that stands after a `&`, if there is one: a number after `#`, else the longest name that follows.
 abbrev pub reference : References → List ℕ → Option Found
 reference table cs = if begins (35 ∷ []) cs then behind_number_sign (drop 1 cs) else named table cs
 

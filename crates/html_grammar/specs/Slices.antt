@@ -36,7 +36,7 @@ after mark cs = if begins mark cs then Some (drop (length mark) cs) else None
 abbrev pub after_word : List ℕ → List ℕ → Option (List ℕ)
 after_word word cs = if begins_word word cs then Some (drop (length word) cs) else None
 
--- a slice of a text, and what follows the mark behind it
+-- a slice of a text, and what follows the mark after it
 pub record Cut : Type 0 where
   pub slice : List ℕ
   pub rest : List ℕ

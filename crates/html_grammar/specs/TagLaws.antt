@@ -18,7 +18,7 @@ pub data IsPartOf {T : Type 0} : List T → List T → Type 0 where
   stays : (x : T) (part whole : List T) → IsPartOf part whole → IsPartOf (x ∷ part) (x ∷ whole)
   goes : (x : T) (part whole : List T) → IsPartOf part whole → IsPartOf part (x ∷ whole)
 
--- it stands in a list where no earlier one has its name, and behind some others
+-- it stands in a list where no earlier one has its name, and after some others
 pub record IsFirstOfName (a : Attribute) (others written : List Attribute) : Type 0 where
   pub front : List Attribute
   pub back : List Attribute
@@ -46,12 +46,12 @@ pub data IsValue (table : References) : List ℕ → List ℕ → Type 0 where
       reference_in_value table cs ≡ Some (record { characters = characters; closed = closed; rest = rest }) →
       IsValue table rest value → IsValue table (38 ∷ cs) (characters ++ value)
 
--- A slice whose characters pass, as far as they do: behind it stands one that does not, or the end.
+-- A slice whose characters pass, as far as they do: after it stands one that does not, or the end.
 pub record IsRun (p : ℕ → Bool) (slice behind : List ℕ) : Type 0 where
   pub pass : AllPass p slice
   pub stops : first_passes p behind ≡ false
 
--- What an attribute has behind its name: a slice, the value as it is written there, and what follows
+-- What an attribute has after its name: a slice, the value as it is written there, and what follows
 -- (WHATWG HTML, 13.2.5.34 to 13.2.5.39).
 pub data IsValueSlice : List ℕ → List ℕ → List ℕ → Type 0 where
   -- nothing, where no `=` stands there, over spaces
@@ -67,7 +67,7 @@ pub data IsValueSlice : List ℕ → List ℕ → List ℕ → Type 0 where
       AllPass is_space before → AllPass is_space after → is_quote quote ≡ true →
       AllPass (λ c. not (c == quote)) value → IsValueSlice slice value behind
 
--- An attribute at the front of a text, and what follows it: its name, and what it has behind that (13.2.5.32 and
+-- An attribute at the front of a text, and what follows it: its name, and what it has after that (13.2.5.32 and
 -- 13.2.5.33). The first character of the name is of no gap and not `>`; the others go up to one that ends a name.
 pub record IsAttributeSlice (table : References) (cs : List ℕ) (a : Attribute) (behind : List ℕ) : Type 0 where
   pub first : ℕ
@@ -82,7 +82,7 @@ pub record IsAttributeSlice (table : References) (cs : List ℕ) (a : Attribute)
   pub is_value : IsValue table written value
   pub is : a ≡ attribute (name_of (first ∷ others)) value
 
--- What stands behind a tag's name: its attributes as they are written, each behind a gap, and behind a last gap the
+-- What stands after a tag's name: its attributes as they are written, each after a gap, and after a last gap the
 -- `>`; whether a `/` stands directly before that; and what follows.
 pub data AreWritten (table : References) : List ℕ → List Attribute → Bool → List ℕ → Type 0 where
   closes : (gap rest cs : List ℕ) → cs ≡ gap ++ greater ∷ rest → AllPass is_gap gap →
@@ -91,7 +91,7 @@ pub data AreWritten (table : References) : List ℕ → List Attribute → Bool 
       cs ≡ gap ++ text → AllPass is_gap gap → IsAttributeSlice table text a behind →
       AreWritten table behind others closing rest → AreWritten table cs (a ∷ others) closing rest
 
--- A tag at the front of a text, and what follows it: its name, and what stands behind that.
+-- A tag at the front of a text, and what follows it: its name, and what stands after that.
 pub record IsTagSlice (table : References) (kind : TagKind) (cs : List ℕ) (t : Tag) (rest : List ℕ) : Type 0 where
   pub name : List ℕ
   pub behind : List ℕ

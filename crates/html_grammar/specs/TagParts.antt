@@ -21,16 +21,16 @@ attribute_and_rest p = (p.0, chars p.1.now)
 abbrev pub is_named : List ℕ → List Attribute → Bool
 is_named name attributes = list_any (λ a. bytes_eq a.name.local name) attributes
 
--- the attributes, and behind them another, unless its name came before
+-- the attributes, and after them another, unless its name came before
 abbrev pub with_new : List Attribute → Attribute → List Attribute
 with_new attributes a = if is_named a.name.local attributes then attributes else attributes ++ a ∷ []
 
--- A set has the names of the attributes behind the first few.
+-- A set has the names of the attributes after the first few.
 abbrev pub HasLaterNames : BTreeSet LocalName → List Attribute → Type 0
 HasLaterNames later attributes = (name : List ℕ) → contains (slice_cmp nat_cmp) later name
     ≡ is_named name (drop SEARCHED attributes)
 
--- A tag and what follows it, from what stands behind its name and its first attributes: of these some were kept, and
+-- A tag and what follows it, from what stands after its name and its first attributes: of these some were kept, and
 -- whether another was dropped is known.
 abbrev pub tag_from : TagKind → List ℕ → List Attribute → Bool → TagEnd → Tag × List ℕ
 tag_from kind name kept dropped end = (

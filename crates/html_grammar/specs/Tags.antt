@@ -38,7 +38,7 @@ is_gap c = is_space c || c == slash
 abbrev pub without_spaces : List ℕ → List ℕ
 without_spaces cs = rest_while is_space cs
 
--- the value that stands behind `=`, as it is written, and what follows it: none where its quote is not closed
+-- the value that stands after `=`, as it is written, and what follows it: none where its quote is not closed
 abbrev pub written_value : List ℕ → Option Cut
 written_value [] = Some (record { slice = []; rest = [] })
 written_value (c ∷ cs) =
@@ -49,7 +49,7 @@ written_value (c ∷ cs) =
       rest = rest_while (λ d. not (ends_unquoted d)) (c ∷ cs);
     })
 
--- behind an attribute's name, over spaces, an optional `=` and, over spaces, a value
+-- after an attribute's name, over spaces, an optional `=` and, over spaces, a value
 abbrev pub value_behind : List ℕ → Option Cut
 value_behind cs =
     if begins (equals ∷ []) (without_spaces cs)
@@ -70,7 +70,7 @@ attribute_at table c cs =
     ))
     (value_behind (rest_while (λ d. not (ends_attribute_name d)) cs))
 
--- what stands behind a tag's name: its attributes as they are written, whether `/` stands directly before its `>`, and
+-- what stands after a tag's name: its attributes as they are written, whether `/` stands directly before its `>`, and
 -- what follows
 pub record TagEnd : Type 0 where
   pub attributes : List Attribute

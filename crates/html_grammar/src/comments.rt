@@ -11,7 +11,7 @@ use crate::slices::{behind, cut_at_character, first_and_rest};
 use html_lexemes::Text;
 use std::alloc::{AllocError, Global};
 
-/// The slice of a comment behind its `<!--`, and what follows its end mark (WHATWG HTML, 13.2.5.43 to 13.2.5.52).
+/// The slice of a comment after its `<!--`, and what follows its end mark (WHATWG HTML, 13.2.5.43 to 13.2.5.52).
 pub fn comment_slice(text: &str) -> (&str, &str)
     ensures value { cut_of result ≡ comment_slice (chars text.now) }
     ensures slice_utf8 { IsUtf8 result.0.now }

@@ -11,7 +11,7 @@ use crate::tags::name_of;
 use html_lexemes::Doctype;
 use std::alloc::{AllocError, Global};
 
-/// The doctype behind `<!doctype`, and what follows it (WHATWG HTML, 13.2.5.53 to 13.2.5.68). The error is allocation
+/// The doctype after `<!doctype`, and what follows it (WHATWG HTML, 13.2.5.53 to 13.2.5.68). The error is allocation
 /// failure alone.
 pub fn doctype_at(alloc: Global, text: &str) -> Result<(Doctype, &str), AllocError>
     ensures value { IfOk result (λ read. doctype_and_rest read ≡ doctype_at (chars text.now)) }
@@ -31,7 +31,7 @@ pub fn doctype_at(alloc: Global, text: &str) -> Result<(Doctype, &str), AllocErr
     behind_keyword(alloc, doctype, skip(rest, CharacterClass::Space))
 }
 
-// what stands behind a name, over spaces
+// what stands after a name, over spaces
 fn behind_keyword(
     alloc: Global,
     doctype: Doctype,
@@ -53,7 +53,7 @@ fn behind_keyword(
     }
 }
 
-// a public identifier, and perhaps a system identifier behind it
+// a public identifier, and perhaps a system identifier after it
 fn behind_public(alloc: Global, doctype: Doctype, text: &str) -> Result<(Doctype, &str), AllocError>
     ensures value { IfOk result (λ read. doctype_and_rest read ≡ behind_public doctype (chars text.now)) }
     ensures utf8 { IfOk result (λ read. IsUtf8 read.1.now) }
@@ -64,7 +64,7 @@ fn behind_public(alloc: Global, doctype: Doctype, text: &str) -> Result<(Doctype
     }
 }
 
-// a public identifier behind its quote, and perhaps a system identifier
+// a public identifier after its quote, and perhaps a system identifier
 fn public_at(
     alloc: Global,
     mut doctype: Doctype,
@@ -86,7 +86,7 @@ fn public_at(
     }
 }
 
-// a system identifier, behind its quote
+// a system identifier, after its quote
 fn system_at(
     alloc: Global,
     mut doctype: Doctype,
@@ -127,7 +127,7 @@ fn behind_closing_quote(text: &str, quote: char) -> Option<&str>
     if first == quote { Some(rest) } else { None }
 }
 
-// behind a system identifier: the end sets the flag, and what else stands there is skipped
+// after a system identifier: the end sets the flag, and what else stands there is skipped
 fn behind_system(doctype: Doctype, text: &str) -> (Doctype, &str)
     ensures value { doctype_and_rest result ≡ behind_system doctype (chars text.now) }
     ensures utf8 { IsUtf8 result.1.now }

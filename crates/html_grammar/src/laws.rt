@@ -20,7 +20,7 @@ pub fn some_reading<S: TokenSink>()
         (final : S.Abstract) × Reading table S.means mode state text final }
 {}
 
-/// In text that isn't ordinary only characters, errors, end tags and nothing are read, and only behind a tag ordinary
+/// In text that isn't ordinary only characters, errors, end tags and nothing are read, and only after a tag ordinary
 /// text follows it.
 pub fn text_of_a_kind()
     ensures { (table : References) (foreign : Bool) (mode : SeenMode) (text : List ℕ) →

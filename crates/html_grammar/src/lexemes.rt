@@ -32,9 +32,9 @@ use std::alloc::{AllocError, Global};
 pub enum Lexeme<'t> {
     /// Nothing: the end, also in a tag.
     Nothing,
-    /// Some tokens, the kind of the text behind them, and that text.
+    /// Some tokens, the kind of the text after them, and that text.
     Told(Vec<Token>, TextKind, &'t str),
-    /// A tag, and the text behind it.
+    /// A tag, and the text after it.
     Tagged(Tag, &'t str),
 }
 
@@ -124,7 +124,7 @@ fn ordinary<'t>(
     }
 }
 
-/// What a `&` begins, from behind it on (WHATWG HTML, 13.2.5.72). The error is allocation failure alone.
+/// What a `&` begins, from after it on (WHATWG HTML, 13.2.5.72). The error is allocation failure alone.
 pub fn reference_or_sign<'t>(
     alloc: Global,
     table: &ReferenceTable,
@@ -152,7 +152,7 @@ pub fn reference_or_sign<'t>(
     Ok(Lexeme::Told(tokens, mode.text, rest))
 }
 
-// what is said of a reference without its semicolon, from behind its `&` on
+// what is said of a reference without its semicolon, from after its `&` on
 fn without_semicolon(reference: &str) -> ErrorMessage {
     ErrorMessage::Fixed(if reference.starts_with('#') {
         "Semicolon missing after numeric character reference"
@@ -161,7 +161,7 @@ fn without_semicolon(reference: &str) -> ErrorMessage {
     })
 }
 
-/// What a `<` begins in ordinary text, from behind it on (WHATWG HTML, 13.2.5.6). The error is allocation failure
+/// What a `<` begins in ordinary text, from after it on (WHATWG HTML, 13.2.5.6). The error is allocation failure
 /// alone.
 pub fn markup<'t>(
     alloc: Global,
@@ -204,7 +204,7 @@ pub fn tag_or_nothing<'t>(
     }
 }
 
-/// What a `</` begins in ordinary text, from behind it on (WHATWG HTML, 13.2.5.7). The error is allocation failure
+/// What a `</` begins in ordinary text, from after it on (WHATWG HTML, 13.2.5.7). The error is allocation failure
 /// alone.
 pub fn end_tag<'t>(
     alloc: Global,
@@ -244,7 +244,7 @@ pub fn comment<'t>(
     told_one(alloc, Token::CommentToken(text), mode.text, rest)
 }
 
-/// What a `<!` begins, from behind it on (WHATWG HTML, 13.2.5.42). The error is allocation failure alone.
+/// What a `<!` begins, from after it on (WHATWG HTML, 13.2.5.42). The error is allocation failure alone.
 pub fn declaration<'t>(
     alloc: Global,
     foreign: bool,
@@ -266,7 +266,7 @@ pub fn declaration<'t>(
     }
 }
 
-/// What a `<!doctype` begins, from behind it on (WHATWG HTML, 13.2.5.53). The error is allocation failure alone.
+/// What a `<!doctype` begins, from after it on (WHATWG HTML, 13.2.5.53). The error is allocation failure alone.
 pub fn doctype<'t>(alloc: Global, mode: &Mode, text: &'t str) -> Result<Lexeme<'t>, AllocError>
     ensures value { IfOk result (λ l. lexeme_of mode.now l ≡ doctype_lexeme mode.now (doctype_at (chars text.now))) }
     ensures utf8 { IfOk result HasRest }
@@ -287,7 +287,7 @@ fn section_text(foreign: bool, text: &str) -> Option<&str>
     behind(text, "[CDATA[")
 }
 
-/// The text of a CDATA section, from behind its opening, and what follows it (WHATWG HTML, 13.2.5.69). The error is
+/// The text of a CDATA section, from after its opening, and what follows it (WHATWG HTML, 13.2.5.69). The error is
 /// allocation failure alone.
 pub fn section<'t>(alloc: Global, mode: &Mode, text: &'t str) -> Result<Lexeme<'t>, AllocError>
     ensures value { IfOk result (λ l. lexeme_of mode.now l
@@ -422,7 +422,7 @@ fn ends_name(text: &str) -> bool
     }
 }
 
-// the kind of the text behind a first character of script data (WHATWG HTML, 13.2.5.18 to 13.2.5.31)
+// the kind of the text after a first character of script data (WHATWG HTML, 13.2.5.18 to 13.2.5.31)
 fn kind_behind(kind: RawKind, text: &str) -> RawKind
     ensures { result ≡ kind_behind kind (chars text.now) }
 {
@@ -470,7 +470,7 @@ fn begins(text: &str, mark: &str) -> bool
     behind(text, mark).is_some()
 }
 
-// whether a text begins with a word, ASCII case aside, and a tag's name ends behind it
+// whether a text begins with a word, ASCII case aside, and a tag's name ends after it
 fn begins_tag(text: &str, word: &str) -> bool
     ensures { result ≡ begins_tag (chars word.now) (chars text.now) }
 {

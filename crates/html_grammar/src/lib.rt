@@ -1,16 +1,16 @@
-//! The grammar of a page's text, and its reading: what a page tells to a sink of tokens.
+//! The grammar of a page's text, and its reading: what a page emits to a sink of tokens.
 //!
 //! # What is proved
 //!
 //! - `TokenSink`: what a sink promises: the state after a token is its step, its answer its reply, by an item
 //!   without wording and lines (`means`, of `Meaning.antt`); a token that it welcomes it refuses only if allocation
-//!   fails, and so its end behind an end that it welcomed; the laws `IsLawful` and `IsHearing`
+//!   fails, and so its end after an end that it welcomed; the laws `IsLawful` and `IsHearing`
 //! - `TokenizerOpts::default`: the options that it gives (`default_options`)
 //! - `read_plainly`: for every sink that keeps the laws, and is ready for the kind of text in which the page
 //!   begins: where it isn't refused, the sink is left as the reading of the page's text leaves it, in the mode that
 //!   the options name, and the end is emitted last; it is refused only if allocation fails (`memory`)
 //! - `text_of_a_kind`: a law: in text that isn't ordinary only characters, errors, end tags and nothing are read,
-//!   and only behind a tag ordinary text follows it
+//!   and only after a tag ordinary text follows it
 //! - `first_of_each_name`: a law: the attributes that stay are the first of each name, in the order of the tag,
 //!   none is lost, and there is one such list
 //! - `value_in_turn`: a law: an attribute's value is its characters and references in turn, and nothing else is

@@ -20,7 +20,7 @@ use std::alloc::{AllocError, Global};
 
 /// Tells a whole page to a sink, as the grammar reads it, and that it ends. It is slow and plain: what a tokenizer is
 /// compared with, and no tokenizer. Pauses that the sink asks for are passed over, each token stands at
-/// line 1, and errors that change nothing aren't told.
+/// line 1, and errors that change nothing aren't emitted.
 ///
 /// The error is allocation failure; then nothing is known of the sink.
 pub fn read_plainly<S: TokenSink>(
@@ -118,7 +118,7 @@ pub fn tell_tokens<S: TokenSink>(
     Ok(())
 }
 
-// tells a tag, and gives the mode behind it
+// emits a tag, and gives the mode after it
 fn tell_tag<S: TokenSink>(sink: &mut S, mode: Mode, tag: Tag, line: u64) -> Result<Mode, ParseFault>
     requires ready { S.ready (S.state sink.old) }
     requires welcome { S.welcomes (S.state sink.old) (tag_item tag) }
@@ -136,7 +136,7 @@ fn tell_tag<S: TokenSink>(sink: &mut S, mode: Mode, tag: Tag, line: u64) -> Resu
     })
 }
 
-/// The name of the last start tag behind a tag. The error is allocation failure alone.
+/// The name of the last start tag after a tag. The error is allocation failure alone.
 pub fn last_behind(last: Option<LocalName>, tag: &Tag) -> Result<Option<LocalName>, AllocError>
     ensures { IfOk result (λ name. name ≡ last_behind tag.now.kind tag.now.name last) }
 {

@@ -16,7 +16,7 @@ use crate::slices::{CharacterClass, behind, first_and_rest, split_while};
 use html_lexemes::{ReferenceTable, Text};
 use std::alloc::{AllocError, Global};
 
-/// A reference that stands behind a `&`.
+/// A reference that stands after a `&`.
 #[derive(Drop)]
 pub struct Found<'t> {
     /// What it stands for.
@@ -27,7 +27,7 @@ pub struct Found<'t> {
     pub rest: &'t str,
 }
 
-/// The reference that stands behind a `&`, if there is one (WHATWG HTML, 13.2.5.72). The error is allocation failure
+/// The reference that stands after a `&`, if there is one (WHATWG HTML, 13.2.5.72). The error is allocation failure
 /// alone.
 pub fn reference<'t>(
     alloc: Global,
@@ -43,7 +43,7 @@ pub fn reference<'t>(
     }
 }
 
-/// The reference that stands behind a `&` in an attribute's value (WHATWG HTML, 13.2.5.73): a name without its
+/// The reference that stands after a `&` in an attribute's value (WHATWG HTML, 13.2.5.73): a name without its
 /// semicolon is none before `=`, a letter or a digit. The error is allocation failure alone.
 pub fn reference_in_value<'t>(
     alloc: Global,
@@ -102,7 +102,7 @@ fn is_shown(text: &str) -> bool
     !text.contains('&') && !text.contains('\0')
 }
 
-// the reference behind a character of an attribute's value, which is one behind `&` alone
+// the reference after a character of an attribute's value, which is one after `&` alone
 fn reference_behind<'t>(
     alloc: Global,
     table: &ReferenceTable,
@@ -159,7 +159,7 @@ fn is_closed(name: &str) -> bool
     name.contains(';')
 }
 
-// the number behind `#`
+// the number after `#`
 fn numeric(alloc: Global, text: &str) -> Result<Option<Found<'_>>, AllocError>
     ensures value { IfOk result (λ found. option_map found_of found ≡ behind_number_sign (chars text.now)) }
     ensures utf8 { IfOk result (λ found. IfSome found (λ f. IsUtf8 f.rest.now)) }

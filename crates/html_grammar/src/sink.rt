@@ -9,8 +9,8 @@ use html_lexemes::states::State;
 use html_lexemes::{LocalName, ParseFault, Token, TokenSinkResult};
 use std::alloc::AllocError;
 
-/// What tokens are told to. Contracts see an abstract state, and what the sink `means` by it: its step over what is
-/// told, its reply, and whether the adjusted current node is foreign; nothing depends on the wording of errors or on
+/// What tokens are emitted to. Contracts see an abstract state, and what the sink `means` by it: its step over what is
+/// emitted, its reply, and whether the adjusted current node is foreign; nothing depends on the wording of errors or on
 /// lines. A state in which a sink may be called is `ready`; what it `welcomes` there it refuses since allocation fails
 /// alone.
 pub trait TokenSink {
@@ -29,7 +29,7 @@ pub trait TokenSink {
 
     ghost close: { Abstract → Abstract };
 
-    /// Takes a token that stands at a line, and says how the text behind it is to be read. After a
+    /// Takes a token that stands at a line, and says how the text after it is to be read. After a
     /// refusal nothing is known of the sink.
     fn process_token(
         &mut self,
@@ -41,7 +41,7 @@ pub trait TokenSink {
         ensures reply { IfOk result (λ answer. answer ≡ means.reply (state self.old) (item_of token)) }
         ensures refused { welcomes (state self.old) (item_of token) → IfErr result (λ e. e ≡ Memory) };
 
-    /// Says that nothing more is told. It is called once, behind the end of the page.
+    /// Says that nothing more is emitted. It is called once, after the end of the page.
     fn end(&mut self) -> Result<(), ParseFault>
         requires { ready (state self.old) }
         ensures closed { IfOk result (λ _. state self.new ≡ close (state self.old)) }
@@ -63,7 +63,7 @@ pub trait TokenSink {
 /// How a page's text is read.
 #[derive(Drop)]
 pub struct TokenizerOpts {
-    /// Whether errors are told with what stood there.
+    /// Whether errors are emitted with what stood there.
     pub exact_errors: bool,
     /// Whether a first U+FEFF is dropped.
     pub discard_bom: bool,

@@ -113,7 +113,7 @@ fn is_first(attributes: &[Attribute], name: &LocalName) -> bool
         .any(|a| a.name.local == *name)
 }
 
-// adds the name of an attribute that stands behind so many others, unless it is one of the first
+// adds the name of an attribute that stands after so many others, unless it is one of the first
 fn add_later(
     later: &mut BTreeSet<LocalName>,
     before: usize,
@@ -129,7 +129,7 @@ fn add_later(
     Ok(())
 }
 
-// the attribute that a text begins with, whose first character is given with what is behind it, and what follows it
+// the attribute that a text begins with, whose first character is given with what is after it, and what follows it
 fn attribute_at<'t>(
     alloc: Global,
     table: &ReferenceTable,
@@ -175,7 +175,7 @@ fn attribute_name<'t>(
     Ok((name, rest))
 }
 
-// the value behind an attribute's name as it is written, and what follows it
+// the value after an attribute's name as it is written, and what follows it
 fn value_behind(text: &str) -> Option<(&str, &str)>
     ensures value { option_map cut_of result ≡ value_behind (chars text.now) }
     ensures slice_utf8 { IfSome result (λ r. IsUtf8 r.0.now) }
@@ -189,7 +189,7 @@ fn value_behind(text: &str) -> Option<(&str, &str)>
     written_value(value)
 }
 
-// the value behind `=` as it is written, and what follows it
+// the value after `=` as it is written, and what follows it
 fn written_value(text: &str) -> Option<(&str, &str)>
     ensures value { option_map cut_of result ≡ written_value (chars text.now) }
     ensures slice_utf8 { IfSome result (λ r. IsUtf8 r.0.now) }
@@ -239,7 +239,7 @@ fn lowered(alloc: Global, text: &str) -> Result<Text, AllocError>
     Ok(Text::from(name))
 }
 
-// the same of a character and the text behind it
+// the same of a character and the text after it
 fn name_from(alloc: Global, first: char, text: &str) -> Result<Text, AllocError>
     ensures { IfOk result (λ name. name ≡ name_of (first ∷ chars text.now)) }
 {

@@ -56,7 +56,7 @@ pub begins : (bs : List ℕ) (c : ℕ) → IsUtf8 bs → slice_get (chars bs) 0 
     (rest : List ℕ) × (bs ≡ encode_utf8 c ++ rest)
 begins bs c u first = begins_by (chars bs) bs c (encodes-chars bs u) first
 
--- the place behind the first character of what is left
+-- the place after the first character of what is left
 pub record IsPastFirst (bs : List ℕ) (start c past : ℕ) : Type 0 where
   pub boundary : IsCharBoundary bs past
   pub parts : (c ∷ []) ++ chars (drop past bs) ≡ chars (drop start bs)

@@ -1,4 +1,4 @@
--- What is left of a text and the texts that wait behind it, as one.
+-- What is left of a text and the texts that wait after it, as one.
 use Rattle.std.proofs.Common.{◌≡◌, ℕ, ◌+◌, ◌-◌, ◌^◌, ◌<◌, min, Bool, true, false, cond, eqb, List, [], ◌∷◌, ◌++◌}
 use Rattle.std.proofs.Common.{length, All, Result, Ok, Err, OnOk, OnErr, String, string_bytes, chars}
 use Rattle.std.proofs.Common.{slice_get, refl, sym, ap, subst, ◌∙◌, arith, append-nil, append_assoc}

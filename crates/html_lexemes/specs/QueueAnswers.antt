@@ -12,7 +12,7 @@ PopsExcept set old (Some (NotFromSet run)) new =
     Takes old (chars (string_bytes run)) new × (0 < length (chars (string_bytes run)))
     × IsTrue (is_free_of set (chars (string_bytes run)))
 
--- a run of characters outside the set was taken, and stands behind what the text was before
+-- a run of characters outside the set was taken, and stands after what the text was before
 pub record PopsRun (set : List ℕ) (old : Queue) (before : List ℕ) (new : Queue) (behind : List ℕ) : Type 0 where
   pub cs : List ℕ
   pub takes : Takes old cs new

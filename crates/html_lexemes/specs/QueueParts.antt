@@ -35,12 +35,12 @@ joined (text ∷ texts) = chars (string_bytes text) ++ joined texts
 abbrev pub IsFilled : {Z : Type 0} → String Z → Type 0
 IsFilled text = 0 < length (chars (string_bytes text))
 
--- what is left of a text, and those that wait behind it: none of these is empty, and none waits where nothing is left
+-- what is left of a text, and those that wait after it: none of these is empty, and none waits where nothing is left
 pub record IsWaiting {Z : Type 0} (first : List ℕ) (later : List (String Z)) : Type 0 where
   pub filled : All IsFilled later
   pub last : first ≡ [] → later ≡ []
 
--- so many characters outside the set were taken, and stand behind what the text was before: at least one, where the
+-- so many characters outside the set were taken, and stand after what the text was before: at least one, where the
 -- first is not in the set
 pub record TakesRun (set old before new behind : List ℕ) (count : ℕ) : Type 0 where
   pub cs : List ℕ

@@ -61,7 +61,7 @@ impl Attributes {
         }
     }
 
-    /// Adds an attribute behind the others. The error is allocation failure alone, and leaves the attributes as they
+    /// Adds an attribute after the others. The error is allocation failure alone, and leaves the attributes as they
     /// were.
     pub fn push(&mut self, attribute: Attribute) -> Result<(), AllocError>
         ensures ok { OnOk result (self.new ≡ self.old ++ attribute ∷ []) }

@@ -87,7 +87,7 @@ impl FirstText {
         mem::replace(&mut self.text, String::new(alloc))
     }
 
-    /// Takes a run of characters, none of which is in the set, and adds it behind a text; how many they were. There is
+    /// Takes a run of characters, none of which is in the set, and adds it after a text; how many they were. There is
     /// one, where the first character is not in the set. The error is allocation failure alone, and changes nothing.
     pub(crate) fn take_run(&mut self, set: &[char], run: &mut String) -> Result<usize, AllocError>
         ensures ok { IfOk result

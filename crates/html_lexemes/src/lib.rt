@@ -8,7 +8,7 @@
 //!   `==`, `<` and the hash are those of that list, and the laws of `Eq`, `Ord` and `Hash` hold. The order of the
 //!   bytes is shown to be that of the code points
 //! - `LocalName::from_known`, `known`: the name that a known name is; the known name that a name is, or `None`
-//! - `Namespace`, `QualName`, `Attribute`, `Attributes`: `try_clone` equals its source; `push` adds behind;
+//! - `Namespace`, `QualName`, `Attribute`, `Attributes`: `try_clone` equals its source; `push` adds after;
 //!   comparisons by their parts, with their laws; `equal_names_are_the_same` (names and attributes are found equal
 //!   exactly where they are the same)
 //! - `Tag::equiv_modulo_attr_order`: true exactly where kind and name are equal and the attributes a permutation;
@@ -19,7 +19,7 @@
 //!   hashing with their laws
 //! - `BufferQueue`: seen as one text and a count: `new`, `is_empty`, `peek`, `push_back`, `push_front` exactly;
 //!   `next` and `pop_front` take a front and count it; `pop_except_from` takes a character of the set, or a run of
-//!   others, at least one; `pop_run_into` takes a run of others, perhaps none, and puts it behind a text; `eat`
+//!   others, at least one; `pop_run_into` takes a run of others, perhaps none, and puts it after a text; `eat`
 //!   answers `None` exactly where the queue ends inside a match, `Some(true)` and the match is taken, or
 //!   `Some(false)` at a character that differs, and nothing is taken; a refused call leaves the queue as it was
 //! - `Attributes::truncate`, `Attributes::share`: the first attributes alone; the attributes as they were, refused
@@ -30,7 +30,7 @@
 //!
 //! What is not pinned, so that a wrong body would still be proved: a `pop_run_into` that takes less than the
 //! longest run, or nothing; a `share` that shares nothing; a `push` that takes more room than the attribute needs.
-//! They would be slower or take more memory, and tell the same. `rt plant` has not run on these two.
+//! They would be slower or take more memory, and emit the same. `rt plant` has not run on these two.
 //!
 //! Only tested (in `token_rows`): the texts of the faults, and that calls succeed where memory is found, here and
 //! in the three crates before this one. `rt plant` lets through: other texts of faults.

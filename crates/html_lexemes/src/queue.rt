@@ -20,10 +20,10 @@ pub enum SetResult {
 }
 
 /// The characters that wait to be read. Contracts see one text, and how many characters were taken from
-/// its front, one that was put back and taken again counting again, up to 2^64 - 1; no call tells
+/// its front, one that was put back and taken again counting again, up to 2^64 - 1; no call says
 /// that number.
 ///
-/// A text that comes is kept as it is, behind those that wait: none is copied. It stays in memory until all of it is
+/// A text that comes is kept as it is, after those that wait: none is copied. It stays in memory until all of it is
 /// taken and another waits or comes. Taking is constant time for each character.
 pub struct BufferQueue {
     // nothing is left of the first only where no other waits, and none of those is empty
@@ -112,7 +112,7 @@ impl BufferQueue {
         Some(run)
     }
 
-    /// Adds a text behind what is left. The error is allocation failure alone, and leaves the queue as it was.
+    /// Adds a text after what is left. The error is allocation failure alone, and leaves the queue as it was.
     pub fn push_back(&mut self, text: String) -> Result<(), AllocError>
         ensures ok { OnOk result (self.new ≡ record {
           text = self.old.text ++ chars (string_bytes text);
@@ -164,7 +164,7 @@ impl BufferQueue {
         Ok(Some(SetResult::NotFromSet(run)))
     }
 
-    /// Takes a run of characters from the front, none of which is in the set, and adds it behind a text. It may be
+    /// Takes a run of characters from the front, none of which is in the set, and adds it after a text. It may be
     /// empty. The error is allocation failure alone, and leaves the queue and the text as they were.
     pub fn pop_run_into(&mut self, set: &[char], run: &mut String) -> Result<(), AllocError>
         ensures ok { OnOk result (PopsRun set.now self.old (string_bytes run.old) self.new (string_bytes run.new)) }

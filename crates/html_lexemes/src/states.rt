@@ -44,7 +44,7 @@ pub enum AttrValueKind {
 }
 
 /// A state of the tokenizer. Each name is that of the standard's state, with what the variant holds in place of
-/// the words that tell it apart.
+/// the words that distinguish it.
 #[derive(Clone, Copy, Debug, PartialEq, Eq, PartialOrd, Ord, Hash)]
 pub enum State {
     /// WHATWG HTML, 13.2.5.1.

@@ -124,7 +124,7 @@ impl ErrorMessage {
     }
 }
 
-/// What a tokenizer tells (WHATWG HTML, 13.2.5).
+/// What a tokenizer emits (WHATWG HTML, 13.2.5).
 #[derive(Drop, PartialEq, Eq)]
 pub enum Token {
     /// A doctype.

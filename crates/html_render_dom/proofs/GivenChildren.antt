@@ -1,4 +1,4 @@
--- The children of a node are given to another: the links behind it are those of the forest behind it.
+-- The children of a node are given to another: the links after it are those of the forest after it.
 use Rattle.std.proofs.Common.{◌≡◌, ℕ, ◌<◌, ◌⊎◌, inl, inr, List, [], ◌∷◌, ◌++◌, Option, None, Some, length}
 use Rattle.std.proofs.Common.{refl, sym, ap, ◌∙◌, subst}
 use Rattle.std.proofs.lemmas.Bool.{cases_eq}
@@ -33,7 +33,7 @@ before_parents ps (sibling n) l = refl
 same_edge : {p q : ℕ} → edge p ≡ edge q → p ≡ q
 same_edge e = ap holder e
 
--- what the links are behind it
+-- what the links are after it
 pub record IsGiven (from to : ℕ) (s : Spot) (c : ℕ) (last : Option ℕ) (l m : Links) : Type 0 where
   pub behind : (u : Spot) → ¬ (u ≡ s) → ¬ (u ≡ edge from) → behind_of u m ≡ behind_of u l
   pub before : (u : Spot) → ¬ (u ≡ sibling c) → ¬ (u ≡ edge to) → ¬ (u ≡ edge from) → before_of u m ≡ before_of u l
@@ -97,7 +97,7 @@ counted_given k from to c s last l count = counted_before k (edge from) None
     (counted_behind k (edge from) None (with_before (edge to) last (joined s (sibling c) l))
     (counted_before k (edge to) last (joined s (sibling c) l) (counted_joined k s (sibling c) l count)))
 
--- all chains behind it
+-- all chains after it
 pub record AreGiven (f g : Forest) (from to c : ℕ) (ds cs : List ℕ) : Type 0 where
   pub apart : ¬ (from ≡ to)
   pub children : children_at to f ≡ ds

@@ -96,7 +96,7 @@ beside_held held p n s t linked child is-s is-t =
       within : (c : ℕ) {ns : List ℕ} → IsIn c ns → children_at p (forest_of held) ≡ ns → Holds c (forest_of held)
       within c i whole = linked.forest.within p c (of_child p c (subst (IsIn c) (sym whole) i))
 
--- a node that is put behind the children of another
+-- a node that is put after the children of another
 pub below_held : (old new : Nodes) (p n : ℕ) (s : Option ℕ) (g : Forest) → IsLinked old → Holds p (forest_of old) →
     CanMove (below p) n (forest_of old) → IsForest g → children_at p g ≡ children_at p (forest_of old) ++ n ∷ [] →
     ((q : ℕ) → ¬ (q ≡ p) → children_at q g ≡ children_at q (forest_of old)) → nodes g ≡ nodes (forest_of old) →
@@ -214,7 +214,7 @@ given_facts f from to c cs is apart all none elsewhere size = record {
   size = size;
 }
 
--- the first child, and those behind it
+-- the first child, and those after it
 pub record StartsWith (c : ℕ) (cs : List ℕ) : Type 0 where
   pub rest : List ℕ
   pub whole : cs ≡ c ∷ rest

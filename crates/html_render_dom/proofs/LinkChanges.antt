@@ -41,7 +41,7 @@ pub holds_first : (p k : ℕ) (cs : List ℕ) → p < k → ((c : ℕ) → IsIn 
 holds_first p k [] hp below = hp
 holds_first p k (c ∷ cs) hp below = below c (inl refl)
 
--- what is right before a child, and right behind it
+-- what is right before a child, and right after it
 pub before_is : (p c : ℕ) (xs ys : List ℕ) (l : Links) → IsChain p (xs ++ c ∷ ys) l →
     link_at c l.previous ≡ number_at (last_spot (edge p) xs)
 before_is p c xs ys l chain = (run_right p (edge p) xs (c ∷ ys) l chain.run).0.before

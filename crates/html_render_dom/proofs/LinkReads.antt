@@ -1,4 +1,4 @@
--- What the links lead to behind a change of one of them, and of a few.
+-- What the links lead to after a change of one of them, and of a few.
 use Rattle.std.proofs.Common.{◌≡◌, ℕ, ◌<◌, List, Option, None, Some, length, refl, sym, ap, ◌∙◌, subst}
 use Rattle.std.proofs.lemmas.List.{get_or-set_same, get_or-set_other, length-set}
 use Rattle.html_render_dom.specs.Siblings.{AreCounted, AreNeighbours, Links, Spot, before_of, behind_of, edge}

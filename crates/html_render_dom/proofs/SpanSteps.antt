@@ -214,7 +214,7 @@ goes_last number can allowed s t n e =
     (let all : length s ≡ length t + 1 = ap length e ∙ length-append t (number n ∷ []) in omega (arith, all)) in
     record { on = λ _. (allowed t, tt, less); keeps = allowed t; rests = λ _. tt }
 
--- nothing is left behind a call that gave nothing
+-- nothing is left after a call that gave nothing
 pub none_given : (l : Links) (k : ℕ) (front back : Option ℕ) → back ≡ None → IsLeft l k front back →
     span l.next (length l.next) front back ≡ []
 none_given l k front back none w = ap (λ o. span l.next (length l.next) o back) (no_back l k front back none w)

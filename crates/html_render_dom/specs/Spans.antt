@@ -14,7 +14,7 @@ span next steps None back = []
 span next zero (Some c) back = []
 span next (suc steps) (Some c) back = c ∷ (if is_at c back then [] else span next steps (link_at c next) back)
 
--- children behind one, each beside the one before it, to the last
+-- children after one, each beside the one before it, to the last
 abbrev pub IsSpanFrom : Links → ℕ → List ℕ → Option ℕ → Type 0
 IsSpanFrom l c [] back = back ≡ Some c
 IsSpanFrom l c (d ∷ cs) back = AreNeighbours (sibling c) (sibling d) l × IsSpanFrom l d cs back

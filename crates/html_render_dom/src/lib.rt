@@ -19,7 +19,7 @@
 //!   `parse_error` keeps the errors, whether it is refused or not, and `finish` gives the tree as it is
 //! - `NodeData`, `Handle`: plain data
 //!
-//! `parse_error` keeps the message behind those before, `attach_declarative_shadow` answers false, and each call is
+//! `parse_error` keeps the message after those before, `attach_declarative_shadow` answers false, and each call is
 //! refused only if allocation fails. `rt plant` has run on this crate, before that last clause: of 53 wrong bodies
 //! that it could judge 31 were refused; it let through calls that refuse as `Failed`, which that clause refuses
 //! now, and the right body of `get_document`.

@@ -99,7 +99,7 @@ impl Nodes {
         result
     }
 
-    /// Puts a node that stands nowhere behind the children of another.
+    /// Puts a node that stands nowhere after the children of another.
     pub(crate) fn put_below(&mut self, parent: Handle, child: Handle)
         requires linked { IsLinked self.old }
         requires place { IsPlace (below (number_of parent)) (forest_of self.old) }
@@ -156,7 +156,7 @@ impl Nodes {
         }
     }
 
-    /// A node more, below another, behind its children.
+    /// A node more, below another, after its children.
     pub(crate) fn put_new_below(&mut self, parent: Handle, node: NodeData) -> Result<(), AllocError>
         requires linked { IsLinked self.old }
         requires plain { (element_of (kind_of node)).contents ≡ None }
@@ -224,7 +224,7 @@ impl Nodes {
         }
     }
 
-    /// Puts characters behind the children of a node.
+    /// Puts characters after the children of a node.
     pub(crate) fn say_below(&mut self, parent: Handle, words: Text) -> Result<(), AllocError>
         requires linked { IsLinked self.old }
         requires place { IsPlace (below (number_of parent)) (forest_of self.old) }
@@ -281,7 +281,7 @@ impl Nodes {
         self.add_attributes(target, more)
     }
 
-    /// Puts the children of a node behind those of another.
+    /// Puts the children of a node after those of another.
     pub(crate) fn reparent(&mut self, from: Handle, to: Handle)
         requires linked { IsLinked self.old }
         requires can { CanReparent (number_of from) (number_of to) (forest_of self.old) }

@@ -45,7 +45,7 @@ impl Nodes {
         handle_at(self.items.len())
     }
 
-    /// The number behind the next, refused as that.
+    /// The number after the next, refused as that.
     pub(crate) fn next_but_one(&self) -> Result<Handle, AllocError>
         ensures { IfOk result (λ next. number_of next ≡ nodes (forest_of self.now) + 1) }
     {
@@ -103,7 +103,7 @@ impl Nodes {
         }
     }
 
-    /// The sibling right behind a child.
+    /// The sibling right after a child.
     #[inline(always)]
     pub(crate) fn next_sibling(&self, child: Handle) -> Option<Handle>
         requires { number_of child < length (kinds_of self.now) }
@@ -121,7 +121,7 @@ impl Nodes {
         self.items[child.number as usize].previous
     }
 
-    /// The child right behind a spot.
+    /// The child right after a spot.
     pub(crate) fn child_behind(&self, parent: Handle, spot: Option<Handle>) -> Option<Handle>
         requires { holder (spot_at parent spot) < length (kinds_of self.now) }
         ensures { option_map number_of result ≡ behind_of (spot_at parent spot) (links_of self.now) }
@@ -255,7 +255,7 @@ impl Nodes {
         }
     }
 
-    /// Puts the children of a node, from the first to the last, behind those of another.
+    /// Puts the children of a node, from the first to the last, after those of another.
     pub(crate) fn give(
         &mut self,
         from: Handle,

@@ -1,4 +1,4 @@
--- Rules of style that are seen alike: of them only what they declare tells.
+-- Rules of style that are seen alike: of them only what they declare counts.
 use std.Path.{fun_ext}
 use Rattle.std.proofs.Common.{◌≡◌, ℕ, ◌&&◌, Bool, true, false, List, [], ◌∷◌, ◌++◌, map, refl, sym, ap, ◌∙◌}
 use Rattle.std.proofs.Common.{if◌then◌else◌}

@@ -25,7 +25,7 @@ module _ {T : Type 0} (Makes : List T → List ℕ → List ℕ → Type 0) wher
   AreColoured (string ∷ strings) text = (made rest : List ℕ) × (text ≡ made ++ rest)
       × Makes string.tag.items (string_bytes string.s) made × AreColoured strings rest
 
-  -- and a newline behind each line
+  -- and a newline after each line
   abbrev pub AreColouredLines : List (TaggedLine (Vec T Global)) → List ℕ → Type 0
   AreColouredLines [] text = text ≡ []
   AreColouredLines (line ∷ lines) text = (made rest : List ℕ) × (text ≡ made ++ 10 ∷ rest)

@@ -24,7 +24,7 @@ use walk_laws::{TextRenderer, annotations_change_no_page, annotations_change_no_
 const MIN_WRAP_WIDTH: usize = 3;
 
 /// How a page is rendered. Text wraps at the width; a part that lacks columns is refused, and the targets of links
-/// don't stand behind the page.
+/// don't stand after the page.
 #[derive(Drop)]
 pub struct RenderConfig<D: TextDecorator> {
     decorator: D,
@@ -77,7 +77,7 @@ impl<D: TextDecorator + Drop> RenderConfig<D> {
         config
     }
 
-    /// Whether the targets of links stand behind the page.
+    /// Whether the targets of links stand after the page.
     pub fn link_footnotes(self, include: bool) -> RenderConfig<D>
         ensures setting { setting_of D.view result ≡ record (setting_of D.view self) {
           options = record (setting_of D.view self).options { include_link_footnotes = include };
@@ -90,7 +90,7 @@ impl<D: TextDecorator + Drop> RenderConfig<D> {
     }
 
     /// Whether links to equal targets, equal as texts, share one number and one footnote, where the targets of links
-    /// stand behind the page. They are numbered from 1 on in the order of their first links.
+    /// stand after the page. They are numbered from 1 on in the order of their first links.
     pub fn shared_footnotes(self, shared: bool) -> RenderConfig<D>
         ensures setting { setting_of D.view result ≡ with_options (setting_of D.view self)
             (record (setting_of D.view self).options { shared_footnotes = shared }) }
@@ -171,7 +171,7 @@ impl<D: TextDecorator + Drop> RenderConfig<D> {
         config
     }
 
-    /// The targets of links behind the page are not cut at the width.
+    /// The targets of links after the page are not cut at the width.
     pub fn no_link_wrapping(self) -> RenderConfig<D>
         ensures setting { setting_of D.view result ≡ with_options (setting_of D.view self)
             (record (setting_of D.view self).options { wrap_links = false }) }
@@ -242,8 +242,8 @@ impl<D: TextDecorator + Drop> RenderConfig<D> {
         self.min_wrap_width
     }
 
-    /// `*` stands before and behind emphasis and terms, `**` before and behind strong text, and a backquote before and
-    /// behind code: ten rules of the program, before all that stand. The error is allocation failure.
+    /// `*` stands before and after emphasis and terms, `**` before and after strong text, and a backquote before and
+    /// after code: ten rules of the program, before all that stand. The error is allocation failure.
     pub fn do_decorate(self, alloc: Global) -> Result<RenderConfig<D>, RenderError>
         ensures setting { IfOk result (λ c. setting_of D.view c ≡ setting_of D.view self) }
         ensures rules { IfOk result (λ c. IsDecorated (rules_of self) (rules_of c)) }
@@ -263,7 +263,7 @@ impl<D: TextDecorator + Drop> RenderConfig<D> {
         })
     }
 
-    /// Further rules of style, behind all that stand. The error is allocation failure.
+    /// Further rules of style, after all that stand. The error is allocation failure.
     pub fn style_rules(self, rules: Vec<StyleRule>) -> Result<RenderConfig<D>, RenderError>
         ensures setting { IfOk result (λ c. setting_of D.view c ≡ setting_of D.view self) }
         ensures rules { IfOk result (λ c. rules_of c ≡ rules_of self ++ rules.items) }
@@ -295,7 +295,7 @@ impl<D: TextDecorator + Drop> RenderConfig<D> {
         render_conversion::dom_to_render_tree(alloc, dom, self.rules.as_slice())
     }
 
-    // the renderers of the page behind its last value, which keep annotations or don't
+    // the renderers of the page after its last value, which keep annotations or don't
     fn laid(
         &self,
         alloc: Global,
@@ -442,7 +442,7 @@ impl<D: TextDecorator + Drop> RenderConfig<D> {
         }
     }
 
-    /// The text of a render tree: the characters of its lines, a line end behind each. Refused as `render_to_lines`.
+    /// The text of a render tree: the characters of its lines, a line end after each. Refused as `render_to_lines`.
     pub fn render_to_string(
         &self,
         alloc: Global,

@@ -15,7 +15,7 @@ use walk_laws::{
 };
 
 /// No line of a page passes its width, of two columns or more, where prefixes are steady, no part may pass it and links
-/// are wrapped: lines behind its last value among them.
+/// are wrapped: lines after its last value among them.
 pub fn pages_keep_the_width<D: TextDecorator>()
     ensures { (tag : D.Held → Mark → D.Annotation.Seen) → PagesKeepWidth (marking D.view tag) D.Annotation.seen
         D.view.closes }

@@ -15,7 +15,7 @@
 //!   and the rules of style that a configuration has, and that each call changes its own alone, to just this;
 //!   `raw_mode` takes the borders of tables away too, whichever mode is asked for
 //! - `RenderConfig::do_decorate`, `style_rules`: the ten rules that mark emphasis, strong text, terms and code
-//!   stand before all rules that stand; further rules stand behind them
+//!   stand before all rules that stand; further rules stand after them
 //! - `RenderConfig::options`, `narrowest_wrap`: the options and the narrowest wrap of the configuration
 //! - `RenderConfig::dom_to_render_tree`: exactly the values of the document by the table and the rules, whose lists
 //!   begin with numbers of 64 bits; `Fail` only where the page converts to nothing, never `TooNarrow`
@@ -41,7 +41,7 @@
 //! borders that become text, and the like); and 91 by hand, among them refused ones and tables with row spans and
 //! column spans of any number. Each page comes as a whole and a byte at a time, and its lines, with their tags and
 //! markers, are the model's or those written by hand. What is not pinned: that memory is found; what a decorator of
-//! another program puts behind the page is what its own contract says.
+//! another program puts after the page is what its own contract says.
 #![tactic(auto)]
 
 mod closing;

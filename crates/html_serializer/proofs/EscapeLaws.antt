@@ -1,4 +1,4 @@
--- An escape tells its text, and holds no markup.
+-- An escape emits its text, and holds no markup.
 use Rattle.std.proofs.Common.{◌≡◌, ℕ, ◌==◌, ◌&&◌, Bool, true, false, List, [], ◌∷◌, ◌++◌, drop, codes, Option, None}
 use Rattle.std.proofs.Common.{Some}
 use Rattle.std.proofs.Common.{if◌then◌else◌, refl, sym, ap, ◌∙◌, arith}
@@ -67,7 +67,7 @@ escaped-same v (c ∷ cs) (d ∷ ds) h =
     ap (λ (x : ℕ). x ∷ cs) (ap (λ (p : ℕ × List ℕ). p.0) e)
     ∙ ap (λ l. d ∷ l) (escaped-same v cs ds (ap (λ (p : ℕ × List ℕ). p.1) e))
 
--- a number that is in none of two lists is in none behind the other
+-- a number that is in none of two lists is in none after the other
 none_first : (b : Bool) (rest : Bool) → (if b then true else rest) ≡ false → (b ≡ false) × (rest ≡ false)
 none_first true rest h = cc
 none_first false rest h = (refl, h)

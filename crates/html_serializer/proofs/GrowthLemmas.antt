@@ -21,7 +21,7 @@ pub record IsWriting (old now : Option (List ℕ)) (bytes rest : List ℕ) (fail
 pub nothing_written : (a : Option (List ℕ)) (bytes : List ℕ) (failed : Bool) → IsWriting a a bytes bytes failed failed
 nothing_written a bytes failed = record { front = []; whole = refl; added = Appends-nil a; stays = λ h. h }
 
--- a front of the rest was written, and what is behind it is left
+-- a front of the rest was written, and what is after it is left
 pub more_written : {old a b : Option (List ℕ)} {bytes rest : List ℕ} {f g h : Bool} (front after : List ℕ)
     → IsWriting old a bytes rest f g → Appends a b front → rest ≡ front ++ after → (g ≡ true → h ≡ true)
     → IsWriting old b bytes after f h
@@ -69,7 +69,7 @@ pub grows_by_part : {old new : Option (List ℕ)} (bytes : List ℕ) → IsUtf8 
 grows_by_part bytes utf8 added =
     record { bytes = bytes; rest = []; utf8 = utf8; text = sym (append-nil (chars bytes)); added = added }
 
--- nothing, and one text behind another
+-- nothing, and one text after another
 pub grows_none : (a : Option (List ℕ)) → Grows [] a a
 grows_none a = record { bytes = []; utf8 = IsUtf8-nil; text = chars-nil; added = Appends-nil a }
 
@@ -81,7 +81,7 @@ grows_on {a} {b} {c} cs ds p q = record {
   added = Appends-trans a b c p.bytes q.bytes p.added q.added;
 }
 
--- a text, and a beginning of another behind it
+-- a text, and a beginning of another after it
 pub grows_on_part : {a b c : Option (List ℕ)} (cs ds : List ℕ) → Grows cs a b → GrowsPart ds b c
     → GrowsPart (cs ++ ds) a c
 grows_on_part {a} {b} {c} cs ds p q = record {
@@ -163,7 +163,7 @@ grows_as {a} {b} cs ds e = subst (λ l. Grows l a b) e
 pub grows_as_part : {a b : Option (List ℕ)} (cs ds : List ℕ) → cs ≡ ds → GrowsPart cs a b → GrowsPart ds a b
 grows_as_part {a} {b} cs ds e = subst (λ l. GrowsPart l a b) e
 
--- three texts, one behind the other: all of them, or up to a part of one
+-- three texts, one after the other: all of them, or up to a part of one
 pub three_texts : {o m n t : Option (List ℕ)} (a b c cs : List ℕ) → a ++ b ++ c ≡ cs → Grows a o m → Grows b m n
     → Grows c n t → Grows cs o t
 three_texts a b c cs e p q r = grows_as (a ++ b ++ c) cs e (grows_on (a ++ b) c (grows_on a b p q) r)

@@ -1,4 +1,4 @@
--- A walk that is told to a serializer whose writer is lent.
+-- A walk that is emitted to a serializer whose writer is lent.
 use Rattle.std.proofs.Common.{◌≡◌, ℕ, Bool, true, List, [], ◌∷◌, Option, refl, sym, ap, subst, ◌∙◌}
 use Rattle.std.specs.Prelude.{Result, Ok, Err, OnErr, OnOk}
 use Rattle.html_forest.specs.Forest.{Forest}
@@ -15,7 +15,7 @@ use Rattle.html_serializer.specs.declared.options.TraversalScope.{TraversalScope
 use Rattle.html_serializer.proofs.GrowthLemmas.{grows_none, part_of_all}
 use Rattle.html_serializer.proofs.WalkLemmas.{walk_is_written}
 
--- what is told to it is told to what writes, and the reference stays
+-- what is emitted to it is emitted to what writes, and the reference stays
 pub told_lent : (s u : Lent) (calls : List Call) (reply : Reply) → IsTold LentMeans s calls reply u
     → IsTold Means s.writing calls reply u.writing × (u.reference ≡ s.reference)
 told_lent s u calls reply (all _) = (all s.writing, refl)

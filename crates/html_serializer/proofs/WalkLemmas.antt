@@ -39,7 +39,7 @@ pub record HasStopped (cs : List ℕ) (s : Writing) (fault : SerializeFault) (u 
   pub part : GrowsPart cs s.contents u.contents
   pub why : Explains fault u
 
--- calls that write a text are told to their end, with others told behind them, or one of them was refused
+-- calls that write a text are made to their end, with others made after them, or one of them was refused
 pub data Splits (cs : List ℕ) (es : List Entry) (s : Writing) (rest : List Call) (reply : Reply) (u : Writing)
     : Type 0 where
   gone : (t : Writing) → HasWritten cs es s t → IsTold Means t rest reply u → Splits cs es s rest reply u
@@ -78,7 +78,7 @@ stopped_before cs ds s fault u p = record { same = p.same; part = part_of_more c
 stopped_nowhere : (cs : List ℕ) (s : Writing) → HasStopped cs s Memory s
 stopped_nowhere cs s = record { same = same_itself s; part = part_of_all [] cs (grows_none s.contents); why = tt }
 
--- one part behind another, whose calls are told from where the first left off
+-- one part after another, whose calls are made from where the first left off
 splits_on : (cs ds : List ℕ) (es fs : List Entry) (s : Writing) (between rest : List Call) (reply : Reply) (u : Writing)
     → Splits cs es s between reply u
     → ((t : Writing) → HasWritten cs es s t → IsTold Means t between reply u → Splits ds fs t rest reply u)
@@ -214,7 +214,7 @@ tells_element scripting name first first_text inner inner_text e outer s rest re
     one_call v u (finish name) rest reply (unless_silent below (end_text name)) (e ∷ outer)
     (outcome_within v below (e ∷ outer) (finish name) x.entries) told_last)))
 
--- a node of any kind, by what its contents tell
+-- a node of any kind, by what its contents emit
 tells_kind : (scripting : Bool) (kind : Kind) (inner : List Call) (inner_text : Option QualName → List ℕ)
     → Tells scripting inner inner_text
     → Tells scripting (calls_by kind inner) (λ name. text_by scripting name kind inner_text)
@@ -239,7 +239,7 @@ tells_node scripting (suc k) f n =
     (λ name. joined (text_within scripting k f name) (inner_of n f))
     (tells_joined scripting (calls_within k f) (text_within scripting k f) (tells_node scripting k f) (inner_of n f))
 
--- what is told to its end
+-- what is emitted to its end
 ends : (cs : List ℕ) (es : List Entry) (s : Writing) (reply : Reply) (u : Writing) → s.entries ≡ es
     → Splits cs es s [] reply u → IsWalked cs s reply u
 ends cs es s reply u now (stopped fault is why) =

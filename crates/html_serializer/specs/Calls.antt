@@ -1,4 +1,4 @@
--- What a serializer is told, and what it answers.
+-- What a serializer is given, and what it answers.
 use Rattle.std.specs.Prelude.{ℕ, List, Result, Ok, Err}
 use Rattle.html_lexemes.specs.declared.names.Attribute.{Attribute}
 use Rattle.html_lexemes.specs.declared.names.QualName.{QualName}

@@ -1,4 +1,4 @@
--- A serializer that is told calls, one after the other: to their end, up to one that it refuses, or as far as memory
+-- A serializer that is given calls, one after the other: to their end, up to one that it refuses, or as far as memory
 -- is found.
 use Rattle.std.specs.Prelude.{List, [], ◌∷◌}
 use Rattle.html_serializer.specs.Calls.{Call, Reply, done, refused}

@@ -1,4 +1,4 @@
--- The walk of a forest (WHATWG HTML, 13.3, "serializing HTML fragments"): what it tells a serializer, and what is
+-- The walk of a forest (WHATWG HTML, 13.3, "serializing HTML fragments"): what it emits a serializer, and what is
 -- written.
 -- A template's contents stand in the place of its children. A forest of so many nodes is at most so many deep.
 use Rattle.std.specs.Prelude.{ℕ, zero, suc, ◌||◌, ◌&&◌, Bool, false, List, [], ◌∷◌, ◌++◌, Option, None, Some}

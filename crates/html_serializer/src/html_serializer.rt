@@ -14,8 +14,8 @@ use crate::written_calls::{
 use html_lexemes::{Attribute, ByteWriter, QualName};
 use std::alloc::Global;
 
-/// Writes what it is told as HTML (WHATWG HTML, 13.3). Nothing is written within a void element. A call that is refused
-/// since allocation fails or of a parent changes nothing; after a fault of the writer a beginning is written.
+/// Writes what it is given as HTML (WHATWG HTML, 13.3). Nothing is written within a void element. A call that is
+/// refused since allocation fails or of a parent changes nothing; after a fault of the writer a beginning is written.
 #[derive(Drop)]
 pub struct HtmlSerializer<W> {
     /// What the text is written to.
@@ -27,7 +27,7 @@ pub struct HtmlSerializer<W> {
 }
 
 impl<W: ByteWriter> HtmlSerializer<W> {
-    /// A serializer within one element, of which the options may tell the name. The error is allocation failure alone.
+    /// A serializer within one element, of which the options may give the name. The error is allocation failure alone.
     pub fn new(
         alloc: Global,
         writer: W,

@@ -24,13 +24,13 @@ pub fn an_escape_holds_no_markup()
     ensures quote { (cs : List ℕ) → is_in 34 (escaped true cs) ≡ false }
 {}
 
-/// A walk goes one step on: what is told of a node is what its kind says, with what is told of what stands in it.
+/// A walk goes one step on: what is emitted of a node is what its kind says, with what is emitted of what stands in it.
 pub fn a_walk_goes_one_step_on()
     ensures { (f : Forest) (n : ℕ) → IsForest f → calls_within (nodes f) f n
         ≡ calls_by (kind_at n f) (joined (calls_within (nodes f) f) (inner_of n f)) }
 {}
 
-/// What is told of a node, or of what stands in it, is written where an entry is open that isn't silent, and the
+/// What is emitted of a node, or of what stands in it, is written where an entry is open that isn't silent, and the
 /// entries stay; where a call is refused a beginning is written, and it isn't for want of a parent.
 pub fn what_a_walk_tells_is_written()
     ensures node { (f : Forest) (n : ℕ) (e : Entry) (outer : List Entry) (old new : Writing) (reply : Reply) →

@@ -1,4 +1,4 @@
-//! What is written of a tree (WHATWG HTML, 13.3): what a serializer is told, one that writes HTML, and the walk of a
+//! What is written of a tree (WHATWG HTML, 13.3): what a serializer is given, one that writes HTML, and the walk of a
 //! tree.
 //!
 //! # What is proved
@@ -13,7 +13,7 @@
 //!   changes nothing, and that a fault of the writer leaves a beginning
 //! - `HtmlSerializer::new`, `into_writer`: one open entry, the options, the writer; allocation failure is the one
 //!   refusal; the writer given back
-//! - `Serialize`: a node tells the calls of its walk (`calls_of`), in turn
+//! - `Serialize`: a node emits the calls of its walk (`calls_of`), in turn
 //! - `serialize`: the writer has grown by the walk's text (`ok`), or by a beginning of it (`part`); `Write` comes
 //!   only where the writer has failed (`failed`), a failed writer stays failed (`stays`), and a walk never wants a
 //!   parent (`kinds`)
@@ -26,7 +26,7 @@
 //! - `what_a_walk_tells_is_written`: a law: what the calls of a walk make a serializer write is the walk's text
 //!
 //! Tested (`tree_rows`): each call of an `HtmlSerializer`, with texts written down from the standard; a second end
-//! tag without an entry, and a text and a start tag behind it; a writer that fails at each of its first twelve
+//! tag without an entry, and a text and a start tag after it; a writer that fails at each of its first twelve
 //! writes; and each request for memory refused in turn (`rt try --test --fail-alloc N`, tried for six of them).
 //!
 //! Not pinned: a `serialize` that always answers `Memory`. That what was written is read back as the same tree is

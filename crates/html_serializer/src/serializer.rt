@@ -1,4 +1,4 @@
-//! What is told of a tree.
+//! What is emitted of a tree.
 ghost use Rattle.html_serializer.specs.Calls.{Call, Reply, doctype_of, finish, instruction_of, remark, reply_of};
 ghost use Rattle.html_serializer.specs.Calls.{start, text_run};
 ghost use Rattle.std.specs.Prelude.{chars};
@@ -6,8 +6,8 @@ ghost use Rattle.std.specs.Prelude.{chars};
 use crate::fault::SerializeFault;
 use html_lexemes::{Attribute, QualName};
 
-/// What a tree is told to, node by node (WHATWG HTML, 13.3). Contracts see an abstract state, and by `means` what each
-/// call may make of it, with its reply.
+/// What a tree is emitted to, node by node (WHATWG HTML, 13.3). Contracts see an abstract state, and by `means` what
+/// each call may make of it, with its reply.
 pub trait Serializer {
     ghost Seen: { Type 0 };
 
@@ -31,7 +31,7 @@ pub trait Serializer {
     fn write_comment(&mut self, text: &str) -> Result<(), SerializeFault>
         ensures { means (seen self.old) (remark (chars text.now)) (reply_of result) (seen self.new) };
 
-    /// A doctype, of which its name is told.
+    /// A doctype, of which its name is emitted.
     fn write_doctype(&mut self, name: &str) -> Result<(), SerializeFault>
         ensures { means (seen self.old) (doctype_of (chars name.now)) (reply_of result) (seen self.new) };
 

@@ -1,4 +1,4 @@
-//! What tells a tree.
+//! What emits a tree.
 ghost use Rattle.std.specs.Prelude.{ℕ};
 ghost use Rattle.html_forest.specs.Forest.{Forest};
 ghost use Rattle.html_serializer.specs.Calls.{reply_of};
@@ -10,7 +10,7 @@ use crate::options::TraversalScope;
 use crate::serializer::Serializer;
 use std::alloc::Global;
 
-/// A node of a tree, which can be told to a serializer. Contracts see a forest, and the node's number in it.
+/// A node of a tree, which can be emitted to a serializer. Contracts see a forest, and the node's number in it.
 pub trait Serialize {
     ghost forest: { Self → Forest };
 

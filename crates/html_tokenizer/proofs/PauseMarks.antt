@@ -90,7 +90,7 @@ some_map (Some x) p f = f p
 
 -- ---- the queue
 
--- What was taken, and any text behind it, completes as that text does behind it.
+-- What was taken, and any text after it, completes as that text does after it.
 pub record HasTaken {A : Type 0} (completes now : List ℕ → A → Type 0) (old new : Queue) : Type 0 where
   pub taken : List ℕ
   pub takes : TakesEach old taken new

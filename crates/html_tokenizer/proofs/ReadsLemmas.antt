@@ -223,7 +223,7 @@ module _ {A H : Type 0} (table : References) (means : Meaning A H) where
       final) a
       (subst (λ p. Follows table means mode (place_lexeme table (means.foreign s) mode p (after ++ rest)) s final) n l))
 
-  -- what stands behind an opening
+  -- what stands after an opening
   pub opened_read : (mode : Mode) (at place now : Place) (held after : List ℕ) (c : ℕ) (rest : List ℕ) (s final : A) →
       place ≡ Text → held ≡ [] → now ≡ at → after ≡ [] →
       ((f : Bool) → lexeme table f mode (c ∷ rest) ≡ place_lexeme table f mode at rest) →
@@ -234,7 +234,7 @@ module _ {A H : Type 0} (table : References) (means : Meaning A H) where
       (subst (λ x. Follows table means mode (place_lexeme table (means.foreign s) mode at (x ++ rest)) s final) a
       (subst (λ p. Follows table means mode (place_lexeme table (means.foreign s) mode p (after ++ rest)) s final) n l))
 
-  -- a lexeme that is over was told, with the text that it left
+  -- a lexeme that is over was emitted, with the text that it left
   pub told_over : (mode behind : Mode) (place now : Place) (held after follow rest left run : List ℕ)
       (items : List Item) (s told_to final : A) → Joins → Skips →
       IsOver table (means.foreign s) mode place held follow → place_lexeme table (means.foreign s) mode place held

@@ -15,7 +15,7 @@ use Rattle.html_tokenizer.specs.Tells.{AreUnanswered}
 
 module _ {A H : Type 0} (means : Meaning A H) (ready : A → Type 0) (welcomes : A → Item → Type 0)
     (lawful : IsLawful means ready) (hearing : IsHearing means welcomes) where
-  -- behind an item that is of the text
+  -- after an item that is of the text
   pub ready_behind : (kind : TextKind) (old new : A) (item : Item) → IsReadyFor ready welcomes kind old →
       IsWithin item → IsOf kind item → new ≡ means.step old item → IsReadyFor ready welcomes kind new
   ready_behind kind old new item r w o e = subst (IsReadyFor ready welcomes kind) (sym e)
@@ -24,7 +24,7 @@ module _ {A H : Type 0} (means : Meaning A H) (ready : A → Type 0) (welcomes :
         hears = λ later i. hearing.goes_on old item later w (r.hears item o) (r.hears later i);
       })
 
--- no text of a kind that is told is answered
+-- no text of a kind that is emitted is answered
 unanswered : (item : Item) → IsWithin item → ¬ (IsAnswered item)
 unanswered (characters cs) w h = h
 unanswered error w h = h
@@ -42,7 +42,7 @@ are_unanswered kind (item ∷ items) h = (unanswered item h.0.0, are_unanswered 
 pub placed_text : (kind : TextKind) (place : Place) → place ≡ NoLexeme → IsPlaceOf kind place
 placed_text kind place e = subst (IsPlaceOf kind) (sym e) tt
 
--- what a lexeme of a kind tells is of it
+-- what a lexeme of a kind emits is of it
 pub told_kind : (kind : TextKind) (l : Lexeme) (items : List Item) (behind : Mode) (rest : List ℕ) → LexemeOf kind l →
     l ≡ told items behind rest →
     AreWithin kind items × (HasMarkup behind.text → HasMarkup kind)

@@ -118,7 +118,7 @@ module _ {A H : Type 0} (table : References) (means : Meaning A H) where
       (subst (λ x. Leaves table means mode x (more ++ left) t final) p
       (subst (λ x. Leaves table means x at (more ++ left) t final) m l))))
 
-  -- what is told behind some characters in one piece, and what stands behind them, is read of both
+  -- what is emitted after some characters in one piece, and what stands after them, is read of both
   pub run_taken : (mode : Mode) (place : Place) (held cs rest : List ℕ) (s final : A) →
       ((state : A) (ds es : List ℕ) →
       means.step (means.step state (characters ds)) (characters es) ≡ means.step state (characters (ds ++ es))) →
@@ -169,7 +169,7 @@ each_of old c (d ∷ ds) new t =
 counts_none : (t m : ℕ) → min (min (t + 0) m + 1) m ≡ min (t + 1) m
 counts_none t m = omega arith
 
--- A run that may be empty, and what stands behind it, where the queue is not.
+-- A run that may be empty, and what stands after it, where the queue is not.
 behind_front : {A : Type 0} (completes now : List ℕ → A → Type 0) (old between new : Queue) (behind : Option ℕ)
     (cs : List ℕ) → (old.text ≡ [] → ⊥) → Takes old cs between →
     ((rest : List ℕ) (final : A) → now rest final → completes (cs ++ rest) final) →
@@ -205,7 +205,7 @@ shorter_behind : (xs : List ℕ) (c : ℕ) (ys : List ℕ) → length ys < lengt
 shorter_behind [] c ys = omega arith
 shorter_behind (x ∷ xs) c ys = omega (arith, shorter_behind xs c ys)
 
--- ---- a run, and what stands behind it
+-- ---- a run, and what stands after it
 
 module _ {A : Type 0} {completes now : List ℕ → A → Type 0} {old new : Queue} where
   run_takes : {behind : Option ℕ} (r : TakesRun completes now old behind new) → TakesSome old r.between
@@ -228,7 +228,7 @@ module _ {A : Type 0} {completes now : List ℕ → A → Type 0} {old new : Que
       (subst (λ x. completes x final) (sym (append_assoc r.taken r.between.text rest))
       (r.reads (r.between.text ++ rest) final l))
 
-  -- a character stands behind it
+  -- a character stands after it
   pub with_character : {behind : Option ℕ} {c : ℕ} → behind ≡ Some c → TakesRun completes now old behind new →
       TakesRun completes now old (Some c) new
   with_character e r = subst (λ b. TakesRun completes now old b new) e r
@@ -250,7 +250,7 @@ module _ {A : Type 0} {completes now : List ℕ → A → Type 0} {old new : Que
   turn_text r f rest final l =
       run_text r rest final (subst (λ x. now (x ++ rest) final) (sym r.character.text) (f (new.text ++ rest) final l))
 
-  -- nothing stands behind it
+  -- nothing stands after it
   pub with_none : {behind : Option ℕ} → ((c : ℕ) → behind ≡ Some c → ⊥) → TakesRun completes now old behind new →
       TakesRun completes now old None new
   with_none {behind = None} none r = r

@@ -1,4 +1,4 @@
--- What was told between two states of a sink.
+-- What was emitted between two states of a sink.
 use Rattle.std.proofs.Common.{◌≡◌, false, List, [], ◌∷◌, Option, Some, None, Result, Ok, Err, IfOk, OnOk, refl, sym, ap}
 use Rattle.std.proofs.Common.{◌∙◌, subst}
 use Rattle.std.specs.List.{fold}
@@ -106,7 +106,7 @@ pub if_ok_map : {X E : Type 0} {P R : X → Type 0} (r : Result X E) → IfOk r 
 if_ok_map (Ok x) p f = f x p
 if_ok_map (Err e) p f = tt
 
--- a sink that was told that it is over
+-- a sink that was notified of the end
 pub closed_by : {A X E : Type 0} (close : A → A) (reads : A → Type 0) (r : Result X E) (final closed : A) →
     reads final → IfOk r (λ _. closed ≡ close final) → OnOk r (IsClosed close reads closed)
 closed_by close reads (Ok x) final closed h e = (final, (h, e))

@@ -21,7 +21,7 @@ use Rattle.html_tokenizer.specs.declared.tokenizer.Tokenizer.{Tokenizer}
 unfoldable pub has_failed : {S : Type 0} → Tokenizer S → Bool
 has_failed tokenizer = tokenizer.is_over
 
--- Where it has not failed, its sink is ready for what may be told, and welcomes it.
+-- Where it has not failed, its sink is ready for what may be emitted, and welcomes it.
 unfoldable pub IsFit : {S A : Type 0} → (S → A) → (A → Type 0) → (A → Item → Type 0) → Tokenizer S → Type 0
 IsFit state ready welcomes tokenizer =
     tokenizer.is_over ≡ false → IsFitReader ready welcomes tokenizer.reader (state tokenizer.sink)
@@ -30,7 +30,7 @@ IsFit state ready welcomes tokenizer =
 unfoldable pub Completes : {S A H : Type 0} → (S → A) → Meaning A H → Tokenizer S → List ℕ → A → Type 0
 Completes state means tokenizer rest final = inside.Completes state means tokenizer rest final
 
--- the text that was read is told
+-- the text that was read is emitted
 unfoldable pub HasTold : {S : Type 0} → Tokenizer S → Type 0
 HasTold tokenizer = inside.HasTold tokenizer
 
@@ -64,7 +64,7 @@ text_left tokenizer rest = page_rest tokenizer.line_ends rest
 abbrev pub plain_mode : Option (List ℕ) → Mode
 plain_mode last = record { text = Plain; last_start_tag = last }
 
--- What a result says of what was told: no pause was asked for, or this one, by what was told last.
+-- What a result says of what was emitted: no pause was asked for, or this one, by what was emitted last.
 abbrev pub Answers : {A H : Type 0} → Meaning A H → TokenizerResult H → A → A → Type 0
 Answers means Done old new = TellsOn means old new
 Answers means (Script handle) old new = TellsUpTo means (AskedScript handle) old new

@@ -25,7 +25,7 @@ abbrev pub Completes : {S A H : Type 0} → (S → A) → Meaning A H → Tokeni
 Completes state means tokenizer rest final =
     Reads tokenizer.table means tokenizer.reader (state tokenizer.sink) (page_rest tokenizer.line_ends rest) final
 
--- the text that was read is told
+-- the text that was read is emitted
 abbrev pub HasTold : {S : Type 0} → Tokenizer S → Type 0
 HasTold tokenizer = string_bytes tokenizer.reader.run ≡ []
 

@@ -4,7 +4,7 @@ use Rattle.html_lexemes.specs.LineEnds.{begins_with_line_feed, lines_ended, with
 use Rattle.html_tokenizer.specs.declared.line_ends.LineEnds.{LineEnds}
 use Rattle.html_tokenizer.specs.declared.line_ends.LineEnds.TheVariants.{AtMark, AfterReturn, Within}
 
--- behind a CR, which was given as a LF, a LF is left out
+-- after a CR, which was given as a LF, a LF is left out
 abbrev pub after_return : List ℕ → List ℕ
 after_return cs = lines_ended (if begins_with_line_feed cs then drop 1 cs else cs)
 

@@ -24,7 +24,7 @@ abbrev pub Leaves : {A H : Type 0} → References → Meaning A H → Mode → P
 Leaves table means mode place cs state final =
     Follows table means mode (place_lexeme table (means.foreign state) mode place cs) state final
 
--- the sink's state once the text that was read is told
+-- the sink's state once the text that was read is emitted
 abbrev pub state_of : {A H : Type 0} → Meaning A H → Reader → A → A
 state_of means reader state = means.step state (characters (chars (string_bytes reader.run)))
 

@@ -3,7 +3,7 @@ use Rattle.std.specs.Prelude.{◌≡◌, ℕ, List, [], ◌∷◌, ◌++◌, Opt
 use Rattle.html_lexemes.specs.Queue.{Queue, Takes}
 use Rattle.html_tokenizer.specs.Completes.{TakesEach}
 
--- Some characters were taken from the front, each by itself, and what completes the reading behind them completes it
+-- Some characters were taken from the front, each by itself, and what completes the reading after them completes it
 -- with them before it; then this character was taken, or none was left.
 pub record TakesRun {A : Type 0} (completes now : List ℕ → A → Type 0) (old : Queue) (behind : Option ℕ)
     (new : Queue) : Type 0 where
@@ -13,7 +13,7 @@ pub record TakesRun {A : Type 0} (completes now : List ℕ → A → Type 0) (ol
   pub reads : (rest : List ℕ) (final : A) → now rest final → completes (taken ++ rest) final
   pub character : MatchOption behind ((between.text ≡ []) × (new ≡ between)) (λ c. Takes between (c ∷ []) new)
 
--- Some characters were taken from the front at once, perhaps none, and what completes the reading behind them completes
+-- Some characters were taken from the front at once, perhaps none, and what completes the reading after them completes
 -- it with them before it.
 pub record TakesFront {A : Type 0} (completes now : List ℕ → A → Type 0) (old new : Queue) : Type 0 where
   pub taken : List ℕ

@@ -1,4 +1,4 @@
--- What was told between two states of a sink.
+-- What was emitted between two states of a sink.
 use Rattle.std.specs.Prelude.{◌≡◌, false, List, [], ◌∷◌, Option, Some, None}
 use Rattle.html_lexemes.specs.declared.token.Tag.{Tag}
 use Rattle.html_lexemes.specs.declared.token.TokenSinkResult.{TokenSinkResult}
@@ -34,7 +34,7 @@ abbrev pub IsPauseOf : {H : Type 0} → TokenSinkResult H → Option (Pause H) �
 IsPauseOf answer None = is_pause answer ≡ false
 IsPauseOf answer (Some pause) = answer ≡ answer_of pause
 
--- No pause is asked for, or this one, by what is told last.
+-- No pause is asked for, or this one, by what is emitted last.
 abbrev pub Asks : {A H : Type 0} → Meaning A H → Option (Pause H) → A → A → Type 0
 Asks means None old new = TellsOn means old new
 Asks means (Some pause) old new = TellsUpTo means (answer_of pause) old new
@@ -49,7 +49,7 @@ abbrev pub IsFirstAfterError : List Item → Type 0
 IsFirstAfterError [] = ⊥
 IsFirstAfterError (item ∷ items) = IsAfterError item
 
--- Errors alone were told: what may follow them does the same to the sink.
+-- Errors alone were emitted: what may follow them does the same to the sink.
 pub record IsAlike {A H : Type 0} (means : Meaning A H) (old new : A) : Type 0 where
   pub steps : (item : Item) → IsAfterError item → means.step new item ≡ means.step old item
   pub replies : (item : Item) → means.reply new item ≡ means.reply old item

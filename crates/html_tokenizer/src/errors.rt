@@ -15,7 +15,7 @@ use parse_errors::ParseErrors;
 use std::alloc::AllocError;
 
 /// Finds the parse errors in a lexeme that is over: in what was held at its place. `line` is that on which a reference
-/// stands. What the grammar tells as an item, a `</>` and a reference without its semicolon, is not among them. Where
+/// stands. What the grammar emits as an item, a `</>` and a reference without its semicolon, is not among them. Where
 /// `may_repeat` is false no two attributes of a tag have one name. The error is allocation failure alone.
 pub(crate) fn find_errors(
     errors: &mut ParseErrors,
@@ -44,7 +44,7 @@ pub(crate) fn may_repeat(lexeme: &Lexeme<'_>) -> bool {
     }
 }
 
-/// Finds the error of a `<` that is text, at the character behind it; `line` is that of the `<`.
+/// Finds the error of a `<` that is text, at the character after it; `line` is that of the `<`.
 pub(crate) fn find_errors_before(
     errors: &mut ParseErrors,
     place: Place,
@@ -78,7 +78,7 @@ pub(crate) fn find_last_errors(
     }
 }
 
-/// The state in which the page ends, at a place: one of text, or of a CDATA section. Behind markup, which the end of
+/// The state in which the page ends, at a place: one of text, or of a CDATA section. After markup, which the end of
 /// the page cuts off, it is that of ordinary text.
 pub(crate) fn last_state(text: TextKind, place: Place) -> State {
     match place {
@@ -92,14 +92,14 @@ pub(crate) fn last_state(text: TextKind, place: Place) -> State {
 /// Where markup began.
 #[derive(Clone, Copy)]
 pub(crate) struct MarkupStart {
-    /// The state behind its `<`, `</` or `<!`.
+    /// The state after its `<`, `</` or `<!`.
     pub(crate) state: State,
-    /// The line of the character behind that.
+    /// The line of the character after that.
     pub(crate) line: u64,
 }
 
 impl MarkupStart {
-    /// What is known behind a further character of markup, on a line, that was read at a place.
+    /// What is known after a further character of markup, on a line, that was read at a place.
     pub(crate) fn behind(self, place: Place, line: u64) -> MarkupStart {
         let state = match place {
             Place::TagOpen => State::TagOpen,
@@ -120,8 +120,8 @@ pub(crate) fn state_of(text: TextKind) -> State {
     }
 }
 
-/// Whether errors are looked for at characters of text other than NUL: a name behind `&` may go on in them, or each is
-/// to be told that no page should have.
+/// Whether errors are looked for at characters of text other than NUL: a name after `&` may go on in them, or each is
+/// to be reported that no page should have.
 #[inline(always)]
 pub(crate) fn looks_at_text(errors: &ParseErrors) -> bool
     ensures { result ≡ false → (c : ℕ) → c ≢ 0 → heeds errors.now c ≡ false }

@@ -40,7 +40,7 @@
 //!   then is its reading as plain text (`plain`)
 //!
 //! A struct can't hold the text that came nor the sink's first state, so the clauses relate the states before and
-//! after each call, for every rest of the page and every final state; they compose, as `read_pieces` shows. Behind
+//! after each call, for every rest of the page and every final state; they compose, as `read_pieces` shows. After
 //! them stands, for each place in a lexeme, what is held there (`IsSound`, a ghost field of `Pending`, and
 //! `IsGoing`, by which it may still become something else, a ghost field of `Tokenizer`), and for each further
 //! character a turn of lexeme_places. Why a call is refused rests on the kind of the text: a place is one in text

@@ -9,7 +9,7 @@ ghost use Rattle.html_tokenizer.specs.declared.line_ends.LineEnds.TheVariants.{W
 pub(crate) enum LineEnds {
     /// Before the first character, where a U+FEFF is dropped.
     AtMark,
-    /// Behind a CR, which was given as a LF.
+    /// After a CR, which was given as a LF.
     AfterReturn,
     /// Anywhere else.
     Within,
@@ -29,7 +29,7 @@ impl LineEnds {
         }
     }
 
-    /// Behind a character.
+    /// After a character.
     pub(crate) fn behind(c: char) -> LineEnds
         ensures { (rest : List ℕ) → page_rest result rest ≡ rest_behind c rest }
     {

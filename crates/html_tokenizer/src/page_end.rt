@@ -41,7 +41,7 @@ impl Reader {
         sink.end()
     }
 
-    // tells what stands in what is held back before the end
+    // emits what stands in what is held back before the end
     fn tell_held<S: TokenSink>(
         &mut self,
         table: &ReferenceTable,
@@ -78,7 +78,7 @@ impl Reader {
         }
     }
 
-    // tells what stands in a text before its end
+    // emits what stands in a text before its end
     fn tell_rest<S: TokenSink>(
         &mut self,
         table: &ReferenceTable,

@@ -22,7 +22,7 @@ use std::mem;
 #[derive(Drop)]
 pub(crate) struct Pending {
     place: Place,
-    // what stands behind the opening that the place names
+    // what stands after the opening that the place names
     held: String,
     ghost sound: { IsSound place (chars (string_bytes held)) } by { IsSound-prop place (chars (string_bytes held)) },
 }
@@ -43,9 +43,9 @@ pub(crate) enum Advance {
 pub(crate) enum RawAdvance {
     /// It is held.
     Goes,
-    /// What was held is text before it, behind which the text is of this kind.
+    /// What was held is text before it, after which the text is of this kind.
     Before(String, RawKind),
-    /// It is held, and this text, which was, is text, behind which the text is of this kind.
+    /// It is held, and this text, which was, is text, after which the text is of this kind.
     Shifts(&'static str, RawKind),
     /// What was held is the name of an end tag before it.
     EndTag,
@@ -84,7 +84,7 @@ impl Pending {
         matches!(self.place, Place::Text)
     }
 
-    /// Whether no character is held behind the opening that the place names.
+    /// Whether no character is held after the opening that the place names.
     pub(crate) fn is_empty(&self) -> bool
         ensures { result ≡ (length (string_bytes self.now.held) == 0) }
     {
@@ -110,7 +110,7 @@ impl Pending {
         self.held = text;
     }
 
-    /// Goes to a place behind an opening.
+    /// Goes to a place after an opening.
     pub(crate) fn open(&mut self, place: Place)
         requires at { self.old.place ≡ TextPlace }
         requires sound { IsSound place [] }
@@ -139,7 +139,7 @@ impl Pending {
     }
 
     /// Takes a further character of markup; `foreign` says that the adjusted current node is foreign, which matters
-    /// behind
+    /// after
     /// `<!` alone. `None` is a place in text, where nothing is done. After a refusal nothing is held.
     pub(crate) fn take(
         &mut self,

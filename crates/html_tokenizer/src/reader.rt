@@ -30,13 +30,13 @@ use lexeme_places::{First, Place, SectionTurn, first_of};
 use parse_errors::ParseErrors;
 use std::alloc::Global;
 
-/// How far a text was read: the mode, the text that was read and is not told yet, and the lexeme that is not over.
+/// How far a text was read: the mode, the text that was read and is not emitted yet, and the lexeme that is not over.
 #[derive(Drop)]
 pub(crate) struct Reader {
     pub(crate) mode: Mode,
     pub(crate) run: String,
     pub(crate) pending: Pending,
-    // those that were found and are not told yet
+    // those that were found and are not emitted yet
     pub(crate) errors: ParseErrors,
     // where the markup that is not over began
     pub(crate) start: MarkupStart,
@@ -121,7 +121,7 @@ impl Reader {
     }
 
     /// Whether characters that are text by themselves may be taken as one run: no lexeme has begun, no error waits to
-    /// be told, and at none of them is one looked for.
+    /// be emitted, and at none of them is one looked for.
     #[inline(always)]
     pub(crate) fn takes_runs(&self) -> bool
         ensures place { IsTrue result → self.now.pending.place ≡ TextPlace }
@@ -230,7 +230,7 @@ impl Reader {
     }
 
     // Takes a further character of the text of an element, where some of it is held back. The answer is whether it was
-    // taken: it is not elsewhere, nor behind the name of an end tag, which is markup then.
+    // taken: it is not elsewhere, nor after the name of an end tag, which is markup then.
     fn take_in_raw_text<S: TokenSink>(&mut self, sink: &mut S, c: char) -> Result<bool, ParseFault>
         requires ready { IsReadyFor S.ready S.welcomes self.old.mode.text (S.state sink.old) }
         requires scalar { IsScalar c }
@@ -322,7 +322,7 @@ impl Reader {
         self.read_text(sink, c)
     }
 
-    // goes on behind a further character of markup
+    // goes on after a further character of markup
     fn advance<S: TokenSink>(
         &mut self,
         table: &ReferenceTable,
@@ -372,7 +372,7 @@ impl Reader {
         }
     }
 
-    // whether the adjusted current node is foreign, where that matters: behind `<!`, once the text before it is told
+    // whether the adjusted current node is foreign, where that matters: after `<!`, once the text before it is emitted
     fn is_foreign<S: TokenSink>(&mut self, sink: &mut S) -> Result<bool, ParseFault>
         requires { IsReadyFor S.ready S.welcomes self.old.mode.text (S.state sink.old) }
         ensures memory { IfErr result (λ e. e ≡ Memory) }
@@ -417,7 +417,7 @@ impl Reader {
         Ok(())
     }
 
-    // Reads a character as text. Errors are told before it; before a LF, which they could change, they are not.
+    // Reads a character as text. Errors are emitted before it; before a LF, which they could change, they are not.
     #[inline(always)]
     fn read_text<S: TokenSink>(&mut self, sink: &mut S, c: char) -> Result<(), ParseFault>
         requires ready { IsReadyFor S.ready S.welcomes self.old.mode.text (S.state sink.old) }

@@ -1,4 +1,4 @@
-//! What is told to a sink: the text that was read, errors, tags, and a lexeme that is over.
+//! What is emitted to a sink: the text that was read, errors, tags, and a lexeme that is over.
 ghost use Rattle.std.specs.Prelude.{◌≡◌, ℕ, chars, string_bytes};
 ghost use Rattle.std.specs.Prelude.{List, [], ◌++◌, fold};
 ghost use Rattle.std.specs.Prelude.{IfErr, IfOk, IfSome, OnOk, None};
@@ -49,7 +49,7 @@ impl Reader {
         Ok(())
     }
 
-    // Tells the errors that were found, behind the text that was read.
+    // Tells the errors that were found, after the text that was read.
     #[cold]
     pub(crate) fn tell_errors<S: TokenSink>(&mut self, sink: &mut S) -> Result<(), ParseFault>
         requires { IsReadyFor S.ready S.welcomes self.old.mode.text (S.state sink.old) }
@@ -69,7 +69,7 @@ impl Reader {
         Ok(())
     }
 
-    // Tells some tokens, none of which is a tag, behind the errors that were found where they change nothing.
+    // Tells some tokens, none of which is a tag, after the errors that were found where they change nothing.
     pub(crate) fn tell_items<S: TokenSink>(
         &mut self,
         sink: &mut S,
@@ -94,7 +94,7 @@ impl Reader {
         tell_tokens(sink, tokens, self.line)
     }
 
-    // tells a tag, and says what the sink pauses for
+    // emits a tag, and says what the sink pauses for
     pub(crate) fn tell_tag<S: TokenSink>(
         &mut self,
         sink: &mut S,
@@ -118,7 +118,7 @@ impl Reader {
         Ok(pause_of(answer))
     }
 
-    // tells a NUL of ordinary text
+    // emits a NUL of ordinary text
     pub(crate) fn tell_null<S: TokenSink>(&mut self, sink: &mut S) -> Result<(), ParseFault>
         requires ready { IsReadyFor S.ready S.welcomes self.old.mode.text (S.state sink.old) }
         requires kind { HasMarkup self.old.mode.text }
@@ -136,7 +136,7 @@ impl Reader {
         Ok(())
     }
 
-    // tells a lexeme that is over: what was held at a place, and is to be held in again
+    // emits a lexeme that is over: what was held at a place, and is to be held in again
     pub(crate) fn end_lexeme<S: TokenSink>(
         &mut self,
         table: &ReferenceTable,
@@ -168,7 +168,7 @@ impl Reader {
         Ok(pause)
     }
 
-    // tells a lexeme that is over: what was held at a place
+    // emits a lexeme that is over: what was held at a place
     fn tell_lexeme<S: TokenSink>(
         &mut self,
         table: &ReferenceTable,

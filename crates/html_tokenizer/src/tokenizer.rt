@@ -26,12 +26,12 @@ use lexeme_places::held_stops;
 use lexeme_places::laws::{going_is_no_lexeme, held_run_goes_on};
 use std::alloc::Global;
 
-/// Reads the text of a page, in any pieces, and tells its tokens to a sink (WHATWG HTML, 13.2.5). What it tells is what
-/// the reading of the whole text by the grammar tells, however the text is cut. Parse errors are told before what
+/// Reads the text of a page, in any pieces, and emits its tokens to a sink (WHATWG HTML, 13.2.5). What it emits is what
+/// the reading of the whole text by the grammar emits, however the text is cut. Parse errors are emitted before what
 /// follows them; they change nothing else.
 #[derive(Drop)]
 pub struct Tokenizer<Sink> {
-    /// What the tokens are told to. Nobody else is to change its state before the end.
+    /// What the tokens are emitted to. Nobody else is to change its state before the end.
     pub sink: Sink,
     table: ReferenceTable,
     reader: Reader,
@@ -49,8 +49,8 @@ impl<Sink: TokenSink> Tokenizer<Sink> {
     ghost use Rattle.html_tokenizer.specs.Inside as inside;
     ghost use Rattle.html_tokenizer.specs.Runs.{TakesFront, TakesRun};
 
-    /// Before the first character of a page. The sink is in the state in which the page is to be told to it, and ready
-    /// for the kind of text in which the page begins.
+    /// Before the first character of a page. The sink is in the state in which the page is to be emitted to it, and
+    /// ready for the kind of text in which the page begins.
     #[tactic(auto, unfolding(crate::specs::Completes::has_failed, crate::specs::Completes::IsFit, crate::specs::Completes::Completes, crate::specs::Completes::HasTold, crate::specs::Completes::IsEmptied, crate::specs::Completes::IsUndecided, crate::specs::Completes::table_of, crate::specs::Completes::last_start_tag_of, crate::specs::Completes::text_left))]
     pub fn new(
         alloc: Global,
@@ -88,8 +88,8 @@ impl<Sink: TokenSink> Tokenizer<Sink> {
     }
 
     /// Reads what is in the queue, up to its end or to a pause that the sink asks for, after which the same queue is
-    /// fed on. It pauses exactly where the sink asks, right behind the tag's `>`, and holds nothing back then. At
-    /// `Done` all text that was read is told, and what is held back is the beginning of a lexeme that what follows
+    /// fed on. It pauses exactly where the sink asks, right after the tag's `>`, and holds nothing back then. At
+    /// `Done` all text that was read is emitted, and what is held back is the beginning of a lexeme that what follows
     /// decides. The error is allocation failure; after it, and after the end, every call is refused as `Failed` and
     /// takes nothing from the queue.
     #[tactic(auto, unfolding(crate::specs::Completes::has_failed, crate::specs::Completes::IsFit, crate::specs::Completes::Completes, crate::specs::Completes::HasTold, crate::specs::Completes::IsEmptied, crate::specs::Completes::IsUndecided, crate::specs::Completes::table_of, crate::specs::Completes::is_text_state, crate::specs::Completes::nothing_pending))]
@@ -186,7 +186,7 @@ impl<Sink: TokenSink> Tokenizer<Sink> {
     }
 
     // Reads the run that stands in front, of text or of what is held of a lexeme, where one does, and takes the
-    // character behind it, which is to be read by itself.
+    // character after it, which is to be read by itself.
     fn next_behind_run(&mut self, queue: &mut BufferQueue) -> Result<Option<char>, ParseFault>
         requires fit { IsFitReader Sink.ready Sink.welcomes self.old.reader (Sink.state self.old.sink) }
         requires over { self.old.is_over ≡ true }
@@ -324,7 +324,7 @@ impl<Sink: TokenSink> Tokenizer<Sink> {
         self.reader.set_plaintext();
     }
 
-    /// Tells what the end of the page makes of what is held back, one `EOFToken`, and that nothing more is told. The
+    /// Tells what the end of the page makes of what is held back, one `EOFToken`, and that nothing more is emitted. The
     /// error is allocation failure. After it every call is refused as `Failed`.
     #[tactic(auto, unfolding(crate::specs::Completes::has_failed, crate::specs::Completes::IsFit, crate::specs::Completes::Completes, crate::specs::Completes::HasTold, crate::specs::Completes::IsEmptied, crate::specs::Completes::IsUndecided, crate::specs::Completes::table_of))]
     pub fn end(&mut self) -> Result<(), ParseFault>

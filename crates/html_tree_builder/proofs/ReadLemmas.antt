@@ -7,7 +7,7 @@ use Rattle.html_tree_state.specs.Building.{Parts}
 use Rattle.tree_builder.specs.Parsed.{parsed}
 use Rattle.tree_builder.specs.Kept.{Kept}
 
--- A piece goes behind what stood in the buffer, of which nothing is left.
+-- A piece goes after what stood in the buffer, of which nothing is left.
 pub read_on : {A : Type 0} (new old : List ℕ → A → Type 0) (queue before piece left : List ℕ) → left ≡ [] →
     queue ≡ before ++ piece →
     ((rest : List ℕ) (final : A) → new rest final → old (queue ++ rest) final) →

@@ -1,5 +1,5 @@
 -- The tree of a fragment (WHATWG HTML, 13.4): what the rule table makes, from a context in a sink of trees on, of what
--- the fragment's text tells.
+-- the fragment's text emits.
 use Rattle.std.specs.Prelude.{ℕ, Bool, List, Option, Some, codes}
 use Rattle.html_forest.specs.Changes.{made_element}
 use Rattle.html_forest.specs.Forest.{Forest, name_of}

@@ -18,7 +18,7 @@ pub record IsGrown (ends : State → Type 0) (forest : Forest) (quirks : QuirksM
   pub mode : quirks ≡ final.tree.quirks
 
 -- The tree of a page (WHATWG HTML, 13.2): what the rule table makes, from the first nodes of a sink of trees on, of
--- what the page's text tells.
+-- what the page's text emits.
 pub record Beginning : Type 0 where
   pub table : References
   pub options : ParseOpts

@@ -39,7 +39,7 @@ pub fn a_fragment_has_one_tree<S: TreeSink>()
     one_reading::<TreeBuilder<S>>();
 }
 
-/// Somebody else may change a builder behind its tokenizer, if the state of tree construction stays.
+/// Somebody else may change a builder after its tokenizer, if the state of tree construction stays.
 pub(crate) fn a_builder_may_change_but_for_its_state<S: TreeSink>()
     ensures { (tokenizer : Tokenizer (TreeBuilder S S.Handle S.Output)) (builder : TreeBuilder S S.Handle S.Output)
         (holds : HoldsIn tokenizer) → state_in S.view builder ≡ state_in S.view tokenizer.sink → GoesOnAs

@@ -1,4 +1,4 @@
-//! Whole pages into trees: the tree builder behind the tokenizer. What its calls name of the crates below it is
+//! Whole pages into trees: the tree builder after the tokenizer. What its calls name of the crates below it is
 //! exported here too.
 //!
 //! # What is proved
@@ -16,7 +16,7 @@
 //!   is then and that rest come to (`reads`). It is refused only if allocation fails, unless an earlier call was
 //!   refused (`memory`); then it answers `Failed` (`failed`). It has failed exactly where a call was refused
 //!   (`works`), and may be called again whatever it answered (`fit`)
-//! - `Parser::process_all`: the same for pieces one after another; behind a refused call it is refused without
+//! - `Parser::process_all`: the same for pieces one after another; after a refused call it is refused without
 //!   pieces too (`failed`, `works`)
 //! - `Parser::has_failed`: whether a call was refused
 //! - `Parser::error`: the same, with no piece: nothing but the sink's errors changes, and neither forest nor quirks
@@ -34,7 +34,7 @@
 //! - `a_page_has_one_tree`: a law: two trees of one page, for equal options and first nodes, are equal, and so are
 //!   their quirks modes. So two parsers that are fed the same text in other pieces leave equal forests
 //!
-//! So a page never meets the builder's refusals: each of these calls is refused only if allocation fails, or behind
+//! So a page never meets the builder's refusals: each of these calls is refused only if allocation fails, or after
 //! such a refusal. Not pinned: that an error from outside reaches the sink, and a call that always answers
 //! `Memory`.
 //!

@@ -21,7 +21,7 @@ use tree_builder::{Parse, TreeBuilder};
 /// script or a named encoding, are passed over. Where a call is refused since allocation fails, every later one is
 /// refused as `Failed`.
 pub struct Parser<S: TreeSink> {
-    /// What reads the text, and tells a tree builder of it.
+    /// What reads the text, and emits it to a tree builder.
     pub tokenizer: Tokenizer<TreeBuilder<S>>,
     /// Text that is to be read before what is processed next.
     pub input_buffer: BufferQueue,
@@ -69,7 +69,7 @@ impl<S: TreeSink> Parser<S> {
         self.is_over
     }
 
-    /// Reads the pieces of a text, one after another. Behind a refused call it is refused, even without pieces.
+    /// Reads the pieces of a text, one after another. After a refused call it is refused, even without pieces.
     pub fn process_all(&mut self, pieces: Vec<String>) -> Result<(), ParseFault>
         requires { IsFit S.view self.old }
         ensures fit { IsFit S.view self.new }

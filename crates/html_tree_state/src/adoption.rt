@@ -31,7 +31,7 @@ enum TurnOutcome {
     OtherEnd,
 }
 
-// where the walk up from the furthest block stands: the last node, and the copy behind which the formatting element's
+// where the walk up from the furthest block stands: the last node, and the copy after which the formatting element's
 // copy is to be listed
 #[derive(Clone, Copy)]
 struct WalkPoint<H> {

@@ -38,7 +38,7 @@ impl<S: TreeSink> Construction<S> {
         self.is_open(element)
     }
 
-    /// The latest element behind the last marker whose tag has a name.
+    /// The latest element after the last marker whose tag has a name.
     pub fn last_listed(&self, name: &LocalName) -> Option<S::Handle>
         requires { Sound (seen S.view self.now.held self.now.sink) }
         ensures named { option_map S.view.number result ≡ last_named name.now (seen S.view self.now.held

@@ -29,7 +29,7 @@ impl<S: TreeSink> Construction<S> {
         self.append_comment_at(point, text)
     }
 
-    /// Inserts a comment behind the children of the document.
+    /// Inserts a comment after the children of the document.
     pub fn append_comment_to_document(&mut self, text: Text) -> Result<(), ParseFault>
         requires { Sound (seen S.view self.old.held self.old.sink) }
         ensures seen { OnOk result (seen S.view self.new.held self.new.sink ≡ commented_at (below 0) text
@@ -42,7 +42,7 @@ impl<S: TreeSink> Construction<S> {
         self.append_comment_at(point, text)
     }
 
-    /// Inserts a comment behind the children of the root, or of the document where nothing is open.
+    /// Inserts a comment after the children of the root, or of the document where nothing is open.
     pub fn append_comment_to_html(&mut self, text: Text) -> Result<(), ParseFault>
         requires { Sound (seen S.view self.old.held self.old.sink) }
         ensures seen { OnOk result (seen S.view self.new.held self.new.sink ≡ commented_at
@@ -56,7 +56,7 @@ impl<S: TreeSink> Construction<S> {
         self.append_comment_at(point, text)
     }
 
-    /// Puts a doctype behind the children of the document. What it doesn't name is the empty text.
+    /// Puts a doctype after the children of the document. What it doesn't name is the empty text.
     pub fn append_doctype_to_document(&mut self, doctype: Doctype) -> Result<(), ParseFault>
         requires { Sound (seen S.view self.old.held self.old.sink) }
         ensures seen { OnOk result (seen S.view self.new.held self.new.sink ≡ with_doctype_of doctype
@@ -75,7 +75,7 @@ impl<S: TreeSink> Construction<S> {
         Ok(())
     }
 
-    // behind the children of the root, or of the document
+    // after the children of the root, or of the document
     fn root_point(&self) -> InsertionPoint<S::Handle>
         requires { Sound (seen S.view self.now.held self.now.sink) }
         ensures place { place_of S.view.number (S.view.forest self.now.sink) result

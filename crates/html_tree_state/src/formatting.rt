@@ -56,7 +56,7 @@ impl<S: TreeSink> Construction<S> {
         self.insert_element(PushFlag::Push, name, attrs)
     }
 
-    /// Inserts a formatting element for a tag, and lists it; of three behind the last marker that are alike the
+    /// Inserts a formatting element for a tag, and lists it; of three after the last marker that are alike the
     /// earliest goes.
     pub fn insert_formatting_element(&mut self, tag: Tag) -> Result<S::Handle, ParseFault>
         requires sound { Sound (seen S.view self.old.held self.old.sink) }

@@ -18,7 +18,7 @@ use name_sets::{is_foster_target, is_html};
 use tree_building::{InsertionPoint, last_element, laws_of_forests};
 
 impl<S: TreeSink> Construction<S> {
-    /// Where a node is inserted into an open element: behind its children, those of its contents if it is a template.
+    /// Where a node is inserted into an open element: after its children, those of its contents if it is a template.
     fn point_inside(&self, target: S::Handle) -> InsertionPoint<S::Handle>
         requires element { IsElement (S.view.number target) (S.view.forest self.now.sink) }
         requires template { is_template (S.view.number target) (S.view.forest self.now.sink) ≡ true → (c : ℕ)

@@ -15,7 +15,7 @@ use tree_building::formatting_list::FormatEntry;
 use tree_building::{laws_of_forests, position};
 
 impl<S: TreeSink> Construction<S> {
-    /// Opens anew each listed element behind the last marker, and behind the last one that is open ("reconstruct the
+    /// Opens anew each listed element after the last marker, and after the last one that is open ("reconstruct the
     /// active formatting elements").
     pub fn reconstruct_active_formatting_elements(&mut self) -> Result<(), ParseFault>
         requires { Sound (seen S.view self.old.held self.old.sink) }

@@ -160,7 +160,7 @@ pub behind_entry : (entry : Entry) (rest : List Entry) → AreFormatting (entry 
 behind_entry marker rest are = are
 behind_entry (formatted n tag) rest are = are.1
 
--- an entry and others behind it
+-- an entry and others after it
 entry_on : (entry : Entry) (rest more : List Entry) → AreFormatting (entry ∷ rest) → AreFormatting more →
     AreFormatting (entry ∷ more)
 entry_on marker rest more are further = further

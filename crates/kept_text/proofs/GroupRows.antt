@@ -277,7 +277,7 @@ null_by : (b : Bool) (s : State) → IsInGroup s →
 null_by true s group = group_closed s group
 null_by false s group = stays s (in_group group)
 
--- the names of start tags that are told
+-- the names of start tags that are emitted
 abbrev pub IsPlainMark : Mark → Type 0
 IsPlainMark (character d) = Unit {0}
 IsPlainMark null = Unit {0}

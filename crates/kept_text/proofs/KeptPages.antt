@@ -1,4 +1,4 @@
--- The text of a page is kept, and behind its end none of it waits.
+-- The text of a page is kept, and after its end none of it waits.
 use Rattle.std.proofs.Common.{◌≡◌, ℕ, zero, suc, ◌+◌, ◌<◌, Bool, true, false, if◌then◌else◌, List, [], ◌∷◌, ◌++◌, fold}
 use Rattle.std.proofs.Common.{refl}
 use Rattle.std.proofs.Common.{sym, ap, subst, ◌∙◌, arith}
@@ -27,7 +27,7 @@ use Rattle.kept_text.proofs.UsualModes.{IsUsual, all_meek}
 use Rattle.kept_text.specs.KeptText.{TellsPlainTags, how_often, in_told, is_kept, text_told}
 use Rattle.kept_text.specs.PageTexts.{KeepsTextOfPage, items_of}
 
--- behind the end of a page no text waits
+-- after the end of a page no text waits
 abbrev Ends : State → Row → Type 0
 Ends s (done actions) = (act_all actions s).pending ≡ []
 Ends s (asks ask actions) = (act_all actions s).pending ≡ []
@@ -103,7 +103,7 @@ module _ (facts : Facts) where
       (λ s' ready' plain' down. ends_within k s'
       (further_down (rank end_of_file s') (rank end_of_file s) k down low) ready' plain'))
 
-  -- the end is told
+  -- the end is emitted
   end_read : (s final : State) → final ≡ step s items.end_of_file → Ready s → IsPlain s → IsRead [] s final
   end_read s final e ready plain =
       let keeps = step_keeps facts items.end_of_file s refl ready plain in
@@ -115,7 +115,7 @@ module _ (facts : Facts) where
             (past_ready s ready) (past_plain s plain);
       }
 
-  -- items are told before
+  -- items are emitted before
   read_behind : (xs ys : List Item) (s final : State) → KeepsAll facts xs s (fold step s xs) →
       IsRead ys (fold step s xs) final → IsRead (xs ++ ys) s final
   read_behind xs ys s final first rest = record {

@@ -1,4 +1,4 @@
--- Rows of the head and of the body do mild actions alone, where no start tag of a template or a frameset is told
+-- Rows of the head and of the body do mild actions alone, where no start tag of a template or a frameset is emitted
 -- (WHATWG HTML, 13.2.6.4.4 and 13.2.6.4.7). A clause on any other group is checked group by group.
 use Rattle.std.proofs.Common.{◌≡◌, ℕ, Bool, true, false, if◌then◌else◌, List, [], ◌∷◌, ◌++◌, Option, None, Some, codes}
 use Rattle.std.proofs.Common.{refl}
@@ -26,7 +26,7 @@ use Rattle.kept_text.proofs.CleanLists.{is_barred}
 use Rattle.kept_text.proofs.PlainStates.{IsMildRow}
 use Rattle.kept_text.proofs.UsualModes.{AreMild}
 
--- the name of a start tag that is told, by its group
+-- the name of a start tag that is emitted, by its group
 abbrev pub IsPlainGroup : TagGroup → List ℕ → Type 0
 IsPlainGroup groups.Template name = ⊥
 IsPlainGroup groups.Frameset name = ⊥

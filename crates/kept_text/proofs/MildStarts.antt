@@ -173,7 +173,7 @@ after_after_body_mild : (group : TagGroup) (t : Tag) (s : State) →
 after_after_body_mild groups.Html t s = html_mild t s
 after_after_body_mild group t s = (refl, tt)
 
--- a usual mode, where no column is told in a table
+-- a usual mode, where no column is emitted in a table
 abbrev pub IsNoColumnIn : InsertionMode → TagGroup → Type 0
 IsNoColumnIn modes.InTable group = IsNoColumn group
 IsNoColumnIn _ group = Unit {0}

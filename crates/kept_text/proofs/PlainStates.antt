@@ -1,5 +1,5 @@
 -- What holds between two items of a page without templates and framesets, and what a row gives there: each character
--- that is kept stands in the texts of the tree, or waits, as often as before, and one that is told once more.
+-- that is kept stands in the texts of the tree, or waits, as often as before, and one that is emitted once more.
 use Rattle.std.proofs.Common.{◌≡◌, ℕ, ◌+◌, ◌==◌, Bool, true, false, if◌then◌else◌, List, [], ◌∷◌}
 use Rattle.std.proofs.Common.{◌++◌, None, codes, refl, sym, ap, subst, ◌∙◌, eqb-true, arith}
 use Rattle.html_tree_state.specs.Building.{Building}
@@ -142,7 +142,7 @@ space_goes d s space plain = record {
   grows = λ c is. uncounted (amount c s) (how_often c (d ∷ [])) (space_apart c d is space);
 }
 
--- characters are said behind mild actions
+-- characters are said after mild actions
 one_behind_another : (x y z n k p q : ℕ) → y ≡ x → z ≡ y + n → q ≡ k → p ≡ k → z + q ≡ (x + p) + n
 one_behind_another x y z n k p q e h i j = omega (arith, e, h, i, j)
 

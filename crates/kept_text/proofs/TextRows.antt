@@ -156,7 +156,7 @@ waits_more d s waits = record {
       (how_often c (d ∷ [])) (how_often_append c s.pending (d ∷ []));
 }
 
--- what a mark tells as text
+-- what a mark emits as text
 abbrev pub told_by : Mark → List ℕ
 told_by (character d) = d ∷ []
 told_by null = []

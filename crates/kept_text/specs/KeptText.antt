@@ -1,6 +1,7 @@
--- Text is kept: each character that a page tells as text stands in its tree as often as it was told, but for white
+-- Text is kept: each character that a page emits as text stands in its tree as often as it was emitted, but for white
 -- space, which some modes drop, and U+FFFD, which stands for NUL in foreign content (WHATWG HTML, 13.2.6). A template's
--- columns and a page of frames drop other text too (13.2.6.4.13, 13.2.6.4.19), so no start tag of theirs is told here.
+-- columns and a page of frames drop other text too (13.2.6.4.13, 13.2.6.4.19), so no start tag of theirs is emitted
+-- here.
 use Rattle.std.specs.Prelude.{◌≡◌, ℕ, ◌+◌, ◌==◌, Bool, true, false, List, [], ◌∷◌, None, codes, fold}
 use Rattle.std.specs.Prelude.{if◌then◌else◌}
 use Rattle.html_forest.specs.Forest.{Forest, Kind, comment, doctype, document, element, instruction, text}
@@ -32,7 +33,7 @@ abbrev pub in_texts : ℕ → Forest → ℕ
 in_texts c [] = 0
 in_texts c (node ∷ f) = how_often c (characters_of node.kind) + in_texts c f
 
--- and in what is told as text
+-- and in what is emitted as text
 abbrev pub text_told : Item → List ℕ
 text_told (items.characters cs) = cs
 text_told items.null_character = []
@@ -50,7 +51,7 @@ in_told c (item ∷ more) = how_often c (text_told item) + in_told c more
 abbrev pub is_kept : ℕ → Bool
 is_kept c = if is_white_space c then false else if c == 65533 then false else true
 
--- no start tag of a template or of a frameset is told
+-- no start tag of a template or of a frameset is emitted
 abbrev pub is_plain_name : TagKind → List ℕ → Bool
 is_plain_name StartTag name = if is_one_of (codes "template" ∷ codes "frameset" ∷ []) name then false else true
 is_plain_name EndTag name = true

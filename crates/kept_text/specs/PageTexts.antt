@@ -1,4 +1,4 @@
--- What a reading of a page tells, and that its text is kept.
+-- What a reading of a page emits, and that its text is kept.
 use Rattle.std.specs.Prelude.{◌≡◌, ℕ, ◌+◌, true, List, [], ◌∷◌, ◌++◌}
 use Rattle.reference_tables.specs.References.{References}
 use Rattle.html_grammar.specs.Items.{Item, tag}
@@ -9,7 +9,7 @@ use Rattle.kept_text.specs.KeptText.{IsAtBeginning, TellsPlainTags, in_texts, in
 use Rattle.tree_rules.specs.Settling.{meaning}
 use Rattle.tree_rules.specs.State.{State}
 
--- the items that a reading tells, before the end
+-- the items that a reading emits, before the end
 abbrev pub items_of : {A H : Type 0} → {table : References} → {means : Meaning A H} → {mode : Mode} → {state : A} →
     {cs : List ℕ} → {final : A} → Reading table means mode state cs final → List Item
 items_of (ends _ _ _ _ _ _) = []

@@ -8,7 +8,7 @@
 //! - `text_is_kept`: for any items of a page, before its end, among which no start tag is `template` or `frameset`:
 //!   each character that is neither white space nor U+FFFD stands in the forest's text nodes, or among the pending
 //!   characters of a table, as often as it was emitted
-//! - `the_text_of_a_page_is_kept`: the same for the reading of a page, to its end, behind which nothing is pending
+//! - `the_text_of_a_page_is_kept`: the same for the reading of a page, to its end, after which nothing is pending
 //!
 //! White space is dropped by some modes, and U+FFFD stands for NUL in foreign content. A template's columns and a
 //! page of frames drop other text too, so that no start tag of theirs may be emitted.

@@ -44,7 +44,7 @@ fn place_of(name: &[u8]) -> usize
     (first + third * 105 + last * 18) % 1024
 }
 
-// a byte of a text, 0 behind its end
+// a byte of a text, 0 after its end
 fn byte_at(name: &[u8], at: usize) -> u8
     ensures { result ≡ slice_index_or name.now at 0 }
 {

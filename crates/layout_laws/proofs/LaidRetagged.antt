@@ -146,7 +146,7 @@ pub flush_retagged : {A B : Type 0} (f : A → B) (m : Measure) (tag : A) (b : L
     ≡ option_map (relaid f) (flush m tag b)
 flush_retagged f m tag b = flush_of_retagged f m tag b.running (without_running b)
 
--- what is done behind a flush
+-- what is done after a flush
 behind_flush : {A B : Type 0} (f : A → B) (m : Measure) (tag : A) (b : Laid A) (g : Laid A → Laid A)
     (h : Laid B → Laid B) → ((x : Laid A) → h (relaid f x) ≡ relaid f (g x))
     → option_map h (flush m (f tag) (relaid f b)) ≡ option_map (relaid f) (option_map g (flush m tag b))

@@ -107,7 +107,7 @@ pub fn overflow_never_refuses<T: EqualCopy>()
         → IsSome (finished_lines m tag b) }
 {}
 
-/// Cells that go on wait for a row: no other call touches them but the start of a table, which drops them. Behind a row
+/// Cells that go on wait for a row: no other call touches them but the start of a table, which drops them. After a row
 /// those hang that go on from it.
 pub fn cells_hang_until_a_row<T: EqualCopy>()
     ensures flush { (m : Measure) (tag : T.Seen) (b : Laid T.Seen)

@@ -140,7 +140,7 @@ slice_found cs k p q e =
     ∙ (ap (λ b. if b then empty_comment (drop 2 cs)
     else found_or_ended (cut comment_mark cs) cs) q ∙ ap (λ o. found_or_ended o cs) e)
 
--- a text that is an open comment of at least two characters, with more behind it
+-- a text that is an open comment of at least two characters, with more after it
 slice_of : (hs more : List ℕ) (k : Cut) → IsOpenComment hs → 2 ≤ length hs → cut comment_mark (hs ++ more) ≡ Some k →
     comment_slice (hs ++ more) ≡ k
 slice_of hs more k held long e =

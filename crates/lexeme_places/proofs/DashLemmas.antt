@@ -56,7 +56,7 @@ two_dashes bs u h n = elim (dash_or_dashes (chars bs) h) [
   | inr e ↦ e
 ]
 
--- in an escaped part, a dash that no `->` follows, and what is text behind it
+-- in an escaped part, a dash that no `->` follows, and what is text after it
 dash_then : (table : References) (mode : Mode) (escape : ScriptEscapeKind) (behind : RawKind) (text rest : List ℕ) →
     begins (codes "->") (text ++ rest) ≡ false →
     IsText table (in_kind mode (ScriptDataEscaped escape)) text (in_kind mode behind) rest →

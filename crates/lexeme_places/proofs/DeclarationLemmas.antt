@@ -1,4 +1,4 @@
--- What stands behind `<!`, read one character more.
+-- What stands after `<!`, read one character more.
 use Rattle.std.proofs.Common.{◌≡◌, ℕ, Bool, true, false, ◌&&◌, ◌||◌, ◌==◌, not, ◌⊎◌, List, [], ◌∷◌, ◌++◌, length, drop}
 use Rattle.std.proofs.Common.{Some, None, codes, IsTrue, IsUtf8, encode_utf8, refl, sym, ap, ap₂, subst, ◌∙◌}
 use Rattle.std.proofs.Math.Logic.{◌⊎◌.inl, ◌⊎◌.inr}

@@ -176,7 +176,7 @@ stops_behind_public d (h ∷ hs) n =
     (stops_public_at d h (no_quote h e) hs (first_of h hs n).1))
     (λ e. stops_skipped (with_quirks d) (h ∷ hs) n)
 
--- behind a word of a doctype
+-- after a word of a doctype
 stops_behind_word : (ws : List ℕ) (f : List ℕ → DoctypeEnd) (hs : List ℕ) → StopsAlways f → HasNoGreater hs →
     begins_word ws hs ≡ true → Stops (λ cs. f (without_spaces (drop (length ws) cs))) hs
 stops_behind_word ws f hs s n e =

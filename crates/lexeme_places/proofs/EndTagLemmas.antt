@@ -249,7 +249,7 @@ pub some_name : (letters : List ℕ) (b : Bool) → IsUtf8 letters → (length l
     b ≡ (nat_lt 0 (length (chars letters)) && b)
 some_name letters b u e = ap (λ t. t && b) (sym (lt-ltb 0 (length (chars letters)) (some_chars letters u e)))
 
--- behind the letters, another character
+-- after the letters, another character
 pub tag_begun : (held name : List ℕ) → is_end_tag_begun held ≡ true → Some name ≡ after (codes "</") held →
     (held ≡ 60 ∷ 47 ∷ name) × (list_all is_letter name ≡ true)
 tag_begun [] name h e = absurd cc

@@ -117,7 +117,7 @@ in_value c out =
     λ d within. apart value_set c d out within in
     rw (differs 9 refl, differs 10 refl, differs 12 refl, differs 32 refl, differs 62 refl) refl
 
--- what follows a tag from a place on is what follows it behind a run
+-- what follows a tag from a place on is what follows it after a run
 abbrev Passes : TagPlace → List ℕ → Type 0
 Passes place run = (table : References) (rest : List ℕ) → rest_in table place (run ++ rest) ≡ rest_in table place rest
 

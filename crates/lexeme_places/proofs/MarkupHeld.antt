@@ -53,7 +53,7 @@ pub and_false : (b : Bool) → (b && false) ≡ false
 and_false true = refl
 and_false false = refl
 
--- a `>` behind a text without one
+-- a `>` after a text without one
 pub first_of : (h : ℕ) (hs : List ℕ) → HasNoGreater (h ∷ hs) → ((h == 62) ≡ false) × HasNoGreater hs
 first_of h hs e =
     let parts = and_parts (not (h == 62)) (list_all (λ c. not (c == 62)) hs) e in

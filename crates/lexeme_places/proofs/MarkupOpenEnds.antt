@@ -81,7 +81,7 @@ module _ (table : References) (foreign : Bool) (mode : Mode) (place : Place) (he
       both_ways (is l) (sym (kept other l) ∙ (ap is (sym (same other t)) ∙ q))
       (sym (kept one l) ∙ (ap is (sym (same one s)) ∙ p))
 
--- behind all text is nothing, and behind a further character not
+-- after all text is nothing, and after a further character not
 x_is_text : (table : References) (foreign : Bool) (kind : TextKind) (mode : Mode) →
     is_nothing (lexeme_in table foreign kind mode 120 []) ≡ false
 unfolding is_nothing

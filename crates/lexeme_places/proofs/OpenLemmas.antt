@@ -1,4 +1,4 @@
--- What a character behind `<` or `</` begins.
+-- What a character after `<` or `</` begins.
 use Rattle.std.proofs.Common.{◌≡◌, ℕ, Bool, true, false, ◌==◌, not, List, [], ◌∷◌, ◌++◌, Option, Some, None, option_map}
 use Rattle.std.proofs.Common.{refl, sym, ap, subst, ◌∙◌}
 use Rattle.std.proofs.lemmas.Bool.{both_ways, ne_eqb}
@@ -68,7 +68,7 @@ end_tag_taken table foreign mode hs now c l none e rest =
     ap (λ n. tag_lexeme (tag_at table EndTag (n ++ rest))) e
     ∙ (chosen_true (is_letter c) _ _ l ∙ ap (λ h. behind_slash table mode (h ++ c ∷ rest)) (sym none))
 
--- a question mark, and another character behind `</`
+-- a question mark, and another character after `</`
 pub question_taken : (table : References) (foreign : Bool) (mode : Mode) (hs now : List ℕ) (c : ℕ) → c ≡ 63 → hs ≡ [] →
     now ≡ c ∷ [] → IsTaken table foreign mode TagOpen hs c BogusComment now
 question_taken table foreign mode hs now c q none e rest =

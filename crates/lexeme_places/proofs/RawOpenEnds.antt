@@ -1,4 +1,4 @@
--- What is held of the text of an element is no lexeme yet: some text behind it makes a tag of it, or begins another
+-- What is held of the text of an element is no lexeme yet: some text after it makes a tag of it, or begins another
 -- kind of text.
 use Rattle.std.proofs.Common.{◌≡◌, inl, inr, ℕ, zero, suc, Bool, true, false, not, ◌==◌, ◌&&◌, ◌||◌, nat_lt, List, []}
 use Rattle.std.proofs.Common.{◌∷◌, ◌++◌, length, drop, codes, Option, Some, None, option_map, IsTrue, append_assoc}
@@ -41,7 +41,7 @@ use Rattle.lexeme_places.proofs.EscapeWordLemmas.{changes, sign_and_text, stays}
 use Rattle.lexeme_places.proofs.RawTextLemmas.{IsOne, one}
 use Rattle.lexeme_places.proofs.WordLemmas.{whole_word}
 
--- ---- what is text with nothing behind it is no lexeme if with some text behind it a tag stands there, or another mode
+-- ---- what is text with nothing after it is no lexeme if with some text after it a tag stands there, or another mode
 -- begins
 
 same_mode : (l : Lexeme) (rest left other : List ℕ) (items more : List Item) (behind later : Mode) →

@@ -19,7 +19,7 @@ use Rattle.html_grammar.proofs.LexemeLemmas.{chosen_false}
 use Rattle.lexeme_places.specs.RawTurns.{IsText}
 use Rattle.lexeme_places.specs.Turns.{is_raw_text}
 
--- one character of text, behind which the text is of a kind
+-- one character of text, after which the text is of a kind
 abbrev pub IsOne : References → Bool → Mode → RawKind → ℕ → RawKind → List ℕ → Type 0
 IsOne table foreign mode kind c behind rest = lexeme table foreign (in_kind mode kind) (c ∷ rest)
     ≡ told (characters (c ∷ []) ∷ []) (in_kind mode behind) rest
@@ -103,7 +103,7 @@ plain_text table mode kind (c ∷ text) rest h =
       plain_text table mode kind text rest p.1,
     )
 
--- `<`, which is text, and such characters behind it
+-- `<`, which is text, and such characters after it
 pub sign_text : (table : References) (mode : Mode) (kind behind : RawKind) (text rest : List ℕ) →
     (has_end_tags kind && ends_raw_text mode.last_start_tag (text ++ rest)) ≡ false →
     kind_behind kind (60 ∷ (text ++ rest)) ≡ behind → list_all (is_raw_text behind) text ≡ true →

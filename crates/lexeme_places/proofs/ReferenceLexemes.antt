@@ -65,7 +65,7 @@ class_plain p a b d e c h =
 
 -- ---- references
 
--- with more text behind it
+-- with more text after it
 abbrev pub with_rest : List ℕ → Found → Found
 with_rest more found = record found { rest = found.rest ++ more }
 
@@ -112,7 +112,7 @@ settled_none table held c h none plain = record {
 
 -- ---- names
 
--- no name goes on behind a text, in what follows
+-- no name goes on after a text, in what follows
 abbrev pub NoneOn : References → List ℕ → List ℕ → Type 0
 NoneOn table text rest = (d : ℕ) (more later : List ℕ) → rest ≡ d ∷ (more ++ later) →
     finite.get table (text ++ d ∷ more) ≡ None

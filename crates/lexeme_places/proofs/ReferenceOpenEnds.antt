@@ -1,4 +1,4 @@
--- A character reference that goes on is open: some text behind it ends it, and the reference then has all of that text.
+-- A character reference that goes on is open: some text after it ends it, and the reference then has all of that text.
 use Rattle.std.proofs.Common.{◌≡◌, ◌≢◌, ℕ, Bool, true, false, not, ◌&&◌, ◌||◌, IsTrue, List, [], ◌∷◌, ◌++◌, length}
 use Rattle.std.proofs.Common.{length-append, eqb, ltb, Some, refl, sym, ap, subst, ◌∙◌, arith, append-nil}
 use Rattle.std.proofs.lemmas.Bool.{and_parts, eqb-true, ne_eqb}
@@ -29,7 +29,7 @@ use Rattle.lexeme_places.proofs.ReferencePlaces.{decimal_at, hexadecimal_at, one
 not_empty : (cs : List ℕ) (d : ℕ) (ds : List ℕ) → [] ≡ cs ++ d ∷ ds → ⊥
 not_empty cs d ds e = omega (arith, ap length e, length-append cs (d ∷ ds))
 
--- a lexeme that leaves nothing has no text behind it
+-- a lexeme that leaves nothing has no text after it
 taken_whole : (items : List Item) (behind : Mode) (d : ℕ) (ds : List ℕ) (l : Lexeme) →
     told items behind [] ≡ with_more (d ∷ ds) l → ⊥
 taken_whole items behind d ds nothing e = cc

@@ -135,7 +135,7 @@ module _ (table : lexemes.References) (base : ℕ) (held ds : List ℕ) (at : (r
       (λ is. goes_on table place place held c (more is) longer)
       (λ is. digits_end place c other is)
 
--- behind `#`, or behind `#x`
+-- after `#`, or after `#x`
 pub decimal_at : (table : lexemes.References) (d : ℕ) (ds rest : List ℕ) → list_all (is_digit 10) (d ∷ ds) ≡ true →
     first_passes (is_digit 10) rest ≡ false → reference table (35 ∷ d ∷ (ds ++ rest)) ≡ numeric_of 10 (d ∷ ds) rest
 decimal_at table d ds rest h e =

@@ -1,4 +1,4 @@
--- Slices of a text to which more is added behind, where something of it was left.
+-- Slices of a text to which more is added after, where something of it was left.
 use Rattle.std.proofs.Common.{◌≡◌, ◌≢◌, ℕ, Bool, true, false, if◌then◌else◌, List, [], ◌∷◌, ◌++◌, Option, Some, None}
 use Rattle.std.proofs.Common.{option_map, refl, ap}
 use Rattle.html_grammar.specs.Slices.{Cut, after, begins, cut, cut_here, front_while, longer, rest_while}

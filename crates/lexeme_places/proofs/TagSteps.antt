@@ -49,7 +49,7 @@ pub record IsFirst (c : ℕ) : Type 0 where
 first_is_no_gap : (c : ℕ) → IsFirst c → is_gap c ≡ false
 first_is_no_gap c h = ap (λ b. b || c == slash) h.no_space ∙ ne_eqb c 47 h.no_slash
 
--- ---- behind a tag's name or a value
+-- ---- after a tag's name or a value
 
 closes_aside : (table : References) (a b : Bool) (cs : List ℕ) (further : List ℕ → Option TagEnd) →
     rest_of (behind_gap table a cs further) ≡ rest_of (behind_gap table b cs further)
@@ -97,9 +97,9 @@ in_attribute table c cs first =
     ∙ behind_attribute table (λ k. attribute (name_of (c ∷ front_while p cs)) (value_of table k.slice))
     (value_behind (rest_while p cs))
 
--- ---- behind an attribute's name
+-- ---- after an attribute's name
 
--- the value behind a name, by what follows the spaces there, and all that stands there
+-- the value after a name, by what follows the spaces there, and all that stands there
 abbrev value_over : List ℕ → List ℕ → Option Cut
 value_over spaced cs = if begins (equals ∷ []) spaced then written_value (without_spaces (drop 1 spaced))
     else Some (record { slice = []; rest = cs })
@@ -151,7 +151,7 @@ module _ (place : TagPlace) (c : ℕ) where
       rest_in table place (c ∷ cs) ≡ rest_in table AttributeName cs
   attribute_begins at first table cs = ap (λ p. rest_in table p (c ∷ cs)) at ∙ in_attribute table c cs first
 
-  -- in an attribute's name or behind it
+  -- in an attribute's name or after it
   behind_name : place ≡ AttributeName ⊎ place ≡ AfterAttributeName → is_gap c ≡ true →
       (table : References) (cs : List ℕ) → rest_in table place (c ∷ cs) ≡ rest_in table AfterAttributeName (c ∷ cs)
   behind_name (inl at) gap table cs =

@@ -18,7 +18,7 @@ use Rattle.lexeme_places.proofs.SlicesGoOn.{Grows, cut-grows, cut_and, front-sam
 abbrev IsPastGap : List ℕ → Type 0
 IsPastGap cs = rest_while is_gap cs ≢ []
 
--- if more than a gap is left behind it, a cut is there in the longer text too
+-- if more than a gap is left after it, a cut is there in the longer text too
 abbrev GrowsPast : List ℕ → Option Cut → Option Cut → Type 0
 GrowsPast more None later = Unit
 GrowsPast more (Some cut) later = IsPastGap cut.rest → later ≡ Some (cut_and more cut)
@@ -65,7 +65,7 @@ written-grows : (cs more : List ℕ) → GrowsPast more (written_value cs) (writ
 written-grows [] more = λ past. absurd (past refl)
 written-grows (c ∷ cs) more = unquoted_grows c cs more (c == 34 || c == 39)
 
--- behind `=`, over spaces
+-- after `=`, over spaces
 spaced_grows : (spaced grown more : List ℕ) → (spaced ≢ [] → grown ≡ spaced ++ more) →
     GrowsPast more (written_value spaced) (written_value grown)
 spaced_grows [] grown more same = λ past. absurd (past refl)
@@ -73,7 +73,7 @@ spaced_grows (c ∷ cs) grown more same =
     subst (λ g. GrowsPast more (written_value (c ∷ cs)) (written_value g)) (sym (same (λ e. absurd cc)))
     (written-grows (c ∷ cs) more)
 
--- the value behind a name, by whether `=` stands there, what follows that, and all that stands there
+-- the value after a name, by whether `=` stands there, what follows that, and all that stands there
 abbrev value_if : Bool → List ℕ → List ℕ → Option Cut
 value_if equals_there behind cs = if equals_there then written_value (without_spaces behind)
     else Some (record { slice = []; rest = cs })
@@ -170,7 +170,7 @@ with_grows : (more : List ℕ) (a : Attribute) (o later : Option TagEnd) → End
 with_grows more a None later h = tt
 with_grows more a (Some end) later h = ap (option_map (with_attribute a)) h
 
--- an attribute, and the end of the tag behind it
+-- an attribute, and the end of the tag after it
 abbrev joined : (List ℕ → Option TagEnd) → Option (Attribute × List ℕ) → Option TagEnd
 joined further read = option_and_then (λ (r : Attribute × List ℕ). option_map (with_attribute r.0) (further r.1)) read
 

@@ -1,4 +1,4 @@
--- Where a comment behind `<!--` ends.
+-- Where a comment after `<!--` ends.
 use Rattle.std.specs.Prelude.{◌≡◌, ◌≢◌, ◌⊎◌, ℕ, List, ◌++◌, codes}
 
 -- the text ends with a mark, or it does not

@@ -20,7 +20,7 @@ use Rattle.lexeme_places.specs.declared.place.ReferencePlace.{ReferencePlace}
 use Rattle.lexeme_places.specs.declared.place.ReferencePlace.TheVariants.{Named, Numeric, HexadecimalStart, Decimal}
 use Rattle.lexeme_places.specs.declared.place.ReferencePlace.TheVariants.{Hexadecimal}
 
--- The table has a name that is longer than what is held of one; behind `&` alone a number may stand.
+-- The table has a name that is longer than what is held of one; after `&` alone a number may stand.
 abbrev pub IsNamed : References → ReferencePlace → List ℕ → Type 0
 IsNamed table Named [] = Unit {0}
 IsNamed table Named (c ∷ cs) = ¬ (¬ (HasLongerName table (c ∷ cs)))

@@ -26,7 +26,7 @@ is_begun_word [] cs = false
 is_begun_word (w ∷ ws) [] = true
 is_begun_word (w ∷ ws) (c ∷ cs) = to_ascii_lowercase c == w && is_begun_word ws cs
 
--- behind `<!`, the beginning of what opens a comment, a doctype or a section
+-- after `<!`, the beginning of what opens a comment, a doctype or a section
 abbrev pub is_begun_declaration : List ℕ → Bool
 is_begun_declaration held = is_begun (codes "--") held || is_begun_word (codes "doctype") held
     || is_begun (codes "[CDATA[") held

@@ -1,4 +1,4 @@
--- What a text behind `<!` opens.
+-- What a text after `<!` opens.
 use Rattle.std.specs.Prelude.{◌≡◌, ℕ, Bool, List, [], ◌∷◌, ◌++◌, IsTrue, Option}
 use Rattle.reference_tables.specs.References.{References}
 use Rattle.html_grammar.specs.Comments.{bogus_comment_slice}

@@ -23,7 +23,7 @@ abbrev pub are_hexadecimal : List ℕ → Bool
 are_hexadecimal (n ∷ x ∷ cs) = n == 35 && is_x x && are_digits 16 cs
 are_hexadecimal _ = false
 
--- what is held behind `&`
+-- what is held after `&`
 abbrev pub is_reference_held : ReferencePlace → List ℕ → Bool
 is_reference_held Named held = list_all is_alphanumeric held
 is_reference_held Numeric held = length held == 1 && list_all (λ c. c == 35) held

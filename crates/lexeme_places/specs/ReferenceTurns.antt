@@ -25,15 +25,15 @@ ReferenceTurns table place held c turn = (foreign : Bool) (mode : Mode) →
 abbrev pub goes : ReferencePlace → Turn
 goes place = Goes (CharacterReference place)
 
--- behind `#`
+-- after `#`
 abbrev pub number_turn : ℕ → Turn
 number_turn c = if is_x c then goes HexadecimalStart else (if is_digit 10 c then goes Decimal else EndsBefore)
 
--- behind `#x`
+-- after `#x`
 abbrev pub hexadecimal_turn : ℕ → Turn
 hexadecimal_turn c = if is_digit 16 c then goes Hexadecimal else EndsBefore
 
--- behind digits to the base
+-- after digits to the base
 abbrev pub digit_turn : ReferencePlace → ℕ → ℕ → Turn
 digit_turn place base c = if is_digit base c then goes place
     else (if c == semicolon then Ends (CharacterReference place) else EndsBefore)

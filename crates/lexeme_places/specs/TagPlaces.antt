@@ -11,7 +11,7 @@ use Rattle.lexeme_places.specs.declared.place.TagPlace.TheVariants.{TagName, Bef
 use Rattle.lexeme_places.specs.declared.place.TagPlace.TheVariants.{AfterAttributeName, BeforeAttributeValue}
 use Rattle.lexeme_places.specs.declared.place.TagPlace.TheVariants.{AttributeValue}
 
--- what follows the `>` of a tag, from behind its name on: none where the text ends in the tag
+-- what follows the `>` of a tag, from after its name on: none where the text ends in the tag
 abbrev pub tag_rest : References → List ℕ → Option (List ℕ)
 tag_rest table cs = option_map (λ end. end.rest) (tag_end table cs)
 

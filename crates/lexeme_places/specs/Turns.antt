@@ -15,7 +15,7 @@ use Rattle.lexeme_places.specs.declared.place.Place.TheVariants.{CharacterRefere
 use Rattle.lexeme_places.specs.declared.turn.Turn.{Turn}
 use Rattle.lexeme_places.specs.declared.turn.Turn.TheVariants.{Goes, Ends, EndsBefore}
 
--- a lexeme with more text behind it
+-- a lexeme with more text after it
 abbrev pub with_more : List ℕ → Lexeme → Lexeme
 with_more more nothing = nothing
 with_more more (told items behind rest) = told items behind (rest ++ more)

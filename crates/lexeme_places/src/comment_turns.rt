@@ -23,7 +23,7 @@ pub(crate) fn bogus_comment_turn(held: &mut String, c: char) -> Result<Turn, All
     Ok(Turn::Goes(Place::BogusComment))
 }
 
-/// A further character of a comment behind `<!--`.
+/// A further character of a comment after `<!--`.
 pub(crate) fn comment_turn(held: &mut String, c: char) -> Result<Turn, AllocError>
     requires { IsOpenComment (chars (string_bytes held.old)) }
     ensures { IfOk result (λ turn. (table : References) (foreign : Bool) (mode : SeenMode) →

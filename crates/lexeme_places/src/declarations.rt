@@ -16,7 +16,7 @@ pub(crate) enum Spelled {
     Apart,
 }
 
-/// What a text behind `<!` is.
+/// What a text after `<!` is.
 #[derive(Clone, Copy)]
 pub(crate) enum Opening {
     /// A beginning of what opens a comment, a doctype or a section.
@@ -27,7 +27,7 @@ pub(crate) enum Opening {
     Other,
 }
 
-/// What a text behind `<!` is (WHATWG HTML, 13.2.5.42); `foreign` says that the adjusted current node is foreign.
+/// What a text after `<!` is (WHATWG HTML, 13.2.5.42); `foreign` says that the adjusted current node is foreign.
 pub(crate) fn declared(foreign: bool, text: &str) -> Opening
     ensures { IsOpening foreign (chars text.now) result }
 {

@@ -3,13 +3,13 @@
 //! # What is proved
 //!
 //! A place says where in a lexeme the reading stands, and stands for the grammar's own lexeme of what is held there
-//! and any text behind it (`place_lexeme`).
+//! and any text after it (`place_lexeme`).
 //!
 //! - `first_of`: what a character is that stands first in text of a kind: text, as it is shown; a NUL of ordinary
 //!   text; the opening of a place, with the same lexeme; or the first that is held of an element's text (`IsFirst`)
-//! - `markup_turn`: a further character of markup or of a reference is held, and every text behind it gives the
+//! - `markup_turn`: a further character of markup or of a reference is held, and every text after it gives the
 //!   lexeme that it gave before, which may still become something else (`IsTaken`, `IsGoing`); or it is held and
-//!   the lexeme is over, or the lexeme was over before it: then no text behind changes it (`IsOver`). `None` at a
+//!   the lexeme is over, or the lexeme was over before it: then no text after changes it (`IsOver`). `None` at a
 //!   place in text, where nothing is changed
 //! - `raw_turn`, `section_turn`: the same in the text of an element, where a front of what is held may be text and
 //!   the kind of the text change (`RawTurns`), and in a CDATA section (`SectionTurns`)

@@ -16,7 +16,7 @@ use html_lexemes::ReferenceTable;
 use std::alloc::AllocError;
 
 /// What a further character does at a place in markup or in a character reference; `foreign` says that the adjusted
-/// current node is foreign, which matters behind `<!` alone. `None` is a place in text, where nothing is done.
+/// current node is foreign, which matters after `<!` alone. `None` is a place in text, where nothing is done.
 pub fn markup_turn(
     table: &ReferenceTable,
     foreign: bool,

@@ -11,7 +11,7 @@ use crate::turn::Turn;
 use html_lexemes::TagKind;
 use std::alloc::AllocError;
 
-/// The character behind `<`.
+/// The character after `<`.
 pub(crate) fn tag_open_turn(held: &mut String, c: char) -> Result<Turn, AllocError>
     requires { chars (string_bytes held.old) ≡ [] }
     ensures { IfOk result (λ turn. (table : References) (foreign : Bool) (mode : SeenMode) →
@@ -32,7 +32,7 @@ pub(crate) fn tag_open_turn(held: &mut String, c: char) -> Result<Turn, AllocErr
     }
 }
 
-/// The character behind `</`.
+/// The character after `</`.
 pub(crate) fn end_tag_open_turn(held: &mut String, c: char) -> Result<Turn, AllocError>
     requires { chars (string_bytes held.old) ≡ [] }
     ensures { IfOk result (λ turn. (table : References) (foreign : Bool) (mode : SeenMode) →
@@ -48,7 +48,7 @@ pub(crate) fn end_tag_open_turn(held: &mut String, c: char) -> Result<Turn, Allo
     Ok(Turn::Goes(Place::BogusComment))
 }
 
-/// A further character behind `<!`; `foreign` says that the adjusted current node is foreign.
+/// A further character after `<!`; `foreign` says that the adjusted current node is foreign.
 pub(crate) fn declaration_turn(
     foreign: bool,
     held: &mut String,

@@ -1,29 +1,29 @@
 use html_lexemes::TagKind;
 use html_lexemes::states::{AttrValueKind, RawKind};
 
-/// Where the tokenizer stands in a lexeme that is not over. What is held back is what stands behind the
+/// Where the tokenizer stands in a lexeme that is not over. What is held back is what stands after the
 /// opening that the place names.
 #[derive(Clone, Copy)]
 pub enum Place {
     /// Before a lexeme.
     Text,
-    /// Behind `&` in text (WHATWG HTML, 13.2.5.72).
+    /// After `&` in text (WHATWG HTML, 13.2.5.72).
     CharacterReference(ReferencePlace),
-    /// Behind `<` (WHATWG HTML, 13.2.5.6).
+    /// After `<` (WHATWG HTML, 13.2.5.6).
     TagOpen,
-    /// Behind `</` (WHATWG HTML, 13.2.5.7).
+    /// After `</` (WHATWG HTML, 13.2.5.7).
     EndTagOpen,
     /// In a tag, from its name on (WHATWG HTML, 13.2.5.8 and 13.2.5.32 to 13.2.5.40).
     Tag(TagKind, TagPlace),
-    /// Behind `<!` (WHATWG HTML, 13.2.5.42).
+    /// After `<!` (WHATWG HTML, 13.2.5.42).
     MarkupDeclarationOpen,
     /// In a comment that `>` ends (WHATWG HTML, 13.2.5.41).
     BogusComment,
-    /// Behind `<!--` (WHATWG HTML, 13.2.5.43 to 13.2.5.52).
+    /// After `<!--` (WHATWG HTML, 13.2.5.43 to 13.2.5.52).
     Comment,
-    /// Behind `<!doctype` (WHATWG HTML, 13.2.5.53 to 13.2.5.68).
+    /// After `<!doctype` (WHATWG HTML, 13.2.5.53 to 13.2.5.68).
     Doctype,
-    /// Behind `<![CDATA[` (WHATWG HTML, 13.2.5.69 to 13.2.5.71).
+    /// After `<![CDATA[` (WHATWG HTML, 13.2.5.69 to 13.2.5.71).
     CdataSection,
     /// In the text of an element, at a character that more may follow that matters; it is held too (WHATWG HTML,
     /// 13.2.5.9 to 13.2.5.31).
@@ -33,15 +33,15 @@ pub enum Place {
 /// Where in a character reference.
 #[derive(Clone, Copy)]
 pub enum ReferencePlace {
-    /// Behind `&`, in a name (WHATWG HTML, 13.2.5.73).
+    /// After `&`, in a name (WHATWG HTML, 13.2.5.73).
     Named,
-    /// Behind `#` (WHATWG HTML, 13.2.5.75).
+    /// After `#` (WHATWG HTML, 13.2.5.75).
     Numeric,
-    /// Behind `#x` (WHATWG HTML, 13.2.5.76).
+    /// After `#x` (WHATWG HTML, 13.2.5.76).
     HexadecimalStart,
     /// In digits (WHATWG HTML, 13.2.5.79).
     Decimal,
-    /// In digits behind `#x` (WHATWG HTML, 13.2.5.78).
+    /// In digits after `#x` (WHATWG HTML, 13.2.5.78).
     Hexadecimal,
 }
 

@@ -21,7 +21,7 @@ use html_lexemes::states::{RawKind, ScriptEscapeKind};
 use std::alloc::{AllocError, Global};
 
 /// What a further character does to what is held of the text of an element, of a kind, at a place; `last` is the name
-/// of the last start tag. What is held is then what it is behind that turn. The error is allocation failure alone.
+/// of the last start tag. What is held is then what it is after that turn. The error is allocation failure alone.
 pub fn raw_turn(
     alloc: Global,
     last: &Option<LocalName>,
@@ -63,7 +63,7 @@ fn turn_at(
     }
 }
 
-// changes what is held to what it is behind a turn
+// changes what is held to what it is after a turn
 fn take(turn: RawTurn, held: &mut String, c: char) -> Result<(), AllocError>
     ensures { OnOk result (chars (string_bytes held.new) ≡ held_behind turn (chars (string_bytes held.old)) c) }
 {

@@ -66,7 +66,7 @@ fn name_turn(table: &ReferenceTable, text: &str) -> Turn
     }
 }
 
-// What a character does behind `#`.
+// What a character does after `#`.
 fn number_turn(c: char) -> Turn
     ensures { result ≡ number_turn c }
 {
@@ -79,7 +79,7 @@ fn number_turn(c: char) -> Turn
     }
 }
 
-// What a character does behind `#x`.
+// What a character does after `#x`.
 fn hexadecimal_turn(c: char) -> Turn
     ensures { result ≡ hexadecimal_turn c }
 {
@@ -90,7 +90,7 @@ fn hexadecimal_turn(c: char) -> Turn
     }
 }
 
-// What a character does behind digits.
+// What a character does after digits.
 fn digit_turn(place: ReferencePlace, radix: u32, c: char) -> Turn
     requires least { 2 ≤ radix }
     requires most { radix ≤ 36 }

@@ -12,7 +12,7 @@ pub enum SectionTurn {
     Goes,
     /// It ends the section with what is held.
     Ends,
-    /// It is a `]` behind two that are held: one of the three is text.
+    /// It is a `]` after two that are held: one of the three is text.
     Shifts,
     /// What is held is text, and so is it.
     Text,
@@ -34,7 +34,7 @@ pub fn section_turn(held: &mut String, c: char) -> Result<SectionTurn, AllocErro
     Ok(SectionTurn::Goes)
 }
 
-// what a character does behind two brackets that are held
+// what a character does after two brackets that are held
 fn behind_brackets(c: char) -> SectionTurn
     ensures { (mode : SeenMode) → SectionTurns mode (codes "]]") c result (codes "]]") }
 {

@@ -8,7 +8,7 @@ use html_grammar::slices::CharacterClass;
 use html_lexemes::states::AttrValueKind;
 
 impl TagPlace {
-    /// The place behind a further character of a tag. `None` is the end: the character is the tag's `>`.
+    /// The place after a further character of a tag. `None` is the end: the character is the tag's `>`.
     pub(crate) fn next(self, c: char) -> Option<TagPlace>
         ensures { MatchOption result ((table : References) (cs : List ℕ) → rest_in table self (c ∷ cs) ≡ Some cs)
             (λ place. (table : References) (cs : List ℕ) → rest_in table self (c ∷ cs) ≡ rest_in table place cs) }

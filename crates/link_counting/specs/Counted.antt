@@ -9,7 +9,7 @@ use Rattle.text_decorators.specs.Steady.{plain_is_steady}
 use Rattle.link_counting.specs.declared.link_note.LinkNote.{LinkNote}
 use Rattle.link_counting.specs.declared.link_note.LinkNote.TheVariants.{Outside, Link}
 
--- plain text, but that a link's number stands behind it
+-- plain text, but that a link's number stands after it
 abbrev pub counter_text : ℕ → Mark → List ℕ
 counter_text links link_end = codes "][" ++ decimal links ++ codes "]"
 counter_text links m = plain_text m

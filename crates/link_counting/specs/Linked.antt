@@ -2,7 +2,7 @@
 use Rattle.std.specs.Prelude.{ℕ, List, ◌++◌}
 use Rattle.text_marks.specs.Marks.{Mark, link_start, link_end}
 
--- what is held behind a link to a target
+-- what is held after a link to a target
 abbrev pub behind_link : {H : Type 0} → (H → Mark → H) → H → List ℕ → H
 behind_link after h target = after (after h (link_start target)) link_end
 

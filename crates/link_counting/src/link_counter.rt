@@ -44,7 +44,7 @@ impl TextDecorator for LinkCounter {
 
     ghost one = { notes_are_one };
 
-    // Its error is also told where there are more links than a `usize` counts.
+    // Its error also comes where there are more links than a `usize` counts.
     fn decorate_link_start(
         &mut self,
         alloc: Global,

@@ -23,8 +23,8 @@ pub fn link<D: TextDecorator>(
     Ok(text)
 }
 
-/// Two links to `url`, one behind the other, with the same label: how the second differs is what the decorator holds
-/// behind the first.
+/// Two links to `url`, one after the other, with the same label: how the second differs is what the decorator holds
+/// after the first.
 pub fn two_links<D: TextDecorator>(
     alloc: Global,
     decorator: &mut D,

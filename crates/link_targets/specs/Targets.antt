@@ -1,4 +1,4 @@
--- The targets of links, in order: which of them have a footnote, and the number behind a link.
+-- The targets of links, in order: which of them have a footnote, and the number after a link.
 use Rattle.std.specs.Prelude.{ℕ, ◌+◌, Bool, List, [], ◌∷◌, ◌++◌, Option, None, Some, fold, length, nat_eq}
 use Rattle.std.specs.Prelude.{if◌then◌else◌}
 use Rattle.std.specs.Cmp.Lexicographic.{pointwise}

@@ -4,7 +4,7 @@ ghost use Rattle.std.specs.List.{count_by};
 ghost use Rattle.text_pieces.specs.Sources.{is_filled};
 ghost use Rattle.link_targets.specs.Targets.{distinct, has_text, is_same_text, last_number, number_among};
 
-/// Where links to equal targets share a footnote, each target has just one (`once`), the number behind a link is that
+/// Where links to equal targets share a footnote, each target has just one (`once`), the number after a link is that
 /// of its target's footnote (`number`), and it stays so whatever links follow (`stays`); there are footnotes where
 /// there are links (`some`).
 pub fn links_share_footnotes()

@@ -10,7 +10,7 @@
 //! - `LinkTargets::last_number`: the number of the last link's footnote, as footnotes are shared or not; the links
 //!   stay
 //! - `LinkTargets::into_noted`: just the targets that have footnotes, in the order of their numbers
-//! - `links_share_footnotes`: a law of shared footnotes: each target has just one, the number behind a link is the
+//! - `links_share_footnotes`: a law of shared footnotes: each target has just one, the number after a link is the
 //!   place of its own target, and stays so whatever links follow; there is one where there is a link
 //!
 //! Not pinned: that memory is found, and how often a target is looked up (once, by reading).

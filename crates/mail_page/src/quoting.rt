@@ -5,7 +5,7 @@ use std::io::Write;
 /// The columns of a quoted line, without what stands before it.
 pub(crate) const WIDTH: usize = 20;
 
-/// Writes the page as it is shown, an empty line, and each of its lines behind `> `.
+/// Writes the page as it is shown, an empty line, and each of its lines after `> `.
 pub(crate) fn write_answer<W: Write>(
     output: &mut W,
     shown: &str,

@@ -42,7 +42,7 @@ not_begun : (word cs : List ℕ) (b : Bool) → b ≡ begins_word word cs →
 not_begun word cs true e is = absurd (some_none (drop (length word) cs) (sym is))
 not_begun word cs false e is = sym e
 
--- the text is the word where nothing is left behind it
+-- the text is the word where nothing is left after it
 pub word_whole : (word cs left : List ℕ) → IsUtf8 left → Some (chars left) ≡ after_word word cs →
     eqb (length left) 0 ≡ bytes_eq (in_lower_case cs) word
 word_whole word cs left u is =

@@ -14,7 +14,7 @@ is_white_space c = c == 9 || (c == 10 || (c == 12 || (c == 13 || c == 32)))
 abbrev pub without_white_space : List ℕ → List ℕ
 without_white_space cs = rest_while is_white_space cs
 
--- What stands behind `charset`, ASCII case aside, and `=`, over white space round that, where a text begins with these
+-- What stands after `charset`, ASCII case aside, and `=`, over white space round that, where a text begins with these
 -- (2.5.3, "extracting a character encoding from a meta element", steps 2 to 5).
 abbrev pub behind_equals : List ℕ → Option (List ℕ)
 behind_equals cs = option_map without_white_space (after (codes "=") (without_white_space cs))

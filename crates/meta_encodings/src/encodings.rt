@@ -10,7 +10,7 @@ use html_grammar::slices::{behind, behind_word, cut_at, first_and_rest};
 use tree_words::{Attributes, is_in_lower_case, value_of};
 
 /// The name of the encoding that the attributes of a `meta` tell: the value of the first `charset`, or else, where
-/// `http-equiv` is `content-type` in any ASCII case, what `content` has behind its first `charset` with a `=`
+/// `http-equiv` is `content-type` in any ASCII case, what `content` has after its first `charset` with a `=`
 /// (WHATWG HTML, 13.2.6.4.4 and 2.5.3). Whether an encoding has that name is not looked at.
 pub fn named_encoding(attrs: &Attributes) -> Option<&str>
     ensures name { option_map (λ name. chars name.now) result ≡ named_encoding attrs.now }
@@ -57,7 +57,7 @@ fn encoding_in(content: &str) -> Option<&str>
     }
 }
 
-// what stands behind the first `charset` with a `=`
+// what stands after the first `charset` with a `=`
 fn behind_first(content: &str) -> Option<&str>
     ensures rest { option_map (λ rest. chars rest.now) result ≡ behind_first (chars content.now) }
     ensures utf8 { IfSome result (λ rest. IsUtf8 rest.now) }
@@ -72,7 +72,7 @@ fn behind_first(content: &str) -> Option<&str>
     None
 }
 
-// what stands behind `charset` and its `=`, where a text begins with these
+// what stands after `charset` and its `=`, where a text begins with these
 fn behind_charset(text: &str) -> Option<&str>
     ensures rest { option_map (λ rest. chars rest.now) result ≡ behind_charset (chars text.now) }
     ensures utf8 { IfSome result (λ rest. IsUtf8 rest.now) }
@@ -83,7 +83,7 @@ fn behind_charset(text: &str) -> Option<&str>
     }
 }
 
-// what stands behind a `=` and the white space round it
+// what stands after a `=` and the white space round it
 fn behind_equals(text: &str) -> Option<&str>
     ensures rest { option_map (λ rest. chars rest.now) result ≡ behind_equals (chars text.now) }
     ensures utf8 { IfSome result (λ rest. IsUtf8 rest.now) }

@@ -14,7 +14,7 @@ first_word : (word : Bor (List ℕ)) (words : List (Bor (List ℕ))) (name : Lis
 first_word word words name u h = ap (λ b. b || is_one_of (words_of words) (chars name))
     (sym (same_word name word.now u (and_parts (is_ascii_word word.now) (are_ascii (words_of words)) h).0))
 
--- the same behind the words that were tried
+-- the same after the words that were tried
 next_word : (words : List (Bor (List ℕ))) (i : ℕ) (d : Bor (List ℕ)) (name : List ℕ) → IsUtf8 name → i < length words →
     IsTrue (are_ascii (words_of (drop i words))) →
     is_one_of (words_of (drop i words)) (chars name)

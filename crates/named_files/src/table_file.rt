@@ -13,7 +13,7 @@ const PIECE: usize = 8192;
 
 /// The table of references in the file of a name, in the form in which the standard publishes it (WHATWG HTML, 13.5).
 /// The error is `NotRead` where the file can't be opened or read, `Refused` where it is no such table, and else
-/// allocation failure .
+/// allocation failure.
 pub fn table_in_file<F: FileOpener>(
     alloc: Global,
     files: &F,

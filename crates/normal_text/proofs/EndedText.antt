@@ -1,4 +1,4 @@
--- A space behind a text that ends in visible ASCII changes none of its lines; and lines that end with a text.
+-- A space after a text that ends in visible ASCII changes none of its lines; and lines that end with a text.
 use Rattle.std.proofs.Common.{◌≡◌, ◌≢◌, ℕ, ◌<◌, Bool, true, false, List, [], ◌∷◌, ◌++◌, length, map, inl, inr}
 use Rattle.std.proofs.Common.{sym, ap, ◌∙◌, refl, subst, append_assoc, append-nil, arith}
 use Rattle.std.specs.Prelude.{Result, Ok, Err, IfOk, Option, Some, is_some, All, IsTrue, if◌then◌else◌}
@@ -28,7 +28,7 @@ some_filled : {S : Type 0} (ls : List (Letter S)) (l : Letter S) → is_filled (
 some_filled [] l = refl
 some_filled (x ∷ ls) l = refl
 
--- a space behind a word with columns ends it, as the end does
+-- a space after a word with columns ends it, as the end does
 space_ends : {S : Type 0} (width : ℕ) (lines : Filled S) (space : Option S) (ls : List (Letter S)) (l s : Letter S)
     → width_of l.code ≡ 1 → is_break_point s.code ≡ true
     → lines_read width (read_letter width (reading lines space (ls ++ l ∷ [])) s)
@@ -187,7 +187,7 @@ ends_ended seen block new cs ended tag lines is reads laid joined =
           joined width overflow (read ++ lettered ended tag) (reads width overflow read h);
     }
 
--- lines without more behind them
+-- lines without more after them
 pub ends_here : {T S : Type 0} (seen : T → S) (block : NormalText T) (lines : List (TaggedLine T))
     → ((width : ℕ) (overflow : Bool) (read : List (Letter S)) → HasRead seen width overflow read block
     → map (line_items seen) lines ≡ map marks_items (all_lines (add_units width (units read))))
@@ -202,7 +202,7 @@ ends_here seen block lines laid joined =
       joined = joined;
     }
 
--- lines with a text behind another
+-- lines with a text after another
 pub ends_behind : {T S : Type 0} (seen : T → S) (block new : NormalText T) (front back all : List (Letter S))
     (lines : List (TaggedLine T)) → all ≡ front ++ back
     → ((width : ℕ) (overflow : Bool) (read : List (Letter S)) → HasRead seen width overflow read block

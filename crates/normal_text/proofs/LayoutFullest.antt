@@ -9,13 +9,13 @@ use Rattle.normal_text.specs.Layout.{joined_lines}
 use Rattle.normal_text.proofs.LayoutSplits.{IsLonger, two_fronts, columns_grow, IsRun, run_next, run_from_allowed}
 use Rattle.normal_text.proofs.LayoutSplits.{more_fit, CanBegin, lines_begin, joined-append}
 
--- An allowed line that is as long as any front of what is left behind which a line can begin.
+-- An allowed line that is as long as any front of what is left after which a line can begin.
 pub record IsBest {S : Type 0} (w : ℕ) (o : Bool) (line after : List (Mark S)) : Type 0 where
   pub allowed : IsAllowed w o line
   pub longest : (other rest : List (Mark S)) → other ++ rest ≡ line ++ after → IsAllowed w o other → CanBegin rest
       → length other ≤ length line
 
--- each line is, where `after` stands behind them
+-- each line is, where `after` stands after them
 abbrev pub AreBest : {S : Type 0} → ℕ → Bool → List (List (Mark S)) → List (Mark S) → Type 0
 AreBest w o [] after = Unit {0}
 AreBest w o (line ∷ lines) after = IsBest w o line (joined_lines lines ++ after) × AreBest w o lines after
@@ -81,7 +81,7 @@ inside_begins : {S : Type 0} (m : Mark S) → m.joint ≡ inside → IsTrue (can
 inside_begins {S} m is begins = let no : can_start {S = S} inside ≡ true = subst (λ j. IsTrue (can_start j)) is begins
     in cc
 
--- a front that reaches into letters inside a unit, behind which a line can begin, reaches past them
+-- a front that reaches into letters inside a unit, after which a line can begin, reaches past them
 record Reaches {S : Type 0} (front ms : List (Mark S)) : Type 0 where
   past : List (Mark S)
   is : front ≡ ms ++ past

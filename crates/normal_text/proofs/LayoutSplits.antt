@@ -9,7 +9,7 @@ use Rattle.normal_text.specs.Layout.{IsAllowed, joined_lines}
 
 -- ---- two fronts of one list
 
--- The front `long`, with `rest` behind it, is the front `short` and some more, where `after` stands behind `short`.
+-- The front `long`, with `rest` after it, is the front `short` and some more, where `after` stands after `short`.
 pub record IsLonger {A : Type 0} (long rest short after : List A) : Type 0 where
   pub next : A
   pub more : List A
@@ -91,7 +91,7 @@ Follow-next : {S : Type 0} (xs : List (Mark S)) (m : Mark S) (ms : List (Mark S)
 Follow-next [] m ms h = h.0
 Follow-next (x ∷ xs) m ms h = Follow-next xs m ms h.1
 
--- what stands behind letters of a line can follow
+-- what stands after letters of a line can follow
 pub run_next : {S : Type 0} (line : List (Mark S)) (m : Mark S) (ms : List (Mark S)) → IsRun line
     → IsRun (line ++ m ∷ ms) → IsTrue (can_follow m.joint)
 run_next [] m ms h k = absurd h
@@ -135,7 +135,7 @@ more_fit w o [] m ms run h = absurd run
 more_fit w o (a ∷ []) m ms run h = two_fit w o a m ms h
 more_fit w o (a ∷ b ∷ ls) m ms run h = two_fit w o a b (ls ++ m ∷ ms) h
 
--- ---- what can stand behind a line
+-- ---- what can stand after a line
 
 abbrev pub CanBegin : {S : Type 0} → List (Mark S) → Type 0
 CanBegin [] = Unit {0}

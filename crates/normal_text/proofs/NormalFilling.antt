@@ -72,7 +72,7 @@ without_room seen old new more test ended_line =
           (sym (room_test seen width overflow old f more h) ∙ sym test))) (ended_line.lays width overflow f h);
     }
 
--- letters behind those of the line at hand
+-- letters after those of the line at hand
 abbrev pub pushed : {S : Type 0} → Filled S → List (Mark S) → Filled S
 pushed f ms = filled f.done (f.line ++ ms)
 

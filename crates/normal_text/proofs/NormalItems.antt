@@ -56,7 +56,7 @@ letters_counted (l ∷ ls) =
     let one = one_more l.code l.tag (letter_items ls) in
     omega (arith, rest, one)
 
--- ---- letters behind those of a line
+-- ---- letters after those of a line
 
 pub following_items-append : {S : Type 0} (xs ys : List (Mark S)) → following_items (xs ++ ys) ≡ following_items
     xs ++ following_items ys

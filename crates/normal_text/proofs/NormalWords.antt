@@ -120,7 +120,7 @@ pub run_held : {T S : Type 0} (seen : T → S) (old new : NormalText T) (cs rest
 run_held seen old new cs rest tag all w l s added =
     record { front = cs; whole = refl; reads = run_reads seen old new cs tag all w l s added }
 
--- behind characters a front of what follows them
+-- after characters a front of what follows them
 pub run_further : {T S : Type 0} (seen : T → S) (old mid new : NormalText T) (run rest behind left : List ℕ) (tag : S)
     → ReadsRun seen old mid run rest (chars behind) tag → ReadsFront seen mid new behind left tag
     → ReadsRun seen old new run rest (chars left) tag

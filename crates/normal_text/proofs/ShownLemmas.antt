@@ -19,7 +19,7 @@ shown_note (c ∷ cs) name = ap (λ items. marker name ∷ items) (shown_note cs
 
 -- ---- line by line
 
--- what a line makes of what is done and in front, behind which other lines come
+-- what a line makes of what is done and in front, after which other lines come
 pub settled_more : {S : Type 0} (done lines : List (List (Item S))) (front line : List (Item S))
     → has_text front ≡ false
     → (if has_text (front ++ line) then done ++ (front ++ line) ∷ [] else done)

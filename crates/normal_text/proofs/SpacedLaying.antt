@@ -1,4 +1,4 @@
--- Words behind single spaces: how they are read, and laid on a line at once.
+-- Words after single spaces: how they are read, and laid on a line at once.
 use Rattle.std.proofs.Common.{◌≡◌, ◌≢◌, ℕ, ◌+◌, ◌≤◌, Bool, true, false, ◌||◌, nat_le, List, [], ◌∷◌, ◌++◌, length}
 use Rattle.std.proofs.Common.{fold, sym, ap, ◌∙◌, refl, subst, append_assoc, append-nil, chars, IsUtf8, encode_utf8}
 use Rattle.std.proofs.Common.{inr, arith}
@@ -229,7 +229,7 @@ words_moved seen old new words text tag awaits all text_is more laid w s o =
       room = λ width overflow r h. words_room seen width overflow old r tag words h room all;
     }
 
--- the words in front of a text are read, with the space behind them
+-- the words in front of a text are read, with the space after them
 pub words_taken : {T S : Type 0} (seen : T → S) (old new : NormalText T) (text after here rest back behind : List ℕ)
     (n room read c : ℕ) (tag : S) → AwaitsWord seen old tag → IsUtf8 text → IsUtf8 back →
     text ≡ encode_utf8 read ++ after → read ≡ 0x20

@@ -71,7 +71,7 @@ text_pushed seen old new front text tag w o d added joins is =
       joins = joins;
     }
 
--- ---- behind other words
+-- ---- after other words
 
 same_rest : (a b : ℕ) (xs ys : List ℕ) → a ∷ xs ≡ b ∷ ys → xs ≡ ys
 same_rest a b xs ys e = cc

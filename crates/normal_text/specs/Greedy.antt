@@ -20,7 +20,7 @@ ended (m ∷ ms) = (m ∷ ms) ∷ []
 abbrev pub all_lines : {S : Type 0} → Filled S → List (List (Mark S))
 all_lines f = f.done ++ ended f.line
 
--- letters behind those of the line where they go on it, else on a fresh line
+-- letters after those of the line where they go on it, else on a fresh line
 abbrev pub add_marks : {S : Type 0} → ℕ → Filled S → List (Mark S) → Filled S
 add_marks width f ms = if nat_le (columns (f.line ++ ms)) width then filled f.done (f.line ++ ms) else filled
     (all_lines f) ms

@@ -34,7 +34,7 @@ pub record LeavesWord (text rest : List ℕ) : Type 0 where
   pub parts : IsBehind text rest
   pub bare : All (λ c. is_carrier c ≡ false) (chars parts.front)
 
--- whether a marker behind the text rides on its last word
+-- whether a marker after the text rides on its last word
 abbrev pub in_word_behind : ℕ → Bool → List ℕ → Bool
 in_word_behind width in_word cs = fold (in_word_at width) in_word cs
 

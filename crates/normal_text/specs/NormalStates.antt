@@ -25,7 +25,7 @@ abbrev pub space_columns : {S : Type 0} → Option S → ℕ
 space_columns None = 0
 space_columns (Some tag) = 1
 
--- the space behind what stands on a line: none at its beginning
+-- the space after what stands on a line: none at its beginning
 abbrev pub space_behind : {S : Type 0} → List (Item S) → Option S → List (Item S)
 space_behind [] space = []
 space_behind (item ∷ items) space = space_items space
@@ -93,13 +93,13 @@ pub record LaysCut {T S : Type 0} (seen : T → S) (old new : Filling T) (items 
   pub lays_cut : (ms : List (Mark S)) → ShowsAs ms items
       → Lays seen old new (λ width f. fold (add_mark width) (filled (all_lines f) []) ms)
 
--- Lays the items whole, behind the white space.
+-- Lays the items whole, after the white space.
 pub record LaysWhole {T S : Type 0} (seen : T → S) (old new : Filling T) (space : Option S)
     (items : List (Item S)) : Type 0 where
   pub lays_whole : (l : Letter S) (ls : List (Letter S)) → items ≡ letter_items (l ∷ ls)
       → Lays seen old new (λ width f. add_marks width f (marked (opens space) inside (l ∷ ls)))
 
--- Lays the items whole or cut, behind the white space.
+-- Lays the items whole or cut, after the white space.
 pub record LaysUnit {T S : Type 0} (seen : T → S) (old new : Filling T) (space : Option S)
     (items : List (Item S)) : Type 0 where
   pub lays_unit : (l : Letter S) (ls : List (Letter S)) → items ≡ letter_items (l ∷ ls)
@@ -110,11 +110,11 @@ pub record TakesMore {T S : Type 0} (seen : T → S) (filling : Filling T) (more
   pub some : line_columns (line_items seen filling.line) ≢ 0
   pub fits : line_columns (line_items seen filling.line) + more ≤ filling.width
 
--- words of one tag, each behind a space of the same
+-- words of one tag, each after a space of the same
 abbrev pub word_pieces : {S : Type 0} → S → List (List ℕ) → List (Piece S)
 word_pieces tag words = map (λ word. piece (Some tag) (lettered word tag)) words
 
--- Lays words, each behind a space, where the line goes on with them.
+-- Lays words, each after a space, where the line goes on with them.
 pub record LaysWords {T S : Type 0} (seen : T → S) (old new : Filling T) (text : List ℕ) (tag : S) : Type 0 where
   pub lays_words : (words : List (List ℕ)) → All IsWord words → text ≡ spaced words
       → TakesMore seen old (length (spaced words))
@@ -142,7 +142,7 @@ pub record Moves {T S : Type 0} (seen : T → S) (old new : NormalText T) (step 
     pub moves : (width : ℕ) (overflow : Bool) (r : Reading S) → HoldsReading seen width overflow old r
         → HoldsReading seen width overflow new (step width r)
 
--- The block reads the letters behind what it read before, and lines can hold each.
+-- The block reads the letters after what it read before, and lines can hold each.
 pub record Reads {T S : Type 0} (seen : T → S) (old new : NormalText T) (ls : List (Letter S)) : Type 0 where
   pub moves : Moves seen old new (λ width r. read_letters width r ls)
   pub room : (width : ℕ) (overflow : Bool) (r : Reading S) → HoldsReading seen width overflow old r
@@ -182,7 +182,7 @@ pub record EndsWord {T S : Type 0} (seen : T → S) (block : NormalText T) (colu
   pub whole : rest ≡ encode_utf8 code ++ behind
   pub shorter : length behind < length rest
 
--- Where no word is at hand, the characters are laid as one, and the break point behind them is read.
+-- Where no word is at hand, the characters are laid as one, and the break point after them is read.
 pub record LaysWord {T S : Type 0} (seen : T → S) (old new : NormalText T) (run : List ℕ) (code : ℕ)
     (tag : S) : Type 0 where
   pub lays : (width : ℕ) (overflow : Bool) (r : Reading S) → HoldsReading seen width overflow old r → r.letters ≡ []
@@ -203,7 +203,7 @@ pub record FillsLine {T S : Type 0} (seen : T → S) (block : NormalText T) (tex
   pub words : IsLineAndSpace text columns
   pub fits : columns ≤ block.width
 
--- A space with that tag is to stand before the next word, and a text is words that go on the line, each behind a space,
+-- A space with that tag is to stand before the next word, and a text is words that go on the line, each after a space,
 -- and one more space.
 pub record FillsOn {T S : Type 0} (seen : T → S) (block : NormalText T) (text : List ℕ) (columns : ℕ) (tag : S) : Type 0
   where
@@ -222,7 +222,7 @@ pub record HasRead {T S : Type 0} (seen : T → S) (width : ℕ) (overflow : Boo
   pub state : HoldsReading seen width overflow block (read_letters width nothing_read read)
   pub room : AllHaveRoom width overflow read
 
--- The lines are those of what a block has read and these letters behind it, and lines can hold each.
+-- The lines are those of what a block has read and these letters after it, and lines can hold each.
 pub record EndsAs {T S : Type 0} (seen : T → S) (block : NormalText T) (ls : List (Letter S))
     (lines : List (TaggedLine T)) : Type 0 where
   pub laid : (width : ℕ) (overflow : Bool) (read : List (Letter S)) → HasRead seen width overflow read block
@@ -236,7 +236,7 @@ pub record EndsAs {T S : Type 0} (seen : T → S) (block : NormalText T) (ls : L
 abbrev pub word_read : {S : Type 0} → ℕ → S → ℕ → Reading S → Reading S
 word_read code tag width r = reading r.lines r.space (r.letters ++ lettered (code ∷ []) tag)
 
--- A break point behind the word at hand.
+-- A break point after the word at hand.
 abbrev pub space_read : {S : Type 0} → ℕ → S → ℕ → Reading S → Reading S
 space_read code tag width r = reading r.lines (first_of r.space (if is_white_space code then Some tag else None))
     r.letters

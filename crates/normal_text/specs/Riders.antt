@@ -22,7 +22,7 @@ abbrev pub ride : {S : Type 0} → List ℕ → Letter (Rider S)
 ride name = record { code = 0x2060; tag = note name }
 
 -- The letters of a text with its markers on them; the markers that wait for a word; whether a marker rides on the word
--- before it: not behind a break point, nor behind a character that is wider than the width, which stands alone.
+-- before it: not after a break point, nor after a character that is wider than the width, which stands alone.
 pub record Carried (S : Type 0) : Type 0 where
   pub letters : List (Letter (Rider S))
   pub waiting : List (List ℕ)
@@ -78,7 +78,7 @@ shown_lines width letters = map (map shown_item) (map marks_items (all_lines (ad
 unfoldable pub normal_lines : {S : Type 0} → ℕ → List (Source S) → List (List (Item S))
 normal_lines width source = settled_lines [] (shown_lines width (carried width source).letters)
 
--- the markers that wait for what comes behind it
+-- the markers that wait for what comes after it
 unfoldable pub normal_waiting : {S : Type 0} → ℕ → List (Source S) → List (List ℕ)
 normal_waiting width source = markers_of (settled_rest [] (shown_lines width (carried width source).letters))
     ++ (carried width source).waiting

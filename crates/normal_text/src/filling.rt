@@ -51,7 +51,7 @@ impl<T: EqualCopy + Drop> Filling<T> {
         self.allow_overflow || columns <= self.width
     }
 
-    /// Whether the line can take so many columns more, and so many behind them.
+    /// Whether the line can take so many columns more, and so many after them.
     fn fits(&self, gap: usize, columns: usize) -> bool
         ensures { result ≡ nat_le (line_columns (line_items T.seen self.now.line) + (gap + columns)) self.now.width }
     {
@@ -70,7 +70,7 @@ impl<T: EqualCopy + Drop> Filling<T> {
         self.width.saturating_sub(taken)
     }
 
-    /// Adds words, each behind a space, which have that many columns and go on the line, where it has some.
+    /// Adds words, each after a space, which have that many columns and go on the line, where it has some.
     pub(crate) fn push_words(
         &mut self,
         words: &str,
@@ -104,7 +104,7 @@ impl<T: EqualCopy + Drop> Filling<T> {
         self.line.push_string(without_last(text), columns, tag)
     }
 
-    /// Adds a word behind the line's text, with a space of the given tag between them, where both go on
+    /// Adds a word after the line's text, with a space of the given tag between them, where both go on
     /// it; else on a fresh line. A word wider than a line is cut there. What is left of the word is of no use.
     pub(crate) fn add_word(
         &mut self,
@@ -277,7 +277,7 @@ fn space_columns<T: EqualCopy>(space: Option<&T>) -> usize
     }
 }
 
-/// Moves a word to a line's end, behind a space of the given tag where the line has text.
+/// Moves a word to a line's end, after a space of the given tag where the line has text.
 fn push_behind<T: EqualCopy + Drop>(
     line: &mut TaggedLine<T>,
     space: Option<&T>,
@@ -292,7 +292,7 @@ fn push_behind<T: EqualCopy + Drop>(
     line.append(word)
 }
 
-/// Adds a text, which has that many columns, at a line's end, behind a space of the given tag where the line has text.
+/// Adds a text, which has that many columns, at a line's end, after a space of the given tag where the line has text.
 fn push_run_behind<T: EqualCopy + Drop>(
     line: &mut TaggedLine<T>,
     space: Option<&T>,

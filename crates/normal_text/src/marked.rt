@@ -17,7 +17,7 @@ use std::alloc::Global;
 use tagged_lines::EqualCopy;
 use text_pieces::{BlockError, LaidText, Piece, names_before, split_before};
 
-/// Normal text whose markers ride on its words: one behind a word's character stays there, another waits for the next
+/// Normal text whose markers ride on its words: one after a word's character stays there, another waits for the next
 /// word.
 #[derive(Drop)]
 pub(crate) struct MarkedText<T> {
@@ -45,7 +45,7 @@ impl<T: EqualCopy + Drop> MarkedText<T> {
         }
     }
 
-    /// Adds a piece behind those before. What was refused is to be thrown away.
+    /// Adds a piece after those before. What was refused is to be thrown away.
     pub(crate) fn add_piece(&mut self, piece: &Piece<T>) -> Result<(), BlockError>
         ensures kinds { IfErr result (λ e. (e ≡ BlockError.TooNarrow) ⊎ (e ≡ BlockError.Memory)) }
         ensures carries { OnOk result (CarriesOn T.seen self.old self.new (piece_sources T.seen piece.now)) }

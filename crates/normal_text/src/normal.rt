@@ -23,7 +23,7 @@ pub(crate) struct NormalText<T> {
     lines: Filling<T>,
     /// The tag of the first white space since the last word that was laid.
     space: Option<T>,
-    /// What was read since the last break point behind a character of some column.
+    /// What was read since the last break point after a character of some column.
     word: TaggedLine<T>,
 }
 
@@ -51,7 +51,7 @@ impl<T: EqualCopy + Drop> NormalText<T> {
         }
     }
 
-    /// Adds text behind what was added before. What was refused is to be thrown away.
+    /// Adds text after what was added before. What was refused is to be thrown away.
     pub(crate) fn add_text(&mut self, text: &str, tag: &T) -> Result<(), BlockError>
         ensures kinds { IfErr result (λ e. (e ≡ BlockError.TooNarrow) ⊎ (e ≡ BlockError.Memory)) }
         ensures read { OnOk result ((width : ℕ) (overflow : Bool) (read : List (Letter T.Seen))
@@ -110,7 +110,7 @@ impl<T: EqualCopy + Drop> NormalText<T> {
         }
     }
 
-    /// Moves words onto the line, which has none, and reads the space behind them.
+    /// Moves words onto the line, which has none, and reads the space after them.
     fn begin_line(&mut self, text: String, columns: usize, tag: T) -> Result<(), AllocError>
         requires { FillsLine T.seen self.old (chars (string_bytes text)) columns }
         ensures { OnOk result (Reads T.seen self.old self.new
@@ -122,7 +122,7 @@ impl<T: EqualCopy + Drop> NormalText<T> {
         Ok(())
     }
 
-    /// Adds the first character; where the text is words that then go on the line, and a space behind them, it is moved
+    /// Adds the first character; where the text is words that then go on the line, and a space after them, it is moved
     /// there.
     fn add_spaced(&mut self, text: String, tag: T) -> Result<(), BlockError>
         ensures kinds { IfErr result (λ e. (e ≡ BlockError.TooNarrow) ⊎ (e ≡ BlockError.Memory)) }
@@ -142,7 +142,7 @@ impl<T: EqualCopy + Drop> NormalText<T> {
         self.add_normal(rest, &tag)
     }
 
-    /// The columns of a text but for the space at its end, where it is words that go on the line, each behind a space,
+    /// The columns of a text but for the space at its end, where it is words that go on the line, each after a space,
     /// and that space.
     fn more_of_line(&self, text: &str, tag: &T) -> Option<usize>
         ensures { IfSome result (λ columns. FillsOn T.seen self.now (chars text.now) columns (T.seen tag.now)) }
@@ -154,7 +154,7 @@ impl<T: EqualCopy + Drop> NormalText<T> {
         }
     }
 
-    /// Moves words, each behind a space, onto the line, and reads the space behind them; the first space was read.
+    /// Moves words, each after a space, onto the line, and reads the space after them; the first space was read.
     fn move_more(&mut self, text: String, columns: usize, tag: T) -> Result<(), AllocError>
         requires { FillsOn T.seen self.old (chars (string_bytes text)) columns (T.seen tag) }
         ensures { OnOk result ((first : ℕ) (after : List ℕ) → chars (string_bytes text) ≡ first ∷ after
@@ -175,7 +175,7 @@ impl<T: EqualCopy + Drop> NormalText<T> {
         self.add_normal(rest, tag)
     }
 
-    /// Moves a text whose characters join the word at hand behind it.
+    /// Moves a text whose characters join the word at hand after it.
     fn add_part(&mut self, text: String, tag: T) -> Result<(), AllocError>
         requires { All (JoinsWord self.old) (chars (string_bytes text)) }
         ensures { OnOk result (Reads T.seen self.old self.new (lettered (chars (string_bytes text)) (T.seen tag))) }
@@ -233,7 +233,7 @@ impl<T: EqualCopy + Drop> NormalText<T> {
         self.add_run(run, rest, tag)
     }
 
-    /// Adds the first character, and behind a space the words that go on the line; what follows is left.
+    /// Adds the first character, and after a space the words that go on the line; what follows is left.
     fn add_first<'a>(&mut self, text: &'a str, tag: &T) -> Result<&'a str, BlockError>
         ensures kinds { IfErr result (λ e. (e ≡ BlockError.TooNarrow) ⊎ (e ≡ BlockError.Memory)) }
         ensures read { IfOk result (λ rest. ReadsFront T.seen self.old self.new text.now rest.now (T.seen tag.now)) }
@@ -249,8 +249,8 @@ impl<T: EqualCopy + Drop> NormalText<T> {
         Ok(self.add_words(c, text, after, tag)?)
     }
 
-    /// Adds the words that stand behind a space, which was read, where they are parted by single spaces and go on the
-    /// line, and the space behind them; what follows is left. The error is allocation failure alone.
+    /// Adds the words that stand after a space, which was read, where they are parted by single spaces and go on the
+    /// line, and the space after them; what follows is left. The error is allocation failure alone.
     fn add_words<'a>(
         &mut self,
         read: char,
@@ -289,7 +289,7 @@ impl<T: EqualCopy + Drop> NormalText<T> {
     }
 
     /// Adds characters that join the word at hand. Where they are a whole word, it is laid without being held, and the
-    /// break point behind it is added too, with the words behind that go on the line; what follows is left.
+    /// break point after it is added too, with the words after that go on the line; what follows is left.
     fn add_run<'a>(&mut self, run: &str, rest: &'a str, tag: &T) -> Result<&'a str, BlockError>
         requires { All (JoinsWord self.old) (chars run.now) }
         ensures kinds { IfErr result (λ e. e ≡ BlockError.Memory) }
@@ -311,7 +311,7 @@ impl<T: EqualCopy + Drop> NormalText<T> {
         }
     }
 
-    /// The break point behind characters of so many columns, and what follows it, where the characters are a whole
+    /// The break point after characters of so many columns, and what follows it, where the characters are a whole
     /// word.
     fn end_of_word<'a>(&self, columns: usize, rest: &'a str) -> Option<(char, &'a str)>
         ensures ends { IfSome result (λ parts. EndsWord T.seen self.now columns rest.now parts.0 parts.1.now) }
@@ -328,7 +328,7 @@ impl<T: EqualCopy + Drop> NormalText<T> {
         }
     }
 
-    /// Lays a whole word, and adds the break point behind it.
+    /// Lays a whole word, and adds the break point after it.
     fn add_word(&mut self, run: &str, columns: usize, c: char, tag: &T) -> Result<(), BlockError>
         requires { columns ≡ text_columns (chars run.now) }
         ensures kinds { IfErr result (λ e. e ≡ BlockError.Memory) }
@@ -436,7 +436,7 @@ impl<T: EqualCopy + Drop> NormalText<T> {
         Ok(())
     }
 
-    /// The lines of the text with one more behind it, which is moved where it can be.
+    /// The lines of the text with one more after it, which is moved where it can be.
     pub(crate) fn into_lines_behind(
         mut self,
         text: String,
@@ -449,7 +449,7 @@ impl<T: EqualCopy + Drop> NormalText<T> {
             → HasRead T.seen width overflow read self
             → HasWider width overflow (lettered (chars (string_bytes text)) (T.seen tag)) }
     {
-        // A space behind the last word is never shown, and ends it.
+        // A space after the last word is never shown, and ends it.
         let text = ended(text)?;
         self.add_string(text, tag)?;
         self.into_lines()

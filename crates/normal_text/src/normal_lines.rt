@@ -15,7 +15,7 @@ use std::alloc::Global;
 use tagged_lines::{EqualCopy, TaggedLine};
 use text_pieces::{BlockError, LaidText, Piece, TextPiece};
 
-/// The lines of normal text, and the markers that wait for what comes behind it.
+/// The lines of normal text, and the markers that wait for what comes after it.
 pub fn lay_normal<T: EqualCopy + Drop>(
     alloc: Global,
     width: usize,
@@ -174,7 +174,7 @@ fn lay_moved<T: EqualCopy + Drop>(
     })
 }
 
-/// The lines of the text with the pieces' texts behind it.
+/// The lines of the text with the pieces' texts after it.
 fn end_with_all<T: EqualCopy + Drop>(
     text: NormalText<T>,
     pieces: Vec<Piece<T>>,
@@ -196,7 +196,7 @@ fn end_with_all<T: EqualCopy + Drop>(
     }
 }
 
-/// The lines of the text with the last piece's text behind it.
+/// The lines of the text with the last piece's text after it.
 fn end_with<T: EqualCopy + Drop>(
     text: NormalText<T>,
     last: Piece<T>,

@@ -11,7 +11,7 @@ use std::alloc::{AllocError, Global};
 use tagged_lines::{EqualCopy, TaggedLine, TaggedLineElement, TaggedString};
 use text_pieces::{first_char, has_text};
 
-/// Lines, and what is left of markers behind them that found no line with text.
+/// Lines, and what is left of markers after them that found no line with text.
 #[derive(Drop)]
 pub(crate) struct Settled<T> {
     pub(crate) lines: Vec<TaggedLine<T>>,

@@ -28,7 +28,7 @@ pub(crate) fn from_word(text: &str) -> &str
     rest
 }
 
-/// Whether a marker behind the text rides on its last word, or on that before the text.
+/// Whether a marker after the text rides on its last word, or on that before the text.
 pub(crate) fn ends_in_word(text: &str, width: usize, in_word: bool) -> bool
     ensures { result ≡ in_word_behind width in_word (chars text.now) }
 {

@@ -24,7 +24,7 @@ plain_view = record {
 }
 
 -- As plain text is rendered where nothing else is said: parsed as pages are by default, with emphasis, strong text,
--- terms and code marked, and with the targets of links behind the page.
+-- terms and code marked, and with the targets of links after the page.
 pub record IsPlain (names : References) (c : PageSetting (Unit {0})) : Type 0 where
   pub table : c.table ≡ names
   pub parsing : c.parsing ≡ default_parse

@@ -78,7 +78,7 @@ impl<D: TextDecorator + Drop> Config<D> {
         }
     }
 
-    /// Whether the targets of links stand behind the page.
+    /// Whether the targets of links stand after the page.
     pub fn link_footnotes(self, include: bool) -> Config<D>
         ensures setting { page_setting D.view result ≡ record (page_setting D.view self) {
           rendering = record (page_setting D.view self).rendering {
@@ -94,7 +94,7 @@ impl<D: TextDecorator + Drop> Config<D> {
     }
 
     /// Whether links to equal targets, equal as texts, share one number and one footnote, where the targets of links
-    /// stand behind the page. They are numbered from 1 on in the order of their first links.
+    /// stand after the page. They are numbered from 1 on in the order of their first links.
     pub fn shared_footnotes(self, shared: bool) -> Config<D>
         ensures setting { page_setting D.view result ≡ rendered_with (page_setting D.view self)
             (record (page_setting D.view self).rendering.options { shared_footnotes = shared }) }
@@ -168,7 +168,7 @@ impl<D: TextDecorator + Drop> Config<D> {
         }
     }
 
-    /// The targets of links behind the page are not cut at the width.
+    /// The targets of links after the page are not cut at the width.
     pub fn no_link_wrapping(self) -> Config<D>
         ensures setting { page_setting D.view result ≡ rendered_with (page_setting D.view self)
             (record (page_setting D.view self).rendering.options { wrap_links = false }) }
@@ -218,8 +218,8 @@ impl<D: TextDecorator + Drop> Config<D> {
         }
     }
 
-    /// `*` stands before and behind emphasis and terms, `**` before and behind strong text, and a backquote before and
-    /// behind code: ten rules of the program, before all that stand. Asked for again it changes nothing. The error is
+    /// `*` stands before and after emphasis and terms, `**` before and after strong text, and a backquote before and
+    /// after code: ten rules of the program, before all that stand. Asked for again it changes nothing. The error is
     /// allocation failure.
     pub fn do_decorate(self, alloc: Global) -> Result<Config<D>, Error>
         ensures setting { IfOk result (λ c. page_setting D.view c ≡ record (page_setting D.view self) {
@@ -273,7 +273,7 @@ impl<D: TextDecorator + Drop> Config<D> {
         self.rendering.narrowest_wrap()
     }
 
-    /// Further rules of style, behind all that stand. The error is allocation failure.
+    /// Further rules of style, after all that stand. The error is allocation failure.
     pub fn style_rules(self, rules: Vec<StyleRule>) -> Result<Config<D>, Error>
         ensures setting { IfOk result (λ c. page_setting D.view c ≡ record (page_setting D.view self) {
           rules = (page_setting D.view self).rules ++ rules.items;
@@ -355,7 +355,7 @@ impl<D: TextDecorator + Drop> Config<D> {
         Ok(self.rendering.render_to_lines(alloc, tree, width)?)
     }
 
-    /// The text of a render tree: the characters of its lines, a line end behind each. Refused as `render_to_lines`.
+    /// The text of a render tree: the characters of its lines, a line end after each. Refused as `render_to_lines`.
     pub fn render_to_string(
         &self,
         alloc: Global,

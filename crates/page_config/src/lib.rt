@@ -6,7 +6,7 @@
 //! options by which it is parsed, the rules of style, what it is rendered by, and whether `do_decorate` was called.
 //!
 //! - `Config::with_decorator`, `plain`, `plain_no_decorate`, `rich`: what such a configuration says; `plain` marks
-//!   emphasis, strong text, terms and code, and has the targets of links behind the page
+//!   emphasis, strong text, terms and code, and has the targets of links after the page
 //! - `Config::max_bytes`, `table`, `parse_opts`, and each option of `RenderConfig`: each changes its own part, to
 //!   just this, and leaves the rest
 //! - `Config::do_decorate`, `decorates`, `options`, `narrowest_wrap`: the ten rules stand before all others from
@@ -24,7 +24,7 @@
 //!   `Fail` only where it converts to nothing, never `TooNarrow`; bounds, faults and counts as `lines_from_read`
 //! - `Page::new`, `push`, `finish`: as `PageReader`: for every rest, what comes of the page then and the rest comes
 //!   of the page before, the piece and the rest; a piece with more bytes than may still come is `TooLong`, before
-//!   any of it is read; behind a refusal every call is `Fail`
+//!   any of it is read; after a refusal every call is `Fail`
 //! - `Error::text`: the texts, exactly
 //! - `a_page_has_one_answer`, `a_page_has_one_text`: laws: equal bytes, read and rendered by equal configurations
 //!   at equal widths, have one answer at most, and one text

@@ -53,7 +53,7 @@ impl Page {
     }
 
     /// Reads the next piece of the page. It is refused as `TooLong`, before any of it is read, where it has more bytes
-    /// than may still come; as `Fail` behind a refusal; and else only since allocation fails.
+    /// than may still come; as `Fail` after a refusal; and else only since allocation fails.
     pub fn push(&mut self, piece: &[u8]) -> Result<(), Error>
         // What was pushed, the piece and any rest come to what all of it now and the rest come to.
         ensures reads { OnOk result ((rest : List ℕ) (forest : Forest) (quirks : Quirks) →
@@ -68,8 +68,8 @@ impl Page {
         Ok(self.reader.push(piece)?)
     }
 
-    /// Reads the end of the page, and gives its finished tree. The error is `Fail` behind a refusal, and else
-    /// allocation failure .
+    /// Reads the end of the page, and gives its finished tree. The error is `Fail` after a refusal, and else
+    /// allocation failure.
     pub fn finish(self) -> Result<RcDom, Error>
         ensures tree { IfOk result (λ dom. Comes self [] dom.forest dom.quirks) }
         ensures failed { self.has_failed ≡ true → result ≡ Err Fail }

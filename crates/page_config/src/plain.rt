@@ -23,7 +23,7 @@ pub type PlainLine = TaggedLine<Vec<()>>;
 
 impl Config<PlainDecorator> {
     /// Plain text: emphasis, strong text, terms and code are marked by characters, and the targets of links stand
-    /// behind the page. The error is allocation failure.
+    /// after the page. The error is allocation failure.
     pub fn plain(alloc: Global, table: ReferenceTable) -> Result<Config<PlainDecorator>, Error>
         ensures plain { IfOk result (λ c. IsPlain table (bare_setting c)) }
         ensures bytes { IfOk result (λ c. max_bytes_of c ≡ usize.MAX) }

@@ -11,7 +11,7 @@ use Rattle.page_reading.specs.PageTrees.{IsTreeOfBytes}
 use Rattle.page_skeleton.specs.Skeleton.{IsSkeleton, TellsNoFrames, child_elements}
 use Rattle.reference_tables.specs.References.{References}
 
--- text is kept, each character as often as it was told
+-- text is kept, each character as often as it was emitted
 abbrev pub KeepsTextOfTree : {H : Type 0} → (ℕ → H) → Type 0
 KeepsTextOfTree handle = (from : Beginning) (text : List ℕ) (forest : Forest) (quirks : QuirksMode)
     (tree : IsTreeOfPage handle from text forest quirks) → IsForest from.forest →

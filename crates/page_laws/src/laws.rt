@@ -18,8 +18,8 @@ pub fn a_page_is_at_its_beginning()
         IsAtBeginning (begun options forest quirks) }
 {}
 
-/// Where a page tells no start tag of a template or a frameset, each character that it tells as text, but white space
-/// and U+FFFD, stands in its tree as often as it was told.
+/// Where a page emits no start tag of a template or a frameset, each character that it emits as text, but white space
+/// and U+FFFD, stands in its tree as often as it was emitted.
 pub fn a_tree_keeps_the_text_of_its_page<S: TreeSink>()
     ensures { KeepsTextOfTree S.view.handle }
 {
@@ -27,7 +27,7 @@ pub fn a_tree_keeps_the_text_of_its_page<S: TreeSink>()
 }
 
 /// Where a page begins on a document without elements, the document's one child element is `html`, whose first two are
-/// `head`, and then `body` or, where the page told a start tag `frameset`, `frameset` (WHATWG HTML, 4.1.1).
+/// `head`, and then `body` or, where the page emitted a start tag `frameset`, `frameset` (WHATWG HTML, 4.1.1).
 pub fn a_tree_has_its_skeleton<S: TreeSink>()
     ensures { HasSkeletonOfTree S.view.handle }
 {
@@ -42,8 +42,8 @@ pub fn the_text_of_bytes_is_kept()
     a_tree_keeps_the_text_of_its_page::<RcDom>();
 }
 
-/// The document of a page that comes in bytes has one child element, `html`, whose first two are `head`, and then `body`
-/// or, where a start tag `frameset` is among the tokens, `frameset` (WHATWG HTML, 4.1.1).
+/// The document of a page that comes in bytes has one child element, `html`, whose first two are `head`, and then
+/// `body` or, where a start tag `frameset` is among the tokens, `frameset` (WHATWG HTML, 4.1.1).
 pub fn bytes_have_the_skeleton_of_a_page()
     ensures { HasSkeletonOfBytes }
 {

@@ -100,7 +100,7 @@ impl PageReader {
     }
 
     /// Reads the next piece of the page. It is refused as `TooLong`, before any of it is read, where it has more bytes
-    /// than may still come; as `Failed` behind a refusal; and else only if allocation fails.
+    /// than may still come; as `Failed` after a refusal; and else only if allocation fails.
     pub fn push(&mut self, piece: &[u8]) -> Result<(), PageFault>
         // What was pushed, the piece and any rest come to what all of it now and the rest come to.
         ensures reads { OnOk result ((rest : List ℕ) (forest : Forest) (quirks : Quirks) →
@@ -128,8 +128,8 @@ impl PageReader {
         Ok(())
     }
 
-    /// Reads the end of the page, and gives its finished tree. The error is `Failed` behind a refusal, and else
-    /// allocation failure .
+    /// Reads the end of the page, and gives its finished tree. The error is `Failed` after a refusal, and else
+    /// allocation failure.
     pub fn finish(self) -> Result<RcDom, PageFault>
         ensures tree { IfOk result (λ dom. Comes self [] dom.forest dom.quirks) }
         ensures failed { self.has_failed ≡ true → result ≡ Err Failed }

@@ -27,7 +27,7 @@ is_opened_below number (Some x) [] e = absurd (cc)
 is_opened_below number (Some x) (n ∷ []) e = absurd (cc)
 is_opened_below number (Some x) (n ∷ m ∷ ns) e = second_is_in n m (number x) ns (sym e)
 
--- behind the outermost frameset of a page the mode is another
+-- after the outermost frameset of a page the mode is another
 outermost_closed : (ns : List ℕ) (s : State) (m : ℕ) → Some m ≡ first_of (below_current ns) →
     is_known s.context ≡ false → is_html (codes "frameset") (name_of m s.tree.forest) ≡ false →
     frameset_closed ns s ≡ done (pop ∷ go_to AfterFrameset ∷ [])

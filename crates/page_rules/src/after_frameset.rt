@@ -35,7 +35,7 @@ pub fn after_frameset_start<S: TreeSink>(
     }
 }
 
-/// An end tag behind the outermost frameset.
+/// An end tag after the outermost frameset.
 pub fn after_frameset_end<S: TreeSink>(
     page: &mut Parse<S>,
     group: TagGroup,
@@ -55,7 +55,7 @@ pub fn after_frameset_end<S: TreeSink>(
     }
 }
 
-/// A comment behind a page of frames: it goes to the document.
+/// A comment after a page of frames: it goes to the document.
 pub fn after_after_frameset_comment<S: TreeSink>(
     page: &mut Parse<S>,
     text: Text,

@@ -61,7 +61,7 @@ pub fn in_frameset_end<S: TreeSink>(
     }
 }
 
-// a frameset is closed; the root stays. Behind the outermost frameset of a page the mode is another.
+// a frameset is closed; the root stays. After the outermost frameset of a page the mode is another.
 fn close_frameset<S: TreeSink>(page: &mut Parse<S>) -> Result<Flow<S::Handle>, ParseFault>
     requires ready { Ready (state_of S.view page.old) }
     ensures came { IfOk result (λ flow. came_to flow (state_of S.view page.new) ≡ outcome S.view.handle

@@ -1,4 +1,4 @@
-//! The insertion modes "text", "in template", and those behind the body and of framesets, and foreign content (WHATWG
+//! The insertion modes "text", "in template", and those after the body and of framesets, and foreign content (WHATWG
 //! HTML, 13.2.6.4.8, 13.2.6.4.16 to 13.2.6.4.21 and 13.2.6.5), over any sink of trees; a part of `html_tree_builder`.
 #![tactic(auto)]
 

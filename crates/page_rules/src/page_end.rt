@@ -30,7 +30,7 @@ pub fn end_of_file<S: TreeSink>(page: &mut Parse<S>) -> Result<Flow<S::Handle>, 
     Ok(Flow::Again)
 }
 
-/// "Stop parsing": nothing is told behind the end.
+/// "Stop parsing": nothing is emitted after the end.
 pub(crate) fn stop_parsing<H>() -> Flow<H>
     ensures { result ≡ Done }
 {

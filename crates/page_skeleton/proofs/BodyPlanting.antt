@@ -1,4 +1,4 @@
--- The body, or a frameset, is put behind the head.
+-- The body, or a frameset, is put after the head.
 use Rattle.std.proofs.Common.{◌≡◌, ℕ, ◌<◌, ◌≤◌, inl, inr, Bool, false, List, [], ◌∷◌, ◌++◌, Some, codes}
 use Rattle.std.proofs.Common.{refl, sym, ap, subst, ◌∙◌, arith}
 use Rattle.html_forest.specs.Forest.{Forest, Holds, name_of, nodes}

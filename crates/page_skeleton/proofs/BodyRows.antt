@@ -102,7 +102,7 @@ module _ (is_framed : Bool) (root head body : ℕ) (apart : AreApart root head b
       is_text s.mode ≡ false → ComesTo (IsBuilt is_framed) s r
   fits r s fit held off = keeps r s (row_keeps (body_guard root head body) own_is own_reset r s fit held off)
 
-  -- a table: no frameset may come behind it
+  -- a table: no frameset may come after it
   refused : (actions : List Action) (s : State) → FitAll (going root head body) actions s →
       IsHeld (body_guard root head body) s → is_text s.mode ≡ false → (act_all actions s).frameset_ok ≡ false →
       IsBuilt is_framed (act_all actions s)

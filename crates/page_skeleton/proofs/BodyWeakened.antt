@@ -1,4 +1,4 @@
--- A body that may still give way to a frameset is one behind which elements may follow; and where it gives way, the
+-- A body that may still give way to a frameset is one after which elements may follow; and where it gives way, the
 -- body is to
 -- come again.
 use Rattle.std.proofs.Common.{◌≡◌, ℕ, ◌<◌, ◌==◌, ◌||◌, inl, inr, Bool, true, false, if◌then◌else◌, List, []}

@@ -1,4 +1,4 @@
--- What a rule comes to where the body stands: the row of the mode, here or behind breaking out of foreign content,
+-- What a rule comes to where the body stands: the row of the mode, here or after breaking out of foreign content,
 -- or one
 -- of the rules for foreign content.
 use Rattle.std.proofs.Common.{◌≡◌, ℕ, ◌||◌, Bool, true, false, if◌then◌else◌, List, [], ◌∷◌, is_some, refl}

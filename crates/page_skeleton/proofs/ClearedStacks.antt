@@ -1,4 +1,4 @@
--- Clearing the stack back to a context: behind it the current node may be popped, where one of a set was in table scope
+-- Clearing the stack back to a context: after it the current node may be popped, where one of a set was in table scope
 -- (WHATWG HTML, 13.2.6.4.13 and 13.2.6.4.14).
 use Rattle.std.proofs.Common.{◌≡◌, ℕ, inl, inr, Bool, true, false, if◌then◌else◌, List, [], ◌∷◌, codes, refl, sym}
 use Rattle.std.proofs.Common.{subst}
@@ -23,7 +23,7 @@ use Rattle.tree_rules.specs.Actions.{act, pop, pop_down_to}
 use Rattle.tree_rules.specs.Asking.{in_table_scope}
 use Rattle.tree_rules.specs.State.{State}
 
--- Behind clearing the stack back to a context the current node may be popped, where one of a set was in scope: the
+-- After clearing the stack back to a context the current node may be popped, where one of a set was in scope: the
 -- context is of that set, or a barrier of the scope.
 pub record IsContext (context set barriers : Elements) : Type 0 where
   pub within : (name : QualName) → is_element_of set name ≡ true → is_element_of context name ≡ true

@@ -31,7 +31,7 @@ use Rattle.tree_rules.specs.declared.target.Target.{Target}
 use Rattle.tree_rules.specs.declared.target.Target.TheVariants as targets
 use Rattle.tree_words.specs.declared.modes.InsertionMode.TheVariants as modes
 
--- what of start tags may be told: framesets in a page of frames alone
+-- what of start tags may be emitted: framesets in a page of frames alone
 abbrev pub IsToldGroup : Bool → TagGroup → Type 0
 IsToldGroup is_framed groups.Frameset = is_framed ≡ true
 IsToldGroup is_framed _ = Unit {0}

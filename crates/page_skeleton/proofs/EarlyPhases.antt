@@ -1,4 +1,4 @@
--- States in which the head stands and the body is to come, behind single actions.
+-- States in which the head stands and the body is to come, after single actions.
 use Rattle.std.proofs.Common.{◌≡◌, ℕ, Bool, true, false, if◌then◌else◌, List, ◌∷◌, codes}
 use Rattle.std.proofs.Common.{inl, inr, refl, ap, ◌∙◌}
 use Rattle.html_forest.specs.Forest.{name_of}
@@ -34,7 +34,7 @@ pub comes_if : (b : Bool) (is_framed : Bool) (s : State) (x y : Row) → (b ≡ 
 comes_if b is_framed s x y f g = comes_to_if b (IsPhase is_framed) s x y f g
 
 module _ (is_framed : Bool) (root head : ℕ) where
-  -- behind an action that is quiet
+  -- after an action that is quiet
   pub quiet_comes : (s t : State) → IsEarly root head s → IsEarlyStack root head s →
       IsQuiet (head_guard root head) s t → IsPhase is_framed t
   quiet_comes s t early stack quiet = body_to_come root head

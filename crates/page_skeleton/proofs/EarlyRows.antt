@@ -152,7 +152,7 @@ module _ (is_framed : Bool) (root head : ℕ) where
       (λ known. IsOpened t s (record s { tree = inserted_into known t s.tree })) (sym early.known)
       (opened_below place.node (below head) t s early (ap below (place.in_head refl)) place.no_document place.no_root)
 
-  -- behind what asks for an element's text the mode is "text"
+  -- after what asks for an element's text the mode is "text"
   text_early : (kind : RawKind) (u : State) → IsEarly root head u → IsEarly root head (entered (raw kind) u)
   text_early kind u early = early_on root head u (entered (raw kind) u) early
       (kept_same (head_guard root head) u.tree.forest early.nodes) refl refl refl refl (λ k. k) refl

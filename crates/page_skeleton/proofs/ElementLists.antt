@@ -1,4 +1,4 @@
--- The elements among some nodes, behind changes of the list and of the forest.
+-- The elements among some nodes, after changes of the list and of the forest.
 use Rattle.std.proofs.Common.{◌≡◌, ℕ, inl, inr, ◌==◌, Bool, true, false, if◌then◌else◌, List, [], ◌∷◌, ◌++◌}
 use Rattle.std.proofs.Common.{refl, sym, ap, ◌∙◌, eqb-true}
 use Rattle.std.proofs.lemmas.Bool.{cond_both}
@@ -8,7 +8,7 @@ use Rattle.html_forest.specs.Orders.{IsIn}
 use Rattle.html_forest.specs.Places.{put_before}
 use Rattle.page_skeleton.specs.Skeleton.{elements_among, is_element}
 
--- three lists one behind another
+-- three lists one after another
 pub regrouped : (xs ys zs : List ℕ) → (xs ++ ys) ++ zs ≡ xs ++ (ys ++ zs)
 regrouped [] ys zs = refl
 regrouped (x ∷ xs) ys zs = ap (λ l. x ∷ l) (regrouped xs ys zs)
@@ -101,7 +101,7 @@ append_none : (ns : List ℕ) → ns ++ [] ≡ ns
 append_none [] = refl
 append_none (n ∷ ns) = ap (λ l. n ∷ l) (append_none ns)
 
--- what is no element behind elements
+-- what is no element after elements
 pub no_more : (f : Forest) (c : ℕ) (ns : List ℕ) → is_element (kind_at c f) ≡ false →
     ns ++ elements_among f (c ∷ []) ≡ ns
 no_more f c ns none = rw none (append_none ns)

@@ -176,7 +176,7 @@ template_even : (group : TagGroup) (t : Tag) (s : State) → is_no_template grou
 template_even groups.Template t s is = none is
 template_even group t s is = tt
 
--- end tags that close no template; behind a table's text none does so at once
+-- end tags that close no template; after a table's text none does so at once
 abbrev pub is_calm_end : InsertionMode → TagGroup → Bool
 is_calm_end modes.InTableText group = true
 is_calm_end _ group = is_no_template group
@@ -194,7 +194,7 @@ end_even modes.InCell is group t s calm = cell_even group t s calm
 end_even modes.InTemplate is group t s calm = template_even group t s calm
 end_even mode is group t s calm = none is
 
--- the end of the page closes a template, but behind a table's text not at once
+-- the end of the page closes a template, but after a table's text not at once
 abbrev pub is_calm_file : InsertionMode → Bool
 is_calm_file modes.InTableText = true
 is_calm_file _ = false

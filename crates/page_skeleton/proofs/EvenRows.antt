@@ -1,4 +1,4 @@
--- Rows that neither open nor close a template: those of the body do so, where no template is told (WHATWG HTML,
+-- Rows that neither open nor close a template: those of the body do so, where no template is emitted (WHATWG HTML,
 -- 13.2.6.4.7). A clause on any other group is checked group by group.
 use Rattle.std.proofs.Common.{◌≡◌, ℕ, Bool, true, false, if◌then◌else◌, List, [], ◌∷◌, ◌++◌, Option, None, Some, codes}
 use Rattle.std.proofs.Common.{refl}
@@ -74,7 +74,7 @@ pub even_named : (name : List ℕ) (group : TagGroup) → tag_group name ≡ gro
 even_named name groups.Template e is = none is
 even_named name group e is = other_named name group e is
 
--- rows and lists of actions by cases, and actions behind others
+-- rows and lists of actions by cases, and actions after others
 pub even_if : (b : Bool) (x y : Row) → IsEvenRow x → IsEvenRow y → IsEvenRow (if b then x else y)
 even_if true x y f g = f
 even_if false x y f g = g

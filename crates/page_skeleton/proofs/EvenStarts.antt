@@ -1,5 +1,5 @@
--- Start tags in the body, in tables and in templates: their rows neither open nor close a template, where none is told
--- (WHATWG HTML, 13.2.6.4.7 to 13.2.6.4.16). A clause on any other group is checked group by group.
+-- Start tags in the body, in tables and in templates: their rows neither open nor close a template, where none is
+-- emitted (WHATWG HTML, 13.2.6.4.7 to 13.2.6.4.16). A clause on any other group is checked group by group.
 use Rattle.std.proofs.Common.{◌≡◌, ℕ, Bool, true, false, List, [], ◌∷◌, codes, refl}
 use Rattle.html_lexemes.specs.declared.token.Tag.{Tag}
 use Rattle.name_sets.specs.ElementSets.{table_cells, table_sections}
@@ -41,7 +41,7 @@ is_calm_start modes.InTemplate groups.Title = true
 is_calm_start modes.InTemplate _ = false
 is_calm_start _ group = is_no_template group
 
--- anything else than text behind a table's text
+-- anything else than text after a table's text
 said_even : (cs : List ℕ) → AreEven (pending_said cs)
 said_even cs = list_even_if (all_are is_white_space cs) (say cs ∷ [])
     (foster true ∷ reconstruct ∷ say cs ∷ refuse_frameset ∷ foster false ∷ []) (tt, tt)

@@ -109,7 +109,7 @@ abbrev pub FitAll : Guard → List Action → State → Type 0
 FitAll g [] s = Unit {0}
 FitAll g (action ∷ more) s = Fits g action s × FitAll g more (act action s)
 
--- Whether the element that was inserted last is the current node behind some actions: what asks for an element's text
+-- Whether the element that was inserted last is the current node after some actions: what asks for an element's text
 -- ends so.
 abbrev pub opens_by : Bool → Action → Bool
 opens_by is_new (insert at tag) = true

@@ -1,4 +1,4 @@
--- Rows that go by cases, one behind another, or with foster parenting on: they fit where their parts do.
+-- Rows that go by cases, one after another, or with foster parenting on: they fit where their parts do.
 use Rattle.std.proofs.Common.{◌≡◌, Bool, true, false, if◌then◌else◌, List, [], ◌∷◌, ◌++◌, refl, sym, ◌∙◌}
 use Rattle.html_lexemes.specs.declared.token.Tag.{Tag}
 use Rattle.html_tree_state.specs.Formatting.{name_for}
@@ -26,7 +26,7 @@ pub all_if : (g : Guard) (s : State) (b : Bool) (xs ys : List Action) → (b ≡
 all_if g s true xs ys f h = f refl
 all_if g s false xs ys f h = h refl
 
--- actions behind others, which fit wherever they come
+-- actions after others, which fit wherever they come
 pub fit_append : (g : Guard) (xs ys : List Action) (s : State) → FitAll g xs s → ((d : State) → FitAll g ys d) →
     FitAll g (xs ++ ys) s
 fit_append g [] ys s fit more = more s
@@ -46,7 +46,7 @@ void_fits g targets.IntoHead t s = tt
 pub may_foster : (g : Guard) → g.fosters ≡ true → (is_on : Bool) → g.fosters ≡ false → is_on ≡ false
 may_foster g fosters is_on off = absurd (let k : true ≡ false = sym fosters ∙ off in cc)
 
--- foster parenting is turned off behind a row
+-- foster parenting is turned off after a row
 opens_append : (b : Bool) (xs ys : List Action) → opens b (xs ++ ys) ≡ opens (opens b xs) ys
 opens_append b [] ys = refl
 opens_append b (x ∷ xs) ys = opens_append (opens_by b x) xs ys

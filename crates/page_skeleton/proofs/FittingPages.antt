@@ -1,4 +1,4 @@
--- Tags behind the body and behind the head, in pages of frames, and in text: their rows fit (WHATWG HTML, 13.2.6.4.6,
+-- Tags after the body and after the head, in pages of frames, and in text: their rows fit (WHATWG HTML, 13.2.6.4.6,
 -- 13.2.6.4.8 and 13.2.6.4.17 to 13.2.6.4.21). A clause on any other group is checked group by group.
 use Rattle.std.proofs.Common.{◌≡◌, ℕ, inl, inr, true, false, List, [], ◌∷◌, ap, codes, refl, sym, ◌∙◌}
 use Rattle.html_lexemes.specs.declared.token.Tag.{Tag}
@@ -22,7 +22,7 @@ use Rattle.tree_rules.specs.State.{State}
 use Rattle.tree_rules.specs.TextMode.{text_mode_end}
 use Rattle.tree_words.specs.declared.modes.InsertionMode.TheVariants as modes
 
--- behind the body
+-- after the body
 pub after_body_start_fits : (g : Guard) (group : TagGroup) (t : Tag) (s : State) → CanGoOn g s →
     FitsRow g s (after_body_start group t s)
 after_body_start_fits g groups.Html t s can = html_fits g t s
@@ -33,7 +33,7 @@ pub after_body_end_fits : (g : Guard) (group : TagGroup) (s : State) → CanGoOn
 after_body_end_fits g groups.Html s can after = fits_if g s (is_known s.context) ignored _ (λ e. tt) (λ e. (after, tt))
 after_body_end_fits g group s can after = (can.in_body, tt)
 
--- What is known behind the head: the body is to be made, or a frameset.
+-- What is known after the head: the body is to be made, or a frameset.
 pub record OpenFacts (g : Guard) : Type 0 where
   pub body : is_one_of g.barred (codes "body") ≡ false
   pub frameset : is_one_of g.barred (codes "frameset") ≡ false

@@ -103,7 +103,7 @@ in_body_row g facts top (finish t) s can grant close =
     body_end_fits g facts top (tag_group t.name) t s refl can close
 in_body_row g facts top end_of_file s can grant close = file_end_fits g s close
 
--- behind the body
+-- after the body
 after_body_text_fits : (g : Guard) (is_space : Bool) (s : State) → g.allows modes.InBody ≡ true →
     FitsText g s (text_row modes.AfterBody is_space s)
 after_body_text_fits g true s goes_on = (tt, tt)
@@ -131,7 +131,7 @@ after_after_body_row g (start t) s can = after_body_start_fits g (tag_group t.na
 after_after_body_row g (finish t) s can = (can.in_body, tt)
 after_after_body_row g end_of_file s can = tt
 
--- behind the head
+-- after the head
 after_head_text_fits : (g : Guard) → OpenFacts g → (is_space : Bool) (s : State) →
     FitsText g s (text_row modes.AfterHead is_space s)
 after_head_text_fits g known true s = tt

@@ -50,7 +50,7 @@ foreign_text_fits : (g : Guard) (is_space : Bool) (s : State) → FitsText g s (
 foreign_text_fits g true s = tt
 foreign_text_fits g false s = (tt, tt)
 
--- the row of the mode, here and behind breaking out of foreign content
+-- the row of the mode, here and after breaking out of foreign content
 abbrev pub FitsHere : Guard → State → Mark → Type 0
 FitsHere g s mark = FitsRow g s (row s.mode mark s)
 

@@ -114,7 +114,7 @@ less_than_itself n m e h = omega (arith, e, h)
 pub new_free : (g : Guard) (f : Forest) → ((n : ℕ) → IsKept g n → Holds n f) → IsFree g (nodes f)
 new_free g f held i = less_than_itself (nodes f) (nodes f) refl (held (nodes f) i)
 
--- behind implied end tags one that isn't implied is still open
+-- after implied end tags one that isn't implied is still open
 stays_by : (b : Bool) (n m : ℕ) (ns ms : List ℕ) → ((n ≡ m) → b ≡ false) → IsIn n (m ∷ ns) → (IsIn n ns → IsIn n ms) →
     IsIn n (if b then ms else m ∷ ns)
 stays_by false n m ns ms off i on = i

@@ -53,7 +53,7 @@ table_text_fits g is_space s tables off back = text_if g s (collects_text s)
     (then_again (forget_pending ∷ hold_mode ∷ go_to modes.InTableText ∷ [])) (in_body_text is_space)
     (λ e. (tt, (mode_held g s off, (goes_there g s tables back, tt)))) (λ e. body_text_fits g is_space s)
 
--- anything else than text behind a table's text
+-- anything else than text after a table's text
 collected_by : (g : Guard) (is_space : Bool) (cs : List ℕ) (s : State) → g.fosters ≡ true →
     is_of_text s.mode ≡ true →
     FitAll g ((if is_space then say cs ∷ []

@@ -34,7 +34,7 @@ use Rattle.tree_rules.specs.Table.{row}
 use Rattle.tree_words.specs.declared.modes.InsertionMode.{InsertionMode}
 use Rattle.tree_words.specs.declared.modes.InsertionMode.TheVariants as modes
 
--- the guard behind which the body goes on
+-- the guard after which the body goes on
 abbrev pub going : (root head body : ℕ) → Guard
 going root head body = going_guard (codes "body") root head body
 
@@ -65,7 +65,7 @@ broken_refused : (s : State) → s.frameset_ok ≡ false → (act break_out s).f
 unfolding act
 broken_refused s e = e
 
--- behind what is asked for flags are as they were
+-- after what is asked for flags are as they were
 entered_refused : (ask : Ask) (s : State) → s.frameset_ok ≡ false → (entered ask s).frameset_ok ≡ false
 entered_refused nothing s e = e
 entered_refused plaintext s e = e

@@ -1,4 +1,4 @@
--- Names of tags by their groups, and sets of names that have none in common: each is told by a test on its words.
+-- Names of tags by their groups, and sets of names that have none in common: each is known by a test on its words.
 use Rattle.std.proofs.Common.{◌≡◌, ℕ, ◌||◌, ◌&&◌, not, Bool, true, false, if◌then◌else◌, List, [], ◌∷◌, bytes_eq, codes}
 use Rattle.std.proofs.Common.{refl, sym, ap, subst, ◌∙◌}
 use Rattle.std.proofs.lemmas.Slice.Eq.{bytes_eq-Decides}

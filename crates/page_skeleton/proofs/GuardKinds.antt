@@ -1,4 +1,4 @@
--- The guards of a page: while the head stands; while the body may still give way to a frameset; behind that; and of
+-- The guards of a page: while the head stands; while the body may still give way to a frameset; after that; and of
 -- frames.
 use Rattle.std.proofs.Common.{◌≡◌, ℕ, ◌==◌, inl, inr, ◌||◌, Bool, true, false, if◌then◌else◌, List, []}
 use Rattle.std.proofs.Common.{◌∷◌, bytes_eq, codes, refl, sym, ap, subst, ◌∙◌, eqb-true, eq-eqb}

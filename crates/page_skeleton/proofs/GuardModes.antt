@@ -1,4 +1,4 @@
--- Which mode the open elements ask for behind the head: one that may stand there.
+-- Which mode the open elements ask for after the head: one that may stand there.
 use Rattle.std.proofs.Common.{◌≡◌, ℕ, ◌⊎◌, inl, inr, ◌||◌, ◌&&◌, Bool, true, false, if◌then◌else◌, List, [], ◌∷◌, map}
 use Rattle.std.proofs.Common.{Option, None, Some, not, option_map, codes, refl, sym, ap, subst, ◌∙◌}
 use Rattle.html_forest.specs.Forest.{Forest, name_of}

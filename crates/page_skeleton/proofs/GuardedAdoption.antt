@@ -64,7 +64,7 @@ is_there n (m ∷ ms) e = in_by n m ms (n == m) (is_in n ms) refl (is_there n ms
 -- one turn with a formatting element that is open, and a furthest block
 module _ (n : ℕ) (tag : Tag) (g : Guard) (b : Building) (guard : IsGuard g) (is : IsGuarded g b) (free : IsFree g n)
     (formats : is_one_of formatting tag.name ≡ true) (there : IsIn n b.stack) where
-  -- what is left behind it is a stack
+  -- what is left after it is a stack
   ancestor_stack : IsStack g (farther n b.stack)
   ancestor_stack = passes g guard (λ k. k == n) (farther n) (λ k ks. refl) n (eq-eqb n n refl) (inl free) b.stack
       is.standing there

@@ -1,4 +1,4 @@
--- What holds of all listed elements holds behind changes of the list of active formatting elements.
+-- What holds of all listed elements holds after changes of the list of active formatting elements.
 use Rattle.std.proofs.Common.{◌≡◌, ℕ, inl, inr, ◌==◌, Bool, true, false, if◌then◌else◌, List, [], ◌∷◌, Option}
 use Rattle.std.proofs.Common.{None, Some, refl, sym, subst, eqb-true}
 use Rattle.std.specs.Bool.{nat_lt}

@@ -87,7 +87,7 @@ pub record IsGuard (g : Guard) : Type 0 where
   pub lowest_some : ¬ (g.lowest ≡ [])
   -- a guard that isn't open, under which foster parenting may be on, has a template topmost
   pub template_top : g.is_open ≡ false → g.fosters ≡ true → is_html (codes "template") (g.title g.top) ≡ true
-  -- the mode that goes on behind text may stand
+  -- the mode that goes on after text may stand
   pub text_left : (mode : InsertionMode) → g.allows mode ≡ true → g.allows (out_of_text mode) ≡ true
   -- formatting elements have none of the names that are barred
   pub formatting_free : (name : List ℕ) → is_one_of formatting name ≡ true → is_one_of g.barred name ≡ false

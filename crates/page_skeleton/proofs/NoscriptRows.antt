@@ -109,7 +109,7 @@ module _ (is_framed : Bool) (root head : ℕ) where
   text_row (finish t) s early stack behind = text_end (tag_group t.name) s early behind
   text_row end_of_file s early stack behind = text_left s early behind
 
-  -- the three stacks behind it
+  -- the three stacks after it
   pub behind_head_text : (n : ℕ) (s : State) → s.original ≡ modes.InHead → s.tree.stack ≡ n ∷ head ∷ root ∷ [] →
       IsEarlyStack root head (act_all (pop ∷ go_back ∷ []) s)
   unfolding act

@@ -1,4 +1,4 @@
--- What a mark comes to behind the head: the body is made, or a frameset in its place.
+-- What a mark comes to after the head: the body is made, or a frameset in its place.
 use Rattle.std.proofs.Common.{◌≡◌, ℕ, Bool, true, false, List, [], ◌∷◌, None, codes, refl, sym, ap}
 use Rattle.std.proofs.Common.{subst, ◌∙◌}
 use Rattle.html_forest.specs.Forest.{nodes}
@@ -42,7 +42,7 @@ on : {A : Type 0} → true ≡ false → A
 on e = absurd (cc)
 
 module _ (is_framed : Bool) (root head : ℕ) where
-  -- The third element is open behind the head, in a mode that may stand.
+  -- The third element is open after the head, in a mode that may stand.
   third_steady : (name : List ℕ) (barred : List (List ℕ)) (is_open fosters resets : Bool)
       (allows : InsertionMode → Bool) (s u : State) (attributes : List Attribute) → IsEarly root head s →
       s.context ≡ None → IsFormed s → s.tree.stack ≡ root ∷ [] → (fosters ≡ false → s.tree.fostering ≡ false) →

@@ -151,7 +151,7 @@ module _ (is_framed : Bool) (keep : ActionsKeep) where
   phase_rule mark s told ready formed (built is) =
       as_phase (rule mark s) s (built_rule mark s told ready formed is)
 
-  -- behind what is asked for
+  -- after what is asked for
   pub entered_ready : (ask : Ask) (s : State) → Ready s → Ready (entered ask s)
   entered_ready nothing s ready = ready
   entered_ready plaintext s ready = ready

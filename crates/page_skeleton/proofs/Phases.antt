@@ -1,6 +1,6 @@
 -- How far a page is built: nothing is open; the root is; the head stands, and the body is to come; or the body, or a
 -- frameset,
--- stands behind it.
+-- stands after it.
 use Rattle.std.proofs.Common.{◌≡◌, ℕ, ◌≤◌, Bool, true, false, [], ◌∷◌, length, None, Some, codes}
 use Rattle.html_forest.specs.Forest.{Holds, name_of}
 use Rattle.page_skeleton.proofs.Fits.{AreLater}
@@ -66,7 +66,7 @@ pub record IsRooted (root : ℕ) (s : State) : Type 0 where
   pub form : s.form ≡ None
   pub templates : s.template_modes ≡ []
 
--- The head stands, and the body is to come. Only where no template was told may a frameset still come.
+-- The head stands, and the body is to come. Only where no template was emitted may a frameset still come.
 pub record IsEarly (root head : ℕ) (s : State) : Type 0 where
   pub root_made : ¬ (root ≡ 0)
   pub head_made : ¬ (head ≡ 0)
@@ -95,7 +95,7 @@ pub data IsEarlyStack (root head : ℕ) (s : State) : Type 0 where
   text_past_head : (n : ℕ) → s.mode ≡ modes.Text → s.original ≡ modes.AfterHead → s.tree.stack ≡ n ∷ root ∷ [] →
       IsEarlyStack root head s
 
--- A body that may still give way to a frameset; a body, or a frameset in its place, behind which elements may
+-- A body that may still give way to a frameset; a body, or a frameset in its place, after which elements may
 -- follow; and a
 -- page of frames.
 pub data IsBuilt (is_framed : Bool) (s : State) : Type 0 where

@@ -41,7 +41,7 @@ use Rattle.tree_words.specs.Attributes.{is_html_annotation}
 use Rattle.tree_words.specs.declared.modes.InsertionMode.TheVariants as modes
 use Rattle.page_skeleton.proofs.BareForests.{less_apart, still}
 
--- behind the head's planting
+-- after the head's planting
 head_forest : (root : ℕ) (f h : Forest) → ¬ (root ≡ 0) → IsKeptForest (root_guard root) f →
     IsPlanted root (in_html (codes "head")) f h → IsKeptForest (head_guard root (nodes f)) h
 head_forest root f h made is new = record {

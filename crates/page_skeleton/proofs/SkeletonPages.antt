@@ -1,4 +1,4 @@
--- What the items of a page come to; and behind its end the skeleton stands.
+-- What the items of a page come to; and after its end the skeleton stands.
 use Rattle.std.proofs.Common.{◌≡◌, ℕ, zero, suc, ◌<◌, ◌==◌, ◌&&◌, Bool, true, false, if◌then◌else◌, List, [], ◌∷◌, ◌++◌}
 use Rattle.std.proofs.Common.{fold, None, Some, inl, inr, codes, refl, sym, ap, subst, ◌∙◌, arith}
 use Rattle.html_grammar.specs.Items.{Item, tag}
@@ -128,7 +128,7 @@ phase_alike is_framed s t alike (template_open in_head root head top apart stead
     (subst (λ known. templates_in s.tree.forest s.tree.stack ≤ length known) (sym alike.templates) counted))
 phase_alike is_framed s t alike (built is) = built (built_alike is_framed s t alike is)
 
--- an item tells no start tag that is left out
+-- an item emits no start tag that is left out
 abbrev pub IsToldItem : Bool → Item → Type 0
 IsToldItem is_framed (items.tag t) = IsToldMark is_framed (mark_by t.kind t)
 IsToldItem is_framed _ = Unit {0}
@@ -274,7 +274,7 @@ module _ (is_framed : Bool) (facts : Facts) where
   items_on [] s are on = on
   items_on (item ∷ more) s are on = items_on more (step s item) are.1 (step_on item s are.0 on)
 
-  -- the end of the page, behind which the body or a frameset stands
+  -- the end of the page, after which the body or a frameset stands
   given_end : (r : Row) (s : State) → Ready s → IsFormed s → Falls end_of_file s r →
       ComesTo (IsBuilt is_framed) s r ⊎ (Comes is_framed s r × (is_again r ≡ true)) →
       ((t : State) → On t → rank end_of_file t < rank end_of_file s → Stands (taken end_of_file t).state) →
@@ -342,7 +342,7 @@ module _ (is_framed : Bool) (facts : Facts) where
     });
   }
 
--- what is told, by its start tags
+-- what is emitted, by its start tags
 framed_by : (is_framed : Bool) (name : List ℕ) (group : TagGroup) → tag_group name ≡ group →
     (is_framed ≡ false → is_unframed_name StartTag name ≡ true) → IsToldGroup is_framed group
 framed_by true name groups.Frameset e unframed = refl

@@ -1,4 +1,4 @@
--- Which mode the open elements ask for in a template in front of the body: one that may stand there; and behind it.
+-- Which mode the open elements ask for in a template in front of the body: one that may stand there; and after it.
 use Rattle.std.proofs.Common.{◌≡◌, ℕ, inl, inr, ◌&&◌, Bool, true, false, if◌then◌else◌, List, [], ◌∷◌, map}
 use Rattle.std.proofs.Common.{Option, None, Some, not, option_map, codes, refl, sym, ap, ◌∙◌}
 use Rattle.html_forest.specs.Forest.{Forest, name_of}

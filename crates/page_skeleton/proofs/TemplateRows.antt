@@ -27,7 +27,7 @@ use Rattle.tree_words.specs.declared.modes.InsertionMode.TheVariants as modes
 none : {A : Type 0} → false ≡ true → A
 none e = absurd (cc)
 
--- behind what is asked for the tree, its flags and the modes of templates are what they were
+-- after what is asked for the tree, its flags and the modes of templates are what they were
 entered_tree : (ask : Ask) (s : State) → (entered ask s).tree ≡ s.tree
 entered_tree nothing s = refl
 entered_tree plaintext s = refl

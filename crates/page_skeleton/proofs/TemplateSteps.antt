@@ -186,7 +186,7 @@ module _ (in_head : Bool) (root head top : ℕ) (apart : AreApart root head top)
     unframed = refused;
   }
 
-  -- behind the outermost template the head, or what follows it, goes on
+  -- after the outermost template the head, or what follows it, goes on
   kept_too : (n : ℕ) → IsKept (head_guard root head) n → IsKept (template_guard in_head root head top) n
   kept_too n (inl e) = inl e
   kept_too n (inr (inl e)) = inr (inl e)
@@ -272,7 +272,7 @@ module _ (in_head : Bool) (root head top : ℕ) (apart : AreApart root head top)
   stack_there true u m e = stands_in_head m e
   stack_there false u m e = past_head m e
 
-  -- a state w, in which what is lowest is open, and u behind setting its mode
+  -- a state w, in which what is lowest is open, and u after setting its mode
   pub behind : (is_framed : Bool) (s w u : State) → IsHeld (template_guard in_head root head top) s →
       s.frameset_ok ≡ false → w.tree.forest ≡ s.tree.forest → w.tree.formatting ≡ before_marker s.tree.formatting →
       w.tree.stack ≡ lowest_below in_head root head → w.head ≡ s.head → w.form ≡ s.form → w.context ≡ s.context →

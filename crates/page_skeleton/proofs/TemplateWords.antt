@@ -1,5 +1,5 @@
--- Words on a tree that open no template: no more templates are open behind them than before. Open elements are there
--- and listed tags are of formatting elements, before and behind.
+-- Words on a tree that open no template: no more templates are open after them than before. Open elements are there
+-- and listed tags are of formatting elements, before and after.
 use Rattle.std.proofs.Common.{◌≡◌, ℕ, ◌≤◌, ◌⊎◌, inl, inr, Bool, true, false, if◌then◌else◌, List, [], ◌∷◌, codes}
 use Rattle.std.proofs.Common.{refl, sym, ap, subst, ◌∙◌}
 use Rattle.formatting_list.specs.Entries.{Entry, formatted, marker}

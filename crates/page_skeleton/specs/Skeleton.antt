@@ -1,5 +1,5 @@
 -- The skeleton of a page (WHATWG HTML, 4.1.1 and 13.2.6.4.1 to 13.2.6.4.7): the document has one child element, `html`,
--- whose first child elements are `head` and then `body`, or `frameset` where a page of frames was told.
+-- whose first child elements are `head` and then `body`, or `frameset` where a page of frames was emitted.
 use Rattle.std.specs.Prelude.{◌≡◌, ℕ, Bool, true, false, List, [], ◌∷◌, codes, if◌then◌else◌}
 use Rattle.html_forest.specs.Forest.{Forest, Kind, children_at, comment, doctype, document, element, instruction}
 use Rattle.html_forest.specs.Forest.{kind_at, name_of, text}
@@ -32,7 +32,7 @@ elements_among f (n ∷ ns) = if is_element (kind_at n f) then n ∷ elements_am
 abbrev pub child_elements : ℕ → Forest → List ℕ
 child_elements n f = elements_among f (children_at n f)
 
--- what stands behind the head: the body, or, where framesets are told, one of them
+-- what stands after the head: the body, or, where framesets are emitted, one of them
 abbrev pub bodies : (is_framed : Bool) → List (List ℕ)
 bodies true = codes "body" ∷ codes "frameset" ∷ []
 bodies false = codes "body" ∷ []
@@ -48,7 +48,7 @@ pub record IsSkeleton (is_framed : Bool) (f : Forest) : Type 0 where
   pub head_named : is_html (codes "head") (name_of head f) ≡ true
   pub body_named : is_element_of (html_elements (bodies is_framed)) (name_of body f) ≡ true
 
--- no start tag of a frameset is told
+-- no start tag of a frameset is emitted
 abbrev pub is_unframed_name : TagKind → List ℕ → Bool
 is_unframed_name StartTag name = if is_one_of (codes "frameset" ∷ []) name then false else true
 is_unframed_name EndTag name = true

@@ -7,9 +7,9 @@
 //!   and then `body`; where a start tag `frameset` was emitted, `body` or `frameset` (`IsSkeleton`)
 //!
 //! It holds for every text, with templates, framesets, tables, foreign content and misnested formatting in it, and
-//! for any options that a page begins with. Which elements stand in `html` behind those two is not said. The
-//! definitions are computed on rows. No body stands behind the law: its wrong bodies are edits of the definitions.
-//! Of bugs that were planted in the rule table, a title behind the head that is inserted at its place is refused
+//! for any options that a page begins with. Which elements stand in `html` after those two is not said. The
+//! definitions are computed on rows. No body stands after the law: its wrong bodies are edits of the definitions.
+//! Of bugs that were planted in the rule table, a title after the head that is inserted at its place is refused
 //! here, a head or a body of another name by the law on ranks already.
 #![tactic(auto)]
 

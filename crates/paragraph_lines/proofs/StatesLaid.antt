@@ -224,7 +224,7 @@ module _ (width : ℕ) where
   joined_by texts a b None = refl
   joined_by texts a b (Some own) = ap (λ ls. lines_behind w ls texts) (append_assoc a b own)
 
-  -- a paragraph behind a text that is laid out
+  -- a paragraph after a text that is laid out
   next_by : KnowsNormalText → (texts : List (List ℕ)) (cs : List ℕ) (before : List PlainItems) (awaits : Bool)
       (own : Option (List PlainItems)) → ((before : List PlainItems) → IsShownFrom texts cs before) →
       all_shown (option_and_then (all_laid texts) (option_map (λ (b : Laid Plain). end_block b)

@@ -32,7 +32,7 @@ has_content lines = list_any (λ line. is_filled (characters line)) lines
 abbrev pub block_start : {S : Type 0} → List (List (Item S)) → List (List (Item S))
 block_start before = if has_content before then [] ∷ [] else []
 
--- The lines of paragraphs with these texts, behind the lines before them.
+-- The lines of paragraphs with these texts, after the lines before them.
 abbrev pub AreLinesBehind : ℕ → List PlainItems → List (List ℕ) → List PlainItems → Type 0
 AreLinesBehind width before [] lines = lines ≡ before
 AreLinesBehind width before (text ∷ texts) lines =

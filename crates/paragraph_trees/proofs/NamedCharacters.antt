@@ -29,7 +29,7 @@ each_reference P amp lt gt quot nbsp name c h = at h.0 h.1 h.2 where
   at (suc (suc (suc (suc zero)))) inside e = same (codes "nbsp;") 160 nbsp e
   at (suc (suc (suc (suc (suc k))))) inside e = absurd (omega arith)
 
--- what is found behind the `&` of a character
+-- what is found after the `&` of a character
 abbrev found : ℕ → List ℕ → Found
 found c rest = record { characters = c ∷ []; closed = true; rest = rest }
 
@@ -39,7 +39,7 @@ by_value front rest value =
     record { characters = value; closed = list_any (λ c. c == semicolon) front; rest = rest }
 
 module _ (table : References) (knows : KnowsEscapes table) where
-  -- no name goes on behind a semicolon
+  -- no name goes on after a semicolon
   none_behind : (front : List ℕ) (c : ℕ) (more cs : List ℕ) → named_from table (front ++ 59 ∷ c ∷ more) cs ≡ None
   none_behind front c more [] =
       ap (option_map (by_value (front ++ 59 ∷ c ∷ more) []))

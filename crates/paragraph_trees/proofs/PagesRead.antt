@@ -1,4 +1,4 @@
--- The reading of a page of paragraphs tells their tokens, and then the end.
+-- The reading of a page of paragraphs emits their tokens, and then the end.
 use Rattle.std.proofs.Common.{◌≡◌, ℕ, false, List, [], ◌∷◌, ◌++◌, Option, Some, codes, fold, refl, sym, ap, subst}
 use Rattle.escaped_texts.specs.Escaped.{KnowsEscapes}
 use Rattle.html_grammar.specs.Items.{Item, characters, end_of_file, tag}
@@ -37,7 +37,7 @@ closing = record {
 abbrev pub Leads : {A H : Type 0} → Meaning A H → (A → Type 0) → Tag → A → Type 0
 Leads means Inside t s = (means.reply s (tag t) ≡ Continue) × Inside (means.step s (tag t))
 
--- what paragraphs are told to: their tags and texts lead from a state inside to such states
+-- what paragraphs are emitted to: their tags and texts lead from a state inside to such states
 pub record Hears {A H : Type 0} (means : Meaning A H) (Inside : A → Type 0) : Type 0 where
   pub joins : Joins means
   pub skips : Skips means
@@ -49,7 +49,7 @@ pub record Hears {A H : Type 0} (means : Meaning A H) (Inside : A → Type 0) : 
 abbrev pub ended_by : {A H : Type 0} → Meaning A H → A → List Item → A
 ended_by means s items = means.step (fold means.step s items) end_of_file
 
--- a text that is told is one item, or none
+-- a text that is emitted is one item, or none
 text_told : {A H : Type 0} (means : Meaning A H) → Skips means → (s : A) (text : List ℕ) (more : List Item) →
     fold means.step s (tokens_and (text_content text) more) ≡ fold means.step (means.step s (characters text)) more
 text_told means skips s [] more = ap (λ z. fold means.step z more) (sym (skips s))

@@ -14,7 +14,7 @@ use Rattle.reference_tables.specs.References.{References}
 use Rattle.paragraph_trees.proofs.NamedCharacters.{reference_read}
 use Rattle.paragraph_trees.specs.ParagraphPage.{IsCharacter, IsText}
 
--- ordinary text behind a start tag
+-- ordinary text after a start tag
 abbrev pub ordinary : Option (List ℕ) → Mode
 ordinary last = record { text = Ordinary; last_start_tag = last }
 

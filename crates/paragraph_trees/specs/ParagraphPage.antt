@@ -17,7 +17,7 @@ pub record BeginsWithName (text : List ℕ) (c : ℕ) (rest : List ℕ) : Type 0
 abbrev pub IsCharacter : List ℕ → ℕ → Type 0
 IsCharacter source c = ((source ≡ c ∷ []) × (c ≢ 60) × (c ≢ 38) × (c ≢ 0)) ⊎ IsReference source c
 
--- A text as it is written: its characters, one behind the other.
+-- A text as it is written: its characters, one after the other.
 abbrev pub IsText : List ℕ → List ℕ → Type 0
 IsText source [] = source ≡ []
 IsText source (c ∷ cs) =

@@ -1,4 +1,4 @@
--- What contracts say of parse errors: those that were found and are not told yet, and what may come to one.
+-- What contracts say of parse errors: those that were found and are not emitted yet, and what may come to one.
 use Rattle.std.specs.Prelude.{ℕ, Bool, true, false, ◌≡◌, ◌==◌, ◌&&◌, ◌||◌, List, [], ◌∷◌, ◌++◌}
 use Rattle.std.specs.Option.{is_some}
 use Rattle.html_lexemes.specs.declared.states.RawKind.{RawKind}
@@ -20,7 +20,7 @@ found_of errors = errors.found.items
 abbrev pub is_exact : ParseErrors → Bool
 is_exact errors = errors.exact
 
--- an unknown name behind `&` is read, which `;` makes an error
+-- an unknown name after `&` is read, which `;` makes an error
 abbrev pub is_watching : ParseErrors → Bool
 is_watching errors = is_some errors.watched
 

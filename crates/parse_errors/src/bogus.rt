@@ -7,8 +7,8 @@ use html_lexemes::states::State;
 use std::alloc::AllocError;
 
 impl ParseErrors {
-    /// Finds the errors of a comment that is not opened by `<!--`: the text behind `<`, where the state is `TagOpen`
-    /// and it begins with `?`, behind `</` in `EndTagOpen`, which may be `>` alone, and behind `<!` in
+    /// Finds the errors of a comment that is not opened by `<!--`: the text after `<`, where the state is `TagOpen`
+    /// and it begins with `?`, after `</` in `EndTagOpen`, which may be `>` alone, and after `<!` in
     /// `MarkupDeclarationOpen`; up to and with its `>`, or up to the end of the page. The error is allocation failure
     /// alone.
     #[tactic(auto, using(crate::proofs::GoesOnLemmas::goes_on_twice))]
@@ -23,7 +23,7 @@ impl ParseErrors {
     {
         self.leave_name();
         if opening == State::MarkupDeclarationOpen {
-            // what stands behind the `!` is only looked at
+            // what stands after the `!` is only looked at
             self.saw(opening, '!', line)?;
         }
         'characters: for (at, c) in text.char_indices() {

@@ -5,7 +5,7 @@ ghost use Rattle.parse_errors.specs.Noncharacters.{is_noncharacter};
 
 use html_lexemes::states::{AttrValueKind, State};
 
-/// The line behind a character.
+/// The line after a character.
 pub(crate) fn line_behind(line: u64, c: char) -> u64 {
     if c == '\n' {
         line.saturating_add(1)
@@ -76,7 +76,7 @@ fn is_bad_in_comment(state: State, c: char) -> bool {
     }
 }
 
-// A keyword behind the name is taken out beforehand.
+// A keyword after the name is taken out beforehand.
 fn is_bad_in_doctype(state: State, c: char) -> bool {
     match state {
         State::Doctype | State::AfterDoctypeName | State::AfterDoctypeIdentifier(_) => {
@@ -114,7 +114,7 @@ pub(crate) fn next_reader(state: State, c: char) -> Option<State> {
     }
 }
 
-/// The state that the end of the page is told in, where it comes in a state of a lexeme.
+/// The state that the end of the page is emitted in, where it comes in a state of a lexeme.
 pub(crate) fn state_at_end(state: State) -> State {
     match state {
         State::BeforeAttributeValue => State::AttributeValue(AttrValueKind::Unquoted),

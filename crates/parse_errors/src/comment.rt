@@ -7,7 +7,7 @@ use html_lexemes::states::State;
 use std::alloc::AllocError;
 
 impl ParseErrors {
-    /// Finds the errors of a comment: the text behind `<!--`, up to and with its `>`, or up to the end of the page. The
+    /// Finds the errors of a comment: the text after `<!--`, up to and with its `>`, or up to the end of the page. The
     /// error is allocation failure alone.
     #[tactic(auto, using(crate::proofs::GoesOnLemmas::goes_on_twice))]
     pub fn in_comment(&mut self, text: &str, mut line: u64) -> Result<(), AllocError>
@@ -36,7 +36,7 @@ impl ParseErrors {
     }
 }
 
-// The state behind a character that is read in a state. `None` is the end of the comment.
+// The state after a character that is read in a state. `None` is the end of the comment.
 fn comment_state(state: State, c: char) -> Option<State> {
     match state {
         State::CommentStart => start_state(c, State::CommentStartDash),
@@ -63,7 +63,7 @@ fn start_state(c: char, behind_dash: State) -> Option<State> {
     }
 }
 
-// The same behind two dashes.
+// The same after two dashes.
 fn end_state(c: char) -> Option<State> {
     match c {
         '>' => None,

@@ -10,7 +10,7 @@ use std::alloc::AllocError;
 const KEYWORD_LENGTH: usize = 6;
 
 impl ParseErrors {
-    /// Finds the errors of a doctype: the text behind `<!doctype`, up to and with its `>`, or up to the end of the
+    /// Finds the errors of a doctype: the text after `<!doctype`, up to and with its `>`, or up to the end of the
     /// page. The error is allocation failure alone.
     #[tactic(auto, using(crate::proofs::GoesOnLemmas::goes_on_twice))]
     pub fn in_doctype(&mut self, text: &str, mut line: u64) -> Result<(), AllocError>
@@ -58,7 +58,7 @@ fn keyword_at(state: State, text: &str, at: usize) -> Option<DoctypeIdKind> {
     }
 }
 
-// The state behind a character that is read in a state. `None` is the end of the doctype.
+// The state after a character that is read in a state. `None` is the end of the doctype.
 fn doctype_state(state: State, c: char) -> Option<State> {
     if c == '>' {
         return None;

@@ -8,7 +8,7 @@ use html_lexemes::{ErrorMessage, Text};
 use std::alloc::{AllocError, Global};
 use std::mem;
 
-/// A parse error, and the line at which it is told, from 1 on.
+/// A parse error, and the line at which it is emitted, from 1 on.
 #[derive(Drop)]
 pub struct FoundError {
     /// What it says.
@@ -17,15 +17,15 @@ pub struct FoundError {
     pub line: u64,
 }
 
-/// The parse errors that were found and are not told yet, in the order in which they were found. With `exact` the
+/// The parse errors that were found and are not emitted yet, in the order in which they were found. With `exact` the
 /// wording names characters and states, and each control and noncharacter of the page is an error.
 #[derive(Drop)]
 pub struct ParseErrors {
     exact: bool,
     found: Vec<FoundError>,
-    // the letters and digits behind a `&` that begin with no name of the table, as long as a `;` may follow them
+    // the letters and digits after a `&` that begin with no name of the table, as long as a `;` may follow them
     watched: Option<String>,
-    // the character that is read next as text was told as bad already
+    // the character that is read next as text was reported as bad already
     was_told: bool,
 }
 
@@ -44,14 +44,14 @@ impl ParseErrors {
         }
     }
 
-    /// Whether there is nothing to tell.
+    /// Whether there is nothing to emit.
     pub fn is_empty(&self) -> bool
         ensures { MatchBool result (found_of self.now ≡ []) (found_of self.now ≢ []) }
     {
         self.found.is_empty()
     }
 
-    /// Gives out what was found; nothing is left to tell.
+    /// Gives out what was found; nothing is left to emit.
     pub fn take(&mut self) -> Vec<FoundError>
         ensures taken { result.items ≡ found_of self.old }
         ensures none { found_of self.new ≡ [] }
@@ -63,7 +63,7 @@ impl ParseErrors {
     }
 
     /// Whether `at_text` could find an error at a character of text, or has one in view: it is NUL, or stands in an
-    /// unknown name behind `&`, or with `exact` it is a control or a noncharacter.
+    /// unknown name after `&`, or with `exact` it is a control or a noncharacter.
     pub fn heeds(&self, c: char) -> bool
         ensures { result ≡ heeds self.now c }
     {
@@ -74,12 +74,12 @@ impl ParseErrors {
         *self.found.allocator()
     }
 
-    // Whether some characters are told wherever they stand.
+    // Whether some characters are emitted wherever they stand.
     pub(crate) fn tells_characters(&self) -> bool {
         self.exact
     }
 
-    // Whether a character is told wherever it stands.
+    // Whether a character is emitted wherever it stands.
     pub(crate) fn tells_character(&self, c: char) -> bool
         ensures { result ≡ (is_exact self.now && is_noncharacter c) }
     {

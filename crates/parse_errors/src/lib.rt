@@ -8,10 +8,10 @@
 //! - `heeds`, `at_text`: a character of text matters just where it is NUL, or an unknown name is watched, or the
 //!   wording is exact and it is a control or noncharacter; at any other `at_text` changes nothing and is not
 //!   refused
-//! - every other call: it only adds to what was found, behind it, and keeps the wording, also where it is refused
+//! - every other call: it only adds to what was found, after it, and keeps the wording, also where it is refused
 //!   (`found`, by `GoesOn`)
 //! - `in_tag`, `in_comment`, `in_bogus_comment`, `in_doctype`, `at_tag_open`, `at_end_tag_open`, `at_end`: no
-//!   unknown name is watched behind them (`unwatched`)
+//!   unknown name is watched after them (`unwatched`)
 //! - `at_end_tag_open`, `at_tag_open` at the end of the page: just one error more, on the line that is given
 //! - `at_end`: one error more in a CDATA section and in the text of a script within `<!--`, and none elsewhere
 //!
@@ -20,7 +20,7 @@
 //!
 //! What is not pinned, so that a wrong body would still be proved: an `at_text` that always does nothing; an
 //! `in_tag`, `in_comment`, `in_bogus_comment`, `in_doctype`, `in_reference` or `in_last_reference` that finds
-//! nothing, or something else, or that always refuses; an `at_tag_open` that tells the end of the page for another
+//! nothing, or something else, or that always refuses; an `at_tag_open` that emits the end of the page for another
 //! character; an `in_tag`, `in_comment`, `in_bogus_comment` or `in_doctype` that looks at another text, kind of
 //! tag, state or line, and of the last three one that says that it succeeded where memory was refused; a `take`
 //! that forgets that the next character was emitted. `is_error_at_end` lists the states that the code lists; rows

@@ -1,6 +1,6 @@
 use crate::characters::is_noncharacter;
 
-/// What stands behind the `#` of a numeric character reference.
+/// What stands after the `#` of a numeric character reference.
 #[derive(Clone, Copy)]
 pub(crate) struct Number {
     /// The value of the digits, without what passes 32 bits.
@@ -8,12 +8,12 @@ pub(crate) struct Number {
     is_too_large: bool,
     /// Whether there is a digit.
     pub(crate) has_digits: bool,
-    /// The character behind them, or `None` at the end of the text.
+    /// The character after them, or `None` at the end of the text.
     pub(crate) behind: Option<char>,
 }
 
 impl Number {
-    /// Reads a number in decimal digits, or behind `x` or `X` in hexadecimal ones.
+    /// Reads a number in decimal digits, or after `x` or `X` in hexadecimal ones.
     pub(crate) fn read(text: &str) -> Number {
         match text.strip_prefix('x').or(text.strip_prefix('X')) {
             Some(digits) => Number::of_digits(16, digits),

@@ -7,7 +7,7 @@ use html_lexemes::states::State;
 use std::alloc::AllocError;
 
 impl ParseErrors {
-    /// Finds the errors of a `<` that is text: the character behind it, which `at_text` is to be asked about next where
+    /// Finds the errors of a `<` that is text: the character after it, which `at_text` is to be asked about next where
     /// `heeds` says so, or `None` at the end of the page. The line is that of the `<`. The error is allocation failure
     /// alone.
     pub fn at_tag_open(&mut self, next: Option<char>, line: u64) -> Result<(), AllocError>

@@ -30,7 +30,7 @@ pub(crate) fn behind_run(passing: Passing, state: State, text: &str) -> &str
     }
 }
 
-/// What follows an attribute behind a space, with a name and a value in double quotes, in which nothing is an error.
+/// What follows an attribute after a space, with a name and a value in double quotes, in which nothing is an error.
 /// `None` is another text, or a state in which none may stand.
 pub(crate) fn behind_attribute(passing: Passing, state: State, text: &str) -> Option<&str>
     ensures shorter { IfSome result (λ r. length r.now < length text.now) }

@@ -7,9 +7,9 @@ use html_lexemes::{NamedReference, ReferenceTable};
 use std::alloc::AllocError;
 
 impl ParseErrors {
-    /// Finds the errors of a character reference in text: the text behind `&` that the reference is made of, perhaps
-    /// with the character that ended it. That its semicolon is missing is not among them: the grammar tells it. A name
-    /// that the table lacks is an error only once its `;` is read; `at_text` then goes on with the character behind the
+    /// Finds the errors of a character reference in text: the text after `&` that the reference is made of, perhaps
+    /// with the character that ended it. That its semicolon is missing is not among them: the grammar emits it. A name
+    /// that the table lacks is an error only once its `;` is read; `at_text` then goes on with the character after the
     /// text. The error is allocation failure alone.
     pub fn in_reference(
         &mut self,
@@ -22,7 +22,7 @@ impl ParseErrors {
         self.in_text_reference(table, text, false, line)
     }
 
-    /// The same where the page ends behind the text.
+    /// The same where the page ends after the text.
     pub fn in_last_reference(
         &mut self,
         table: &ReferenceTable,
@@ -99,7 +99,7 @@ impl ParseErrors {
         Ok(())
     }
 
-    // Finds the errors of a number behind `#`, but for a missing semicolon; `is_last` says that the page ends with the
+    // Finds the errors of a number after `#`, but for a missing semicolon; `is_last` says that the page ends with the
     // text.
     fn in_number(&mut self, text: &str, is_last: bool, line: u64) -> Result<(), AllocError>
         ensures found { GoesOn self.old self.new }
@@ -118,7 +118,7 @@ impl ParseErrors {
         Ok(())
     }
 
-    // Finds that no semicolon stands behind the digits of a number in a value; the text goes up to the end of the tag
+    // Finds that no semicolon stands after the digits of a number in a value; the text goes up to the end of the tag
     // or of the page.
     fn at_number_end(&mut self, text: &str, line: u64) -> Result<(), AllocError>
         ensures found { GoesOn self.old self.new }
@@ -136,7 +136,7 @@ impl ParseErrors {
     }
 }
 
-// The character behind a name that a text begins with.
+// The character after a name that a text begins with.
 fn character_behind(reference: NamedReference<'_>, text: &str) -> Option<char> {
     text.strip_prefix(reference.name)?.chars().next()
 }

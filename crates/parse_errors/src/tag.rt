@@ -142,7 +142,7 @@ impl ParseErrors {
     }
 }
 
-// The state behind a character that is read in a state. `None` is the end of the tag.
+// The state after a character that is read in a state. `None` is the end of the tag.
 fn tag_state(state: State, c: char) -> Option<State> {
     match state {
         State::AttributeValue(kind) => value_state(kind, c),
@@ -165,7 +165,7 @@ fn tag_state(state: State, c: char) -> Option<State> {
     }
 }
 
-// The same behind white space that is in no value and before none.
+// The same after white space that is in no value and before none.
 fn state_behind_space(state: State) -> State {
     match state {
         State::AttributeName | State::AfterAttributeName => State::AfterAttributeName,

@@ -7,7 +7,7 @@ use std::alloc::AllocError;
 
 impl ParseErrors {
     /// Finds the errors at a character that is read in a state of text, on its line: `Data`, `Plaintext`, `RawData`, a
-    /// state behind dashes of a script, or `CdataSection`. A `<` or `&`, which may begin markup, is such a character
+    /// state after dashes of a script, or `CdataSection`. A `<` or `&`, which may begin markup, is such a character
     /// too. The error is allocation failure alone.
     pub fn at_text(&mut self, state: State, c: char, line: u64) -> Result<(), AllocError>
         ensures found { GoesOn self.old self.new }

@@ -23,7 +23,7 @@ use Rattle.render_laying.specs.Items.{spaces}
 use Rattle.render_sizes.specs.Extents.{capped}
 use Rattle.text_pieces.specs.Sources.{is_filled}
 
--- the same behind what may be there
+-- the same after what may be there
 then_same : {A B : Type 0} (f g : A → Option B) → ((a : A) → f a ≡ g a) → (x : Option A) →
     option_and_then f x ≡ option_and_then g x
 then_same f g h None = refl
@@ -87,7 +87,7 @@ module _ (o : Options) where
       ∙ ap (λ ts. unless_shallow (all_shallow o kids) (target ∷ ts) ++ later) (targets_stay kids)
       ∙ ap (λ ts. unless_shallow (all_shallow o kids) (target ∷ targets_in o kids) ++ ts) (targets_stay rest)
 
-  -- behind more targets, which both count
+  -- after more targets, which both count
   longer : (ts us vs : List (List ℕ)) (n : ℕ) → length ts ≡ n → us ≡ vs → length (ts ++ us) ≡ n + length vs
   longer ts us vs n many e =
       length-append ts us ∙ ap (λ k. k + length us) many ∙ ap (λ us. n + length us) e
@@ -95,7 +95,7 @@ module _ (o : Options) where
   one_longer : (ts : List (List ℕ)) (target : List ℕ) (n : ℕ) → length ts ≡ n → length (ts ++ target ∷ []) ≡ suc n
   one_longer ts target n many = longer ts (target ∷ []) (target ∷ []) n many refl ∙ omega arith
 
-  -- a link's parts, by the number behind it, whether it shows nothing, and the parts of what it holds
+  -- a link's parts, by the number after it, whether it shows nothing, and the parts of what it holds
   abbrev link_parts : Tag → List ℕ → Bool → List Part → List Part
   link_parts d mark shallow inside = unless_shallow shallow (says (codes "[") (within d)
       ∷ (inside ++ says (codes "]") (within d) ∷ says mark d ∷ []))
@@ -217,7 +217,7 @@ module _ (o : Options) where
         wide.paragraph_lines o width k ts (wide_inlines is) ≡ paragraph_lines o width k n is
     paragraph_stays width k ts n is many = ap (lines_of width k) (parts_stay outermost ts n is many)
 
-    -- what stands behind a part that was laid, by how many paragraphs and links it has
+    -- what stands after a part that was laid, by how many paragraphs and links it has
     abbrev Stays : ℕ → PlainBlocks → Type 0
     Stays width rest = (k : ℕ) (ts : List (List ℕ)) (n : ℕ) (lines : List Line) → length ts ≡ n →
         wide.lay o width k ts (wide_blocks rest) lines ≡ lay o width k n rest lines
@@ -231,7 +231,7 @@ module _ (o : Options) where
         ∙ ap (λ c. option_and_then (wide.lay o width (k + c) (ts ++ t) (wide_blocks rest)) x') e
         ∙ then_same _ _ (λ lines. same (k + c') (ts ++ t) (n + length t') lines (longer ts t t' n many f)) x'
 
-    -- and behind a paragraph
+    -- and after a paragraph
     further_stays : (width k : ℕ) (ts : List (List ℕ)) (n : ℕ) (rest : PlainBlocks) → Stays width rest →
         (put : List Line → List Line) (t t' : List (List ℕ)) (x x' : Option (List Line)) → length ts ≡ n → t ≡ t' →
         x ≡ x' → option_and_then (λ new. wide.lay o width (suc k) (ts ++ t) (wide_blocks rest) (put new)) x

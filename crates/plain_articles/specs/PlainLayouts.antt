@@ -77,11 +77,11 @@ abbrev mutual
   count_items no_items = 0
   count_items (item kids rest) = count kids + count_items rest
 
--- the number behind a link, where there are footnotes
+-- the number after a link, where there are footnotes
 abbrev pub number_mark : Options → ℕ → List ℕ
 number_mark o n = if o.footnotes then codes "[" ++ decimal n ++ codes "]" else []
 
--- what a paragraph says and where its lines are broken, behind so many links
+-- what a paragraph says and where its lines are broken, after so many links
 abbrev pub parts_of : Options → Tag → ℕ → PlainInlines → List Part
 parts_of o d n no_inlines = []
 parts_of o d n (words cs rest) = says cs d ∷ parts_of o d n rest
@@ -124,7 +124,7 @@ abbrev mutual
   least_of_items o no_items = 0
   least_of_items o (item kids rest) = max (least_of o kids) (least_of_items o rest)
 
--- the lines behind those of a part, from a paragraph of a number on, behind so many links
+-- the lines after those of a part, from a paragraph of a number on, after so many links
 abbrev mutual
   pub lay : Options → (width number links : ℕ) → PlainBlocks → List Line → Option (List Line)
   lay o width k n no_blocks lines = Some lines

@@ -129,7 +129,7 @@ stays_off true wraps wide h f = cc
 stays_off false true wide h f = refl
 stays_off false false wide h f = f
 
--- characters that go on the line behind it stay within it
+-- characters that go on the line after it stay within it
 within : {S : Type 0} (c : ℕ) (p : Pass S) → p.goes_on ≡ false
     → taken p.rows + line_columns p.word + width_of c ≤ p.width → passes c p ≡ p.goes_on
 within c p off fits =

@@ -88,7 +88,7 @@ written_spaces f none xs r items h are =
     subst (λ ys. HasSeen f ys (written r items)) (ap (λ ys. xs ++ ys) (unseen f items none are) ∙ append-nil xs)
     (written_seen f none xs r items h)
 
--- behind white space that is written or dropped
+-- after white space that is written or dropped
 without_spaces_seen : {S X : Type 0} (f : Item S → List X) (xs : List X) (r : Laying S) → HasSeen f xs r
     → HasSeen f xs (without_spaces r)
 without_spaces_seen f xs r h = record { seen = h.seen; tail = h.tail; spaces = tt }

@@ -124,7 +124,7 @@ IsTrimmed w wraps (letter c main further ∷ rest) = ((is_solid (kind_of w wraps
     × IsTrimmed w wraps rest
 IsTrimmed w wraps (fragment name ∷ rest) = IsTrimmed w wraps rest
 
--- behind what is at hand, and the word so far, the rest of the line is laid as it stands
+-- after what is at hand, and the word so far, the rest of the line is laid as it stands
 abbrev IsLaidPlainly : {S : Type 0} → ℕ → Bool → List (Source S) → Type 0
 IsLaidPlainly {S = S} w wraps rest = (line spaces : List (Item S)) (word : List (Source S)) → IsReady word
     → line_columns line + line_columns spaces + source_columns word + source_columns rest ≤ w
@@ -163,7 +163,7 @@ on_word w wraps c main further rest more line spaces word fits =
     (shown-push word c main further)
     ∙ append_assoc (shown word) (character c main ∷ []) (as_it_stands rest))
 
--- a space waits behind the word
+-- a space waits after the word
 behind_nothing : {S : Type 0} (w : ℕ) (wraps : Bool) (main further : S) (rest : List (Source S))
     → IsLaidPlainly w wraps rest → has_solid w wraps rest ≡ true → (line spaces : List (Item S))
     → line_columns line + line_columns spaces + (1 + source_columns rest) ≤ w
@@ -322,7 +322,7 @@ a_line_that_fits {S = S} w wraps line plain fits =
     (trimmed_ends w wraps line) [] [] [] (inl refl) (omega arith) (λ no none. refl))
     ∙ at_last (trimmed w wraps line)
 
--- behind a marker, where it begins with a character that is shown
+-- after a marker, where it begins with a character that is shown
 pub a_marked_line_that_fits : {S : Type 0} (w : ℕ) (wraps : Bool) (name : List ℕ) (line : List (Source S))
     (c : ℕ) (main further : S) (rest : List (Source S)) → ArePlain w wraps line
     → trimmed w wraps line ≡ letter c main further ∷ rest → kind_of w wraps c ≡ solid

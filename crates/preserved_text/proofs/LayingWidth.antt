@@ -71,7 +71,7 @@ freshened w r h =
       spaces = refl;
     })
 
--- where so many columns more are at most the width, they go on the line behind `with_room`
+-- where so many columns more are at most the width, they go on the line after `with_room`
 record HasRoom {S : Type 0} (w n : ℕ) (r s : Laying S) : Type 0 where
   kept : IsIn w s
   room : line_taken s + n ≤ w

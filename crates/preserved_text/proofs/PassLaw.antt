@@ -124,7 +124,7 @@ tagging_of p = record { items = p.word; goes_on = p.goes_on }
 abbrev pub room_for : {S : Type 0} → ℕ → Laying S → Bool → Laying S
 room_for width r begun = if begun then with_room width 0 r else r
 
--- The pass stands behind what is laid and the word, and behind such a body or none.
+-- The pass stands after what is laid and the word, and after such a body or none.
 pub record StandsAt {S : Type 0} (width : ℕ) (wraps : Bool) (r : Laying S) (word : List (Source S)) (wide : Bool)
     (p : Pass S) : Type 0 where
   pub same_width : p.width ≡ width

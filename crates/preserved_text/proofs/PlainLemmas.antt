@@ -121,7 +121,7 @@ only {S = S} width wraps text front main further p fits =
       fits = never_wide width wraps source p.wide;
     }
 
--- behind a marker, where the line begins with a character that is shown
+-- after a marker, where the line begins with a character that is shown
 pub only_marked : {S : Type 0} (width : ℕ) (wraps : Bool) (name text front : List ℕ) (main further : S)
     → IsPlainFront width wraps text front → BeginsSolid width wraps front → text_columns front ≤ width
     → IsOnlyLine width wraps (fragment name ∷ sourced text main further) (marker name ∷ tagged front main)
@@ -164,7 +164,7 @@ pub begins_cut : (width : ℕ) (wraps : Bool) (text front : List ℕ) (bytes : �
 begins_cut width wraps text front bytes f size begins =
     subst (λ l. BeginsSolid width wraps (chars l)) (sym (ap (λ n. take n text) size ∙ f.is)) begins
 
--- what is taken off the pieces behind their text
+-- what is taken off the pieces after their text
 pub record IsTaken {T S : Type 0} (seen : T → S) (width : ℕ) (wraps : Bool) (pieces rest : List (Piece T))
     (piece : TextPiece T) (lead : Option (Piece T)) (bytes columns : ℕ) : Type 0 where
   pub cut : IsPlainCut width wraps (string_bytes piece.text) bytes columns

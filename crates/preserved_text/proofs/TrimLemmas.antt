@@ -222,7 +222,7 @@ bare_each seen width wraps (piece ∷ pieces) bare =
     goes_before width wraps (piece_sources seen piece) (sources_of seen pieces) none.1
     ∙ ap (λ l. trimmed width wraps (piece_sources seen piece) ++ l) (bare_each seen width wraps pieces none.1)
 
--- Behind these pieces nothing is shown.
+-- After these pieces nothing is shown.
 pub record IsBareBehind {T S : Type 0} (seen : T → S) (width : ℕ) (wraps : Bool)
     (all rest : List (Piece T)) : Type 0 where
   pub behind : List (Piece T)

@@ -13,7 +13,7 @@ use Rattle.preserved_text.proofs.FrontLemmas.{front_none, front_more, columns_mo
 
 -- ---- finding them
 
--- what was read of the text, with so many columns left of the room, and whether a word is at hand behind it
+-- what was read of the text, with so many columns left of the room, and whether a word is at hand after it
 pub record AreRead (width room left : ℕ) (in_word : Bool) (cs : List ℕ) : Type 0 where
   pub all : AreWordsAndSpaces width cs
   pub columns : text_columns cs + left ≡ room

@@ -43,7 +43,7 @@ outside width r on wide = record {
   wide = wide;
 }
 
--- the items behind the line, and the white space that waits
+-- the items after the line, and the white space that waits
 abbrev with_items : {S : Type 0} → Laying S → List (Item S) → Laying S
 with_items r items = record r { line = line_text r ++ (r.spaces ++ items); tail = []; spaces = [] }
 
@@ -59,7 +59,7 @@ closes_here width r word wide fits =
     else put_all width (broken_at_white r) word) { goes_on = r.goes_on }) r.goes_on wide)
     (le_is_true (taken r + line_columns word) width fits)
 
--- a space behind it
+-- a space after it
 abbrev with_space : {S : Type 0} → Laying S → S → Laying S
 with_space r tag = record r { spaces = r.spaces ++ space tag ∷ [] }
 
@@ -155,7 +155,7 @@ space_not_wide width wide cs some =
     sym (ap (λ b. wide || (b || has_wider width cs))
     (lt_is_false width (width_of 0x20) (omega (arith, some, width_of-space))))
 
--- the space stands behind the word, and what follows behind it
+-- the space stands after the word, and what follows after it
 behind_space : {S : Type 0} (xs spaces word rest : List (Item S)) (x : Item S)
     → ((xs ++ (spaces ++ word)) ++ []) ++ (x ∷ rest) ≡ xs ++ (spaces ++ (word ++ x ∷ rest))
 behind_space xs spaces word rest x =
@@ -216,7 +216,7 @@ both_read width main further (c ∷ cs) (inr is, all) =
     subst (λ d. BothRead width main further (d ∷ cs)) (sym is)
     (on_space width main further cs (both_read width main further cs all))
 
--- ---- what stands behind them begins with a space
+-- ---- what stands after them begins with a space
 
 space_kinds : (is_narrow has_columns : Bool) → ((if is_narrow || not has_columns then cut else white) ≡ white)
     ⊎ ((if is_narrow || not has_columns then cut else white) ≡ cut)
@@ -228,7 +228,7 @@ space_is : (width : ℕ) → (kind_of width true 0x20 ≡ white) ⊎ (kind_of wi
 unfolding kind_of
 space_is width = space_kinds (width == 0) (is_some (columns_of 0x20))
 
--- a space ends a body, so it is read as behind the body's end
+-- a space ends a body, so it is read as after the body's end
 ended_before : {S : Type 0} (k : Kind) (main further : S) (m : Pass S) → (k ≡ white) ⊎ (k ≡ cut) → m.begun ≡ true
     → read_at k false 0x20 main further (ended_body m) ≡ read_at k false 0x20 main further m
 ended_before k main further m (inl is) begun =

@@ -33,7 +33,7 @@ abbrev pub JoinsBody : ℕ → Bool → List ℕ → Type 0
 JoinsBody width wraps [] = Unit {0}
 JoinsBody width wraps (c ∷ cs) = (goes_on_with wraps (kind_of width wraps c) ≡ true) × JoinsBody width wraps cs
 
--- the characters go on a line behind so many columns, or there is none
+-- the characters go on a line after so many columns, or there is none
 abbrev pub Fits : ℕ → ℕ → List ℕ → Type 0
 Fits width taken cs = (cs ≡ []) ⊎ (taken + text_columns cs ≤ width)
 
@@ -47,7 +47,7 @@ abbrev pub AreWordsAndSpaces : ℕ → List ℕ → Type 0
 AreWordsAndSpaces width [] = Unit {0}
 AreWordsAndSpaces width (c ∷ cs) = ((kind_of width true c ≡ solid) ⊎ (c ≡ 0x20)) × AreWordsAndSpaces width cs
 
--- whether a word is at hand behind the characters, where it says so of what stands before them
+-- whether a word is at hand after the characters, where it says so of what stands before them
 abbrev pub ends_solid : ℕ → Bool → List ℕ → Bool
 ends_solid width begun [] = begun
 ends_solid width begun (c ∷ cs) = ends_solid width (is_solid (kind_of width true c)) cs
@@ -67,7 +67,7 @@ pub record AreWords (width room : ℕ) (cs rest : List ℕ) : Type 0 where
 abbrev pub AreWordsOrNone : ℕ → ℕ → List ℕ → List ℕ → Type 0
 AreWordsOrNone width room cs rest = (cs ≡ []) ⊎ AreWords width room cs rest
 
--- words and spaces that go on a line behind so many columns, or none
+-- words and spaces that go on a line after so many columns, or none
 abbrev pub WordsFit : ℕ → ℕ → List ℕ → List ℕ → Type 0
 WordsFit width taken cs rest = (cs ≡ []) ⊎ ((room : ℕ) × (room + taken ≤ width) × AreWords width room cs rest)
 

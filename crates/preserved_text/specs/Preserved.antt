@@ -79,7 +79,7 @@ parts_at tab inside c main further word = ended_word word ++ stop main further �
 parts_at cut inside c main further word = ended_word word
 parts_at nothing inside c main further word = []
 
--- the word behind it
+-- the word after it
 abbrev pub word_at : {S : Type 0} → Kind → Bool → ℕ → S → S → List (Source S) → List (Source S)
 word_at solid inside c main further word = word ++ letter c main further ∷ []
 word_at white true c main further word = word ++ letter c main further ∷ []
@@ -177,11 +177,11 @@ abbrev pub lay_stop : {S : Type 0} → ℕ → S → S → Laying S → Laying S
 lay_stop width main further r = tabbed width (chosen r.goes_on main further)
     (with_room width 1 (fold (put_space width) (without_spaces r) r.spaces))
 
--- the columns of the line at hand and of the white space behind it
+-- the columns of the line at hand and of the white space after it
 abbrev pub taken : {S : Type 0} → Laying S → ℕ
 taken r = line_taken r + line_columns r.spaces
 
--- A body with its tags: from the first character that passes the width, behind what stands on the line and the white
+-- A body with its tags: from the first character that passes the width, after what stands on the line and the white
 -- space before it, the further ones, where lines don't break at white space.
 pub record Tagging (S : Type 0) : Type 0 where
   pub items : List (Item S)
@@ -236,7 +236,7 @@ laid width wraps line = fresh (fold (lay_part width wraps) nothing_laid (parts w
 unfoldable pub preserved_lines : {S : Type 0} → ℕ → Bool → List (Source S) → List (List (Item S))
 preserved_lines width wraps line = (laid width wraps line).done
 
--- the markers that wait for the next source line: those behind its last body, or behind a character that is wider
+-- the markers that wait for the next source line: those after its last body, or after a character that is wider
 -- than the width and the last of the line
 unfoldable pub preserved_waiting : {S : Type 0} → ℕ → Bool → List (Source S) → List (List ℕ)
 preserved_waiting width wraps line = markers_of (laid width wraps line).line

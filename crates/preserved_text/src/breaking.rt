@@ -33,7 +33,7 @@ impl<T: EqualCopy + Drop> Rows<T> {
         self.tab(width, tag)
     }
 
-    /// Writes the white space that waits behind the line at hand, and on fresh ones where it doesn't go there.
+    /// Writes the white space that waits after the line at hand, and on fresh ones where it doesn't go there.
     fn put_spaces(&mut self, width: usize) -> Result<(), AllocError>
         ensures laid { OnOk result (laying_of T.seen self.new ≡ fold (put_space width)
             (without_spaces (laying_of T.seen self.old)) (laying_of T.seen self.old).spaces) }
@@ -120,7 +120,7 @@ impl<T: EqualCopy + Drop> Rows<T> {
         self.end_full_line(width)
     }
 
-    /// Ends the line at hand behind a tab that was cut off at the width.
+    /// Ends the line at hand after a tab that was cut off at the width.
     fn end_full_line(&mut self, width: usize) -> Result<(), AllocError>
         ensures laid { OnOk result (laying_of T.seen self.new ≡ behind_stop width (laying_of T.seen self.old)) }
         ensures joined { HasJoinedRows T.seen self.old → HasJoinedRows T.seen self.new }
@@ -133,7 +133,7 @@ impl<T: EqualCopy + Drop> Rows<T> {
         }
     }
 
-    /// Lays a body: behind the white space that waits, where both go on the line at hand; else each of its characters
+    /// Lays a body: after the white space that waits, where both go on the line at hand; else each of its characters
     /// where it goes, on a fresh line first.
     pub(crate) fn lay_items(
         &mut self,
@@ -152,7 +152,7 @@ impl<T: EqualCopy + Drop> Rows<T> {
         self.put_all(width, items)
     }
 
-    /// The columns of the line at hand, and of the white space that waits behind it.
+    /// The columns of the line at hand, and of the white space that waits after it.
     pub(crate) fn taken(&self) -> Result<usize, AllocError>
         ensures { IfOk result (λ n. n ≡ taken (laying_of T.seen self.now)) }
     {
@@ -171,7 +171,7 @@ impl<T: EqualCopy + Drop> Rows<T> {
         self.line.push_line(items)
     }
 
-    /// Writes a text on the line at hand, behind the white space that waits.
+    /// Writes a text on the line at hand, after the white space that waits.
     pub(crate) fn write_text(&mut self, text: &str, tag: &T) -> Result<(), AllocError>
         ensures laid { OnOk result (laying_of T.seen self.new ≡ written (without_spaces (laying_of T.seen self.old))
             ((laying_of T.seen self.old).spaces ++ tagged (chars text.now) (T.seen tag.now))) }
@@ -258,7 +258,7 @@ fn to_stop(width: usize, at: usize) -> usize
     (8 - at % 8).min(width.saturating_sub(at))
 }
 
-/// Adds what is behind the first `dropped` characters and markers.
+/// Adds what is after the first `dropped` characters and markers.
 fn push_dropped<T: EqualCopy + Drop>(
     line: &mut TaggedLine<T>,
     items: &TaggedLine<T>,

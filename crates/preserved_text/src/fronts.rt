@@ -9,7 +9,7 @@ ghost use Rattle.preserved_text.specs.Fronts.{WordsFit, has_wider};
 use crate::kinds::{CharacterKind, is_solid, kind_of};
 use text_pieces::{first_char, split_before, width_of};
 
-/// The characters in front that a body takes once it has begun, and what stands behind them.
+/// The characters in front that a body takes once it has begun, and what stands after them.
 pub(crate) fn body_front(text: &str, width: usize, wraps: bool) -> (&str, &str)
     ensures parts { chars text.now ≡ chars result.0.now ++ chars result.1.now }
     ensures joins { JoinsBody width wraps (chars result.0.now) }
@@ -52,7 +52,7 @@ fn goes_on_with(c: char, width: usize, wraps: bool) -> bool
     }
 }
 
-/// The characters in front that go on a line behind so many columns, and what stands behind them.
+/// The characters in front that go on a line after so many columns, and what stands after them.
 pub(crate) fn fitting_front(text: &str, width: usize, taken: usize) -> (&str, &str)
     ensures parts { chars text.now ≡ chars result.0.now ++ chars result.1.now }
     ensures fits { Fits width taken (chars result.0.now) }
@@ -80,8 +80,8 @@ fn behind_fitting(text: &str, room: usize) -> &str
     rest
 }
 
-/// The words and spaces in front that go on a line behind so many columns, up to a word's end before a space, and what
-/// stands behind them. Lines break at white space.
+/// The words and spaces in front that go on a line after so many columns, up to a word's end before a space, and what
+/// stands after them. Lines break at white space.
 pub(crate) fn words_front(text: &str, width: usize, taken: usize) -> (&str, &str)
     ensures parts { chars text.now ≡ chars result.0.now ++ chars result.1.now }
     ensures words { WordsFit width taken (chars result.0.now) (chars result.1.now) }
@@ -114,7 +114,7 @@ fn behind_words(text: &str, width: usize, room: usize) -> &str
     behind
 }
 
-/// What stands behind the last word before the character, where `behind` does for those that end before.
+/// What stands after the last word before the character, where `behind` does for those that end before.
 fn behind_word<'a>(in_word: bool, c: char, rest: &'a str, behind: &'a str) -> &'a str
     ensures { result.now ≡ (if in_word && (c == 0x20) then rest.now else behind.now) }
 {

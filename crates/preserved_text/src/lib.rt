@@ -3,7 +3,7 @@
 //! # What is proved
 //!
 //! A source line whose white space stays is cut into parts, which are laid one after another on lines of at most a
-//! width: that is the definition (`preserved_lines`), with the markers that wait behind it (`preserved_waiting`)
+//! width: that is the definition (`preserved_lines`), with the markers that wait after it (`preserved_waiting`)
 //! and when a character is too wide (`is_too_wide`), computed on rows.
 //!
 //! - `lay_preserved`: exactly those lines, each character with its tag, and the names of those markers; `TooNarrow`

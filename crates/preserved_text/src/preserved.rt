@@ -10,7 +10,7 @@ use std::alloc::Global;
 use tagged_lines::EqualCopy;
 use text_pieces::{BlockError, LaidText, Piece};
 
-/// The lines of one source line whose white space stays, and the markers that wait for what comes behind it. With
+/// The lines of one source line whose white space stays, and the markers that wait for what comes after it. With
 /// `wraps` lines break at white space too; with `allow_overflow` a character wider than the width stands alone on a
 /// line. The error is `TooNarrow`, or allocation failure.
 pub fn lay_preserved<T: EqualCopy + Drop>(

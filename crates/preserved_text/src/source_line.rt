@@ -169,7 +169,7 @@ impl<T: EqualCopy + Drop> SourceLine<T> {
         Ok(rest)
     }
 
-    /// The characters in front that leave the body's tag as it is, and what stands behind them.
+    /// The characters in front that leave the body's tag as it is, and what stands after them.
     fn steady_front<'a>(&self, text: &'a str) -> Result<(&'a str, &'a str), AllocError>
         ensures parts { IfOk result (λ parts. chars text.now ≡ chars parts.0.now ++ chars parts.1.now) }
         ensures steady { IfOk result (λ parts. IsSteady (chars parts.0.now) (pass_of T.seen self.now)) }
@@ -194,7 +194,7 @@ impl<T: EqualCopy + Drop> SourceLine<T> {
         Ok(end > self.width)
     }
 
-    /// The column behind the body so far. No memory holds a line of more columns than a `usize` counts.
+    /// The column after the body so far. No memory holds a line of more columns than a `usize` counts.
     fn body_end(&self) -> Result<usize, AllocError>
         ensures { IfOk result (λ n. n ≡ taken (laying_of T.seen self.now.rows)
             + line_columns (line_items T.seen self.now.word)) }
@@ -205,7 +205,7 @@ impl<T: EqualCopy + Drop> SourceLine<T> {
             .ok_or(AllocError)
     }
 
-    /// Lays words, with the spaces between them, on the line at hand behind the white space that waits.
+    /// Lays words, with the spaces between them, on the line at hand after the white space that waits.
     pub(crate) fn lay_words(
         &mut self,
         words: &str,

@@ -70,7 +70,7 @@ one_asked s z (items.doctype d) _ e = tt
 one_asked s z items.error _ e = tt
 one_asked s z items.end_of_file _ e = tt
 
--- the items behind one
+-- the items after one
 run_on : (P : Type 0) (s z : State) (item : Item) (more : List Item) → runs s (item ∷ more) ≡ Some z →
     ((y : State) → stepped s item ≡ Some y → step s item ≡ y → runs (step s item) more ≡ Some z → P) → P
 unfolding runs

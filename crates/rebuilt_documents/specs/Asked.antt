@@ -18,7 +18,7 @@ abbrev pub opens_title : TagKind → List ℕ → Bool
 opens_title StartTag name = is_one_of (codes "title" ∷ []) name
 opens_title EndTag name = false
 
--- Behind it the text up to its end tag is read as RCDATA, where there are references and no tags (13.2.6.4.4).
+-- After it the text up to its end tag is read as RCDATA, where there are references and no tags (13.2.6.4.4).
 abbrev pub asked_by : Bool → Ask
 asked_by title = if title then raw Rcdata else nothing
 

@@ -12,8 +12,8 @@ pub fn documents_rebuild()
     ensures { DocumentsRebuild }
 {}
 
-/// A tree that is planted node by node stands as at once: the outer nodes behind the children that a node had, and all
-/// nodes behind those that there were.
+/// A tree that is planted node by node stands as at once: the outer nodes after the children that a node had, and all
+/// nodes after those that there were.
 pub fn a_planted_tree_is_at_once()
     ensures { (p : ℕ) (content : Content) (f : Forest) → p < nodes f → planted p content f ≡ standing p content f }
 {}
@@ -23,7 +23,7 @@ pub fn inlines_rebuild()
     ensures { InlinesRebuild }
 {}
 
-/// Blocks rebuild below the current node; nothing is listed before and behind them.
+/// Blocks rebuild below the current node; nothing is listed before and after them.
 pub fn blocks_rebuild()
     ensures { BlocksRebuild }
 {}

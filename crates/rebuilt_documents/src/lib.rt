@@ -5,11 +5,11 @@
 //!
 //! Documents here are paragraphs, headings, divisions, lists with and without numbers, line breaks, `b`, `i`, `em`,
 //! `code`, links and texts, nested as documents nest them (`IsBlocks`, `IsInlines`): no two texts side by side, no
-//! link within a link, behind a doctype, `html`, `head` with at most a `title`, and `body`.
+//! link within a link, after a doctype, `html`, `head` with at most a `title`, and `body`.
 //!
 //! - `documents_rebuild`: the rule table over the tokens of such a document, from the beginning of a page on, gives
 //!   the tree itself (`document_tree`)
-//! - `inlines_rebuild`, `blocks_rebuild`: the same for parts in the body, behind any tokens; behind inline contents
+//! - `inlines_rebuild`, `blocks_rebuild`: the same for parts in the body, after any tokens; after inline contents
 //!   some of the active formatting elements are left, not always all: of four `<b>` in one another the first is no
 //!   longer listed
 //! - `a_planted_tree_is_at_once`: a tree that is planted node by node is the closed form: which nodes there are,

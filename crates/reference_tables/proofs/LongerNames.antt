@@ -1,4 +1,4 @@
--- What the place behind a text among the stored references says of the longer names that begin with it.
+-- What the place after a text among the stored references says of the longer names that begin with it.
 use Rattle.std.proofs.Common.{◌≡◌, ◌≢◌, ◌↔◌, ℕ, ◌+◌, ◌<◌, ◌≤◌, Bool, true, false, List, ◌∷◌, ◌++◌, length, get_or, None}
 use Rattle.std.proofs.Common.{is_some, IsTrue, Result, Ok, Err, MatchBool, IsUtf8, chars, string_bytes, refl, sym, ap}
 use Rattle.std.proofs.Common.{subst, ◌∙◌, arith}
@@ -42,7 +42,7 @@ module _ (items : List stored.Reference) (table : References) (q : List ℕ) (is
       (placed_behind nat_list_cmp_total reference_of items q r ordered searched.0 searched.1).behind _ d
       (omega arith) lt
 
--- what `starts_with` says of the stored name behind the place
+-- what `starts_with` says of the stored name after the place
 longer_of : (b : Bool) (q name : List ℕ) (table : References) →
     MatchBool b ((rest : List ℕ) × (name ≡ q ++ rest)) ((rest : List ℕ) → name ≢ q ++ rest) →
     IsTrue (finite.contains_key table name) → order name q ≡ Greater

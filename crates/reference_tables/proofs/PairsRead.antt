@@ -47,7 +47,7 @@ all_read pairs table h =
     (ap all_checked (sym (append-nil pairs)) ∙ h.sound [] ∙ ap Ok (append-nil pairs))
     ∙ ap Ok (sym h.stands)
 
--- a faulty pair behind the front
+-- a faulty pair after the front
 pub fault_read : (pairs front rest : List Reference) (r : Reference) (table : References) (e : TableError) →
     HaveRead front table → pairs ≡ front ++ r ∷ rest → checked r ≡ Err e → table_of_pairs pairs ≡ Err e
 fault_read pairs front rest r table e h whole fault =

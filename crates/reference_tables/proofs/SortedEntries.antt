@@ -188,7 +188,7 @@ module _ {K : Type 0} {R : K → K → Ordering} (o : IsTotalOrder R) where
     placed ss q (Ok i) h lt found = placed_found ss q i h lt found
     placed ss q (Err i) h le parted = placed_missed ss q i h parted
 
-    -- the place behind the one that a search answers
+    -- the place after the one that a search answers
     behind_found : (ss : List S) (q : K) (i : ℕ) → Rises ss → i < length ss → ((d : S) → R (key ss i d) q ≡ Equal) →
         IsPlaceBehind ss q (i + 1)
     behind_found ss q i h lt found = record {

@@ -20,7 +20,7 @@ chars-encode c scalar =
     chars_past_char (encode_utf8 c) [] c (IsUtf8-encode c scalar) (sym (append-nil (encode_utf8 c))) ∙
     ap (λ l. c ∷ l) chars-nil
 
--- One character more was read: c, of w bytes, behind the first n bytes of the text bs.
+-- One character more was read: c, of w bytes, after the first n bytes of the text bs.
 pub record IsReadOn (bs rest : List ℕ) (n c w : ℕ) : Type 0 where
   pub seam : IsCharBoundary bs (n + w)
   pub read : IsUtf8 (take (n + w) bs)

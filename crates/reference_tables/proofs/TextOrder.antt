@@ -51,7 +51,7 @@ below_longer [] (c ∷ t) more e = refl
 below_longer (d ∷ m) [] more e = cc
 below_longer (d ∷ m) (c ∷ t) more e = below_longer_first d c m t more (nat_cmp d c) refl e (below_longer m t more)
 
--- a key that is found behind x is above x
+-- a key that is found after x is above x
 found_above : (x q : List ℕ) (es : List (List ℕ × List ℕ)) → below_all order x es ≡ true →
     IsSome (finite.find order q es) → order x q ≡ Less
 found_above x q [] b found = cc

@@ -266,7 +266,7 @@ hidden_done styles f n place ts xs style law is test h k =
     (hides (is_seen place kind) (parts_of styles kind).itself.hidden
     (sym (ap (λ (p : Parts). p.itself.hidden) is) ∙ test)) h k
 
--- a text behind a node's children
+-- a text after a node's children
 behind_done : (styles : Styles) (f : Forest) (n : Handle) (place : Place) (ts : List Turn) (xs ys : List RenderNode)
     → AreOpen xs ts → IsFlat xs
     → ys ≡ xs ++ flat (content place (parts_of styles (kind_at (number_of n) f)).after)
@@ -298,7 +298,7 @@ new_open xs x text condition guarded ts h k =
     ap (take (length xs)) (append_assoc xs (x ∷ []) text) ∙ take_seam xs ((x ∷ []) ++ text) in
     (omega arith, (subst IsFlat (sym e) h, subst (λ l. AreOpen l ts) (sym e) k))
 
--- all that stands behind a node in the end
+-- all that stands after a node in the end
 all_inside : (xs : List RenderNode) (x : RenderNode) (a b c : Values)
     → (((xs ++ x ∷ []) ++ flat a) ++ flat b) ++ flat c ≡ xs ++ x ∷ flat (joined a (joined b c))
 all_inside xs x a b c =
@@ -365,7 +365,7 @@ visit_done styles f n place m guarded ts xs law seen shown means guards h k =
       falls = omega arith;
     }
 
--- ---- where no text stands behind the children
+-- ---- where no text stands after the children
 
 said_none : (place : Place) (look : RenderStyle) → content_by place look None ≡ none
 said_none Nowhere look = refl

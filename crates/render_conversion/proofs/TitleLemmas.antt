@@ -55,7 +55,7 @@ fewer f waiting left mid later others n kids law order first others_put is put =
     let g = ap steps (law c mid) in
     omega arith
 
--- a title, or the first title behind what is none
+-- a title, or the first title after what is none
 pub title_here : (f : Forest) (ns : List ℕ) (n : ℕ) (rest : List ℕ) → Law f → ns ≡ n ∷ rest
     → is_title (kind_at n f) ≡ true → title_of (trees f ns) ≡ Some (text_of (trees f (children_at n f)))
 title_here f ns n rest law first title =

@@ -21,7 +21,7 @@ use Rattle.render_conversion.specs.declared.place.Place.TheVariants.{Flow, Items
 abbrev pub text_value : RenderStyle → List ℕ → Values
 text_value look cs = value (record { info = infos.Text cs; style = look; fragment = None }) none none
 
--- a text that a rule puts before or behind an element's children; in a list it is an item where it shows something
+-- a text that a rule puts before or after an element's children; in a list it is an item where it shows something
 abbrev pub content_by : Place → RenderStyle → Option (List ℕ) → Values
 content_by Flow look (Some cs) = text_value look cs
 content_by Items look (Some cs) = if list_all is_whitespace cs then none else text_value look cs

@@ -1,4 +1,4 @@
--- What rules of style say of elements: how they look, whether they are hidden, and which texts stand before and behind
+-- What rules of style say of elements: how they look, whether they are hidden, and which texts stand before and after
 -- their children. Each is the declaration that holds in the cascade (CSS 2.2, 6.4).
 use Rattle.std.specs.Prelude.{ℕ, Bool, false, List, Option, None, Some, is_some, option_map}
 use Rattle.html_forest.specs.Forest.{Kind}
@@ -14,7 +14,7 @@ use Rattle.style_cascade.specs.declared.rules.StyleRule.{StyleRule}
 use Rattle.render_values.specs.Looks.{plain}
 use Rattle.render_values.specs.declared.style.RenderStyle.{RenderStyle}
 
--- of a place of an element: the element itself, what stands before its children, or what stands behind them
+-- of a place of an element: the element itself, what stands before its children, or what stands after them
 pub record Part : Type 0 where
   pub look : RenderStyle
   pub hidden : Bool

@@ -25,7 +25,7 @@ later styles f (Behind n place ∷ ts) nodes =
     later styles f ts (nodes ++ flat (content place (parts_of styles (kind_at (number_of n) f)).after))
 later styles f (Close opened ∷ ts) nodes = later styles f ts (closed opened nodes)
 
--- values that are to end stand among the nodes, and each behind values that are whole and those that end later
+-- values that are to end stand among the nodes, and each after values that are whole and those that end later
 abbrev pub AreOpen : List RenderNode → List Turn → Type 0
 AreOpen nodes [] = Unit {0}
 AreOpen nodes (Visit n place ∷ ts) = AreOpen nodes ts
@@ -47,7 +47,7 @@ abbrev pub visits : Place → List ℕ → List Turn
 visits place [] = []
 visits place (n ∷ ns) = Row (handle_of n) ns place ∷ []
 
--- a text that is to be put behind a node's children, where there is one
+-- a text that is to be put after a node's children, where there is one
 abbrev pub behinds : Handle → Place → Option (List ℕ) → List Turn
 behinds n place None = []
 behinds n place (Some text) = Behind n place ∷ []

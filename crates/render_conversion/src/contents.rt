@@ -1,4 +1,4 @@
-//! Texts that rules put before and behind children.
+//! Texts that rules put before and after children.
 ghost use Rattle.std.specs.Prelude.{◌≡◌, ◌++◌, OnOk, chars};
 ghost use Rattle.render_values.specs.Arena.{flat};
 ghost use Rattle.render_conversion.specs.Conversion.{content, text_value};

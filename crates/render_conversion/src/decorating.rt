@@ -40,7 +40,7 @@ fn content_rule(
     })
 }
 
-// a mark before and behind what elements of a name hold
+// a mark before and after what elements of a name hold
 fn push_marks(
     alloc: Global,
     rules: &mut Vec<StyleRule>,
@@ -57,8 +57,8 @@ fn push_marks(
     Ok(())
 }
 
-/// The rules of the program that put `*` before and behind `em` and `dt`, `**` before and behind `strong` and `b`, and
-/// a backquote before and behind `code`. They stand before all other rules, so that each of those can say other. The
+/// The rules of the program that put `*` before and after `em` and `dt`, `**` before and after `strong` and `b`, and
+/// a backquote before and after `code`. They stand before all other rules, so that each of those can say other. The
 /// error is allocation failure alone.
 pub fn decorating_rules(alloc: Global) -> Result<Vec<StyleRule>, AllocError>
     ensures { IfOk result (λ rules. map seen_rule rules.items ≡ decorating_rules) }

@@ -38,7 +38,7 @@ pub(crate) struct NodeStyle<'a> {
     pub(crate) itself: PartStyle<'a>,
     /// Of what stands before its children.
     pub(crate) before: PartStyle<'a>,
-    /// Of what stands behind its children.
+    /// Of what stands after its children.
     pub(crate) after: PartStyle<'a>,
 }
 

@@ -9,16 +9,16 @@ use render_values::Opened;
 use std::alloc::{AllocError, Global};
 use std::marker::Model;
 
-/// What is still to be done: nodes are visited, a text is put behind children, or a value ends.
+/// What is still to be done: nodes are visited, a text is put after children, or a value ends.
 #[derive(Drop)]
 pub(crate) enum Turn<'a> {
     /// A node that stands at a place.
     Visit(Handle, Place),
-    /// A node, and then those behind it, which stand at a place.
+    /// A node, and then those after it, which stand at a place.
     Row(Handle, ChildNodes<'a>, Place),
-    /// The text that a rule puts behind a node's children, which stand at a place.
+    /// The text that a rule puts after a node's children, which stand at a place.
     Behind(Handle, Place),
-    /// All that stands behind a value is in it.
+    /// All that stands after a value is in it.
     Close(Opened),
 }
 

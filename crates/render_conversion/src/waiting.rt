@@ -7,7 +7,7 @@ use html_render_dom::{ChildNodes, Handle};
 use std::alloc::{AllocError, Global};
 use std::marker::Model;
 
-/// A node that is still to be read, and those behind it.
+/// A node that is still to be read, and those after it.
 #[derive(Drop)]
 pub(crate) struct Row<'a> {
     pub(crate) first: Handle,
@@ -50,7 +50,7 @@ impl<'a> Waiting<'a> {
         Ok(())
     }
 
-    /// The first of them, with those that were put there behind it.
+    /// The first of them, with those that were put there after it.
     pub(crate) fn pop(&mut self) -> Option<Row<'a>>
         ensures { MatchOption result (self.old ≡ [])
             (λ row. self.old ≡ number_of row.first ∷ (children_left row.others ++ self.new)) }

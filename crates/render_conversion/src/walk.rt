@@ -115,7 +115,7 @@ fn push_head(
     Ok(())
 }
 
-// visits a node: its value begins, and ends behind its children's
+// visits a node: its value begins, and ends after its children's
 fn visit<'a>(
     alloc: Global,
     dom: &'a RcDom,
@@ -153,7 +153,7 @@ fn visit<'a>(
     push_visits(turns, dom.children(node), inner)
 }
 
-// a turn for the text that a rule puts behind a node's children, where there is one
+// a turn for the text that a rule puts after a node's children, where there is one
 fn push_behind<'a>(
     turns: &mut Turns<'a>,
     node: Handle,
@@ -168,7 +168,7 @@ fn push_behind<'a>(
     turns.push(Turn::Behind(node, place))
 }
 
-// puts a text behind a node's children
+// puts a text after a node's children
 fn behind<'a>(
     alloc: Global,
     dom: &'a RcDom,

@@ -1,4 +1,4 @@
--- Spaces behind a text.
+-- Spaces after a text.
 use Rattle.std.proofs.Common.{◌≡◌, ℕ, ◌+◌, List, [], ◌∷◌, ◌++◌, String, Global, refl, ap, ◌∙◌, append_assoc}
 use Rattle.std.proofs.Common.{string_bytes}
 use Rattle.std.proofs.lemmas.List.{replicate_more}

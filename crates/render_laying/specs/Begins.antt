@@ -14,7 +14,7 @@ use Rattle.render_values.specs.declared.info.RenderInfo.TheVariants as infos
 use Rattle.render_values.specs.declared.style.RenderStyle.{RenderStyle}
 use Rattle.render_laying.specs.Laying.{Step, begins_link, ends_link, for_some, in_turn, says}
 
--- ---- before what stands in a value, and behind it
+-- ---- before what stands in a value, and after it
 
 unfoldable pub begins : {H A : Type 0} → Marking H A → RenderInfo → Step H A
 begins m (infos.Text cs) = says m (adds_text cs)

@@ -61,7 +61,7 @@ says m c l = option_map (in_current l) (step m c l.parts.current)
 unfoldable pub begins_link : {H A : Type 0} → Marking H A → (target : List ℕ) → Step H A
 begins_link m target l = option_map (in_parts l) (begin_part_link m target l.parts)
 
--- its number stands behind it, where the targets of links stand behind the page
+-- its number stands after it, where the targets of links stand after the page
 unfoldable pub ends_link : {H A : Type 0} → Marking H A → Step H A
 ends_link m l = option_map (in_parts l) (finish_part_link m l.parts)
 
@@ -83,13 +83,13 @@ goes_to place l = Some (in_table place l)
 unfoldable pub in_part : {H A : Type 0} → Marking H A → ℕ → Laying H A → Laying H A
 in_part m width l = in_around Flow (in_current l (part_of m.sub width l.parts.current))
 
--- one of the columns that are left behind a prefix: at least one, and, with those of the prefix, as many as are asked
+-- one of the columns that are left after a prefix: at least one, and, with those of the prefix, as many as are asked
 -- for
 unfoldable pub part_begun : {H A : Type 0} → Marking H A → (columns least : ℕ) → Step H A
 part_begun m columns least l =
     option_map (λ width. in_part m width l) (room_behind columns (least - columns) l.parts.current)
 
--- The lines of the part stand behind prefixes in the renderer outside.
+-- The lines of the part stand after prefixes in the renderer outside.
 unfoldable pub part_ended : {H A : Type 0} → Marking H A → Sub H A → (first following : List ℕ) → Step H A
 part_ended m outer first following l = says m (adds_block l.parts.current first following) (in_current l outer)
 

@@ -1,4 +1,4 @@
-//! What is done before what stands in a value, and behind it.
+//! What is done before what stands in a value, and after it.
 ghost use Rattle.std.specs.Prelude.{◌≡◌, ◌⊎◌, Err, IfErr, OnOk};
 ghost use Rattle.render_laying.specs.Begins.{fragment_leads};
 ghost use Rattle.text_pieces.specs.declared.fault.BlockError.TheVariants as errors;
@@ -66,7 +66,7 @@ impl<D: TextDecorator + Drop> Laying<D> {
         }
     }
 
-    /// Behind what stands in a value.
+    /// After what stands in a value.
     #[tactic(auto, unfolding(crate::specs::Begins::ends))]
     pub fn end(&mut self, info: &RenderInfo) -> Result<(), BlockError>
         requires { IsWorking D.Annotation.seen D.view.held self.old }

@@ -5,7 +5,7 @@
 //! Of `render_laying`, `table_laying`, `value_openings` and `render_walk`.
 //!
 //! How the values of a render tree are laid out is one structural recursion, `lay` (value_openings,
-//! `specs/Lay.antt`): what a value is begins, what stands in it is laid out, in a part of its own behind a prefix
+//! `specs/Lay.antt`): what a value is begins, what stands in it is laid out, in a part of its own after a prefix
 //! where its kind says so, and it ends; a value that stands in a list is an item. A table
 //! (`table_laying/specs/Tables.antt`) begins a block, has a border above its first row, and lies across where the
 //! leasts of its columns fit; else its cells lie below one another, each at full width. A cell is laid out in a
@@ -23,15 +23,15 @@
 //!
 //! - `table_widths`, `rows_of`, `is_fenced`, `slot_width` (table_laying): exactly the widths of a table's columns
 //!   where its rows lie across, the rows, whether it is fenced, and the columns of a slot
-//! - `fence`, `top_border`, `begin_cell`, `end_row`: the page behind the call is the definition's step of that
+//! - `fence`, `top_border`, `begin_cell`, `end_row`: the page after the call is the definition's step of that
 //!   name; `TooNarrow` only where it has no result, else `Memory`
 //! - `push_empties`: an empty renderer stands in each slot before the next cell, these slots are taken, and the
 //!   page stays as it was; the error is allocation failure
-//! - `push_name`: a name, if there is one, stands behind the others; the error is allocation failure
+//! - `push_name`: a name, if there is one, stands after the others; the error is allocation failure
 //! - `open_value` (value_openings): with what it pushes the page comes to what the definition makes of the value
 //!   and of what stands in it, whatever waits below, and at most four things wait more than before; whether what
 //!   stands in it is laid out at all; `TooNarrow` only where the definition has no result, else `Memory`
-//! - `end_table`, `end_cell`: the page behind the call is the definition's end of the table or the cell;
+//! - `end_table`, `end_cell`: the page after the call is the definition's end of the table or the cell;
 //!   `TooNarrow` only where it has no result, else `Memory`
 //! - `lay_tree`: over any decorator, given the extents of all values or those that a layout asks for
 //!   (`AreMeasured`): the renderers of the page are exactly those to which `lay` comes (`laid`), and the error is
@@ -39,7 +39,7 @@
 //!   (`whole`), and no renderer has failed (`works`). No stack grows with what the page nests: what waits stands in
 //!   a vector
 //!
-//! What is not pinned: that memory is found, so a call that always tells want of it would be proved.
+//! What is not pinned: that memory is found, so a call that always reports its failure would be proved.
 #![tactic(auto)]
 
 mod around;

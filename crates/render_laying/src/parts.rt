@@ -37,7 +37,7 @@ impl<D: TextDecorator + Drop> Laying<D> {
     ghost use Rattle.render_laying.specs.Laying.{in_part, mark_of, part_begun, part_ended};
     ghost use Rattle.render_laying.specs.Seen.{Comes, Fails, IsWorking, laying_of};
 
-    // the columns of a part behind a prefix, of which at least so many are asked for with those of the prefix
+    // the columns of a part after a prefix, of which at least so many are asked for with those of the prefix
     fn room(&self, columns: usize, least: usize) -> Result<usize, BlockError>
         ensures room { IfOk result (λ n. room_behind columns (least - columns) (laying_of D.Annotation.seen D.view.held
             self.now).parts.current ≡ Some n) }
@@ -67,7 +67,7 @@ impl<D: TextDecorator + Drop> Laying<D> {
         Ok(self.text.replace_current(part))
     }
 
-    // the same with the columns behind a prefix
+    // the same with the columns after a prefix
     pub fn begin_part(&mut self, columns: usize, least: usize) -> Result<SubRenderer<D>, BlockError>
         requires { IsWorking D.Annotation.seen D.view.held self.old }
         ensures done { OnOk result (Comes D.Annotation.seen D.view

@@ -52,7 +52,7 @@ pub enum TablePlace<D: TextDecorator> {
     Rows(TableRows),
     /// Among cells.
     Cells {
-        /// The rows behind this one.
+        /// The rows after this one.
         rows: TableRows,
         /// The slots of this row.
         slots: SlotsLeft,

@@ -26,7 +26,7 @@ asked_joined m (value head inside rest) ws =
     ap (λ l. here ++ l) (asked_joined m rest ws)
     ∙ sym (append_assoc here (asked_extents m rest) (asked_extents m ws))
 
--- what is asked of the nodes behind a node: of those that stand in it, and of those that follow it
+-- what is asked of the nodes after a node: of those that stand in it, and of those that follow it
 pub asked_split : (m : Measure) (x : RenderNode) (xs : List RenderNode) → IsFlat (x ∷ xs)
     → asked_extents m (values_of xs)
     ≡ asked_extents m (first x.below (values_of xs)) ++ asked_extents m (behind x.below (values_of xs))

@@ -58,7 +58,7 @@ pub inner_values : (x : RenderNode) (xs : List RenderNode) → IsFlat (x ∷ xs)
     → values_of (take x.below xs) ≡ first x.below (values_of xs)
 inner_values x xs h = ap values_of (inner_nodes x xs h) ∙ read_back (first x.below (values_of xs))
 
--- the columns of all nodes behind a node are those of what stands in it, and of what follows it
+-- the columns of all nodes after a node are those of what stands in it, and of what follows it
 pub extents_split : (m : Measure) (x : RenderNode) (xs : List RenderNode) → IsFlat (x ∷ xs)
     → extents m (values_of xs)
     ≡ extents m (first x.below (values_of xs)) ++ extents m (behind x.below (values_of xs))
@@ -210,7 +210,7 @@ drop_none (suc i) (x ∷ xs) h = drop_none i xs (omega arith)
 pub drop_some : {A : Type 0} (i : ℕ) (xs rest : List A) → rest ≡ drop i xs → i < length xs → 0 < length rest
 drop_some i xs rest e h = subst (λ l. 0 < length l) (sym e) (drop_none i xs h)
 
--- what stands behind a place is measured
+-- what stands after a place is measured
 pub behind_measured : (m : Measure) (at i : ℕ) (nodes rest : List RenderNode) (es later : List Extent) → at ≡ suc i
     → rest ≡ drop i nodes → later ≡ drop at es → drop at es ≡ extents m (values_of (drop at nodes))
     → later ≡ extents m (values_of (drop 1 rest))

@@ -44,7 +44,7 @@ lowered_twice a b (c ∷ cells) =
     ∷ map (lowered a) (map (lowered b) cells)) (on a b c.row)
     ∙ ap (λ l. lowered (a + b) c ∷ l) (lowered_twice a b cells)
 
--- cells, and those of values side by side behind them
+-- cells, and those of values side by side after them
 then_cells : (a b w all : List Cell) (n r : ℕ) → all ≡ b ++ map (lowered r) w
     → a ++ map (lowered n) all ≡ (a ++ map (lowered n) b) ++ map (lowered (n + r)) w
 then_cells a b w all n r e =
@@ -155,7 +155,7 @@ later_extents m x xs es h same = by x.head.info
 
 -- ---- the pass
 
--- What was told of the nodes before, and what the rest still tells.
+-- What was emitted of the nodes before, and what the rest still emits.
 pub record IsTold (m : Measure) (nodes rest : List RenderNode) (left : List Extent) (cells : List Cell) (rows : ℕ)
     : Type 0 where
   pub sized : left ≡ extents m (values_of rest)
@@ -253,7 +253,7 @@ pub flat_behind : (rest : List RenderNode) (x : RenderNode) (xs : List RenderNod
 flat_behind rest x xs n later_nodes e h nodes_are =
     subst IsFlat (sym nodes_are) (flat_drop n xs (flat_rest x xs (subst IsFlat e h)))
 
--- the cells that were told are what a grid asks for
+-- the cells that were emitted are what a grid asks for
 pub told_cells : (m : Measure) (vs : Values) (cells shown : List Cell) → shown ≡ cells → cells ≡ in_rows (measured m vs)
     → AreTableCells (in_rows (measured m vs)) (measured m vs).rows → AreTableCells shown (measured m vs).rows
 told_cells m vs cells shown is told h =

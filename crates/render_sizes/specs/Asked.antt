@@ -1,4 +1,4 @@
--- The columns that a layout asks for: of a value behind a prefix its own, and of a table those of what stands in it.
+-- The columns that a layout asks for: of a value after a prefix its own, and of a table those of what stands in it.
 use Rattle.std.specs.Prelude.{◌≡◌, ◌⊎◌, List, [], ◌∷◌, ◌++◌}
 use Rattle.render_sizes.specs.Extents.{Measure, extent_of, extents, nothing_wide}
 use Rattle.render_sizes.specs.declared.asked.Asked.{Asked}

@@ -38,7 +38,7 @@ nothing_wide = record { size = 0; least = 0 }
 abbrev pub beside : Extent → Extent → Extent
 beside a b = record { size = capped (a.size + b.size); least = max a.least b.least }
 
--- behind a prefix
+-- after a prefix
 abbrev pub prefixed : ℕ → Extent → Extent
 prefixed n e = record { size = capped (e.size + n); least = capped (e.least + n) }
 

@@ -8,7 +8,7 @@ abbrev pub gap_columns : Bool → ℕ
 gap_columns true = 1
 gap_columns false = 0
 
--- what a character adds behind white space, or behind none: white space is one column before the next character
+-- what a character adds after white space, or after none: white space is one column before the next character
 abbrev pub added : (gap is_space : Bool) → ℕ → ℕ
 added gap true c = 0
 added gap false c = gap_columns gap + width_of c

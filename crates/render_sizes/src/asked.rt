@@ -51,7 +51,7 @@ fn push_extents<P: Prefixes>(
     all.append(&mut extents)
 }
 
-// adds what is asked of the first value, with what stands in it where that is measured too; the nodes behind them
+// adds what is asked of the first value, with what stands in it where that is measured too; the nodes after them
 fn push_asked<'n, P: Prefixes>(
     all: &mut Vec<Extent>,
     alloc: Global,
@@ -108,7 +108,7 @@ fn asked_of_nodes<P: Prefixes>(
 }
 
 /// The columns that a layout asks for, in the order of the tree's nodes, and none where it asks nothing: most of a page
-/// stands behind no prefix and in no table. The error is allocation failure alone.
+/// stands after no prefix and in no table. The error is allocation failure alone.
 pub fn asked_extents<P: Prefixes>(
     alloc: Global,
     prefixes: &P,

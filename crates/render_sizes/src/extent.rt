@@ -54,7 +54,7 @@ pub(crate) fn beside(one: Extent, other: Extent) -> Extent
     }
 }
 
-// behind a prefix of so many columns
+// after a prefix of so many columns
 fn prefixed(columns: usize, inside: Extent) -> Extent
     ensures { result ≡ prefixed columns inside }
 {

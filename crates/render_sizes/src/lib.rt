@@ -10,7 +10,7 @@
 //! least holds; a table asks for what the columns of its grid ask for, with a separator between neighbours; sums
 //! stop at 2^64 - 1.
 //!
-//! A layout looks at few of these: at a value behind a prefix (a heading, a quotation, a list, a description) and
+//! A layout looks at few of these: at a value after a prefix (a heading, a quotation, a list, a description) and
 //! at what stands in a table. `asked_extents` gives those, with all that stands in such a value, and no columns for
 //! the others; a table itself is not measured where nothing around it is.
 //!

@@ -8,7 +8,7 @@ use crate::prefixes::Prefixes;
 use render_values::{RenderNode, RenderTree};
 use std::alloc::{AllocError, Global};
 
-/// The nodes behind so many.
+/// The nodes after so many.
 pub(crate) fn nodes_behind(nodes: &[RenderNode], count: usize) -> &[RenderNode]
     requires { count ≤ length nodes.now }
     ensures { result.now ≡ drop count nodes.now }
@@ -31,7 +31,7 @@ fn first_extents(extents: &[Extent], count: usize) -> &[Extent]
     &extents[..count]
 }
 
-/// The extents behind so many.
+/// The extents after so many.
 pub(crate) fn extents_behind(extents: &[Extent], count: usize) -> &[Extent]
     requires { count ≤ length extents.now }
     ensures { result.now ≡ drop count extents.now }
@@ -85,7 +85,7 @@ fn together<P: Prefixes>(
     sum
 }
 
-// of a value whose nodes behind it are measured
+// of a value whose nodes after it are measured
 fn measured_first<P: Prefixes>(
     alloc: Global,
     prefixes: &P,

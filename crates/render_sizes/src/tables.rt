@@ -45,7 +45,7 @@ fn skipped(info: &RenderInfo, below: usize) -> usize
     }
 }
 
-// rows that begin behind others, where there can't be more than so many
+// rows that begin after others, where there can't be more than so many
 fn rows_on(rows: usize, begun: usize, most: usize) -> usize
     requires { rows + begun ≤ most }
     ensures { result ≡ rows + begun }
@@ -132,7 +132,7 @@ pub(crate) fn extent_of_table<P: Prefixes>(
 }
 
 /// The table that values are in which its rows stand: the cells of its rows, where they stand, and the columns. `sizes`
-/// tells of each node how many columns of text its value asks for, as `w` measures them. The error is allocation
+/// gives for each node how many columns of text its value asks for, as `w` measures them. The error is allocation
 /// failure alone.
 pub fn table_among(
     alloc: Global,

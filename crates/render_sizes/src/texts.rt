@@ -48,7 +48,7 @@ fn size_of_bytes(bytes: &[u8]) -> usize
     columns
 }
 
-// what a character of one byte adds behind white space or none
+// what a character of one byte adds after white space or none
 #[inline(always)]
 fn added_by(gap: bool, byte: u8) -> usize
     ensures { result ≡ capped (added gap (is_whitespace byte) byte) }
@@ -87,7 +87,7 @@ fn size_of_characters(text: &str) -> usize
     columns
 }
 
-// what a character adds behind white space or none
+// what a character adds after white space or none
 fn added(gap: bool, is_space: bool, c: char) -> usize
     ensures { result ≡ capped (added gap is_space c) }
 {
@@ -97,7 +97,7 @@ fn added(gap: bool, is_space: bool, c: char) -> usize
     gap_columns(gap).saturating_add(width_of(c))
 }
 
-/// The columns of a text whose white space is collapsed: one for it at the start, none at the end behind others.
+/// The columns of a text whose white space is collapsed: one for it at the start, none at the end after others.
 pub fn text_size(text: &str) -> usize
     ensures { result ≡ capped (text_size (chars text.now)) }
 {

@@ -31,7 +31,7 @@ closed_at at condition guarded nodes =
 abbrev pub closed : Opened → List RenderNode → List RenderNode
 closed opened nodes = closed_at opened.at opened.condition opened.guarded nodes
 
--- nodes, with all behind a place in what stands there
+-- nodes, with all after a place in what stands there
 abbrev pub holding : List RenderNode → List RenderNode
 holding [] = []
 holding (x ∷ xs) = record { head = x.head; below = length xs } ∷ xs

@@ -33,7 +33,7 @@ behind_joined none ws = behind_none ws
 behind_joined (value head inside rest) ws =
     ap (λ n. behind n (joined rest ws)) (less (count inside) (count rest)) ∙ behind_joined rest ws
 
--- nodes of values, and others behind them
+-- nodes of values, and others after them
 pub read_flat : (vs : Values) (xs : List RenderNode) → values_of (flat vs ++ xs) ≡ joined vs (values_of xs)
 read_flat none xs = refl
 read_flat (value head inside rest) xs =

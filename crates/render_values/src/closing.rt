@@ -122,7 +122,7 @@ fn ending(head: &Head, condition: Condition, guarded: bool, inside: &[RenderNode
     Outcome::Stays
 }
 
-// what becomes of the value at a place, with all that stands behind it
+// what becomes of the value at a place, with all that stands after it
 fn ending_at(nodes: &[RenderNode], opened: Opened) -> Outcome
     requires flat { IsFlat nodes.now }
     requires there { opened.at < length nodes.now }
@@ -134,7 +134,7 @@ fn ending_at(nodes: &[RenderNode], opened: Opened) -> Outcome
     }
 }
 
-// all that stands behind a value stands in it
+// all that stands after a value stands in it
 fn hold_rest(nodes: &mut Vec<RenderNode>, at: usize)
     requires { at < length nodes.old.items }
     ensures { nodes.new.items ≡ held at nodes.old.items }
@@ -150,7 +150,7 @@ fn to_fragment(node: &mut RenderNode)
     node.head.info = RenderInfo::Nothing;
 }
 
-// of a value only its fragment stays, and nothing behind it
+// of a value only its fragment stays, and nothing after it
 fn keep_fragment(nodes: &mut Vec<RenderNode>, at: usize)
     requires { at < length nodes.old.items }
     ensures { nodes.new.items ≡ with_fragment at nodes.old.items }
@@ -178,7 +178,7 @@ fn raise(alloc: Global, nodes: &mut Vec<RenderNode>, at: usize) -> Result<(), Al
     Ok(())
 }
 
-/// Ends a value: all that stands behind it is in it, or it goes with that, or its fragment or its raised digits stay in
+/// Ends a value: all that stands after it is in it, or it goes with that, or its fragment or its raised digits stay in
 /// its place. The error is allocation failure alone.
 pub fn close(alloc: Global, nodes: &mut Vec<RenderNode>, opened: Opened) -> Result<(), AllocError>
     requires flat { IsFlat nodes.old.items }

@@ -44,7 +44,7 @@ pub(crate) fn is_shallow_empty(head: &Head, alone: bool) -> bool
     is_nothing(&head.info) || (head.fragment.is_none() && is_empty_info(&head.info, alone))
 }
 
-// the nodes behind so many
+// the nodes after so many
 pub(crate) fn nodes_behind(nodes: &[RenderNode], count: usize) -> &[RenderNode]
     requires { count ≤ length nodes.now }
     ensures { result.now ≡ drop count nodes.now }

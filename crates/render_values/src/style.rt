@@ -10,7 +10,7 @@ use text_pieces::WhiteSpace;
 pub struct RenderStyle {
     /// The colour of its text.
     pub colour: Option<Colour>,
-    /// The colour behind its text.
+    /// The colour after its text.
     pub background: Option<Colour>,
     /// How its white space is laid out.
     pub white_space: Option<WhiteSpace>,

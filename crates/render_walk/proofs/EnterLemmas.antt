@@ -59,7 +59,7 @@ waits_where seen held nodes m w from to true l is = refl
 waits_where seen held nodes m w from to false l is =
     ap (λ v. lay m w v l) (sym (nothing_here nodes from to (no_rest from to is)))
 
--- The values behind one are laid out, also where there are none.
+-- The values after one are laid out, also where there are none.
 pub rest_waits : {D T H A : Type 0} (seen : T → A) (held : D → H) (nodes : List RenderNode) (m : Marking H A)
     (w : Measure) (from to : ℕ) (l : Laying H A)
     → unwound m w (map (waiting_of seen held nodes) (rest_of from to)) l

@@ -117,7 +117,7 @@ fits nodes sizes w at end d before sound =
     length_segment : {X : Type 0} (xs : List X) (from to : ℕ) → length (segment xs from to) ≤ to - from
     length_segment xs from to = length_take (to - from) (drop from xs)
 
--- what is known of the first node, and of those that stand in it and behind it
+-- what is known of the first node, and of those that stand in it and after it
 record Split (nodes : List RenderNode) (sizes : List Extent) (w : Measure) (at end : ℕ) (x : RenderNode) : Type 0 where
   nodes_are : segment nodes at end ≡ x ∷ segment nodes (at + 1) end
   flat : IsFlat (x ∷ segment nodes (at + 1) end)

@@ -1,4 +1,4 @@
--- Values in turn, and what waits behind them.
+-- Values in turn, and what waits after them.
 use Rattle.std.proofs.Common.{◌≡◌, ℕ, ◌+◌, ◌-◌, List, [], ◌∷◌, ◌++◌, Option, None, Some, append-nil, arith, length}
 use Rattle.std.proofs.Common.{refl, sym, take, ap, ◌∙◌}
 use Rattle.std.specs.Option.{option_and_then, option_map}
@@ -71,7 +71,7 @@ laid_alike m head c d inside l h = laid_alike_at m head c d l.table inside l h
 
 -- ---- values in turn
 
--- a value begins: what comes of what stands in it is next, and what stands behind it waits
+-- a value begins: what comes of what stands in it is next, and what stands after it waits
 pub enters : {H A : Type 0} (m : Marking H A) (w : Measure) (before behind pushed : List (Waiting H A))
     (head : Head) (inner later vs : Values) (c : Content) (old : Laying H A) (o : Option (Laying H A))
     → ((l : Laying H A) → unwound m w behind l ≡ lay m w later l) → vs ≡ value head inner later

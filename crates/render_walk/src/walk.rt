@@ -35,14 +35,14 @@ use value_openings::{
     Content, OpenItem, OpenPart, Waiting, end_cell, end_row, end_table, open_value,
 };
 
-// The next node, and the end of the values that are laid out one behind another.
+// The next node, and the end of the values that are laid out one after another.
 #[derive(Clone, Copy)]
 struct Place {
     at: usize,
     end: usize,
 }
 
-// the nodes up to a place and behind it
+// the nodes up to a place and after it
 fn nodes_between(nodes: &[RenderNode], from: usize, to: usize) -> &[RenderNode]
     requires order { from ≤ to }
     requires within { to ≤ length nodes.now }
@@ -60,8 +60,8 @@ fn extents_between(sizes: &[Extent], from: usize, to: usize) -> &[Extent]
     &sizes[from..to]
 }
 
-// What a layout looks at of what stands in a value that asks for so many columns: a table's cells, how many items a list
-// has.
+// What a layout looks at of what stands in a value that asks for so many columns: a table's cells, how many items a
+// list has.
 fn content_of(
     alloc: Global,
     head: &Head,
@@ -328,9 +328,10 @@ fn walk<D: TextDecorator + Drop>(
     }
 }
 
-/// Lays out a render tree in the renderers of a page; `sizes` are the columns of each node's value as `w` measures them,
-/// or those that a layout asks for. No part may stand on the page. The error is `TooNarrow` where a part of the page
-/// lacks the columns that it asks for, or a character is wider than its line and may not stand alone, else `Memory`.
+/// Lays out a render tree in the renderers of a page; `sizes` are the columns of each node's value as `w` measures
+/// them, or those that a layout asks for. No part may stand on the page. The error is `TooNarrow` where a part of the
+/// page lacks the columns that it asks for, or a character is wider than its line and may not stand alone, else
+/// `Memory`.
 pub fn lay_tree<D: TextDecorator + Drop>(
     alloc: Global,
     tree: &RenderTree,

@@ -21,7 +21,7 @@ use Rattle.renderer_calls.specs.declared.options.ImageRenderMode.TheVariants.{Ig
 use Rattle.renderer_calls.specs.declared.options.ImageRenderMode.TheVariants.{Filename}
 
 -- How a decorator marks text: the texts of its marks and what contracts see of their annotations; whether a colour has
--- one; what it holds behind a mark; whether a colour's annotation ends with it; what one made for a part of the block
+-- one; what it holds after a mark; whether a colour's annotation ends with it; what one made for a part of the block
 -- holds.
 pub record Marking (H A : Type 0) : Type 0 where
   pub mark_text : H → Mark → List ℕ
@@ -82,7 +82,7 @@ on_laid s laid = option_map (with_laid s) laid
 
 -- ---- text
 
--- U+0336 behind each character that has columns, once for each strikeout
+-- U+0336 after each character that has columns, once for each strikeout
 abbrev pub strokes_of : ℕ → ℕ → ℕ
 strokes_of n c = if nat_lt 0 (width_of c) then n else 0
 
@@ -161,7 +161,7 @@ begin_strikeout m s = option_map struck_more (begin m strikeout_start s)
 abbrev pub finish_strikeout : {H A : Type 0} → Marking H A → Sub H A → Option (Sub H A)
 finish_strikeout m s = finish m strikeout_end (struck_less s)
 
--- what stands behind the last slash
+-- what stands after the last slash
 abbrev pub file_name : List ℕ → List ℕ
 file_name source = fold (λ name c. if c == 0x2F then [] else name ++ c ∷ []) [] source
 
@@ -198,7 +198,7 @@ abbrev pub with_block : {H A : Type 0} → Sub H A → List ℕ → List ℕ →
 with_block s first following other = with_laid s
     (add_block (measure_of other) (measure_of s) s.annotations first following other.laid.lines s.laid)
 
--- the lines of another renderer behind prefixes
+-- the lines of another renderer after prefixes
 abbrev pub append_sub : {H A : Type 0} → Sub H A → List ℕ → List ℕ → Sub H A → Option (Sub H A)
 append_sub other first following s = option_map (with_block s first following) (flush_sub other)
 
@@ -278,7 +278,7 @@ with_mode mode s = Some (record s { modes = s.modes ++ mode ∷ [] })
 abbrev pub lines_of_sub : {H A : Type 0} → Sub H A → Option (List (BlockLine (List A)))
 lines_of_sub s = finished_lines (measure_of s) s.annotations s.laid
 
--- the columns behind a prefix: at least so many are asked for behind it, and one
+-- the columns after a prefix: at least so many are asked for after it, and one
 abbrev pub room_behind : {H A : Type 0} → ℕ → ℕ → Sub H A → Option ℕ
 room_behind prefix least s =
     let asked = max least 1 in

@@ -21,7 +21,7 @@ pub fn shown_title<'a>(mode: ImageRenderMode, src: &'a str, title: &'a str) -> O
     }
 }
 
-/// What stands behind the last slash.
+/// What stands after the last slash.
 fn file_name(src: &str) -> &str
     ensures { chars result.now ≡ file_name (chars src.now) }
 {

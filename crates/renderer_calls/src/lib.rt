@@ -11,7 +11,7 @@
 //! definitions and what needs no renderer stand in `renderer_calls`, `SubRenderer` in `block_renderer`.
 //!
 //! - each call of `Renderer` on `SubRenderer` that may be refused: one record (`IsOutcome`): done, it comes to just
-//!   what `step` says; refused as `TooNarrow`, `step` has no answer; behind a refusal, and where a part that is to
+//!   what `step` says; refused as `TooNarrow`, `step` has no answer; after a refusal, and where a part that is to
 //!   be added has failed, it is `Failed`, and the renderer has failed exactly where a call was refused; no other
 //!   error but `Memory`
 //! - `end_block`, `pop_preformat`, `pop_ws`, `pop_colour`, `pop_bgcolour`: what `step` says; a pop of none does
@@ -24,22 +24,22 @@
 //! - `width`, `empty`, the prefixes: the columns; no line and no running text that has a column; the decorator's
 //! - `SubRenderer::new`, `without_annotations`, `into_lines`: an empty renderer; one that keeps no annotations, and
 //!   so do those of its parts; the lines, filled where lines are, with each refusal as above
-//! - `finalise`, `fmt_links`: the decorator's lines for the targets; the lines that lines behind a page give
+//! - `finalise`, `fmt_links`: the decorator's lines for the targets; the lines that lines after a page give
 //!   (`add_footnotes`): each annotation alone, a line end as a space, cut at the width by characters where links
 //!   are wrapped, a wider character alone on its line
-//! - `into_string`: the characters of the lines, a line end behind each
-//! - `width_minus`: the columns behind a prefix where they are one or more and as many as are asked for behind it,
+//! - `into_string`: the characters of the lines, a line end after each
+//! - `width_minus`: the columns after a prefix where they are one or more and as many as are asked for after it,
 //!   else that least with overflow, else `TooNarrow`; no memory is asked for
-//! - `struck`, `shown_title`, `text_of_lines`, `drop_last`: U+0336 behind each character that has columns, so many
-//!   times; the title of an image by the mode; the characters of lines, a line end behind each; all but the last
+//! - `struck`, `shown_title`, `text_of_lines`, `drop_last`: U+0336 after each character that has columns, so many
+//!   times; the title of an image by the mode; the characters of lines, a line end after each; all but the last
 //! - `RenderOptions::default`: text wraps at the width, borders are drawn, links are wrapped, strikeouts are drawn;
 //!   all else is off
 //!
 //! `renderer_laws` lifts the laws of blocks to any list of calls: `renderers_keep_the_width` (where overflow is
 //! off, no line of a renderer passes its width, if borders, cells, and prefixes with their parts that are added
-//! have room in it, and the lines that it gives are within it; so it is with lines behind the page where links are
+//! have room in it, and the lines that it gives are within it; so it is with lines after the page where links are
 //! wrapped and the width is two columns or more) and `renderers_with_room_never_refuse` (where overflow is on, no
-//! call is too narrow, nor are lines behind the page). `a_prefix_and_its_room_are_the_width` says that what
+//! call is too narrow, nor are lines after the page). `a_prefix_and_its_room_are_the_width` says that what
 //! `width_minus` gives where overflow is off is the width with the prefix, and at least one and what was asked for;
 //! and that there is room where it is on. `annotations_change_no_text` says that annotations have no say in a
 //! layout: a renderer that keeps none (`bare_of`) is refused just where one that keeps them is, each call makes the

@@ -15,11 +15,11 @@ pub struct RenderOptions {
     pub draw_borders: bool,
     /// Whether tables stand between fences of three backticks.
     pub fence_tables: bool,
-    /// Whether the targets of links behind the text are cut at the width.
+    /// Whether the targets of links after the text are cut at the width.
     pub wrap_links: bool,
-    /// Whether the targets of links stand behind the text.
+    /// Whether the targets of links stand after the text.
     pub include_link_footnotes: bool,
-    /// Whether links to equal targets share one number and one footnote, where targets stand behind the text.
+    /// Whether links to equal targets share one number and one footnote, where targets stand after the text.
     pub shared_footnotes: bool,
     /// Whether U+0336 strikes out each character of struck text.
     pub use_unicode_strikeout: bool,
@@ -37,7 +37,7 @@ pub enum ImageRenderMode {
     ShowAlways,
     /// As if this were its title.
     Replace(&'static str),
-    /// As if what stands behind the last `/` of its source were its title.
+    /// As if what stands after the last `/` of its source were its title.
     Filename,
 }
 

@@ -19,7 +19,7 @@ use text_pieces::{BlockError, WhiteSpace};
 /// A renderer of a block. Contracts say of each call what it makes of the renderer (`does`), and when no lines hold its
 /// text (`never`). A renderer whose texts are joined (`is_joined`), none empty or beside one with an equal tag, keeps
 /// them so in each call, refused or not. A call is refused as `TooNarrow`, where a character is wider than the lines at
-/// which its text wraps and may not stand alone, or as `Memory`; behind a refusal every call that can be refused is
+/// which its text wraps and may not stand alone, or as `Memory`; after a refusal every call that can be refused is
 /// refused as `Failed`.
 pub trait Renderer {
     ghost has_failed: { Self → Bool };
@@ -49,7 +49,7 @@ pub trait Renderer {
         ensures { result ≡ holds_nothing self.now };
 
     /// An empty renderer of so many columns for a part of the block: with its options, a decorator for the part, and
-    /// the annotations that stand. The error is `Failed` behind a refusal, else `Memory`.
+    /// the annotations that stand. The error is `Failed` after a refusal, else `Memory`.
     fn new_sub_renderer(&mut self, width: usize) -> Result<Self, BlockError>
     where
         Self: Sized,
@@ -65,7 +65,7 @@ pub trait Renderer {
             (does (adds_border_of width) self.old self.new) (never (adds_border_of width) self.old) }
         ensures joined { is_joined self.old → is_joined self.new };
 
-    /// Makes the text that runs lines, and adds an empty line behind them.
+    /// Makes the text that runs lines, and adds an empty line after them.
     fn add_empty_line(&mut self) -> Result<(), BlockError>
         ensures outcome { IsOutcome result (has_failed self.old) (has_failed self.new)
             (does adds_empty_line self.old self.new) (never adds_empty_line self.old) }
@@ -113,7 +113,7 @@ pub trait Renderer {
             (does (starts_mode ws) self.old self.new) (never (starts_mode ws) self.old) }
         ensures joined { is_joined self.old → is_joined self.new };
 
-    /// Adds text. Behind a block normal text of white space alone is ignored, and another starts a block.
+    /// Adds text. After a block normal text of white space alone is ignored, and another starts a block.
     fn add_inline_text(&mut self, text: &str) -> Result<(), BlockError>
         ensures outcome { IsOutcome result (has_failed self.old) (has_failed self.new)
             (does (adds_text (chars text.now)) self.old self.new) (never (adds_text (chars text.now)) self.old) }
@@ -220,7 +220,7 @@ pub trait Renderer {
             (never (starts_colour (background_start colour)) self.old) }
         ensures joined { is_joined self.old → is_joined self.new };
 
-    /// Adds the lines of another renderer behind prefixes: the first line's, and the others'. Refused as `Failed`, also
+    /// Adds the lines of another renderer after prefixes: the first line's, and the others'. Refused as `Failed`, also
     /// where a call of the other was refused.
     fn append_subrender(
         &mut self,
@@ -289,25 +289,25 @@ pub trait Renderer {
         ensures failed { has_failed self.new ≡ has_failed self.old }
         ensures joined { is_joined self.old → is_joined self.new };
 
-    /// The prefix of a heading's lines. The error is `Failed` behind a refusal, else `Memory`.
+    /// The prefix of a heading's lines. The error is `Failed` after a refusal, else `Memory`.
     fn header_prefix(&mut self, level: usize) -> Result<String, BlockError>
         ensures answer { IsAnswered result (has_failed self.old) (has_failed self.new) (stays self.old self.new)
             (λ s. chars (string_bytes s) ≡ prefix self.old (header level)) }
         ensures joined { is_joined self.old → is_joined self.new };
 
-    /// The prefix of a quote's lines. The error is `Failed` behind a refusal, else `Memory`.
+    /// The prefix of a quote's lines. The error is `Failed` after a refusal, else `Memory`.
     fn quote_prefix(&mut self) -> Result<String, BlockError>
         ensures answer { IsAnswered result (has_failed self.old) (has_failed self.new) (stays self.old self.new)
             (λ s. chars (string_bytes s) ≡ prefix self.old quote) }
         ensures joined { is_joined self.old → is_joined self.new };
 
-    /// The prefix of an item of a list without numbers. The error is `Failed` behind a refusal, else `Memory`.
+    /// The prefix of an item of a list without numbers. The error is `Failed` after a refusal, else `Memory`.
     fn unordered_item_prefix(&mut self) -> Result<String, BlockError>
         ensures answer { IsAnswered result (has_failed self.old) (has_failed self.new) (stays self.old self.new)
             (λ s. chars (string_bytes s) ≡ prefix self.old unordered_item) }
         ensures joined { is_joined self.old → is_joined self.new };
 
-    /// The prefix of the item of that number. The error is `Failed` behind a refusal, else `Memory`.
+    /// The prefix of the item of that number. The error is `Failed` after a refusal, else `Memory`.
     fn ordered_item_prefix(&mut self, i: i64) -> Result<String, BlockError>
         ensures answer { IsAnswered result (has_failed self.old) (has_failed self.new) (stays self.old self.new)
             (λ s. chars (string_bytes s) ≡ prefix self.old (ordered_item i)) }

@@ -7,7 +7,7 @@ use text_pieces::width_of;
 
 const COMBINING_LONG_STROKE: char = '\u{336}';
 
-/// The text with U+0336 behind each character that has columns, so many times.
+/// The text with U+0336 after each character that has columns, so many times.
 pub fn struck(alloc: Global, count: usize, text: &str) -> Result<String, AllocError>
     ensures { IfOk result (λ s. chars (string_bytes s) ≡ struck count (chars text.now)) }
 {

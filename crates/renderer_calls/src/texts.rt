@@ -9,7 +9,7 @@ use std::alloc::{AllocError, Global};
 use tagged_lines::{EqualCopy, TaggedLine, TaggedLineElement};
 use text_borders::RenderLine;
 
-/// The characters of the lines, a line end behind each.
+/// The characters of the lines, a line end after each.
 pub fn text_of_lines<T: EqualCopy + Drop>(
     alloc: Global,
     lines: Vec<RenderLine<T>>,

@@ -338,7 +338,7 @@ rows_added laws cells s all kept =
     (stays_through s (flush_sub s) (add_first cells)
     (λ x inside. first_added laws s.width cells x all inside.1.0 inside.0) (sub_flushed laws s kept))
 
--- ---- lines behind the page
+-- ---- lines after the page
 
 abbrev NotesFit : Type 0 → Type 0
 NotesFit A = (width : ℕ) (items : List (Item A)) → 2 ≤ width

@@ -1,4 +1,4 @@
--- A prefix and the room behind it.
+-- A prefix and the room after it.
 use Rattle.std.proofs.Common.{◌≡◌, ℕ, ◌+◌, ◌-◌, ◌≤◌, Bool, true, false, None, Some, IfSome, refl, arith}
 use Rattle.std.specs.Prelude.{nat_le, max, IsSome, if◌then◌else◌}
 use Rattle.std.proofs.lemmas.Bool.Decides.{nat_tests}

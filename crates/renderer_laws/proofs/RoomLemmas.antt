@@ -229,7 +229,7 @@ adds_rows laws cells s all room =
     (given_chained HasRoom HasRoom (add_first cells) (flush_sub s) (λ x inside. adds_first laws cells x all inside)
     (flushes_sub laws s room))
 
--- ---- lines behind the page
+-- ---- lines after the page
 
 takes_notes : {H A : Type 0} (laws : RoomLaws (List A)) (lines : List (List (Item A))) (s : Sub H A)
     (b : Laid (List A)) → AllowsOverflow (measure_of s) b

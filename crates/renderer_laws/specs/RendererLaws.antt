@@ -17,7 +17,7 @@ IsKeptWithin s = (s.options.allow_width_overflow ≡ false) × IsWithin (measure
 abbrev pub StaysWithin : {H A : Type 0} → Sub H A → Sub H A → Type 0
 StaysWithin old new = IsKeptWithin new × ((new.width ≡ old.width) × (new.options ≡ old.options))
 
--- The other renderer fits behind the prefix.
+-- The other renderer fits after the prefix.
 abbrev pub FitsBehind : {H A : Type 0} → List ℕ → Sub H A → Sub H A → Type 0
 FitsBehind prefix other s = text_columns prefix + other.width ≤ s.width
 

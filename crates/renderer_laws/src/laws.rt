@@ -16,7 +16,7 @@ use text_marks::TextDecorator;
 
 /// No line of a renderer passes its width where no character may overflow: so it is with a new renderer, each call that
 /// fits and comes to a renderer keeps it so, at the same width and under the same options, and so do calls in turn; and
-/// so do lines behind the page, where links are wrapped and the width is two or more.
+/// so do lines after the page, where links are wrapped and the width is two or more.
 pub fn renderers_keep_the_width<D: TextDecorator>()
     ensures new { (width : ℕ) (options : RenderOptions) (held : D.Held) (annotations : List D.Annotation.Seen)
         → options.allow_width_overflow ≡ false → IsKeptWithin (new_sub width options held annotations) }
@@ -37,7 +37,7 @@ pub fn renderers_keep_the_width<D: TextDecorator>()
 }
 
 /// Where a character that is wider than the lines may stand alone on one, in each renderer that a call takes too, no
-/// call is refused, and each keeps it so, lines behind the page too; and there are lines.
+/// call is refused, and each keeps it so, lines after the page too; and there are lines.
 pub fn renderers_with_room_never_refuse<D: TextDecorator>()
     ensures new { (width : ℕ) (options : RenderOptions) (held : D.Held) (annotations : List D.Annotation.Seen)
         → options.allow_width_overflow ≡ true → HasRoom (new_sub width options held annotations) }
@@ -52,7 +52,7 @@ pub fn renderers_with_room_never_refuse<D: TextDecorator>()
     overflow_never_refuses::<Vec<D::Annotation>>();
 }
 
-/// Where no character may overflow, a prefix and the room behind it are the width, and the room is at least one column
+/// Where no character may overflow, a prefix and the room after it are the width, and the room is at least one column
 /// and at least what was asked for. Where it may, there is always room.
 pub fn a_prefix_and_its_room_are_the_width<D: TextDecorator>()
     ensures within { (prefix least : ℕ) (s : Sub D.Held D.Annotation.Seen) → s.options.allow_width_overflow ≡ false

@@ -62,7 +62,7 @@ module _ (cs ys : List ℕ) (c : ℕ) (turn : (length ys < length cs) × (c ≡ 
     none_in_back = ap (drop n) next_taken ∙ drop_all n (take (length ys) cs ++ c ∷ []) short
         ∙ sym (drop_all n (take (length ys) cs) shorter)
 
-  -- they are: what comes goes behind them
+  -- they are: what comes goes after them
   module _ (n : ℕ) (full : n ≤ length ys) where
     long : n ≤ length (take (length ys) cs)
     long = omega (arith, length-take-le (length ys) cs (omega (arith, turn.0)), full)

@@ -11,7 +11,7 @@ is_unseen c = is_control c || ((nat_le 0x20D0 c && nat_le c 0x20FF) || (c == 0xF
 abbrev pub code_of : ℕ → List ℕ
 code_of c = 0x5C ∷ 0x75 ∷ 0x7B ∷ (digits 16 true c ++ 0x7D ∷ [])
 
--- What fields and lines end with, and the backslash, stand behind a backslash: so do characters that don't show.
+-- What fields and lines end with, and the backslash, stand after a backslash: so do characters that don't show.
 abbrev pub escape_of : ℕ → List ℕ
 escape_of c =
     if c == 0x5C then 0x5C ∷ 0x5C ∷ []

@@ -34,7 +34,7 @@ pub fn unescaped(alloc: Global, field: &str) -> Result<String, FieldFault> {
     Ok(text)
 }
 
-// the character that a text behind a backslash begins with, and what follows it
+// the character that a text after a backslash begins with, and what follows it
 fn escaped_character(text: &str) -> Option<(char, &str)> {
     if let Some(rest) = text.strip_prefix('n') {
         return Some(('\n', rest));

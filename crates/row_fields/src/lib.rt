@@ -1,4 +1,4 @@
-//! The fields of lines that programs are told cases by, and tell answers in: tabs stand between the fields, and within
+//! The fields of lines that programs are given cases by, and answer in: tabs stand between the fields, and within
 //! them `\\`, `\n`, `\t`, `\r` and `\u{HEX}` for characters, and `\N` for no text. And texts in pieces, as those
 //! programs feed them.
 #![tactic(auto)]

@@ -5,7 +5,7 @@ ghost use Rattle.row_fields.specs.Escapes.{field_of};
 use crate::escapes::push_escaped;
 use std::alloc::AllocError;
 
-/// Adds a text to a line, behind a tab. The error is allocation failure.
+/// Adds a text to a line, after a tab. The error is allocation failure.
 pub fn push_field(line: &mut String, text: &str) -> Result<(), AllocError>
     ensures { OnOk result (chars (string_bytes line.new)
         ≡ chars (string_bytes line.old) ++ 9 ∷ field_of (chars text.now)) }

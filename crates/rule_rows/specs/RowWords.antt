@@ -1,4 +1,4 @@
--- Small pages of the worked rows: what is told, item by item, and what stands then.
+-- Small pages of the worked rows: what is emitted, item by item, and what stands then.
 use Rattle.std.specs.Prelude.{ℕ, zero, suc, false, true, List, [], ◌∷◌, ◌++◌, Option, None, Some, codes, flat_map}
 use Rattle.std.specs.Prelude.{fold}
 use Rattle.html_forest.specs.Forest.{Element, Forest, Kind, children_at}
@@ -111,7 +111,7 @@ fragment_of name modes = fragment_at (in_html name) modes
 abbrev pub foreign_fragment_of : Namespace → (context : List ℕ) → State
 foreign_fragment_of ns name = fragment_at (record { ns = ns; local = name }) []
 
--- what is told: a start tag, with an attribute, or with a slash; an end tag; text; NUL; a comment
+-- what is emitted: a start tag, with an attribute, or with a slash; an end tag; text; NUL; a comment
 abbrev pub start : List ℕ → Item
 start name = items.tag (tag_for StartTag name)
 
@@ -177,7 +177,7 @@ spoken [] = []
 spoken (name ∷ []) = name.local
 spoken (name ∷ above ∷ rest) = spoken (above ∷ rest) ++ codes " " ++ name.local
 
--- what stands behind some items
+-- what stands after some items
 pub record View : Type 0 where
   pub mode : InsertionMode
   pub elements : List ℕ
@@ -192,7 +192,7 @@ view_from first told = view_of (fold step first told)
 abbrev pub view : List Item → View
 view told = view_from begun told
 
--- what the tokenizer is answered for an item behind others; a script is its node's number
+-- what the tokenizer is answered for an item after others; a script is its node's number
 abbrev pub answer_from : State → List Item → Item → TokenSinkResult ℕ
 answer_from first told item = reply (λ n. n) (fold step first told) item
 

@@ -1,5 +1,5 @@
-//! Foreign content (WHATWG HTML, 13.2.6.5): what stands behind a mark. Elements are named from the root on; names of
-//! SVG and MathML stand here as they were told.
+//! Foreign content (WHATWG HTML, 13.2.6.5): what stands after a mark. Elements are named from the root on; names of
+//! SVG and MathML stand here as they were emitted.
 ghost use Rattle.std.specs.Prelude.{◌≡◌, [], ◌∷◌, ◌++◌, codes};
 ghost use Rattle.html_forest.specs.declared.sink.QuirksMode.TheVariants.{NoQuirks, Quirks};
 ghost use Rattle.html_lexemes.specs.declared.names.Namespace.TheVariants.{MathMl, Svg};
@@ -117,7 +117,7 @@ fn integration_points()
         } }
 {}
 
-// what is told beside tags
+// what is emitted beside tags
 #[tactic(auto, unfolding(tag_groups::specs::Groups::tag_group, tree_rules::specs::Actions::act))]
 fn texts()
     // <svg> </svg><frameset>

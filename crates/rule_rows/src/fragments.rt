@@ -1,4 +1,4 @@
-//! Fragments: what stands behind marks in a context. Elements are named from the root on.
+//! Fragments: what stands after marks in a context. Elements are named from the root on.
 ghost use Rattle.std.specs.Prelude.{◌≡◌, [], ◌∷◌, codes};
 ghost use Rattle.rule_rows.specs.RowWords.{fragment_of, end, finished, null};
 ghost use Rattle.rule_rows.specs.RowWords.{public_doctype, remark, start, start_closed};

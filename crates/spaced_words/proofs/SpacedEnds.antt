@@ -1,4 +1,4 @@
--- Words with a space behind the last one: how they are found in a text, and how the space is put there and taken off.
+-- Words with a space after the last one: how they are found in a text, and how the space is put there and taken off.
 use Rattle.std.proofs.Common.{◌≡◌, ◌≢◌, ℕ, ◌+◌, ◌-◌, ◌≤◌, List, [], ◌∷◌, ◌++◌, length, sym, ap, ◌∙◌, refl}
 use Rattle.std.proofs.Common.{append_assoc, chars, encode_utf8, IsUtf8, inr, arith, Bool, true, false, ◌&&◌}
 use Rattle.std.specs.Char.{IsScalar}

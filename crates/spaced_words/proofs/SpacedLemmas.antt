@@ -1,4 +1,4 @@
--- Words of visible ASCII behind single spaces: how they are found in a text.
+-- Words of visible ASCII after single spaces: how they are found in a text.
 use Rattle.std.proofs.Common.{◌≡◌, ◌≢◌, ℕ, suc, ◌+◌, ◌-◌, ◌<◌, ◌≤◌, List, [], ◌∷◌, ◌++◌, length, sym, ap, ◌∙◌, refl}
 use Rattle.std.proofs.Common.{append_assoc, append-nil, chars, encode_utf8, arith}
 use Rattle.std.specs.Char.{IsScalar}

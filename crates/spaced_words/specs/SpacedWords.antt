@@ -1,4 +1,4 @@
--- Words of visible ASCII that stand behind single spaces.
+-- Words of visible ASCII that stand after single spaces.
 use Rattle.std.specs.Prelude.{◌≡◌, ◌≢◌, ℕ, suc, ◌≤◌, List, [], ◌∷◌, ◌++◌, length, All, chars, ◌⊎◌}
 use Rattle.text_pieces.specs.Cuts.{IsBehind}
 use Rattle.text_pieces.specs.Columns.{text_columns}
@@ -12,7 +12,7 @@ pub record IsWord (word : List ℕ) : Type 0 where
   pub some : word ≢ []
   pub visible : All IsVisible word
 
--- words, each behind a space
+-- words, each after a space
 abbrev pub spaced : List (List ℕ) → List ℕ
 spaced [] = []
 spaced (w ∷ ws) = 0x20 ∷ (w ++ spaced ws)
@@ -38,7 +38,7 @@ pub record HasWord (text rest : List ℕ) (columns room : ℕ) : Type 0 where
   pub counted : columns ≡ suc (length word)
   pub fits : columns ≤ room
 
--- Words that stand behind a space each, of so many columns, stand in front of a text, at most as many as there is room
+-- Words that stand after a space each, of so many columns, stand in front of a text, at most as many as there is room
 -- for.
 pub record HasWords (text rest : List ℕ) (columns room : ℕ) : Type 0 where
   pub parts : IsBehind text rest
@@ -48,14 +48,14 @@ pub record HasWords (text rest : List ℕ) (columns room : ℕ) : Type 0 where
   pub counted : columns ≡ length (spaced words)
   pub fits : columns ≤ room
 
--- A text is words, each behind a space, of so many columns, and one more space.
+-- A text is words, each after a space, of so many columns, and one more space.
 pub record IsWordsAndSpace (text : List ℕ) (columns : ℕ) : Type 0 where
   pub words : List (List ℕ)
   pub are_words : All IsWord words
   pub whole : text ≡ spaced words ++ 0x20 ∷ []
   pub counted : columns ≡ length (spaced words)
 
--- A text is a word and words behind a space each, of so many columns, and one more space.
+-- A text is a word and words after a space each, of so many columns, and one more space.
 pub record IsLineAndSpace (text : List ℕ) (columns : ℕ) : Type 0 where
   pub first : List ℕ
   pub words : List (List ℕ)
@@ -77,6 +77,6 @@ pub record EndsVisibly (text : List ℕ) : Type 0 where
   pub whole : text ≡ front ++ last ∷ []
   pub visible : IsVisible last
 
--- The text, or one that ends in visible ASCII and a space behind it.
+-- The text, or one that ends in visible ASCII and a space after it.
 abbrev pub IsEnded : List ℕ → List ℕ → Type 0
 IsEnded text ended = (ended ≡ text) ⊎ (EndsVisibly text × (ended ≡ text ++ 0x20 ∷ []))

@@ -1,12 +1,12 @@
-//! Words of visible ASCII behind single spaces: how many columns such words take, where a text is no more than they.
+//! Words of visible ASCII after single spaces: how many columns such words take, where a text is no more than they.
 //!
 //! # What is proved
 //!
 //! - `words_in_front`, `words_before_space`, `line_before_space`: that words of visible ASCII stand in front of a
-//!   text, each behind a space (of `line_before_space` all but the first), how many columns they take with their
+//!   text, each after a space (of `line_before_space` all but the first), how many columns they take with their
 //!   spaces, at most those there is room for, and what follows them, or that one more space ends the text. That
 //!   they find any no clause says
-//! - `ended`, `without_last`: the text as it is, or one that ends in visible ASCII with a space behind it, refused
+//! - `ended`, `without_last`: the text as it is, or one that ends in visible ASCII with a space after it, refused
 //!   only if allocation fails; a text without its last character
 //! - `is_visible_ascii`: whether a character is between `!` and `~`
 //!

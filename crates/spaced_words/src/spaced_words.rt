@@ -1,4 +1,4 @@
-//! Words of visible ASCII that stand behind single spaces.
+//! Words of visible ASCII that stand after single spaces.
 ghost use Rattle.std.specs.Prelude.{◌≡◌, ◌≢◌, ◌↔◌, ◌≤◌, ℕ, List, [], ◌∷◌, ◌++◌, chars, string_bytes, IfOk, IfSome};
 ghost use Rattle.std.specs.Prelude.{IsTrue, IsUtf8};
 ghost use Rattle.spaced_words.specs.SpacedWords.{HasRun, HasWord, HasWords, IsWordsAndSpace, IsLineAndSpace};
@@ -7,7 +7,7 @@ ghost use Rattle.spaced_words.specs.SpacedWords.{EndsVisibly, IsEnded};
 use std::alloc::AllocError;
 use text_pieces::{first_char, last_char};
 
-/// The columns of the words in front of a text, each behind a space, as many as `room` columns hold with their spaces,
+/// The columns of the words in front of a text, each after a space, as many as `room` columns hold with their spaces,
 /// and what follows them.
 pub fn words_in_front(text: &str, room: usize) -> (usize, &str)
     ensures words { HasWords text.now result.1.now result.0 room }
@@ -22,7 +22,7 @@ pub fn words_in_front(text: &str, room: usize) -> (usize, &str)
     (columns, rest)
 }
 
-/// The columns of a text without the space at its end, where it is words of at most `room` columns, each behind a
+/// The columns of a text without the space at its end, where it is words of at most `room` columns, each after a
 /// space, and that space.
 pub fn words_before_space(text: &str, room: usize) -> Option<usize>
     ensures words { IfSome result (λ columns. IsWordsAndSpace (chars text.now) columns) }
@@ -66,7 +66,7 @@ fn is_space(text: &str) -> bool
     text == " "
 }
 
-/// The text, with a space behind it where its last character is visible ASCII. The error is allocation failure alone.
+/// The text, with a space after it where its last character is visible ASCII. The error is allocation failure alone.
 pub fn ended(text: String) -> Result<String, AllocError>
     ensures { IfOk result (λ ended. IsEnded (chars (string_bytes text)) (chars (string_bytes ended))) }
 {
@@ -100,7 +100,7 @@ pub fn without_last(text: String) -> String
     }
 }
 
-/// The columns of a space and the word behind it in front of a text, which take at most `room`, and the space that
+/// The columns of a space and the word after it in front of a text, which take at most `room`, and the space that
 /// follows.
 fn word_in_front(text: &str, room: usize) -> Option<(usize, &str)>
     ensures word { IfSome result (λ parts. HasWord text.now parts.1.now parts.0 room) }

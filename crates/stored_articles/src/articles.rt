@@ -16,7 +16,7 @@ use stored_lines::{push_elements, tree_of};
 use tree_lines::lines_of;
 
 /// The page of an article, its lines and the tree of the page, or the article's first fault. The first line has the
-/// width and options; the second may be a title; then comes a value a line, behind a space for each that it stands in.
+/// width and options; the second may be a title; then comes a value a line, after a space for each that it stands in.
 pub fn answer(alloc: Global, case: &str) -> Result<String> {
     let Case {
         article,
@@ -76,7 +76,7 @@ fn push_laid(
     Ok(())
 }
 
-/// Adds a line, behind the number of its paragraph or a dash.
+/// Adds a line, after the number of its paragraph or a dash.
 fn push_laid_line(lines: &mut String, line: &ArticleLine) -> Result<()> {
     match line.paragraph {
         Some(number) => write!(lines, "{number}\t")?,

@@ -11,7 +11,7 @@ pub(crate) struct Line<'a> {
     level: usize,
     /// What kind of value it is.
     word: &'a str,
-    /// What stands behind a tab.
+    /// What stands after a tab.
     field: Option<&'a str>,
 }
 

@@ -132,7 +132,7 @@ impl<D: TextDecorator + Drop> Block<D> {
     }
 
     /// Adds a text a character at a time. White space that it begins with stays with what follows, and a text of
-    /// nothing else is one call: behind a block it is asked of each call whether its text is ignored.
+    /// nothing else is one call: after a block it is asked of each call whether its text is ignored.
     fn add_characters(&mut self, text: &str) -> Result<(), BlockError> {
         let mut has_begun = false;
         let mut piece = String::new(self.alloc());

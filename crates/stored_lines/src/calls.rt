@@ -57,7 +57,7 @@ impl<D: TextDecorator + Drop> Blocks<D> {
         }
     }
 
-    /// Does what a line says: a word, and up to two fields behind tabs.
+    /// Does what a line says: a word, and up to two fields after tabs.
     fn perform(&mut self, line: &str) -> Answer {
         let Some((word, fields)) = line.split_once('\t') else {
             return match line {
@@ -116,7 +116,7 @@ impl<D: TextDecorator + Drop> Blocks<D> {
         Ok(Ok(()))
     }
 
-    /// The last of the pile is appended behind prefixes.
+    /// The last of the pile is appended after prefixes.
     fn append(&mut self, first: &str, following: &str) -> Answer {
         let alloc = self.alloc();
         let first = unescaped(alloc, first)?;

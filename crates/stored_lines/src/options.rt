@@ -29,7 +29,7 @@ pub(crate) enum PageOption {
     NoTableBorders,
     /// How an image with an empty title is rendered.
     EmptyImgMode(EmptyImage),
-    /// Whether the targets of links stand behind the page.
+    /// Whether the targets of links stand after the page.
     LinkFootnotes(bool),
     /// Whether links to equal targets share a footnote.
     SharedFootnotes(bool),

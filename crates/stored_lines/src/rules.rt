@@ -44,7 +44,7 @@ fn place_of(part: &str) -> Result<StylePlace> {
     }
 }
 
-/// A declaration: a style, with `!` behind it where it is important.
+/// A declaration: a style, with `!` after it where it is important.
 fn declaration_of(alloc: Global, part: &str) -> Result<StyleDecl> {
     let (style, importance) = match part.strip_suffix('!') {
         Some(style) => (style, Importance::Important),

@@ -21,7 +21,7 @@ struct Tokenizing<'a> {
     table: &'a str,
 }
 
-/// The lines on a row's text. A row has five fields, behind a word where not its tokens alone have lines: the state to
+/// The lines on a row's text. A row has five fields, after a word where not its tokens alone have lines: the state to
 /// begin in, the name of the last start tag or `\N`, `foreign` or `-`, the table of references, and the text. Tokens
 /// are also read by the plain reader.
 pub fn answer(alloc: Global, row: &str) -> Result<String> {
@@ -84,7 +84,7 @@ impl<'a> Reading for Tokenizing<'a> {
     }
 }
 
-// what has lines, whether in the exact wording, and the fields behind the word that says so
+// what has lines, whether in the exact wording, and the fields after the word that says so
 fn told_of(row: &str) -> (Told, bool, &str) {
     match row.split_once('\t') {
         Some(("errors", fields)) => (Told::Errors, false, fields),

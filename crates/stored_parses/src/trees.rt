@@ -14,7 +14,7 @@ const MOST_CUT: usize = 64;
 /// How a page or a fragment is parsed.
 #[derive(Clone, Copy)]
 struct Parsing<'a> {
-    /// The name of a fragment's context, behind `svg:` or `mathml:` where it is an element of these; `\N` of a page.
+    /// The name of a fragment's context, after `svg:` or `mathml:` where it is an element of these; `\N` of a page.
     context: &'a str,
     /// Whether scripts would run.
     is_scripting: bool,

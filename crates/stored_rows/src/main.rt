@@ -1,5 +1,5 @@
-//! Answers stored rows. Standard input has cases, an empty line behind each. The word that a case begins with is its
-//! kind, and behind a tab comes what is asked: the tree of a page, the tokens of a text, what a reference stands for by
+//! Answers stored rows. Standard input has cases, an empty line after each. The word that a case begins with is its
+//! kind, and after a tab comes what is asked: the tree of a page, the tokens of a text, what a reference stands for by
 //! the last table before it, the lines of a page or of a script of renderer calls, or an article's page, lines and
 //! tree. Standard output has the answers.
 #![tactic(auto)]

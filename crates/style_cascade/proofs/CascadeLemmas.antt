@@ -76,7 +76,7 @@ module _ {T : Type 0} where
   in_the_middle P d [] rest all = All-head P d rest all
   in_the_middle P d (e ∷ es) rest all = in_the_middle P d es rest (All-tail P e (es ++ d ∷ rest) all)
 
-  -- behind the last of the greatest there is none of the greatest
+  -- after the last of the greatest there is none of the greatest
   not_behind : (d e f : Declared T) (rest fs others : List (Declared T)) → d ∷ rest ≡ f ∷ (fs ++ e ∷ others)
       → All (λ x. is_before x d ≡ true) rest → All (λ x. is_before e x ≡ false) (f ∷ fs) → ⊥
   not_behind d e f rest fs others same last greatest =

@@ -18,7 +18,7 @@ use text_pieces::WhiteSpace;
 pub struct PlaceStyle<'a> {
     /// The colour of text.
     pub colour: WithSpec<Colour>,
-    /// The colour behind text.
+    /// The colour after text.
     pub bg_colour: WithSpec<Colour>,
     /// How the element is displayed.
     pub display: WithSpec<Display>,
@@ -94,7 +94,7 @@ pub struct ComputedStyle<'a> {
     pub itself: PlaceStyle<'a>,
     /// Of what stands before its children.
     pub before: PlaceStyle<'a>,
-    /// Of what stands behind its children.
+    /// Of what stands after its children.
     pub after: PlaceStyle<'a>,
 }
 

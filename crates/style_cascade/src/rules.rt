@@ -17,7 +17,7 @@ pub enum Display {
 pub enum Style {
     /// The colour of text (CSS 2.2, 14.1).
     Colour(Colour),
-    /// The colour behind text (CSS 2.2, 14.2.1).
+    /// The colour after text (CSS 2.2, 14.2.1).
     BgColour(Colour),
     /// How the element is displayed (CSS 2.2, 9.2.4).
     Display(Display),
@@ -43,7 +43,7 @@ pub enum StylePlace {
     Itself,
     /// What stands before its children (`:before`).
     Before,
-    /// What stands behind its children (`:after`).
+    /// What stands after its children (`:after`).
     After,
 }
 

@@ -1,4 +1,4 @@
--- The grid that a function gives is the one that the relation tells of.
+-- The grid that a function gives is the one that the relation says.
 use Rattle.std.proofs.Common.{◌≡◌, ℕ, ◌+◌, ◌≤◌, ◌==◌, true, List, get_or, map, refl, sym, subst, ◌∙◌, arith}
 use Rattle.std.proofs.Common.{All}
 use Rattle.std.specs.List.{filter, range_with_len, Any}

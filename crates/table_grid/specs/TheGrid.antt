@@ -1,4 +1,4 @@
--- The grid of a table, as a function: a law says that it is the one that the relation tells of.
+-- The grid of a table, as a function: a law says that it is the one that the relation says.
 use Rattle.std.specs.Prelude.{ℕ, ◌+◌, ◌==◌, Bool, List, map, filter}
 use Rattle.std.specs.List.{list_any, range_with_len}
 use Rattle.table_places.specs.declared.cell.Cell.{Cell}

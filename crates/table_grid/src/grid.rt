@@ -6,7 +6,7 @@ use crate::columns::Column;
 pub struct GridCell {
     /// Its first column, among the columns of the grid.
     pub first: usize,
-    /// The column behind its last one.
+    /// The column after its last one.
     pub last: usize,
     /// How many rows it reaches, of those in which a cell that is not skipped begins: its own counted.
     pub rows: usize,
@@ -20,7 +20,7 @@ pub struct GridGap {
     pub row: usize,
     /// Its first column, among the columns of the grid.
     pub first: usize,
-    /// The column behind its last one.
+    /// The column after its last one.
     pub last: usize,
 }
 

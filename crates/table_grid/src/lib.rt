@@ -16,7 +16,7 @@
 //! - `cells_have_a_grid`, `one_grid`, `columns_of_a_grid_are_sized`: laws: cells have a grid, that which the
 //!   function gives, and one alone; its columns have a size, and a least that is no more
 //!
-//! Worked rows are computed on the definitions from places on (`rows.rt`): a row span behind a column of empty
+//! Worked rows are computed on the definitions from places on (`rows.rt`): a row span after a column of empty
 //! cells, over a row without cells, spans of 10^9 and of 2^64 - 1, a cell over five empty ones.
 #![tactic(auto)]
 

@@ -11,7 +11,7 @@ fn beside_a_row_span()
         ≡ spot 0 1 2 ∷ spot 1 2 1 ∷ spot 1 2 1 ∷ [] }
 {}
 
-// the same behind a column of empty cells: <tr><td><td rowspan=2>a<td>b<tr><td><td>c
+// the same after a column of empty cells: <tr><td><td rowspan=2>a<td>b<tr><td><td>c
 #[tactic(auto, unfolding(crate::specs::Grid::rank, crate::specs::Grid::left_before, table_columns::specs::Columns::greatest_at, table_columns::specs::Columns::greatest))]
 fn behind_an_empty_column()
     ensures columns { columns_kept (empty 0 1 1 0 ∷ letter 0 1 2 1 ∷ letter 0 1 1 2 ∷ empty 1 1 1 0 ∷ letter 1 1 1 2

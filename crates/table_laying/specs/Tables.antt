@@ -149,7 +149,7 @@ in_slot m widths more fragments (s ∷ slots) made inside l =
     (in_turn inside (cell_ended l.parts.current widths more slots made s.rows)) l
     else goes_to (cells widths more [] slots made) l
 
--- A cell stands behind the empty slots before it.
+-- A cell stands after the empty slots before it.
 unfoldable pub cell_laid : {H A : Type 0} → Marking H A → Option (List ℕ) → List (List Slot)
     → (fragments : List (List ℕ)) → List Slot → List (Sub H A × ℕ) → Step H A → Step H A
 cell_laid m widths more fragments slots made inside l = in_slot m widths more fragments (from_cell slots)

@@ -15,7 +15,7 @@ use std::mem;
 use text_marks::TextDecorator;
 use text_pieces::BlockError;
 
-/// The name of a fragment goes behind others, if there is one. The error is allocation failure.
+/// The name of a fragment goes after others, if there is one. The error is allocation failure.
 pub fn push_name(names: &mut Vec<Text>, name: &Option<Text>) -> Result<(), AllocError>
     ensures { OnOk result (names.new.items ≡ names.old.items ++ option_to_list name.now) }
 {
@@ -48,8 +48,8 @@ fn add_row<D: TextDecorator + Drop>(
     laying.add_rows_below(renderers_of(alloc, made)?)
 }
 
-/// A row ends: what is left of its slots stays empty, and its renderers go below one another, or side by side. The error
-/// is `TooNarrow` where they have no room, else `Memory`.
+/// A row ends: what is left of its slots stays empty, and its renderers go below one another, or side by side. The
+/// error is `TooNarrow` where they have no room, else `Memory`.
 pub fn end_row<D: TextDecorator + Drop>(
     laying: &mut Laying<D>,
     alloc: Global,

@@ -1,4 +1,4 @@
-//! A table before its first row and behind its last.
+//! A table before its first row and after its last.
 ghost use Rattle.std.specs.Prelude.{◌≡◌, ◌⊎◌, Err, IfErr, IfOk, OnOk};
 ghost use Rattle.column_shares.specs.Shares.{AreSized};
 ghost use Rattle.render_laying.specs.Seen.{Comes, Fails, IsWorking, place_of, widths_seen};
@@ -53,8 +53,8 @@ pub fn is_fenced<D: TextDecorator>(options: &RenderOptions, place: &TablePlace<D
     }
 }
 
-/// The line above a table that is fenced, and the one below it. The error is `TooNarrow` where a character is wider than
-/// its line and may not stand alone, else `Memory`.
+/// The line above a table that is fenced, and the one below it. The error is `TooNarrow` where a character is wider
+/// than its line and may not stand alone, else `Memory`.
 pub fn fence<D: TextDecorator + Drop>(
     laying: &mut Laying<D>,
     fenced: bool,
@@ -72,8 +72,8 @@ pub fn fence<D: TextDecorator + Drop>(
     laying.end_line()
 }
 
-/// The border above the first row, where borders are drawn. The error is `TooNarrow` where there is no room for it, else
-/// `Memory`.
+/// The border above the first row, where borders are drawn. The error is `TooNarrow` where there is no room for it,
+/// else `Memory`.
 pub fn top_border<D: TextDecorator + Drop>(
     laying: &mut Laying<D>,
     options: &RenderOptions,

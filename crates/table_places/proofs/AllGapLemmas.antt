@@ -1,4 +1,4 @@
--- The gaps that a function gives are those that the relation tells of.
+-- The gaps that a function gives are those that the relation says.
 use Rattle.std.proofs.Common.{rules, ◌≡◌, ℕ, ◌+◌, ◌<◌, ◌≤◌, false, List, get_or, map, inl, inr, sym, subst}
 use Rattle.std.proofs.Common.{◌∙◌, arith, Contains, eqb}
 use Rattle.std.specs.List.{AllPairs, dedup}

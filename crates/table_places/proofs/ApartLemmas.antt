@@ -38,7 +38,7 @@ standing_apart cells placed h rows j k row column d lt k_lt reach above from to 
         placed j k d lt k_lt (h.each k d k_lt).fits.behind same in
         omega arith
 
--- a cell stands at the first column, or behind a column where another stands: every gap is one before a covered place
+-- a cell stands at the first column, or after a column where another stands: every gap is one before a covered place
 pub place_tight : (cells : List Cell) (placed : List PlacedCell) → ArePlaced cells placed →
     All (λ p. 0 < p.cell.colspan) placed → All (λ p. 0 < p.cell.rowspan) placed →
     (k column : ℕ) (d : PlacedCell) → k < length placed → column + 1 ≡ (get_or placed k d).left →

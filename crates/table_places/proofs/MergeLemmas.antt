@@ -1,4 +1,4 @@
--- Covers put behind one another.
+-- Covers put after one another.
 use Rattle.std.proofs.Common.{ℕ, ◌+◌, ◌-◌, ◌^◌, ◌<◌, ◌≤◌, List, [], length, get_or}
 use Rattle.std.proofs.Common.{take, take_all, subst, sym, ◌∙◌, length-take, arith, All}
 use Rattle.std.proofs.lemmas.List.{get_or-take}

@@ -146,7 +146,7 @@ module _ (placed : List PlacedCell) (row : ℕ) where
             free = λ k d lt above reach from to. let w = ends_within placed k d lt in absurd (omega arith);
           }))
 
-  -- a gap begins behind the one before it
+  -- a gap begins after the one before it
   gap_behind : (m n : ℕ) → m < n → ends_gap placed row m ≡ true → m ≤ vacant_from placed row n
   gap_behind m n lt e = by (nat_le m (vacant_from placed row n)) refl
     where

@@ -249,7 +249,7 @@ module _ (cells : List Cell) (ends : List RowEnd) (over at row : ℕ) (covers ow
         more = more;
       }
 
--- behind it
+-- after it
 pub behind_up_to : (cells : List Cell) (ends : List RowEnd) (over row : ℕ) (covers own : List Cover)
     (old placed : List PlacedCell) →
     IsNonDecreasingBy (λ c. c.row) cells →

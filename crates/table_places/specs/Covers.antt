@@ -8,7 +8,7 @@ use Rattle.table_places.specs.Places.{right_of, bottom_of, IsFree, ArePlaced}
 abbrev pub cover_at : List Cover → ℕ → Cover
 cover_at covers k = get_or covers k (record { left = 0; right = 0 })
 
--- none is empty, and each stands behind the one before it
+-- none is empty, and each stands after the one before it
 pub record AreOrdered (covers : List Cover) : Type 0 where
   pub held : All (λ c. c.left < c.right) covers
   pub rising : (j k : ℕ) → j < k → k < length covers → (cover_at covers j).right ≤ (cover_at covers k).left
@@ -51,7 +51,7 @@ pub record IsMergedTo (covers : List Cover) (at limit : ℕ) (merged : List Cove
   pub ends : EndBefore merged limit
   pub behind : at < length covers → EndBefore merged (cover_at covers at).left
 
--- those from `at` to `n` were put behind the old ones
+-- those from `at` to `n` were put after the old ones
 pub record ArePushed (covers : List Cover) (at n limit : ℕ) (old new : List Cover) : Type 0 where
   pub merged : IsMergedTo covers n limit new
   pub passed : at ≤ n

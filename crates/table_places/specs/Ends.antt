@@ -1,4 +1,4 @@
--- Row spans that end: in order of the row behind their last one.
+-- Row spans that end: in order of the row after their last one.
 use Rattle.std.specs.Prelude.{◌≡◌, ℕ, ◌+◌, ◌<◌, ◌≤◌, List, length, get_or, take, All, Contains}
 use Rattle.std.specs.List.Sorted.{IsNonDecreasingBy}
 use Rattle.table_places.specs.declared.cell.Cell.{Cell}

@@ -9,11 +9,11 @@ cell_of p = p.cell
 abbrev pub left_of : PlacedCell → ℕ
 left_of p = p.left
 
--- the column behind its last
+-- the column after its last
 abbrev pub right_of : PlacedCell → ℕ
 right_of p = p.left + p.cell.colspan
 
--- the row behind its last
+-- the row after its last
 abbrev pub bottom_of : PlacedCell → ℕ
 bottom_of p = p.cell.row + p.cell.rowspan
 
@@ -21,7 +21,7 @@ bottom_of p = p.cell.row + p.cell.rowspan
 pub record IsFree (before : List PlacedCell) (row column : ℕ) : Type 0 where
   pub free : All (λ p. p.cell.row < row → row < bottom_of p → p.left ≤ column → column < right_of p → ⊥) before
 
--- a cell may begin here: behind the cells before it in its row, its whole column span free of row spans from above
+-- a cell may begin here: after the cells before it in its row, its whole column span free of row spans from above
 pub record Fits (before : List PlacedCell) (cell : Cell) (start : ℕ) : Type 0 where
   pub behind : All (λ p. p.cell.row ≡ cell.row → right_of p ≤ start) before
   pub free : (column : ℕ) → start ≤ column → column < start + cell.colspan → IsFree before cell.row column

@@ -8,7 +8,7 @@ use Rattle.table_places.specs.declared.gaps.Gap.{Gap}
 use Rattle.table_places.specs.Gaps.{gap_of}
 use Rattle.table_places.specs.Places.{right_of, bottom_of}
 
--- the column behind all cells
+-- the column after all cells
 unfoldable pub end_of : List PlacedCell → ℕ
 end_of [] = 0
 end_of (p ∷ placed) = max (right_of p) (end_of placed)
@@ -21,7 +21,7 @@ covers_some row from to p =
 abbrev pub is_passed : (row start : ℕ) → PlacedCell → Bool
 is_passed row start p = if p.cell.row == row then nat_le (right_of p) start else true
 
--- a cell may begin here: behind the cells before it in its row, its whole column span free of row spans from above
+-- a cell may begin here: after the cells before it in its row, its whole column span free of row spans from above
 abbrev pub may_begin : List PlacedCell → Cell → ℕ → Bool
 may_begin before cell start = list_all (is_passed cell.row start) before
     && not (list_any (covers_some cell.row start (start + cell.colspan)) before)

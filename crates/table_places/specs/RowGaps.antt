@@ -17,7 +17,7 @@ pub record IsGapIn (covers own : List Cover) (left right : ℕ) : Type 0 where
   pub begins : (column : ℕ) → column + 1 ≡ left → IsBare covers column → IsBare own column → ⊥
   pub ends : IsBare covers right → ⊥
 
--- the gaps of a row were put behind the old ones
+-- the gaps of a row were put after the old ones
 pub record AreGapsIn (row : ℕ) (covers own : List Cover) (old new : List Gap) : Type 0 where
   pub more : List Gap
   pub whole : new ≡ old ++ more

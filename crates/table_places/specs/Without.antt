@@ -11,7 +11,7 @@ pub record IsWithout (covers ended kept : List Cover) : Type 0 where
   pub more : (column : ℕ) → Misses kept column → Misses ended column → Misses covers column
   pub ends : (bound : ℕ) → EndBefore covers bound → EndBefore kept bound
 
--- a part from `left` to before `right` was put behind the others, if it has a column
+-- a part from `left` to before `right` was put after the others, if it has a column
 pub record IsPartPut (left right : ℕ) (old new : List Cover) : Type 0 where
   pub whole : AreOrdered new
   pub fewer : (column : ℕ) → Misses old column → (left ≤ column → column < right → ⊥) → Misses new column

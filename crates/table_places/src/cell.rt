@@ -11,7 +11,7 @@ pub struct Cell {
     pub row: usize,
     /// How many columns of the grid it takes, at least 1.
     pub colspan: usize,
-    /// How many rows it takes, its own counted, at least 1; those behind the table's last row with a cell count for
+    /// How many rows it takes, its own counted, at least 1; those after the table's last row with a cell count for
     /// nothing.
     pub rowspan: usize,
     /// The columns of text that its content takes on one line.

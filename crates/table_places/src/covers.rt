@@ -12,7 +12,7 @@ pub(crate) struct Cover {
     pub(crate) right: u128,
 }
 
-/// Puts a cover behind the others, joined to the last one where it begins where that one ends.
+/// Puts a cover after the others, joined to the last one where it begins where that one ends.
 pub(crate) fn push_cover(covers: &mut Vec<Cover>, next: Cover) -> Result<(), AllocError>
     requires ordered { AreOrdered covers.old.items }
     requires behind { EndBefore covers.old.items next.left }
@@ -33,7 +33,7 @@ pub(crate) fn push_cover(covers: &mut Vec<Cover>, next: Cover) -> Result<(), All
     Ok(())
 }
 
-// puts those covers from `at` on that begin before `limit` behind the others, and says how many are passed then
+// puts those covers from `at` on that begin before `limit` after the others, and says how many are passed then
 fn push_before(
     merged: &mut Vec<Cover>,
     covers: &[Cover],

@@ -13,7 +13,7 @@ use std::alloc::{AllocError, Global};
 pub(crate) struct RowEnd {
     /// Which cell.
     pub(crate) place: usize,
-    /// The row behind its last one.
+    /// The row after its last one.
     pub(crate) bottom: u128,
 }
 

@@ -16,7 +16,7 @@ pub struct Gap {
     pub right: u128,
 }
 
-// puts a gap behind the others, if it has a column
+// puts a gap after the others, if it has a column
 fn push_gap(gaps: &mut Vec<Gap>, row: usize, left: u128, right: u128) -> Result<(), AllocError>
     ensures some { IfOk result (λ _. left < right → gaps.new.items ≡ gaps.old.items ++ gap_of row left right ∷ []) }
     ensures none { IfOk result (λ _. right ≤ left → gaps.new.items ≡ gaps.old.items) }

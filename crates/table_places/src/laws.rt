@@ -25,7 +25,7 @@ pub fn cells_share_no_slot()
         → Takes column (placed_at placed j) → Takes column (placed_at placed k) → ⊥ }
 {}
 
-/// A cell begins at the first column, or behind one in which a cell stands, in the row in which it begins.
+/// A cell begins at the first column, or after one in which a cell stands, in the row in which it begins.
 pub fn cells_begin_behind_cells()
     ensures { (cells : List Cell) (placed : List PlacedCell) → All (λ c. 0 < c.colspan) cells
         → All (λ c. 0 < c.rowspan) cells → ArePlaced cells placed → (k column : ℕ) → k < length placed

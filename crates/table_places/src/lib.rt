@@ -5,7 +5,7 @@
 //! # What is proved
 //!
 //! Columns and rows of the grid are numbered from 0, and edges are numbers of 128 bits, so no sum of spans is too
-//! great. A cell may begin in a column (`Fits`) that stands behind the cells before it in its row, if its whole
+//! great. A cell may begin in a column (`Fits`) that stands after the cells before it in its row, if its whole
 //! column span is free of row spans from above. A gap (`IsGap`) is a stretch of columns of a row in which no cell
 //! stands, as long as it can be to its left, that ends where a cell from above stands.
 //!
@@ -15,7 +15,7 @@
 //! - `cells_have_places`, `cells_have_one_place`, `cells_share_no_slot`, `cells_begin_behind_cells`,
 //!   `rows_have_no_hole`: laws over definitions: there are places and gaps, those that two functions give
 //!   (`places_of`, `gaps_of`), and they are determined; no slot of the grid is taken twice; a cell begins at the
-//!   first column or behind a taken one in its own row, and in each row that it stands in at the first column or
+//!   first column or after a taken one in its own row, and in each row that it stands in at the first column or
 //!   where another cell or a gap ends
 //!
 //! A row without cells takes its place as a number that no cell has. Worked rows (`rows.rt`) have places of five

@@ -18,7 +18,7 @@ pub struct Places {
     pub gaps: Vec<Gap>,
 }
 
-/// Where the cells of a table stand, which are given row by row: each at the first column of the grid, behind the cells
+/// Where the cells of a table stand, which are given row by row: each at the first column of the grid, after the cells
 /// before it in its row, from which on its whole column span is free of row spans from above. The error is allocation
 /// failure alone.
 pub fn place_cells(alloc: Global, cells: &[Cell]) -> Result<Places, AllocError>

@@ -7,7 +7,7 @@ ghost use Rattle.table_places.specs.Without.{IsKept, IsPartPut, IsWithout};
 use crate::covers::{Cover, push_cover};
 use std::alloc::{AllocError, Global};
 
-// puts the columns from `left` to before `right` behind the others, if there is one
+// puts the columns from `left` to before `right` after the others, if there is one
 fn push_part(kept: &mut Vec<Cover>, left: u128, right: u128) -> Result<(), AllocError>
     requires ordered { AreOrdered kept.old.items }
     requires behind { EndBefore kept.old.items left }
@@ -19,7 +19,7 @@ fn push_part(kept: &mut Vec<Cover>, left: u128, right: u128) -> Result<(), Alloc
     Ok(())
 }
 
-// puts the `i`-th cover behind the others without the columns of those of `ended` from `at` on: how many of these are
+// puts the `i`-th cover after the others without the columns of those of `ended` from `at` on: how many of these are
 // passed then, and where the last of them ends
 fn push_without(
     kept: &mut Vec<Cover>,

@@ -206,7 +206,7 @@ module _ (placed : List PlacedCell) (between : List Gap) (left : ℕ → ℕ) (s
           (reaches shown row (bottom_of (placed_at placed h.place)) (omega arith)) in
           omega arith
 
-  -- behind a row that is shown its cells are above too
+  -- after a row that is shown its cells are above too
   pub above_goes_on : (row : ℕ) (above : List Slot) → AreAbove placed left shown row above →
       Has (λ r. r ≡ row) shown →
       AreAbove placed left shown (row + 1) (covered_behind (merged (row_slots row) above))

@@ -49,7 +49,7 @@ rows_rise placed h i j d lt j_lt =
     subst (λ (c : Cell). (get_or placed i d).cell.row ≤ c.row) b
     (subst (λ (c : Cell). c.row ≤ (get_or (map cell_of placed) j d.cell).row) a le)
 
--- cells of a row stand one behind another
+-- cells of a row stand one after another
 side_by_side : (cells : List Cell) (placed : List PlacedCell) → ArePlaced cells placed →
     AllPairs (λ p q. p.cell.row ≡ q.cell.row → right_of p ≤ q.left) placed
 side_by_side cells placed h i j d lt j_lt same =

@@ -170,7 +170,7 @@ module _ (placed : List PlacedCell) (between : List Gap) (left : ℕ → ℕ) (s
       taker_before row column from to e gap (at_has (λ p. takes row column p ≡ true) placed nobody t)
   gap_before row column from to e gap (inr v) = absurd (gap.begins column e (vacant_by placed row column v))
 
-  -- behind the first column another item ends where one begins
+  -- after the first column another item ends where one begins
   item_before : (row column from to : ℕ) → column + 1 ≡ from → IsItem placed row from to → EndsItem placed row from
   item_before row column from to e (inl c) = cell_before row column from e
       (page.holes c.place row column c.lt c.stands (e ∙ sym c.begins))

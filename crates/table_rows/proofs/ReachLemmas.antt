@@ -76,7 +76,7 @@ reach_with (r ∷ rows) row bottom order (inr h) lt =
     let none = counts_before (row + 1) r bottom (omega arith) in
     omega arith
 
--- from behind the last row that it reaches there are none
+-- from after the last row that it reaches there are none
 pub reach_none : (rows : List ℕ) (row bottom : ℕ) → bottom ≤ row → reach rows row bottom ≡ 0
 reach_none [] row bottom le = reach_nothing row bottom
 reach_none (r ∷ rows) row bottom le =

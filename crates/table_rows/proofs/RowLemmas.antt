@@ -92,7 +92,7 @@ module _ {X : Type 0} (key : X → ℕ) (is_of : ℕ → X → Bool)
         let le = rises at (at + k) d (omega arith) (omega arith) in
         let more = past d (omega arith) in absurd (omega arith)))
 
-    -- behind the last of the row all are taken
+    -- after the last of the row all are taken
     pub taken_all : (xs : List X) (row at : ℕ) (slots : List Slot) → IsNonDecreasingBy key xs →
         ((d : X) → at < length xs → key (get_or xs at d) ≡ row → ⊥) → AreTaken key is_of slot xs row at slots →
         slots ≡ map slot (filter (is_of row) xs)

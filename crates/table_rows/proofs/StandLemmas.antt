@@ -137,7 +137,7 @@ merged_has P (one first m) (inr h) = or_first (merged_has P m h)
 merged_has P (other first m) (inl p) = inr (inl p)
 merged_has P (other first m) (inr h) = or_second (merged_has P m h)
 
--- others that are apart from a slot and don't begin before it stand behind it
+-- others that are apart from a slot and don't begin before it stand after it
 behind_slot : (s : Slot) (others : List Slot) → BeginsBehind s others → AreInOrder others →
     AllByRecursion (λ t. t.first < t.last) others → AllByRecursion (AreApart s) others →
     AllByRecursion (EndsBefore s) others

@@ -17,6 +17,6 @@ gaps_in gaps row = map gap_slot (filter (is_gap_of row) gaps)
 abbrev pub slots_in : List Cell → List GridCell → List GridGap → (row : ℕ) → List Slot
 slots_in cells placed gaps row = merged (cells_in cells placed row) (gaps_in gaps row)
 
--- Nothing of a row, nor of those behind it, stands before a place.
+-- Nothing of a row, nor of those after it, stands before a place.
 pub record HasRowsFrom {X : Type 0} (is_of : ℕ → X → Bool) (xs : List X) (row at : ℕ) : Type 0 where
   pub all : (later : ℕ) → row ≤ later → filter (is_of later) (drop at xs) ≡ filter (is_of later) xs

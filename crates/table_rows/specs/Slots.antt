@@ -22,7 +22,7 @@ gap_slot g = record { first = g.first; last = g.last; rows = 1; is_cell = false 
 abbrev pub begins_before : Slot → Slot → Bool
 begins_before s other = nat_lt other.first s.first
 
--- slots of a row, and others among them: each before the first of these that begins behind it
+-- slots of a row, and others among them: each before the first of these that begins after it
 abbrev pub merged : List Slot → (others : List Slot) → List Slot
 merged [] others = others
 merged (s ∷ slots) others = take_while (begins_before s) others
@@ -71,7 +71,7 @@ covered s = record { first = s.first; last = s.last; rows = s.rows - 1; is_cell 
 abbrev pub covered_behind : List Slot → List Slot
 covered_behind slots = map covered (filter goes_on slots)
 
--- Rows across: behind a row that is shown its cells go on, in places that are empty in the rows below.
+-- Rows across: after a row that is shown its cells go on, in places that are empty in the rows below.
 abbrev pub across : (above : List Slot) → List (List Slot) → List (List Slot)
 across above [] = []
 across above (slots ∷ rows) =

@@ -13,7 +13,7 @@ use crate::table::Table;
 use std::alloc::{AllocError, Global};
 use table_grid::{Cell, Grid, GridCell, GridGap, grid_of};
 
-// the cells of a row, none of which stands before a place, and the place behind them
+// the cells of a row, none of which stands before a place, and the place after them
 fn cells_of_row(
     alloc: Global,
     cells: &[Cell],
@@ -44,7 +44,7 @@ fn cells_of_row(
     Ok((slots, at))
 }
 
-// the gaps of a row, none of which stands before a place, and the place behind them
+// the gaps of a row, none of which stands before a place, and the place after them
 fn gaps_of_row(
     alloc: Global,
     gaps: &[GridGap],

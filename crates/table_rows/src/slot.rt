@@ -7,7 +7,7 @@ ghost use Rattle.table_rows.specs.Slots.{covered, goes_on, has_columns};
 pub struct Slot {
     /// Its first column, among the columns of the table.
     pub first: usize,
-    /// The column behind its last one. A cell whose `first` is its `last` has no column left, and is skipped.
+    /// The column after its last one. A cell whose `first` is its `last` has no column left, and is skipped.
     pub last: usize,
     /// How many rows it reaches, of those that are shown: its own counted.
     pub rows: usize,

@@ -141,7 +141,7 @@ end_reads_none groups.VoidSource t is_on s = refl
 end_reads_none groups.Xmp t is_on s = refl
 end_reads_none groups.Other t is_on s = refl
 
--- fostering ends behind what a token comes to
+-- fostering ends after what a token comes to
 abbrev unfostered : {H : Type 0} → Outcome H → Outcome H
 unfostered (finished answer s) = finished answer (act (foster false) s)
 unfostered (goes_on s) = goes_on (act (foster false) s)

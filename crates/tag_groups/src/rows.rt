@@ -1,5 +1,5 @@
 //! Names and their groups, computed: first and last names of long groups, names that one letter
-//! tells apart, and strangers.
+//! distinguishes, and strangers.
 ghost use Rattle.std.specs.Prelude.{◌≡◌, true, false, codes};
 ghost use Rattle.tag_groups.specs.Groups.{is_formatting, tag_group};
 ghost use Rattle.tag_groups.specs.declared.group.TagGroup.TheVariants as groups;

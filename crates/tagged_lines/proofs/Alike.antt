@@ -161,7 +161,7 @@ module _ {T S : Type 0} (eq : T → T → Bool) (seen : T → S) (same : (x y : 
         (tags_alike a.tag b.tag (eq a.tag b.tag) refl h.1)),
   )
 
-  -- an equality of elements that tells of texts and of names
+  -- an equality of elements that looks at texts and at names
   pub record TellsAlike (tells : TaggedLineElement T → TaggedLineElement T → Bool) : Type 0 where
     pub texts : (a b : TaggedString T) → tells (Str a) (Str b) ≡ (bytes_eq (string_bytes a.s) (string_bytes b.s) && eq
         a.tag b.tag)

@@ -100,7 +100,7 @@ pub either_joined : {T S E : Type 0} (seen : T → S) (old new : List (TaggedLin
 either_joined seen old new P Q (Ok _) ok err p q joined = ok joined p q
 either_joined seen old new P Q (Err _) ok err p q joined = subst (AreJoined seen) (sym err) joined
 
--- ---- other joined elements behind
+-- ---- other joined elements after
 
 meets : {T S : Type 0} (seen : T → S) (s : TaggedString T) (fs : List (TaggedLineElement T))
     → BeginsWithTag seen (seen s.tag) fs → MeetWithTag seen (Str s ∷ []) fs

@@ -25,7 +25,7 @@ characters [] = []
 characters (character c tag ∷ rest) = c ∷ characters rest
 characters (marker name ∷ rest) = characters rest
 
--- the items of an element, where seen tells what contracts see of its tag
+-- the items of an element, where seen is what contracts see of its tag
 abbrev pub element_items : {T S : Type 0} → (T → S) → TaggedLineElement T → List (Item S)
 element_items seen (Str string) = tagged (chars (string_bytes string.s)) (seen string.tag)
 element_items seen (FragmentStart name) = marker (chars (string_bytes name)) ∷ []

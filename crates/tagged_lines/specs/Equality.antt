@@ -1,4 +1,4 @@
--- What `==` tells of tagged strings and of the elements of a line.
+-- What `==` emits of tagged strings and of the elements of a line.
 use Rattle.std.specs.Prelude.{◌≡◌, chars, string_bytes}
 use Rattle.tagged_lines.specs.declared.tagged_string.TaggedString.{TaggedString}
 use Rattle.tagged_lines.specs.declared.tagged_string.TaggedLineElement.{TaggedLineElement}

@@ -43,7 +43,7 @@ abbrev pub add_part_number : {H A : Type 0} → Marking H A → Parts H A → Op
 add_part_number m p = option_map (with_current p)
     (numbered m (last_number p.current.options.shared_footnotes p.targets) p.current)
 
--- behind a link stands its number, where the targets of links stand behind the page
+-- after a link stands its number, where the targets of links stand after the page
 abbrev pub finish_part_link : {H A : Type 0} → Marking H A → Parts H A → Option (Parts H A)
 finish_part_link m p =
     option_and_then (add_part_number m) (option_map (with_current p) (finish_link m link_end p.current))

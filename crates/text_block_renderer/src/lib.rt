@@ -10,10 +10,10 @@
 //! - `current_mut`, `replace_current`: the current renderer is lent, and what is made of it stands in its place;
 //!   another stands there, and the one before is given: each tells whether what it lends or gives has failed
 //! - `start_link`, `end_link`: the current renderer's link begins, and the target is noted; it ends, and where
-//!   targets stand behind the page the number of its target's footnote follows in brackets (`last_number` of
-//!   link_targets, by the option `shared_footnotes`); `Failed` where the current renderer has failed, and behind an
+//!   targets stand after the page the number of its target's footnote follows in brackets (`last_number` of
+//!   link_targets, by the option `shared_footnotes`); `Failed` where the current renderer has failed, and after an
 //!   `Ok` it has not; what stands below stays
-//! - those that may be refused: behind a refusal each is `Failed`, and a renderer of a page has failed exactly
+//! - those that may be refused: after a refusal each is `Failed`, and a renderer of a page has failed exactly
 //!   where its last such call was refused
 //! - `parts_keep_the_width`: a law: where overflow is off, no line of the renderers passes the width of its
 //!   renderer: so it is with a new page, and a part that begins or ends, another current renderer, and links with

@@ -177,8 +177,8 @@ impl<D: TextDecorator + Drop> TextRenderer<D> {
         (current, links)
     }
 
-    /// A link to the target begins. Behind a refusal the error is `Failed`, and so it is where the current renderer was
-    /// refused a call; else it is `TooNarrow`, as the current renderer tells it, or `Memory`.
+    /// A link to the target begins. After a refusal the error is `Failed`, and so it is where the current renderer was
+    /// refused a call; else it is `TooNarrow`, as the current renderer says, or `Memory`.
     pub fn start_link(&mut self, target: &str) -> Result<(), BlockError>
         ensures refused { is_err result ≡ page_has_failed self.new }
         ensures failed { page_has_failed self.old ≡ true → result ≡ Err errors.Failed }
@@ -218,7 +218,7 @@ impl<D: TextDecorator + Drop> TextRenderer<D> {
         Ok(())
     }
 
-    /// A link ends; behind it stands its footnote's number in brackets, where the targets of links stand behind the
+    /// A link ends; after it stands its footnote's number in brackets, where the targets of links stand after the
     /// page. Refused as `start_link`.
     pub fn end_link(&mut self) -> Result<(), BlockError>
         ensures refused { is_err result ≡ page_has_failed self.new }
@@ -254,7 +254,7 @@ impl<D: TextDecorator + Drop> TextRenderer<D> {
         self.add_number()
     }
 
-    /// The number of the last link's footnote, where the targets of links stand behind the page.
+    /// The number of the last link's footnote, where the targets of links stand after the page.
     fn add_number(&mut self) -> Result<(), BlockError>
         ensures kinds { current_has_failed self.old ≡ false → IfErr result (λ e. (e ≡ errors.TooNarrow)
             ⊎ (e ≡ errors.Memory)) }

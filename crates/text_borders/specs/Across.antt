@@ -28,8 +28,8 @@ pub record Hanging (S : Type 0) : Type 0 where
 abbrev pub empty_cell : {S : Type 0} → ℕ → Cell S
 empty_cell width = record { width = width; rows = 1; lines = [] }
 
--- A hanging cell stands in place of the first cell that begins at its place or behind it; where none does, at the row's
--- end, behind an empty cell where a gap is left.
+-- A hanging cell stands in place of the first cell that begins at its place or after it; where none does, at the row's
+-- end, after an empty cell where a gap is left.
 abbrev pub seated_behind : {S : Type 0} → ℕ → List (Hanging S) → List (Cell S)
 seated_behind at [] = []
 seated_behind at (h ∷ hanging) =

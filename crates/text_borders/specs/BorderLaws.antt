@@ -5,7 +5,7 @@ use Rattle.tagged_lines.specs.Tagged.{line_columns}
 use Rattle.text_borders.specs.Segments.{Segment}
 use Rattle.text_borders.specs.Borders.{Hole, Border, horizontal}
 
--- the segment of a column; behind a border's end it goes on as ─
+-- the segment of a column; after a border's end it goes on as ─
 abbrev pub segment_at : ℕ → List Segment → Segment
 segment_at k [] = horizontal
 segment_at zero (s ∷ segments) = s
@@ -21,7 +21,7 @@ abbrev pub IsChangedWhereAsked : (Segment → Bool) → (Segment → Segment) �
 IsChangedWhereAsked asks f place other old new = (k : ℕ)
     → segment_at k new ≡ (if asks_at asks place other k then f (segment_at k old) else segment_at k old)
 
--- the texts stand one behind the other between two columns
+-- the texts stand one after the other between two columns
 abbrev pub AreInOrder : {S : Type 0} → ℕ → ℕ → List (Hole S) → Type 0
 AreInOrder at end [] = at ≤ end
 AreInOrder at end (h ∷ holes) = (at ≤ h.place) × AreInOrder (h.place + line_columns h.items) end holes

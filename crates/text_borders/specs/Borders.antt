@@ -97,15 +97,15 @@ punched_at place items b =
     let end = place + line_columns items in
     with_hole place items (chopped_behind end (chopped_before place (with_segments (stretched end b.segments) b)))
 
--- the column behind the last text, or behind another
+-- the column after the last text, or after another
 abbrev pub holes_end : {S : Type 0} → ℕ → List (Hole S) → ℕ
 holes_end at holes = fold (λ _ h. h.place + line_columns h.items) at holes
 
--- A text whose place another one takes stands behind that, so no column is shown twice.
+-- A text whose place another one takes stands after that, so no column is shown twice.
 abbrev pub punched : {S : Type 0} → ℕ → List (Item S) → Border S → Border S
 punched place items b = punched_at (max place (holes_end 0 b.holes)) items b
 
--- Spaces fill a border up to a width: they stand behind it as a text, which takes no arm off.
+-- Spaces fill a border up to a width: they stand after it as a text, which takes no arm off.
 abbrev pub filled_to : {S : Type 0} → ℕ → Border S → Border S
 filled_to width b =
     if nat_lt (length b.segments) width

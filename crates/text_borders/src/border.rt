@@ -196,7 +196,7 @@ impl<T: EqualCopy + Drop> BorderHoriz<T> {
     }
 
     /// Puts a text into the border, from a column on, to whose end it is stretched: the segments beside it lose the arm
-    /// that points to it. Where the text before ends behind that column, it stands behind that text. Texts are put in
+    /// that points to it. Where the text before ends after that column, it stands after that text. Texts are put in
     /// from left to right. The error is allocation failure alone.
     pub fn punch(&mut self, place: usize, line: TaggedLine<T>) -> Result<(), AllocError>
         ensures { OnOk result (border_of T.seen self.new
@@ -218,7 +218,7 @@ impl<T: EqualCopy + Drop> BorderHoriz<T> {
         Ok(())
     }
 
-    /// The column behind the last text.
+    /// The column after the last text.
     fn holes_end(&self) -> Result<usize, AllocError>
         ensures { IfOk result (λ n. n ≡ holes_end 0 (border_of T.seen self.now).holes) }
     {
@@ -228,7 +228,7 @@ impl<T: EqualCopy + Drop> BorderHoriz<T> {
         }
     }
 
-    /// Fills the border up to the width with spaces of its tag, where it is narrower. They stand behind it as a text,
+    /// Fills the border up to the width with spaces of its tag, where it is narrower. They stand after it as a text,
     /// and take no arm off. The error is allocation failure alone.
     pub fn fill_to(&mut self, width: usize) -> Result<(), AllocError>
         ensures { OnOk result (border_of T.seen self.new ≡ filled_to width (border_of T.seen self.old)) }
@@ -342,7 +342,7 @@ fn push_shown<T: EqualCopy + Drop>(
 impl<T: EqualCopy + Drop> Hole<T> {
     ghost use Rattle.text_borders.specs.Borders.{hole_of};
 
-    /// The column behind the text. No memory holds a border of more than a `usize` counts.
+    /// The column after the text. No memory holds a border of more than a `usize` counts.
     fn end(&self) -> Result<usize, AllocError>
         ensures { IfOk result (λ n. n ≡ self.now.place + line_columns (line_items T.seen self.now.line)) }
     {
@@ -367,7 +367,7 @@ fn front_of(segments: &[BorderSegHoriz], count: usize) -> &[BorderSegHoriz]
     segments.split_at(count.min(segments.len())).0
 }
 
-/// The segments behind the first so many.
+/// The segments after the first so many.
 fn behind_of(segments: &[BorderSegHoriz], count: usize) -> &[BorderSegHoriz]
     ensures { result.now ≡ drop count segments.now }
 {

@@ -35,12 +35,12 @@ pub fn merges_keep_the_width<T: EqualCopy>()
         → length (merged_above other place b).segments ≡ length b.segments }
 {}
 
-/// What is shown of a border has a column for each segment, where its texts stand one behind the other within it.
+/// What is shown of a border has a column for each segment, where its texts stand one after the other within it.
 pub fn shown_borders_have_their_width<T: EqualCopy>()
     ensures { (b : Border T.Seen) → IsSound b → line_columns (shown b) ≡ length b.segments }
 {}
 
-/// Texts that are put in stand one behind the other within the border, which is stretched to the last one's end. A text
+/// Texts that are put in stand one after the other within the border, which is stretched to the last one's end. A text
 /// stands at its place where those before it end before that.
 pub fn punched_borders_stay_sound<T: EqualCopy>()
     ensures place { (place : ℕ) (items : List (Item T.Seen)) (b : Border T.Seen) → AreInOrder 0 place b.holes
@@ -63,7 +63,7 @@ pub fn borders_of_rows_are_sound<T: EqualCopy>()
 {}
 
 /// A border that is filled up to a width has so many columns, or its own where it is wider, and its texts still stand
-/// one behind the other within it.
+/// one after the other within it.
 pub fn filled_borders_stay_sound<T: EqualCopy>()
     ensures width { (width : ℕ) (b : Border T.Seen)
         → length (filled_to width b).segments ≡ max (length b.segments) width }

@@ -12,13 +12,13 @@
 //! - `BorderHoriz::new`, `new_slashes`: so many segments of `─`, or of `/`
 //! - `stretch_to`, `join_above`, `join_below`, `merge_from_above`, `merge_from_below`, `punch`: exactly the border
 //!   that is defined (`stretched`, `joined_below`, `merged_below`, `punched` and their sisters): `─` up to a column
-//!   that lies behind the end, and the segments beside a text without the arm that points to it
+//!   that lies after the end, and the segments beside a text without the arm that points to it
 //! - `into_tagged_line`, `lines_above`: exactly the characters of the segments with the texts in their place
 //!   (`shown`); `│` where a line comes down to a segment, else a space
 //! - `width`, `has_holes`, `try_clone`: by the border; an equal one
 //! - `RenderLine::into_tagged_line`, `width`, `try_clone`: the text of the line, or what is shown of the border;
 //!   its columns; an equal line
-//! - `fill_to`, `RenderLine::into_text`: spaces behind the border up to a width, which take no arm off
+//! - `fill_to`, `RenderLine::into_text`: spaces after the border up to a width, which take no arm off
 //!   (`filled_to`); the line as text, a border under one tag and without its markers (`as_text`)
 //! - `RenderLine::into_widened`: the line as text of a width, as a cell of a row has it (`widened`): filled with
 //!   spaces, or a border that goes on as `─`, under one tag and without its markers
@@ -26,8 +26,8 @@
 //!   column the segment that it had, joined exactly where the other asks for it
 //! - `merges_keep_the_width`, `shown_borders_have_their_width`, `punched_borders_stay_sound`: laws: a border keeps
 //!   its width where what it takes in lies within it; what is shown has a column for each segment, where its texts
-//!   stand one behind the other within it; texts that are put in stand so, since one whose place another takes
-//!   stands behind that
+//!   stand one after the other within it; texts that are put in stand so, since one whose place another takes
+//!   stands after that
 //! - `borders_of_rows_are_sound`: a law: what is shown of the border below a row has a column for each segment,
 //!   whatever the cells hold, and so has the one above, if it had
 //! - `rows_heed_no_tags`: laws: a row of cells, a border or line as text, and a border filled to a width are under

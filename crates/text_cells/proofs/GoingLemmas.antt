@@ -43,7 +43,7 @@ left_further at c d h old new more taken left pushed =
     ∙ sym (ap (λ on. old ++ (if on then (record { place = at; cell = further 0 c }) ∷ [] else []))
     (goes_further c more))
 
--- ---- behind the lines of the row
+-- ---- after the lines of the row
 
 pub holes_after : {S : Type 0} (tag : S) (height at : ℕ) (cells : List (OpenCell S)) (b : Border S)
     → with_holes tag 0 at (map (after height) cells) b ≡ with_holes tag height at cells b

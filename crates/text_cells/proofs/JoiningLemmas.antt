@@ -39,7 +39,7 @@ taken_in f is at o x b given =
     ap (λ ks. with_segments (fold (change_to f) b.segments ks) b) (where_from is at x.segments)
     ∙ sym (ap (λ y. with_segments (fold (change_to f) b.segments (map (λ k. at + k) (asked is y))) b) given)
 
--- ---- the columns behind cells
+-- ---- the columns after cells
 
 pub more_ends : {S : Type 0} (at next end : ℕ) (c : OpenCell S) (cells : List (OpenCell S)) (old new : List ℕ)
     → next ≡ at + c.width + 1 → end ≡ at + c.width → new ≡ old ++ end ∷ []

@@ -80,7 +80,7 @@ changed_more view change first now i a b inside same so_far read made =
     ∙ sym (append_assoc front (change here ∷ []) rest)
     ∙ ap (λ f. f ++ rest) (sym (map_more change start i (view a) within))
 
--- ---- lines behind those that were taken
+-- ---- lines after those that were taken
 
 items_after : {S : Type 0} (sign : ℕ) (tag : S) (i : ℕ) (cells : List (OpenCell S))
     → row_items sign tag 0 (map (after i) cells) ≡ row_items sign tag i cells

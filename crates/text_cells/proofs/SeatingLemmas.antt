@@ -37,7 +37,7 @@ gap_before : {S : Type 0} (at place : ℕ) (c : Cell S) (more : List (Cell S)) (
 gap_before at place c more true = refl
 gap_before at place c more false = refl
 
--- a hanging cell behind the row
+-- a hanging cell after the row
 pub more_behind : {S : Type 0} (at next : ℕ) (h : Hanging S) (hanging : List (Hanging S)) (old mid new : List (Cell S))
     → next ≡ max at h.place + h.cell.width + 1 → mid ≡ old ++ gap at h.place → new ≡ mid ++ h.cell ∷ []
     → new ++ seated_behind next hanging ≡ old ++ seated_behind at (h ∷ hanging)

@@ -38,7 +38,7 @@ with_lines lines c = record c { lines = lines }
 abbrev pub after : {S : Type 0} → ℕ → SeenCell S → SeenCell S
 after i c = record c { lines = drop i c.lines }
 
--- the columns behind cells
+-- the columns after cells
 abbrev pub ends : {S : Type 0} → ℕ → List (SeenCell S) → List ℕ
 ends at [] = []
 ends at (c ∷ cells) = (at + c.width) ∷ ends (at + c.width + 1) cells
@@ -60,7 +60,7 @@ left_at at c = if goes_on c then (record { place = at; cell = further 0 c }) ∷
 abbrev pub next_cell : {S : Type 0} → SeenCell S → Cell S
 next_cell c = record { width = c.width; rows = c.rows - 1; lines = c.lines }
 
--- what stands behind a cell, so many of which follow it
+-- what stands after a cell, so many of which follow it
 abbrev pub sign_before : {S : Type 0} → ℕ → S → ℕ → List (Item S)
 sign_before sign tag count = if nat_lt 0 count then character sign tag ∷ [] else []
 

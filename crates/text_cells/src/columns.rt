@@ -32,7 +32,7 @@ pub(crate) fn columns_of<T: EqualCopy + Drop>(
     Ok(Columns { width, signs: ends })
 }
 
-/// The column behind each cell.
+/// The column after each cell.
 fn ends_of<T: EqualCopy + Drop>(
     alloc: Global,
     cells: &[OpenCell<T>],

@@ -140,7 +140,7 @@ impl<T: EqualCopy + Drop> OpenCell<T> {
         }
     }
 
-    /// A line that stood behind the others: text goes back to its place.
+    /// A line that stood after the others: text goes back to its place.
     fn close_line(&mut self, last: LaidLine<T>, tag: &T) -> Result<(), AllocError>
         ensures { OnOk result (open_cell_of T.seen self.new
             ≡ close_line (T.seen tag.now) (render_line_of T.seen last.line) (open_cell_of T.seen self.old).lines

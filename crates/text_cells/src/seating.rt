@@ -11,8 +11,8 @@ use std::alloc::{AllocError, Global};
 use std::collections::VecDeque;
 use tagged_lines::EqualCopy;
 
-/// The cells of a row: each hanging cell stands in place of the first cell that begins at its place or behind it, or
-/// behind the row. The error is allocation failure alone.
+/// The cells of a row: each hanging cell stands in place of the first cell that begins at its place or after it, or
+/// after the row. The error is allocation failure alone.
 pub(crate) fn seated<T: EqualCopy + Drop>(
     alloc: Global,
     cells: Vec<LineSet<T>>,
@@ -65,7 +65,7 @@ fn hangs_at<T: EqualCopy + Drop>(at: usize, waiting: &VecDeque<HangingCell<T>>) 
     }
 }
 
-/// Adds the hanging cells that stand behind a row which ends before a column.
+/// Adds the hanging cells that stand after a row which ends before a column.
 fn push_behind<T: EqualCopy + Drop>(
     alloc: Global,
     row: &mut Vec<LineSet<T>>,

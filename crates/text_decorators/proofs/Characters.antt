@@ -60,7 +60,7 @@ numbered n bs target small h = ap chars h ∙ opening (decimal n ++ (0x5D ∷ 0x
     ∙ ap (λ (cs : List ℕ). decimal n ++ cs) (closing target)
     ∙ sym (append_assoc (decimal n) (0x5D ∷ 0x3A ∷ 0x20 ∷ []) (chars target)))
 
--- the same where it is written behind a text, which is empty
+-- the same where it is written after a text, which is empty
 pub numbered_behind : (n : ℕ) (old bs target : List ℕ) → n < 2 ^ 64 → old ≡ []
     → bs ≡ old ++ (codes "[" ++ (decimal n ++ (codes "]: " ++ target))) → chars bs ≡ footnote_text n (chars target)
 numbered_behind n old bs target small none h =

@@ -37,7 +37,7 @@ abbrev pub trivial_text : Mark → List ℕ
 trivial_text (image source title) = title
 trivial_text m = superscript_text m
 
--- rich text: the annotations tell what plain text has marks for, but for prefixes
+-- rich text: the annotations say what plain text has marks for, but for prefixes
 abbrev pub rich_text : Mark → List ℕ
 rich_text (image source title) = title
 rich_text m = prefix_text m

@@ -16,7 +16,7 @@ pub fn superscript_start<A: Default>(alloc: Global) -> Result<(String, A), Alloc
     Ok((text, A::default()))
 }
 
-/// The text behind a superscript.
+/// The text after a superscript.
 pub fn superscript_end(alloc: Global) -> Result<String, AllocError>
     ensures { IfOk result (λ s. chars (string_bytes s) ≡ codes "}") }
 {

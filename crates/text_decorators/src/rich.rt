@@ -11,7 +11,7 @@ use std::alloc::{AllocError, Global};
 use tagged_lines::TaggedLine;
 use text_marks::{Colour, SteadyPrefixes, TextDecorator};
 
-/// The decorator of rich text: annotations tell what plain text has marks for, but for prefixes.
+/// The decorator of rich text: annotations say what plain text has marks for, but for prefixes.
 #[derive(Clone, Copy)]
 pub struct RichDecorator;
 

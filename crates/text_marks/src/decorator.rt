@@ -36,7 +36,7 @@ pub trait TextDecorator {
             ≡ view.after (view.held self.old) (link_start (chars url.now))) }
         ensures stays { OnErr result (view.held self.new ≡ view.held self.old) };
 
-    /// The text behind a link.
+    /// The text after a link.
     fn decorate_link_end(&mut self, alloc: Global) -> Result<String, AllocError>
         ensures text { IfOk result (λ s. chars (string_bytes s) ≡ view.text (view.held self.old) link_end) }
         ensures after { OnOk result (view.held self.new ≡ view.after (view.held self.old) link_end) }
@@ -47,7 +47,7 @@ pub trait TextDecorator {
         ensures text { IfOk result (λ r. chars (string_bytes r.0) ≡ view.text (view.held self.now) emphasis_start) }
         ensures gives { IfOk result (λ r. view.gives (view.held self.now) emphasis_start r.1) };
 
-    /// The text behind emphasis.
+    /// The text after emphasis.
     fn decorate_em_end(&self, alloc: Global) -> Result<String, AllocError>
         ensures { IfOk result (λ s. chars (string_bytes s) ≡ view.text (view.held self.now) emphasis_end) };
 
@@ -56,7 +56,7 @@ pub trait TextDecorator {
         ensures text { IfOk result (λ r. chars (string_bytes r.0) ≡ view.text (view.held self.now) strong_start) }
         ensures gives { IfOk result (λ r. view.gives (view.held self.now) strong_start r.1) };
 
-    /// The text behind strong text.
+    /// The text after strong text.
     fn decorate_strong_end(&self, alloc: Global) -> Result<String, AllocError>
         ensures { IfOk result (λ s. chars (string_bytes s) ≡ view.text (view.held self.now) strong_end) };
 
@@ -68,7 +68,7 @@ pub trait TextDecorator {
         ensures text { IfOk result (λ r. chars (string_bytes r.0) ≡ view.text (view.held self.now) strikeout_start) }
         ensures gives { IfOk result (λ r. view.gives (view.held self.now) strikeout_start r.1) };
 
-    /// The text behind struck text.
+    /// The text after struck text.
     fn decorate_strikeout_end(&self, alloc: Global) -> Result<String, AllocError>
         ensures { IfOk result (λ s. chars (string_bytes s) ≡ view.text (view.held self.now) strikeout_end) };
 
@@ -77,7 +77,7 @@ pub trait TextDecorator {
         ensures text { IfOk result (λ r. chars (string_bytes r.0) ≡ view.text (view.held self.now) code_start) }
         ensures gives { IfOk result (λ r. view.gives (view.held self.now) code_start r.1) };
 
-    /// The text behind code.
+    /// The text after code.
     fn decorate_code_end(&self, alloc: Global) -> Result<String, AllocError>
         ensures { IfOk result (λ s. chars (string_bytes s) ≡ view.text (view.held self.now) code_end) };
 
@@ -89,7 +89,7 @@ pub trait TextDecorator {
         ensures text { IfOk result (λ r. chars (string_bytes r.0) ≡ view.text (view.held self.now) superscript_start) }
         ensures gives { IfOk result (λ r. view.gives (view.held self.now) superscript_start r.1) };
 
-    /// The text behind a superscript.
+    /// The text after a superscript.
     fn decorate_superscript_end(&self, alloc: Global) -> Result<String, AllocError>
         ensures { IfOk result (λ s. chars (string_bytes s) ≡ view.text (view.held self.now) superscript_end) };
 

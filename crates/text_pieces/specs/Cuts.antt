@@ -6,7 +6,7 @@ abbrev pub Lacks : ℕ → List ℕ → Type 0
 Lacks mark [] = Unit {0}
 Lacks mark (c ∷ cs) = (c ≢ mark) × Lacks mark cs
 
--- what stands in front of the first mark of a text, and behind it
+-- what stands in front of the first mark of a text, and after it
 pub record IsCutAt (mark : ℕ) (text front back : List ℕ) : Type 0 where
   pub whole : text ≡ front ++ mark ∷ back
   pub lacks : Lacks mark front

@@ -35,7 +35,7 @@ pub fn is_break_point(c: char) -> bool
     c == ZERO_WIDTH_SPACE || is_white_space(c)
 }
 
-/// The first character of a text, and what stands behind it.
+/// The first character of a text, and what stands after it.
 pub fn first_char(text: &str) -> Option<(char, &str)>
     ensures first { IfSome result (λ parts. text.now ≡ encode_utf8 parts.0 ++ parts.1.now) }
     ensures texts { IfSome result (λ parts. IsScalar parts.0 × IsUtf8 parts.1.now) }
@@ -59,7 +59,7 @@ pub fn last_char(text: &str) -> Option<(&str, char)>
     Some((chars.as_str(), c))
 }
 
-/// What stands in front of the first such ASCII character, and behind it.
+/// What stands in front of the first such ASCII character, and after it.
 pub fn cut_at(text: &str, mark: char) -> Option<(&str, &str)>
     requires { mark < 128 }
     ensures parts { IfSome result (λ parts. IsCutAt mark (chars text.now) (chars parts.0.now) (chars parts.1.now)) }

@@ -1,6 +1,6 @@
 use tagged_lines::TaggedLine;
 
-/// The lines of a text, and the names of the markers that wait for what comes behind it.
+/// The lines of a text, and the names of the markers that wait for what comes after it.
 #[derive(Drop)]
 pub struct LaidText<T> {
     /// The lines, in order.

@@ -6,7 +6,7 @@
 //! - `is_white_space`, `is_break_point`, `width_of`, `first_char`, `last_char`, `cut_at`, `split_before`,
 //!   `has_text`, `names_before`: what their names say of characters, texts and lines; the crates above use them
 //! - `TextPiece::new`, `wrap_tag_or_main`, `try_clone`, `Piece::try_clone`, `push_text`: a piece of a text under
-//!   two tags, the second held only where it is another; that tag; an equal piece; a text behind pieces, which
+//!   two tags, the second held only where it is another; that tag; an equal piece; a text after pieces, which
 //!   joins the last where its tags are equal: each by the characters with their tags that the pieces stand for
 //!   (`sources_of`)
 //! - `Display` of `BlockError` and `TooNarrow`, `From` of allocation failure: the texts, exactly; `Memory`

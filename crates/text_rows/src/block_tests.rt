@@ -8,7 +8,7 @@ use text_decorators::{Columns, UnicodeColumns};
 use wrapped_texts::wrapped_lines;
 
 /// Widths, texts, and their lines, worked out by hand: word by word, U+200B and U+00A0 by CSS Text, widths by the
-/// Unicode Character Database. A piece without columns joins the word behind it.
+/// Unicode Character Database. A piece without columns joins the word after it.
 type Row = (usize, &'static str, &'static [&'static str]);
 
 static ROWS: [Row; 14] = [
@@ -147,7 +147,7 @@ fn a_thousand_texts_in_every_cut(rt: HostRuntime) {
     passes(&rt, are_all_alike(rt.alloc()), "a text");
 }
 
-// Markers behind the last text are taken, and stand in no line then.
+// Markers after the last text are taken, and stand in no line then.
 fn are_fragments_taken(alloc: Global) -> Result<bool, BlockError> {
     let mut block = WrappedBlock::new(alloc, 9, false, false, ());
     block.add_text("ab ", WhiteSpace::Normal, &(), &())?;

@@ -11,7 +11,7 @@ pub(crate) const ORANGE: Colour = Colour {
     b: 0,
 };
 
-/// Adds the marks of a part with an `x` between them and a space behind it, and its annotation.
+/// Adds the marks of a part with an `x` between them and a space after it, and its annotation.
 fn add<A: Drop>(
     marks: &mut String,
     notes: &mut Vec<A>,
@@ -90,7 +90,7 @@ fn prefixes_of<D: TextDecorator>(alloc: Global, decorator: &D) -> Result<String,
     Ok(prefixes)
 }
 
-/// The lines behind a page with two links, each ended by `|`.
+/// The lines after a page with two links, each ended by `|`.
 fn lines_behind<D: TextDecorator>(alloc: Global, decorator: &mut D) -> Result<String, AllocError> {
     let mut urls = Vec::new(alloc);
     urls.push(String::from_str(alloc, "u")?)?;

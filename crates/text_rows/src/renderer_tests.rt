@@ -97,7 +97,7 @@ fn targets(alloc: Global) -> Result<Vec<String>, AllocError> {
     Ok(vec![in alloc; String::from_str(alloc, "a")?]?)
 }
 
-// lines behind a page are cut by characters
+// lines after a page are cut by characters
 fn are_footnotes_cut(alloc: Global) -> Result<bool, BlockError> {
     let mut block = block(alloc, 1, false);
     let lines = block.finalise(targets(alloc)?)?;

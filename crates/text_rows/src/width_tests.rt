@@ -2,7 +2,7 @@ use crate::checks::passes;
 use column_widths::column_widths;
 use std::alloc::{AllocError, Global};
 
-/// Columns share what is left behind their least widths; where that is less than they ask for, the one that asks for
+/// Columns share what is left after their least widths; where that is less than they ask for, the one that asks for
 /// more, or the leftmost of those that ask for as much, gives up the first column.
 #[test]
 fn columns_share_a_width(rt: HostRuntime) {

@@ -89,7 +89,7 @@ and_then_some : {A : Type 0} (o : Option A) → o ≡ option_and_then (λ a. Som
 and_then_some None = refl
 and_then_some (Some a) = refl
 
--- behind what was taken, a text in the same mode is taken
+-- after what was taken, a text in the same mode is taken
 goes_on : {S : Type 0} (mode : WhiteSpace) (main further : S) (back : List ℕ) (b : Block S) → b.mode ≡ mode
     → took_all main further back b ≡ added mode back main further b
 goes_on mode main further [] b same = refl

@@ -1,4 +1,4 @@
--- What a block holds behind each call.
+-- What a block holds after each call.
 use Rattle.std.proofs.Common.{◌≡◌, ◌≢◌, ℕ, Bool, true, false, ◌&&◌, ◌==◌, List, [], ◌∷◌, ◌++◌, None, Some, map, length}
 use Rattle.std.proofs.Common.{sym, ap, ◌∙◌, refl, append_assoc, append-nil, arith, chars, String, Global}
 use Rattle.std.specs.Prelude.{Option, string_bytes, if◌then◌else◌}

@@ -172,7 +172,7 @@ pub marked_retagged : {A B : Type 0} (f : A → B) (name : List ℕ) (b : Block 
     ≡ reblock f (marked_by name b)
 marked_retagged f name b = source_retagged f b (fragment name ∷ [])
 
--- ---- what is told of it
+-- ---- what is said of it
 
 pub taken_retagged : {A B : Type 0} (f : A → B) (b : Block A) → fragments_taken (reblock f b)
     ≡ option_map (reblocked f) (fragments_taken b)

@@ -39,7 +39,7 @@ views_more view change first now i a b inside same so_far read made =
     (ap view read ∙ sym (get_or-map view now i a (view a) (omega (arith, inside, same))))
     (made ∙ ap (λ x. change (view x)) (sym read)) (map-set view now i b)
 
--- the same of all, as a `Vec` has them behind a loop
+-- the same of all, as a `Vec` has them after a loop
 pub all_views : {A X : Type 0} (view : A → X) (change : X → X) (first start now : List A) (i n : ℕ) → start ≡ first
     → length start ≤ i → length now ≡ n → map view now ≡ map change (take i (map view start)) ++ drop i (map view start)
     → map view (take n (now ++ drop (length now) first)) ≡ map change (map view first)

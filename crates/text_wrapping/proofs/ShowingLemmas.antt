@@ -10,7 +10,7 @@ either : (x a b r : Bool) → r ≡ (a || b) → (x || r) ≡ ((x || a) || b)
 either true a b r e = refl
 either false a b r e = e
 
--- what is behind a text shows too
+-- what is after a text shows too
 pub shows_behind : {S : Type 0} (front back : List (Source S))
     → has_visible (front ++ back) ≡ (has_visible front || has_visible back)
 shows_behind [] back = refl

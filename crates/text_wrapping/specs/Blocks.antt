@@ -53,7 +53,7 @@ lines_behind b lines = record b {
 abbrev pub is_too_narrow : {S : Type 0} → Block S → Bool
 is_too_narrow b = not b.overflow && is_wide_in b.mode b.width b.source
 
--- the text so far ends; markers behind its last word wait for what comes
+-- the text so far ends; markers after its last word wait for what comes
 abbrev pub ended : {S : Type 0} → Block S → Option (Block S)
 ended b = if is_too_narrow b then None else Some (lines_behind b (lines_in b.mode b.width b.source))
 
@@ -125,7 +125,7 @@ lines_of b = b.lines
 abbrev pub without_source : {S : Type 0} → Block S → Block S
 without_source b = record b { source = [] }
 
--- the text so far ends, and the markers behind its last word are taken off
+-- the text so far ends, and the markers after its last word are taken off
 abbrev pub fragments_taken : {S : Type 0} → Block S → Option (List (List ℕ) × Block S)
 fragments_taken b = option_map (λ e. (names_of e.source, without_source e)) (ended b)
 

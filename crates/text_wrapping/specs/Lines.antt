@@ -12,7 +12,7 @@ abbrev pub lines_in : {S : Type 0} → WhiteSpace → ℕ → List (Source S) �
 lines_in mode width source =
     if is_preserved mode then preserved_lines width (is_wrapped mode) source else normal_lines width source
 
--- the names of the markers behind its last word, which wait for what comes behind it
+-- the names of the markers after its last word, which wait for what comes after it
 abbrev pub waiting_in : {S : Type 0} → WhiteSpace → ℕ → List (Source S) → List (List ℕ)
 waiting_in mode width source =
     if is_preserved mode then preserved_waiting width (is_wrapped mode) source else normal_waiting width source

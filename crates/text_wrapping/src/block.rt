@@ -59,11 +59,11 @@ impl<T: EqualCopy + Drop> WrappedBlock<T> {
         })
     }
 
-    /// Adds text behind what was added before. In normal mode its words are wrapped, each character tagged `main_tag`.
+    /// Adds text after what was added before. In normal mode its words are wrapped, each character tagged `main_tag`.
     /// Where white space is preserved, each LF ends a line; in mode `Pre` the characters from where a line was wrapped
     /// are tagged `wrap_tag`. A text in another mode than the text before it ends that one; an empty text changes
-    /// nothing. After a refusal every call is refused as `Failed`. That a character is wider than the lines is told as
-    /// `TooNarrow`, by the call that ends its text or line.
+    /// nothing. After a refusal every call is refused as `Failed`. That a character is wider than the lines is emitted
+    /// as `TooNarrow`, by the call that ends its text or line.
     pub fn add_text(
         &mut self,
         text: &str,
@@ -89,7 +89,7 @@ impl<T: EqualCopy + Drop> WrappedBlock<T> {
         result
     }
 
-    /// Adds a marker: the start of the fragment of that name. It stays behind a word's character, or waits for the next
+    /// Adds a marker: the start of the fragment of that name. It stays after a word's character, or waits for the next
     /// word; one that finds none is given to no line. After a refusal every call is refused as `Failed`.
     pub fn record_frag_start(&mut self, name: &str) -> Result<(), BlockError>
         ensures refused { is_err result ≡ has_failed self.new }
@@ -107,7 +107,7 @@ impl<T: EqualCopy + Drop> WrappedBlock<T> {
         result
     }
 
-    /// Ends the text so far, and gives the names of the markers behind its last word, which found no line. After a
+    /// Ends the text so far, and gives the names of the markers after its last word, which found no line. After a
     /// refusal every call is refused as `Failed`.
     pub fn take_trailing_fragments(&mut self) -> Result<Vec<String>, BlockError>
         ensures refused { is_err result ≡ has_failed self.new }

@@ -20,7 +20,7 @@ use tagged_lines::EqualCopy;
 use text_pieces::WhiteSpace;
 use wrapping_laws::{normal_lines_are_fullest, normal_lines_keep_the_width, wide_text_never_fits};
 
-/// A block of normal text goes on behind what it holds; an empty block is one without text.
+/// A block of normal text goes on after what it holds; an empty block is one without text.
 pub fn normal_text_is_kept<T: EqualCopy>()
     ensures empty { (width : ℕ) (overflow : Bool)
         → empty_block {S = T.Seen} width overflow None ≡ normal_block width overflow [] }

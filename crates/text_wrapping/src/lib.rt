@@ -9,14 +9,14 @@
 //! - `TextBlock`: a block that has not been refused anything, with the calls below; what a refusal leaves of it is
 //!   not stated
 //! - `WrappedBlock::new`, `add_text`, `record_frag_start`: an empty block, which is a `TextBlock` and whether it
-//!   has failed; the text behind the text before it, each character with its tags, each LF of preserved text ending
+//!   has failed; the text after the text before it, each character with its tags, each LF of preserved text ending
 //!   a line, a text in another mode ending the one before, and an empty text changing nothing (`added`); a marker
-//!   behind it
+//!   after it
 //! - `TextBlock::add_more`: text of one tag, added just as `add_text` adds it under that tag twice, where it is
 //!   empty, or of the mode of the text so far and not preserved; whether it was, and where not, the block is as it
 //!   was; refused only if allocation fails. That it does add where it may no clause says: one that never does would
 //!   meet them
-//! - `take_trailing_fragments`: the text so far ends, and the names of the markers behind its last word are given
+//! - `take_trailing_fragments`: the text so far ends, and the names of the markers after its last word are given
 //!   (`fragments_taken`)
 //! - `into_lines`: exactly the lines of the text (`ended_lines`), filled with spaces where asked for
 //! - `break_text`, `has_columns`: the text so far ends, and whether its last line has columns is answered

@@ -374,7 +374,7 @@ impl<T: EqualCopy + Drop> TextBlock<T> {
         Ok(())
     }
 
-    /// Ends the text so far, and gives the names of the markers behind its last word, which found no line. Refused as
+    /// Ends the text so far, and gives the names of the markers after its last word, which found no line. Refused as
     /// `TooNarrow` or `Memory`.
     pub fn take_trailing_fragments(&mut self) -> Result<Vec<String>, BlockError>
         ensures kinds { IfErr result (λ e. (e ≡ BlockError.TooNarrow) ⊎ (e ≡ BlockError.Memory)) }
@@ -444,7 +444,7 @@ impl<T: EqualCopy + Drop> TextBlock<T> {
         lay_owned(alloc, self.width, self.allow_overflow, pieces)
     }
 
-    /// The lines of the text that has not ended, and the markers that wait for what comes behind it.
+    /// The lines of the text that has not ended, and the markers that wait for what comes after it.
     fn lay(&self) -> Result<LaidText<T>, BlockError>
         ensures kinds { IfErr result (λ e. (e ≡ BlockError.TooNarrow) ⊎ (e ≡ BlockError.Memory)) }
         ensures lines { IfOk result (λ laid. map (line_items T.seen) laid.lines.items

@@ -1,4 +1,4 @@
--- What a sink that writes lines is told, and which of it has lines.
+-- What a sink that writes lines is emitted, and which of it has lines.
 use Rattle.std.specs.Prelude.{ℕ, List, [], ◌∷◌, flat_map}
 use Rattle.html_lexemes.specs.Tokens.{message_text}
 use Rattle.html_lexemes.specs.declared.token.Token.{Token}
@@ -20,7 +20,7 @@ token_parts Errors token = []
 token_parts Tokens token = parts_of token
 token_parts Both token = parts_of token
 
--- the parts of a token that is told at a line of the page
+-- the parts of a token that is emitted at a line of the page
 abbrev pub parts_heard : Told → Token × ℕ → List Part
 parts_heard told (token, number) = by token where
   by : Token → List Part
@@ -31,6 +31,6 @@ parts_heard told (token, number) = by token where
 abbrev pub lines_heard : Told → List (Token × ℕ) → List ℕ
 lines_heard told heard = lines_of_parts (flat_map (parts_heard told) heard)
 
--- the lines of what a sink was told, and of what it is told then
+-- the lines of what a sink was emitted, and of what it is given then
 abbrev pub listed_with : Listed → List (Token × ℕ) → List ℕ
 listed_with sink heard = lines_with sink.lines (flat_map (parts_heard sink.told) heard)

@@ -1,4 +1,4 @@
--- What a tokenizer tells, as lines. A line is a word and its fields, each behind a tab and with escapes:
+-- What a tokenizer emits, as lines. A line is a word and its fields, each after a tab and with escapes:
 --   text TEXT                                  of all the characters that follow each other
 --   null                                       of a NUL in text
 --   comment TEXT
@@ -66,11 +66,11 @@ doctype_line d = line (codes "doctype")
     (field_if_given d.name
     ++ (field_if_given d.public_id ++ (field_if_given d.system_id ++ flag d.force_quirks (codes "quirks"))))
 
--- of an error, told at a line of the page
+-- of an error, emitted at a line of the page
 abbrev pub error_line : List ℕ → ℕ → List ℕ
 error_line message number = line (codes "error") ((9 ∷ decimal number) ++ field message)
 
--- What is told gives parts: characters, which go on in the next part where that has characters too, or whole lines.
+-- What is emitted gives parts: characters, which go on in the next part where that has characters too, or whole lines.
 pub data Part : Type 0 where
   says : List ℕ → Part
   shows : List ℕ → Part
@@ -97,6 +97,6 @@ lines_of_parts parts = lines_from [] parts
 abbrev pub lines_of : List Token → List ℕ
 lines_of tokens = lines_of_parts (flat_map parts_of tokens)
 
--- the lines of what was told, and of parts that follow it
+-- the lines of what was emitted, and of parts that follow it
 abbrev pub lines_with : TokenLines → List Part → List ℕ
 lines_with told parts = chars (string_bytes told.lines) ++ lines_from (chars (string_bytes told.text)) parts

@@ -1,4 +1,4 @@
-//! What a tokenizer tells, as lines: what programs and tests compare.
+//! What a tokenizer emits, as lines: what programs and tests compare.
 #![tactic(auto)]
 
 mod fields;

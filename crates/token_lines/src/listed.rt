@@ -21,7 +21,7 @@ pub enum Told {
     Both,
 }
 
-/// A sink that writes lines of what it is told.
+/// A sink that writes lines of what it is given.
 #[derive(Drop)]
 pub struct Listed {
     /// Whether the adjusted current node is foreign.

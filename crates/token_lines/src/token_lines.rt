@@ -64,8 +64,8 @@ impl TokenLines {
         }
     }
 
-    /// Adds the line of an error, with the line of the page that it was told at. The error is allocation failure; then
-    /// a beginning of it was added.
+    /// Adds the line of an error, with the line of the page that it was emitted at. The error is allocation failure;
+    /// then a beginning of it was added.
     pub fn add_error(&mut self, message: &str, line: u64) -> Result<(), AllocError>
         ensures { OnOk result ((rest : List Part) → lines_with self.new rest
             ≡ lines_with self.old (shows (error_line (chars message.now) line) ∷ rest)) }

@@ -1,4 +1,4 @@
--- What a sink of tests asks for: text of a kind behind the start tags of three names and the end tags of two, and a
+-- What a sink of tests asks for: text of a kind after the start tags of three names and the end tags of two, and a
 -- pause at two tags.
 use Rattle.std.specs.Prelude.{◌≡◌, ℕ, List, if◌then◌else◌, refl}
 use Rattle.std.specs.Str.{bytes_eq}

@@ -83,7 +83,7 @@ const ESCAPED: State = State::RawData(RawKind::ScriptDataEscaped(ScriptEscapeKin
 
 const DASH: State = State::ScriptDataEscapedDash(ScriptEscapeKind::DoubleEscaped);
 
-/// Signs, one behind the other, and their lines.
+/// Signs, one after the other, and their lines.
 static SIGNS: [(Sign, u64); 17] = [
     (Sign::TagOpen(Some('1')), 1),
     (Sign::TagOpen(Some('\n')), 1),
@@ -154,7 +154,7 @@ fn are_errors(found: &[FoundError], wanted: &[(u64, &str)]) -> bool {
     found.len() == wanted.len()
 }
 
-// a name that the table lacks is watched up to the lexeme behind it
+// a name that the table lacks is watched up to the lexeme after it
 fn is_watched(alloc: Global) -> Result<bool, TableError> {
     let table = ReferenceTable::basic(alloc)?;
     let mut errors = ParseErrors::new(alloc, true);

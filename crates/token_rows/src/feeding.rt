@@ -14,7 +14,7 @@ use html_lexemes::{BufferQueue, ParseFault, ReferenceTable};
 use html_tokenizer::{Tokenizer, TokenizerResult, read_pieces};
 use std::alloc::Global;
 
-/// The sink behind the end of a page that was fed in pieces. Pauses that it asks for are passed over.
+/// The sink after the end of a page that was fed in pieces. Pauses that it asks for are passed over.
 pub(crate) fn fed<S: TokenSink + Drop>(
     alloc: Global,
     sink: S,
@@ -50,7 +50,7 @@ pub(crate) fn first_answer<S: TokenSink + Drop>(
     Ok((result, rest, is_text, is_idle))
 }
 
-/// The sink behind a page that is read as plain text from behind a front on, where that may be asked for.
+/// The sink after a page that is read as plain text from after a front on, where that may be asked for.
 pub(crate) fn fed_plainly<S: TokenSink + Drop>(
     alloc: Global,
     sink: S,
@@ -75,7 +75,7 @@ pub(crate) fn fed_plainly<S: TokenSink + Drop>(
     Ok(sink)
 }
 
-/// What an end answers behind an end.
+/// What an end answers after an end.
 pub(crate) fn second_end<S: TokenSink>(tokenizer: &mut Tokenizer<S>) -> Result<(), ParseFault>
     requires { IsFit S.state S.ready S.welcomes tokenizer.old }
     ensures { result ≡ Err Failed }

@@ -14,7 +14,7 @@ fn hash_of<T: Hash>(value: &T) -> u64 {
     hasher.finish()
 }
 
-/// In the order of their code points. A character of two units in UTF-16 stands behind U+FFFD.
+/// In the order of their code points. A character of two units in UTF-16 stands after U+FFFD.
 static TEXTS: [&str; 10] = [
     "",
     "a",
@@ -92,14 +92,14 @@ fn other_namespace(alloc: Global) -> Result<Namespace, AllocError> {
     Ok(Namespace::Other(Text::from_str(alloc, "urn:x")?))
 }
 
-// whether a namespace is behind another, and equals its copy
+// whether a namespace is after another, and equals its copy
 fn is_namespace_behind(alloc: Global) -> Result<bool, AllocError> {
     let other = other_namespace(alloc)?;
     let copy = other.try_clone()?;
     Ok(copy == other && Namespace::Svg < other)
 }
 
-// whether a name is behind another, and equals its copy
+// whether a name is after another, and equals its copy
 fn is_name_behind(name: &QualName, first: &QualName) -> Result<bool, AllocError> {
     let copy = name.try_clone()?;
     Ok(copy == *name && first < name)

@@ -236,7 +236,7 @@ fn a_refusal_lasts(rt: HostRuntime) {
     passes(&rt, are_all_failed(rt.alloc()), "a sink that refuses");
 }
 
-/// The text that is behind the start tag of `pre` loses its first line feed, but not behind an error, as in html5ever:
+/// The text that is after the start tag of `pre` loses its first line feed, but not after an error, as in html5ever:
 /// the standard knows no error between two tokens.
 static LINE_FEEDS: [(&str, &str); 6] = [
     ("<pre>\n\na", "\na"),

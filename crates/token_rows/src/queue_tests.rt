@@ -135,7 +135,7 @@ static STEPS: [&[Step]; 23] = [
         Step::GivesRun(SPECIAL, "ab\u{1F600}"),
         Step::GivesRun(SPECIAL, ""),
     ],
-    // each text that comes in stands behind what is left as it is, however much was taken before it
+    // each text that comes in stands after what is left as it is, however much was taken before it
     &[
         Step::Add("abcdef"),
         Step::Add("é"),

@@ -1,4 +1,4 @@
--- A text behind tokens, as items.
+-- A text after tokens, as items.
 use Rattle.std.proofs.Common.{◌≡◌, ℕ, ◌<◌, List, [], ◌∷◌, ◌++◌, length, map, refl, sym, ap, ◌∙◌}
 use Rattle.std.proofs.Common.{append_assoc, arith}
 use Rattle.std.proofs.lemmas.List.{map-append}
@@ -20,7 +20,7 @@ at_last (item ∷ []) last cs = not_last item last [] cs
 at_last (item ∷ next ∷ items) last cs =
     not_last item next (items ++ last ∷ []) cs ∙ ap (λ l. item ∷ l) (at_last (next ∷ items) last cs)
 
--- a text behind tokens of which the last is a text
+-- a text after tokens of which the last is a text
 pub behind_text : (whole front : List Token) (ds cs joined : List ℕ)
     → whole ≡ front ++ CharacterTokens ds ∷ [] → joined ≡ ds ++ cs
     → map item_of front ++ characters joined ∷ [] ≡ with_text (map item_of whole) cs
@@ -40,7 +40,7 @@ after NullCharacterToken cs h = refl
 after EOFToken cs h = refl
 after (ParseError message) cs h = refl
 
--- a text behind tokens of which the last is another
+-- a text after tokens of which the last is another
 pub behind_other : (whole new front : List Token) (last : Token) (cs : List ℕ)
     → whole ≡ front ++ last ∷ [] → new ≡ front ++ last ∷ [] → ((ds : List ℕ) → ¬ (last ≡ CharacterTokens ds))
     → map item_of new ++ characters cs ∷ [] ≡ with_text (map item_of whole) cs

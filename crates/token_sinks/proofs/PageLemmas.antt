@@ -34,7 +34,7 @@ pub shown-other : (b : Bool) (c : ℕ) (cs : List ℕ) → ¬ (c ≡ 10) → c �
 shown-other true c cs h = sym (ap (λ (x : Bool). if x then cs else c ∷ cs) (ne_eqb c 10 h))
 shown-other false c cs h = refl
 
--- a text is behind the page's text, by its bytes
+-- a text is after the page's text, by its bytes
 pub said_on : {T E : Type 0} (r : Result T E) (page : Page) (elements : List (List ℕ)) (skips : Bool)
     (c : ℕ) (cs text had shown new : List ℕ)
     → page_of elements skips (chars had) ≡ page → text ≡ c ∷ cs → IsUtf8 had

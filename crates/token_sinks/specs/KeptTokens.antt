@@ -4,7 +4,7 @@ use Rattle.html_lexemes.specs.declared.token.TokenSinkResult.TheVariants.{Contin
 use Rattle.html_grammar.specs.Items.{Item, characters, error}
 use Rattle.html_grammar.specs.Meaning.{Meaning}
 
--- a text behind what was kept
+-- a text after what was kept
 abbrev pub with_text : List Item → List ℕ → List Item
 with_text [] cs = characters cs ∷ []
 with_text (characters ds ∷ []) cs = characters (ds ++ cs) ∷ []
@@ -16,12 +16,12 @@ kept items (characters (c ∷ cs)) = with_text items (c ∷ cs)
 kept items error = items
 kept items item = items ++ item ∷ []
 
--- the items, in the order in which they were told, and whether the current node is foreign, which never changes
+-- the items, in the order in which they were emitted, and whether the current node is foreign, which never changes
 pub record Kept : Type 0 where
   pub items : List Item
   pub is_foreign : Bool
 
--- what is kept behind an item
+-- what is kept after an item
 abbrev pub kept_behind : Kept → Item → Kept
 kept_behind s item = record s { items = kept s.items item }
 

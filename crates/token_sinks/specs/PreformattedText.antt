@@ -1,4 +1,4 @@
--- A small model of a tree builder: its open elements, the text of the page, and the rule that a line feed right behind
+-- A small model of a tree builder: its open elements, the text of the page, and the rule that a line feed right after
 -- the start tag of `pre` is left out (WHATWG HTML, 13.2.6.4.7).
 use Rattle.std.specs.Prelude.{ℕ, Bool, false, ◌==◌, ◌&&◌, if◌then◌else◌, List, [], ◌∷◌, ◌++◌, codes, length, ◌<◌}
 use Rattle.std.specs.Str.{bytes_eq}

@@ -7,7 +7,7 @@ use html_lexemes::{ParseFault, Text, Token, TokenSinkResult};
 use std::alloc::{AllocError, Global};
 use std::marker::Model;
 
-/// A sink that keeps the tokens that it is told: texts that follow each other are joined into one token, and an
+/// A sink that keeps the tokens that it is given: texts that follow each other are joined into one token, and an
 /// empty text and errors are left out. It refuses only if allocation fails; then nothing is known of it.
 #[derive(Drop)]
 pub struct KeptTokens {
@@ -36,7 +36,7 @@ impl KeptTokens {
         }
     }
 
-    /// The tokens, in the order in which they were told.
+    /// The tokens, in the order in which they were emitted.
     pub fn tokens(&self) -> &[Token]
         ensures { map item_of result.now ≡ self.now.items }
     {
@@ -88,7 +88,7 @@ impl TokenSink for KeptTokens {
     }
 }
 
-// keeps a text behind what was kept
+// keeps a text after what was kept
 fn keep_text(tokens: &mut Vec<Token>, text: Text) -> Result<(), AllocError>
     ensures { OnOk result (map item_of tokens.new.items ≡ kept (map item_of tokens.old.items) (characters text)) }
 {
@@ -100,7 +100,7 @@ fn keep_text(tokens: &mut Vec<Token>, text: Text) -> Result<(), AllocError>
     Ok(())
 }
 
-// a text behind the last token, which is taken out where it is a text
+// a text after the last token, which is taken out where it is a text
 fn behind_last(tokens: &mut Vec<Token>, text: Text) -> Result<Text, AllocError>
     ensures { IfOk result (λ joined.
         map item_of tokens.new.items ++ characters joined ∷ [] ≡ with_text (map item_of tokens.old.items) text) }

@@ -1,4 +1,4 @@
-//! Two sinks of tokens that do something with what they are told: one keeps it, and one is a small model of a tree
+//! Two sinks of tokens that do something with what they are given: one keeps it, and one is a small model of a tree
 //! builder. They show that a sink whose state moves can meet the laws of sinks, also where it says in which
 //! states it may be called.
 //!
@@ -7,7 +7,7 @@
 //! - `KeptTokens`: it has kept the tokens that it was given, in their order, texts that follow each other as one,
 //!   an empty text and errors left out (its step, `kept_behind`); `tokens` lends them; it meets the laws
 //! - `PreformattedText`: a small model of a tree builder: the names of the open elements, and the text, in which a
-//!   LF right behind the start tag of `pre` is left out, but not behind an error (its step, `page_behind`); it may
+//!   LF right after the start tag of `pre` is left out, but not after an error (its step, `page_behind`); it may
 //!   be called only where an element is open, which each token leaves so, and it meets the laws
 //!
 //! They show that the laws of sinks can be met by one that does something. With `KeptTokens` each row and each of

@@ -11,7 +11,7 @@ use std::alloc::{AllocError, Global};
 use std::marker::Model;
 
 /// A small model of a tree builder: the names of the open elements, and the text of the page, in which a line feed
-/// right behind the start tag of `pre` is left out (WHATWG HTML, 13.2.6.4.7). The current node is foreign where it is
+/// right after the start tag of `pre` is left out (WHATWG HTML, 13.2.6.4.7). The current node is foreign where it is
 /// named `svg`. A call needs an open element, and leaves one. It refuses only if allocation fails; then nothing is
 /// known of it.
 #[derive(Drop)]

@@ -168,7 +168,7 @@ impl<S: TreeSink> Parse<S> {
         self.kept.pending = Text::from(String::new(*self.kept.template_modes.allocator()));
     }
 
-    /// Characters are put behind the pending ones.
+    /// Characters are put after the pending ones.
     #[tactic(auto, unfolding(tree_rules::specs::Actions::act))]
     pub fn keep_pending(&mut self, more: &str) -> Result<(), ParseFault>
         requires ready { Ready (state_of S.view self.old) }

@@ -122,7 +122,7 @@ impl<S: TreeSink> Parse<S> {
         Ok(())
     }
 
-    /// A comment is put behind the children of the document.
+    /// A comment is put after the children of the document.
     #[tactic(auto, unfolding(tree_rules::specs::Actions::act))]
     pub fn comment_to_document(&mut self, text: Text) -> Result<(), ParseFault>
         requires ready { Ready (state_of S.view self.old) }
@@ -136,7 +136,7 @@ impl<S: TreeSink> Parse<S> {
         Ok(())
     }
 
-    /// A comment is put behind the children of the root.
+    /// A comment is put after the children of the root.
     #[tactic(auto, unfolding(tree_rules::specs::Actions::act))]
     pub fn comment_to_root(&mut self, text: Text) -> Result<(), ParseFault>
         requires ready { Ready (state_of S.view self.old) }
@@ -149,7 +149,7 @@ impl<S: TreeSink> Parse<S> {
         Ok(())
     }
 
-    /// A doctype is put behind the children of the document.
+    /// A doctype is put after the children of the document.
     #[tactic(auto, unfolding(tree_rules::specs::Actions::act))]
     pub fn append_doctype(&mut self, doctype: Doctype) -> Result<(), ParseFault>
         requires ready { Ready (state_of S.view self.old) }

@@ -15,7 +15,7 @@ use tree_rules::{InsertionPoint, PushFlag};
 use tree_words::value_of;
 
 impl<S: TreeSink> Parse<S> {
-    /// An element of HTML is inserted at the appropriate place. The sink of trees is told which form it belongs to.
+    /// An element of HTML is inserted at the appropriate place. The sink of trees is notified which form it belongs to.
     pub(crate) fn insert_html(
         &mut self,
         push: PushFlag,
@@ -49,7 +49,7 @@ impl<S: TreeSink> Parse<S> {
         }
     }
 
-    // the sink of trees is told of a form, and of the place that an element has: no node changes
+    // the sink of trees is notified of a form, and of the place that an element has: no node changes
     fn associate(
         &mut self,
         element: S::Handle,

@@ -30,7 +30,7 @@ pub struct Kept<H> {
     pub pending: Text,
     /// The quirks mode by which tags are taken.
     pub quirks: QuirksMode,
-    /// Whether nothing more is taken: the end was told, or a call was refused.
+    /// Whether nothing more is taken: the end was emitted, or a call was refused.
     pub is_over: bool,
     /// Whether a call was refused.
     pub has_failed: bool,

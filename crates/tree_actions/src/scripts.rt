@@ -11,7 +11,7 @@ use html_lexemes::ParseFault;
 use name_sets::is_html;
 
 impl<S: TreeSink> Parse<S> {
-    /// The sink of trees is told that the current node must not run, where it is a script. No node changes.
+    /// The sink of trees is notified that the current node must not run, where it is a script. No node changes.
     pub fn mark_script(&mut self) -> Result<(), ParseFault>
         requires ready { Ready (state_of S.view self.old) }
         ensures seen { state_of S.view self.new ≡ state_of S.view self.old }

@@ -1,4 +1,4 @@
--- What holds before an item of a page holds behind it.
+-- What holds before an item of a page holds after it.
 use Rattle.std.proofs.Common.{◌≡◌, ℕ, subst, sym}
 use Rattle.html_grammar.specs.Items.{Item}
 use Rattle.tree_meaning.specs.Lawful.{meaning-lawful}

@@ -1,4 +1,4 @@
--- A fragment may be told anything first.
+-- Anything may be emitted first for a fragment.
 use Rattle.std.proofs.Common.{◌≡◌, ℕ, Bool, false, true, if◌then◌else◌, refl, sym, subst, Option, codes}
 use Rattle.html_forest.specs.Forest.{Forest, name_of}
 use Rattle.html_forest.specs.declared.sink.QuirksMode.{QuirksMode}

@@ -13,7 +13,7 @@ use tree_actions::{Kept, Parse};
 use tree_rules::{TreeBuilderOpts, actions_keep_what_is_ready};
 use tree_words::InsertionMode;
 
-/// Builds the tree of a page in a sink of trees, from the tokens that it is told (WHATWG HTML, 13.2.6).
+/// Builds the tree of a page in a sink of trees, from the tokens that it is given (WHATWG HTML, 13.2.6).
 pub struct TreeBuilder<S: TreeSink> {
     /// The page: its tree, and what is kept beside it. Nobody else is to change it before the end.
     pub page: Parse<S>,

@@ -24,7 +24,7 @@ use tree_words::{InsertionMode, is_of_html};
 impl<S: TreeSink + Drop> TreeBuilder<S> {
     /// Before the first token of a fragment: its root, an element `html`, is put into the document and opened. The
     /// context is an element of the sink, and `form` the form that it stands in, if there is one. The sink's nodes are
-    /// a forest, whose document has no children yet. Any token may be told first. The error is allocation failure.
+    /// a forest, whose document has no children yet. Any token may be emitted first. The error is allocation failure.
     pub fn new_for_fragment(
         alloc: Global,
         sink: S,

@@ -12,7 +12,7 @@ use html_lexemes::{Doctype, ErrorMessage, ParseFault, Tag, Text, Token, TokenSin
 use tree_actions::Parse;
 use tree_steps::{take_comment, take_doctype, take_null, take_page_end, take_tag, take_text};
 
-/// Characters of text. Without any nothing changes; a line feed right behind some start tags is left out.
+/// Characters of text. Without any nothing changes; a line feed right after some start tags is left out.
 pub(crate) fn tell_characters<S: TreeSink>(
     page: &mut Parse<S>,
     text: Text,

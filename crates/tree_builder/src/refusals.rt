@@ -1,4 +1,4 @@
-//! Calls behind a refusal can be made, whatever the sink of trees is.
+//! Calls after a refusal can be made, whatever the sink of trees is.
 ghost use Rattle.std.specs.Prelude.{◌≡◌, IfErr, is_err};
 ghost use Rattle.html_lexemes.specs.declared.fault.ParseFault.TheVariants.{Failed};
 ghost use Rattle.tree_actions.specs.Parsed.{state_of};

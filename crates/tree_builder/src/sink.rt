@@ -47,8 +47,8 @@ impl<S: TreeSink> TokenSink for TreeBuilder<S> {
     ghost hearing = { meaning-hearing S.view.handle };
 
     /// Takes a token by the rules of tree construction. What isn't text, an error, an end tag or the end is refused as
-    /// `Failed` while an element's text is read, and so is every token behind the end; else the error is allocation
-    /// failure . Behind a refused call every token is refused as `Failed`.
+    /// `Failed` while an element's text is read, and so is every token after the end; else the error is allocation
+    /// failure . After a refused call every token is refused as `Failed`.
     fn process_token(
         &mut self,
         token: Token,
@@ -79,7 +79,7 @@ impl<S: TreeSink> TokenSink for TreeBuilder<S> {
         }
     }
 
-    /// Tells the sink of trees that the open elements are so no longer, from the current node on. Behind a refused call
+    /// Tells the sink of trees that the open elements are so no longer, from the current node on. After a refused call
     /// it is refused as `Failed`; else the error is allocation failure.
     fn end(&mut self) -> Result<(), ParseFault>
         requires { IsFit (state_of S.view self.old.page) }
@@ -123,7 +123,7 @@ impl<S: TreeSink> TreeBuilder<S> {
     }
 }
 
-// whether a token may not be told in a mode: in "text" what is told in an element's text alone
+// whether a token may not be emitted in a mode: in "text" what is emitted in an element's text alone
 fn is_out_of_place(mode: InsertionMode, token: &Token) -> bool
     ensures out { result ≡ true → IsHeard (is_text mode) (item_of token.now) → ⊥ }
     ensures fits { result ≡ false → IsHeard (is_text mode) (item_of token.now) }
@@ -134,7 +134,7 @@ fn is_out_of_place(mode: InsertionMode, token: &Token) -> bool
     }
 }
 
-// in an element's text text, errors, an end tag and the end are told
+// in an element's text text, errors, an end tag and the end are emitted
 fn is_markup(token: &Token) -> bool
     ensures out { result ≡ true → IsOf Plain (item_of token.now) → ⊥ }
     ensures fits { result ≡ false → IsOf Plain (item_of token.now) }
@@ -149,7 +149,7 @@ fn is_markup(token: &Token) -> bool
     }
 }
 
-// the open elements are told of, the current node first
+// the open elements are shown, the current node first
 fn tell_closed<S: TreeSink>(page: &mut Parse<S>) -> Result<(), ParseFault>
     requires ready { Ready (state_of S.view page.old) }
     ensures seen { OnOk result (state_of S.view page.new ≡ state_of S.view page.old) }
@@ -158,7 +158,7 @@ fn tell_closed<S: TreeSink>(page: &mut Parse<S>) -> Result<(), ParseFault>
     tell_popped(page.tree.held.open_elements(), &mut page.tree.sink)
 }
 
-// elements are told of, the last first
+// elements are shown, the last first
 fn tell_popped<S: TreeSink>(open: &[S::Handle], sink: &mut S) -> Result<(), ParseFault>
     requires { (n : ℕ) → IsIn n (stack_of S.view.number open.now) → IsElement n (S.view.forest sink.old) }
     ensures forest { S.view.forest sink.new ≡ S.view.forest sink.old }

@@ -147,7 +147,7 @@ copied_sound n last tag b laws sound can =
       counted = sound.counted;
     })
 
--- the forest behind the steps of the copy
+-- the forest after the steps of the copy
 pub copied_forest : (n last copy : ℕ) (tag : Tag) (b : Building) (g h k : Forest) → copy ≡ nodes b.forest →
     g ≡ made_for tag b.forest → h ≡ detached last g → k ≡ put_node (below copy) last h →
     k ≡ (copied n tag last b).forest

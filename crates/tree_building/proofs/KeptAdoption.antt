@@ -35,7 +35,7 @@ use Rattle.tree_building.proofs.TurnLemmas.{named_listed}
 use Rattle.tree_building.proofs.WalkLemmas.{may_place, may_take_over, walk_begins, walk_goes_on}
 use Rattle.name_sets.specs.ElementSets.{scope_barriers}
 
--- the entry behind which so many are listed earlier
+-- the entry after which so many are listed earlier
 record IsCutAt (entries : List Entry) (index left : ℕ) : Type 0 where
   later : List Entry
   entry : Entry

@@ -20,7 +20,7 @@ no_fewer f g h one two = omega (arith, one, two)
 element_still : (old new : Kind) → new ≡ old → IsElementKind old → IsElementKind new
 element_still old new same is = subst IsElementKind (sym same) is
 
--- one change behind another, none, and one that leaves each node what it is
+-- one change after another, none, and one that leaves each node what it is
 pub grown_on : (f g h : Forest) → HasGrown f g → HasGrown g h → HasGrown f h
 grown_on f g h one two = record {
   size = no_fewer f g h one.size two.size;

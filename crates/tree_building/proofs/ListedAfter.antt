@@ -1,4 +1,4 @@
--- With which tags elements are listed behind a change of the list.
+-- With which tags elements are listed after a change of the list.
 use Rattle.std.proofs.Common.{◌≡◌, ℕ, Bool, true, false, ◌⊎◌, inl, inr, refl, sym, ap, subst, List, [], ◌∷◌, Option}
 use Rattle.std.proofs.Common.{None, Some, if◌then◌else◌, ◌==◌, eqb-true}
 use Rattle.formatting_list.specs.Entries.{Entry, formatted, handed_over, is_of, marker, moved_behind, put_behind}
@@ -60,7 +60,7 @@ listed_handed n m k tag (marker ∷ es) l = listed_handed n m k tag es l
 listed_handed n m k tag (formatted p held ∷ es) l =
     handed_step n m k p tag held es (p == n) (listed_handed n m k tag es) l
 
--- an entry goes behind another
+-- an entry goes after another
 behind_step : (after m k : ℕ) (tag held : Tag) (e : Entry) (es : List Entry) (t : Bool) →
     (IsListed k tag (put_behind after (formatted m held) es) → IsListed k tag es ⊎ ((k ≡ m) × (tag ≡ held))) →
     IsListed k tag (if t then formatted m held ∷ e ∷ es else e ∷ put_behind after (formatted m held) es) →

@@ -190,7 +190,7 @@ same_ends (x ∷ xs) (y ∷ ys) a b us vs size e =
     let rest = same_ends xs ys a b us vs size tails in
     (ap₂ (λ v w. v ∷ w) heads rest.0, rest.1, rest.2)
 
--- the entry's element is made, behind which the same is seen, and the entry is given to it
+-- the entry's element is made, after which the same is seen, and the entry is given to it
 given_entry : {H : Type 0} (number : H → ℕ) (to : H) (e : FormatEntry H) (n : ℕ) (tag : Tag) →
     entry_of number e ≡ formatted n tag → entry_of number (given to e) ≡ formatted (number to) tag
 given_entry number to Marker n tag is = absurd (cc)
@@ -247,7 +247,7 @@ kept_length number stack xs m x some within read is =
     ∙ sym (kept_here stack (entry_of number x) (entries_of number (take (m - 1) xs)) is)
     ∙ ap (made_already stack) (sym (entries_more number xs m x some within read)))
 
--- what is seen behind a step
+-- what is seen after a step
 pub record IsMadeAnew {H S : Type 0} (view : SinkView S H) (index : ℕ)
     (p o : Parts H) (s t : S) : Type 0 where
   pub made : made_from (index + 1) (seen view p s) ≡ made_from index (seen view o t)

@@ -60,7 +60,7 @@ compared a b (n ∷ ns) (inr i) (inl k) = inr (inr (inl (k, i)))
 compared a b (n ∷ ns) (inr i) (inr j) =
     either (λ e. inl e) (either (λ h. inr (inl (inr h))) (λ h. inr (inr (inr h)))) (compared a b ns i j)
 
--- in lists one behind another
+-- in lists one after another
 pub in_behind : (n : ℕ) (ms ns : List ℕ) → IsIn n ns → IsIn n (ms ++ ns)
 in_behind n [] ns i = i
 in_behind n (m ∷ ms) ns i = inr (in_behind n ms ns i)
@@ -166,8 +166,8 @@ pub in_put_before : (x s c : ℕ) (ns : List ℕ) → IsIn x (put_before s c ns)
 in_put_before x s c [] i = absurd i
 in_put_before x s c (n ∷ ns) i = put_step x s c n ns (n == s) (eqb-true n s) (in_put_before x s c ns) i
 
--- of two numbers there: both were there; the first is new, and the other the one behind it or farther; or the other is
--- new, and the first nearer than the one behind it
+-- of two numbers there: both were there; the first is new, and the other the one after it or farther; or the other is
+-- new, and the first nearer than the one after it
 abbrev pub NearerPut : (s c a b : ℕ) → List ℕ → Type 0
 NearerPut s c a b ns = IsNearer a b ns ⊎
     (((a ≡ c) × ((b ≡ s) ⊎ IsNearer s b ns)) ⊎ ((b ≡ c) × IsNearer a s ns))

@@ -152,7 +152,7 @@ module _ (laws : Laws) where
       (λ n held. parent_words (here b) cs n f held) b.fostering (current_of b.stack) b.stack
       (current_there f b.stack sound.forest open_held) open_held
 
-  -- characters behind characters
+  -- characters after characters
   pub said_as_one : (cs ds : List ℕ) (b : Building) → Sound b → said ds (said cs b) ≡ said (cs ++ ds) b
   said_as_one cs ds b sound =
       ap (λ (place : Place). record b { forest = put_words place ds (put_words (here b) cs b.forest) })

@@ -237,7 +237,7 @@ module _ (n block : ℕ) (tag : Tag) (b : Building) (laws : Laws) (sound : Sound
       })
 
 -- What is asked of the forests that are at hand, and that they are forests: the copy's number, the forest in which it
--- was made, and those behind each change.
+-- was made, and those after each change.
 module _ (laws : Laws) (block n : ℕ) (f : Forest) (can : CanReparent block n f) where
   pub may_give : (m : ℕ) (g : Forest) → m ≡ n → g ≡ f → CanReparent block m g
   may_give m g e is = subst (λ x. CanReparent block x g) (sym e) (subst (CanReparent block n) (sym is) can)
@@ -264,7 +264,7 @@ module _ (laws : Laws) (block n : ℕ) (f : Forest) (can : CanReparent block n f
       (laws.put_keeps (below block) (node m) given (given_is_forest m g given forest e is now)
       (may_take m g given move e is now))
 
--- the forest behind the steps of the taking over
+-- the forest after the steps of the taking over
 pub taken_is : (block n m : ℕ) (tag : Tag) (f g given over : Forest) → m ≡ n → g ≡ made_for tag f →
     given ≡ reparented block m g → over ≡ put_node (below block) m given →
     over ≡ put_node (below block) n (reparented block n (made_for tag f))

@@ -9,7 +9,7 @@ use Rattle.tree_building.specs.Building.{Building}
 use Rattle.tree_building.specs.Sound.{IsListed}
 use Rattle.tree_building.proofs.WalkLemmas.{same_number}
 
--- what is named stands behind the last marker
+-- what is named stands after the last marker
 at_once : (m n : ℕ) (rest : Bool) → Some m ≡ Some n → (if m == n then true else rest) ≡ true
 at_once m n rest e = ap (λ b. if b then true else rest) (same_number m n (let k : m ≡ n = cc in k))
 

@@ -43,7 +43,7 @@ copied n tag last b = record b {
   forest = put_node (below (nodes b.forest)) last (detached last (made_for tag b.forest));
 }
 
--- From the furthest block up to the formatting element: the last node, the copy behind which the formatting element's
+-- From the furthest block up to the formatting element: the last node, the copy after which the formatting element's
 -- copy is to be listed, and the tree.
 pub record Walk : Type 0 where
   pub last : ℕ
@@ -55,7 +55,7 @@ bookmark_by true copy bookmark = Some copy
 bookmark_by false copy bookmark = bookmark
 
 -- One node: the fourth and those that follow leave the list, one that isn't listed leaves the stack, and any other is
--- copied. The bookmark goes behind the copy that takes the furthest block.
+-- copied. The bookmark goes after the copy that takes the furthest block.
 abbrev pub stepped : Option Tag → (is_late : Bool) → (block n : ℕ) → Walk → Walk
 stepped None is_late block n w = record w { tree = taken_off n w.tree }
 stepped (Some tag) true block n w = record w { tree = taken_off n (unlisted n w.tree) }
@@ -85,7 +85,7 @@ placed last ancestor b = record b {
 }
 
 -- A copy of the formatting element takes the children of the furthest block, and becomes its child. It is listed at the
--- bookmark, where that is behind the last marker, else in the place of the formatting element; on the stack it stands
+-- bookmark, where that is after the last marker, else in the place of the formatting element; on the stack it stands
 -- right below the furthest block. The formatting element leaves both.
 abbrev pub entries_at : Option ℕ → (n copy : ℕ) → List Entry → List Entry
 entries_at None n copy entries = handed_over n copy entries

@@ -36,14 +36,14 @@ pub record IsAncestor (last : ℕ) (ancestor : Option ℕ) (b : Building) : Type
   pub can : CanPlace last uppers lows b
   pub first : first_of lows ≡ ancestor
 
--- the furthest block is open, and the formatting element, which is listed behind the last marker, is another
+-- the furthest block is open, and the formatting element, which is listed after the last marker, is another
 pub record CanTakeOver (n block : ℕ) (tag : Tag) (b : Building) : Type 0 where
   pub is_open : IsIn block b.stack
   pub other : ¬ (n ≡ block)
   pub tagged : tag_in n b.formatting ≡ Some tag
   pub listed : is_listed n (up_to_marker b.formatting) ≡ true
 
--- a turn with a furthest block: the formatting element is open, in scope, and listed behind the last marker
+-- a turn with a furthest block: the formatting element is open, in scope, and listed after the last marker
 pub record CanAdopt (n block : ℕ) (b : Building) : Type 0 where
   pub sound : Sound b
   pub is_open : is_in n b.stack ≡ true

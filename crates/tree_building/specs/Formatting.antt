@@ -40,7 +40,7 @@ abbrev pub inserted_formatting : Tag → Building → Building
 inserted_formatting tag b =
     record (inserted_for tag b) { formatting = pushed (nodes b.forest) tag b.formatting }
 
--- "reconstruct the active formatting elements": the entries behind the last marker and behind the last one that is open
+-- "reconstruct the active formatting elements": the entries after the last marker and after the last one that is open
 -- are taken off, and each in its order is made anew and listed again
 abbrev pub is_kept : List ℕ → Entry → Bool
 is_kept stack marker = true

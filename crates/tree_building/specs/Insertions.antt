@@ -88,7 +88,7 @@ commented_at place cs b = record b { forest = put_node place (nodes b.forest) (m
 abbrev pub with_attributes_of : ℕ → List Attribute → Building → Building
 with_attributes_of n attributes b = record b { forest = with_attributes n attributes b.forest }
 
--- a doctype is put behind the children of the document; what it doesn't name is empty
+-- a doctype is put after the children of the document; what it doesn't name is empty
 abbrev pub text_or_none : Option (List ℕ) → List ℕ
 text_or_none None = []
 text_or_none (Some cs) = cs

@@ -6,7 +6,7 @@ use Rattle.tree_building.specs.Building.{stack_of}
 use Rattle.tree_building.specs.Insertions.{root_of}
 use Rattle.tree_building.specs.OpenElements.{farther, nearer}
 
--- so many elements stand before it, and the rest but itself behind it
+-- so many elements stand before it, and the rest but itself after it
 pub record IsOpenAt {H : Type 0} (number : H → ℕ) (n : ℕ) (elements : List H) (at : ℕ) : Type 0 where
   pub within : at < length elements
   pub is_there : is_in n (stack_of number elements) ≡ true

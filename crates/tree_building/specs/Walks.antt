@@ -13,7 +13,7 @@ abbrev pub begun : (block : ℕ) → Building → Walk
 begun block b = record { last = block; bookmark = None; tree = b }
 
 -- The open elements are some that were walked over, among which the last node and the furthest block are; those that
--- are left; the formatting element, which is listed behind the last marker; and what is farther. No table or template
+-- are left; the formatting element, which is listed after the last marker; and what is farther. No table or template
 -- is nearer than the formatting element.
 pub record IsWalk (n block : ℕ) (tag : Tag) (left lows : List ℕ) (w : Walk) : Type 0 where
   pub uppers : List ℕ

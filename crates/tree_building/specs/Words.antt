@@ -66,7 +66,7 @@ pub record Words : Type 0 where
   pub closes_foreign : (name : List ℕ) → Keeps (closed_by_foreign_end name)
   pub fosters : (is_on : Bool) → Keeps (λ b. record b { fostering = is_on })
   pub takes_quirks : (mode : QuirksMode) → Keeps (λ b. record b { quirks = mode })
-  -- characters behind characters are inserted as if they had come together, and elements but for their children are
+  -- characters after characters are inserted as if they had come together, and elements but for their children are
   -- what they were
   pub says_as_one : (cs ds : List ℕ) (b : Building) → Sound b → said ds (said cs b) ≡ said (cs ++ ds) b
   pub says_elsewhere : (cs : List ℕ) (n : ℕ) (b : Building) → IsElement n b.forest →

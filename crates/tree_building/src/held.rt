@@ -265,7 +265,7 @@ impl<H: Copy> Held<H> {
         self.formatting.hand_over(sink, element, to);
     }
 
-    /// Gives an element's entry to its copy: at the bookmark, where that stands behind the last marker, else where the
+    /// Gives an element's entry to its copy: at the bookmark, where that stands after the last marker, else where the
     /// entry is.
     pub fn list_at<S: TreeSink<Handle = H>>(
         &mut self,
@@ -321,7 +321,7 @@ fn put_in_place_of<H: Copy, S: TreeSink<Handle = H>>(
     }
 }
 
-// puts an element right behind another, where that is one of these, and says whether it was
+// puts an element right after another, where that is one of these, and says whether it was
 fn insert_below<H: Copy, S: TreeSink<Handle = H>>(
     elements: &mut Vec<H>,
     sink: &S,

@@ -3,9 +3,9 @@
 /// Where a node or a text is inserted.
 #[derive(Clone, Copy)]
 pub enum InsertionPoint<H> {
-    /// Behind the children of a node.
+    /// After the children of a node.
     LastChild(H),
-    /// Before a table that has a parent, else behind the children of what stands above the table among the open
+    /// Before a table that has a parent, else after the children of what stands above the table among the open
     /// elements.
     TableFosterParenting {
         /// The table.

@@ -30,7 +30,7 @@ pub fn laws_of_forests()
 }
 
 /// Each word of tree construction keeps a sound tree sound, takes no node away, and an element stays one. Characters
-/// that are inserted one after another are inserted as if they had come together, and behind them nothing is
+/// that are inserted one after another are inserted as if they had come together, and after them nothing is
 /// reconstructed twice.
 pub fn words_keep_a_tree_sound()
     ensures { Words }

@@ -8,7 +8,7 @@
 //! A tree that is being built is seen as its stack of open elements, its formatting list, whether foster parenting
 //! is on, its nodes and its quirks mode (`Building`). `Sound` says that the nodes are a forest; open elements are
 //! elements, pairwise distinct, a template among them has contents, and none is above one that is farther from the
-//! current node; listed elements are formatting elements named as their tags, at most three alike behind the last
+//! current node; listed elements are formatting elements named as their tags, at most three alike after the last
 //! marker; the counts of open elements by name, which are held beside the stack, are right. These definitions,
 //! those of the words, and `words_keep_a_tree_sound` (below) are tree_building's.
 //!
@@ -37,7 +37,7 @@
 //!   `address`, `div` and `p`
 //! - `is_open`, `is_element_open`, `is_element_in_scope`, `remove_from_list`: whether an element itself is open, or
 //!   in scope; its entry is taken off the list
-//! - `last_listed`, `remove_element_from_stack`: the latest element behind the last marker whose tag has a name,
+//! - `last_listed`, `remove_element_from_stack`: the latest element after the last marker whose tag has a name,
 //!   which is an element; an element is taken off, and not looked for where none of its name is open
 //! - `insertion_point`, `appropriate_place_for_insertion`: the appropriate place, fostered or in a template's
 //!   contents; there is such a place
@@ -45,7 +45,7 @@
 //!   `append_comment_to_document`, `append_doctype_to_document`: a node or characters there, or at a place that is
 //!   given; the element becomes the current node, or not
 //! - `insert_formatting_element`, `insert_marker`, `clear_active_formatting_to_marker`: the same with the list
-//! - `reconstruct_active_formatting_elements`: the entries behind the last marker and behind the last one that is
+//! - `reconstruct_active_formatting_elements`: the entries after the last marker and after the last one that is
 //!   open, each made anew in its order
 //! - `adoption_agency`: the adoption agency for an end tag's name: at most eight turns, in each of which the last
 //!   node, the copies and what the furthest block holds go where the standard says
@@ -59,9 +59,9 @@
 //! sound tree sound, takes no node away, and leaves an element one.
 //!
 //! The words, the adoption agency among them, are computed on rows (`building_rows`): small pages with misnested
-//! formatting, blocks in formatting elements, four alike, four nodes between, a formatting element behind a table,
+//! formatting, blocks in formatting elements, four alike, four nodes between, a formatting element after a table,
 //! end tags in SVG. Shown by the cases `tree` of stored_rows, as whole pages: a template's contents, which of four
-//! formatting elements alike are made anew, nine pages of the adoption agency (those of the rows, an anchor behind
+//! formatting elements alike are made anew, nine pages of the adoption agency (those of the rows, an anchor after
 //! an anchor, attributes that are copied, nine blocks for eight turns), two end tags among foreign elements,
 //! quirks, what breaks out of foreign content, integration points and hidden inputs. Tested (`tree_rows`): generic
 //! functions over any `TreeSink` build pages by these calls, and in `RcDom` what they built is compared with lines
@@ -79,7 +79,7 @@
 //! between others isn't reported at all), and what a call costs. What is looked for by its name (a test of scope,
 //! an end tag, a list item, a formatting element) asks the counts first, and where an element of the name may be
 //! open looks at the open elements up to its answer; `bench/nested_divs.sh` and `bench/trees.sh` show what that
-//! comes to. So an end tag whose element is open behind many others that are in its way, again and again, still
+//! comes to. So an end tag whose element is open after many others that are in its way, again and again, still
 //! takes as many steps each time.
 #![tactic(auto)]
 

@@ -1,5 +1,5 @@
--- A tree as lines that hold all of it: one for each node in document order, behind a space for each level. A line is a
--- word and its fields, each behind a tab and with escapes:
+-- A tree as lines that hold all of it: one for each node in document order, after a space for each level. A line is a
+-- word and its fields, each after a tab and with escapes:
 --   doctype NAME PUBLIC SYSTEM
 --   text TEXT
 --   comment TEXT
@@ -30,7 +30,7 @@ field cs = 9 ∷ field_of cs
 abbrev pub line : List ℕ → List ℕ → List ℕ
 line word fields = word ++ (fields ++ 10 ∷ [])
 
--- behind a space for each level
+-- after a space for each level
 abbrev pub indented : ℕ → List ℕ → List ℕ
 indented level cs = replicate level 32 ++ cs
 

@@ -16,7 +16,7 @@ use std::alloc::AllocError;
 pub(crate) struct Coming<'a> {
     /// The first of them.
     pub(crate) node: Handle,
-    /// Those behind it.
+    /// Those after it.
     pub(crate) others: ChildNodes<'a>,
     /// How far below the document's children they stand.
     pub(crate) level: usize,

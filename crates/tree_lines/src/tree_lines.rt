@@ -17,7 +17,7 @@ pub fn lines_of(alloc: Global, dom: &RcDom) -> Result<String, AllocError>
     Ok(lines)
 }
 
-/// A line for each node below the document, in order, behind one space for each level. Below an element its attributes
+/// A line for each node below the document, in order, after one space for each level. Below an element its attributes
 /// come first, and then a template's contents. The error is allocation failure.
 pub fn lines_below(alloc: Global, dom: &RcDom) -> Result<String, AllocError>
     ensures { IfOk result (λ lines. chars (string_bytes lines) ≡ lines_below dom.now.forest) }

@@ -1,4 +1,4 @@
--- Nothing that is told but the end of the page says that it is over, and nothing says that a call was refused.
+-- Nothing that is emitted but the end of the page says that it is over, and nothing says that a call was refused.
 use Rattle.std.specs.Prelude.{◌≡◌, ℕ, zero, suc, Bool, false, true, ◌==◌, ◌&&◌, List, [], ◌∷◌, fold, refl}
 use Rattle.std.specs.Prelude.{if◌then◌else◌}
 use Rattle.std.proofs.Common.{ap, ◌∙◌}

@@ -1,5 +1,5 @@
 -- Tree construction hears what it asks for (WHATWG HTML, 13.2.6.2): the mode "text" is entered only where the text of
--- an element is asked for, and left only behind an end tag.
+-- an element is asked for, and left only after an end tag.
 use Rattle.std.specs.Prelude.{◌≡◌, ℕ, zero, suc, Bool, false, true, ◌==◌, ◌&&◌, ◌||◌, List, [], ◌∷◌, fold, refl}
 use Rattle.std.specs.Prelude.{if◌then◌else◌}
 use Rattle.std.proofs.Common.{sym, ap, subst, ◌∙◌}
@@ -242,7 +242,7 @@ rule-quiet : (mark : Mark) (s : State) → IsNoTag mark → IsQuiet (rule mark s
 rule-quiet mark s h =
     either-quiet (is_by_mode mark s) _ _ (row-quiet mark s.mode s h) (foreign_row-quiet mark s h)
 
--- behind such a mark the mode is not "text", where it was another
+-- after such a mark the mode is not "text", where it was another
 given_by-stays : (row : Row) (s : State) (further : State → Settled) → is_text s.mode ≡ false → IsQuiet row →
     ((t : State) → is_text t.mode ≡ false → is_text (further t).state.mode ≡ false) →
     is_text (given_by row s further).state.mode ≡ false
@@ -345,7 +345,7 @@ step-hears s item later within hears hears_later = record {
       (sym (step-keeps (is_text s.mode) s item within hears.heard refl)) hears_later.heard;
 }
 
--- Behind a tag the mode is "text" only where the text of an element was asked for.
+-- After a tag the mode is "text" only where the text of an element was asked for.
 abbrev IsAsked : {H : Type 0} → (ℕ → H) → Item → Settled → Type 0
 IsAsked handle later r = IsOf (text_behind (answer_of handle r.ask)) later → IsHeard (is_text r.state.mode) later
 
@@ -353,7 +353,7 @@ heard-elsewhere : (b : Bool) (item : Item) → b ≡ false → IsHeard b item
 heard-elsewhere true item h = absurd (cc)
 heard-elsewhere false item h = tt
 
--- what is told in the text of an element is told in plain text too
+-- what is emitted in the text of an element is emitted in plain text too
 raw-plain : (kind : RawKind) (item : Item) → IsOf (Raw kind) item → IsOf Plain item
 raw-plain kind (items.characters cs) h = tt
 raw-plain kind items.null_character h = h

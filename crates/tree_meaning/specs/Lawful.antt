@@ -93,7 +93,7 @@ no_line_feed : (b : Bool) (c : ℕ) → ¬ (c ≡ 10) → false ≡ (b && c == 1
 no_line_feed true c h = sym (ne_eqb c 10 h)
 no_line_feed false c h = refl
 
--- a character that is no line feed is taken alike behind an error
+-- a character that is no line feed is taken alike after an error
 character-forgets : (s : State) (c : ℕ) → ¬ (c ≡ 10) → taken_character (past_tag s) c ≡ taken_character s c
 character-forgets s c h = ap (λ (b : Bool). if b then past_tag s else (taken (character c) (past_tag s)).state)
     (no_line_feed s.skip_lf c h)

@@ -6,12 +6,12 @@ ghost use Rattle.tree_rules.specs.Settling.{meaning};
 ghost use Rattle.tree_rules.specs.Welcome.{IsReady, IsWelcome};
 
 /// Texts that follow each other are as one, tags alone are answered, what holds between two items is kept, and an error
-/// changes at most how a line feed right behind it is taken.
+/// changes at most how a line feed right after it is taken.
 pub fn tree_construction_is_lawful<H>()
     ensures { (handle : ℕ → H) → IsLawful (meaning handle) IsReady }
 {}
 
-/// What is welcome stays so, and behind a tag what is told in the text that was asked for is welcome.
+/// What is welcome stays so, and after a tag what is emitted in the text that was asked for is welcome.
 pub fn tree_construction_hears<H>()
     ensures { (handle : ℕ → H) → IsHearing (meaning handle) IsWelcome }
 {}

@@ -5,8 +5,8 @@
 //!
 //! - `tree_construction_is_lawful`: the rule table is a lawful sink of tokens: texts joined, an empty text changes
 //!   nothing, tags alone are answered, what is ready stays so, an error ends at most the rule of the line feed
-//! - `tree_construction_hears`: what is welcome beside an item is welcome behind it, and behind a tag what is
-//!   emitted in the text that it asked for: so nothing that a page tells is refused but where allocation fails
+//! - `tree_construction_hears`: what is welcome beside an item is welcome after it, and after a tag what is
+//!   emitted in the text that it asked for: so nothing that a page emits is refused but where allocation fails
 #![tactic(auto)]
 
 mod laws;

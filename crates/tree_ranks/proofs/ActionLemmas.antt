@@ -163,7 +163,7 @@ module _ (facts : Facts) where
       (to_make_formatting b.stack b.formatting (listed_formatting b.forest b.formatting sound.listed))
       (plain_sound b sound) (omega arith)).fewer
 
--- an action behind which no more of them are open
+-- an action after which no more of them are open
 abbrev pub Low : Action → Type 0
 Low action = (s : State) → Ready s → count (act action s) ≤ count s
 

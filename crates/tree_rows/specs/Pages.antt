@@ -45,7 +45,7 @@ reparented_page outer a b inner = put_node (below 1) 4 (reparented 1 4 (plain in
     (put_node (below 1) 3 (plain b (put_node (below 1) 2 (plain a
     (put_node (below 0) 1 (plain outer page_alone))))))))
 
--- a child that goes to another element, behind the child that stands there
+-- a child that goes to another element, after the child that stands there
 abbrev pub given_page : (from a to b : QualName) → Forest
 given_page from a to b = reparented 1 3 (put_node (below 3) 4 (plain b (put_node (below 0) 3 (plain to
     (put_node (below 1) 2 (plain a (put_node (below 0) 1 (plain from page_alone))))))))

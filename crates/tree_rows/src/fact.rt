@@ -26,7 +26,7 @@ pub(crate) enum Fact {
     Current(&'static [usize], &'static [usize]),
     /// How many elements are open, and the first of them.
     Root(usize, &'static [usize]),
-    /// How many elements are listed behind the last marker, and how many entries there are.
+    /// How many elements are listed after the last marker, and how many entries there are.
     Listed(usize, usize),
     /// The lines of the tree.
     Lines(&'static str),

@@ -6,7 +6,7 @@ use html_forest::TreeSink;
 use html_lexemes::{Attributes, LocalName, ParseFault};
 use std::alloc::Global;
 
-/// Whether a list tells what it holds once three elements are in it, and becomes what it should.
+/// Whether a list emits what it holds once three elements are in it, and becomes what it should.
 pub(crate) fn is_listed<S: TreeSink>(
     alloc: Global,
     sink: &mut S,
@@ -62,7 +62,7 @@ fn tells<S: TreeSink>(
         && list.tag_of(sink, other).is_none()
 }
 
-// the first element goes behind the second and is given to another, the second is given to the first, the third is off
+// the first element goes after the second and is given to another, the second is given to the first, the third is off
 fn is_changed<S: TreeSink>(
     sink: &S,
     list: &mut FormattingList<S::Handle>,

@@ -80,7 +80,7 @@ pub(crate) fn wrap_children<S: TreeSink>(
     Ok(())
 }
 
-/// An element whose child goes to another one, behind the child that stands there.
+/// An element whose child goes to another one, after the child that stands there.
 pub(crate) fn give_children<S: TreeSink>(
     alloc: Global,
     sink: &mut S,

@@ -287,7 +287,7 @@ element\thtml\thtml
         &[Step::Open("div"), Step::Open("i"), Step::TakeOff(1)],
         &[Fact::Root(2, &[0]), Fact::Current(&[0, 0, 0], &[0, 0, 0])],
     ),
-    // at most three that are alike stand behind the last marker (13.2.4.3)
+    // at most three that are alike stand after the last marker (13.2.4.3)
     (FOUR, &[], &[Fact::Listed(3, 3)]),
     (FOUR, &[Step::Mark], &[Fact::Listed(0, 4)]),
     (FOUR, &[Step::Mark, BOLD], &[Fact::Listed(1, 5)]),

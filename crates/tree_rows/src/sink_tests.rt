@@ -75,7 +75,7 @@ element\thtml\tp
   element\thtml\tu
 ",
     ),
-    // children go behind those that stand there (WHATWG DOM, 4.2.3, "append")
+    // children go after those that stand there (WHATWG DOM, 4.2.3, "append")
     (
         Page::Given,
         ["p", "i", "div", "b"],

@@ -169,7 +169,7 @@ const CLASS: Specificity = Specificity {
     typ: 0,
 };
 
-// the value behind two declarations
+// the value after two declarations
 fn behind(first: Specificity, second: Specificity) -> Option<u8> {
     let mut property = WithSpec::default();
     property.maybe_update(of_author(first, 1));

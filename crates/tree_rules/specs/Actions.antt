@@ -34,7 +34,7 @@ use Rattle.tree_words.specs.Modes.{reset_mode}
 use Rattle.tree_words.specs.declared.modes.InsertionMode.{InsertionMode}
 use Rattle.tree_words.specs.declared.modes.InsertionMode.TheVariants.{InBody, InTableText, Text}
 
--- an element is inserted at the appropriate place, or, behind the head, into the head
+-- an element is inserted at the appropriate place, or, after the head, into the head
 abbrev pub at_place : Target
 at_place = targets.AtPlace
 

@@ -12,7 +12,7 @@ use Rattle.tree_rules.specs.State.{Mark, State, character, comment, doctype, end
 use Rattle.tree_words.specs.Foreign.{is_of_html, takes_start, takes_text}
 
 -- by the adjusted current node, and whether it is an `annotation-xml` whose contents are HTML: the rules for HTML take
--- what is told
+-- what is emitted
 abbrev pub takes : Mark → QualName → (is_point : Bool) → Bool
 takes (character c) name is_point = takes_text name is_point
 takes null name is_point = takes_text name is_point

@@ -26,7 +26,7 @@ in_frameset_start groups.Frame t s = done (insert_void at_place t ∷ [])
 in_frameset_start groups.Noframes t s = in_head_start at_place groups.Noframes t s
 in_frameset_start _ t s = ignored
 
--- the root stays; behind the outermost frameset of a page the mode is another
+-- the root stays; after the outermost frameset of a page the mode is another
 abbrev pub is_frameset : List ℕ → State → Bool
 is_frameset ns s = is_current (one (codes "frameset")) s.tree ns
 

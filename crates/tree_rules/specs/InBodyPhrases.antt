@@ -21,7 +21,7 @@ use Rattle.tree_words.specs.Attributes.{is_hidden}
 abbrev pub formatting_start : Tag → Row
 formatting_start t = done (reconstruct ∷ insert_formatting t ∷ [])
 
--- "a": one that is listed behind the last marker is closed
+-- "a": one that is listed after the last marker is closed
 abbrev pub anchor_behind : Option ℕ → Tag → Row
 anchor_behind None t = formatting_start t
 anchor_behind (Some n) t =

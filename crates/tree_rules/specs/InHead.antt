@@ -1,4 +1,4 @@
--- The "in head" insertion mode (WHATWG HTML, 13.2.6.4.4). Other modes take tags by these rules too: behind the head,
+-- The "in head" insertion mode (WHATWG HTML, 13.2.6.4.4). Other modes take tags by these rules too: after the head,
 -- into the head.
 use Rattle.std.specs.Prelude.{ℕ, Bool, false, true, List, [], ◌∷◌, Option, None, Some, codes, if◌then◌else◌}
 use Rattle.html_lexemes.specs.declared.states.RawKind.TheVariants.{Rcdata, Rawtext, ScriptData}

@@ -55,7 +55,7 @@ start_place groups.Cell modes.InRow = 2
 start_place groups.Row modes.InTableBody = 3
 start_place group mode = usual_place mode
 
--- the end tag "html" goes from the body to what is behind it
+-- the end tag "html" goes from the body to what is after it
 abbrev pub end_place : TagGroup → InsertionMode → ℕ
 end_place groups.Html modes.AfterBody = 2
 end_place group mode = usual_place mode

@@ -14,11 +14,11 @@ pub data Row : Type 0 where
 abbrev pub ignored : Row
 ignored = done []
 
--- "Stop parsing": nothing is told behind the end.
+-- "Stop parsing": nothing is emitted after the end.
 abbrev pub stopped : Row
 stopped = done []
 
--- an element whose text follows (13.2.6.2): its insertion, behind which the mode is "text"
+-- an element whose text follows (13.2.6.2): its insertion, after which the mode is "text"
 abbrev pub reads_raw : RawKind → List Action → Row
 reads_raw kind actions = asks (raw kind) actions
 
@@ -37,8 +37,8 @@ fostered (done actions) = done (between_fosters actions)
 fostered (asks ask actions) = asks ask (between_fosters actions)
 fostered (again actions) = again (between_fosters actions)
 
--- What a mode makes of a character: it is ignored, said behind some actions, kept with the pending ones, or taken by
--- the mode that stands behind some actions.
+-- What a mode makes of a character: it is ignored, said after some actions, kept with the pending ones, or taken by
+-- the mode that stands after some actions.
 pub data TextRow : Type 0 where
   dropped : TextRow
   said_behind : List Action → TextRow

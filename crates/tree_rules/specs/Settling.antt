@@ -27,7 +27,7 @@ pub record Settled : Type 0 where
   pub ask : Ask
   pub state : State
 
--- behind what asks for the text of an element the mode is "text", which goes back to the one that stood (13.2.6.2)
+-- after what asks for the text of an element the mode is "text", which goes back to the one that stood (13.2.6.2)
 abbrev pub entered : Ask → State → State
 entered nothing s = s
 entered plaintext s = s
@@ -50,7 +50,7 @@ settle (suc k) mark s = given_by (rule mark s) s (settle k mark)
 abbrev pub taken : Mark → State → Settled
 taken mark s = settle (suc (rank mark s)) mark s
 
--- a line feed right behind some start tags is left out (13.2.6.4.7); anything that is told ends this
+-- a line feed right after some start tags is left out (13.2.6.4.7); anything that is emitted ends this
 abbrev pub past_tag : State → State
 past_tag s = record s { skip_lf = false }
 
@@ -64,7 +64,7 @@ mark_by EndTag t = finish t
 abbrev pub taken_tag : Tag → State → Settled
 taken_tag t s = taken (mark_by t.kind t) (past_tag s)
 
--- behind the end nothing is taken
+-- after the end nothing is taken
 abbrev pub over : State → State
 over s = record s { is_over = true }
 

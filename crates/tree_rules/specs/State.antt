@@ -1,4 +1,4 @@
--- The state of tree construction (WHATWG HTML, 13.2.4), and what of a page is told to it.
+-- The state of tree construction (WHATWG HTML, 13.2.4), and what of a page is emitted to it.
 use Rattle.std.specs.Prelude.{ℕ, Bool, List, Option}
 use Rattle.html_forest.specs.declared.sink.QuirksMode.{QuirksMode}
 use Rattle.html_lexemes.specs.declared.states.RawKind.{RawKind}
@@ -11,7 +11,7 @@ use Rattle.tree_words.specs.declared.modes.InsertionMode.{InsertionMode}
 -- The insertion mode, the original one, and those of open templates, the last first (13.2.4.1); the elements that head
 -- and form pointer name (13.2.4.4); a fragment's context (13.4); whether a frameset may still come, and whether a line
 -- feed is left out next (13.2.4.5 and 13.2.6.4.7); the pending characters of a table (13.2.6.4.9); the quirks mode by
--- which tags are taken; whether nothing more is taken, since the end was told or a call was refused, and whether one
+-- which tags are taken; whether nothing more is taken, since the end was emitted or a call was refused, and whether one
 -- was refused; and the tree that is built.
 pub record State : Type 0 where
   pub options : TreeBuilderOpts
@@ -29,7 +29,7 @@ pub record State : Type 0 where
   pub has_failed : Bool
   pub tree : Building
 
--- what is told: a character of text, NUL apart; a comment; a doctype; a start tag; an end tag; the end of the page
+-- what is emitted: a character of text, NUL apart; a comment; a doctype; a start tag; an end tag; the end of the page
 pub data Mark : Type 0 where
   character : ℕ → Mark
   null : Mark

@@ -1,4 +1,4 @@
--- The "text" insertion mode (WHATWG HTML, 13.2.6.4.8). Nothing else is told in it.
+-- The "text" insertion mode (WHATWG HTML, 13.2.6.4.8). Nothing else is emitted in it.
 use Rattle.std.specs.Prelude.{[], ◌∷◌}
 use Rattle.html_tree_state.specs.OpenElements.{current_of}
 use Rattle.tag_groups.specs.declared.group.TagGroup.{TagGroup}

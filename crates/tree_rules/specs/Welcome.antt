@@ -1,5 +1,5 @@
--- When tree construction may be told an item of a page, and what it takes then: anything before the end; in the mode
--- "text" what is told in an element's text.
+-- When tree construction may be given an item of a page, and what it takes then: anything before the end; in the mode
+-- "text" what is emitted in an element's text.
 use Rattle.std.specs.Prelude.{◌≡◌, Bool, false, true}
 use Rattle.html_grammar.specs.Items.{Item}
 use Rattle.html_grammar.specs.Kinds.{IsOf}
@@ -18,7 +18,7 @@ pub record IsReady (s : State) : Type 0 where
   pub ready : Ready s
   pub actions : ActionsKeep
 
--- what is asked before a call, and holds behind it whatever it answers
+-- what is asked before a call, and holds after it whatever it answers
 abbrev pub IsFit : State → Type 0
 IsFit s = s.has_failed ≡ false → IsReady s
 

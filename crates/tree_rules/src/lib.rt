@@ -1,5 +1,5 @@
-//! The rule table of tree construction (WHATWG HTML, 13.2.6): from an insertion mode and what is told to what is done;
-//! a part of `html_tree_builder`.
+//! The rule table of tree construction (WHATWG HTML, 13.2.6): from an insertion mode and what is emitted to what is
+//! done; a part of `html_tree_builder`.
 //!
 //! # What is proved
 //!

@@ -6,7 +6,7 @@ use html_forest::QuirksMode;
 /// How a tree is built from the tokens of a page.
 #[derive(Clone, Copy)]
 pub struct TreeBuilderOpts {
-    /// Whether errors are told with what stood there.
+    /// Whether errors are emitted with what stood there.
     pub exact_errors: bool,
     /// Whether scripts would run, so that the contents of `noscript` are text (WHATWG HTML, 13.2.4.5, scripting flag).
     pub scripting_enabled: bool,

@@ -1,4 +1,4 @@
--- A tag that breaks out of foreign content is taken by the rules of the mode behind that.
+-- A tag that breaks out of foreign content is taken by the rules of the mode after that.
 use Rattle.std.proofs.Common.{◌≡◌, ℕ, true, false, if◌then◌else◌, [], ◌∷◌, refl, sym, ap, ◌∙◌, IfOk, Result, Ok, Err}
 use Rattle.html_lexemes.specs.declared.token.Tag.{Tag}
 use Rattle.tag_groups.specs.Groups.{tag_group}

@@ -1,4 +1,4 @@
--- A run in front of a text, and what is behind it.
+-- A run in front of a text, and what is after it.
 use Rattle.std.proofs.Common.{◌≡◌, ℕ, ◌<◌, ◌≤◌, suc, Bool, true, false, not, if◌then◌else◌, List, [], ◌∷◌, ◌++◌, length}
 use Rattle.std.proofs.Common.{inl, inr, refl, sym, ap, ◌∙◌, arith, subst}
 use Rattle.std.proofs.Common.{◌&&◌}

@@ -1,4 +1,4 @@
--- A mark that a rule takes has come to what it comes to; one that is handed on comes to the same behind it, and its
+-- A mark that a rule takes has come to what it comes to; one that is handed on comes to the same after it, and its
 -- rank has fallen.
 use Rattle.std.proofs.Common.{◌≡◌, ℕ, ◌<◌, refl, sym, ap, ◌∙◌, subst}
 use Rattle.html_lexemes.specs.declared.token.TokenSinkResult.{TokenSinkResult}

@@ -20,7 +20,7 @@ use Rattle.tree_texts.specs.declared.text_class.TextClass.TheVariants as classes
 use Rattle.tree_steps.specs.Runs.{is_alike}
 use Rattle.tree_steps.proofs.RunLemmas.{alike_is, front_passes, rest_less, took_on, whole}
 
--- what is told, by whether it is white space
+-- what is emitted, by whether it is white space
 abbrev told_by : Bool → List ℕ → State → State
 told_by is_space cs s = record s { frameset_ok = is_space && s.frameset_ok; tree = said cs s.tree }
 
@@ -95,7 +95,7 @@ front_class class is_space cs s of c i =
     let is : is_white_space c ≡ is_space = alike_is is_space c (front_passes (is_alike is_space) cs c i) in
     subst (λ x. IsOfClass class x (text_row s.mode x s)) (sym is) of
 
--- what is left behind a front comes to what the whole does
+-- what is left after a front comes to what the whole does
 pub took_front : (p : ℕ → Bool) (cs front rest : List ℕ) (s t : State) → front ≡ front_while p cs →
     rest ≡ rest_while p cs → t ≡ took front s → took rest t ≡ took cs s
 took_front p cs front rest s t f r e =

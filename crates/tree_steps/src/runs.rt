@@ -55,7 +55,7 @@ fn is_alike(c: char, is_space: bool) -> bool
     }
 }
 
-/// The longest run in front of characters that all are white space, or none of which is, and what is behind it.
+/// The longest run in front of characters that all are white space, or none of which is, and what is after it.
 pub(crate) fn split_alike(text: &str, is_space: bool) -> (&str, &str)
     ensures front { chars result.0.now ≡ front_while (is_alike is_space) (chars text.now) }
     ensures rest { chars result.1.now ≡ rest_while (is_alike is_space) (chars text.now) }

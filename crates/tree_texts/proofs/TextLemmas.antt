@@ -272,7 +272,7 @@ by_top laws s c ready new (Some n) [] is alone e =
     first.stack) ∙ e)
 by_top laws s c ready new (Some n) (m ∷ ms) is alone e = by_new_top s c new
 
--- text is taken by the mode behind a reconstruction too
+-- text is taken by the mode after a reconstruction too
 by_anew : NodeLaws → (s : State) (c : ℕ) → Ready s →
     IsSame s.tree (reconstructed s.tree) ⊎ IsTopped s.tree (reconstructed s.tree) →
     is_by_mode (character c) s ≡ true → is_by_mode (character c) (anew s) ≡ true
@@ -286,7 +286,7 @@ by_anew laws s c ready (inr new) e =
     (adjusted_current s.context stack)) new.stack
     ∙ by_top laws s c ready new s.context new.rest refl refl e
 
--- it is no table's behind one either
+-- it is no table's after one either
 collects_anew : (s : State) → IsSame s.tree (reconstructed s.tree) ⊎ IsTopped s.tree (reconstructed s.tree) →
     collects_text s ≡ false → collects_text (anew s) ≡ false
 collects_anew s (inl same) e =

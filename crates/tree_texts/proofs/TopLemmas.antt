@@ -1,4 +1,4 @@
--- Behind a reconstruction of formatting elements the current node is the one that it was, or a formatting element.
+-- After a reconstruction of formatting elements the current node is the one that it was, or a formatting element.
 use Rattle.std.proofs.Common.{◌≡◌, ℕ, suc, ◌⊎◌, inl, inr, Bool, true, false, if◌then◌else◌, List, [], ◌∷◌, codes, refl}
 use Rattle.std.proofs.Common.{ap, sym, ◌∙◌, subst, arith, bytes_eq, ◌||◌}
 use Rattle.std.proofs.lemmas.Bool.{cases_Bool}

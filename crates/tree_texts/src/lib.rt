@@ -3,7 +3,7 @@
 //!
 //! # What is proved
 //!
-//! `runs_of_text`: a run of characters that a mode treats alike (ignores, inserts, inserts behind a reconstruction,
+//! `runs_of_text`: a run of characters that a mode treats alike (ignores, inserts, inserts after a reconstruction,
 //! keeps for a table, or takes as foreign content) comes, character by character, to what one action with the whole
 //! run makes; and text that is handed on comes to the same in the mode that stands then.
 #![tactic(auto)]

@@ -39,15 +39,15 @@ pub enum InsertionMode {
     InCell,
     /// In a template (13.2.6.4.16).
     InTemplate,
-    /// Behind the body (13.2.6.4.17).
+    /// After the body (13.2.6.4.17).
     AfterBody,
     /// In a set of frames (13.2.6.4.18).
     InFrameset,
-    /// Behind a set of frames (13.2.6.4.19).
+    /// After a set of frames (13.2.6.4.19).
     AfterFrameset,
-    /// Behind a page with a body (13.2.6.4.20).
+    /// After a page with a body (13.2.6.4.20).
     AfterAfterBody,
-    /// Behind a page of frames (13.2.6.4.21).
+    /// After a page of frames (13.2.6.4.21).
     AfterAfterFrameset,
 }
 

@@ -50,9 +50,9 @@ HasRead-fault bytes new n k text valid fault = record {
       ∙ ap (λ t. chars (new ++ encode_utf8 replacement) ++ replaced_text (t ++ rest)) (drop-drop k n bytes);
 }
 
--- ---- one turn of the loop: the run in front, and the fault behind it
+-- ---- one turn of the loop: the run in front, and the fault after it
 
--- what lies behind the run in front of what is left
+-- what lies after the run in front of what is left
 past_run : (bytes left run : List ℕ) (taken v : ℕ) → left ≡ drop taken bytes → IsValidUpTo left v → run ≡ take v left →
     drop v left ≡ drop (taken + length run) bytes
 past_run bytes left run taken v left_is valid run_is =
@@ -113,7 +113,7 @@ unfinished-past_run bytes left run taken v left_is valid run_is ends =
 
 -- ---- the bytes held back, joined with a piece
 
--- what is held, written over all of the buffer, and the piece's first bytes behind it
+-- what is held, written over all of the buffer, and the piece's first bytes after it
 pub joined-is : (held once twice first : List ℕ) (n : ℕ) → n ≤ length held → take (0 + length held) once ≡ held
     → take (n + length first) twice ≡ take n once ++ first → take (n + length first) twice ≡ take n held ++ first
 joined-is held once twice first n within once_is twice_is =

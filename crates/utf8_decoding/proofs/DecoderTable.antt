@@ -167,7 +167,7 @@ class_of b =
     (cases_lt b 0xC2))
     (cases_lt b 0x80)
 
--- ---- what the table tells by that row
+-- ---- what the table gives by that row
 
 greatest-append : (f : List ByteRange → ℕ) (xs ys : List (List ByteRange)) → greatest (map f (xs ++ ys))
     ≡ max (greatest (map f xs)) (greatest (map f ys))

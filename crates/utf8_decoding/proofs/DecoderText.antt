@@ -1,4 +1,4 @@
--- The replaced text of bytes, part by part, and what more bytes behind them change.
+-- The replaced text of bytes, part by part, and what more bytes after them change.
 use Rattle.std.proofs.Common.{◌≡◌, ℕ, zero, suc, ◌+◌, ◌<◌, ◌≤◌, Bool, true, false, IsTrue, List, [], ◌∷◌, ◌++◌, length}
 use Rattle.std.proofs.Common.{drop, map, slice_index, Some, None, IsUtf8, chars, ◌⊎◌, ⊎_elim, refl, sym, ap, ◌∙◌, arith}
 use Rattle.std.proofs.Common.{length-append}

@@ -150,7 +150,7 @@ fn read_piece(
     ensures unchanged { OnErr result (held.new ≡ held.old) }
 {
     text.reserve(piece.len())?;
-    // A held character ends within three more bytes, so those behind it are read with it, and then the piece
+    // A held character ends within three more bytes, so those after it are read with it, and then the piece
     // from where that came to.
     let mut seam = [0; 6];
     put(&mut seam, 0, held);

@@ -1,4 +1,4 @@
--- What waits behind steps.
+-- What waits after steps.
 use Rattle.std.proofs.Common.{◌≡◌, List, [], ◌∷◌, ◌++◌, Option, None, Some, refl, sym, ap, ◌∙◌}
 use Rattle.std.specs.Option.{option_and_then}
 use Rattle.renderer_calls.specs.Renderers.{Marking}

@@ -1,4 +1,4 @@
--- What waits behind a value that was opened.
+-- What waits after a value that was opened.
 use Rattle.std.proofs.Common.{◌≡◌, Bool, true, false, ◌≤◌, List, [], ◌∷◌, ◌++◌, Option, None, Some, IfSome, arith}
 use Rattle.std.proofs.Common.{sym, ap}
 use Rattle.std.proofs.Common.{◌∙◌, append_assoc, length, map, subst}

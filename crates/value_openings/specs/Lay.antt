@@ -30,7 +30,7 @@ abbrev pub listed : {H A : Type 0} → Marking H A → ItemMark → (items least
 listed m first items least inside l = in_turn
     (goes_on (Items first (item_columns m first (last_mark first items) l) least)) (in_turn inside (goes_on Flow)) l
 
--- An item stands behind its mark, which is filled up with spaces, and its further lines behind spaces.
+-- An item stands after its mark, which is filled up with spaces, and its further lines after spaces.
 abbrev pub item_laid : {H A : Type 0} → Marking H A → ItemMark → (columns least : ℕ) → Step H A → Step H A
 item_laid m mark columns least inside l = in_turn
     (behind_prefix m columns (padded columns (mark_of m (item_mark mark) l)) (spaces columns) least inside)
@@ -54,7 +54,7 @@ abbrev pub table_of : Measure → RenderInfo → (inside : Values) → Table
 table_of w infos.Table inside = table_in w inside
 table_of w _ inside = no_table
 
--- what stands in a value: in some it is laid out in a part, behind a prefix, and in lists as items
+-- what stands in a value: in some it is laid out in a part, after a prefix, and in lists as items
 abbrev pub behind_mark : {H A : Type 0} → Marking H A → Mark → (least : ℕ) → Step H A → Step H A
 behind_mark m kind least inside l =
     behind_prefix m (text_columns (mark_of m kind l)) (mark_of m kind l) (mark_of m kind l) least inside l
@@ -132,7 +132,7 @@ abbrev pub content_of : (w : Measure) → Head → (inside : Values) → Content
 content_of w head inside =
     record { items = number inside; least = (extent_of w head inside).least; table = table_of w head.info inside }
 
--- Values one behind another, each with what stands in it.
+-- Values one after another, each with what stands in it.
 abbrev pub lay : {H A : Type 0} → Marking H A → (w : Measure) → Values → Step H A
 lay m w none l = Some l
 lay m w (value head inside rest) l = in_turn (laid m head (content_of w head inside) (lay m w inside)) (lay m w rest) l

@@ -135,7 +135,7 @@ abbrev pub NeverOpens : {D T H A : Type 0} → (T → A) → DecoratorView D H T
 NeverOpens seen view f old = (tag : _) → IsTagging seen view tag
     → (inside : Step _ _) → f (marking view tag) inside (laying_of seen view.held old) ≡ None
 
--- the same where at most so many wait behind others, nodes being those of the tree, and what stands in it may be left
+-- the same where at most so many wait after others, nodes being those of the tree, and what stands in it may be left
 -- out
 pub record IsOpened {D T H A : Type 0} (seen : T → A) (view : DecoratorView D H T) (most : ℕ) (nodes : List RenderNode)
     (entered : Bool)

@@ -71,7 +71,7 @@ fn open_slot<D: TextDecorator + Drop>(
     Ok(Some(Waiting::CellEnds(cell)))
 }
 
-/// A cell begins behind the empty slots before it; none where it has no column.
+/// A cell begins after the empty slots before it; none where it has no column.
 fn open_cell<D: TextDecorator + Drop>(
     laying: &mut Laying<D>,
     alloc: Global,

@@ -16,7 +16,7 @@ use tagged_lines::columns_of;
 use text_marks::TextDecorator;
 use text_pieces::BlockError;
 
-/// What follows is laid out in a part, whose lines are to stand behind prefixes.
+/// What follows is laid out in a part, whose lines are to stand after prefixes.
 pub(crate) fn open_part<D: TextDecorator + Drop>(
     laying: &mut Laying<D>,
     alloc: Global,
@@ -47,7 +47,7 @@ pub(crate) fn open_part<D: TextDecorator + Drop>(
     Ok(Waiting::PartEnds(part))
 }
 
-/// A heading stands behind its prefix.
+/// A heading stands after its prefix.
 pub(crate) fn hold_heading<D: TextDecorator + Drop>(
     laying: &mut Laying<D>,
     alloc: Global,
@@ -69,7 +69,7 @@ pub(crate) fn hold_heading<D: TextDecorator + Drop>(
     open_part(laying, alloc, columns, least, first, following)
 }
 
-/// A quotation stands behind its prefix.
+/// A quotation stands after its prefix.
 pub(crate) fn hold_quote<D: TextDecorator + Drop>(
     laying: &mut Laying<D>,
     alloc: Global,
@@ -90,7 +90,7 @@ pub(crate) fn hold_quote<D: TextDecorator + Drop>(
     open_part(laying, alloc, columns, least, first, following)
 }
 
-/// A description stands behind two spaces.
+/// A description stands after two spaces.
 pub(crate) fn hold_details<D: TextDecorator + Drop>(
     laying: &mut Laying<D>,
     alloc: Global,

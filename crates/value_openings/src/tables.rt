@@ -196,7 +196,7 @@ fn open_row<D: TextDecorator + Drop>(
 
 // ---- its cells
 
-/// A cell ends: its renderer stands behind those of its row, and the renderer outside goes on. The error is allocation
+/// A cell ends: its renderer stands after those of its row, and the renderer outside goes on. The error is allocation
 /// failure alone.
 pub fn end_cell<D: TextDecorator + Drop>(
     laying: &mut Laying<D>,

@@ -27,7 +27,7 @@ pub enum Waiting<D: TextDecorator> {
     CellEnds(Box<OpenCell<D>>),
 }
 
-/// A part, whose lines are to stand behind prefixes in the renderer outside.
+/// A part, whose lines are to stand after prefixes in the renderer outside.
 #[derive(Drop)]
 pub struct OpenPart<D: TextDecorator> {
     /// The renderer outside.
@@ -38,7 +38,7 @@ pub struct OpenPart<D: TextDecorator> {
     pub following: String,
 }
 
-/// An item's part, behind which the list around says this.
+/// An item's part, after which the list around says this.
 #[derive(Drop)]
 pub struct OpenItem<D: TextDecorator> {
     /// The renderer outside.
@@ -60,12 +60,12 @@ pub struct OpenTable<D: TextDecorator> {
     pub fenced: bool,
 }
 
-/// A cell, whose renderer is to stand behind others in its row.
+/// A cell, whose renderer is to stand after others in its row.
 #[derive(Drop)]
 pub struct OpenCell<D: TextDecorator> {
     /// The renderer outside.
     pub outer: SubRenderer<D>,
-    /// The rows behind that of the cell.
+    /// The rows after that of the cell.
     pub rows: TableRows,
     /// The slots of its row that are still to come.
     pub slots: SlotsLeft,

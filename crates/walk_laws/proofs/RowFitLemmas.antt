@@ -90,7 +90,7 @@ row_fits {H} {A} laws widths slots made s row filled due fits = λ flushed cells
           (cells_seated widths 0 0 slots cells flushed.hanging row full awaited),
     )
 
--- ---- behind the row
+-- ---- after the row
 
 row_due : {S : Type 0} (laws : SeatLaws S) (widths : List ℕ) (slots : List Slot) (m : Measure) (tag : S) (draws : Bool)
     (cells : List (Cell S)) (b : Laid S) → IsRowFrom widths 0 0 slots → AreFilled cell_size widths slots cells

@@ -43,7 +43,7 @@ pub record IsRowFrom (widths : List ℕ) (from at : ℕ) (slots : List Slot) : T
   pub within : AllByRecursion (λ s. s.last ≤ length widths) slots
   pub starts : at ≡ start_of widths from
 
--- behind its first slot
+-- after its first slot
 row_on : (widths : List ℕ) (from at width : ℕ) (s : Slot) (slots : List Slot) → IsRowFrom widths from at (s ∷ slots)
     → width ≡ width_in widths s → IsRowFrom widths s.last (at + width + 1) slots
 row_on widths from at width s slots row is = record {

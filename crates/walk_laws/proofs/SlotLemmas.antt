@@ -16,7 +16,7 @@ use Rattle.walk_laws.proofs.MergedLemmas.{IsMerged, each_merged, merging, one, o
 
 -- ---- columns of text
 
--- where a column begins, each one before it with a separator behind it
+-- where a column begins, each one before it with a separator after it
 abbrev pub start_of : List ℕ → ℕ → ℕ
 start_of widths n = sum (take n widths) + n
 
@@ -44,7 +44,7 @@ start_end widths = ap (λ (ws : List ℕ). sum ws + length widths) (take_all (le
 pub start_within : (widths : List ℕ) (n : ℕ) → n ≤ length widths → start_of widths n ≤ sum widths + length widths
 start_within widths n le = omega (arith, start_rises widths n (length widths) le, start_end widths)
 
--- A slot takes the columns of text up to the separator before the column behind it.
+-- A slot takes the columns of text up to the separator before the column after it.
 pub slot_spans : (widths : List ℕ) (s : Slot) → AreShort widths → s.first < s.last → s.last ≤ length widths
     → start_of widths s.first + width_in widths s + 1 ≡ start_of widths s.last
 slot_spans widths s short some within =
@@ -171,7 +171,7 @@ due_behind widths from (s ∷ slots) h seats stand (inr due) = omega (
   start_rises widths from s.last (omega (arith, stand.0, stand.1.0)),
 )
 
--- the seat of a cell behind its row, where it goes on
+-- the seat of a cell after its row, where it goes on
 abbrev pub seat_behind : (place width rows : ℕ) → List Seat
 seat_behind place width rows =
     if nat_lt 1 rows then (record { place = place; width = width; rows = rows - 1 }) ∷ [] else []

@@ -62,7 +62,7 @@ abbrev pub next_around : Around → Around
 next_around Flow = Flow
 next_around (Items mark columns least) = Items (next_mark mark) columns least
 
--- behind so many values
+-- after so many values
 abbrev pub around_behind : ℕ → Around → Around
 around_behind zero a = a
 around_behind (suc n) a = around_behind n (next_around a)
@@ -232,7 +232,7 @@ link_end_keeps {m = m} laws a in_cell x sound at =
 
 -- ---- parts
 
--- a part behind so many columns of another renderer
+-- a part after so many columns of another renderer
 pub record IsPart {H A : Type 0} (columns : ℕ) (outer part : Laying H A) : Type 0 where
   pub sound : AreSound part.parts
   pub flows : part.around ≡ Flow

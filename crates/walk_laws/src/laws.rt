@@ -15,7 +15,7 @@ use text_borders::cells_keep_their_places;
 use text_marks::TextDecorator;
 
 /// No line passes the width of its renderer, where no character may overflow and prefixes are steady, whatever values
-/// are laid out: parts behind prefixes, items of lists and rows of tables among them.
+/// are laid out: parts after prefixes, items of lists and rows of tables among them.
 pub fn values_keep_the_width<D: TextDecorator>()
     ensures { (m : Marking D.Held D.Annotation.Seen) → KeepWidth m }
 {
@@ -37,7 +37,8 @@ pub fn values_with_room_are_laid<D: TextDecorator>()
     parts_with_room_never_refuse::<D>();
 }
 
-/// Values are laid out the same in renderers that keep no annotations, and are refused where they are refused in others.
+/// Values are laid out the same in renderers that keep no annotations, and are refused where they are refused in
+/// others.
 pub fn annotations_change_no_page<D: TextDecorator>()
     ensures { (m : Marking D.Held D.Annotation.Seen) → AreLaidBare m }
 {

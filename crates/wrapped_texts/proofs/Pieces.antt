@@ -35,7 +35,7 @@ sources_more seen ps i p inside read =
     ∙ sym (sources-append seen (take i ps) (p ∷ []))
     ∙ ap (λ x. sources seen (take i ps ++ x ∷ [])) read ∙ ap (sources seen) (sym (take_more ps i p inside))
 
--- what is told of the letters of texts
+-- what is said of the letters of texts
 abbrev pub TextsHaveLetters : Type 0 → Type 0
 TextsHaveLetters S = (cs : List ℕ) (main further : S) → letters_in (sourced cs main further) ≡ lettered cs main
 
@@ -66,7 +66,7 @@ no_marker_in_sources none join seen (p ∷ ps) =
     join (sourced cs (seen p.tag) (seen p.tag)) (sources seen ps) (none cs (seen p.tag) (seen p.tag))
     (no_marker_in_sources none join seen ps)
 
--- a block takes a text behind what it holds
+-- a block takes a text after what it holds
 abbrev pub TextIsKept : Type 0 → Type 0
 TextIsKept S = (width : ℕ) (overflow : Bool) (source : List (Source S)) (cs : List ℕ) (main further : S)
     → added Normal cs main further (normal_block width overflow source)

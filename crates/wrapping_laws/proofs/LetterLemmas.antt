@@ -1,4 +1,4 @@
--- The letters of texts, one behind the other.
+-- The letters of texts, one after the other.
 use Rattle.std.proofs.Common.{◌≡◌, ℕ, false, List, [], ◌∷◌, ◌++◌, ap, refl}
 use Rattle.text_pieces.specs.Sources.{Source, letter, fragment, sourced}
 use Rattle.normal_text.specs.Units.{lettered}

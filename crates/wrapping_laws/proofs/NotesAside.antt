@@ -126,7 +126,7 @@ further_chars j (l ∷ ls) h =
 abbrev gap_codes : {S : Type 0} → Joint (Rider S) → List ℕ
 gap_codes j = characters (map shown_item (gap_items j))
 
--- ---- a unit that fits, behind a line
+-- ---- a unit that fits, after a line
 
 abbrev with_unit : {S : Type 0} → List (Mark (Rider S)) → Option (Rider S) → List (Letter (Rider S))
     → List (Mark (Rider S))
@@ -363,7 +363,7 @@ cut_added w (l ∷ ls) f g j k hj hk rides fits h =
     (cut_added w ls f g cuttable k tt hk rides.1 (All-tail (λ x. width_of x.code ≤ w) l ls fits) h))
     l.tag refl rides.0
 
--- behind letters a line is never empty
+-- after letters a line is never empty
 mark_some : {S : Type 0} (w : ℕ) (f : Filled S) (m : Mark S) → is_filled (add_mark w f m).line ≡ true
 mark_some w f m = by_test (nat_le (columns (f.line ++ m ∷ [])) w)
   where

@@ -26,7 +26,7 @@ pub fn wide_text_never_fits<T: EqualCopy>()
         → NeverFits width false (letters_of source) }
 {}
 
-/// The letters of texts, one behind the other; texts have no markers.
+/// The letters of texts, one after the other; texts have no markers.
 pub fn letters_of_texts<T: EqualCopy>()
     ensures text { (cs : List ℕ) (main further : T.Seen)
         → letters_of (sourced cs main further) ≡ lettered cs main }

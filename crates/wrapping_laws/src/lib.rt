@@ -7,7 +7,7 @@
 //!   layout (`NeverFits`)
 //! - `fewest_lines`, `one_fullest_layout`, `lines_keep_the_width`: over `AreLinesOf`: no legal layout has fewer
 //!   lines; there is one list of lines at most; without overflow no line passes the width
-//! - `letters_of_texts`: the letters of texts, one behind the other
+//! - `letters_of_texts`: the letters of texts, one after the other
 //! - `normal_lines_keep_the_width`: where no character that a line is to show is wider than the width, no line
 //!   passes it, markers or not
 //! - `normal_lines_keep_markers`: each marker stands on a line or waits, in order

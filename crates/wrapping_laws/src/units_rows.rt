@@ -27,7 +27,7 @@ fn break_points_side_by_side()
     ensures space_last_lines { lines_of 3 (codes "a" ++ 0x200B ∷ codes " b") ≡ codes "a b" ∷ [] }
 {}
 
-/// A piece without columns joins the word behind it, with the gap before either: so no gap stands between them.
+/// A piece without columns joins the word after it, with the gap before either: so no gap stands between them.
 fn piece_without_columns_joins()
     ensures spaces { units_of (codes "a " ++ 0x301 ∷ codes " b")
         ≡ unit None (codes "a") ∷ unit (Some (tt {0})) (0x301 ∷ codes "b") ∷ [] }

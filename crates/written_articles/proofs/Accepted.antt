@@ -37,7 +37,7 @@ pub both_none : (x later : Option ArticleError) → option_or x later ≡ None �
 both_none None later h = (refl, h)
 both_none (Some e) later h = cc
 
--- the tests of a value that has no fault, and what is told of the rest
+-- the tests of a value that has no fault, and what is said of the rest
 
 pub word_passed : (d : ℕ) (linked : Bool) (c : ℕ) (cs : List ℕ) (rest : Inlines) →
     fault_of_inlines d linked false (words (c ∷ cs) rest) ≡ None →
@@ -72,7 +72,7 @@ link_passed d linked behind target contents rest h =
     let b = passed linked LinkInLink (fault_where (is_too_deep d) TooDeep both) a.1 in
     (a.0, (b.0, both_none within later (passed (is_too_deep d) TooDeep both b.1).1))
 
--- a paragraph, a heading, a division or a quote, and a list, behind the test of its own
+-- a paragraph, a heading, a division or a quote, and a list, after the test of its own
 pub held_passed : (d : ℕ) (within later : Option ArticleError) →
     fault_where (is_too_deep d) TooDeep (option_or within later) ≡ None → (within ≡ None) × (later ≡ None)
 held_passed d within later h = both_none within later (passed (is_too_deep d) TooDeep (option_or within later) h).1
@@ -186,7 +186,7 @@ or_parts_of : (a b : Bool) → (a || b) ≡ false → (a ≡ false) × (b ≡ fa
 or_parts_of true b h = cc
 or_parts_of false b h = (refl, h)
 
--- a number is written with digits, all of them behind this character, and a sign
+-- a number is written with digits, all of them after this character, and a sign
 module _ (c : ℕ) (low : nat_lt c 48 ≡ true) where
   glyph_apart : (b : Bool) (n : ℕ) → nat_lt c 48 ≡ true → (c == (if b then 48 + n else 87 + n)) ≡ false
   glyph_apart true n k = grind (arith, nat_tests)

@@ -1,4 +1,4 @@
--- The walk of a document's tree tells the document.
+-- The walk of a document's tree emits the document.
 use Rattle.std.proofs.Common.{◌≡◌, ℕ, zero, suc, ◌+◌, ◌≤◌, List, [], ◌∷◌, ◌++◌, length, codes}
 use Rattle.std.proofs.Common.{Option, None, Some, refl, ap, ◌∙◌, append_assoc, append-nil, arith}
 use Rattle.html_forest.specs.Forest.{Forest, Node, children_at, document, element_of, node_at, text}

@@ -31,7 +31,7 @@ begins_behind [] more e = absurd (let wrong : false ≡ true = e in cc)
 begins_behind (c ∷ name) more e = e
 
 module _ (table : References) (knows : KnowsEscapes table) (foreign : Bool) where
-  -- behind `<` a letter opens a tag, and so it does behind `</`
+  -- after `<` a letter opens a tag, and so it does after `</`
   a_tag : (mode : Mode) (cs : List ℕ) → first_passes is_letter cs ≡ true →
       markup table foreign mode cs ≡ tag_lexeme (tag_at table StartTag cs)
   a_tag mode [] e = absurd (let wrong : false ≡ true = e in cc)

@@ -56,7 +56,7 @@ no_quote (c ∷ cs) h =
     let parts = no_first (34 == c) (is_in 34 cs) h in
     and_from (not (c == 34)) (list_all (λ c. not (c == 34)) cs) (ap not (other_way 34 c parts.0)) (no_quote cs parts.1)
 
--- an attribute, behind its SPACE, before what follows
+-- an attribute, after its SPACE, before what follows
 abbrev pub value_slice : List ℕ → List ℕ
 value_slice value = 61 ∷ 34 ∷ (escaped true value ++ (34 ∷ []))
 

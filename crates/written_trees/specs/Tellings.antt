@@ -1,11 +1,11 @@
--- What a document tells a serializer (WHATWG HTML, 13.3, "serializing HTML fragments"): each text, and each element's
+-- What a document emits a serializer (WHATWG HTML, 13.3, "serializing HTML fragments"): each text, and each element's
 -- beginning and end. A document is contents too: its root element, with what stands in it.
 use Rattle.std.specs.Prelude.{ℕ, List, [], ◌∷◌, Option, None, Some, codes}
 use Rattle.html_serializer.specs.Calls.{Call, doctype_of, finish, start, text_run}
 use Rattle.rebuilt_documents.specs.Contents.{Content, none, say, span}
 use Rattle.rebuilt_documents.specs.Planted.{of_html}
 
--- the calls for some contents, and those behind them
+-- the calls for some contents, and those after them
 abbrev pub calls_and : Content → List Call → List Call
 calls_and none more = more
 calls_and (say c cs rest) more = text_run (c ∷ cs) ∷ calls_and rest more

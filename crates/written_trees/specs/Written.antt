@@ -61,7 +61,7 @@ AreAttributes [] = Unit {0}
 AreAttributes (a ∷ attributes) =
     ((a.name.ns ≡ Other []) × (IsAttributeName a.name.local × HasNoNul a.value)) × AreAttributes attributes
 
--- ordinary text behind a start tag, and the text of a title or a text area (RCDATA) behind its own
+-- ordinary text after a start tag, and the text of a title or a text area (RCDATA) after its own
 abbrev pub ordinary : Option (List ℕ) → Mode
 ordinary last = record { text = Ordinary; last_start_tag = last }
 
@@ -80,7 +80,7 @@ pub data IsReadBack : Mode → Item → Type 0 where
       IsReadBack (rcdata_of name) (end_of name)
   declares : (last : Option (List ℕ)) → IsReadBack (ordinary last) html_doctype
 
--- the mode behind an item, by the sink's reply to it
+-- the mode after an item, by the sink's reply to it
 abbrev pub mode_after : {A H : Type 0} → Meaning A H → Mode → A → Item → Mode
 mode_after means mode state (tag t) = mode_behind mode t (means.reply state (tag t))
 mode_after means mode state (characters cs) = mode

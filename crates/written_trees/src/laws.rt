@@ -31,7 +31,7 @@ use page_laws::a_page_is_at_its_beginning;
 use rebuilt_documents::{a_planted_tree_is_at_once, documents_ask, documents_rebuild};
 use tree_meaning::tree_construction_is_lawful;
 
-/// The reading of what is written of a page's items, whatever follows it, tells the items.
+/// The reading of what is written of a page's items, whatever follows it, emits the items.
 pub fn written_items_are_read_back<S: TokenSink>()
     ensures { (table : References) (mode : SeenMode) (state : S.Abstract) (items : List Item) (rest : List ℕ)
         (final : S.Abstract) → KnowsEscapes table → AreReadBack S.means mode state items →
@@ -39,7 +39,7 @@ pub fn written_items_are_read_back<S: TokenSink>()
         Reading table S.means mode state (items_text items ++ rest) final }
 {}
 
-/// The reading of a written document tells its tokens, whatever the sink that replies to its tags as tree construction
+/// The reading of a written document emits its tokens, whatever the sink that replies to its tags as tree construction
 /// does.
 pub fn a_written_document_is_read_back<S: TokenSink>()
     ensures { (table : References) (last : Option (List ℕ)) (state : S.Abstract) (title : Option (List ℕ))
@@ -85,7 +85,7 @@ pub fn a_document_is_walked()
     a_documents_tree_at_once();
 }
 
-/// The walk of a document's tree tells a serializer the document.
+/// The walk of a document's tree emits a serializer the document.
 pub fn a_document_is_told()
     ensures { (scope : Scope) (title : Option (List ℕ)) (content : Content) →
         calls_of scope 0 (whole_tree title content) ≡ document_calls title content }

@@ -9,16 +9,16 @@
 //! that knows those of escaped text.
 //!
 //! - `written_items_are_read_back`: the reading of what is written of texts, tags and doctypes, whatever follows,
-//!   tells these items, for every lawful sink, where each is read back in the mode in which it stands
+//!   emits these items, for every lawful sink, where each is read back in the mode in which it stands
 //!   (`AreReadBack`)
-//! - `a_written_document_is_read_back`: the reading of a written document tells its tokens, for every lawful sink
+//! - `a_written_document_is_read_back`: the reading of a written document emits its tokens, for every lawful sink
 //!   that asks for the text of the title and for nothing else
 //! - `a_written_document_has_its_tree`: what tree construction makes of that reading, from the beginning of a page
 //!   on, is the document's tree (`document_tree`), and nothing else
 //! - `a_documents_tree_at_once`: that tree, planted node by node, is the one in which all nodes stand at once
 //!   (`whole_tree`)
 //! - `a_document_is_walked`: the walk of a document's tree writes the document, whether scripts are run or not
-//! - `a_document_is_told`: the walk of that tree tells a serializer the document's calls (`document_calls`),
+//! - `a_document_is_told`: the walk of that tree emits a serializer the document's calls (`document_calls`),
 //!   whether its own node is counted or not
 //! - `a_written_document_is_written_back`: what is written again of the tree to which a written document is read is
 //!   the same text

@@ -1,4 +1,4 @@
-//! In the body: what stands behind a mark. Elements are named from the root on.
+//! In the body: what stands after a mark. Elements are named from the root on.
 ghost use Rattle.std.specs.Prelude.{◌≡◌, [], ◌∷◌, codes};
 ghost use Rattle.rule_rows.specs.RowWords.{doctype_named, end, finished, null, remark, start, start_with, view};
 ghost use Rattle.rule_rows.specs.RowWords.{words};

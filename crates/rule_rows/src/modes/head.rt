@@ -1,4 +1,4 @@
-//! The modes up to the body: what stands behind a mark. Elements are named from the root on.
+//! The modes up to the body: what stands after a mark. Elements are named from the root on.
 ghost use Rattle.std.specs.Prelude.{◌≡◌, [], ◌∷◌, codes};
 ghost use Rattle.rule_rows.specs.RowWords.{doctype_named, end, finished, null, remark, start, view, view_from};
 ghost use Rattle.rule_rows.specs.RowWords.{without_scripts, words};

@@ -1,4 +1,4 @@
-//! Phrases in the body, text, and the modes behind the body. Elements are named from the root on.
+//! Phrases in the body, text, and the modes after the body. Elements are named from the root on.
 ghost use Rattle.std.specs.Prelude.{◌≡◌, [], ◌∷◌, ◌++◌, codes};
 ghost use Rattle.rule_rows.specs.RowWords.{doctype_named, end, finished, null, remark, start, start_closed, view};
 ghost use Rattle.rule_rows.specs.RowWords.{words};

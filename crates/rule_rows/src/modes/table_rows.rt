@@ -1,4 +1,4 @@
-//! The modes of sections, rows and cells: what stands behind a mark. Elements are named from the root on.
+//! The modes of sections, rows and cells: what stands after a mark. Elements are named from the root on.
 ghost use Rattle.std.specs.Prelude.{◌≡◌, [], ◌∷◌, ◌++◌, codes};
 ghost use Rattle.rule_rows.specs.RowWords.{doctype_named, end, finished, null, remark, start, view, words};
 ghost use Rattle.tree_words.specs.declared.modes.InsertionMode.TheVariants.{InBody, InTable, InTableText, InCaption};

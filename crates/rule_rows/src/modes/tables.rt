@@ -1,4 +1,4 @@
-//! The modes of tables: what stands behind a mark. Elements are named from the root on.
+//! The modes of tables: what stands after a mark. Elements are named from the root on.
 ghost use Rattle.std.specs.Prelude.{◌≡◌, [], ◌∷◌, ◌++◌, codes};
 ghost use Rattle.rule_rows.specs.RowWords.{doctype_named, end, error, finished, null, remark, start, start_with};
 ghost use Rattle.rule_rows.specs.RowWords.{view, words};

@@ -1,4 +1,4 @@
--- What is read behind a text is read behind its escape, and a text has one reading.
+-- What is read after a text is read after its escape, and a text has one reading.
 use Rattle.std.proofs.Common.{◌++◌, false, subst}
 use Rattle.html_grammar.specs.Items.{characters}
 use Rattle.html_grammar.specs.Reading.{Reading}

@@ -1,4 +1,4 @@
--- What is left of the text gives the rest of the tag; a set has the names behind the first attributes.
+-- What is left of the text gives the rest of the tag; a set has the names after the first attributes.
 use Rattle.std.proofs.Common.{◌≡◌, chars, length}
 use denote.Text.{Utf8}
 use denote.Shadow.{shadow}

@@ -1,4 +1,4 @@
--- A value stands behind `=`, over spaces.
+-- A value stands after `=`, over spaces.
 use Rattle.std.proofs.Common.{chars}
 use Rattle.html_grammar.proofs.TagValueLemmas.{value-found, value-missing}
 use Rattle.html_grammar.proofs.tags.value_behind.Goals as goal

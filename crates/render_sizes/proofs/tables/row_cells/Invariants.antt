@@ -4,7 +4,7 @@ use Rattle.render_sizes.specs.Extents.{Measure, extents}
 use Rattle.render_sizes.proofs.RowLemmas.{IsTold}
 use Rattle.render_sizes.proofs.tables.row_cells.Given as goal
 
--- what was told, and what the rest still tells
+-- what was emitted, and what the rest still emits
 abbrev pub invariant-nodes : goal.invariant-nodes
 invariant-nodes l = record {
   flat : IsFlat l.rest;

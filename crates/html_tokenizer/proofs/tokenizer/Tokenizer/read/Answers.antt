@@ -19,7 +19,7 @@ use Rattle.html_tokenizer.proofs.RunLemmas.{run_on, run_text, turn_shorter, turn
 use Rattle.html_tokenizer.proofs.RunLemmas.{last_takes, with_character, with_none}
 use Rattle.html_tokenizer.proofs.tokenizer.Tokenizer.read.Goals as goal
 
--- a call that leaves the sink as it was tells nothing
+-- a call that leaves the sink as it was emits nothing
 same_sink : {S A H : Type 0} (state : S → A) (means : Meaning A H) (begun : A) (old new : S) → new ≡ old →
     TellsOn means begun (state old) → TellsOn means begun (state new)
 same_sink state means begun old new e on = subst (λ x. TellsOn means begun (state x)) (sym e) on
