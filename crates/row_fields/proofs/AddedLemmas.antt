@@ -89,20 +89,6 @@ behind_one old mid new cs c scalar utf8 one more =
     ∙ ap (λ l. l ++ cs) (chars-append old (encode_utf8 c) utf8 ∙ ap (λ l. chars old ++ l) (chars-encode c scalar))
     ∙ append_assoc (chars old) (c ∷ []) cs
 
--- a text, another and a last character
-pub behind_word : (old mid more new word cs : List ℕ) (c : ℕ) → IsScalar c → IsUtf8 old → IsUtf8 more
-    → mid ≡ old ++ word → chars more ≡ chars mid ++ cs → new ≡ more ++ encode_utf8 c
-    → chars new ≡ chars old ++ (chars word ++ (cs ++ c ∷ []))
-behind_word old mid more new word cs c scalar utf8 utf8_more first next last =
-    ap chars last ∙ chars-append more (encode_utf8 c) utf8_more ∙ ap (λ l. chars more ++ l) (chars-encode c scalar)
-    ∙ ap (λ l. l ++ c ∷ []) (next ∙ ap (λ bs. chars bs ++ cs) first ∙ ap (λ l. l ++ cs) (chars-append old word utf8))
-    ∙ append_assoc (chars old ++ chars word) cs (c ∷ []) ∙ append_assoc (chars old) (chars word) (cs ++ c ∷ [])
-
-pub on_added : {T E P : Type 0} (r : Result T E) (old added new : List ℕ) → new ≡ (if is_ok r then added else old)
-    → (new ≡ added → P) → OnOk r P
-on_added (Ok x) old added new pushed f = f pushed
-on_added (Err e) old added new pushed f = tt
-
 pub one_more : (old new cs : List ℕ) (c : ℕ) → IsScalar c → IsUtf8 old → new ≡ old ++ encode_utf8 c → chars old ≡ cs
     → chars new ≡ cs ++ c ∷ []
 one_more old new cs c scalar utf8 one so_far =

@@ -10,5 +10,5 @@ mod pieces;
 
 pub use escapes::{NO_TEXT, push_escaped, unescaped};
 pub use field_fault::FieldFault;
-pub use lines::{push_field, push_line};
+pub use lines::{end_line, push_field, push_line, push_word};
 pub use pieces::{characters, halves, whole};

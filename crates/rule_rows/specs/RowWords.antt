@@ -163,13 +163,13 @@ abbrev pub finished : Item
 finished = items.end_of_file
 
 abbrev pub behind : List Item → State
-behind told = fold step begun told
+behind emitted = fold step begun emitted
 
 abbrev pub tree_of : State → List ℕ
 tree_of s = shown 20 s.tree.forest 0
 
 abbrev pub page : List Item → List ℕ
-page told = tree_of (behind told)
+page emitted = tree_of (behind emitted)
 
 -- the names of the open elements, the root first, with a space between two
 abbrev pub spoken : List QualName → List ℕ
@@ -187,17 +187,17 @@ abbrev pub view_of : State → View
 view_of s = record { mode = s.mode; elements = spoken (names_of s.tree); tree = tree_of s }
 
 abbrev pub view_from : State → List Item → View
-view_from first told = view_of (fold step first told)
+view_from first emitted = view_of (fold step first emitted)
 
 abbrev pub view : List Item → View
-view told = view_from begun told
+view emitted = view_from begun emitted
 
 -- what the tokenizer is answered for an item after others; a script is its node's number
 abbrev pub answer_from : State → List Item → Item → TokenSinkResult ℕ
-answer_from first told item = reply (λ n. n) (fold step first told) item
+answer_from first emitted item = reply (λ n. n) (fold step first emitted) item
 
 abbrev pub answer : List Item → Item → TokenSinkResult ℕ
-answer told item = answer_from begun told item
+answer emitted item = answer_from begun emitted item
 
 -- a page's tree, with the quirks mode that stands
 pub record Whole : Type 0 where
@@ -208,14 +208,14 @@ abbrev pub whole_of : State → Whole
 whole_of s = record { quirks = s.quirks; tree = tree_of s }
 
 abbrev pub whole_from : State → List Item → Whole
-whole_from first told = whole_of (fold step first told)
+whole_from first emitted = whole_of (fold step first emitted)
 
 abbrev pub whole : List Item → Whole
-whole told = whole_from begun told
+whole emitted = whole_from begun emitted
 
 -- the attributes of a node, as text
-abbrev pub attribute_told : Attribute → List ℕ
-attribute_told a = a.name.local ++ codes "=" ++ a.value ++ codes " "
+abbrev pub attribute_text : Attribute → List ℕ
+attribute_text a = a.name.local ++ codes "=" ++ a.value ++ codes " "
 
 abbrev pub attributes_at : ℕ → List Item → List ℕ
-attributes_at n told = flat_map attribute_told (element_of (kind_at n (behind told).tree.forest)).attributes
+attributes_at n emitted = flat_map attribute_text (element_of (kind_at n (behind emitted).tree.forest)).attributes

@@ -6,14 +6,14 @@ use html_lexemes::{LocalName, ReferenceTable};
 use html_tokenizer::{TokenizerOpts, read_pieces, read_plainly};
 use row_fields::{NO_TEXT, unescaped};
 use std::alloc::Global;
-use token_lines::{Listed, Told, lines_of};
+use token_lines::{Listed, Listing, lines_of};
 use token_sinks::KeptTokens;
 
 /// How a text is read, and what of it has lines.
 #[derive(Drop)]
 struct Tokenizing<'a> {
     /// Whether its tokens, its errors or both.
-    told: Told,
+    listing: Listing,
     opts: TokenizerOpts,
     /// Whether the adjusted current node is foreign.
     is_foreign: bool,
@@ -25,7 +25,7 @@ struct Tokenizing<'a> {
 /// begin in, the name of the last start tag or `\N`, `foreign` or `-`, the table of references, and the text. Tokens
 /// are also read by the plain reader.
 pub fn answer(alloc: Global, row: &str) -> Result<String> {
-    let (told, exact_errors, row) = told_of(row);
+    let (listing, exact_errors, row) = listing_of(row);
     let mut fields = row.split('\t');
     let (Some(state), Some(last), Some(foreign), Some(table), Some(text), None) = (
         fields.next(),
@@ -38,7 +38,7 @@ pub fn answer(alloc: Global, row: &str) -> Result<String> {
         bail!("a text's row has five fields");
     };
     let tokenizing = Tokenizing {
-        told,
+        listing,
         opts: TokenizerOpts {
             exact_errors,
             discard_bom: true,
@@ -54,7 +54,7 @@ pub fn answer(alloc: Global, row: &str) -> Result<String> {
 impl<'a> Tokenizing<'a> {
     fn lines_of_text(&self, alloc: Global, text: &str) -> Result<String> {
         let lines = lines_however_cut(alloc, self, text, usize::MAX)?;
-        if self.told == Told::Tokens && self.lines_read_plainly(alloc, text)? != lines {
+        if self.listing == Listing::Tokens && self.lines_read_plainly(alloc, text)? != lines {
             bail!("the plain reader has other lines");
         }
         Ok(lines)
@@ -73,24 +73,24 @@ impl<'a> Reading for Tokenizing<'a> {
     fn lines(&self, alloc: Global, pieces: Vec<String>) -> Result<String> {
         let opts = self.opts.try_clone()?;
         let table = table_of(alloc, self.table)?;
-        if self.told == Told::Tokens {
+        if self.listing == Listing::Tokens {
             let sink = KeptTokens::new(alloc, self.is_foreign);
             let kept = read_pieces(alloc, sink, opts, table, pieces)?;
             return Ok(lines_of(alloc, kept.tokens())?);
         }
-        let sink = Listed::new(alloc, self.told, self.is_foreign);
+        let sink = Listed::new(alloc, self.listing, self.is_foreign);
         let listed = read_pieces(alloc, sink, opts, table, pieces)?;
         Ok(listed.into_text()?)
     }
 }
 
 // what has lines, whether in the exact wording, and the fields after the word that says so
-fn told_of(row: &str) -> (Told, bool, &str) {
+fn listing_of(row: &str) -> (Listing, bool, &str) {
     match row.split_once('\t') {
-        Some(("errors", fields)) => (Told::Errors, false, fields),
-        Some(("exact_errors", fields)) => (Told::Errors, true, fields),
-        Some(("tokens_and_errors", fields)) => (Told::Both, false, fields),
-        _ => (Told::Tokens, false, row),
+        Some(("errors", fields)) => (Listing::Errors, false, fields),
+        Some(("exact_errors", fields)) => (Listing::Errors, true, fields),
+        Some(("tokens_and_errors", fields)) => (Listing::Both, false, fields),
+        _ => (Listing::Tokens, false, row),
     }
 }
 

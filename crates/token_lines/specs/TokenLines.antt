@@ -99,4 +99,4 @@ lines_of tokens = lines_of_parts (flat_map parts_of tokens)
 
 -- the lines of what was emitted, and of parts that follow it
 abbrev pub lines_with : TokenLines → List Part → List ℕ
-lines_with told parts = chars (string_bytes told.lines) ++ lines_from (chars (string_bytes told.text)) parts
+lines_with kept parts = chars (string_bytes kept.lines) ++ lines_from (chars (string_bytes kept.text)) parts

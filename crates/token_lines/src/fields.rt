@@ -5,20 +5,8 @@ ghost use Rattle.token_lines.specs.TokenLines.{attribute_line, comment_line, doc
 ghost use Rattle.token_lines.specs.TokenLines.{field_if_given, flag, kind_word, null_line, tag_line, tag_lines};
 
 use html_lexemes::{Attribute, Doctype, Tag, TagKind, Text};
-use row_fields::{NO_TEXT, push_field, push_line};
+use row_fields::{NO_TEXT, end_line, push_field, push_line, push_word};
 use std::alloc::AllocError;
-
-fn push_word(lines: &mut String, word: &str) -> Result<(), AllocError>
-    ensures { OnOk result (chars (string_bytes lines.new) ≡ chars (string_bytes lines.old) ++ chars word.now) }
-{
-    lines.push_str(word)
-}
-
-fn end_line(lines: &mut String) -> Result<(), AllocError>
-    ensures { OnOk result (chars (string_bytes lines.new) ≡ chars (string_bytes lines.old) ++ 10 ∷ []) }
-{
-    lines.push('\n')
-}
 
 fn push_number(lines: &mut String, number: u64) -> Result<(), AllocError>
     ensures { OnOk result (chars (string_bytes lines.new)

@@ -5,5 +5,5 @@ mod fields;
 mod listed;
 mod token_lines;
 
-pub use listed::{Listed, Told};
+pub use listed::{Listed, Listing};
 pub use token_lines::{TokenLines, lines_of};

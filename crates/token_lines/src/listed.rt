@@ -12,7 +12,7 @@ use std::alloc::{AllocError, Global};
 
 /// Of what a sink writes lines.
 #[derive(Clone, Copy, PartialEq, Eq)]
-pub enum Told {
+pub enum Listing {
     /// Of tokens alone.
     Tokens,
     /// Of errors alone.
@@ -27,19 +27,19 @@ pub struct Listed {
     /// Whether the adjusted current node is foreign.
     pub is_foreign: bool,
     lines: TokenLines,
-    told: Told,
+    listing: Listing,
 }
 
 impl Listed {
     /// No lines yet.
-    pub fn new(alloc: Global, told: Told, is_foreign: bool) -> Listed
+    pub fn new(alloc: Global, listing: Listing, is_foreign: bool) -> Listed
         ensures foreign { result.is_foreign ≡ is_foreign }
-        ensures lines { (heard : List (Token × ℕ)) → listed_with result heard ≡ lines_heard told heard }
+        ensures lines { (heard : List (Token × ℕ)) → listed_with result heard ≡ lines_heard listing heard }
     {
         Listed {
             is_foreign,
             lines: TokenLines::new(alloc),
-            told,
+            listing,
         }
     }
 
@@ -86,7 +86,7 @@ impl TokenSink for Listed {
         ensures lines { OnOk result ((rest : List (Token × ℕ)) →
             listed_with self.new rest ≡ listed_with self.old ((token, line) ∷ rest)) }
     {
-        add(&mut self.lines, self.told, &token, line)?;
+        add(&mut self.lines, self.listing, &token, line)?;
         Ok(TokenSinkResult::Continue)
     }
 
@@ -103,14 +103,14 @@ impl TokenSink for Listed {
 }
 
 // adds the line of a token, or of an error, where there are lines of such
-fn add(lines: &mut TokenLines, told: Told, token: &Token, line: u64) -> Result<(), AllocError>
+fn add(lines: &mut TokenLines, listing: Listing, token: &Token, line: u64) -> Result<(), AllocError>
     ensures { OnOk result ((rest : List Part) →
-        lines_with lines.new rest ≡ lines_with lines.old (parts_heard told (token.now, line) ++ rest)) }
+        lines_with lines.new rest ≡ lines_with lines.old (parts_heard listing (token.now, line) ++ rest)) }
 {
     match token {
-        Token::ParseError(_) if told == Told::Tokens => Ok(()),
+        Token::ParseError(_) if listing == Listing::Tokens => Ok(()),
         Token::ParseError(message) => lines.add_error(message.as_str(), line),
-        _ if told == Told::Errors => Ok(()),
+        _ if listing == Listing::Errors => Ok(()),
         _ => lines.add(token),
     }
 }

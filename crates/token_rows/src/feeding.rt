@@ -24,8 +24,8 @@ pub(crate) fn fed<S: TokenSink + Drop>(
 ) -> Result<S, ParseFault>
     requires { IsReadyFor S.ready S.welcomes (text_of_state options.initial_state) (S.state sink) }
     ensures memory { IfErr result (λ e. e ≡ Memory) }
-    ensures told { IfOk result (λ told. IsClosed S.close (Reading table S.means (first_mode options)
-        (S.state sink) (page_text options.discard_bom (joined pieces.items))) (S.state told)) }
+    ensures reads { IfOk result (λ last. IsClosed S.close (Reading table S.means (first_mode options)
+        (S.state sink) (page_text options.discard_bom (joined pieces.items))) (S.state last)) }
 {
     read_pieces(alloc, sink, options, table, pieces)
 }

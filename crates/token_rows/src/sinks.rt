@@ -7,7 +7,7 @@ use html_grammar::TokenSink;
 use html_lexemes::states::RawKind;
 use html_lexemes::{LocalName, ParseFault, Tag, TagKind, Text, Token, TokenSinkResult};
 use std::alloc::{AllocError, Global};
-use token_lines::{Listed, Told};
+use token_lines::{Listed, Listing};
 
 /// The handle of each script element.
 pub(crate) const SCRIPT_HANDLE: u32 = 7;
@@ -36,7 +36,7 @@ impl Switching {
     /// Takes so many tokens. The names are `title`, `script`, `plaintext` and `meta`, the encoding is `latin1`.
     pub(crate) fn new(alloc: Global, left: u64) -> Result<Switching, AllocError> {
         Ok(Switching {
-            listed: Listed::new(alloc, Told::Tokens, false),
+            listed: Listed::new(alloc, Listing::Tokens, false),
             tag_line: 0,
             left,
             rcdata: LocalName::from_str(alloc, "title")?,

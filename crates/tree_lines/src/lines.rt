@@ -9,7 +9,7 @@ ghost use Rattle.tree_lines.specs.TreeLines.{kind_lines, line, namespace_word, n
 
 use html_lexemes::{Attribute, Attributes, Namespace, QualName, Text};
 use html_render_dom::{Handle, NodeData, RcDom};
-use row_fields::{push_field, push_line};
+use row_fields::{end_line, push_field, push_line, push_word};
 use std::alloc::AllocError;
 
 pub(crate) fn one_deeper(level: usize) -> Result<usize, AllocError>
@@ -176,16 +176,4 @@ fn push_level(lines: &mut String, level: usize) -> Result<(), AllocError>
         push_word(lines, " ")?;
     }
     Ok(())
-}
-
-fn push_word(lines: &mut String, word: &str) -> Result<(), AllocError>
-    ensures { OnOk result (chars (string_bytes lines.new) ≡ chars (string_bytes lines.old) ++ chars word.now) }
-{
-    lines.push_str(word)
-}
-
-fn end_line(lines: &mut String) -> Result<(), AllocError>
-    ensures { OnOk result (chars (string_bytes lines.new) ≡ chars (string_bytes lines.old) ++ 10 ∷ []) }
-{
-    lines.push('\n')
 }

@@ -1,7 +1,7 @@
 use Rattle.std.proofs.Common.{[], ◌∷◌, encode_utf8, refl, string_bytes}
 use Rattle.std.proofs.lemmas.Str.{IsUtf8-string_bytes}
 use Rattle.row_fields.proofs.AddedLemmas.{chars-encode, is_pushed}
-use Rattle.tree_lines.proofs.lines.end_line.Goals as goal
+use Rattle.row_fields.proofs.lines.end_line.Goals as goal
 
 pub returns : goal.returns
 returns c =

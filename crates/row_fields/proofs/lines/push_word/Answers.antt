@@ -1,7 +1,7 @@
 use Rattle.std.proofs.Common.{chars, refl, string_bytes}
 use Rattle.std.proofs.lemmas.Str.{IsUtf8-string_bytes}
 use Rattle.row_fields.proofs.AddedLemmas.{is_pushed}
-use Rattle.tree_lines.proofs.lines.push_word.Goals as goal
+use Rattle.row_fields.proofs.lines.push_word.Goals as goal
 
 pub returns : goal.returns
 returns c =
