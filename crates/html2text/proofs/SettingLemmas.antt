@@ -87,21 +87,17 @@ decorated_setting asked names c base rich decorate plain is =
 
 -- ---- what they give
 
-abbrev pub IsRichTold : {D : Type 0} → PageSetting (Unit {0}) → ℕ → List ℕ → List ℕ → Type 0
-IsRichTold {D = D} c width bytes told =
-    IsTold rich_tag (rich_view {D = D}) c width bytes told
+abbrev pub IsRichTold : PageSetting (Unit {0}) → ℕ → List ℕ → List ℕ → Type 0
+IsRichTold c width bytes told = IsTold rich_tag rich_view c width bytes told
 
-abbrev pub RichAnswers : {D : Type 0} → PageSetting (Unit {0}) → ℕ → List ℕ → PageAnswer RichTag → Type 0
-RichAnswers {D = D} c width bytes answer =
-    Answers rich_tag (rich_view {D = D}) c width bytes answer
+abbrev pub RichAnswers : PageSetting (Unit {0}) → ℕ → List ℕ → PageAnswer RichTag → Type 0
+RichAnswers c width bytes answer = Answers rich_tag rich_view c width bytes answer
 
-abbrev pub IsPlainTold : {D : Type 0} → PageSetting (Unit {0}) → ℕ → List ℕ → List ℕ → Type 0
-IsPlainTold {D = D} c width bytes told =
-    IsTold (λ _. tt) (plain_view {D = D}) c width bytes told
+abbrev pub IsPlainTold : PageSetting (Unit {0}) → ℕ → List ℕ → List ℕ → Type 0
+IsPlainTold c width bytes told = IsTold (λ _. tt) plain_view c width bytes told
 
-abbrev pub PlainAnswers : {D : Type 0} → PageSetting (Unit {0}) → ℕ → List ℕ → PageAnswer (Unit {0}) → Type 0
-PlainAnswers {D = D} c width bytes answer =
-    Answers (λ _. tt) (plain_view {D = D}) c width bytes answer
+abbrev pub PlainAnswers : PageSetting (Unit {0}) → ℕ → List ℕ → PageAnswer (Unit {0}) → Type 0
+PlainAnswers c width bytes answer = Answers (λ _. tt) plain_view c width bytes answer
 
 rich_look : (look : Bool) (R P : Type 0) → look ≡ true → R → EitherLook look R P
 rich_look true R P e r = r

@@ -19,33 +19,32 @@ plain_alike table c d p q = record {
 }
 
 -- annotations of plain text are seen in one way
-plain_told : (D : Type 0) (table : References) (c : PageSetting (Unit {0})) (width : ℕ) (all : Option (List ℕ)) (told : List ℕ)
+plain_told : (table : References) (c : PageSetting (Unit {0})) (width : ℕ) (all : Option (List ℕ)) (told : List ℕ)
     → IsPlain table c
-    → IfSome all (λ bytes. IsTold {A = Unit {0}} (λ _. tt) (plain_view {D = D}) c width bytes told)
+    → IfSome all (λ bytes. IsTold {A = Unit {0}} (λ _. tt) plain_view c width bytes told)
     → IfSome all (λ bytes. HasPlainText table width bytes told)
-plain_told D table c width None told plain is = tt
-plain_told D table c width (Some bytes) told plain is = record {
+plain_told table c width None told plain is = tt
+plain_told table c width (Some bytes) told plain is = record {
   setting = c;
   plain = plain;
   has = is (λ _ _. tt) (λ h m a given. refl);
 }
 
-pub plain_answer : (D : Type 0) (table : References) (c : PageSetting (Unit {0})) (width : ℕ) (all : Option (List ℕ))
+pub plain_answer : (table : References) (c : PageSetting (Unit {0})) (width : ℕ) (all : Option (List ℕ))
     (answer : PageAnswer (Unit {0})) → IsPlain table c
-    → IfSome all (λ bytes. Answers {A = Unit {0}} (λ _. tt) (plain_view {D = D}) c width bytes answer)
+    → IfSome all (λ bytes. Answers {A = Unit {0}} (λ _. tt) plain_view c width bytes answer)
     → IfSome all (λ bytes. HasPlainAnswer table width bytes answer)
-plain_answer D table c width None answer plain is = tt
-plain_answer D table c width (Some bytes) answer plain is = record {
+plain_answer table c width None answer plain is = tt
+plain_answer table c width (Some bytes) answer plain is = record {
   setting = c;
   plain = plain;
   has = is (λ _ _. tt) (λ h m a given. refl);
 }
 
-pub told_text : {E : Type 0} (D : Type 0) (table : References) (c : PageSetting (Unit {0})) (width : ℕ) (all : Option (List ℕ))
+pub told_text : {E : Type 0} (table : References) (c : PageSetting (Unit {0})) (width : ℕ) (all : Option (List ℕ))
     (r : Result (String Global) E) → IsPlain table c
-    → IfOk r (λ text. IfSome all (λ bytes. IsTold (λ _. tt)
-    (plain_view {D = D}) c width
-    bytes (chars (string_bytes text))))
+    → IfOk r (λ text. IfSome all (λ bytes. IsTold {A = Unit {0}} (λ _. tt) plain_view c width bytes
+    (chars (string_bytes text))))
     → IfOk r (λ text. IfSome all (λ bytes. HasPlainText table width bytes (chars (string_bytes text))))
-told_text D table c width all (Ok text) plain is = plain_told D table c width all (chars (string_bytes text)) plain is
-told_text D table c width all (Err e) plain is = tt
+told_text table c width all (Ok text) plain is = plain_told table c width all (chars (string_bytes text)) plain is
+told_text table c width all (Err e) plain is = tt

@@ -8,10 +8,11 @@ use Rattle.page_config.specs.Settings.{PageSetting}
 use Rattle.render_conversion.specs.Decorating.{decorating_rules, seen_rule}
 use Rattle.renderer_calls.specs.Defaults.{default_options}
 use Rattle.text_decorators.specs.Texts.{plain_text}
+use Rattle.text_decorators.specs.declared.plain.PlainDecorator.{PlainDecorator}
 use Rattle.text_marks.specs.Marks.{DecoratorView}
 
--- what the decorator of plain text is seen as, whatever stands for it
-abbrev pub plain_view : {D : Type 0} → DecoratorView D (Unit {0}) (Unit {0})
+-- what the decorator of plain text is seen as
+abbrev pub plain_view : DecoratorView PlainDecorator (Unit {0}) (Unit {0})
 plain_view = record {
   held = λ _. tt;
   text = λ _ m. plain_text m;

@@ -6,10 +6,11 @@ use Rattle.page_config.specs.Settings.{PageSetting}
 use Rattle.text_decorators.specs.Annotations.{RichTag, rich_tag}
 use Rattle.text_decorators.specs.Texts.{IsRich, is_colour, rich_text}
 use Rattle.text_decorators.specs.declared.annotation.RichAnnotation.{RichAnnotation}
+use Rattle.text_decorators.specs.declared.rich.RichDecorator.{RichDecorator}
 use Rattle.text_marks.specs.Marks.{DecoratorView}
 
--- what the decorator of rich text is seen as, whatever stands for it
-abbrev pub rich_view : {D : Type 0} → DecoratorView D (Unit {0}) RichAnnotation
+-- what the decorator of rich text is seen as
+abbrev pub rich_view : DecoratorView RichDecorator (Unit {0}) RichAnnotation
 rich_view = record {
   held = λ _. tt;
   text = λ _ m. rich_text m;

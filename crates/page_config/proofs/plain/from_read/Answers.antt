@@ -7,19 +7,17 @@ use Rattle.page_config.specs.PageAnswers.{fail, too_narrow}
 use Rattle.page_config.specs.Settings.{bare_setting}
 
 pub returns-clause-text : goal.returns-clause-text
-returns-clause-text g c = told_text _ c.args.table (bare_setting c.in_ok-plain.field-0) c.args.width
+returns-clause-text g c = told_text c.args.table (bare_setting c.in_ok-plain.field-0) c.args.width
     (g.R.ByteReader.remaining c.args.input.now) c.string_from_read.result c.in_ok-plain.ensures.plain
     c.string_from_read.ensures.text
 
 pub returns-clause-narrow : goal.returns-clause-narrow
-returns-clause-narrow g c = λ e. plain_answer _ c.args.table (bare_setting c.in_ok-plain.field-0)
-    c.args.width
+returns-clause-narrow g c = λ e. plain_answer c.args.table (bare_setting c.in_ok-plain.field-0) c.args.width
     (g.R.ByteReader.remaining c.args.input.now) too_narrow c.in_ok-plain.ensures.plain
     (c.string_from_read.ensures.narrow e)
 
 pub returns-clause-fail : goal.returns-clause-fail
-returns-clause-fail g c = λ e. plain_answer _ c.args.table (bare_setting c.in_ok-plain.field-0)
-    c.args.width
+returns-clause-fail g c = λ e. plain_answer c.args.table (bare_setting c.in_ok-plain.field-0) c.args.width
     (g.R.ByteReader.remaining c.args.input.now) fail c.in_ok-plain.ensures.plain (c.string_from_read.ensures.fail e)
 
 pub returns-clause-within : goal.returns-clause-within
