@@ -84,7 +84,7 @@ pub(crate) fn command<'a>(alloc: Global) -> Result<Command<'a>, AllocError>
         .arg(flag(
             alloc,
             "rich",
-            "No marks in the text: neither * and ** nor links behind it",
+            "No marks in the text: neither * and ** nor links after it",
         ))?
         .arg(flag(
             alloc,
@@ -94,12 +94,12 @@ pub(crate) fn command<'a>(alloc: Global) -> Result<Command<'a>, AllocError>
         .arg(flag(
             alloc,
             "footnotes",
-            "The targets of links behind the page, numbered",
+            "The targets of links after the page, numbered",
         ))?
         .arg(flag(
             alloc,
             "shared-footnotes",
-            "Each target once behind the page, with one number",
+            "Each target once after the page, with one number",
         ))?
         .arg(text(
             alloc,
