@@ -1,6 +1,7 @@
 -- What contracts see of a `PageReader`.
 use Rattle.std.specs.Prelude.{◌≡◌, ℕ, Bool, false, List, ◌++◌}
 use Rattle.html_forest.specs.Forest.{Forest}
+use Rattle.html_forest.specs.Sinks.{SinkView}
 use Rattle.html_forest.specs.declared.sink.QuirksMode.{QuirksMode}
 use Rattle.html_render_dom.specs.Dom.{Dom}
 use Rattle.html_render_dom.specs.Numbers.{handle_of, number_of}
@@ -27,20 +28,22 @@ paging decoding parser left has_failed = record {
   has_failed = has_failed;
 }
 
-abbrev pub forest_of : Dom → Forest
-forest_of dom = dom.forest
-
-abbrev pub quirks_of : Dom → QuirksMode
-quirks_of dom = dom.quirks
+-- what the tree in memory is seen as, as a sink of trees
+abbrev pub dom_view : SinkView Dom Handle
+dom_view = record {
+  number = number_of;
+  handle = handle_of;
+  forest = λ dom. dom.forest;
+  quirks = λ dom. dom.quirks;
+}
 
 -- What was pushed, and these further bytes, come to this finished tree.
 unfoldable pub Comes : Paging → (rest : List ℕ) → Forest → QuirksMode → Type 0
 Comes page rest forest quirks =
-    IsGrown (parsers.Completes number_of handle_of forest_of quirks_of page.parser
-    (replaced_text (page.decoding.held ++ rest))) forest quirks
+    IsGrown (parsers.Completes dom_view page.parser (replaced_text (page.decoding.held ++ rest))) forest quirks
 
 -- its parser may be called, and works where no call was refused, as its decoder does
 pub record IsWorking (page : Paging) : Type 0 where
-  pub fit : parsers.IsFit number_of forest_of quirks_of page.parser
+  pub fit : parsers.IsFit dom_view page.parser
   pub decodes : page.has_failed ≡ false → page.decoding.has_failed ≡ false
   pub parses : page.has_failed ≡ false → parsers.has_failed page.parser ≡ false
