@@ -38,8 +38,7 @@ pub(crate) fn is_so(
     alloc: Global,
     fact: &Fact,
 ) -> Result<bool, ParseFault>
-    requires { Sound (seen ⟦<RcDom as TreeSink>⟧.number ⟦<RcDom as TreeSink>⟧.forest ⟦<RcDom as TreeSink>⟧.quirks
-        tree.now.held tree.now.sink) }
+    requires { Sound (seen ⟦<RcDom as TreeSink>⟧.view tree.now.held tree.now.sink) }
 {
     let dom = &tree.sink;
     match *fact {

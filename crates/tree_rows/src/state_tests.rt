@@ -34,8 +34,7 @@ fn are_so(
     steps: &[Step],
     facts: &[Fact],
 ) -> Result<bool, ParseFault>
-    requires { Sound (seen ⟦<RcDom as TreeSink>⟧.number ⟦<RcDom as TreeSink>⟧.forest ⟦<RcDom as TreeSink>⟧.quirks
-        tree.old.held tree.old.sink) }
+    requires { Sound (seen ⟦<RcDom as TreeSink>⟧.view tree.old.held tree.old.sink) }
 {
     take_all(tree, alloc, first)?;
     take_all(tree, alloc, steps)?;
