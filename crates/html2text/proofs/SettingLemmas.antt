@@ -94,10 +94,10 @@ abbrev pub RichAnswers : PageSetting (Unit {0}) → ℕ → List ℕ → PageAns
 RichAnswers c width bytes answer = Answers rich_tag rich_view c width bytes answer
 
 abbrev pub IsPlainTold : PageSetting (Unit {0}) → ℕ → List ℕ → List ℕ → Type 0
-IsPlainTold c width bytes told = IsTold (λ _. tt) plain_view c width bytes told
+IsPlainTold c width bytes told = IsTold {A = Unit {0}} (λ _. tt) plain_view c width bytes told
 
 abbrev pub PlainAnswers : PageSetting (Unit {0}) → ℕ → List ℕ → PageAnswer (Unit {0}) → Type 0
-PlainAnswers c width bytes answer = Answers (λ _. tt) plain_view c width bytes answer
+PlainAnswers c width bytes answer = Answers {A = Unit {0}} (λ _. tt) plain_view c width bytes answer
 
 rich_look : (look : Bool) (R P : Type 0) → look ≡ true → R → EitherLook look R P
 rich_look true R P e r = r
