@@ -63,7 +63,7 @@ def tables_to_a_depth(count):
 
 
 def struck(count):
-    """Words of five letters, each letter with U+0336 behind it."""
+    """Words of five letters, each letter with U+0336 after it."""
     for number in range(count):
         yield "a\u0336 " if number % 5 == 4 else "a\u0336"
 
@@ -97,7 +97,7 @@ KINDS = [
     ("letters of an attribute's value", again("w", "<p title=\"", "\">x"), MEGABYTE, []),
     ("letters of a reference's name", again("w", "&", ";"), MEGABYTE, []),
     ("digits of a reference", again("1", "&#", ";"), MEGABYTE, []),
-    ("links, with their targets behind", numbered("<a href=u", ">word</a> ", tail=""), NESTED, ["--footnotes"]),
+    ("links, with their targets after the page", numbered("<a href=u", ">word</a> ", tail=""), NESTED, ["--footnotes"]),
     ("tables within one another, with two cells", tables_to_a_depth, 125, []),
     ("items of a list", again("<li>x", "<ul>"), MEGABYTE, []),
     ("`br`", again("<br>"), MEGABYTE, []),

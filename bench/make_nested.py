@@ -2,7 +2,7 @@
 time."""
 import sys
 
-# of each kind: what stands before the parts, a part by its number, and what stands behind them; of ENDS that as often
+# of each kind: what stands before the parts, a part by its number, and what stands after them; of ENDS that as often
 # as there are parts
 KINDS = {
     "div": ("<!DOCTYPE html>", lambda n: "<div>", ""),

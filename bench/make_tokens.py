@@ -46,7 +46,7 @@ def script(chosen, number):
     )
 
 
-# of each kind: what stands before and behind the parts, and a part
+# of each kind: what stands before and after the parts, and a part
 KINDS = {
     "markup": ("<!DOCTYPE html><ul>", markup, "</ul>"),
     "text": ("", text, ""),

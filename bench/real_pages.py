@@ -7,7 +7,7 @@ The packages are downloaded into FOLDER and unpacked there, the first time; noth
 built html2text_program (also one of bench/unproved.sh), or a peer by the name of its file: `links`, `w3m`, `lynx`, or
 `html2text_rs` (bench/html2text_rs/build.sh). Each writes the page's text in 80 columns. For each page and program a
 line tells instructions a byte of the page (`valgrind --tool=cachegrind`), requests for memory (`--tool=memcheck`) and
-the peak of memory in KB; behind it, for all but the first program, how its instructions compare with the first's, and
+the peak of memory in KB; after it, for all but the first program, how its instructions compare with the first's, and
 whether both write the same. Four pages are counted at a time, where there are so many processors.
 """
 

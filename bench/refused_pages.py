@@ -129,7 +129,7 @@ def references(count):
 
 
 def never_ended(count):
-    """A title that never ends, behind text."""
+    """A title that never ends, after text."""
     yield "<p>a<title>"
     yield "word <b>word</b> &amp; <!-- --> </titl> " * count
 

@@ -3,11 +3,11 @@
 
     tools/crate_lines.py [NUMBER]
 
-Before and behind the proof of a library `rt ci` reads the sources of all that stands below it, once for each way that
-leads there through crates.txt. So a library that is listed beside one that stands on it costs all that is below it once
-more, for each way that leads to the line. The first line tells how many files are read so, before all proofs together;
-then come the NUMBER dearest of the entries that could go (20 without a word), each with the files that are read for it
-and the lines of its crate that name it: those whose library stands below another one of the same line, which may pass
+Around the proof of a library `rt ci` asks for all that stands below it, and goes there once for each way that leads
+there through crates.txt. So a library that is listed beside one that stands on it costs all that is below it once more,
+for each way that leads to the line. The first line says how many files are passed so, before all proofs together; then
+come the NUMBER dearest of the entries that could go (20 without a word), each with the files that are passed for it and
+the lines of its crate that name it: those whose library stands below another one of the same line, which may pass
 its names on (docs/ARCHITECTURE.md). The status is 1 where a line lists what its crate doesn't name.
 """
 

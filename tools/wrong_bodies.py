@@ -64,7 +64,7 @@ class Function:
         return path[:-1] if path[-1] in ("lib", "main", "mod") else path
 
     def is_changed(self, line, old, new):
-        """Whether an edit at this line gives it another body: it lies in the body, or puts one behind a clause."""
+        """Whether an edit at this line gives it another body: it lies in the body, or puts one after a clause."""
         return self.first <= line <= self.last or self.head <= line < self.first and new.startswith(old)
 
     def is_printed_as(self, path):
