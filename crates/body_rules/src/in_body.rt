@@ -1,7 +1,6 @@
 //! The "in body" insertion mode (WHATWG HTML, 13.2.6.4.7).
-ghost use Rattle.std.specs.Prelude.{◌≡◌, IfErr, IfOk, OnOk};
-ghost use Rattle.html_lexemes.specs.declared.fault.ParseFault.TheVariants.{Memory};
-ghost use Rattle.head_rules.specs.Outcomes.{came_to, outcome};
+ghost use Rattle.std.specs.Prelude.{◌≡◌};
+ghost use Rattle.tree_actions.specs.Follows.{Follows};
 ghost use Rattle.head_rules.specs.Parsed.{state_of};
 ghost use Rattle.head_rules.specs.Settling.{Ready};
 ghost use Rattle.tag_groups.specs.Groups.{tag_group};
@@ -36,10 +35,7 @@ pub fn in_body_start<S: TreeSink>(
 ) -> Result<Flow<S::Handle>, ParseFault>
     requires ready { Ready (state_of S.view page.old) }
     requires group { tag_group tag.now.name ≡ group }
-    ensures came { IfOk result (λ flow. came_to flow (state_of S.view page.new) ≡ outcome S.view.handle
-        (in_body_start group tag.now (state_of S.view page.old)) (state_of S.view page.old)) }
-    ensures ready { OnOk result (Ready (state_of S.view page.new)) }
-    ensures memory { IfErr result (λ e. e ≡ Memory) }
+    ensures { Follows S.view (in_body_start group tag.now (state_of S.view page.old)) page.old page.new result }
 {
     match group {
         TagGroup::Html => html_start(page, tag),
@@ -104,10 +100,7 @@ pub fn phrase_start<S: TreeSink>(
 ) -> Result<Flow<S::Handle>, ParseFault>
     requires ready { Ready (state_of S.view page.old) }
     requires group { tag_group tag.now.name ≡ group }
-    ensures came { IfOk result (λ flow. came_to flow (state_of S.view page.new) ≡ outcome S.view.handle
-        (in_body_phrase group tag.now (state_of S.view page.old)) (state_of S.view page.old)) }
-    ensures ready { OnOk result (Ready (state_of S.view page.new)) }
-    ensures memory { IfErr result (λ e. e ≡ Memory) }
+    ensures { Follows S.view (in_body_phrase group tag.now (state_of S.view page.old)) page.old page.new result }
 {
     formatting_groups_are_formatting();
     match group {
@@ -143,10 +136,7 @@ pub fn in_body_end<S: TreeSink>(
     tag: &Tag,
 ) -> Result<Flow<S::Handle>, ParseFault>
     requires ready { Ready (state_of S.view page.old) }
-    ensures came { IfOk result (λ flow. came_to flow (state_of S.view page.new) ≡ outcome S.view.handle
-        (in_body_end group tag.now (state_of S.view page.old)) (state_of S.view page.old)) }
-    ensures ready { OnOk result (Ready (state_of S.view page.new)) }
-    ensures memory { IfErr result (λ e. e ≡ Memory) }
+    ensures { Follows S.view (in_body_end group tag.now (state_of S.view page.old)) page.old page.new result }
 {
     match group {
         TagGroup::Template => template_end(page),

@@ -1,7 +1,5 @@
 //! Start tags of blocks, lists and forms in the "in body" insertion mode (WHATWG HTML, 13.2.6.4.7).
-ghost use Rattle.std.specs.Prelude.{◌≡◌, IfErr, IfOk, OnOk};
-ghost use Rattle.html_lexemes.specs.declared.fault.ParseFault.TheVariants.{Memory};
-ghost use Rattle.head_rules.specs.Outcomes.{came_to, outcome};
+ghost use Rattle.tree_actions.specs.Follows.{Follows};
 ghost use Rattle.head_rules.specs.Parsed.{state_of};
 ghost use Rattle.head_rules.specs.Settling.{Ready};
 ghost use Rattle.head_rules.specs.InBodyBlocks.{block_start, body_start, button_start, definition_start, form_start};
@@ -20,10 +18,7 @@ pub fn block_start<S: TreeSink>(
     tag: &Tag,
 ) -> Result<Flow<S::Handle>, ParseFault>
     requires ready { Ready (state_of S.view page.old) }
-    ensures came { IfOk result (λ flow. came_to flow (state_of S.view page.new) ≡ outcome S.view.handle
-        (block_start tag.now) (state_of S.view page.old)) }
-    ensures ready { OnOk result (Ready (state_of S.view page.new)) }
-    ensures memory { IfErr result (λ e. e ≡ Memory) }
+    ensures { Follows S.view (block_start tag.now) page.old page.new result }
 {
     page.close_p()?;
     page.insert(tag)?;
@@ -36,10 +31,7 @@ pub fn heading_start<S: TreeSink>(
     tag: &Tag,
 ) -> Result<Flow<S::Handle>, ParseFault>
     requires ready { Ready (state_of S.view page.old) }
-    ensures came { IfOk result (λ flow. came_to flow (state_of S.view page.new) ≡ outcome S.view.handle
-        (heading_start tag.now) (state_of S.view page.old)) }
-    ensures ready { OnOk result (Ready (state_of S.view page.new)) }
-    ensures memory { IfErr result (λ e. e ≡ Memory) }
+    ensures { Follows S.view (heading_start tag.now) page.old page.new result }
 {
     page.close_p()?;
     page.pop_if(ElementSet::Heading)?;
@@ -53,10 +45,7 @@ pub fn preformatted_start<S: TreeSink>(
     tag: &Tag,
 ) -> Result<Flow<S::Handle>, ParseFault>
     requires ready { Ready (state_of S.view page.old) }
-    ensures came { IfOk result (λ flow. came_to flow (state_of S.view page.new) ≡ outcome S.view.handle
-        (preformatted_start tag.now) (state_of S.view page.old)) }
-    ensures ready { OnOk result (Ready (state_of S.view page.new)) }
-    ensures memory { IfErr result (λ e. e ≡ Memory) }
+    ensures { Follows S.view (preformatted_start tag.now) page.old page.new result }
 {
     page.close_p()?;
     page.insert(tag)?;
@@ -71,10 +60,7 @@ pub fn form_start<S: TreeSink>(
     tag: &Tag,
 ) -> Result<Flow<S::Handle>, ParseFault>
     requires ready { Ready (state_of S.view page.old) }
-    ensures came { IfOk result (λ flow. came_to flow (state_of S.view page.new) ≡ outcome S.view.handle
-        (form_start tag.now (state_of S.view page.old)) (state_of S.view page.old)) }
-    ensures ready { OnOk result (Ready (state_of S.view page.new)) }
-    ensures memory { IfErr result (λ e. e ≡ Memory) }
+    ensures { Follows S.view (form_start tag.now (state_of S.view page.old)) page.old page.new result }
 {
     if page.has_form() {
         return Ok(Flow::Done);
@@ -95,10 +81,7 @@ pub fn list_item_start<S: TreeSink>(
     tag: &Tag,
 ) -> Result<Flow<S::Handle>, ParseFault>
     requires ready { Ready (state_of S.view page.old) }
-    ensures came { IfOk result (λ flow. came_to flow (state_of S.view page.new) ≡ outcome S.view.handle
-        (list_item_start tag.now) (state_of S.view page.old)) }
-    ensures ready { OnOk result (Ready (state_of S.view page.new)) }
-    ensures memory { IfErr result (λ e. e ≡ Memory) }
+    ensures { Follows S.view (list_item_start tag.now) page.old page.new result }
 {
     page.refuse_frameset();
     page.close_item(ElementSet::ListItem)?;
@@ -113,10 +96,7 @@ pub fn definition_start<S: TreeSink>(
     tag: &Tag,
 ) -> Result<Flow<S::Handle>, ParseFault>
     requires ready { Ready (state_of S.view page.old) }
-    ensures came { IfOk result (λ flow. came_to flow (state_of S.view page.new) ≡ outcome S.view.handle
-        (definition_start tag.now) (state_of S.view page.old)) }
-    ensures ready { OnOk result (Ready (state_of S.view page.new)) }
-    ensures memory { IfErr result (λ e. e ≡ Memory) }
+    ensures { Follows S.view (definition_start tag.now) page.old page.new result }
 {
     page.refuse_frameset();
     page.close_item(ElementSet::Definition)?;
@@ -131,10 +111,7 @@ pub fn plaintext_start<S: TreeSink>(
     tag: &Tag,
 ) -> Result<Flow<S::Handle>, ParseFault>
     requires ready { Ready (state_of S.view page.old) }
-    ensures came { IfOk result (λ flow. came_to flow (state_of S.view page.new) ≡ outcome S.view.handle
-        (plaintext_start tag.now) (state_of S.view page.old)) }
-    ensures ready { OnOk result (Ready (state_of S.view page.new)) }
-    ensures memory { IfErr result (λ e. e ≡ Memory) }
+    ensures { Follows S.view (plaintext_start tag.now) page.old page.new result }
 {
     page.close_p()?;
     page.insert(tag)?;
@@ -147,10 +124,7 @@ pub fn button_start<S: TreeSink>(
     tag: &Tag,
 ) -> Result<Flow<S::Handle>, ParseFault>
     requires ready { Ready (state_of S.view page.old) }
-    ensures came { IfOk result (λ flow. came_to flow (state_of S.view page.new) ≡ outcome S.view.handle
-        (button_start tag.now (state_of S.view page.old)) (state_of S.view page.old)) }
-    ensures ready { OnOk result (Ready (state_of S.view page.new)) }
-    ensures memory { IfErr result (λ e. e ≡ Memory) }
+    ensures { Follows S.view (button_start tag.now (state_of S.view page.old)) page.old page.new result }
 {
     if page.in_scope(ElementSet::Button) {
         page.imply_but(ElementSet::Nothing)?;
@@ -172,10 +146,7 @@ pub fn table_start<S: TreeSink>(
     tag: &Tag,
 ) -> Result<Flow<S::Handle>, ParseFault>
     requires ready { Ready (state_of S.view page.old) }
-    ensures came { IfOk result (λ flow. came_to flow (state_of S.view page.new) ≡ outcome S.view.handle
-        (table_start tag.now (state_of S.view page.old)) (state_of S.view page.old)) }
-    ensures ready { OnOk result (Ready (state_of S.view page.new)) }
-    ensures memory { IfErr result (λ e. e ≡ Memory) }
+    ensures { Follows S.view (table_start tag.now (state_of S.view page.old)) page.old page.new result }
 {
     if page.kept.quirks == QuirksMode::Quirks {
         page.insert(tag)?;
@@ -194,10 +165,7 @@ pub fn body_start<S: TreeSink>(
     tag: &Tag,
 ) -> Result<Flow<S::Handle>, ParseFault>
     requires ready { Ready (state_of S.view page.old) }
-    ensures came { IfOk result (λ flow. came_to flow (state_of S.view page.new) ≡ outcome S.view.handle
-        (body_start tag.now (state_of S.view page.old)) (state_of S.view page.old)) }
-    ensures ready { OnOk result (Ready (state_of S.view page.new)) }
-    ensures memory { IfErr result (λ e. e ≡ Memory) }
+    ensures { Follows S.view (body_start tag.now (state_of S.view page.old)) page.old page.new result }
 {
     if page.has_template() {
         return Ok(Flow::Done);
@@ -216,10 +184,7 @@ pub fn frameset_start<S: TreeSink>(
     tag: &Tag,
 ) -> Result<Flow<S::Handle>, ParseFault>
     requires ready { Ready (state_of S.view page.old) }
-    ensures came { IfOk result (λ flow. came_to flow (state_of S.view page.new) ≡ outcome S.view.handle
-        (frameset_start tag.now (state_of S.view page.old)) (state_of S.view page.old)) }
-    ensures ready { OnOk result (Ready (state_of S.view page.new)) }
-    ensures memory { IfErr result (λ e. e ≡ Memory) }
+    ensures { Follows S.view (frameset_start tag.now (state_of S.view page.old)) page.old page.new result }
 {
     if !page.kept.frameset_ok {
         return Ok(Flow::Done);

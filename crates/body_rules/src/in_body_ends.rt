@@ -1,7 +1,5 @@
 //! End tags in the "in body" insertion mode (WHATWG HTML, 13.2.6.4.7).
-ghost use Rattle.std.specs.Prelude.{◌≡◌, IfErr, IfOk, OnOk};
-ghost use Rattle.html_lexemes.specs.declared.fault.ParseFault.TheVariants.{Memory};
-ghost use Rattle.head_rules.specs.Outcomes.{came_to, outcome};
+ghost use Rattle.tree_actions.specs.Follows.{Follows};
 ghost use Rattle.head_rules.specs.Parsed.{state_of};
 ghost use Rattle.head_rules.specs.Settling.{Ready};
 ghost use Rattle.std.specs.Prelude.{[], ◌∷◌};
@@ -19,10 +17,7 @@ use tree_words::InsertionMode;
 /// "body".
 pub fn body_end<S: TreeSink>(page: &mut Parse<S>) -> Result<Flow<S::Handle>, ParseFault>
     requires ready { Ready (state_of S.view page.old) }
-    ensures came { IfOk result (λ flow. came_to flow (state_of S.view page.new) ≡ outcome S.view.handle
-        (body_end (state_of S.view page.old)) (state_of S.view page.old)) }
-    ensures ready { OnOk result (Ready (state_of S.view page.new)) }
-    ensures memory { IfErr result (λ e. e ≡ Memory) }
+    ensures { Follows S.view (body_end (state_of S.view page.old)) page.old page.new result }
 {
     if page.in_scope(ElementSet::Body) {
         page.go_to(InsertionMode::AfterBody);
@@ -33,10 +28,7 @@ pub fn body_end<S: TreeSink>(page: &mut Parse<S>) -> Result<Flow<S::Handle>, Par
 /// "html".
 pub fn html_end<S: TreeSink>(page: &mut Parse<S>) -> Result<Flow<S::Handle>, ParseFault>
     requires ready { Ready (state_of S.view page.old) }
-    ensures came { IfOk result (λ flow. came_to flow (state_of S.view page.new) ≡ outcome S.view.handle
-        (html_end (state_of S.view page.old)) (state_of S.view page.old)) }
-    ensures ready { OnOk result (Ready (state_of S.view page.new)) }
-    ensures memory { IfErr result (λ e. e ≡ Memory) }
+    ensures { Follows S.view (html_end (state_of S.view page.old)) page.old page.new result }
 {
     if page.in_scope(ElementSet::Body) {
         page.go_to(InsertionMode::AfterBody);
@@ -48,10 +40,7 @@ pub fn html_end<S: TreeSink>(page: &mut Parse<S>) -> Result<Flow<S::Handle>, Par
 /// "address" to "ul", "button", "listing", "pre" and "select".
 pub fn block_end<S: TreeSink>(page: &mut Parse<S>, tag: &Tag) -> Result<Flow<S::Handle>, ParseFault>
     requires ready { Ready (state_of S.view page.old) }
-    ensures came { IfOk result (λ flow. came_to flow (state_of S.view page.new) ≡ outcome S.view.handle
-        (block_end tag.now (state_of S.view page.old)) (state_of S.view page.old)) }
-    ensures ready { OnOk result (Ready (state_of S.view page.new)) }
-    ensures memory { IfErr result (λ e. e ≡ Memory) }
+    ensures { Follows S.view (block_end tag.now (state_of S.view page.old)) page.old page.new result }
 {
     if page.in_scope(ElementSet::Named(&tag.name)) {
         page.imply_but(ElementSet::Nothing)?;
@@ -63,10 +52,7 @@ pub fn block_end<S: TreeSink>(page: &mut Parse<S>, tag: &Tag) -> Result<Flow<S::
 /// "form".
 pub fn form_end<S: TreeSink>(page: &mut Parse<S>) -> Result<Flow<S::Handle>, ParseFault>
     requires ready { Ready (state_of S.view page.old) }
-    ensures came { IfOk result (λ flow. came_to flow (state_of S.view page.new) ≡ outcome S.view.handle
-        (form_end (state_of S.view page.old)) (state_of S.view page.old)) }
-    ensures ready { OnOk result (Ready (state_of S.view page.new)) }
-    ensures memory { IfErr result (λ e. e ≡ Memory) }
+    ensures { Follows S.view (form_end (state_of S.view page.old)) page.old page.new result }
 {
     if page.has_template() {
         if page.in_scope(ElementSet::Form) {
@@ -90,10 +76,7 @@ pub fn form_end<S: TreeSink>(page: &mut Parse<S>) -> Result<Flow<S::Handle>, Par
 /// "p": one is made where none is open.
 pub fn p_end<S: TreeSink>(page: &mut Parse<S>) -> Result<Flow<S::Handle>, ParseFault>
     requires ready { Ready (state_of S.view page.old) }
-    ensures came { IfOk result (λ flow. came_to flow (state_of S.view page.new) ≡ outcome S.view.handle
-        (p_end (state_of S.view page.old)) (state_of S.view page.old)) }
-    ensures ready { OnOk result (Ready (state_of S.view page.new)) }
-    ensures memory { IfErr result (λ e. e ≡ Memory) }
+    ensures { Follows S.view (p_end (state_of S.view page.old)) page.old page.new result }
 {
     if page.in_button_scope(ElementSet::Paragraph) {
         page.close_p()?;
@@ -107,10 +90,7 @@ pub fn p_end<S: TreeSink>(page: &mut Parse<S>) -> Result<Flow<S::Handle>, ParseF
 /// "li".
 pub fn list_item_end<S: TreeSink>(page: &mut Parse<S>) -> Result<Flow<S::Handle>, ParseFault>
     requires ready { Ready (state_of S.view page.old) }
-    ensures came { IfOk result (λ flow. came_to flow (state_of S.view page.new) ≡ outcome S.view.handle
-        (list_item_end (state_of S.view page.old)) (state_of S.view page.old)) }
-    ensures ready { OnOk result (Ready (state_of S.view page.new)) }
-    ensures memory { IfErr result (λ e. e ≡ Memory) }
+    ensures { Follows S.view (list_item_end (state_of S.view page.old)) page.old page.new result }
 {
     if page.in_list_item_scope(ElementSet::ListItem) {
         page.imply_but(ElementSet::ListItem)?;
@@ -125,10 +105,7 @@ pub fn definition_end<S: TreeSink>(
     tag: &Tag,
 ) -> Result<Flow<S::Handle>, ParseFault>
     requires ready { Ready (state_of S.view page.old) }
-    ensures came { IfOk result (λ flow. came_to flow (state_of S.view page.new) ≡ outcome S.view.handle
-        (definition_end tag.now (state_of S.view page.old)) (state_of S.view page.old)) }
-    ensures ready { OnOk result (Ready (state_of S.view page.new)) }
-    ensures memory { IfErr result (λ e. e ≡ Memory) }
+    ensures { Follows S.view (definition_end tag.now (state_of S.view page.old)) page.old page.new result }
 {
     if page.in_scope(ElementSet::Named(&tag.name)) {
         page.imply_but(ElementSet::Named(&tag.name))?;
@@ -140,10 +117,7 @@ pub fn definition_end<S: TreeSink>(
 /// "h1" to "h6".
 pub fn heading_end<S: TreeSink>(page: &mut Parse<S>) -> Result<Flow<S::Handle>, ParseFault>
     requires ready { Ready (state_of S.view page.old) }
-    ensures came { IfOk result (λ flow. came_to flow (state_of S.view page.new) ≡ outcome S.view.handle
-        (heading_end (state_of S.view page.old)) (state_of S.view page.old)) }
-    ensures ready { OnOk result (Ready (state_of S.view page.new)) }
-    ensures memory { IfErr result (λ e. e ≡ Memory) }
+    ensures { Follows S.view (heading_end (state_of S.view page.old)) page.old page.new result }
 {
     if page.in_scope(ElementSet::Heading) {
         page.imply_but(ElementSet::Nothing)?;
@@ -158,10 +132,7 @@ pub fn formatting_end<S: TreeSink>(
     tag: &Tag,
 ) -> Result<Flow<S::Handle>, ParseFault>
     requires ready { Ready (state_of S.view page.old) }
-    ensures came { IfOk result (λ flow. came_to flow (state_of S.view page.new) ≡ outcome S.view.handle
-        (done (adopt tag.now.name ∷ [])) (state_of S.view page.old)) }
-    ensures ready { OnOk result (Ready (state_of S.view page.new)) }
-    ensures memory { IfErr result (λ e. e ≡ Memory) }
+    ensures { Follows S.view (done (adopt tag.now.name ∷ [])) page.old page.new result }
 {
     page.adopt(&tag.name)?;
     Ok(Flow::Done)
@@ -173,10 +144,7 @@ pub fn marked_end<S: TreeSink>(
     tag: &Tag,
 ) -> Result<Flow<S::Handle>, ParseFault>
     requires ready { Ready (state_of S.view page.old) }
-    ensures came { IfOk result (λ flow. came_to flow (state_of S.view page.new) ≡ outcome S.view.handle
-        (marked_end tag.now (state_of S.view page.old)) (state_of S.view page.old)) }
-    ensures ready { OnOk result (Ready (state_of S.view page.new)) }
-    ensures memory { IfErr result (λ e. e ≡ Memory) }
+    ensures { Follows S.view (marked_end tag.now (state_of S.view page.old)) page.old page.new result }
 {
     if !page.in_scope(ElementSet::Named(&tag.name)) {
         return Ok(Flow::Done);
@@ -190,10 +158,7 @@ pub fn marked_end<S: TreeSink>(
 /// "br", which is taken as its start tag.
 pub fn line_break_end<S: TreeSink>(page: &mut Parse<S>) -> Result<Flow<S::Handle>, ParseFault>
     requires ready { Ready (state_of S.view page.old) }
-    ensures came { IfOk result (λ flow. came_to flow (state_of S.view page.new) ≡ outcome S.view.handle
-        (line_break_end) (state_of S.view page.old)) }
-    ensures ready { OnOk result (Ready (state_of S.view page.new)) }
-    ensures memory { IfErr result (λ e. e ≡ Memory) }
+    ensures { Follows S.view (line_break_end) page.old page.new result }
 {
     page.reconstruct()?;
     page.insert_void_named("br")?;
@@ -204,10 +169,7 @@ pub fn line_break_end<S: TreeSink>(page: &mut Parse<S>) -> Result<Flow<S::Handle
 /// Any other end tag.
 pub fn other_end<S: TreeSink>(page: &mut Parse<S>, tag: &Tag) -> Result<Flow<S::Handle>, ParseFault>
     requires ready { Ready (state_of S.view page.old) }
-    ensures came { IfOk result (λ flow. came_to flow (state_of S.view page.new) ≡ outcome S.view.handle
-        (done (close_other tag.now.name ∷ [])) (state_of S.view page.old)) }
-    ensures ready { OnOk result (Ready (state_of S.view page.new)) }
-    ensures memory { IfErr result (λ e. e ≡ Memory) }
+    ensures { Follows S.view (done (close_other tag.now.name ∷ [])) page.old page.new result }
 {
     page.close_other(&tag.name)?;
     Ok(Flow::Done)

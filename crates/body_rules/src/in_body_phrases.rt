@@ -1,8 +1,7 @@
 //! Start tags of formatting, of elements without contents and of controls in the "in body" insertion mode (WHATWG HTML,
 //! 13.2.6.4.7).
-ghost use Rattle.std.specs.Prelude.{◌≡◌, IfErr, IfOk, OnOk};
-ghost use Rattle.html_lexemes.specs.declared.fault.ParseFault.TheVariants.{Memory};
-ghost use Rattle.head_rules.specs.Outcomes.{came_to, outcome};
+ghost use Rattle.std.specs.Prelude.{◌≡◌};
+ghost use Rattle.tree_actions.specs.Follows.{Follows};
 ghost use Rattle.head_rules.specs.Parsed.{state_of};
 ghost use Rattle.head_rules.specs.Settling.{Ready};
 ghost use Rattle.std.specs.Prelude.{true};
@@ -30,10 +29,7 @@ pub fn anchor_start<S: TreeSink>(
 ) -> Result<Flow<S::Handle>, ParseFault>
     requires ready { Ready (state_of S.view page.old) }
     requires formatting { is_one_of formatting tag.now.name ≡ true }
-    ensures came { IfOk result (λ flow. came_to flow (state_of S.view page.new) ≡ outcome S.view.handle
-        (anchor_start tag.now (state_of S.view page.old)) (state_of S.view page.old)) }
-    ensures ready { OnOk result (Ready (state_of S.view page.new)) }
-    ensures memory { IfErr result (λ e. e ≡ Memory) }
+    ensures { Follows S.view (anchor_start tag.now (state_of S.view page.old)) page.old page.new result }
 {
     let Some(listed) = page.tree.last_listed(&tag.name) else {
         return formatting_start(page, tag);
@@ -53,10 +49,7 @@ pub fn formatting_start<S: TreeSink>(
 ) -> Result<Flow<S::Handle>, ParseFault>
     requires ready { Ready (state_of S.view page.old) }
     requires formatting { is_one_of formatting tag.now.name ≡ true }
-    ensures came { IfOk result (λ flow. came_to flow (state_of S.view page.new) ≡ outcome S.view.handle
-        (formatting_start tag.now) (state_of S.view page.old)) }
-    ensures ready { OnOk result (Ready (state_of S.view page.new)) }
-    ensures memory { IfErr result (λ e. e ≡ Memory) }
+    ensures { Follows S.view (formatting_start tag.now) page.old page.new result }
 {
     page.reconstruct()?;
     page.insert_formatting(tag)?;
@@ -70,10 +63,7 @@ pub fn no_break_start<S: TreeSink>(
 ) -> Result<Flow<S::Handle>, ParseFault>
     requires ready { Ready (state_of S.view page.old) }
     requires formatting { is_one_of formatting tag.now.name ≡ true }
-    ensures came { IfOk result (λ flow. came_to flow (state_of S.view page.new) ≡ outcome S.view.handle
-        (no_break_start tag.now) (state_of S.view page.old)) }
-    ensures ready { OnOk result (Ready (state_of S.view page.new)) }
-    ensures memory { IfErr result (λ e. e ≡ Memory) }
+    ensures { Follows S.view (no_break_start tag.now) page.old page.new result }
 {
     page.reconstruct()?;
     page.adopt_in_scope(&tag.name)?;
@@ -87,10 +77,7 @@ pub fn marked_start<S: TreeSink>(
     tag: &Tag,
 ) -> Result<Flow<S::Handle>, ParseFault>
     requires ready { Ready (state_of S.view page.old) }
-    ensures came { IfOk result (λ flow. came_to flow (state_of S.view page.new) ≡ outcome S.view.handle
-        (marked_start tag.now) (state_of S.view page.old)) }
-    ensures ready { OnOk result (Ready (state_of S.view page.new)) }
-    ensures memory { IfErr result (λ e. e ≡ Memory) }
+    ensures { Follows S.view (marked_start tag.now) page.old page.new result }
 {
     page.reconstruct()?;
     page.insert(tag)?;
@@ -105,10 +92,7 @@ pub fn void_phrase_start<S: TreeSink>(
     tag: &Tag,
 ) -> Result<Flow<S::Handle>, ParseFault>
     requires ready { Ready (state_of S.view page.old) }
-    ensures came { IfOk result (λ flow. came_to flow (state_of S.view page.new) ≡ outcome S.view.handle
-        (void_phrase_start tag.now) (state_of S.view page.old)) }
-    ensures ready { OnOk result (Ready (state_of S.view page.new)) }
-    ensures memory { IfErr result (λ e. e ≡ Memory) }
+    ensures { Follows S.view (void_phrase_start tag.now) page.old page.new result }
 {
     page.reconstruct()?;
     page.insert_void(tag)?;
@@ -122,10 +106,7 @@ pub fn image_start<S: TreeSink>(
     tag: &Tag,
 ) -> Result<Flow<S::Handle>, ParseFault>
     requires ready { Ready (state_of S.view page.old) }
-    ensures came { IfOk result (λ flow. came_to flow (state_of S.view page.new) ≡ outcome S.view.handle
-        (image_start tag.now) (state_of S.view page.old)) }
-    ensures ready { OnOk result (Ready (state_of S.view page.new)) }
-    ensures memory { IfErr result (λ e. e ≡ Memory) }
+    ensures { Follows S.view (image_start tag.now) page.old page.new result }
 {
     page.reconstruct()?;
     page.insert_void_as("img", tag)?;
@@ -139,10 +120,7 @@ pub fn input_start<S: TreeSink>(
     tag: &Tag,
 ) -> Result<Flow<S::Handle>, ParseFault>
     requires ready { Ready (state_of S.view page.old) }
-    ensures came { IfOk result (λ flow. came_to flow (state_of S.view page.new) ≡ outcome S.view.handle
-        (input_start tag.now (state_of S.view page.old)) (state_of S.view page.old)) }
-    ensures ready { OnOk result (Ready (state_of S.view page.new)) }
-    ensures memory { IfErr result (λ e. e ≡ Memory) }
+    ensures { Follows S.view (input_start tag.now (state_of S.view page.old)) page.old page.new result }
 {
     if page.in_scope(ElementSet::Select) {
         page.pop_to(ElementSet::Select)?;
@@ -162,10 +140,7 @@ pub fn void_source_start<S: TreeSink>(
     tag: &Tag,
 ) -> Result<Flow<S::Handle>, ParseFault>
     requires ready { Ready (state_of S.view page.old) }
-    ensures came { IfOk result (λ flow. came_to flow (state_of S.view page.new) ≡ outcome S.view.handle
-        (void_source_start tag.now) (state_of S.view page.old)) }
-    ensures ready { OnOk result (Ready (state_of S.view page.new)) }
-    ensures memory { IfErr result (λ e. e ≡ Memory) }
+    ensures { Follows S.view (void_source_start tag.now) page.old page.new result }
 {
     page.insert_void(tag)?;
     Ok(Flow::Done)
@@ -177,10 +152,7 @@ pub fn rule_start<S: TreeSink>(
     tag: &Tag,
 ) -> Result<Flow<S::Handle>, ParseFault>
     requires ready { Ready (state_of S.view page.old) }
-    ensures came { IfOk result (λ flow. came_to flow (state_of S.view page.new) ≡ outcome S.view.handle
-        (rule_start tag.now (state_of S.view page.old)) (state_of S.view page.old)) }
-    ensures ready { OnOk result (Ready (state_of S.view page.new)) }
-    ensures memory { IfErr result (λ e. e ≡ Memory) }
+    ensures { Follows S.view (rule_start tag.now (state_of S.view page.old)) page.old page.new result }
 {
     if page.in_scope(ElementSet::Select) {
         page.imply_but(ElementSet::Nothing)?;
@@ -197,10 +169,7 @@ pub fn textarea_start<S: TreeSink>(
     tag: &Tag,
 ) -> Result<Flow<S::Handle>, ParseFault>
     requires ready { Ready (state_of S.view page.old) }
-    ensures came { IfOk result (λ flow. came_to flow (state_of S.view page.new) ≡ outcome S.view.handle
-        (textarea_start tag.now) (state_of S.view page.old)) }
-    ensures ready { OnOk result (Ready (state_of S.view page.new)) }
-    ensures memory { IfErr result (λ e. e ≡ Memory) }
+    ensures { Follows S.view (textarea_start tag.now) page.old page.new result }
 {
     page.insert(tag)?;
     page.skip_next_line_feed();
@@ -211,10 +180,7 @@ pub fn textarea_start<S: TreeSink>(
 /// "xmp".
 pub fn xmp_start<S: TreeSink>(page: &mut Parse<S>, tag: &Tag) -> Result<Flow<S::Handle>, ParseFault>
     requires ready { Ready (state_of S.view page.old) }
-    ensures came { IfOk result (λ flow. came_to flow (state_of S.view page.new) ≡ outcome S.view.handle
-        (xmp_start tag.now) (state_of S.view page.old)) }
-    ensures ready { OnOk result (Ready (state_of S.view page.new)) }
-    ensures memory { IfErr result (λ e. e ≡ Memory) }
+    ensures { Follows S.view (xmp_start tag.now) page.old page.new result }
 {
     page.close_p()?;
     page.reconstruct()?;
@@ -229,10 +195,7 @@ pub fn iframe_start<S: TreeSink>(
     tag: &Tag,
 ) -> Result<Flow<S::Handle>, ParseFault>
     requires ready { Ready (state_of S.view page.old) }
-    ensures came { IfOk result (λ flow. came_to flow (state_of S.view page.new) ≡ outcome S.view.handle
-        (iframe_start tag.now) (state_of S.view page.old)) }
-    ensures ready { OnOk result (Ready (state_of S.view page.new)) }
-    ensures memory { IfErr result (λ e. e ≡ Memory) }
+    ensures { Follows S.view (iframe_start tag.now) page.old page.new result }
 {
     page.refuse_frameset();
     page.insert(tag)?;
@@ -245,10 +208,7 @@ pub fn noembed_start<S: TreeSink>(
     tag: &Tag,
 ) -> Result<Flow<S::Handle>, ParseFault>
     requires ready { Ready (state_of S.view page.old) }
-    ensures came { IfOk result (λ flow. came_to flow (state_of S.view page.new) ≡ outcome S.view.handle
-        (noembed_start tag.now) (state_of S.view page.old)) }
-    ensures ready { OnOk result (Ready (state_of S.view page.new)) }
-    ensures memory { IfErr result (λ e. e ≡ Memory) }
+    ensures { Follows S.view (noembed_start tag.now) page.old page.new result }
 {
     page.insert(tag)?;
     Ok(read_raw(page, RawKind::Rawtext))
@@ -260,10 +220,7 @@ pub fn noscript_start<S: TreeSink>(
     tag: &Tag,
 ) -> Result<Flow<S::Handle>, ParseFault>
     requires ready { Ready (state_of S.view page.old) }
-    ensures came { IfOk result (λ flow. came_to flow (state_of S.view page.new) ≡ outcome S.view.handle
-        (noscript_in_body tag.now (state_of S.view page.old)) (state_of S.view page.old)) }
-    ensures ready { OnOk result (Ready (state_of S.view page.new)) }
-    ensures memory { IfErr result (λ e. e ≡ Memory) }
+    ensures { Follows S.view (noscript_in_body tag.now (state_of S.view page.old)) page.old page.new result }
 {
     if page.kept.options.scripting_enabled {
         return noembed_start(page, tag);
@@ -277,10 +234,7 @@ pub fn select_start<S: TreeSink>(
     tag: &Tag,
 ) -> Result<Flow<S::Handle>, ParseFault>
     requires ready { Ready (state_of S.view page.old) }
-    ensures came { IfOk result (λ flow. came_to flow (state_of S.view page.new) ≡ outcome S.view.handle
-        (select_start tag.now (state_of S.view page.old)) (state_of S.view page.old)) }
-    ensures ready { OnOk result (Ready (state_of S.view page.new)) }
-    ensures memory { IfErr result (λ e. e ≡ Memory) }
+    ensures { Follows S.view (select_start tag.now (state_of S.view page.old)) page.old page.new result }
 {
     if page.in_scope(ElementSet::Select) {
         page.pop_to(ElementSet::Select)?;
@@ -298,10 +252,7 @@ pub fn option_start<S: TreeSink>(
     tag: &Tag,
 ) -> Result<Flow<S::Handle>, ParseFault>
     requires ready { Ready (state_of S.view page.old) }
-    ensures came { IfOk result (λ flow. came_to flow (state_of S.view page.new) ≡ outcome S.view.handle
-        (option_start tag.now (state_of S.view page.old)) (state_of S.view page.old)) }
-    ensures ready { OnOk result (Ready (state_of S.view page.new)) }
-    ensures memory { IfErr result (λ e. e ≡ Memory) }
+    ensures { Follows S.view (option_start tag.now (state_of S.view page.old)) page.old page.new result }
 {
     if page.in_scope(ElementSet::Select) {
         page.imply_but(ElementSet::OptionGroup)?;
@@ -319,10 +270,7 @@ pub fn option_group_start<S: TreeSink>(
     tag: &Tag,
 ) -> Result<Flow<S::Handle>, ParseFault>
     requires ready { Ready (state_of S.view page.old) }
-    ensures came { IfOk result (λ flow. came_to flow (state_of S.view page.new) ≡ outcome S.view.handle
-        (option_group_start tag.now (state_of S.view page.old)) (state_of S.view page.old)) }
-    ensures ready { OnOk result (Ready (state_of S.view page.new)) }
-    ensures memory { IfErr result (λ e. e ≡ Memory) }
+    ensures { Follows S.view (option_group_start tag.now (state_of S.view page.old)) page.old page.new result }
 {
     if page.in_scope(ElementSet::Select) {
         page.imply_but(ElementSet::Nothing)?;
@@ -340,10 +288,7 @@ pub fn ruby_base_start<S: TreeSink>(
     tag: &Tag,
 ) -> Result<Flow<S::Handle>, ParseFault>
     requires ready { Ready (state_of S.view page.old) }
-    ensures came { IfOk result (λ flow. came_to flow (state_of S.view page.new) ≡ outcome S.view.handle
-        (ruby_base_start tag.now (state_of S.view page.old)) (state_of S.view page.old)) }
-    ensures ready { OnOk result (Ready (state_of S.view page.new)) }
-    ensures memory { IfErr result (λ e. e ≡ Memory) }
+    ensures { Follows S.view (ruby_base_start tag.now (state_of S.view page.old)) page.old page.new result }
 {
     if page.in_scope(ElementSet::Ruby) {
         page.imply_but(ElementSet::Nothing)?;
@@ -358,10 +303,7 @@ pub fn ruby_text_start<S: TreeSink>(
     tag: &Tag,
 ) -> Result<Flow<S::Handle>, ParseFault>
     requires ready { Ready (state_of S.view page.old) }
-    ensures came { IfOk result (λ flow. came_to flow (state_of S.view page.new) ≡ outcome S.view.handle
-        (ruby_text_start tag.now (state_of S.view page.old)) (state_of S.view page.old)) }
-    ensures ready { OnOk result (Ready (state_of S.view page.new)) }
-    ensures memory { IfErr result (λ e. e ≡ Memory) }
+    ensures { Follows S.view (ruby_text_start tag.now (state_of S.view page.old)) page.old page.new result }
 {
     if page.in_scope(ElementSet::Ruby) {
         page.imply_but(ElementSet::RubyTextContainer)?;
@@ -376,10 +318,7 @@ pub fn other_start<S: TreeSink>(
     tag: &Tag,
 ) -> Result<Flow<S::Handle>, ParseFault>
     requires ready { Ready (state_of S.view page.old) }
-    ensures came { IfOk result (λ flow. came_to flow (state_of S.view page.new) ≡ outcome S.view.handle
-        (other_start tag.now) (state_of S.view page.old)) }
-    ensures ready { OnOk result (Ready (state_of S.view page.new)) }
-    ensures memory { IfErr result (λ e. e ≡ Memory) }
+    ensures { Follows S.view (other_start tag.now) page.old page.new result }
 {
     page.reconstruct()?;
     page.insert(tag)?;
@@ -392,10 +331,7 @@ pub fn math_start<S: TreeSink>(
     tag: &Tag,
 ) -> Result<Flow<S::Handle>, ParseFault>
     requires ready { Ready (state_of S.view page.old) }
-    ensures came { IfOk result (λ flow. came_to flow (state_of S.view page.new) ≡ outcome S.view.handle
-        (math_start tag.now) (state_of S.view page.old)) }
-    ensures ready { OnOk result (Ready (state_of S.view page.new)) }
-    ensures memory { IfErr result (λ e. e ≡ Memory) }
+    ensures { Follows S.view (math_start tag.now) page.old page.new result }
 {
     page.reconstruct()?;
     page.insert_foreign(Namespace::MathMl, tag)?;
@@ -405,10 +341,7 @@ pub fn math_start<S: TreeSink>(
 /// "svg".
 pub fn svg_start<S: TreeSink>(page: &mut Parse<S>, tag: &Tag) -> Result<Flow<S::Handle>, ParseFault>
     requires ready { Ready (state_of S.view page.old) }
-    ensures came { IfOk result (λ flow. came_to flow (state_of S.view page.new) ≡ outcome S.view.handle
-        (svg_start tag.now) (state_of S.view page.old)) }
-    ensures ready { OnOk result (Ready (state_of S.view page.new)) }
-    ensures memory { IfErr result (λ e. e ≡ Memory) }
+    ensures { Follows S.view (svg_start tag.now) page.old page.new result }
 {
     page.reconstruct()?;
     page.insert_foreign(Namespace::Svg, tag)?;

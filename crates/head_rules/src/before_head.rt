@@ -1,7 +1,5 @@
 //! The "before head" insertion mode (WHATWG HTML, 13.2.6.4.3).
-ghost use Rattle.std.specs.Prelude.{◌≡◌, IfErr, IfOk, OnOk};
-ghost use Rattle.html_lexemes.specs.declared.fault.ParseFault.TheVariants.{Memory};
-ghost use Rattle.tree_actions.specs.Outcomes.{came_to, outcome};
+ghost use Rattle.tree_actions.specs.Follows.{Follows};
 ghost use Rattle.tree_actions.specs.Parsed.{state_of};
 ghost use Rattle.tree_actions.specs.Settling.{Ready};
 ghost use Rattle.tree_actions.specs.BeforeHead.{before_head_end, before_head_start, head_made};
@@ -21,10 +19,7 @@ pub fn before_head_start<S: TreeSink>(
     tag: &Tag,
 ) -> Result<Flow<S::Handle>, ParseFault>
     requires ready { Ready (state_of S.view page.old) }
-    ensures came { IfOk result (λ flow. came_to flow (state_of S.view page.new) ≡ outcome S.view.handle
-        (before_head_start group tag.now (state_of S.view page.old)) (state_of S.view page.old)) }
-    ensures ready { OnOk result (Ready (state_of S.view page.new)) }
-    ensures memory { IfErr result (λ e. e ≡ Memory) }
+    ensures { Follows S.view (before_head_start group tag.now (state_of S.view page.old)) page.old page.new result }
 {
     match group {
         TagGroup::Html => html_start(page, tag),
@@ -44,10 +39,7 @@ pub fn before_head_end<S: TreeSink>(
     group: TagGroup,
 ) -> Result<Flow<S::Handle>, ParseFault>
     requires ready { Ready (state_of S.view page.old) }
-    ensures came { IfOk result (λ flow. came_to flow (state_of S.view page.new) ≡ outcome S.view.handle
-        (before_head_end group) (state_of S.view page.old)) }
-    ensures ready { OnOk result (Ready (state_of S.view page.new)) }
-    ensures memory { IfErr result (λ e. e ≡ Memory) }
+    ensures { Follows S.view (before_head_end group) page.old page.new result }
 {
     match group {
         TagGroup::Head | TagGroup::Body | TagGroup::Html | TagGroup::LineBreak => make_head(page),
@@ -58,10 +50,7 @@ pub fn before_head_end<S: TreeSink>(
 /// Anything else: the head is made.
 pub fn make_head<S: TreeSink>(page: &mut Parse<S>) -> Result<Flow<S::Handle>, ParseFault>
     requires ready { Ready (state_of S.view page.old) }
-    ensures came { IfOk result (λ flow. came_to flow (state_of S.view page.new) ≡ outcome S.view.handle
-        (again head_made) (state_of S.view page.old)) }
-    ensures ready { OnOk result (Ready (state_of S.view page.new)) }
-    ensures memory { IfErr result (λ e. e ≡ Memory) }
+    ensures { Follows S.view (again head_made) page.old page.new result }
 {
     page.insert_named("head")?;
     page.keep_head();

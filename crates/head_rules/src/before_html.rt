@@ -1,7 +1,5 @@
 //! The "before html" insertion mode (WHATWG HTML, 13.2.6.4.2).
-ghost use Rattle.std.specs.Prelude.{◌≡◌, IfErr, IfOk, OnOk};
-ghost use Rattle.html_lexemes.specs.declared.fault.ParseFault.TheVariants.{Memory};
-ghost use Rattle.tree_actions.specs.Outcomes.{came_to, outcome};
+ghost use Rattle.tree_actions.specs.Follows.{Follows};
 ghost use Rattle.tree_actions.specs.Parsed.{state_of};
 ghost use Rattle.tree_actions.specs.Settling.{Ready};
 ghost use Rattle.tree_actions.specs.BeforeHtml.{before_html_end, before_html_start, html_made};
@@ -20,10 +18,7 @@ pub fn before_html_start<S: TreeSink>(
     tag: &Tag,
 ) -> Result<Flow<S::Handle>, ParseFault>
     requires ready { Ready (state_of S.view page.old) }
-    ensures came { IfOk result (λ flow. came_to flow (state_of S.view page.new) ≡ outcome S.view.handle
-        (before_html_start group tag.now) (state_of S.view page.old)) }
-    ensures ready { OnOk result (Ready (state_of S.view page.new)) }
-    ensures memory { IfErr result (λ e. e ≡ Memory) }
+    ensures { Follows S.view (before_html_start group tag.now) page.old page.new result }
 {
     match group {
         TagGroup::Html => {
@@ -41,10 +36,7 @@ pub fn before_html_end<S: TreeSink>(
     group: TagGroup,
 ) -> Result<Flow<S::Handle>, ParseFault>
     requires ready { Ready (state_of S.view page.old) }
-    ensures came { IfOk result (λ flow. came_to flow (state_of S.view page.new) ≡ outcome S.view.handle
-        (before_html_end group) (state_of S.view page.old)) }
-    ensures ready { OnOk result (Ready (state_of S.view page.new)) }
-    ensures memory { IfErr result (λ e. e ≡ Memory) }
+    ensures { Follows S.view (before_html_end group) page.old page.new result }
 {
     match group {
         TagGroup::Head | TagGroup::Body | TagGroup::Html | TagGroup::LineBreak => make_html(page),
@@ -55,10 +47,7 @@ pub fn before_html_end<S: TreeSink>(
 /// Anything else: the root is made.
 pub fn make_html<S: TreeSink>(page: &mut Parse<S>) -> Result<Flow<S::Handle>, ParseFault>
     requires ready { Ready (state_of S.view page.old) }
-    ensures came { IfOk result (λ flow. came_to flow (state_of S.view page.new) ≡ outcome S.view.handle
-        (again html_made) (state_of S.view page.old)) }
-    ensures ready { OnOk result (Ready (state_of S.view page.new)) }
-    ensures memory { IfErr result (λ e. e ≡ Memory) }
+    ensures { Follows S.view (again html_made) page.old page.new result }
 {
     page.insert_named("html")?;
     page.go_to(InsertionMode::BeforeHead);

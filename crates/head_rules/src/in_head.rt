@@ -1,9 +1,7 @@
 //! The "in head" insertion mode (WHATWG HTML, 13.2.6.4.4).
-ghost use Rattle.std.specs.Prelude.{◌≡◌, IfErr, IfOk, OnOk};
-ghost use Rattle.html_lexemes.specs.declared.fault.ParseFault.TheVariants.{Memory};
 ghost use Rattle.html_lexemes.specs.declared.states.RawKind.TheVariants.{ScriptData};
 ghost use Rattle.tag_groups.specs.declared.group.TagGroup.TheVariants.{Template};
-ghost use Rattle.tree_actions.specs.Outcomes.{came_to, outcome};
+ghost use Rattle.tree_actions.specs.Follows.{Follows};
 ghost use Rattle.tree_actions.specs.Parsed.{state_of};
 ghost use Rattle.tree_actions.specs.Settling.{Ready};
 ghost use Rattle.std.specs.Prelude.{[], ◌∷◌};
@@ -32,10 +30,7 @@ pub fn in_head_start<S: TreeSink>(
     tag: &Tag,
 ) -> Result<Flow<S::Handle>, ParseFault>
     requires ready { Ready (state_of S.view page.old) }
-    ensures came { IfOk result (λ flow. came_to flow (state_of S.view page.new) ≡ outcome S.view.handle
-        (in_head_start target group tag.now (state_of S.view page.old)) (state_of S.view page.old)) }
-    ensures ready { OnOk result (Ready (state_of S.view page.new)) }
-    ensures memory { IfErr result (λ e. e ≡ Memory) }
+    ensures { Follows S.view (in_head_start target group tag.now (state_of S.view page.old)) page.old page.new result }
 {
     match group {
         TagGroup::Html => html_start(page, tag),
@@ -61,10 +56,8 @@ pub fn meta_start<S: TreeSink>(
     tag: &Tag,
 ) -> Result<Flow<S::Handle>, ParseFault>
     requires ready { Ready (state_of S.view page.old) }
-    ensures came { IfOk result (λ flow. came_to flow (state_of S.view page.new) ≡ outcome S.view.handle
-        (asks_encoding (named_encoding tag.now.attrs) (insert_void target tag.now ∷ [])) (state_of S.view page.old)) }
-    ensures ready { OnOk result (Ready (state_of S.view page.new)) }
-    ensures memory { IfErr result (λ e. e ≡ Memory) }
+    ensures { Follows S.view (asks_encoding (named_encoding tag.now.attrs) (insert_void target tag.now ∷ [])) page.old
+        page.new result }
 {
     page.insert_void_at(target, tag)?;
     let Some(encoding) = named_encoding(&tag.attrs) else {
@@ -81,10 +74,7 @@ fn script_start<S: TreeSink>(
     tag: &Tag,
 ) -> Result<Flow<S::Handle>, ParseFault>
     requires ready { Ready (state_of S.view page.old) }
-    ensures came { IfOk result (λ flow. came_to flow (state_of S.view page.new) ≡ outcome S.view.handle
-        (reads_raw ScriptData (insert target tag.now ∷ [])) (state_of S.view page.old)) }
-    ensures ready { OnOk result (Ready (state_of S.view page.new)) }
-    ensures memory { IfErr result (λ e. e ≡ Memory) }
+    ensures { Follows S.view (reads_raw ScriptData (insert target tag.now ∷ [])) page.old page.new result }
 {
     page.insert_at(target, tag)?;
     page.mark_script_of_fragment()?;
@@ -99,10 +89,7 @@ pub fn raw_start<S: TreeSink>(
     kind: RawKind,
 ) -> Result<Flow<S::Handle>, ParseFault>
     requires ready { Ready (state_of S.view page.old) }
-    ensures came { IfOk result (λ flow. came_to flow (state_of S.view page.new) ≡ outcome S.view.handle
-        (reads_raw kind (insert target tag.now ∷ [])) (state_of S.view page.old)) }
-    ensures ready { OnOk result (Ready (state_of S.view page.new)) }
-    ensures memory { IfErr result (λ e. e ≡ Memory) }
+    ensures { Follows S.view (reads_raw kind (insert target tag.now ∷ [])) page.old page.new result }
 {
     page.insert_at(target, tag)?;
     Ok(read_raw(page, kind))
@@ -115,11 +102,8 @@ pub fn noscript_in_head<S: TreeSink>(
     tag: &Tag,
 ) -> Result<Flow<S::Handle>, ParseFault>
     requires ready { Ready (state_of S.view page.old) }
-    ensures came { IfOk result (λ flow. came_to flow (state_of S.view page.new) ≡ outcome S.view.handle
-        (noscript_start (state_of S.view page.old).options.scripting_enabled target tag.now)
-        (state_of S.view page.old)) }
-    ensures ready { OnOk result (Ready (state_of S.view page.new)) }
-    ensures memory { IfErr result (λ e. e ≡ Memory) }
+    ensures { Follows S.view (noscript_start (state_of S.view page.old).options.scripting_enabled target tag.now)
+        page.old page.new result }
 {
     if page.kept.options.scripting_enabled {
         return raw_start(page, target, tag, RawKind::Rawtext);
@@ -136,10 +120,7 @@ pub fn template_start<S: TreeSink>(
     tag: &Tag,
 ) -> Result<Flow<S::Handle>, ParseFault>
     requires ready { Ready (state_of S.view page.old) }
-    ensures came { IfOk result (λ flow. came_to flow (state_of S.view page.new) ≡ outcome S.view.handle
-        (in_head_start target Template tag.now (state_of S.view page.old)) (state_of S.view page.old)) }
-    ensures ready { OnOk result (Ready (state_of S.view page.new)) }
-    ensures memory { IfErr result (λ e. e ≡ Memory) }
+    ensures { Follows S.view (in_head_start target Template tag.now (state_of S.view page.old)) page.old page.new result }
 {
     page.insert_at(target, tag)?;
     page.put_marker()?;
@@ -155,10 +136,7 @@ pub fn in_head_end<S: TreeSink>(
     group: TagGroup,
 ) -> Result<Flow<S::Handle>, ParseFault>
     requires ready { Ready (state_of S.view page.old) }
-    ensures came { IfOk result (λ flow. came_to flow (state_of S.view page.new) ≡ outcome S.view.handle
-        (in_head_end group (state_of S.view page.old)) (state_of S.view page.old)) }
-    ensures ready { OnOk result (Ready (state_of S.view page.new)) }
-    ensures memory { IfErr result (λ e. e ≡ Memory) }
+    ensures { Follows S.view (in_head_end group (state_of S.view page.old)) page.old page.new result }
 {
     match group {
         TagGroup::Head => {
@@ -175,10 +153,7 @@ pub fn in_head_end<S: TreeSink>(
 /// An end tag "template".
 pub fn template_end<S: TreeSink>(page: &mut Parse<S>) -> Result<Flow<S::Handle>, ParseFault>
     requires ready { Ready (state_of S.view page.old) }
-    ensures came { IfOk result (λ flow. came_to flow (state_of S.view page.new) ≡ outcome S.view.handle
-        (template_end (state_of S.view page.old)) (state_of S.view page.old)) }
-    ensures ready { OnOk result (Ready (state_of S.view page.new)) }
-    ensures memory { IfErr result (λ e. e ≡ Memory) }
+    ensures { Follows S.view (template_end (state_of S.view page.old)) page.old page.new result }
 {
     if !page.has_template() {
         return Ok(Flow::Done);
@@ -194,10 +169,7 @@ pub fn template_end<S: TreeSink>(page: &mut Parse<S>) -> Result<Flow<S::Handle>,
 /// Anything else: the head is closed.
 pub fn close_head<S: TreeSink>(page: &mut Parse<S>) -> Result<Flow<S::Handle>, ParseFault>
     requires ready { Ready (state_of S.view page.old) }
-    ensures came { IfOk result (λ flow. came_to flow (state_of S.view page.new) ≡ outcome S.view.handle
-        (again head_closed) (state_of S.view page.old)) }
-    ensures ready { OnOk result (Ready (state_of S.view page.new)) }
-    ensures memory { IfErr result (λ e. e ≡ Memory) }
+    ensures { Follows S.view (again head_closed) page.old page.new result }
 {
     page.pop()?;
     page.go_to(InsertionMode::AfterHead);

@@ -1,7 +1,5 @@
 //! The "in head noscript" insertion mode (WHATWG HTML, 13.2.6.4.5).
-ghost use Rattle.std.specs.Prelude.{◌≡◌, IfErr, IfOk, OnOk};
-ghost use Rattle.html_lexemes.specs.declared.fault.ParseFault.TheVariants.{Memory};
-ghost use Rattle.tree_actions.specs.Outcomes.{came_to, outcome};
+ghost use Rattle.tree_actions.specs.Follows.{Follows};
 ghost use Rattle.tree_actions.specs.Parsed.{state_of};
 ghost use Rattle.tree_actions.specs.Settling.{Ready};
 ghost use Rattle.tree_actions.specs.InHeadNoscript.{in_head_noscript_end, in_head_noscript_start, noscript_closed};
@@ -22,10 +20,7 @@ pub fn in_head_noscript_start<S: TreeSink>(
     tag: &Tag,
 ) -> Result<Flow<S::Handle>, ParseFault>
     requires ready { Ready (state_of S.view page.old) }
-    ensures came { IfOk result (λ flow. came_to flow (state_of S.view page.new) ≡ outcome S.view.handle
-        (in_head_noscript_start group tag.now (state_of S.view page.old)) (state_of S.view page.old)) }
-    ensures ready { OnOk result (Ready (state_of S.view page.new)) }
-    ensures memory { IfErr result (λ e. e ≡ Memory) }
+    ensures { Follows S.view (in_head_noscript_start group tag.now (state_of S.view page.old)) page.old page.new result }
 {
     match group {
         TagGroup::Html => html_start(page, tag),
@@ -43,10 +38,7 @@ pub fn in_head_noscript_end<S: TreeSink>(
     group: TagGroup,
 ) -> Result<Flow<S::Handle>, ParseFault>
     requires ready { Ready (state_of S.view page.old) }
-    ensures came { IfOk result (λ flow. came_to flow (state_of S.view page.new) ≡ outcome S.view.handle
-        (in_head_noscript_end group) (state_of S.view page.old)) }
-    ensures ready { OnOk result (Ready (state_of S.view page.new)) }
-    ensures memory { IfErr result (λ e. e ≡ Memory) }
+    ensures { Follows S.view (in_head_noscript_end group) page.old page.new result }
 {
     match group {
         TagGroup::Noscript => {
@@ -62,10 +54,7 @@ pub fn in_head_noscript_end<S: TreeSink>(
 /// Anything else: the `noscript` is closed.
 pub fn close_noscript<S: TreeSink>(page: &mut Parse<S>) -> Result<Flow<S::Handle>, ParseFault>
     requires ready { Ready (state_of S.view page.old) }
-    ensures came { IfOk result (λ flow. came_to flow (state_of S.view page.new) ≡ outcome S.view.handle
-        (again noscript_closed) (state_of S.view page.old)) }
-    ensures ready { OnOk result (Ready (state_of S.view page.new)) }
-    ensures memory { IfErr result (λ e. e ≡ Memory) }
+    ensures { Follows S.view (again noscript_closed) page.old page.new result }
 {
     page.pop()?;
     page.go_to(InsertionMode::InHead);

@@ -1,7 +1,5 @@
 //! The "initial" insertion mode (WHATWG HTML, 13.2.6.4.1).
-ghost use Rattle.std.specs.Prelude.{◌≡◌, IfErr, IfOk, OnOk};
-ghost use Rattle.html_lexemes.specs.declared.fault.ParseFault.TheVariants.{Memory};
-ghost use Rattle.tree_actions.specs.Outcomes.{came_to, outcome};
+ghost use Rattle.tree_actions.specs.Follows.{Follows};
 ghost use Rattle.tree_actions.specs.Parsed.{state_of};
 ghost use Rattle.tree_actions.specs.Settling.{Ready};
 ghost use Rattle.tree_actions.specs.Initial.{initial_comment, initial_doctype, initial_other};
@@ -17,10 +15,7 @@ pub fn initial_comment<S: TreeSink>(
     text: Text,
 ) -> Result<Flow<S::Handle>, ParseFault>
     requires ready { Ready (state_of S.view page.old) }
-    ensures came { IfOk result (λ flow. came_to flow (state_of S.view page.new) ≡ outcome S.view.handle
-        (initial_comment text) (state_of S.view page.old)) }
-    ensures ready { OnOk result (Ready (state_of S.view page.new)) }
-    ensures memory { IfErr result (λ e. e ≡ Memory) }
+    ensures { Follows S.view (initial_comment text) page.old page.new result }
 {
     page.comment_to_document(text)?;
     Ok(Flow::Done)
@@ -32,10 +27,7 @@ pub fn initial_doctype<S: TreeSink>(
     doctype: Doctype,
 ) -> Result<Flow<S::Handle>, ParseFault>
     requires ready { Ready (state_of S.view page.old) }
-    ensures came { IfOk result (λ flow. came_to flow (state_of S.view page.new) ≡ outcome S.view.handle
-        (initial_doctype doctype (state_of S.view page.old)) (state_of S.view page.old)) }
-    ensures ready { OnOk result (Ready (state_of S.view page.new)) }
-    ensures memory { IfErr result (λ e. e ≡ Memory) }
+    ensures { Follows S.view (initial_doctype doctype (state_of S.view page.old)) page.old page.new result }
 {
     let quirks = quirks_mode_of(&doctype);
     if page.kept.options.drop_doctype {
@@ -52,10 +44,7 @@ pub fn initial_doctype<S: TreeSink>(
 /// Anything else: the page has no doctype.
 pub fn initial_other<S: TreeSink>(page: &mut Parse<S>) -> Result<Flow<S::Handle>, ParseFault>
     requires ready { Ready (state_of S.view page.old) }
-    ensures came { IfOk result (λ flow. came_to flow (state_of S.view page.new) ≡ outcome S.view.handle
-        (initial_other (state_of S.view page.old)) (state_of S.view page.old)) }
-    ensures ready { OnOk result (Ready (state_of S.view page.new)) }
-    ensures memory { IfErr result (λ e. e ≡ Memory) }
+    ensures { Follows S.view (initial_other (state_of S.view page.old)) page.old page.new result }
 {
     if page.kept.options.iframe_srcdoc {
         page.go_to(InsertionMode::BeforeHtml);

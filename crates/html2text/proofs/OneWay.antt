@@ -10,7 +10,7 @@ use Rattle.page_config.specs.PlainText.{plain_closes, plain_marking}
 use Rattle.page_config.specs.RichPages.{HasRichAnswer, HasRichText}
 use Rattle.page_config.specs.RichText.{rich_closes, rich_marking}
 use Rattle.page_config.specs.Settings.{PageSetting}
-use Rattle.text_decorators.specs.Annotations.{RichTag, rich_tag}
+use Rattle.text_decorators.specs.Annotations.{rich_tag}
 
 pub asked_alike : (asked : Asked) (names : References) (c d : PageSetting (Unit {0})) → IsSetting asked names c
     → IsSetting asked names d → AreAlike c d

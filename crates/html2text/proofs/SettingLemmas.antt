@@ -5,7 +5,6 @@ use Rattle.command_words.specs.CommandWords.{Asked}
 use Rattle.html2text.specs.Written.{EitherLook, HasAskedText, IsOtherPage, IsSetting, IsTooNarrowPage}
 use Rattle.html2text.specs.Written.{is_decorated}
 use Rattle.reference_tables.specs.References.{References}
-use Rattle.page_config.specs.PlainText.{plain_closes}
 use Rattle.page_config.specs.RichPages.{rich_view}
 use Rattle.page_config.specs.PageAnswers.{Answers, IsTold, PageAnswer, fail, too_narrow}
 use Rattle.page_config.specs.PlainPages.{IsPlain, plain_view}
@@ -15,8 +14,6 @@ use Rattle.renderer_calls.specs.Defaults.{default_options}
 use Rattle.renderer_calls.specs.declared.options.RenderOptions.{RenderOptions}
 use Rattle.text_decorators.specs.Annotations.{RichTag, rich_tag}
 use Rattle.text_decorators.specs.Laws.{rich_mark_tag, rich_tag_fits}
-use Rattle.text_decorators.specs.Texts.{IsRich, is_colour, plain_text, rich_text}
-use Rattle.text_decorators.specs.declared.annotation.RichAnnotation.{RichAnnotation}
 
 no_marks : (rich decorate : Bool) → (rich ≡ true) → (not rich && decorate) ≡ false
 no_marks true decorate e = refl

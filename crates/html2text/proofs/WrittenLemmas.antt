@@ -1,5 +1,5 @@
 -- What was written of a page's lines.
-use Rattle.std.proofs.Common.{ℕ, Bool, List, Vec, Global, map, Option, None, Some, IfSome, chars, ◌∙◌}
+use Rattle.std.proofs.Common.{ℕ, List, Vec, Global, map, Option, None, Some, IfSome, chars, ◌∙◌}
 use Rattle.std.specs.Io.KnownBytes.{Appends}
 use Rattle.block_renderer.specs.Seen.{IsTagging, marking, tags_seen}
 use Rattle.byte_devices.specs.KnownPart.{AppendsPart}
@@ -9,7 +9,7 @@ use Rattle.html2text.specs.Written.{Gains, GainsPart}
 use Rattle.page_config.specs.PageAnswers.{HasText, IsTold, lines_text}
 use Rattle.page_config.specs.PageLaws.{IsTextWithin}
 use Rattle.page_config.specs.Settings.{PageSetting}
-use Rattle.tagged_lines.specs.Tagged.{Item, line_items}
+use Rattle.tagged_lines.specs.Tagged.{line_items}
 use Rattle.tagged_lines.specs.declared.tagged_line.TaggedLine.{TaggedLine}
 use Rattle.text_marks.specs.Marks.{DecoratorView, Mark}
 

@@ -1,8 +1,6 @@
 -- What a parser was fed with, and a rest of the page: by what its tokenizer does.
 use Rattle.std.proofs.Common.{◌≡◌, ◌++◌, ℕ, List, [], subst, append_assoc}
-use Rattle.html_forest.specs.Forest.{Forest}
 use Rattle.html_forest.specs.Sinks.{SinkView}
-use Rattle.html_forest.specs.declared.sink.QuirksMode.{QuirksMode}
 use Rattle.html_tree_state.specs.Building.{Parts}
 use Rattle.tree_builder.specs.Parsed.{parsed}
 use Rattle.tree_builder.specs.Kept.{Kept}

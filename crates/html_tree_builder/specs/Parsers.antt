@@ -1,8 +1,6 @@
 -- What public contracts say of a parser. These words are whole for those who call it.
 use Rattle.std.specs.Prelude.{◌≡◌, ℕ, Bool, false, List, ◌++◌}
-use Rattle.html_forest.specs.Forest.{Forest}
 use Rattle.html_forest.specs.Sinks.{SinkView}
-use Rattle.html_forest.specs.declared.sink.QuirksMode.{QuirksMode}
 use Rattle.html_tokenizer.specs.Completes as tokenizers
 use Rattle.html_tree_builder.specs.declared.parser.Parser.{Parser}
 use Rattle.tree_builder.specs.Parsed.{parsed}

@@ -1,5 +1,5 @@
 -- Answers of what was read.
-use Rattle.std.proofs.Common.{◌≡◌, ◌≢◌, ◌⊎◌, inl, inr, ℕ, ◌<◌, Bool, List}
+use Rattle.std.proofs.Common.{◌≡◌, ◌≢◌, ◌⊎◌, inl, inr, ℕ, ◌<◌, List}
 use Rattle.std.proofs.Common.{refl, Option, None, Some, IfSome, sym, subst}
 use Rattle.block_renderer.specs.Seen.{IsTagging, marking}
 use Rattle.html_forest.specs.Forest.{Forest}

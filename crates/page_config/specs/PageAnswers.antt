@@ -1,5 +1,5 @@
 -- What is answered of a page: a function of its bytes, a width, and what a configuration says.
-use Rattle.std.specs.Prelude.{◌≡◌, ◌≢◌, ◌⊎◌, ℕ, ◌<◌, Bool, List, None, Some}
+use Rattle.std.specs.Prelude.{◌≡◌, ◌≢◌, ◌⊎◌, ℕ, ◌<◌, List, None, Some}
 use Rattle.block_renderer.specs.Seen.{IsTagging, marking}
 use Rattle.html_forest.specs.Forest.{Forest}
 use Rattle.html_forest.specs.declared.sink.QuirksMode.{QuirksMode}
@@ -10,7 +10,7 @@ use Rattle.render_conversion.specs.Conversion.{document_values}
 use Rattle.render_values.specs.Values.{Values, none}
 use Rattle.renderer_calls.specs.Renderers.{Marking}
 use Rattle.tagged_lines.specs.Tagged.{Item}
-use Rattle.text_marks.specs.Marks.{DecoratorView, Mark}
+use Rattle.text_marks.specs.Marks.{DecoratorView}
 use Rattle.page_config.specs.Settings.{PageSetting}
 
 -- The values of a page: what the tree of its bytes converts to.

@@ -1,7 +1,5 @@
 //! The "after after body" insertion mode (WHATWG HTML, 13.2.6.4.20). Start tags are taken as in "after body".
-ghost use Rattle.std.specs.Prelude.{◌≡◌, IfErr, IfOk, OnOk};
-ghost use Rattle.html_lexemes.specs.declared.fault.ParseFault.TheVariants.{Memory};
-ghost use Rattle.tree_actions.specs.Outcomes.{came_to, outcome};
+ghost use Rattle.tree_actions.specs.Follows.{Follows};
 ghost use Rattle.tree_actions.specs.Parsed.{state_of};
 ghost use Rattle.tree_rules.specs.Settling.{Ready};
 ghost use Rattle.tree_rules.specs.AfterBody.{after_after_body_comment, after_after_body_end};
@@ -19,10 +17,7 @@ pub fn after_after_body_comment<S: TreeSink>(
     text: Text,
 ) -> Result<Flow<S::Handle>, ParseFault>
     requires ready { Ready (state_of S.view page.old) }
-    ensures came { IfOk result (λ flow. came_to flow (state_of S.view page.new) ≡ outcome S.view.handle
-        (after_after_body_comment text) (state_of S.view page.old)) }
-    ensures ready { OnOk result (Ready (state_of S.view page.new)) }
-    ensures memory { IfErr result (λ e. e ≡ Memory) }
+    ensures { Follows S.view (after_after_body_comment text) page.old page.new result }
 {
     page.comment_to_document(text)?;
     Ok(Flow::Done)
@@ -31,10 +26,7 @@ pub fn after_after_body_comment<S: TreeSink>(
 /// An end tag.
 pub fn after_after_body_end<S: TreeSink>(page: &mut Parse<S>) -> Result<Flow<S::Handle>, ParseFault>
     requires ready { Ready (state_of S.view page.old) }
-    ensures came { IfOk result (λ flow. came_to flow (state_of S.view page.new) ≡ outcome S.view.handle
-        after_after_body_end (state_of S.view page.old)) }
-    ensures ready { OnOk result (Ready (state_of S.view page.new)) }
-    ensures memory { IfErr result (λ e. e ≡ Memory) }
+    ensures { Follows S.view after_after_body_end page.old page.new result }
 {
     body_again(page)
 }
@@ -44,10 +36,7 @@ pub fn after_after_body_end_of_file<S: TreeSink>(
     page: &mut Parse<S>,
 ) -> Result<Flow<S::Handle>, ParseFault>
     requires ready { Ready (state_of S.view page.old) }
-    ensures came { IfOk result (λ flow. came_to flow (state_of S.view page.new) ≡ outcome S.view.handle
-        after_after_body_end_of_file (state_of S.view page.old)) }
-    ensures ready { OnOk result (Ready (state_of S.view page.new)) }
-    ensures memory { IfErr result (λ e. e ≡ Memory) }
+    ensures { Follows S.view after_after_body_end_of_file page.old page.new result }
 {
     Ok(stop_parsing())
 }

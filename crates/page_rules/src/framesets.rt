@@ -1,7 +1,6 @@
 //! The "in frameset" insertion mode (WHATWG HTML, 13.2.6.4.18).
-ghost use Rattle.std.specs.Prelude.{◌≡◌, IfErr, IfOk, OnOk};
-ghost use Rattle.html_lexemes.specs.declared.fault.ParseFault.TheVariants.{Memory};
-ghost use Rattle.tree_actions.specs.Outcomes.{came_to, outcome};
+ghost use Rattle.std.specs.Prelude.{◌≡◌};
+ghost use Rattle.tree_actions.specs.Follows.{Follows};
 ghost use Rattle.tree_actions.specs.Parsed.{state_of};
 ghost use Rattle.tree_rules.specs.Settling.{Ready};
 ghost use Rattle.std.specs.Prelude.{option_map};
@@ -24,10 +23,7 @@ pub fn in_frameset_start<S: TreeSink>(
     tag: &Tag,
 ) -> Result<Flow<S::Handle>, ParseFault>
     requires ready { Ready (state_of S.view page.old) }
-    ensures came { IfOk result (λ flow. came_to flow (state_of S.view page.new) ≡ outcome S.view.handle
-        (in_frameset_start group tag.now (state_of S.view page.old)) (state_of S.view page.old)) }
-    ensures ready { OnOk result (Ready (state_of S.view page.new)) }
-    ensures memory { IfErr result (λ e. e ≡ Memory) }
+    ensures { Follows S.view (in_frameset_start group tag.now (state_of S.view page.old)) page.old page.new result }
 {
     match group {
         TagGroup::Html => html_start(page, tag),
@@ -50,10 +46,7 @@ pub fn in_frameset_end<S: TreeSink>(
     group: TagGroup,
 ) -> Result<Flow<S::Handle>, ParseFault>
     requires ready { Ready (state_of S.view page.old) }
-    ensures came { IfOk result (λ flow. came_to flow (state_of S.view page.new) ≡ outcome S.view.handle
-        (in_frameset_end group (state_of S.view page.old)) (state_of S.view page.old)) }
-    ensures ready { OnOk result (Ready (state_of S.view page.new)) }
-    ensures memory { IfErr result (λ e. e ≡ Memory) }
+    ensures { Follows S.view (in_frameset_end group (state_of S.view page.old)) page.old page.new result }
 {
     match group {
         TagGroup::Frameset => close_frameset(page),
@@ -64,10 +57,8 @@ pub fn in_frameset_end<S: TreeSink>(
 // a frameset is closed; the root stays. After the outermost frameset of a page the mode is another.
 fn close_frameset<S: TreeSink>(page: &mut Parse<S>) -> Result<Flow<S::Handle>, ParseFault>
     requires ready { Ready (state_of S.view page.old) }
-    ensures came { IfOk result (λ flow. came_to flow (state_of S.view page.new) ≡ outcome S.view.handle
-        (frameset_closed (state_of S.view page.old).tree.stack (state_of S.view page.old)) (state_of S.view page.old)) }
-    ensures ready { OnOk result (Ready (state_of S.view page.new)) }
-    ensures memory { IfErr result (λ e. e ≡ Memory) }
+    ensures { Follows S.view (frameset_closed (state_of S.view page.old).tree.stack (state_of S.view page.old)) page.old
+        page.new result }
 {
     let Some(outer) = below_current(page) else {
         return Ok(Flow::Done);

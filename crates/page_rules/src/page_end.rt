@@ -1,7 +1,6 @@
 //! The end of the page, in the body and in templates (WHATWG HTML, 13.2.6.4.7 and 13.2.6.4.16).
-ghost use Rattle.std.specs.Prelude.{◌≡◌, IfErr, IfOk, OnOk};
-ghost use Rattle.html_lexemes.specs.declared.fault.ParseFault.TheVariants.{Memory};
-ghost use Rattle.tree_actions.specs.Outcomes.{came_to, outcome};
+ghost use Rattle.std.specs.Prelude.{◌≡◌};
+ghost use Rattle.tree_actions.specs.Follows.{Follows};
 ghost use Rattle.tree_actions.specs.Parsed.{state_of};
 ghost use Rattle.tree_rules.specs.Settling.{Ready};
 ghost use Rattle.tree_actions.specs.declared.flow.Flow.TheVariants.{Done};
@@ -15,10 +14,7 @@ use tree_actions::{Flow, Parse};
 /// A template that is open is closed, and the mode that stands then takes the end of the page.
 pub fn end_of_file<S: TreeSink>(page: &mut Parse<S>) -> Result<Flow<S::Handle>, ParseFault>
     requires ready { Ready (state_of S.view page.old) }
-    ensures came { IfOk result (λ flow. came_to flow (state_of S.view page.new) ≡ outcome S.view.handle
-        (in_template_end_of_file (state_of S.view page.old)) (state_of S.view page.old)) }
-    ensures ready { OnOk result (Ready (state_of S.view page.new)) }
-    ensures memory { IfErr result (λ e. e ≡ Memory) }
+    ensures { Follows S.view (in_template_end_of_file (state_of S.view page.old)) page.old page.new result }
 {
     if !page.has_template() {
         return Ok(stop_parsing());

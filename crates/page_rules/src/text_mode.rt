@@ -1,7 +1,7 @@
 //! The "text" insertion mode (WHATWG HTML, 13.2.6.4.8).
-ghost use Rattle.std.specs.Prelude.{◌≡◌, IfErr, IfOk, OnOk};
+ghost use Rattle.std.specs.Prelude.{◌≡◌, IfErr, OnOk};
 ghost use Rattle.html_lexemes.specs.declared.fault.ParseFault.TheVariants.{Memory};
-ghost use Rattle.tree_actions.specs.Outcomes.{came_to, outcome};
+ghost use Rattle.tree_actions.specs.Follows.{Follows};
 ghost use Rattle.tree_actions.specs.Parsed.{state_of};
 ghost use Rattle.tree_rules.specs.Settling.{Ready};
 ghost use Rattle.html_tree_state.specs.OpenElements.{current_of};
@@ -19,10 +19,7 @@ pub fn text_mode_end<S: TreeSink>(
     group: TagGroup,
 ) -> Result<Flow<S::Handle>, ParseFault>
     requires ready { Ready (state_of S.view page.old) }
-    ensures came { IfOk result (λ flow. came_to flow (state_of S.view page.new) ≡ outcome S.view.handle
-        (text_mode_end group (state_of S.view page.old)) (state_of S.view page.old)) }
-    ensures ready { OnOk result (Ready (state_of S.view page.new)) }
-    ensures memory { IfErr result (λ e. e ≡ Memory) }
+    ensures { Follows S.view (text_mode_end group (state_of S.view page.old)) page.old page.new result }
 {
     match group {
         TagGroup::Script => {
@@ -42,10 +39,7 @@ pub fn text_mode_end_of_file<S: TreeSink>(
     page: &mut Parse<S>,
 ) -> Result<Flow<S::Handle>, ParseFault>
     requires ready { Ready (state_of S.view page.old) }
-    ensures came { IfOk result (λ flow. came_to flow (state_of S.view page.new) ≡ outcome S.view.handle
-        text_mode_end_of_file (state_of S.view page.old)) }
-    ensures ready { OnOk result (Ready (state_of S.view page.new)) }
-    ensures memory { IfErr result (λ e. e ≡ Memory) }
+    ensures { Follows S.view text_mode_end_of_file page.old page.new result }
 {
     page.mark_script()?;
     end_text(page)?;

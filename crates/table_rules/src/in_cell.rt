@@ -1,7 +1,7 @@
 //! The "in cell" insertion mode (WHATWG HTML, 13.2.6.4.15).
-ghost use Rattle.std.specs.Prelude.{◌≡◌, IfErr, IfOk, OnOk};
+ghost use Rattle.std.specs.Prelude.{◌≡◌, IfErr, OnOk};
 ghost use Rattle.html_lexemes.specs.declared.fault.ParseFault.TheVariants.{Memory};
-ghost use Rattle.tree_actions.specs.Outcomes.{came_to, outcome};
+ghost use Rattle.tree_actions.specs.Follows.{Follows};
 ghost use Rattle.tree_actions.specs.Parsed.{state_of};
 ghost use Rattle.tree_rules.specs.Settling.{Ready};
 ghost use Rattle.tag_groups.specs.Groups.{tag_group};
@@ -25,10 +25,7 @@ pub fn in_cell_start<S: TreeSink>(
 ) -> Result<Flow<S::Handle>, ParseFault>
     requires ready { Ready (state_of S.view page.old) }
     requires group { tag_group tag.now.name ≡ group }
-    ensures came { IfOk result (λ flow. came_to flow (state_of S.view page.new) ≡ outcome S.view.handle
-        (in_cell_start group tag.now (state_of S.view page.old)) (state_of S.view page.old)) }
-    ensures ready { OnOk result (Ready (state_of S.view page.new)) }
-    ensures memory { IfErr result (λ e. e ≡ Memory) }
+    ensures { Follows S.view (in_cell_start group tag.now (state_of S.view page.old)) page.old page.new result }
 {
     match group {
         TagGroup::Caption
@@ -48,10 +45,7 @@ pub fn in_cell_end<S: TreeSink>(
     tag: &Tag,
 ) -> Result<Flow<S::Handle>, ParseFault>
     requires ready { Ready (state_of S.view page.old) }
-    ensures came { IfOk result (λ flow. came_to flow (state_of S.view page.new) ≡ outcome S.view.handle
-        (in_cell_end group tag.now (state_of S.view page.old)) (state_of S.view page.old)) }
-    ensures ready { OnOk result (Ready (state_of S.view page.new)) }
-    ensures memory { IfErr result (λ e. e ≡ Memory) }
+    ensures { Follows S.view (in_cell_end group tag.now (state_of S.view page.old)) page.old page.new result }
 {
     match group {
         TagGroup::Cell => {
@@ -89,10 +83,7 @@ pub fn close_cell<S: TreeSink>(page: &mut Parse<S>, cells: ElementSet<'_>) -> Re
 /// A tag that no cell holds: an open one is closed, and the row takes the tag.
 pub fn past_cell<S: TreeSink>(page: &mut Parse<S>) -> Result<Flow<S::Handle>, ParseFault>
     requires ready { Ready (state_of S.view page.old) }
-    ensures came { IfOk result (λ flow. came_to flow (state_of S.view page.new) ≡ outcome S.view.handle
-        (past_cell (state_of S.view page.old)) (state_of S.view page.old)) }
-    ensures ready { OnOk result (Ready (state_of S.view page.new)) }
-    ensures memory { IfErr result (λ e. e ≡ Memory) }
+    ensures { Follows S.view (past_cell (state_of S.view page.old)) page.old page.new result }
 {
     if !page.in_table_scope(ElementSet::TableCell) {
         return Ok(Flow::Done);
@@ -104,10 +95,7 @@ pub fn past_cell<S: TreeSink>(page: &mut Parse<S>) -> Result<Flow<S::Handle>, Pa
 /// An end tag of what the cell stands in: the cell is closed, and the row takes the tag.
 pub fn outer_end<S: TreeSink>(page: &mut Parse<S>, tag: &Tag) -> Result<Flow<S::Handle>, ParseFault>
     requires ready { Ready (state_of S.view page.old) }
-    ensures came { IfOk result (λ flow. came_to flow (state_of S.view page.new) ≡ outcome S.view.handle
-        (outer_end tag.now (state_of S.view page.old)) (state_of S.view page.old)) }
-    ensures ready { OnOk result (Ready (state_of S.view page.new)) }
-    ensures memory { IfErr result (λ e. e ≡ Memory) }
+    ensures { Follows S.view (outer_end tag.now (state_of S.view page.old)) page.old page.new result }
 {
     if !page.in_table_scope(ElementSet::Named(&tag.name)) {
         return Ok(Flow::Done);

@@ -1,7 +1,7 @@
 //! The "in table" insertion mode (WHATWG HTML, 13.2.6.4.9).
-ghost use Rattle.std.specs.Prelude.{◌≡◌, IfErr, IfOk, OnOk};
+ghost use Rattle.std.specs.Prelude.{◌≡◌, IfErr, OnOk};
 ghost use Rattle.html_lexemes.specs.declared.fault.ParseFault.TheVariants.{Memory};
-ghost use Rattle.tree_actions.specs.Outcomes.{came_to, outcome};
+ghost use Rattle.tree_actions.specs.Follows.{Follows};
 ghost use Rattle.tree_actions.specs.Parsed.{state_of};
 ghost use Rattle.tree_rules.specs.Settling.{Ready};
 ghost use Rattle.tag_groups.specs.Groups.{tag_group};
@@ -32,10 +32,7 @@ pub fn in_table_start<S: TreeSink>(
 ) -> Result<Flow<S::Handle>, ParseFault>
     requires ready { Ready (state_of S.view page.old) }
     requires group { tag_group tag.now.name ≡ group }
-    ensures came { IfOk result (λ flow. came_to flow (state_of S.view page.new) ≡ outcome S.view.handle
-        (in_table_start group tag.now (state_of S.view page.old)) (state_of S.view page.old)) }
-    ensures ready { OnOk result (Ready (state_of S.view page.new)) }
-    ensures memory { IfErr result (λ e. e ≡ Memory) }
+    ensures { Follows S.view (in_table_start group tag.now (state_of S.view page.old)) page.old page.new result }
 {
     match group {
         TagGroup::Caption => caption_in_table(page, tag),
@@ -66,10 +63,7 @@ pub fn in_table_end<S: TreeSink>(
     tag: &Tag,
 ) -> Result<Flow<S::Handle>, ParseFault>
     requires ready { Ready (state_of S.view page.old) }
-    ensures came { IfOk result (λ flow. came_to flow (state_of S.view page.new) ≡ outcome S.view.handle
-        (in_table_end group tag.now (state_of S.view page.old)) (state_of S.view page.old)) }
-    ensures ready { OnOk result (Ready (state_of S.view page.new)) }
-    ensures memory { IfErr result (λ e. e ≡ Memory) }
+    ensures { Follows S.view (in_table_end group tag.now (state_of S.view page.old)) page.old page.new result }
 {
     match group {
         TagGroup::Table => {
@@ -98,10 +92,7 @@ fn caption_in_table<S: TreeSink>(
     tag: &Tag,
 ) -> Result<Flow<S::Handle>, ParseFault>
     requires ready { Ready (state_of S.view page.old) }
-    ensures came { IfOk result (λ flow. came_to flow (state_of S.view page.new) ≡ outcome S.view.handle
-        (in_table_start groups.Caption tag.now (state_of S.view page.old)) (state_of S.view page.old)) }
-    ensures ready { OnOk result (Ready (state_of S.view page.new)) }
-    ensures memory { IfErr result (λ e. e ≡ Memory) }
+    ensures { Follows S.view (in_table_start groups.Caption tag.now (state_of S.view page.old)) page.old page.new result }
 {
     page.pop_down_to(ElementSet::TableContext)?;
     page.put_marker()?;
@@ -116,10 +107,8 @@ fn column_group_in_table<S: TreeSink>(
     tag: &Tag,
 ) -> Result<Flow<S::Handle>, ParseFault>
     requires ready { Ready (state_of S.view page.old) }
-    ensures came { IfOk result (λ flow. came_to flow (state_of S.view page.new) ≡ outcome S.view.handle
-        (in_table_start groups.ColumnGroup tag.now (state_of S.view page.old)) (state_of S.view page.old)) }
-    ensures ready { OnOk result (Ready (state_of S.view page.new)) }
-    ensures memory { IfErr result (λ e. e ≡ Memory) }
+    ensures { Follows S.view (in_table_start groups.ColumnGroup tag.now (state_of S.view page.old)) page.old page.new
+        result }
 {
     page.pop_down_to(ElementSet::TableContext)?;
     page.insert(tag)?;
@@ -130,11 +119,8 @@ fn column_group_in_table<S: TreeSink>(
 // "col": its group is made.
 fn make_column_group<S: TreeSink>(page: &mut Parse<S>) -> Result<Flow<S::Handle>, ParseFault>
     requires ready { Ready (state_of S.view page.old) }
-    ensures came { IfOk result (λ flow. came_to flow (state_of S.view page.new) ≡ outcome S.view.handle
-        (again (clear_to_table ∷ insert_named (codes "colgroup") ∷ go_to InColumnGroup ∷ []))
-        (state_of S.view page.old)) }
-    ensures ready { OnOk result (Ready (state_of S.view page.new)) }
-    ensures memory { IfErr result (λ e. e ≡ Memory) }
+    ensures { Follows S.view (again (clear_to_table ∷ insert_named (codes "colgroup") ∷ go_to InColumnGroup ∷ []))
+        page.old page.new result }
 {
     page.pop_down_to(ElementSet::TableContext)?;
     page.insert_named("colgroup")?;
@@ -148,10 +134,7 @@ fn section_in_table<S: TreeSink>(
     tag: &Tag,
 ) -> Result<Flow<S::Handle>, ParseFault>
     requires ready { Ready (state_of S.view page.old) }
-    ensures came { IfOk result (λ flow. came_to flow (state_of S.view page.new) ≡ outcome S.view.handle
-        (in_table_start groups.Section tag.now (state_of S.view page.old)) (state_of S.view page.old)) }
-    ensures ready { OnOk result (Ready (state_of S.view page.new)) }
-    ensures memory { IfErr result (λ e. e ≡ Memory) }
+    ensures { Follows S.view (in_table_start groups.Section tag.now (state_of S.view page.old)) page.old page.new result }
 {
     page.pop_down_to(ElementSet::TableContext)?;
     page.insert(tag)?;
@@ -162,10 +145,8 @@ fn section_in_table<S: TreeSink>(
 // "td", "th", "tr": their section is made.
 fn make_section<S: TreeSink>(page: &mut Parse<S>) -> Result<Flow<S::Handle>, ParseFault>
     requires ready { Ready (state_of S.view page.old) }
-    ensures came { IfOk result (λ flow. came_to flow (state_of S.view page.new) ≡ outcome S.view.handle
-        (again (clear_to_table ∷ insert_named (codes "tbody") ∷ go_to InTableBody ∷ [])) (state_of S.view page.old)) }
-    ensures ready { OnOk result (Ready (state_of S.view page.new)) }
-    ensures memory { IfErr result (λ e. e ≡ Memory) }
+    ensures { Follows S.view (again (clear_to_table ∷ insert_named (codes "tbody") ∷ go_to InTableBody ∷ [])) page.old
+        page.new result }
 {
     page.pop_down_to(ElementSet::TableContext)?;
     page.insert_named("tbody")?;
@@ -192,10 +173,7 @@ pub fn input_in_table<S: TreeSink>(
 ) -> Result<Flow<S::Handle>, ParseFault>
     requires ready { Ready (state_of S.view page.old) }
     requires group { tag_group tag.now.name ≡ groups.Input }
-    ensures came { IfOk result (λ flow. came_to flow (state_of S.view page.new) ≡ outcome S.view.handle
-        (input_in_table tag.now (state_of S.view page.old)) (state_of S.view page.old)) }
-    ensures ready { OnOk result (Ready (state_of S.view page.new)) }
-    ensures memory { IfErr result (λ e. e ≡ Memory) }
+    ensures { Follows S.view (input_in_table tag.now (state_of S.view page.old)) page.old page.new result }
 {
     if is_hidden(&tag.attrs) {
         page.insert_void(tag)?;
@@ -210,10 +188,7 @@ pub fn form_in_table<S: TreeSink>(
     tag: &Tag,
 ) -> Result<Flow<S::Handle>, ParseFault>
     requires ready { Ready (state_of S.view page.old) }
-    ensures came { IfOk result (λ flow. came_to flow (state_of S.view page.new) ≡ outcome S.view.handle
-        (form_in_table tag.now (state_of S.view page.old)) (state_of S.view page.old)) }
-    ensures ready { OnOk result (Ready (state_of S.view page.new)) }
-    ensures memory { IfErr result (λ e. e ≡ Memory) }
+    ensures { Follows S.view (form_in_table tag.now (state_of S.view page.old)) page.old page.new result }
 {
     if page.has_template() {
         return Ok(Flow::Done);
@@ -236,10 +211,8 @@ pub fn start_in_body_fostered<S: TreeSink>(
 ) -> Result<Flow<S::Handle>, ParseFault>
     requires ready { Ready (state_of S.view page.old) }
     requires group { tag_group tag.now.name ≡ group }
-    ensures came { IfOk result (λ flow. came_to flow (state_of S.view page.new) ≡ outcome S.view.handle
-        (fostered (in_body_start group tag.now (state_of S.view page.old))) (state_of S.view page.old)) }
-    ensures ready { OnOk result (Ready (state_of S.view page.new)) }
-    ensures memory { IfErr result (λ e. e ≡ Memory) }
+    ensures { Follows S.view (fostered (in_body_start group tag.now (state_of S.view page.old))) page.old page.new
+        result }
 {
     page.set_fostering(true);
     let flow = in_body_start(page, group, tag)?;
@@ -255,10 +228,7 @@ pub fn end_in_body_fostered<S: TreeSink>(
     tag: &Tag,
 ) -> Result<Flow<S::Handle>, ParseFault>
     requires ready { Ready (state_of S.view page.old) }
-    ensures came { IfOk result (λ flow. came_to flow (state_of S.view page.new) ≡ outcome S.view.handle
-        (fostered (in_body_end group tag.now (state_of S.view page.old))) (state_of S.view page.old)) }
-    ensures ready { OnOk result (Ready (state_of S.view page.new)) }
-    ensures memory { IfErr result (λ e. e ≡ Memory) }
+    ensures { Follows S.view (fostered (in_body_end group tag.now (state_of S.view page.old))) page.old page.new result }
 {
     page.set_fostering(true);
     let flow = in_body_end(page, group, tag)?;

@@ -1,7 +1,7 @@
 //! The "in table body" insertion mode (WHATWG HTML, 13.2.6.4.13).
-ghost use Rattle.std.specs.Prelude.{◌≡◌, IfErr, IfOk, OnOk};
+ghost use Rattle.std.specs.Prelude.{◌≡◌, IfErr, OnOk};
 ghost use Rattle.html_lexemes.specs.declared.fault.ParseFault.TheVariants.{Memory};
-ghost use Rattle.tree_actions.specs.Outcomes.{came_to, outcome};
+ghost use Rattle.tree_actions.specs.Follows.{Follows};
 ghost use Rattle.tree_actions.specs.Parsed.{state_of};
 ghost use Rattle.tree_rules.specs.Settling.{Ready};
 ghost use Rattle.tag_groups.specs.Groups.{tag_group};
@@ -29,10 +29,7 @@ pub fn in_table_body_start<S: TreeSink>(
 ) -> Result<Flow<S::Handle>, ParseFault>
     requires ready { Ready (state_of S.view page.old) }
     requires group { tag_group tag.now.name ≡ group }
-    ensures came { IfOk result (λ flow. came_to flow (state_of S.view page.new) ≡ outcome S.view.handle
-        (in_table_body_start group tag.now (state_of S.view page.old)) (state_of S.view page.old)) }
-    ensures ready { OnOk result (Ready (state_of S.view page.new)) }
-    ensures memory { IfErr result (λ e. e ≡ Memory) }
+    ensures { Follows S.view (in_table_body_start group tag.now (state_of S.view page.old)) page.old page.new result }
 {
     match group {
         TagGroup::Row => row_in_table_body(page, tag),
@@ -51,10 +48,7 @@ pub fn in_table_body_end<S: TreeSink>(
     tag: &Tag,
 ) -> Result<Flow<S::Handle>, ParseFault>
     requires ready { Ready (state_of S.view page.old) }
-    ensures came { IfOk result (λ flow. came_to flow (state_of S.view page.new) ≡ outcome S.view.handle
-        (in_table_body_end group tag.now (state_of S.view page.old)) (state_of S.view page.old)) }
-    ensures ready { OnOk result (Ready (state_of S.view page.new)) }
-    ensures memory { IfErr result (λ e. e ≡ Memory) }
+    ensures { Follows S.view (in_table_body_end group tag.now (state_of S.view page.old)) page.old page.new result }
 {
     match group {
         TagGroup::Section => {
@@ -82,10 +76,8 @@ fn row_in_table_body<S: TreeSink>(
     tag: &Tag,
 ) -> Result<Flow<S::Handle>, ParseFault>
     requires ready { Ready (state_of S.view page.old) }
-    ensures came { IfOk result (λ flow. came_to flow (state_of S.view page.new) ≡ outcome S.view.handle
-        (in_table_body_start groups.Row tag.now (state_of S.view page.old)) (state_of S.view page.old)) }
-    ensures ready { OnOk result (Ready (state_of S.view page.new)) }
-    ensures memory { IfErr result (λ e. e ≡ Memory) }
+    ensures { Follows S.view (in_table_body_start groups.Row tag.now (state_of S.view page.old)) page.old page.new
+        result }
 {
     page.pop_down_to(ElementSet::TableBodyContext)?;
     page.insert(tag)?;
@@ -96,10 +88,8 @@ fn row_in_table_body<S: TreeSink>(
 // "td", "th": their row is made.
 fn make_row<S: TreeSink>(page: &mut Parse<S>) -> Result<Flow<S::Handle>, ParseFault>
     requires ready { Ready (state_of S.view page.old) }
-    ensures came { IfOk result (λ flow. came_to flow (state_of S.view page.new) ≡ outcome S.view.handle
-        (again (clear_to_body ∷ insert_named (codes "tr") ∷ go_to InRow ∷ [])) (state_of S.view page.old)) }
-    ensures ready { OnOk result (Ready (state_of S.view page.new)) }
-    ensures memory { IfErr result (λ e. e ≡ Memory) }
+    ensures { Follows S.view (again (clear_to_body ∷ insert_named (codes "tr") ∷ go_to InRow ∷ [])) page.old page.new
+        result }
 {
     page.pop_down_to(ElementSet::TableBodyContext)?;
     page.insert_named("tr")?;
@@ -123,10 +113,7 @@ pub fn close_section<S: TreeSink>(page: &mut Parse<S>) -> Result<(), ParseFault>
 /// A tag that no section holds: an open one is closed, and the table takes the tag.
 pub fn past_table_body<S: TreeSink>(page: &mut Parse<S>) -> Result<Flow<S::Handle>, ParseFault>
     requires ready { Ready (state_of S.view page.old) }
-    ensures came { IfOk result (λ flow. came_to flow (state_of S.view page.new) ≡ outcome S.view.handle
-        (past_table_body (state_of S.view page.old)) (state_of S.view page.old)) }
-    ensures ready { OnOk result (Ready (state_of S.view page.new)) }
-    ensures memory { IfErr result (λ e. e ≡ Memory) }
+    ensures { Follows S.view (past_table_body (state_of S.view page.old)) page.old page.new result }
 {
     if !page.in_table_scope(ElementSet::TableSection) {
         return Ok(Flow::Done);

@@ -1,7 +1,7 @@
 //! The "in table text" insertion mode (WHATWG HTML, 13.2.6.4.10): the text of a table, and what ends it.
-ghost use Rattle.std.specs.Prelude.{◌≡◌, IfErr, IfOk, OnOk};
+ghost use Rattle.std.specs.Prelude.{◌≡◌, IfErr, OnOk};
 ghost use Rattle.html_lexemes.specs.declared.fault.ParseFault.TheVariants.{Memory};
-ghost use Rattle.tree_actions.specs.Outcomes.{came_to, outcome};
+ghost use Rattle.tree_actions.specs.Follows.{Follows};
 ghost use Rattle.tree_actions.specs.Parsed.{state_of};
 ghost use Rattle.tree_rules.specs.Settling.{Ready};
 ghost use Rattle.std.specs.Prelude.{[], ◌∷◌, chars};
@@ -20,10 +20,7 @@ use tree_words::InsertionMode;
 /// Text of a table: its characters are collected.
 pub fn collect_text<S: TreeSink>(page: &mut Parse<S>) -> Result<Flow<S::Handle>, ParseFault>
     requires ready { Ready (state_of S.view page.old) }
-    ensures came { IfOk result (λ flow. came_to flow (state_of S.view page.new) ≡ outcome S.view.handle
-        (again (forget_pending ∷ hold_mode ∷ go_to InTableText ∷ [])) (state_of S.view page.old)) }
-    ensures ready { OnOk result (Ready (state_of S.view page.new)) }
-    ensures memory { IfErr result (λ e. e ≡ Memory) }
+    ensures { Follows S.view (again (forget_pending ∷ hold_mode ∷ go_to InTableText ∷ [])) page.old page.new result }
 {
     page.forget_pending();
     page.hold_mode();
@@ -34,10 +31,7 @@ pub fn collect_text<S: TreeSink>(page: &mut Parse<S>) -> Result<Flow<S::Handle>,
 /// Anything but a character: the pending characters are inserted, and the mode that stood takes the token.
 pub fn in_table_text_other<S: TreeSink>(page: &mut Parse<S>) -> Result<Flow<S::Handle>, ParseFault>
     requires ready { Ready (state_of S.view page.old) }
-    ensures came { IfOk result (λ flow. came_to flow (state_of S.view page.new) ≡ outcome S.view.handle
-        (in_table_text_other (state_of S.view page.old)) (state_of S.view page.old)) }
-    ensures ready { OnOk result (Ready (state_of S.view page.new)) }
-    ensures memory { IfErr result (λ e. e ≡ Memory) }
+    ensures { Follows S.view (in_table_text_other (state_of S.view page.old)) page.old page.new result }
 {
     let text = take_pending(page);
     say_pending(page, text)?;

@@ -1,8 +1,6 @@
 -- What a tree builder's fields mean: the state of tree construction.
-use Rattle.std.specs.Prelude.{ℕ, option_map, reverse}
-use Rattle.html_forest.specs.Forest.{Forest}
+use Rattle.std.specs.Prelude.{option_map, reverse}
 use Rattle.html_forest.specs.Sinks.{SinkView}
-use Rattle.html_forest.specs.declared.sink.QuirksMode.{QuirksMode}
 use Rattle.tree_actions.specs.declared.kept.Kept.{Kept}
 use Rattle.tree_actions.specs.declared.parse.Parse.{Parse}
 use Rattle.tree_rules.specs.Building.{Parts, seen}

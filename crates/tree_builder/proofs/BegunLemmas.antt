@@ -1,8 +1,6 @@
 -- A tree builder before the first token.
 use Rattle.std.proofs.Common.{◌≡◌, ℕ, false, true, List, [], None, reverse, ap, ◌∙◌}
-use Rattle.html_forest.specs.Forest.{Forest}
 use Rattle.html_forest.specs.Sinks.{SinkView}
-use Rattle.html_forest.specs.declared.sink.QuirksMode.{QuirksMode}
 use Rattle.html_tree_state.specs.Building.{Parts, seen}
 use Rattle.name_sets.specs.Counts.{counts_of}
 use Rattle.tree_builder.specs.Begun.{begun}

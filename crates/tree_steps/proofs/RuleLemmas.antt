@@ -1,5 +1,6 @@
 -- A tag that breaks out of foreign content is taken by the rules of the mode after that.
-use Rattle.std.proofs.Common.{◌≡◌, ℕ, true, false, if◌then◌else◌, [], ◌∷◌, refl, sym, ap, ◌∙◌, IfOk, Result, Ok, Err}
+use Rattle.std.proofs.Common.{◌≡◌, ℕ, Bool, true, false, if◌then◌else◌, [], ◌∷◌, refl, sym, ap, ◌∙◌}
+use Rattle.std.proofs.Common.{IfOk, Result, Ok, Err}
 use Rattle.html_lexemes.specs.declared.token.Tag.{Tag}
 use Rattle.tag_groups.specs.Groups.{tag_group}
 use Rattle.tag_groups.specs.declared.group.TagGroup.{TagGroup}
@@ -63,3 +64,7 @@ pub broken_end_came : {H E : Type 0} → (handle : ℕ → H) (t : Tag) (group :
 broken_end_came handle t group s mid (Ok flow) new by breaks is there e =
     end_broken handle t group s mid (came_to flow new) by breaks is there e
 broken_end_came handle t group s mid (Err fault) new by breaks is there e = tt
+
+pub either_way : {A : Type 0} (b : Bool) (x : A) → (if b then x else x) ≡ x
+either_way true x = refl
+either_way false x = refl

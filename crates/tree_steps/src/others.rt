@@ -1,7 +1,5 @@
 //! By the insertion mode, what the end of the page, a comment and a doctype come to (WHATWG HTML, 13.2.6.4).
-ghost use Rattle.std.specs.Prelude.{◌≡◌, IfErr, IfOk, OnOk};
-ghost use Rattle.html_lexemes.specs.declared.fault.ParseFault.TheVariants.{Memory};
-ghost use Rattle.tree_actions.specs.Outcomes.{came_to, outcome};
+ghost use Rattle.tree_actions.specs.Follows.{Follows};
 ghost use Rattle.tree_actions.specs.Parsed.{state_of};
 ghost use Rattle.tree_rules.specs.Settling.{Ready};
 ghost use Rattle.tree_rules.specs.Table.{comment_row, doctype_row, end_of_file_row};
@@ -24,10 +22,8 @@ use tree_words::InsertionMode;
 /// The end of the page.
 pub fn page_end<S: TreeSink>(page: &mut Parse<S>) -> Result<Flow<S::Handle>, ParseFault>
     requires ready { Ready (state_of S.view page.old) }
-    ensures came { IfOk result (λ flow. came_to flow (state_of S.view page.new) ≡ outcome S.view.handle
-        (end_of_file_row (state_of S.view page.old).mode (state_of S.view page.old)) (state_of S.view page.old)) }
-    ensures ready { OnOk result (Ready (state_of S.view page.new)) }
-    ensures memory { IfErr result (λ e. e ≡ Memory) }
+    ensures { Follows S.view (end_of_file_row (state_of S.view page.old).mode (state_of S.view page.old)) page.old
+        page.new result }
 {
     match page.kept.mode {
         InsertionMode::Initial => initial_other(page),
@@ -57,10 +53,8 @@ pub fn page_end<S: TreeSink>(page: &mut Parse<S>) -> Result<Flow<S::Handle>, Par
 /// A comment.
 pub fn comment<S: TreeSink>(page: &mut Parse<S>, text: &Text) -> Result<Flow<S::Handle>, ParseFault>
     requires ready { Ready (state_of S.view page.old) }
-    ensures came { IfOk result (λ flow. came_to flow (state_of S.view page.new) ≡ outcome S.view.handle
-        (comment_row (state_of S.view page.old).mode text.now (state_of S.view page.old)) (state_of S.view page.old)) }
-    ensures ready { OnOk result (Ready (state_of S.view page.new)) }
-    ensures memory { IfErr result (λ e. e ≡ Memory) }
+    ensures { Follows S.view (comment_row (state_of S.view page.old).mode text.now (state_of S.view page.old)) page.old
+        page.new result }
 {
     match page.kept.mode {
         InsertionMode::Initial => initial_comment(page, text.try_clone()?),
@@ -99,11 +93,8 @@ pub fn doctype<S: TreeSink>(
     doctype: &Doctype,
 ) -> Result<Flow<S::Handle>, ParseFault>
     requires ready { Ready (state_of S.view page.old) }
-    ensures came { IfOk result (λ flow. came_to flow (state_of S.view page.new) ≡ outcome S.view.handle
-        (doctype_row (state_of S.view page.old).mode doctype.now (state_of S.view page.old))
-        (state_of S.view page.old)) }
-    ensures ready { OnOk result (Ready (state_of S.view page.new)) }
-    ensures memory { IfErr result (λ e. e ≡ Memory) }
+    ensures { Follows S.view (doctype_row (state_of S.view page.old).mode doctype.now (state_of S.view page.old))
+        page.old page.new result }
 {
     match page.kept.mode {
         InsertionMode::Initial => initial_doctype(page, doctype.try_clone()?),

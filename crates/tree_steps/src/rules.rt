@@ -1,8 +1,7 @@
 //! What takes a mark: the rules of the mode, or those for foreign content (WHATWG HTML, 13.2.6 and 13.2.6.5).
-ghost use Rattle.std.specs.Prelude.{◌≡◌, IfErr, IfOk, OnOk};
-ghost use Rattle.html_lexemes.specs.declared.fault.ParseFault.TheVariants.{Memory};
+ghost use Rattle.std.specs.Prelude.{◌≡◌};
 ghost use Rattle.tag_groups.specs.Groups.{tag_group};
-ghost use Rattle.tree_actions.specs.Outcomes.{came_to, outcome};
+ghost use Rattle.tree_actions.specs.Follows.{Follows};
 ghost use Rattle.tree_actions.specs.Parsed.{state_of};
 ghost use Rattle.tree_rules.specs.Settling.{Ready};
 ghost use Rattle.tree_rules.specs.ForeignContent.{foreign_null};
@@ -31,10 +30,7 @@ pub fn tag_rule<S: TreeSink>(
 ) -> Result<Flow<S::Handle>, ParseFault>
     requires ready { Ready (state_of S.view page.old) }
     requires group { tag_group tag.now.name ≡ group }
-    ensures came { IfOk result (λ flow. came_to flow (state_of S.view page.new) ≡ outcome S.view.handle
-        (rule (mark_by tag.now.kind tag.now) (state_of S.view page.old)) (state_of S.view page.old)) }
-    ensures ready { OnOk result (Ready (state_of S.view page.new)) }
-    ensures memory { IfErr result (λ e. e ≡ Memory) }
+    ensures { Follows S.view (rule (mark_by tag.now.kind tag.now) (state_of S.view page.old)) page.old page.new result }
 {
     match tag.kind {
         TagKind::StartTag => start_rule(page, group, tag),
@@ -50,10 +46,7 @@ fn start_rule<S: TreeSink>(
 ) -> Result<Flow<S::Handle>, ParseFault>
     requires ready { Ready (state_of S.view page.old) }
     requires group { tag_group tag.now.name ≡ group }
-    ensures came { IfOk result (λ flow. came_to flow (state_of S.view page.new) ≡ outcome S.view.handle
-        (rule (start tag.now) (state_of S.view page.old)) (state_of S.view page.old)) }
-    ensures ready { OnOk result (Ready (state_of S.view page.new)) }
-    ensures memory { IfErr result (λ e. e ≡ Memory) }
+    ensures { Follows S.view (rule (start tag.now) (state_of S.view page.old)) page.old page.new result }
 {
     if takes_start_here(page, tag) {
         return start_tag(page, group, tag);
@@ -73,10 +66,7 @@ fn end_rule<S: TreeSink>(
 ) -> Result<Flow<S::Handle>, ParseFault>
     requires ready { Ready (state_of S.view page.old) }
     requires group { tag_group tag.now.name ≡ group }
-    ensures came { IfOk result (λ flow. came_to flow (state_of S.view page.new) ≡ outcome S.view.handle
-        (rule (finish tag.now) (state_of S.view page.old)) (state_of S.view page.old)) }
-    ensures ready { OnOk result (Ready (state_of S.view page.new)) }
-    ensures memory { IfErr result (λ e. e ≡ Memory) }
+    ensures { Follows S.view (rule (finish tag.now) (state_of S.view page.old)) page.old page.new result }
 {
     if is_html_here(page) {
         return end_tag(page, group, tag);
@@ -97,10 +87,7 @@ pub fn comment_rule<S: TreeSink>(
     text: &Text,
 ) -> Result<Flow<S::Handle>, ParseFault>
     requires ready { Ready (state_of S.view page.old) }
-    ensures came { IfOk result (λ flow. came_to flow (state_of S.view page.new) ≡ outcome S.view.handle
-        (rule (comment text.now) (state_of S.view page.old)) (state_of S.view page.old)) }
-    ensures ready { OnOk result (Ready (state_of S.view page.new)) }
-    ensures memory { IfErr result (λ e. e ≡ Memory) }
+    ensures { Follows S.view (rule (comment text.now) (state_of S.view page.old)) page.old page.new result }
 {
     if is_html_here(page) {
         return others::comment(page, text);
@@ -115,10 +102,7 @@ pub fn doctype_rule<S: TreeSink>(
     doctype: &Doctype,
 ) -> Result<Flow<S::Handle>, ParseFault>
     requires ready { Ready (state_of S.view page.old) }
-    ensures came { IfOk result (λ flow. came_to flow (state_of S.view page.new) ≡ outcome S.view.handle
-        (rule (doctype_mark doctype.now) (state_of S.view page.old)) (state_of S.view page.old)) }
-    ensures ready { OnOk result (Ready (state_of S.view page.new)) }
-    ensures memory { IfErr result (λ e. e ≡ Memory) }
+    ensures { Follows S.view (rule (doctype_mark doctype.now) (state_of S.view page.old)) page.old page.new result }
 {
     if is_html_here(page) {
         return others::doctype(page, doctype);
@@ -129,10 +113,7 @@ pub fn doctype_rule<S: TreeSink>(
 /// NUL.
 pub fn null_rule<S: TreeSink>(page: &mut Parse<S>) -> Result<Flow<S::Handle>, ParseFault>
     requires ready { Ready (state_of S.view page.old) }
-    ensures came { IfOk result (λ flow. came_to flow (state_of S.view page.new) ≡ outcome S.view.handle
-        (rule null (state_of S.view page.old)) (state_of S.view page.old)) }
-    ensures ready { OnOk result (Ready (state_of S.view page.new)) }
-    ensures memory { IfErr result (λ e. e ≡ Memory) }
+    ensures { Follows S.view (rule null (state_of S.view page.old)) page.old page.new result }
 {
     if takes_text_here(page) {
         return hand_text_on(page, false);
@@ -143,10 +124,7 @@ pub fn null_rule<S: TreeSink>(page: &mut Parse<S>) -> Result<Flow<S::Handle>, Pa
 /// The end of the page.
 pub fn page_end_rule<S: TreeSink>(page: &mut Parse<S>) -> Result<Flow<S::Handle>, ParseFault>
     requires ready { Ready (state_of S.view page.old) }
-    ensures came { IfOk result (λ flow. came_to flow (state_of S.view page.new) ≡ outcome S.view.handle
-        (rule end_of_file (state_of S.view page.old)) (state_of S.view page.old)) }
-    ensures ready { OnOk result (Ready (state_of S.view page.new)) }
-    ensures memory { IfErr result (λ e. e ≡ Memory) }
+    ensures { Follows S.view (rule end_of_file (state_of S.view page.old)) page.old page.new result }
 {
     others::page_end(page)
 }
@@ -154,10 +132,7 @@ pub fn page_end_rule<S: TreeSink>(page: &mut Parse<S>) -> Result<Flow<S::Handle>
 // U+FFFD is inserted
 fn say_replacement<S: TreeSink>(page: &mut Parse<S>) -> Result<Flow<S::Handle>, ParseFault>
     requires ready { Ready (state_of S.view page.old) }
-    ensures came { IfOk result (λ flow. came_to flow (state_of S.view page.new) ≡ outcome S.view.handle foreign_null
-        (state_of S.view page.old)) }
-    ensures ready { OnOk result (Ready (state_of S.view page.new)) }
-    ensures memory { IfErr result (λ e. e ≡ Memory) }
+    ensures { Follows S.view foreign_null page.old page.new result }
 {
     let alloc = *page.kept.template_modes.allocator();
     let replacement = Text::from_str(alloc, "\u{fffd}")?;

@@ -1,8 +1,7 @@
 //! By the insertion mode, what a tag comes to (WHATWG HTML, 13.2.6.4).
-ghost use Rattle.std.specs.Prelude.{◌≡◌, IfErr, IfOk, OnOk};
-ghost use Rattle.html_lexemes.specs.declared.fault.ParseFault.TheVariants.{Memory};
+ghost use Rattle.std.specs.Prelude.{◌≡◌};
 ghost use Rattle.tag_groups.specs.Groups.{tag_group};
-ghost use Rattle.tree_actions.specs.Outcomes.{came_to, outcome};
+ghost use Rattle.tree_actions.specs.Follows.{Follows};
 ghost use Rattle.tree_actions.specs.Parsed.{state_of};
 ghost use Rattle.tree_rules.specs.Settling.{Ready};
 ghost use Rattle.tree_rules.specs.Table.{end_row, start_row};
@@ -37,11 +36,8 @@ pub fn start_tag<S: TreeSink>(
 ) -> Result<Flow<S::Handle>, ParseFault>
     requires ready { Ready (state_of S.view page.old) }
     requires group { tag_group tag.now.name ≡ group }
-    ensures came { IfOk result (λ flow. came_to flow (state_of S.view page.new) ≡ outcome S.view.handle
-        (start_row (state_of S.view page.old).mode group tag.now (state_of S.view page.old))
-        (state_of S.view page.old)) }
-    ensures ready { OnOk result (Ready (state_of S.view page.new)) }
-    ensures memory { IfErr result (λ e. e ≡ Memory) }
+    ensures { Follows S.view (start_row (state_of S.view page.old).mode group tag.now (state_of S.view page.old))
+        page.old page.new result }
 {
     match page.kept.mode {
         InsertionMode::Initial => initial_other(page),
@@ -76,10 +72,8 @@ pub fn end_tag<S: TreeSink>(
 ) -> Result<Flow<S::Handle>, ParseFault>
     requires ready { Ready (state_of S.view page.old) }
     requires group { tag_group tag.now.name ≡ group }
-    ensures came { IfOk result (λ flow. came_to flow (state_of S.view page.new) ≡ outcome S.view.handle
-        (end_row (state_of S.view page.old).mode group tag.now (state_of S.view page.old)) (state_of S.view page.old)) }
-    ensures ready { OnOk result (Ready (state_of S.view page.new)) }
-    ensures memory { IfErr result (λ e. e ≡ Memory) }
+    ensures { Follows S.view (end_row (state_of S.view page.old).mode group tag.now (state_of S.view page.old)) page.old
+        page.new result }
 {
     match page.kept.mode {
         InsertionMode::Initial => initial_other(page),

@@ -1,7 +1,5 @@
 //! Text that the mode that stands does not take itself (WHATWG HTML, 13.2.6.4).
-ghost use Rattle.std.specs.Prelude.{◌≡◌, IfErr, IfOk, OnOk};
-ghost use Rattle.html_lexemes.specs.declared.fault.ParseFault.TheVariants.{Memory};
-ghost use Rattle.tree_actions.specs.Outcomes.{came_to, outcome};
+ghost use Rattle.tree_actions.specs.Follows.{Follows};
 ghost use Rattle.tree_actions.specs.Parsed.{state_of};
 ghost use Rattle.tree_rules.specs.Settling.{Ready};
 ghost use Rattle.tree_rules.specs.InTable.{in_table_text_row};
@@ -25,11 +23,8 @@ pub fn hand_text_on<S: TreeSink>(
     is_space: bool,
 ) -> Result<Flow<S::Handle>, ParseFault>
     requires ready { Ready (state_of S.view page.old) }
-    ensures came { IfOk result (λ flow. came_to flow (state_of S.view page.new) ≡ outcome S.view.handle
-        (for_null (text_row (state_of S.view page.old).mode is_space (state_of S.view page.old)))
-        (state_of S.view page.old)) }
-    ensures ready { OnOk result (Ready (state_of S.view page.new)) }
-    ensures memory { IfErr result (λ e. e ≡ Memory) }
+    ensures { Follows S.view (for_null (text_row (state_of S.view page.old).mode is_space (state_of S.view page.old)))
+        page.old page.new result }
 {
     match page.kept.mode {
         InsertionMode::Initial => {
@@ -104,10 +99,7 @@ pub fn hand_text_on<S: TreeSink>(
 // text in a table is collected where the current node is a part of a table
 fn collect_text_here<S: TreeSink>(page: &mut Parse<S>) -> Result<Flow<S::Handle>, ParseFault>
     requires ready { Ready (state_of S.view page.old) }
-    ensures came { IfOk result (λ flow. came_to flow (state_of S.view page.new) ≡ outcome S.view.handle
-        (for_null (in_table_text_row false (state_of S.view page.old))) (state_of S.view page.old)) }
-    ensures ready { OnOk result (Ready (state_of S.view page.new)) }
-    ensures memory { IfErr result (λ e. e ≡ Memory) }
+    ensures { Follows S.view (for_null (in_table_text_row false (state_of S.view page.old))) page.old page.new result }
 {
     if !page.collects_text() {
         return Ok(Flow::Done);

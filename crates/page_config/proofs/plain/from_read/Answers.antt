@@ -1,4 +1,4 @@
-use Rattle.std.proofs.Common.{ap, refl, ◌∙◌}
+use Rattle.std.proofs.Common.{ap, refl}
 use Rattle.std.proofs.lemmas.Result.{IfOk-weaker}
 use Rattle.text_decorators.specs.Steady.{plain_is_steady}
 use Rattle.page_config.proofs.PlainLemmas.{plain_answer, told_text}
