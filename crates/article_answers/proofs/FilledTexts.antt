@@ -8,8 +8,8 @@ use Rattle.article_values.specs.Faults.{first_fault}
 use Rattle.article_values.specs.Faults.{has_forbidden, has_item, is_level, is_too_deep}
 use Rattle.article_values.specs.declared.error.ArticleError.TheVariants.{BadLevel, EmptyList, ForbiddenCharacter}
 use Rattle.article_values.specs.declared.error.ArticleError.TheVariants.{LinkInLink, NeighbourTexts, TooDeep}
-use Rattle.article_rendering.specs.Pages.{AreFilled, AreFilledBlocks, AreFilledItems}
-use Rattle.article_conversion.proofs.Accepted.{both_none, passed}
+use Rattle.article_page_laws.specs.Pages.{AreFilled, AreFilledBlocks, AreFilledItems}
+use Rattle.article_writing.proofs.Accepted.{both_none, passed}
 
 inlines_filled : (d : ℕ) (linked behind : Bool) (is : Inlines) → fault_of_inlines d linked behind is ≡ None →
     AreFilled is

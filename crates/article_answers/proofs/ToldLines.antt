@@ -4,10 +4,10 @@ use Rattle.std.specs.Option.{option_map}
 use Rattle.std.specs.Prelude.{Result, Err}
 use Rattle.std.proofs.lemmas.Option.{none-some, same_Some}
 use Rattle.article_answers.specs.ArticleAnswers.{answer_of, shown_of}
-use Rattle.article_laying.specs.Seen.{Told, told, told_of}
-use Rattle.article_laying.specs.declared.layout.ArticleLine.{ArticleLine}
-use Rattle.article_layout.specs.Layouts.{Line, Options, article_lines}
-use Rattle.article_rendering.specs.ArticlesLaid.{shown_lines}
+use Rattle.article_layout.specs.Seen.{Told, told, told_of}
+use Rattle.article_layout.specs.declared.layout.ArticleLine.{ArticleLine}
+use Rattle.article_definitions.specs.Layouts.{Line, Options, article_lines}
+use Rattle.article_page_laws.specs.ArticlesLaid.{shown_lines}
 use Rattle.article_values.specs.Articles.{Blocks}
 use Rattle.page_config.specs.PageAnswers.{lines, too_narrow}
 use Rattle.page_config.specs.declared.error.Error.{Error}

@@ -1,12 +1,12 @@
 -- A document, emitted.
 use Rattle.std.proofs.Common.{◌≡◌, ℕ, List, [], ◌∷◌, Option, codes}
 use Rattle.std.specs.Prelude.{Result, Ok, Err}
-use Rattle.html_serializer.specs.Calls.{Call, Reply, doctype_of, finish, reply_of, start}
-use Rattle.html_serializer.specs.Told.{IsTold, all}
-use Rattle.html_serializer.specs.declared.fault.SerializeFault.{SerializeFault}
-use Rattle.rebuilt_documents.specs.Contents.{Content}
-use Rattle.rebuilt_documents.specs.Planted.{of_html}
-use Rattle.written_articles.specs.Tellings.{calls_and, document_calls, root_content}
+use Rattle.tree_serializer.specs.Calls.{Call, Reply, doctype_of, finish, reply_of, start}
+use Rattle.tree_serializer.specs.Told.{IsTold, all}
+use Rattle.tree_serializer.specs.declared.fault.SerializeFault.{SerializeFault}
+use Rattle.document_laws.specs.Contents.{Content}
+use Rattle.document_laws.specs.Planted.{of_html}
+use Rattle.written_document_laws.specs.Tellings.{calls_and, document_calls, root_content}
 use Rattle.article_writing.specs.Tells.{Tells}
 use Rattle.article_writing.proofs.Telling.{handed_on, one_told, then_told}
 

@@ -3,13 +3,13 @@ use Rattle.std.proofs.Common.{◌≡◌, ℕ, suc, ◌+◌, ◌<◌, List, [], �
 use Rattle.std.proofs.Common.{add-one, drop-cons}
 use Rattle.std.specs.Prelude.{Result, Ok, Err}
 use Rattle.html_lexemes.specs.declared.names.Attribute.{Attribute}
-use Rattle.html_serializer.specs.Calls.{Call, Reply, finish, refused, reply_of, start}
-use Rattle.html_serializer.specs.Told.{IsTold, further, cut, out_of_memory}
-use Rattle.html_serializer.specs.declared.fault.SerializeFault.{SerializeFault}
-use Rattle.html_serializer.specs.declared.fault.SerializeFault.TheVariants.{Memory}
-use Rattle.rebuilt_documents.specs.Contents.{Content, span}
-use Rattle.rebuilt_documents.specs.Planted.{of_html}
-use Rattle.written_articles.specs.Tellings.{calls_and}
+use Rattle.tree_serializer.specs.Calls.{Call, Reply, finish, refused, reply_of, start}
+use Rattle.tree_serializer.specs.Told.{IsTold, further, cut, out_of_memory}
+use Rattle.tree_serializer.specs.declared.fault.SerializeFault.{SerializeFault}
+use Rattle.tree_serializer.specs.declared.fault.SerializeFault.TheVariants.{Memory}
+use Rattle.document_laws.specs.Contents.{Content, span}
+use Rattle.document_laws.specs.Planted.{of_html}
+use Rattle.written_document_laws.specs.Tellings.{calls_and}
 use Rattle.article_writing.specs.Tells.{Tells}
 
 err_same : {A : Type 0} {r : Result A SerializeFault} {a b : SerializeFault} → r ≡ Err a → r ≡ Err b → a ≡ b

@@ -1,12 +1,12 @@
 -- What the emission of a part of an article makes of a serializer, and what stands in an element.
 use Rattle.std.specs.Prelude.{List, Result, Ok, Err, chars, option_map}
-use Rattle.html_serializer.specs.Calls.{Call, Reply, refused}
-use Rattle.html_serializer.specs.Told.{IsTold}
-use Rattle.html_serializer.specs.declared.fault.SerializeFault.{SerializeFault}
+use Rattle.tree_serializer.specs.Calls.{Call, Reply, refused}
+use Rattle.tree_serializer.specs.Told.{IsTold}
+use Rattle.tree_serializer.specs.declared.fault.SerializeFault.{SerializeFault}
 use Rattle.article_values.specs.Views.{blocks_view, inlines_view, items_view}
-use Rattle.rebuilt_documents.specs.Contents.{Content}
-use Rattle.written_articles.specs.Contents.{content_of_blocks, content_of_inlines, content_of_items}
-use Rattle.written_articles.specs.Tellings.{head_content, root_content, text_content}
+use Rattle.document_laws.specs.Contents.{Content}
+use Rattle.article_writing.specs.Contents.{content_of_blocks, content_of_inlines, content_of_items}
+use Rattle.written_document_laws.specs.Tellings.{head_content, root_content, text_content}
 use Rattle.article_writing.specs.declared.inner.Inner.{Inner}
 use Rattle.article_writing.specs.declared.inner.Inner.TheVariants.{Blocks, Head, Inlines, Items, Root, Text}
 

@@ -1,17 +1,17 @@
 //! Blocks and items, emitted to a serializer.
 ghost use Rattle.std.specs.Prelude.{List};
-ghost use Rattle.html_serializer.specs.Calls.{Call};
+ghost use Rattle.tree_serializer.specs.Calls.{Call};
 ghost use Rattle.article_values.specs.Articles.{Blocks as SeenBlocks, numbers, heading, no_blocks};
 ghost use Rattle.article_values.specs.Views.{block_view, blocks_view, inlines_view, items_view};
-ghost use Rattle.written_articles.specs.Contents.{content_of_blocks, content_of_items};
-ghost use Rattle.written_articles.specs.Tellings.{calls_and};
+ghost use Rattle.article_writing.specs.Contents.{content_of_blocks, content_of_items};
+ghost use Rattle.written_document_laws.specs.Tellings.{calls_and};
 ghost use Rattle.article_writing.specs.Tells.{Tells};
 
 use crate::elements::tell_element;
 use crate::inner::Inner;
 use crate::names::{attribute, heading_name};
 use article_values::{Block, Inline};
-use html_serializer::{SerializeFault, Serializer};
+use tree_serializer::{SerializeFault, Serializer};
 use std::alloc::Global;
 
 /// Tells blocks, one after another.

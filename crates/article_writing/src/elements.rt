@@ -2,9 +2,9 @@
 //!
 //! The calls go as deep as an article is nested, which is 256 at most.
 ghost use Rattle.std.specs.Prelude.{◌∷◌, [], List, chars};
-ghost use Rattle.html_serializer.specs.Calls.{Call, finish, start};
-ghost use Rattle.rebuilt_documents.specs.Planted.{of_html};
-ghost use Rattle.written_articles.specs.Tellings.{calls_and, text_content};
+ghost use Rattle.tree_serializer.specs.Calls.{Call, finish, start};
+ghost use Rattle.document_laws.specs.Planted.{of_html};
+ghost use Rattle.written_document_laws.specs.Tellings.{calls_and, text_content};
 ghost use Rattle.article_writing.specs.Tells.{Tells, inner_content};
 
 use crate::blocks::{tell_blocks, tell_items};
@@ -12,7 +12,7 @@ use crate::inlines::tell_inlines;
 use crate::inner::Inner;
 use crate::names::html_name;
 use html_lexemes::Attribute;
-use html_serializer::{SerializeFault, Serializer};
+use tree_serializer::{SerializeFault, Serializer};
 use std::alloc::Global;
 
 /// Tells an element, with what stands in it.

@@ -1,17 +1,17 @@
 //! Inlines, emitted to a serializer.
 ghost use Rattle.std.specs.Prelude.{List, chars};
-ghost use Rattle.html_serializer.specs.Calls.{Call};
+ghost use Rattle.tree_serializer.specs.Calls.{Call};
 ghost use Rattle.article_values.specs.Articles.{Inlines as SeenInlines, link, no_inlines};
 ghost use Rattle.article_values.specs.Views.{inline_view, inlines_view};
-ghost use Rattle.written_articles.specs.Contents.{content_of_inlines};
-ghost use Rattle.written_articles.specs.Tellings.{calls_and};
+ghost use Rattle.article_writing.specs.Contents.{content_of_inlines};
+ghost use Rattle.written_document_laws.specs.Tellings.{calls_and};
 ghost use Rattle.article_writing.specs.Tells.{Tells};
 
 use crate::elements::{tell_element, tell_text};
 use crate::inner::Inner;
 use crate::names::attribute;
 use article_values::Inline;
-use html_serializer::{SerializeFault, Serializer};
+use tree_serializer::{SerializeFault, Serializer};
 use std::alloc::Global;
 
 /// Tells inlines, one after another.

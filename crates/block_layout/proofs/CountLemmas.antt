@@ -5,7 +5,7 @@ use Rattle.std.proofs.Common.{sym, ap, ◌∙◌, arith}
 use Rattle.std.proofs.lemmas.Bool.Decides.{nat_tests}
 use Rattle.text_pieces.specs.Sources.{is_filled}
 use Rattle.text_borders.specs.Across.{CellLine}
-use Rattle.text_wrapping.proofs.WordLemmas.{empty_text, some_text}
+use Rattle.text_normal.proofs.WordLemmas.{empty_text, some_text}
 use Rattle.text_cells.specs.Cells.{laid_line_of, laid_text_of, text_count, content_count, texts_of, part_lines}
 use Rattle.text_cells.specs.Cells.{parts_lines, parts_content, texts_content, block_lines_of, block_content}
 use Rattle.text_cells.specs.declared.laid_line.LaidLine.{LaidLine}

@@ -6,7 +6,7 @@ use Rattle.std.proofs.Math.Seq.{take-append_seam, take-suc-set}
 use Rattle.std.proofs.lemmas.List.{append-nil, append_assoc, take_all}
 use Rattle.std.proofs.lemmas.List.Elements.{All-push, All-head, All-tail}
 use Rattle.text_pieces.specs.Sources.{is_filled}
-use Rattle.tagged_lines.specs.Tagged.{Item, line_items}
+use Rattle.text_lines.specs.Tagged.{Item, line_items}
 use Rattle.text_pieces.specs.Items.{has_text}
 use Rattle.text_borders.specs.Lines.{text}
 use Rattle.text_borders.specs.Across.{CellLine}

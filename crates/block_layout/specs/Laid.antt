@@ -5,7 +5,7 @@ use Rattle.std.specs.Prelude.{if◌then◌else◌}
 use Rattle.std.specs.Char.{is_whitespace}
 use Rattle.std.specs.List.{list_all, list_any}
 use Rattle.std.specs.Option.{option_map, option_and_then}
-use Rattle.tagged_lines.specs.Tagged.{Item, marker, tagged}
+use Rattle.text_lines.specs.Tagged.{Item, marker, tagged}
 use Rattle.text_pieces.specs.Items.{has_text}
 use Rattle.text_pieces.specs.Sources.{is_filled}
 use Rattle.text_pieces.specs.Modes.{is_preserved, is_same_mode}

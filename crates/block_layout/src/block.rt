@@ -1,6 +1,6 @@
 //! Blocks of lines.
 ghost use Rattle.std.specs.Prelude.{◌≡◌, ◌⊎◌, None, Some, map, All, IfOk, IfErr, OnOk};
-ghost use Rattle.tagged_lines.specs.Tagged.{line_items, IsJoined};
+ghost use Rattle.text_lines.specs.Tagged.{line_items, IsJoined};
 ghost use Rattle.text_pieces.specs.declared.fault.BlockError.TheVariants as errors;
 
 use crate::lines::LaidLines;
@@ -8,7 +8,7 @@ use crate::measure::Measure;
 use crate::running::Running;
 use crate::texts::{behind_names, fill_line, finished_lines};
 use std::alloc::{AllocError, Global};
-use tagged_lines::{EqualCopy, TaggedLine};
+use text_lines::{EqualCopy, TaggedLine};
 use text_borders::{BorderHoriz, RenderLine};
 use text_cells::{BlockLines, HangingCell, LaidLine};
 use text_pieces::{BlockError, LaidText, has_text};

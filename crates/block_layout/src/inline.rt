@@ -12,14 +12,14 @@ use crate::measure::Measure;
 use crate::running::Running;
 use crate::texts::holds_text;
 use std::alloc::AllocError;
-use tagged_lines::EqualCopy;
+use text_lines::EqualCopy;
 use text_pieces::{BlockError, WhiteSpace};
 
 impl<T: EqualCopy + Drop> BlockLayout<T> {
     ghost use Rattle.block_layout.specs.Seen.{laid_of, running_of, RunsJoined, HasJoinedTexts};
-    ghost use Rattle.block_layout.specs.Laid.{flush, add_text, enter_mode, run_on, runs_otherwise, running_or_new};
+    ghost use Rattle.block_layout.specs.Laid.{flush, add_text, enter_mode, run_on, runs_otherwise};
     ghost use Rattle.block_layout.specs.Laid.{without_running};
-    ghost use Rattle.block_layout.specs.Laid.{is_ignored, start_awaited, mark, break_line, break_of, broken_line};
+    ghost use Rattle.block_layout.specs.Laid.{is_ignored, start_awaited, mark, break_line, break_of};
 
     /// Adds text after what runs; a text of another mode of white space ends that first. Where it begins to run here,
     /// its lines are filled with spaces of the tag. Refused as `flush`.

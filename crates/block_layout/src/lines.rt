@@ -1,7 +1,7 @@
 //! The lines of a block, and whether one has content.
 
 use std::alloc::{AllocError, Global};
-use tagged_lines::EqualCopy;
+use text_lines::EqualCopy;
 use text_cells::{BlockLines, LaidLine, WideTexts};
 
 /// Lines, with the number of those that have content, so that no line is looked at again.

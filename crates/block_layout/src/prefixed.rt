@@ -1,6 +1,6 @@
 //! Lines of other blocks.
 ghost use Rattle.std.specs.Prelude.{◌≡◌, ◌⊎◌, [], ◌∷◌, ◌++◌, ◌||◌, None, Some, chars, map, IfErr, OnOk, IfOk, IsTrue};
-ghost use Rattle.tagged_lines.specs.Tagged.{line_items, tagged, IsJoined};
+ghost use Rattle.text_lines.specs.Tagged.{line_items, tagged, IsJoined};
 ghost use Rattle.text_borders.specs.Lines.{render_line_of, IsJoinedText};
 ghost use Rattle.text_cells.specs.Cells.{laid_line_of, texts_of, parts_lines, block_lines_of};
 ghost use Rattle.text_pieces.specs.Sources.{is_filled};
@@ -14,7 +14,7 @@ use crate::measure::Measure;
 use crate::texts::{finished, holds_text};
 use std::alloc::{AllocError, Global};
 use std::mem;
-use tagged_lines::{EqualCopy, TaggedLine};
+use text_lines::{EqualCopy, TaggedLine};
 use text_borders::{BorderHoriz, RenderLine};
 use text_cells::{BlockLines, LaidLine, Part, WideTexts};
 use text_pieces::BlockError;

@@ -3,7 +3,7 @@ ghost use Rattle.std.specs.Prelude.{◌≡◌, ◌⊎◌, false, None, Some, map
 ghost use Rattle.std.specs.Option.{option_map};
 ghost use Rattle.text_borders.specs.Borders.{border_of};
 ghost use Rattle.text_borders.specs.Lines.{IsJoinedText};
-ghost use Rattle.tagged_lines.specs.Tagged.{line_items, IsJoined};
+ghost use Rattle.text_lines.specs.Tagged.{line_items, IsJoined};
 ghost use Rattle.text_cells.specs.Cells.{cell_of, hanging_of, laid_line_of, row_of, row_lines_of, AreRowLines};
 ghost use Rattle.text_cells.specs.Cells.{texts_items, HaveTextContent};
 ghost use Rattle.text_pieces.specs.declared.fault.BlockError.TheVariants as errors;
@@ -12,11 +12,9 @@ use crate::block::BlockLayout;
 use crate::measure::Measure;
 use std::alloc::AllocError;
 use std::mem;
-use tagged_lines::{EqualCopy, TaggedLine};
+use text_lines::{EqualCopy, TaggedLine};
 use text_borders::{BorderHoriz, RenderLine};
-use text_cells::{
-    HangingCell, LaidLine, LineSet, Row, RowLines, WideTexts, joined_line, lay_across,
-};
+use text_cells::{HangingCell, LaidLine, LineSet, Row, RowLines, WideTexts, joined_line, lay_across};
 use text_pieces::{BlockError, has_text};
 
 impl<T: EqualCopy + Drop> BlockLayout<T> {

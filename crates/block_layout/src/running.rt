@@ -3,7 +3,7 @@
 use crate::measure::Measure;
 use crate::texts::holds_text;
 use std::alloc::{AllocError, Global};
-use tagged_lines::EqualCopy;
+use text_lines::EqualCopy;
 use text_pieces::{BlockError, LaidText, WhiteSpace};
 use text_wrapping::TextBlock;
 
@@ -23,7 +23,7 @@ ghost use Rattle.block_layout.specs.Laid.{mode_behind};
 impl<T: EqualCopy + Drop> Running<T> {
     ghost use Rattle.std.specs.Prelude.{◌⊎◌, false, None, Some, map, All, IsTrue, IfOk, IfErr, OnOk};
     ghost use Rattle.std.specs.Option.{option_map};
-    ghost use Rattle.tagged_lines.specs.Tagged.{line_items, IsJoined};
+    ghost use Rattle.text_lines.specs.Tagged.{line_items, IsJoined};
     ghost use Rattle.text_pieces.specs.Sources.{names};
     ghost use Rattle.text_pieces.specs.declared.fault.BlockError.TheVariants as errors;
     ghost use Rattle.text_wrapping.specs.Blocks.{added, broken, has_columns};

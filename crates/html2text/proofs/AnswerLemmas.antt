@@ -1,17 +1,17 @@
 -- How a page that was written or refused answers what is asked for.
 use Rattle.std.proofs.Common.{◌≡◌, inl, inr, ℕ, Bool, List, Option, None, Some, IfSome, refl, sym, subst}
 use Rattle.std.specs.Prelude.{◌||◌, Err, Ok, Result}
-use Rattle.command_words.specs.CommandWords.{Asked}
+use Rattle.command_line.specs.CommandWords.{Asked}
 use Rattle.html2text.specs.Endings.{EndsBy, IsAnswered}
 use Rattle.html2text.specs.Responses.{Bytes, Files, IsFileRefusalBy, IsRefusalBy, IsSourceRefusal, IsTableOf}
 use Rattle.html2text.specs.Responses.{IsTableRefusal, page_bytes}
 use Rattle.html2text.specs.Written.{HasAskedText, IsOtherPage, IsTooNarrowPage, most_bytes}
 use Rattle.html2text.specs.declared.outcome.Outcome.{Outcome}
 use Rattle.html2text.specs.declared.outcome.Outcome.TheVariants as outcomes
-use Rattle.reference_tables.specs.References.{References, basic}
-use Rattle.named_files.specs.TableFiles.{IsNoTable}
-use Rattle.named_files.specs.declared.table_fault.TableFault.{TableFault}
-use Rattle.named_files.specs.declared.table_fault.TableFault.TheVariants as table_faults
+use Rattle.lex_base.specs.References.{References, basic}
+use Rattle.command_line.specs.TableFiles.{IsNoTable}
+use Rattle.command_line.specs.declared.table_fault.TableFault.{TableFault}
+use Rattle.command_line.specs.declared.table_fault.TableFault.TheVariants as table_faults
 use Rattle.page_config.specs.Errors.{error_text}
 use Rattle.page_config.specs.declared.error.Error.{Error}
 use Rattle.page_config.specs.declared.error.Error.TheVariants as errors

@@ -6,13 +6,13 @@ use Rattle.std.specs.IoError.{error_kind}
 use Rattle.std.specs.declared.io.Error.{Error as IoFault}
 use Rattle.std.specs.Io.KnownBytes.{Appends, Keeps}
 use Rattle.std.proofs.KnownBytes.{Appends-trans}
-use Rattle.command_words.specs.CommandWords.{Asked, Asks, words_behind_name}
-use Rattle.command_words.specs.Requests.{asked_of}
-use Rattle.command_words.specs.WordFaults.{Explains, IsHelp, IsRefusedWith, fault_of_kind}
-use Rattle.command_words.specs.declared.words.Request.{Request}
-use Rattle.command_words.specs.declared.words.WordFault.{WordFault}
-use Rattle.command_words.specs.declared.words.WordFault.TheVariants as faults
-use Rattle.byte_devices.specs.KnownPart.{AppendsPart}
+use Rattle.command_line.specs.CommandWords.{Asked, Asks, words_behind_name}
+use Rattle.command_line.specs.Requests.{asked_of}
+use Rattle.command_line.specs.WordFaults.{Explains, IsHelp, IsRefusedWith, fault_of_kind}
+use Rattle.command_line.specs.declared.words.Request.{Request}
+use Rattle.command_line.specs.declared.words.WordFault.{WordFault}
+use Rattle.command_line.specs.declared.words.WordFault.TheVariants as faults
+use Rattle.lex_base.specs.KnownPart.{AppendsPart}
 use Rattle.html2text.specs.Endings.{IsAnswered}
 use Rattle.html2text.specs.Responses.{Bytes, Files, IsAskedRefusal, IsAskedTableRefusal, IsOutcomeOf, IsRefusal}
 use Rattle.html2text.specs.Responses.{IsTableRefusal, WritesAnswer, WritesAnswerPart, WritesAsked, WritesAskedPart}
@@ -20,7 +20,7 @@ use Rattle.html2text.specs.Statuses.{status_of}
 use Rattle.html2text.specs.declared.outcome.Outcome.{Outcome}
 use Rattle.html2text.specs.declared.outcome.Outcome.TheVariants as outcomes
 use Rattle.html2text.proofs.WritingLemmas.{nothing_written, part_written}
-use Rattle.named_files.specs.declared.table_fault.TableFault.{TableFault}
+use Rattle.command_line.specs.declared.table_fault.TableFault.{TableFault}
 use Rattle.page_config.specs.declared.error.Error.{Error}
 use Rattle.page_config.specs.declared.error.Error.TheVariants as errors
 

@@ -1,17 +1,17 @@
 -- The configurations that the program makes for a request, and what they give.
 use Rattle.std.proofs.Common.{◌≡◌, ◌∙◌, ℕ, Bool, true, false, List, [], refl, sym, ap, subst}
 use Rattle.std.specs.Prelude.{not, ◌&&◌, ◌||◌, if◌then◌else◌}
-use Rattle.command_words.specs.CommandWords.{Asked}
+use Rattle.command_line.specs.CommandWords.{Asked}
 use Rattle.html2text.specs.Written.{EitherLook, HasAskedText, IsOtherPage, IsSetting, IsTooNarrowPage}
 use Rattle.html2text.specs.Written.{is_decorated}
-use Rattle.reference_tables.specs.References.{References}
+use Rattle.lex_base.specs.References.{References}
 use Rattle.page_config.specs.RichPages.{rich_view}
 use Rattle.page_config.specs.PageAnswers.{Answers, IsTold, PageAnswer, fail, too_narrow}
 use Rattle.page_config.specs.PlainPages.{IsPlain, plain_view}
 use Rattle.page_config.specs.Settings.{PageSetting, by_default, rendered_with}
 use Rattle.render_conversion.specs.Decorating.{decorating_rules}
-use Rattle.renderer_calls.specs.Defaults.{default_options}
-use Rattle.renderer_calls.specs.declared.options.RenderOptions.{RenderOptions}
+use Rattle.block_trait.specs.Defaults.{default_options}
+use Rattle.block_trait.specs.declared.options.RenderOptions.{RenderOptions}
 use Rattle.text_decorators.specs.Annotations.{RichTag, rich_tag}
 use Rattle.text_decorators.specs.Laws.{rich_mark_tag, rich_tag_fits}
 

@@ -5,7 +5,7 @@ use Rattle.std.proofs.lemmas.Bool.Decides.{nat_tests}
 use Rattle.std.specs.Prelude.{Result, Ok, Err, IsErr, OnErr}
 use Rattle.std.specs.Io.KnownBytes.{Appends}
 use Rattle.std.proofs.KnownBytes.{Appends-nil, Appends-trans}
-use Rattle.byte_devices.specs.KnownPart.{AppendsPart}
+use Rattle.lex_base.specs.KnownPart.{AppendsPart}
 
 -- of the bytes a front was written and the rest is left; what had failed still has
 pub record IsWritten (old now : Option (List ℕ)) (bytes rest : List ℕ) (failed_then failed_now : Bool) : Type 0 where

@@ -2,16 +2,16 @@
 use Rattle.std.proofs.Common.{ℕ, List, Vec, Global, map, Option, None, Some, IfSome, chars, ◌∙◌}
 use Rattle.std.specs.Io.KnownBytes.{Appends}
 use Rattle.block_renderer.specs.Seen.{IsTagging, marking, tags_seen}
-use Rattle.byte_devices.specs.KnownPart.{AppendsPart}
+use Rattle.lex_base.specs.KnownPart.{AppendsPart}
 use Rattle.html2text.proofs.LinesTextLemmas.{chars-lines_bytes, lines_utf8}
 use Rattle.html2text.specs.LinesText.{lines_bytes}
 use Rattle.html2text.specs.Written.{Gains, GainsPart}
 use Rattle.page_config.specs.PageAnswers.{HasText, IsTold, lines_text}
-use Rattle.page_config.specs.PageLaws.{IsTextWithin}
+use Rattle.html_render_tree.specs.PageLaws.{IsTextWithin}
 use Rattle.page_config.specs.Settings.{PageSetting}
-use Rattle.tagged_lines.specs.Tagged.{line_items}
-use Rattle.tagged_lines.specs.declared.tagged_line.TaggedLine.{TaggedLine}
-use Rattle.text_marks.specs.Marks.{DecoratorView, Mark}
+use Rattle.text_lines.specs.Tagged.{line_items}
+use Rattle.text_lines.specs.declared.tagged_line.TaggedLine.{TaggedLine}
+use Rattle.text_decorators.specs.Marks.{DecoratorView, Mark}
 
 -- what was gained is also of another kind
 pub gains_weaker : {IsText : (bytes text : List ℕ) → Type 0} {IsOther : List ℕ → Type 0} (all old new : Option (List ℕ))

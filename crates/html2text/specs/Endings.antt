@@ -1,13 +1,13 @@
 -- How the calls end that the answer to a request is made of (no promise speaks of it).
 use Rattle.std.specs.Prelude.{◌≡◌, ◌⊎◌, ℕ, ◌≤◌, ◌||◌, Bool, false, true, List, length, Some, IfSome, Result, Ok, Err}
-use Rattle.command_words.specs.CommandWords.{Asked}
+use Rattle.command_line.specs.CommandWords.{Asked}
 use Rattle.html2text.specs.Responses.{Bytes, Files, IsRefusal, IsRefusalBy, IsTableRefusal, ShowsPage, ShowsPart}
 use Rattle.html2text.specs.Written.{Gains, GainsPart}
 use Rattle.html2text.specs.declared.outcome.Outcome.{Outcome}
 use Rattle.html2text.specs.declared.outcome.Outcome.TheVariants as outcomes
 use Rattle.html2text.specs.declared.program.Served.{Served}
-use Rattle.named_files.specs.TableFiles.{fault_text}
-use Rattle.named_files.specs.declared.table_fault.TableFault.{TableFault}
+use Rattle.command_line.specs.TableFiles.{fault_text}
+use Rattle.command_line.specs.declared.table_fault.TableFault.{TableFault}
 use Rattle.page_config.specs.Errors.{error_text}
 use Rattle.page_config.specs.declared.error.Error.{Error}
 use Rattle.page_config.specs.declared.error.Error.TheVariants as errors

@@ -2,20 +2,20 @@
 use Rattle.std.specs.Prelude.{◌≡◌, ℕ, ◌+◌, ◌<◌, ◌⊎◌, Bool, true, List, length}
 use Rattle.std.specs.Prelude.{◌++◌, Option, Some, None, Result, Ok, Err, IfSome, codes, string_bytes, ⊤}
 use Rattle.std.specs.Io.KnownBytes.{Appends}
-use Rattle.command_words.specs.CommandWords.{Asked, Asks, AsksHelp}
-use Rattle.command_words.specs.Requests.{asked_of}
-use Rattle.command_words.specs.declared.words.Request.{Request}
-use Rattle.command_words.specs.declared.words.WordFault.{WordFault}
-use Rattle.command_words.specs.declared.words.WordFault.TheVariants as faults
-use Rattle.byte_devices.specs.KnownPart.{AppendsPart}
-use Rattle.reference_tables.specs.References.{References, basic}
+use Rattle.command_line.specs.CommandWords.{Asked, Asks, AsksHelp}
+use Rattle.command_line.specs.Requests.{asked_of}
+use Rattle.command_line.specs.declared.words.Request.{Request}
+use Rattle.command_line.specs.declared.words.WordFault.{WordFault}
+use Rattle.command_line.specs.declared.words.WordFault.TheVariants as faults
+use Rattle.lex_base.specs.KnownPart.{AppendsPart}
+use Rattle.lex_base.specs.References.{References, basic}
 use Rattle.html2text.specs.LinesText.{newline}
 use Rattle.html2text.specs.Written.{IsOtherPage, IsTooNarrowPage, WritesPage, WritesPart, most_bytes}
 use Rattle.html2text.specs.declared.outcome.Outcome.{Outcome}
 use Rattle.html2text.specs.declared.outcome.Outcome.TheVariants as outcomes
-use Rattle.named_files.specs.TableFiles.{IsNoTable, IsTableText}
-use Rattle.named_files.specs.declared.table_fault.TableFault.{TableFault}
-use Rattle.named_files.specs.declared.table_fault.TableFault.TheVariants as table_faults
+use Rattle.command_line.specs.TableFiles.{IsNoTable, IsTableText}
+use Rattle.command_line.specs.declared.table_fault.TableFault.{TableFault}
+use Rattle.command_line.specs.declared.table_fault.TableFault.TheVariants as table_faults
 use Rattle.page_config.specs.declared.error.Error.{Error}
 use Rattle.page_config.specs.declared.error.Error.TheVariants as errors
 

@@ -5,7 +5,7 @@ ghost use Rattle.html2text.specs.Endings.{ending};
 
 use crate::response::respond;
 use html_lexemes::Device;
-use named_files::HostFiles;
+use command_line::HostFiles;
 use std::io::{BufWriter, Eprint};
 use std::process::{ExitCode, Termination};
 use std::rt::Env;

@@ -1,21 +1,21 @@
 //! A page's text, written.
 ghost use Rattle.std.specs.Prelude.{◌≡◌, ◌+◌, ◌<◌, ◌≤◌, ◌⊎◌, true, false, length, Err, IfSome, OnErr, OnOk};
 ghost use Rattle.std.specs.Io.KnownBytes.{Appends, IsAtEnd};
-ghost use Rattle.byte_devices.specs.KnownPart.{AppendsPart};
+ghost use Rattle.lex_base.specs.KnownPart.{AppendsPart};
 ghost use Rattle.html2text.specs.Written.{Gains, GainsPart};
 ghost use Rattle.html2text.specs.LinesText.{line_bytes, lines_bytes};
 ghost use Rattle.page_config.specs.Errors.{IsAnswer};
 ghost use Rattle.page_config.specs.PageAnswers.{Answers, IsTold, fail, too_narrow};
-ghost use Rattle.page_config.specs.PageLaws.{IsTextWithin};
+ghost use Rattle.html_render_tree.specs.PageLaws.{IsTextWithin};
 ghost use Rattle.page_config.specs.Settings.{max_bytes_of, page_setting};
 ghost use Rattle.block_renderer.specs.Seen.{IsTagging};
-ghost use Rattle.text_marks.specs.Marks.{IsSteady};
+ghost use Rattle.text_decorators.specs.Marks.{IsSteady};
 
 use html_lexemes::{ByteReader, ByteWriter, DeviceFault};
 use page_config::{Config, Error, a_text_keeps_its_width};
 use std::alloc::Global;
-use tagged_lines::TaggedLine;
-use text_marks::TextDecorator;
+use text_lines::TaggedLine;
+use text_decorators::TextDecorator;
 
 /// Reads a page, and writes the text of its lines, each with a newline. Nothing is written before the
 /// layout has succeeded. No line passes the width, in columns, where no part of a page may (`within`). It doesn't flush

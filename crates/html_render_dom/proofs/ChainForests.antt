@@ -2,11 +2,11 @@
 use Rattle.std.proofs.Common.{◌≡◌, ℕ, ◌<◌, ◌≤◌, ◌⊎◌, inl, inr, zero, suc, List, [], ◌∷◌, ◌++◌, Option, None, length}
 use Rattle.std.proofs.Common.{map}
 use Rattle.std.proofs.Common.{refl, sym, ap, ap₂, ◌∙◌, subst, arith, slice_index_or}
-use Rattle.html_forest.specs.Changes.{left_out}
-use Rattle.html_forest.specs.Forest.{Forest, Kind, Node, children_at, document, kind_at, nodes}
-use Rattle.html_forest.specs.Orders.{AreDistinct, IsForest, IsIn, of_child}
-use Rattle.html_forest.proofs.LawLists.{decide_in, left_out_at, left_out_none, standing}
-use Rattle.html_forest.proofs.Numbers.{distinct_left_out, in_left_out}
+use Rattle.tree_forest.specs.Changes.{left_out}
+use Rattle.tree_forest.specs.Forest.{Forest, Kind, Node, children_at, document, kind_at, nodes}
+use Rattle.tree_forest.specs.Orders.{AreDistinct, IsForest, IsIn, of_child}
+use Rattle.tree_forest.proofs.LawLists.{decide_in, left_out_at, left_out_none, standing}
+use Rattle.tree_forest.proofs.Numbers.{distinct_left_out, in_left_out}
 use Rattle.html_render_dom.specs.Links.{AreLinks}
 use Rattle.html_render_dom.specs.Siblings.{IsRun, Links, Spot, behind_of, edge, last_spot, link_at, sibling}
 use Rattle.html_render_dom.specs.Nodes.{IsFollowed, chain, forest_of, kinds_in, kinds_of, links_in, links_of, node_in}

@@ -3,7 +3,7 @@ use Rattle.std.proofs.Common.{◌≡◌, ℕ, ◌<◌, ◌≤◌, ◌⊎◌, inl
 use Rattle.std.proofs.Common.{refl, sym, ap, ◌∙◌, subst, arith, slice_set}
 use Rattle.std.proofs.lemmas.Bool.{cases_eq}
 use Rattle.std.proofs.lemmas.List.{get_or-set_same, get_or-set_other, length-set}
-use Rattle.html_forest.specs.Orders.{IsIn}
+use Rattle.tree_forest.specs.Orders.{IsIn}
 use Rattle.html_render_dom.specs.Siblings.{Links, link_at, with_parent}
 use Rattle.html_render_dom.specs.Nodes.{IsFollowed, chain, with_parents}
 use Rattle.html_render_dom.proofs.ChainForests.{chain_is}

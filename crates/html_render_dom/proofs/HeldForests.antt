@@ -4,13 +4,13 @@ use Rattle.std.proofs.Common.{refl, sym, ap, ap₂, ◌∙◌, subst, suc, zero,
 use Rattle.std.proofs.Common.{◌+◌, MatchOption}
 use Rattle.std.specs.Option.{option_to_list}
 use Rattle.std.proofs.lemmas.List.{length-append, length-map}
-use Rattle.html_forest.specs.Changes.{made, reparented}
-use Rattle.html_forest.specs.Conditions.{CanMove}
-use Rattle.html_forest.specs.Forest.{Forest, Holds, Kind, children_at, document, kind_at, nodes, page_alone}
-use Rattle.html_forest.specs.Orders.{AreDistinct, IsForest, IsIn, of_child}
-use Rattle.html_forest.specs.Places.{before, below, last_of, one_before}
-use Rattle.html_forest.proofs.LawLists.{chosen_at, chosen_off, not_in_front, standing}
-use Rattle.html_forest.proofs.Nodes.{holds_child, same_some}
+use Rattle.tree_forest.specs.Changes.{made, reparented}
+use Rattle.tree_forest.specs.Conditions.{CanMove}
+use Rattle.tree_forest.specs.Forest.{Forest, Holds, Kind, children_at, document, kind_at, nodes, page_alone}
+use Rattle.tree_forest.specs.Orders.{AreDistinct, IsForest, IsIn, of_child}
+use Rattle.tree_forest.specs.Places.{before, below, last_of, one_before}
+use Rattle.tree_forest.proofs.LawLists.{chosen_at, chosen_off, not_in_front, standing}
+use Rattle.tree_forest.proofs.Nodes.{holds_child, same_some}
 use Rattle.html_render_dom.specs.Links.{AreLinks}
 use Rattle.html_render_dom.specs.Siblings.{IsChain, Spot, before_of, behind_of, edge, first_spot, given, holder}
 use Rattle.html_render_dom.specs.Siblings.{last_spot}

@@ -3,8 +3,8 @@ use Rattle.std.proofs.Common.{◌≡◌, ℕ, ◌<◌, ◌⊎◌, inl, inr, zero
 use Rattle.std.proofs.Common.{refl, sym, ap, ◌∙◌, subst, arith}
 use Rattle.std.proofs.lemmas.Bool.{cases_eq}
 use Rattle.std.proofs.lemmas.List.{length-append}
-use Rattle.html_forest.specs.Forest.{Forest, Holds, children_at, nodes}
-use Rattle.html_forest.specs.Orders.{AreDistinct, IsForest, IsIn, of_child}
+use Rattle.tree_forest.specs.Forest.{Forest, Holds, children_at, nodes}
+use Rattle.tree_forest.specs.Orders.{AreDistinct, IsForest, IsIn, of_child}
 use Rattle.html_render_dom.specs.Links.{AreLinks}
 use Rattle.html_render_dom.specs.Siblings.{AreCounted, AreNeighbours, IsChain, IsRun, Links, Spot, before_of, behind_of}
 use Rattle.html_render_dom.specs.Siblings.{edge, first_spot, holder, last_spot, link_at, number_at, put_between}

@@ -11,7 +11,7 @@ use Rattle.std.specs.declared.hash.FoldHasher.{FoldHasher}
 use Rattle.html_lexemes.specs.contracts.names.QualNamePartialEq.TheImpl as names
 use Rattle.html_lexemes.specs.declared.names.Attribute.{Attribute}
 use Rattle.html_lexemes.specs.declared.names.QualName.{QualName}
-use Rattle.html_forest.specs.Changes.{has_name, with_missing}
+use Rattle.tree_forest.specs.Changes.{has_name, with_missing}
 use Rattle.html_render_dom.specs.Names.{HasNames}
 
 abbrev pub NameSet : Type 0

@@ -5,8 +5,8 @@ use Rattle.std.proofs.Common.{suc, arith}
 use Rattle.std.proofs.Math.Seq.{map-set_same}
 use Rattle.html_lexemes.specs.declared.names.Attribute.{Attribute}
 use Rattle.html_lexemes.specs.declared.names.QualName.{QualName}
-use Rattle.html_forest.specs.Changes.{changed, kind_with}
-use Rattle.html_forest.specs.Forest.{Kind, Node, element, node_at, text_of}
+use Rattle.tree_forest.specs.Changes.{changed, kind_with}
+use Rattle.tree_forest.specs.Forest.{Kind, Node, element, node_at, text_of}
 use Rattle.html_render_dom.specs.Nodes.{kind_of, links_in, node_in}
 use Rattle.html_render_dom.specs.Numbers.{number_of}
 use Rattle.html_render_dom.specs.Siblings.{Links}

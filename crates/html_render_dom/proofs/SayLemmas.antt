@@ -4,18 +4,18 @@ use Rattle.std.proofs.Common.{refl, sym, ap, ◌∙◌, subst, arith, Result, Ok
 use Rattle.std.proofs.Common.{chars, is_some, length, option_map}
 use Rattle.std.specs.Str.{IsUtf8}
 use Rattle.std.proofs.lemmas.Bool.{cond-true, cond-false, eqb-true}
-use Rattle.reference_tables.proofs.NameTests.{no_chars, some_chars}
-use Rattle.html_forest.specs.Changes.{changed, made, saying}
-use Rattle.html_forest.specs.Conditions.{CanPut}
-use Rattle.html_forest.specs.Forest.{Forest, Holds, children_at, kind_at, nodes, parent_of, text, text_of}
-use Rattle.html_forest.specs.Orders.{IsForest, IsIn, of_child}
-use Rattle.html_forest.specs.Places.{Place, before, below, last_of, neighbour, node, one_before}
-use Rattle.html_forest.specs.Places.{put_node, put_words, siblings_of}
-use Rattle.html_forest.proofs.LawNodes.{parent_is}
-use Rattle.html_forest.proofs.LawTexts.{new_text, new_text_behind, text_more}
-use Rattle.html_forest.proofs.MovedNodes.{said_kept}
-use Rattle.html_forest.proofs.Nodes.{kept, size_changed}
-use Rattle.html_forest.proofs.ParentChanges.{child_of_parent}
+use Rattle.lex_base.proofs.NameTests.{no_chars, some_chars}
+use Rattle.tree_forest.specs.Changes.{changed, made, saying}
+use Rattle.tree_forest.specs.Conditions.{CanPut}
+use Rattle.tree_forest.specs.Forest.{Forest, Holds, children_at, kind_at, nodes, parent_of, text, text_of}
+use Rattle.tree_forest.specs.Orders.{IsForest, IsIn, of_child}
+use Rattle.tree_forest.specs.Places.{Place, before, below, last_of, neighbour, node, one_before}
+use Rattle.tree_forest.specs.Places.{put_node, put_words, siblings_of}
+use Rattle.tree_forest.proofs.LawNodes.{parent_is}
+use Rattle.tree_forest.proofs.LawTexts.{new_text, new_text_behind, text_more}
+use Rattle.tree_forest.proofs.MovedNodes.{said_kept}
+use Rattle.tree_forest.proofs.Nodes.{kept, size_changed}
+use Rattle.tree_forest.proofs.ParentChanges.{child_of_parent}
 use Rattle.html_render_dom.proofs.LinkChanges.{down, linked_same}
 use Rattle.html_render_dom.proofs.LinkedNodes.{linked_at}
 use Rattle.html_render_dom.specs.Links.{AreLinks, IsLinked}

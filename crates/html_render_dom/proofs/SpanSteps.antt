@@ -5,7 +5,7 @@ use Rattle.std.proofs.Common.{Some, length, option_map, refl, sym, ap, ◌∙◌
 use Rattle.std.proofs.lemmas.Bool.{cond-true, cond-false, eq-eqb, eqb-true, ne_eqb}
 use Rattle.std.proofs.lemmas.List.{length-append, length-map}
 use Rattle.std.specs.Iterator.{MakesProgress, item_count}
-use Rattle.html_forest.specs.Orders.{AreDistinct, IsIn}
+use Rattle.tree_forest.specs.Orders.{AreDistinct, IsIn}
 use Rattle.html_render_dom.specs.Siblings.{IsChain, IsRun, Links, before_of, behind_of, edge, last_spot, link_at}
 use Rattle.html_render_dom.specs.Siblings.{number_at, sibling}
 use Rattle.html_render_dom.specs.Nodes.{kind_of, kinds_in, links_in}

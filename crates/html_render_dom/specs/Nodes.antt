@@ -2,8 +2,8 @@
 use Rattle.std.specs.Prelude.{◌≡◌, ℕ, zero, suc, List, [], ◌∷◌, ◌++◌, Option, None, Some, length, map, option_map}
 use Rattle.std.specs.Prelude.{Bool, false}
 use Rattle.std.specs.Prelude.{is_some}
-use Rattle.html_forest.specs.Forest.{Forest, Kind, Node, comment, doctype, document, element, instruction, kind_at}
-use Rattle.html_forest.specs.Forest.{text, text_of}
+use Rattle.tree_forest.specs.Forest.{Forest, Kind, Node, comment, doctype, document, element, instruction, kind_at}
+use Rattle.tree_forest.specs.Forest.{text, text_of}
 use Rattle.html_render_dom.specs.Numbers.{number_of}
 use Rattle.html_render_dom.specs.Siblings.{Links, Spot, link_at, spot_of}
 use Rattle.html_render_dom.specs.declared.node.Handle.{Handle}

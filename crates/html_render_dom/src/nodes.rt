@@ -1,9 +1,9 @@
 ghost use Rattle.std.specs.Prelude.{◌≡◌, ℕ, ◌+◌, ◌<◌, [], ◌∷◌, ◌++◌, true, false, IfOk, None, OnErr, OnOk, Some};
 ghost use Rattle.std.specs.Prelude.{chars, is_some, length, option_map};
 ghost use Rattle.std.specs.Bool.{nat_lt};
-ghost use Rattle.html_forest.specs.Changes.{changed, saying, with_attributes};
-ghost use Rattle.html_forest.specs.Forest.{Holds, kind_at, nodes, text_of};
-ghost use Rattle.html_forest.specs.Orders.{IsIn};
+ghost use Rattle.tree_forest.specs.Changes.{changed, saying, with_attributes};
+ghost use Rattle.tree_forest.specs.Forest.{Holds, kind_at, nodes, text_of};
+ghost use Rattle.tree_forest.specs.Orders.{IsIn};
 ghost use Rattle.html_render_dom.specs.Nodes.{IsFollowed, chain, forest_of, kind_of, kinds_of, links_of};
 ghost use Rattle.html_render_dom.specs.Nodes.{spot_at, with_no_links, with_parents};
 ghost use Rattle.html_render_dom.specs.Numbers.{number_of};

@@ -10,9 +10,9 @@ use Rattle.std.specs.Str.{all_ascii_digits}
 use Rattle.std.specs.Str.Parse.{digits_value}
 use Rattle.std.proofs.lemmas.Bool.Decides.{nat_tests}
 use Rattle.std.proofs.lemmas.Int.{ints}
-use Rattle.forest_trees.specs.Trees.{Trees, node, trees}
-use Rattle.forest_trees.specs.Trees as of_trees
-use Rattle.html_forest.specs.Forest.{Forest, Kind, comment, doctype, document, element, instruction, text}
+use Rattle.tree_forest.specs.Trees.{Trees, node, trees}
+use Rattle.tree_forest.specs.Trees as of_trees
+use Rattle.tree_forest.specs.Forest.{Forest, Kind, comment, doctype, document, element, instruction, text}
 use Rattle.html_lexemes.specs.declared.names.Attribute.{Attribute}
 use Rattle.html_lexemes.specs.declared.names.QualName.{QualName}
 use Rattle.render_conversion.specs.Conversion.{around, content, content_by, document_values, text_value}
@@ -38,9 +38,9 @@ use Rattle.render_values.specs.declared.info.Head.{Head}
 use Rattle.render_values.specs.declared.info.RenderInfo.{RenderInfo}
 use Rattle.render_values.specs.declared.info.RenderInfo.TheVariants as infos
 use Rattle.render_values.specs.declared.style.RenderStyle.{RenderStyle}
-use Rattle.style_cascade.specs.declared.rules.StyleRule.{StyleRule}
-use Rattle.tree_words.specs.Attributes.{value_of}
-use Rattle.walk_laws.specs.WalkLaws.{AreNumbered, IsNumbered}
+use Rattle.dom_styles.specs.declared.rules.StyleRule.{StyleRule}
+use Rattle.tree_predicates.specs.Attributes.{value_of}
+use Rattle.layout_laws.specs.WalkLaws.{AreNumbered, IsNumbered}
 
 if_numbered : (b : Bool) (x y : Values) → AreNumbered x → AreNumbered y → AreNumbered (if b then x else y)
 if_numbered true x y a b = a

@@ -6,14 +6,14 @@ ghost use Rattle.html_render_tree.specs.Coloured.{AreColoured, AreColouredLines,
 ghost use Rattle.html_render_tree.specs.PageLines.{page_lines};
 ghost use Rattle.html_render_tree.specs.Settings.{setting_of};
 ghost use Rattle.render_conversion.specs.declared.error.RenderError.TheVariants as errors;
-ghost use Rattle.tagged_lines.specs.Tagged.{line_items, line_strings};
+ghost use Rattle.text_lines.specs.Tagged.{line_items, line_strings};
 
 use crate::config::RenderConfig;
 use render_conversion::RenderError;
 use render_values::RenderTree;
 use std::alloc::{AllocError, Global};
-use tagged_lines::TaggedLine;
-use text_marks::TextDecorator;
+use text_lines::TaggedLine;
+use text_decorators::TextDecorator;
 
 impl<D: TextDecorator + Drop> RenderConfig<D> {
     /// The text of a render tree: of each line what `colour_map` makes of its strings, each with its annotations, and

@@ -3,7 +3,7 @@
 ghost use Rattle.std.specs.Prelude.{◌≡◌, ◌++◌, IfOk};
 
 use std::alloc::AllocError;
-use style_cascade::StyleRule;
+use dom_styles::StyleRule;
 
 /// These rules, and then those. The error is allocation failure.
 pub(crate) fn joined(

@@ -4,12 +4,10 @@
 #![tactic(auto)]
 
 use anyhow::{Result, bail};
-use dom_serializer::html_render_dom::{Handle, RcDom};
-use dom_serializer::html_serializer::{SerializeOpts, TraversalScope, serialize};
-use dom_serializer::{SerializableHandle, SerializeDom};
-use html_tree_builder::html_lexemes::{
-    Attributes, Device, LocalName, Namespace, ParseFault, QualName, ReferenceTable,
-};
+use html_render_dom::{Handle, RcDom};
+use tree_serializer::{SerializeOpts, TraversalScope, serialize};
+use dom_writing::{SerializableHandle, SerializeDom};
+use html_tree_builder::html_lexemes::{Attributes, Device, LocalName, Namespace, ParseFault, QualName, ReferenceTable};
 use html_tree_builder::{ParseOpts, parse_fragment_pieces, parse_pieces};
 use std::alloc::{AllocError, Global};
 use std::io::{BufWriter, Write};

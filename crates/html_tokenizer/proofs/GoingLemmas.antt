@@ -3,27 +3,27 @@ use Rattle.std.proofs.Common.{◌≡◌, ◌≢◌, ℕ, Bool, true, false, ◌=
 use Rattle.std.proofs.Common.{IsTrue, refl, sym, subst}
 use Rattle.std.proofs.lemmas.Bool.{and_parts, eqb-true}
 use Rattle.std.proofs.lemmas.List.{nil_from_length}
-use Rattle.reference_tables.specs.References.{References}
+use Rattle.lex_base.specs.References.{References}
 use Rattle.html_lexemes.specs.declared.states.RawKind.{RawKind}
-use Rattle.lexeme_places.specs.Goings.{IsGoing, is_raw_going, may_begin}
-use Rattle.lexeme_places.specs.RawSound.{is_raw_held}
-use Rattle.lexeme_places.specs.Sound.{IsSound}
-use Rattle.html_grammar.specs.declared.modes.Mode.{Mode}
-use Rattle.lexeme_places.specs.SectionTurns.{SectionAdvances}
-use Rattle.html_grammar.specs.Lexemes.{markup, reference_lexeme}
-use Rattle.html_grammar.specs.References.{Found, reference}
-use Rattle.lexeme_places.specs.PlaceKinds.{IsWithinMarkup, is_of_text, is_open}
-use Rattle.lexeme_places.specs.Places.{place_lexeme}
-use Rattle.lexeme_places.specs.Turns.{EndsBeforeAt, IsOver, IsUntagged}
-use Rattle.lexeme_places.specs.declared.place.Place.{Place}
-use Rattle.lexeme_places.specs.declared.place.Place.TheVariants.{Text as NoLexeme, CharacterReference, TagOpen}
-use Rattle.lexeme_places.specs.declared.place.Place.TheVariants.{EndTagOpen, Tag, MarkupDeclarationOpen, BogusComment}
-use Rattle.lexeme_places.specs.declared.place.Place.TheVariants.{Comment, Doctype, CdataSection, RawText}
-use Rattle.lexeme_places.specs.declared.section_turns.SectionTurn.{SectionTurn}
-use Rattle.lexeme_places.specs.declared.section_turns.SectionTurn.TheVariants.{Goes, Ends, Shifts, Text}
-use Rattle.lexeme_places.specs.declared.place.RawPlace.{RawPlace}
-use Rattle.lexeme_places.specs.declared.place.RawPlace.TheVariants.{LessThanSign, EndTagName, EscapeStart, EscapeWord}
-use Rattle.lexeme_places.specs.declared.place.RawPlace.TheVariants.{Dashes}
+use Rattle.token_states.specs.Goings.{IsGoing, is_raw_going, may_begin}
+use Rattle.token_states.specs.RawSound.{is_raw_held}
+use Rattle.token_states.specs.Sound.{IsSound}
+use Rattle.token_grammar.specs.declared.modes.Mode.{Mode}
+use Rattle.token_states.specs.SectionTurns.{SectionAdvances}
+use Rattle.token_grammar.specs.Lexemes.{markup, reference_lexeme}
+use Rattle.token_grammar.specs.References.{Found, reference}
+use Rattle.token_states.specs.PlaceKinds.{IsWithinMarkup, is_of_text, is_open}
+use Rattle.token_states.specs.Places.{place_lexeme}
+use Rattle.token_states.specs.Turns.{EndsBeforeAt, IsOver, IsUntagged}
+use Rattle.token_states.specs.declared.place.Place.{Place}
+use Rattle.token_states.specs.declared.place.Place.TheVariants.{Text as NoLexeme, CharacterReference, TagOpen}
+use Rattle.token_states.specs.declared.place.Place.TheVariants.{EndTagOpen, Tag, MarkupDeclarationOpen, BogusComment}
+use Rattle.token_states.specs.declared.place.Place.TheVariants.{Comment, Doctype, CdataSection, RawText}
+use Rattle.token_states.specs.declared.section_turns.SectionTurn.{SectionTurn}
+use Rattle.token_states.specs.declared.section_turns.SectionTurn.TheVariants.{Goes, Ends, Shifts, Text}
+use Rattle.token_states.specs.declared.place.RawPlace.{RawPlace}
+use Rattle.token_states.specs.declared.place.RawPlace.TheVariants.{LessThanSign, EndTagName, EscapeStart, EscapeWord}
+use Rattle.token_states.specs.declared.place.RawPlace.TheVariants.{Dashes}
 
 pub raw_going_held : (last : Option (List ℕ)) (kind : RawKind) (place : RawPlace) (held : List ℕ) →
     IsTrue (is_raw_going last kind place held) → IsTrue (is_raw_held kind place held)

@@ -3,15 +3,15 @@ use Rattle.std.proofs.Common.{◌≡◌, ℕ, Bool, true, false, cond, ◌==◌,
 use Rattle.std.proofs.Common.{Option, Some, None, IfSome, refl, sym, ap, ◌∙◌, subst}
 use Rattle.html_lexemes.specs.LineEnds.{lines_ended}
 use Rattle.html_lexemes.specs.Queue.{Queue, Takes}
-use Rattle.reference_tables.specs.References.{References}
+use Rattle.lex_base.specs.References.{References}
 use Rattle.html_lexemes.specs.declared.token.Tag.{Tag}
-use Rattle.html_grammar.specs.Lexemes.{Lexeme, nothing, told, tagged}
-use Rattle.html_grammar.specs.Tags.{greater}
-use Rattle.html_grammar.specs.declared.modes.Mode.{Mode}
-use Rattle.lexeme_places.specs.Places.{place_lexeme}
-use Rattle.lexeme_places.specs.Turns.{IsTaken, IsUntagged, LeavesText}
-use Rattle.lexeme_places.specs.declared.place.Place.{Place}
-use Rattle.html_grammar.specs.Meaning.{Meaning}
+use Rattle.token_grammar.specs.Lexemes.{Lexeme, nothing, told, tagged}
+use Rattle.token_grammar.specs.Tags.{greater}
+use Rattle.token_grammar.specs.declared.modes.Mode.{Mode}
+use Rattle.token_states.specs.Places.{place_lexeme}
+use Rattle.token_states.specs.Turns.{IsTaken, IsUntagged, LeavesText}
+use Rattle.token_states.specs.declared.place.Place.{Place}
+use Rattle.token_grammar.specs.Meaning.{Meaning}
 use Rattle.html_tokenizer.specs.Completes.{Completes, IsUndecided, PausesBehind, TakesEach}
 use Rattle.html_tokenizer.specs.Inside as inside
 use Rattle.html_tokenizer.specs.Tells.{TellsOn}

@@ -1,27 +1,27 @@
 -- What a turn says, once it is known which it is.
 use Rattle.std.proofs.Common.{◌≡◌, ℕ, Bool, List, [], Option, Some, None, MatchOption, IfSome, IsTrue, refl, sym, subst}
 use Rattle.std.specs.FinMap as finite
-use Rattle.reference_tables.specs.References.{References}
+use Rattle.lex_base.specs.References.{References}
 use Rattle.html_lexemes.specs.declared.states.RawKind.{RawKind}
-use Rattle.html_grammar.specs.declared.modes.Mode.{Mode}
-use Rattle.html_grammar.specs.declared.modes.TextKind.TheVariants.{Ordinary}
-use Rattle.html_grammar.specs.declared.modes.TextKind.{TextKind}
-use Rattle.lexeme_places.specs.PlaceKinds.{IsPlaceOf, KeepsKind}
-use Rattle.lexeme_places.specs.RawTurns.{RawTurns}
+use Rattle.token_grammar.specs.declared.modes.Mode.{Mode}
+use Rattle.token_grammar.specs.declared.modes.TextKind.TheVariants.{Ordinary}
+use Rattle.token_grammar.specs.declared.modes.TextKind.{TextKind}
+use Rattle.token_states.specs.PlaceKinds.{IsPlaceOf, KeepsKind}
+use Rattle.token_states.specs.RawTurns.{RawTurns}
 use Rattle.html_tokenizer.specs.Advances.{IsRawPlace}
-use Rattle.lexeme_places.specs.MarkupSound.{is_begun_section_end}
-use Rattle.lexeme_places.specs.SectionTurns.{SectionAdvances, SectionTurns}
-use Rattle.lexeme_places.specs.Turns.{Turns}
-use Rattle.lexeme_places.specs.declared.place.Place.{Place}
-use Rattle.lexeme_places.specs.declared.place.Place.TheVariants.{CharacterReference, TagOpen, EndTagOpen, Tag}
-use Rattle.lexeme_places.specs.declared.place.Place.TheVariants.{BogusComment, Comment, Doctype, RawText, CdataSection}
-use Rattle.lexeme_places.specs.declared.place.Place.TheVariants.{MarkupDeclarationOpen, Text as NoLexeme}
-use Rattle.lexeme_places.specs.declared.section_turns.SectionTurn.{SectionTurn}
-use Rattle.lexeme_places.specs.declared.section_turns.SectionTurn.TheVariants.{Goes as SectionGoes, Ends as SectionEnds}
-use Rattle.lexeme_places.specs.declared.section_turns.SectionTurn.TheVariants.{Shifts as SectionShifts}
-use Rattle.lexeme_places.specs.declared.section_turns.SectionTurn.TheVariants.{Text as SectionText}
-use Rattle.lexeme_places.specs.declared.turn.RawTurn.{RawTurn}
-use Rattle.lexeme_places.specs.declared.turn.Turn.{Turn}
+use Rattle.token_states.specs.MarkupSound.{is_begun_section_end}
+use Rattle.token_states.specs.SectionTurns.{SectionAdvances, SectionTurns}
+use Rattle.token_states.specs.Turns.{Turns}
+use Rattle.token_states.specs.declared.place.Place.{Place}
+use Rattle.token_states.specs.declared.place.Place.TheVariants.{CharacterReference, TagOpen, EndTagOpen, Tag}
+use Rattle.token_states.specs.declared.place.Place.TheVariants.{BogusComment, Comment, Doctype, RawText, CdataSection}
+use Rattle.token_states.specs.declared.place.Place.TheVariants.{MarkupDeclarationOpen, Text as NoLexeme}
+use Rattle.token_states.specs.declared.section_turns.SectionTurn.{SectionTurn}
+use Rattle.token_states.specs.declared.section_turns.SectionTurn.TheVariants.{Goes as SectionGoes, Ends as SectionEnds}
+use Rattle.token_states.specs.declared.section_turns.SectionTurn.TheVariants.{Shifts as SectionShifts}
+use Rattle.token_states.specs.declared.section_turns.SectionTurn.TheVariants.{Text as SectionText}
+use Rattle.token_states.specs.declared.turn.RawTurn.{RawTurn}
+use Rattle.token_states.specs.declared.turn.Turn.{Turn}
 
 abbrev pub TurnsTo : References → Bool → Place → List ℕ → ℕ → List ℕ → Turn → Type 0
 TurnsTo table foreign place held c now turn = (asked : Bool) (mode : Mode) →

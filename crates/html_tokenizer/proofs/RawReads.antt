@@ -5,29 +5,29 @@ use Rattle.std.proofs.lemmas.Bool.Decides.{nat_tests}
 use Rattle.std.proofs.lemmas.List.Sums.{fold-append}
 use Rattle.std.proofs.lemmas.List.{map-append}
 use Rattle.std.specs.List.{fold, list_all}
-use Rattle.reference_tables.specs.References.{References}
+use Rattle.lex_base.specs.References.{References}
 use Rattle.html_lexemes.specs.declared.states.RawKind.{RawKind}
 use Rattle.html_lexemes.specs.declared.token.TagKind.TheVariants.{EndTag}
-use Rattle.html_grammar.specs.Items.{Item, characters, null_character}
-use Rattle.html_grammar.specs.Lexemes.{Lexeme, cdata_lexeme, in_kind, lexeme, nothing, ordinary_item, told, tagged}
-use Rattle.html_grammar.specs.Meaning.{Meaning}
-use Rattle.html_grammar.specs.Reading.{Reading, ends, goes, tags}
-use Rattle.html_grammar.specs.Slices.{Cut, after, cut, cut_or_all}
-use Rattle.html_grammar.specs.declared.modes.Mode.{Mode}
+use Rattle.token_grammar.specs.Items.{Item, characters, null_character}
+use Rattle.token_grammar.specs.Lexemes.{Lexeme, cdata_lexeme, in_kind, lexeme, nothing, ordinary_item, told, tagged}
+use Rattle.token_grammar.specs.Meaning.{Meaning}
+use Rattle.token_grammar.specs.Reading.{Reading, ends, goes, tags}
+use Rattle.token_grammar.specs.Slices.{Cut, after, cut, cut_or_all}
+use Rattle.token_grammar.specs.declared.modes.Mode.{Mode}
 use Rattle.html_tokenizer.specs.Advances.{IsRawPlace}
-use Rattle.lexeme_places.specs.PlaceKinds.{IsNoMarkup, IsWithinMarkup}
-use Rattle.lexeme_places.specs.MarkupSound.{is_begun}
-use Rattle.lexeme_places.specs.RawTurns.{IsEndTag, IsShifted, IsText, IsTextBefore}
+use Rattle.token_states.specs.PlaceKinds.{IsNoMarkup, IsWithinMarkup}
+use Rattle.token_states.specs.MarkupSound.{is_begun}
+use Rattle.token_states.specs.RawTurns.{IsEndTag, IsShifted, IsText, IsTextBefore}
 use Rattle.html_tokenizer.specs.Reads.{Follows, Leaves}
-use Rattle.lexeme_places.specs.SectionTurns.{SectionAdvances, section_lexeme, with_items}
-use Rattle.lexeme_places.specs.declared.section_turns.SectionTurn.{SectionTurn}
-use Rattle.lexeme_places.specs.declared.section_turns.SectionTurn.TheVariants.{Goes as SectionGoes, Ends as SectionEnds}
-use Rattle.lexeme_places.specs.declared.place.Place.{Place}
-use Rattle.lexeme_places.specs.declared.place.Place.TheVariants.{Text, CharacterReference, TagOpen, EndTagOpen}
-use Rattle.lexeme_places.specs.declared.place.Place.TheVariants.{Tag as TagPlace, MarkupDeclarationOpen, BogusComment}
-use Rattle.lexeme_places.specs.declared.place.Place.TheVariants.{Comment, Doctype, CdataSection, RawText}
-use Rattle.lexeme_places.specs.declared.place.RawPlace.{RawPlace}
-use Rattle.lexeme_places.specs.declared.place.TagPlace.TheVariants.{TagName}
+use Rattle.token_states.specs.SectionTurns.{SectionAdvances, section_lexeme, with_items}
+use Rattle.token_states.specs.declared.section_turns.SectionTurn.{SectionTurn}
+use Rattle.token_states.specs.declared.section_turns.SectionTurn.TheVariants.{Goes as SectionGoes, Ends as SectionEnds}
+use Rattle.token_states.specs.declared.place.Place.{Place}
+use Rattle.token_states.specs.declared.place.Place.TheVariants.{Text, CharacterReference, TagOpen, EndTagOpen}
+use Rattle.token_states.specs.declared.place.Place.TheVariants.{Tag as TagPlace, MarkupDeclarationOpen, BogusComment}
+use Rattle.token_states.specs.declared.place.Place.TheVariants.{Comment, Doctype, CdataSection, RawText}
+use Rattle.token_states.specs.declared.place.RawPlace.{RawPlace}
+use Rattle.token_states.specs.declared.place.TagPlace.TheVariants.{TagName}
 use Rattle.html_tokenizer.proofs.ReadsLemmas.{of_lexeme, reading_of}
 
 -- what is a beginning of a mark without NUL has none

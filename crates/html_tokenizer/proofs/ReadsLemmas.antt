@@ -8,33 +8,33 @@ use Rattle.std.specs.Char.{IsScalar}
 use Rattle.std.specs.List.{fold, list_all}
 use Rattle.std.specs.Str.{chars}
 use Rattle.std.specs.String.{string_len}
-use Rattle.reference_tables.specs.References.{References}
+use Rattle.lex_base.specs.References.{References}
 use Rattle.html_lexemes.specs.declared.states.RawKind.{RawKind}
 use Rattle.html_lexemes.specs.declared.states.RawKind.TheVariants.{Rcdata, Rawtext, ScriptData, ScriptDataEscaped}
 use Rattle.html_lexemes.specs.declared.token.Tag.{Tag}
-use Rattle.html_grammar.specs.Characters.{shown}
-use Rattle.html_grammar.specs.Items.{Item, characters, null_character, tag}
-use Rattle.html_grammar.specs.Lexemes.{Lexeme, in_kind, lexeme, lexeme_in, has_references, markup, nothing}
-use Rattle.html_grammar.specs.Lexemes.{ordinary_item, reference_lexeme, told, tagged}
-use Rattle.html_grammar.specs.Meaning.{Meaning}
-use Rattle.html_grammar.specs.Modes.{mode_behind}
-use Rattle.html_grammar.specs.References.{reference}
-use Rattle.html_grammar.specs.Reading.{Reading, ends, goes, tags}
-use Rattle.html_grammar.specs.declared.modes.Mode.{Mode}
-use Rattle.html_grammar.specs.declared.modes.TextKind.{TextKind}
-use Rattle.html_grammar.specs.declared.modes.TextKind.TheVariants.{Ordinary, Plain, Raw}
-use Rattle.html_grammar.proofs.MarkLemmas.{chars-encode}
-use Rattle.lexeme_places.specs.Goings.{may_begin}
-use Rattle.lexeme_places.specs.Places.{place_lexeme}
-use Rattle.lexeme_places.specs.RawSound.{is_escaped}
+use Rattle.token_grammar.specs.Characters.{shown}
+use Rattle.token_grammar.specs.Items.{Item, characters, null_character, tag}
+use Rattle.token_grammar.specs.Lexemes.{Lexeme, in_kind, lexeme, lexeme_in, has_references, markup, nothing}
+use Rattle.token_grammar.specs.Lexemes.{ordinary_item, reference_lexeme, told, tagged}
+use Rattle.token_grammar.specs.Meaning.{Meaning}
+use Rattle.token_grammar.specs.Modes.{mode_behind}
+use Rattle.token_grammar.specs.References.{reference}
+use Rattle.token_grammar.specs.Reading.{Reading, ends, goes, tags}
+use Rattle.token_grammar.specs.declared.modes.Mode.{Mode}
+use Rattle.token_grammar.specs.declared.modes.TextKind.{TextKind}
+use Rattle.token_grammar.specs.declared.modes.TextKind.TheVariants.{Ordinary, Plain, Raw}
+use Rattle.token_grammar.proofs.MarkLemmas.{chars-encode}
+use Rattle.token_states.specs.Goings.{may_begin}
+use Rattle.token_states.specs.Places.{place_lexeme}
+use Rattle.token_states.specs.RawSound.{is_escaped}
 use Rattle.html_tokenizer.specs.Reads.{Follows, Leaves}
-use Rattle.lexeme_places.specs.Sound.{IsSound}
-use Rattle.lexeme_places.specs.Turns.{IsOver, LeavesText, is_raw_text, is_text, with_more}
+use Rattle.token_states.specs.Sound.{IsSound}
+use Rattle.token_states.specs.Turns.{IsOver, LeavesText, is_raw_text, is_text, with_more}
 use Rattle.html_tokenizer.specs.declared.pending.Pending.{Pending}
-use Rattle.lexeme_places.specs.declared.place.Place.{Place}
-use Rattle.lexeme_places.specs.declared.place.Place.TheVariants.{Text, RawText}
-use Rattle.lexeme_places.specs.declared.place.RawPlace.{RawPlace}
-use Rattle.lexeme_places.proofs.FirstLemmas.{raw_first_in}
+use Rattle.token_states.specs.declared.place.Place.{Place}
+use Rattle.token_states.specs.declared.place.Place.TheVariants.{Text, RawText}
+use Rattle.token_states.specs.declared.place.RawPlace.{RawPlace}
+use Rattle.token_states.proofs.FirstLemmas.{raw_first_in}
 
 length_none : (b : Bool) (n : ℕ) → b ≡ (n == 0) → b ≡ true → n ≡ 0
 length_none b n e h = grind (arith, nat_tests)

@@ -1,16 +1,16 @@
 -- A sink stays ready for the text that is read.
 use Rattle.std.proofs.Common.{◌≡◌, ℕ, List, [], ◌∷◌, sym, subst}
 use Rattle.html_lexemes.specs.declared.token.Tag.{Tag}
-use Rattle.html_grammar.specs.Items.{Item, characters, comment, doctype, end_of_file, error, null_character, tag}
-use Rattle.html_grammar.specs.Kinds.{AreWithin, HasMarkup, IsHearing, IsOf, IsReadyFor, IsWithin, LexemeOf}
-use Rattle.html_grammar.specs.Lexemes.{Lexeme, told, tagged}
-use Rattle.html_grammar.specs.Meaning.{Meaning}
-use Rattle.html_grammar.specs.Reading.{IsAnswered, IsLawful}
-use Rattle.html_grammar.specs.declared.modes.Mode.{Mode}
-use Rattle.html_grammar.specs.declared.modes.TextKind.{TextKind}
-use Rattle.lexeme_places.specs.PlaceKinds.{IsPlaceOf}
-use Rattle.lexeme_places.specs.declared.place.Place.{Place}
-use Rattle.lexeme_places.specs.declared.place.Place.TheVariants.{Text as NoLexeme}
+use Rattle.token_grammar.specs.Items.{Item, characters, comment, doctype, end_of_file, error, null_character, tag}
+use Rattle.token_grammar.specs.Kinds.{AreWithin, HasMarkup, IsHearing, IsOf, IsReadyFor, IsWithin, LexemeOf}
+use Rattle.token_grammar.specs.Lexemes.{Lexeme, told, tagged}
+use Rattle.token_grammar.specs.Meaning.{Meaning}
+use Rattle.token_grammar.specs.Reading.{IsAnswered, IsLawful}
+use Rattle.token_grammar.specs.declared.modes.Mode.{Mode}
+use Rattle.token_grammar.specs.declared.modes.TextKind.{TextKind}
+use Rattle.token_states.specs.PlaceKinds.{IsPlaceOf}
+use Rattle.token_states.specs.declared.place.Place.{Place}
+use Rattle.token_states.specs.declared.place.Place.TheVariants.{Text as NoLexeme}
 use Rattle.html_tokenizer.specs.Tells.{AreUnanswered}
 
 module _ {A H : Type 0} (means : Meaning A H) (ready : A → Type 0) (welcomes : A → Item → Type 0)

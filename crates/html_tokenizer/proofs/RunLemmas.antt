@@ -7,14 +7,14 @@ use Rattle.std.proofs.lemmas.Bool.{and_from, and_parts}
 use Rattle.std.specs.List.{list_all}
 use Rattle.html_lexemes.specs.LineEnds.{begins_with_line_feed, lines_ended}
 use Rattle.html_lexemes.specs.Queue.{Queue, Takes, counted, is_free_of, is_in}
-use Rattle.reference_tables.specs.References.{References}
+use Rattle.lex_base.specs.References.{References}
 use Rattle.html_lexemes.specs.declared.states.RawKind.TheVariants.{Rcdata, Rawtext, ScriptData, ScriptDataEscaped}
-use Rattle.html_grammar.specs.Items.{characters}
-use Rattle.html_grammar.specs.Lexemes.{told}
-use Rattle.html_grammar.specs.Meaning.{Meaning}
-use Rattle.html_grammar.specs.declared.modes.Mode.{Mode}
-use Rattle.html_grammar.specs.declared.modes.TextKind.{TextKind}
-use Rattle.html_grammar.specs.declared.modes.TextKind.TheVariants.{Ordinary, Plain, Raw}
+use Rattle.token_grammar.specs.Items.{characters}
+use Rattle.token_grammar.specs.Lexemes.{told}
+use Rattle.token_grammar.specs.Meaning.{Meaning}
+use Rattle.token_grammar.specs.declared.modes.Mode.{Mode}
+use Rattle.token_grammar.specs.declared.modes.TextKind.{TextKind}
+use Rattle.token_grammar.specs.declared.modes.TextKind.TheVariants.{Ordinary, Plain, Raw}
 use Rattle.html_tokenizer.proofs.QueueTaken.{each_on, taken_more, taken_on}
 use Rattle.html_tokenizer.proofs.PauseMarks.{HasTaken}
 use Rattle.html_tokenizer.proofs.ReadsLemmas.{leaves_of, reading_of, run_read, text_character}
@@ -22,10 +22,10 @@ use Rattle.html_tokenizer.specs.Completes.{TakesEach, TakesSome}
 use Rattle.html_tokenizer.specs.Reads.{Leaves}
 use Rattle.html_tokenizer.specs.Runs.{TakesFront, TakesRun}
 use Rattle.html_tokenizer.specs.Stops.{stops}
-use Rattle.lexeme_places.specs.Goings.{IsGoing}
-use Rattle.lexeme_places.specs.Turns.{is_text}
-use Rattle.lexeme_places.specs.declared.place.Place.{Place}
-use Rattle.lexeme_places.specs.declared.place.Place.TheVariants.{Text}
+use Rattle.token_states.specs.Goings.{IsGoing}
+use Rattle.token_states.specs.Turns.{is_text}
+use Rattle.token_states.specs.declared.place.Place.{Place}
+use Rattle.token_states.specs.declared.place.Place.TheVariants.{Text}
 
 -- ---- errors
 

@@ -5,10 +5,10 @@ use Rattle.std.specs.List.{fold}
 use Rattle.html_lexemes.specs.declared.token.Tag.{Tag}
 use Rattle.html_lexemes.specs.declared.token.TokenSinkResult.{TokenSinkResult}
 use Rattle.html_lexemes.specs.declared.token.TokenSinkResult.TheVariants.{Continue}
-use Rattle.html_grammar.specs.Items.{Item, error, tag}
-use Rattle.html_grammar.specs.Meaning.{Meaning}
-use Rattle.html_grammar.specs.Modes.{is_pause}
-use Rattle.html_grammar.specs.Reading.{IsAnswered, IsClosed, IsLawful}
+use Rattle.token_grammar.specs.Items.{Item, error, tag}
+use Rattle.token_grammar.specs.Meaning.{Meaning}
+use Rattle.token_grammar.specs.Modes.{is_pause}
+use Rattle.token_grammar.specs.Reading.{IsAnswered, IsClosed, IsLawful}
 use Rattle.html_tokenizer.specs.Tells.{AreUnanswered, Asks, IsAlike, IsFirstAfterError, IsPauseOf, TellsOn, told_none}
 use Rattle.html_tokenizer.specs.Tells.{told_one}
 use Rattle.html_tokenizer.specs.Completes.{Answers}

@@ -3,18 +3,18 @@ use Rattle.std.proofs.Common.{◌≡◌, ℕ, Bool, true, false, not, ◌==◌, 
 use Rattle.std.proofs.Common.{refl, ap, ◌∙◌, subst}
 use Rattle.std.proofs.lemmas.Bool.{and_parts}
 use Rattle.html_lexemes.specs.LineEnds.{begins_with_line_feed, lines_ended}
-use Rattle.reference_tables.specs.References.{References}
-use Rattle.html_grammar.specs.declared.modes.Mode.{Mode}
+use Rattle.lex_base.specs.References.{References}
+use Rattle.token_grammar.specs.declared.modes.Mode.{Mode}
 use Rattle.html_tokenizer.specs.Inside.{IsUndecidedAt}
-use Rattle.lexeme_places.specs.Goings.{IsGoing}
+use Rattle.token_states.specs.Goings.{IsGoing}
 use Rattle.html_tokenizer.specs.Holdings.{Holds, held_of}
-use Rattle.lexeme_places.specs.OpenEnds.{IsOpenEnded, is_steady}
+use Rattle.token_states.specs.OpenEnds.{IsOpenEnded, is_steady}
 use Rattle.html_tokenizer.specs.PageRest.{page_rest}
-use Rattle.lexeme_places.specs.Places.{place_lexeme}
-use Rattle.lexeme_places.specs.Turns.{with_more}
+use Rattle.token_states.specs.Places.{place_lexeme}
+use Rattle.token_states.specs.Turns.{with_more}
 use Rattle.html_tokenizer.specs.declared.line_ends.LineEnds.{LineEnds}
 use Rattle.html_tokenizer.specs.declared.line_ends.LineEnds.TheVariants.{AtMark, AfterReturn, Within}
-use Rattle.lexeme_places.specs.declared.place.Place.{Place}
+use Rattle.token_states.specs.declared.place.Place.{Place}
 use Rattle.html_tokenizer.specs.declared.reader.Reader.{Reader}
 
 -- no lexeme stands where one goes on

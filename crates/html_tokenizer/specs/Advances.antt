@@ -1,22 +1,22 @@
 -- What becomes of a further character of a lexeme that is not over.
 use Rattle.std.specs.Prelude.{◌≡◌, ℕ, Bool, List, [], ◌∷◌, ◌++◌, chars, string_bytes}
-use Rattle.reference_tables.specs.References.{References}
+use Rattle.lex_base.specs.References.{References}
 use Rattle.html_lexemes.specs.declared.states.RawKind.{RawKind}
-use Rattle.html_grammar.specs.declared.modes.Mode.{Mode}
-use Rattle.html_grammar.specs.declared.modes.TextKind.{TextKind}
-use Rattle.lexeme_places.specs.Goings.{IsGoing}
-use Rattle.lexeme_places.specs.PlaceKinds.{IsPlaceOf}
-use Rattle.lexeme_places.specs.RawTurns.{IsEndTag, IsShifted, IsTextBefore}
-use Rattle.lexeme_places.specs.Places.{place_lexeme}
-use Rattle.lexeme_places.specs.Turns.{IsOver, IsTaken, IsUntagged}
+use Rattle.token_grammar.specs.declared.modes.Mode.{Mode}
+use Rattle.token_grammar.specs.declared.modes.TextKind.{TextKind}
+use Rattle.token_states.specs.Goings.{IsGoing}
+use Rattle.token_states.specs.PlaceKinds.{IsPlaceOf}
+use Rattle.token_states.specs.RawTurns.{IsEndTag, IsShifted, IsTextBefore}
+use Rattle.token_states.specs.Places.{place_lexeme}
+use Rattle.token_states.specs.Turns.{IsOver, IsTaken, IsUntagged}
 use Rattle.html_lexemes.specs.declared.token.TagKind.TheVariants.{EndTag as EndTagKind}
 use Rattle.html_tokenizer.specs.declared.pending.Advance.{Advance}
 use Rattle.html_tokenizer.specs.declared.pending.Advance.TheVariants.{Goes, Ends, EndsBefore}
 use Rattle.html_tokenizer.specs.declared.pending.RawAdvance.{RawAdvance}
 use Rattle.html_tokenizer.specs.declared.pending.RawAdvance.TheVariants.{Goes as RawGoes, Before, Shifts, EndTag}
-use Rattle.lexeme_places.specs.declared.place.Place.{Place}
-use Rattle.lexeme_places.specs.declared.place.Place.TheVariants.{Text, Tag, RawText}
-use Rattle.lexeme_places.specs.declared.place.TagPlace.TheVariants.{TagName}
+use Rattle.token_states.specs.declared.place.Place.{Place}
+use Rattle.token_states.specs.declared.place.Place.TheVariants.{Text, Tag, RawText}
+use Rattle.token_states.specs.declared.place.TagPlace.TheVariants.{TagName}
 
 -- a lexeme that is over is no longer pending
 abbrev pub IsLeft : Advance → Place → Type 0

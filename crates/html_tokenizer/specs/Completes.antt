@@ -2,13 +2,13 @@
 -- this crate unfolds them, so that how a tokenizer holds what it has read may change below them.
 use Rattle.std.specs.Prelude.{◌≡◌, ℕ, Bool, false, List, [], ◌∷◌, ◌++◌, Option}
 use Rattle.html_lexemes.specs.Queue.{Queue, Takes}
-use Rattle.reference_tables.specs.References.{References}
+use Rattle.lex_base.specs.References.{References}
 use Rattle.html_lexemes.specs.declared.token.TokenSinkResult.TheVariants.{Script as AskedScript}
 use Rattle.html_lexemes.specs.declared.token.TokenSinkResult.TheVariants.{EncodingIndicator as AskedEncoding}
-use Rattle.html_grammar.specs.Items.{Item}
-use Rattle.html_grammar.specs.Meaning.{Meaning}
-use Rattle.html_grammar.specs.declared.modes.Mode.{Mode}
-use Rattle.html_grammar.specs.declared.modes.TextKind.TheVariants.{Plain}
+use Rattle.token_grammar.specs.Items.{Item}
+use Rattle.token_grammar.specs.Meaning.{Meaning}
+use Rattle.token_grammar.specs.declared.modes.Mode.{Mode}
+use Rattle.token_grammar.specs.declared.modes.TextKind.TheVariants.{Plain}
 use Rattle.html_tokenizer.specs.Fits.{IsFitReader}
 use Rattle.html_tokenizer.specs.Inside as inside
 use Rattle.html_tokenizer.specs.PageRest.{page_rest}

@@ -1,16 +1,16 @@
 -- What is held of a lexeme that goes on is a fact: it holds in one way.
 use Rattle.std.specs.Prelude.{ℕ, Bool, true, false, List, [], ◌∷◌, Option}
 use Rattle.std.proofs.Props.{props}
-use Rattle.reference_tables.specs.References.{References}
-use Rattle.lexeme_places.specs.Goings.{IsGoing}
+use Rattle.lex_base.specs.References.{References}
+use Rattle.token_states.specs.Goings.{IsGoing}
 use Rattle.html_tokenizer.specs.Holdings.{HoldsUnless, held_of}
-use Rattle.lexeme_places.specs.SoundProp.{IsSound-prop}
-use Rattle.lexeme_places.specs.declared.place.Place.{Place}
-use Rattle.lexeme_places.specs.declared.place.Place.TheVariants.{Text, CharacterReference, TagOpen, EndTagOpen, Tag}
-use Rattle.lexeme_places.specs.declared.place.Place.TheVariants.{MarkupDeclarationOpen, BogusComment, Comment, Doctype}
-use Rattle.lexeme_places.specs.declared.place.Place.TheVariants.{CdataSection, RawText}
-use Rattle.lexeme_places.specs.declared.place.ReferencePlace.TheVariants.{Named, Numeric, HexadecimalStart, Decimal}
-use Rattle.lexeme_places.specs.declared.place.ReferencePlace.TheVariants.{Hexadecimal}
+use Rattle.token_states.specs.SoundProp.{IsSound-prop}
+use Rattle.token_states.specs.declared.place.Place.{Place}
+use Rattle.token_states.specs.declared.place.Place.TheVariants.{Text, CharacterReference, TagOpen, EndTagOpen, Tag}
+use Rattle.token_states.specs.declared.place.Place.TheVariants.{MarkupDeclarationOpen, BogusComment, Comment, Doctype}
+use Rattle.token_states.specs.declared.place.Place.TheVariants.{CdataSection, RawText}
+use Rattle.token_states.specs.declared.place.ReferencePlace.TheVariants.{Named, Numeric, HexadecimalStart, Decimal}
+use Rattle.token_states.specs.declared.place.ReferencePlace.TheVariants.{Hexadecimal}
 use Rattle.html_tokenizer.specs.declared.reader.Reader.{Reader}
 
 pub IsGoing-prop : (table : References) (last : Option (List ℕ)) (place : Place) (held : List ℕ) →

@@ -1,10 +1,10 @@
 -- What a reader holds.
 use Rattle.std.specs.Prelude.{◌≡◌, Bool, true, false, List, ℕ, [], chars, string_bytes, IsTrue}
-use Rattle.reference_tables.specs.References.{References}
+use Rattle.lex_base.specs.References.{References}
 use Rattle.html_lexemes.specs.declared.states.RawKind.{RawKind}
-use Rattle.lexeme_places.specs.Goings.{IsGoing, is_raw_going}
-use Rattle.lexeme_places.specs.declared.place.Place.TheVariants.{RawText, Text}
-use Rattle.lexeme_places.specs.declared.place.RawPlace.{RawPlace}
+use Rattle.token_states.specs.Goings.{IsGoing, is_raw_going}
+use Rattle.token_states.specs.declared.place.Place.TheVariants.{RawText, Text}
+use Rattle.token_states.specs.declared.place.RawPlace.{RawPlace}
 use Rattle.html_tokenizer.specs.declared.reader.Reader.{Reader}
 
 abbrev pub held_of : Reader → List ℕ

@@ -1,16 +1,16 @@
 -- What the contracts of a tokenizer's own functions say of it.
 use Rattle.std.specs.Prelude.{◌≡◌, ℕ, Bool, ◌&&◌, ◌==◌, List, [], ◌++◌, length, IsTrue, string_bytes}
-use Rattle.reference_tables.specs.References.{References}
-use Rattle.html_grammar.specs.Lexemes.{Lexeme}
-use Rattle.html_grammar.specs.Meaning.{Meaning}
+use Rattle.lex_base.specs.References.{References}
+use Rattle.token_grammar.specs.Lexemes.{Lexeme}
+use Rattle.token_grammar.specs.Meaning.{Meaning}
 use Rattle.html_tokenizer.specs.Holdings.{HoldsNothing, held_of}
-use Rattle.lexeme_places.specs.MarkupSound.{is_begun_section_end}
+use Rattle.token_states.specs.MarkupSound.{is_begun_section_end}
 use Rattle.html_tokenizer.specs.PageRest.{page_rest}
-use Rattle.lexeme_places.specs.PlaceKinds.{is_of_text, is_open}
-use Rattle.lexeme_places.specs.Places.{place_lexeme}
+use Rattle.token_states.specs.PlaceKinds.{is_of_text, is_open}
+use Rattle.token_states.specs.Places.{place_lexeme}
 use Rattle.html_tokenizer.specs.Reads.{Reads}
-use Rattle.lexeme_places.specs.Turns.{with_more}
-use Rattle.lexeme_places.specs.declared.place.Place.TheVariants.{CdataSection}
+use Rattle.token_states.specs.Turns.{with_more}
+use Rattle.token_states.specs.declared.place.Place.TheVariants.{CdataSection}
 use Rattle.html_tokenizer.specs.declared.line_ends.LineEnds.{LineEnds}
 use Rattle.html_tokenizer.specs.declared.reader.Pause.{Pause}
 use Rattle.html_tokenizer.specs.declared.reader.Reader.{Reader}

@@ -1,14 +1,14 @@
 -- What a text that goes on does to a sink, from what was read of it.
 use Rattle.std.specs.Prelude.{◌≡◌, ℕ, List, ◌++◌, chars, string_bytes, fold}
-use Rattle.reference_tables.specs.References.{References}
-use Rattle.html_grammar.specs.Items.{characters, end_of_file, tag}
-use Rattle.html_grammar.specs.Lexemes.{Lexeme, nothing, told, tagged}
-use Rattle.html_grammar.specs.Meaning.{Meaning}
-use Rattle.html_grammar.specs.Modes.{mode_behind}
-use Rattle.html_grammar.specs.Reading.{Reading}
-use Rattle.html_grammar.specs.declared.modes.Mode.{Mode}
-use Rattle.lexeme_places.specs.Places.{place_lexeme}
-use Rattle.lexeme_places.specs.declared.place.Place.{Place}
+use Rattle.lex_base.specs.References.{References}
+use Rattle.token_grammar.specs.Items.{characters, end_of_file, tag}
+use Rattle.token_grammar.specs.Lexemes.{Lexeme, nothing, told, tagged}
+use Rattle.token_grammar.specs.Meaning.{Meaning}
+use Rattle.token_grammar.specs.Modes.{mode_behind}
+use Rattle.token_grammar.specs.Reading.{Reading}
+use Rattle.token_grammar.specs.declared.modes.Mode.{Mode}
+use Rattle.token_states.specs.Places.{place_lexeme}
+use Rattle.token_states.specs.declared.place.Place.{Place}
 use Rattle.html_tokenizer.specs.declared.reader.Reader.{Reader}
 
 -- A lexeme in a mode, and the reading of what follows it, leave the sink in a final state.

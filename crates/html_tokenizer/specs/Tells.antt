@@ -4,10 +4,10 @@ use Rattle.html_lexemes.specs.declared.token.Tag.{Tag}
 use Rattle.html_lexemes.specs.declared.token.TokenSinkResult.{TokenSinkResult}
 use Rattle.html_lexemes.specs.declared.token.TokenSinkResult.TheVariants.{Script as AskedScript}
 use Rattle.html_lexemes.specs.declared.token.TokenSinkResult.TheVariants.{EncodingIndicator as AskedEncoding}
-use Rattle.html_grammar.specs.Items.{Item, tag}
-use Rattle.html_grammar.specs.Meaning.{Meaning}
-use Rattle.html_grammar.specs.Modes.{is_pause}
-use Rattle.html_grammar.specs.Reading.{IsAfterError, IsAnswered}
+use Rattle.token_grammar.specs.Items.{Item, tag}
+use Rattle.token_grammar.specs.Meaning.{Meaning}
+use Rattle.token_grammar.specs.Modes.{is_pause}
+use Rattle.token_grammar.specs.Reading.{IsAfterError, IsAnswered}
 use Rattle.html_tokenizer.specs.declared.reader.Pause.{Pause}
 use Rattle.html_tokenizer.specs.declared.reader.Pause.TheVariants.{Script, EncodingIndicator}
 

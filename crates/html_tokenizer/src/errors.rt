@@ -1,17 +1,17 @@
 ghost use Rattle.std.specs.Prelude.{MatchBool, chars, ◌≡◌, ◌≢◌, ℕ, false};
-ghost use Rattle.html_grammar.specs.Items.{characters};
-ghost use Rattle.html_grammar.specs.PlainRead.{items_of};
-ghost use Rattle.html_grammar.specs.Reading.{IsAfterError};
+ghost use Rattle.token_grammar.specs.Items.{characters};
+ghost use Rattle.token_grammar.specs.PlainRead.{items_of};
+ghost use Rattle.token_grammar.specs.Reading.{IsAfterError};
 ghost use Rattle.html_tokenizer.specs.Tells.{IsFirstAfterError};
-ghost use Rattle.parse_errors.specs.Found.{heeds};
+ghost use Rattle.token_errors.specs.Found.{heeds};
 
-use html_grammar::TextKind;
-use html_grammar::lexemes::Lexeme;
-use html_grammar::slices::first_and_rest;
+use token_grammar::TextKind;
+use token_grammar::lexemes::Lexeme;
+use token_grammar::slices::first_and_rest;
 use html_lexemes::states::State;
 use html_lexemes::{ReferenceTable, Token};
-use lexeme_places::Place;
-use parse_errors::ParseErrors;
+use token_states::Place;
+use token_errors::ParseErrors;
 use std::alloc::AllocError;
 
 /// Finds the parse errors in a lexeme that is over: in what was held at its place. `line` is that on which a reference

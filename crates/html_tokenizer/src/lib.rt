@@ -43,7 +43,7 @@
 //! after each call, for every rest of the page and every final state; they compose, as `read_pieces` shows. After
 //! them stands, for each place in a lexeme, what is held there (`IsSound`, a ghost field of `Pending`, and
 //! `IsGoing`, by which it may still become something else, a ghost field of `Tokenizer`), and for each further
-//! character a turn of lexeme_places. Why a call is refused rests on the kind of the text: a place is one in text
+//! character a turn of token_states. Why a call is refused rests on the kind of the text: a place is one in text
 //! of a kind (`IsPlaceOf`), a further character keeps it so, and what stands there is of that kind, which the sink
 //! welcomes.
 //!
@@ -71,9 +71,9 @@
 //!
 //! Shown by the cases `tokens` of stored_rows: each row by the plain reader and by the tokenizer, whole, one
 //! character at a time, and cut in two at every place, to a sink that keeps its tokens; pages with the errors that
-//! are emitted, their lines and their place among the tokens, fed in the same ways. Tested (`token_rows`): a pause
+//! are emitted, their lines and their place among the tokens, fed in the same ways. Tested (`test_tokens`): a pause
 //! leaves what follows the tag; refusals last, also for a sink that is ready in some states alone; each line end
-//! counts once, also cut. Two wrong readings were planted alike in html_grammar and lexeme_places, and each fails a
+//! counts once, also cut. Two wrong readings were planted alike in token_grammar and token_states, and each fails a
 //! row: a FF that ends no raw end tag's name, and `-->` that leaves a double escaped part for the escaped one. The
 //! program ends with status 1 where two ways differ.
 #![tactic(auto)]
@@ -90,7 +90,7 @@ mod runs;
 mod telling;
 mod tokenizer;
 
-pub use html_grammar::{TokenSink, TokenizerOpts, read_plainly};
+pub use token_grammar::{TokenSink, TokenizerOpts, read_plainly};
 pub use html_lexemes;
 pub use laws::a_sink_may_change_but_for_its_state;
 pub use pieces::read_pieces;

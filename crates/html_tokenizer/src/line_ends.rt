@@ -1,6 +1,6 @@
 ghost use Rattle.std.specs.Prelude.{◌≡◌, ℕ, ◌∷◌, List, IsTrue, MatchOption};
 ghost use Rattle.std.specs.Char.{IsScalar};
-ghost use Rattle.html_grammar.specs.PageText.{page_text};
+ghost use Rattle.token_grammar.specs.PageText.{page_text};
 ghost use Rattle.html_tokenizer.specs.declared.line_ends.LineEnds.TheVariants.{Within as WithinText};
 
 /// How the characters of a page become those of its text: a first U+FEFF may be dropped, and each CR LF, CR and LF is

@@ -1,19 +1,19 @@
 //! What the end of the page makes of what a reader holds back.
 ghost use Rattle.std.specs.Prelude.{◌≡◌, [], chars, string_bytes, IfErr, OnOk};
 ghost use Rattle.html_lexemes.specs.declared.fault.ParseFault.TheVariants.{Memory};
-ghost use Rattle.html_grammar.specs.Items.{end_of_file};
-ghost use Rattle.html_grammar.specs.Kinds.{IsReadyFor};
-ghost use Rattle.html_grammar.specs.Reading.{IsClosed, Reading};
-ghost use Rattle.lexeme_places.specs.PlaceKinds.{IsPlaceOf};
+ghost use Rattle.token_grammar.specs.Items.{end_of_file};
+ghost use Rattle.token_grammar.specs.Kinds.{IsReadyFor};
+ghost use Rattle.token_grammar.specs.Reading.{IsClosed, Reading};
+ghost use Rattle.token_states.specs.PlaceKinds.{IsPlaceOf};
 
 use crate::errors::{find_last_errors, last_state};
 use crate::reader::Reader;
-use html_grammar::lexemes::Lexeme;
-use html_grammar::plain::tell_lexemes;
-use html_grammar::{Mode, TextKind, TokenSink};
+use token_grammar::lexemes::Lexeme;
+use token_grammar::plain::tell_lexemes;
+use token_grammar::{Mode, TextKind, TokenSink};
 use html_lexemes::{ParseFault, ReferenceTable, Token};
-use lexeme_places::laws::place_of_a_kind;
-use lexeme_places::lexeme_from;
+use token_states::laws::place_of_a_kind;
+use token_states::lexeme_from;
 use std::mem;
 
 impl Reader {

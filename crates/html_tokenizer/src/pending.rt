@@ -1,20 +1,18 @@
 ghost use Rattle.std.specs.Prelude.{◌≡◌, [], ◌∷◌, Bool, chars, string_bytes, length, ◌==◌, ◌≢◌};
 ghost use Rattle.std.specs.Prelude.{IfOk, IsTrue, IfSome, OnOk, Some, MatchBool, MatchOption};
-ghost use Rattle.lexeme_places.specs.declared.place.Place.TheVariants.{CdataSection as SectionPlace};
-ghost use Rattle.lexeme_places.specs.declared.place.Place.TheVariants.{MarkupDeclarationOpen as DeclarationPlace};
-ghost use Rattle.lexeme_places.specs.declared.place.Place.TheVariants.{RawText as RawPlaceOf, Text as TextPlace};
+ghost use Rattle.token_states.specs.declared.place.Place.TheVariants.{CdataSection as SectionPlace};
+ghost use Rattle.token_states.specs.declared.place.Place.TheVariants.{MarkupDeclarationOpen as DeclarationPlace};
+ghost use Rattle.token_states.specs.declared.place.Place.TheVariants.{RawText as RawPlaceOf, Text as TextPlace};
 ghost use Rattle.std.specs.Char.{IsScalar};
 ghost use Rattle.html_lexemes.specs.QueueAnswers.{PopsRun};
-ghost use Rattle.lexeme_places.specs.HeldRuns.{held_stops};
-ghost use Rattle.lexeme_places.specs.Sound.{IsSound};
-ghost use Rattle.lexeme_places.specs.SoundProp.{IsSound-prop};
+ghost use Rattle.token_states.specs.HeldRuns.{held_stops};
+ghost use Rattle.token_states.specs.Sound.{IsSound};
+ghost use Rattle.token_states.specs.SoundProp.{IsSound-prop};
 
 use html_lexemes::states::RawKind;
 use html_lexemes::{BufferQueue, LocalName, ReferenceTable, TagKind};
-use lexeme_places::laws::held_run_goes_on;
-use lexeme_places::{
-    Place, RawPlace, RawTurn, SectionTurn, TagPlace, Turn, markup_turn, raw_turn, section_turn,
-};
+use token_states::laws::held_run_goes_on;
+use token_states::{Place, RawPlace, RawTurn, SectionTurn, TagPlace, Turn, markup_turn, raw_turn, section_turn};
 use std::alloc::{AllocError, Global};
 use std::mem;
 
@@ -52,12 +50,12 @@ pub(crate) enum RawAdvance {
 }
 
 impl Pending {
-    ghost use Rattle.html_grammar.specs.declared.modes.Mode.{Mode as SeenMode};
-    ghost use Rattle.reference_tables.specs.References.{References};
+    ghost use Rattle.token_grammar.specs.declared.modes.Mode.{Mode as SeenMode};
+    ghost use Rattle.lex_base.specs.References.{References};
     ghost use Rattle.html_tokenizer.specs.Advances.{Advances, IsLeft, RawAdvances, StaysWithinKind};
-    ghost use Rattle.lexeme_places.specs.PlaceKinds.{IsNoMarkup};
-    ghost use Rattle.lexeme_places.specs.Goings.{is_raw_going};
-    ghost use Rattle.lexeme_places.specs.SectionTurns.{SectionAdvances};
+    ghost use Rattle.token_states.specs.PlaceKinds.{IsNoMarkup};
+    ghost use Rattle.token_states.specs.Goings.{is_raw_going};
+    ghost use Rattle.token_states.specs.SectionTurns.{SectionAdvances};
 
     /// Before a lexeme.
     pub(crate) fn new(alloc: Global) -> Pending

@@ -1,14 +1,14 @@
 ghost use Rattle.std.specs.Prelude.{◌≡◌, IfErr, IfOk};
 ghost use Rattle.html_lexemes.specs.declared.fault.ParseFault.TheVariants.{Memory};
-ghost use Rattle.html_grammar.specs.FirstMode.{first_mode};
-ghost use Rattle.html_grammar.specs.Kinds.{IsReadyFor};
-ghost use Rattle.html_grammar.specs.Modes.{text_of_state};
-ghost use Rattle.html_grammar.specs.PageText.{page_text};
-ghost use Rattle.html_grammar.specs.Reading.{IsClosed, Reading};
+ghost use Rattle.token_grammar.specs.FirstMode.{first_mode};
+ghost use Rattle.token_grammar.specs.Kinds.{IsReadyFor};
+ghost use Rattle.token_grammar.specs.Modes.{text_of_state};
+ghost use Rattle.token_grammar.specs.PageText.{page_text};
+ghost use Rattle.token_grammar.specs.Reading.{IsClosed, Reading};
 ghost use Rattle.html_tokenizer.specs.Pieces.{joined};
 
 use crate::tokenizer::Tokenizer;
-use html_grammar::{TokenSink, TokenizerOpts};
+use token_grammar::{TokenSink, TokenizerOpts};
 use html_lexemes::{BufferQueue, ParseFault, ReferenceTable};
 use std::alloc::Global;
 

@@ -3,31 +3,31 @@ ghost use Rattle.std.specs.Prelude.{List, [], ◌∷◌, ◌++◌, fold, map, le
 ghost use Rattle.std.specs.Prelude.{IfErr, IfOk, IfSome, IsTrue, OnOk, Ok, None, Some};
 ghost use Rattle.std.specs.Char.{IsScalar};
 ghost use Rattle.html_lexemes.specs.QueueAnswers.{PopsRun};
-ghost use Rattle.reference_tables.specs.References.{References};
+ghost use Rattle.lex_base.specs.References.{References};
 ghost use Rattle.html_lexemes.specs.declared.fault.ParseFault.TheVariants.{Memory};
-ghost use Rattle.html_grammar.specs.Items.{characters};
-ghost use Rattle.html_grammar.specs.Kinds.{HasMarkup, IsReadyFor};
-ghost use Rattle.html_grammar.specs.Lexemes.{ordinary_item};
-ghost use Rattle.html_grammar.specs.Tags.{greater};
-ghost use Rattle.lexeme_places.specs.HeldRuns.{held_stops};
-ghost use Rattle.html_grammar.specs.declared.modes.TextKind.TheVariants.{Plain as PlainText};
-ghost use Rattle.lexeme_places.specs.PlaceKinds.{IsPlaceOf, IsWithinMarkup, is_of_text, is_open};
+ghost use Rattle.token_grammar.specs.Items.{characters};
+ghost use Rattle.token_grammar.specs.Kinds.{HasMarkup, IsReadyFor};
+ghost use Rattle.token_grammar.specs.Lexemes.{ordinary_item};
+ghost use Rattle.token_grammar.specs.Tags.{greater};
+ghost use Rattle.token_states.specs.HeldRuns.{held_stops};
+ghost use Rattle.token_grammar.specs.declared.modes.TextKind.TheVariants.{Plain as PlainText};
+ghost use Rattle.token_states.specs.PlaceKinds.{IsPlaceOf, IsWithinMarkup, is_of_text, is_open};
 ghost use Rattle.html_tokenizer.specs.Stops.{stops};
-ghost use Rattle.lexeme_places.specs.declared.place.Place.{Place as SeenPlace};
-ghost use Rattle.lexeme_places.specs.declared.place.Place.TheVariants.{CdataSection as SectionPlace};
-ghost use Rattle.lexeme_places.specs.declared.place.Place.TheVariants.{MarkupDeclarationOpen as DeclarationPlace};
-ghost use Rattle.lexeme_places.specs.declared.place.Place.TheVariants.{Text as TextPlace};
-ghost use Rattle.parse_errors.specs.Found.{found_of, heeds};
+ghost use Rattle.token_states.specs.declared.place.Place.{Place as SeenPlace};
+ghost use Rattle.token_states.specs.declared.place.Place.TheVariants.{CdataSection as SectionPlace};
+ghost use Rattle.token_states.specs.declared.place.Place.TheVariants.{MarkupDeclarationOpen as DeclarationPlace};
+ghost use Rattle.token_states.specs.declared.place.Place.TheVariants.{Text as TextPlace};
+ghost use Rattle.token_errors.specs.Found.{found_of, heeds};
 
 use crate::errors::{MarkupStart, find_errors_before, looks_at_text, state_of};
 use crate::pending::{Advance, Pending, RawAdvance};
 use crate::runs::stops_of;
-use html_grammar::{Mode, TextKind, TokenSink};
+use token_grammar::{Mode, TextKind, TokenSink};
 use html_lexemes::states::State;
 use html_lexemes::{BufferQueue, ParseFault, ReferenceTable, Text};
-use lexeme_places::laws::tag_ends_with_its_mark;
-use lexeme_places::{First, Place, SectionTurn, first_of};
-use parse_errors::ParseErrors;
+use token_states::laws::tag_ends_with_its_mark;
+use token_states::{First, Place, SectionTurn, first_of};
+use token_errors::ParseErrors;
 use std::alloc::Global;
 
 /// How far a text was read: the mode, the text that was read and is not emitted yet, and the lexeme that is not over.

@@ -1,7 +1,7 @@
 ghost use Rattle.std.specs.Prelude.{◌≡◌};
 ghost use Rattle.html_tokenizer.specs.Stops.{stops};
 
-use html_grammar::TextKind;
+use token_grammar::TextKind;
 use html_lexemes::states::RawKind;
 
 /// The characters at which a run of text of a kind stops: any other is text by itself, and ends no line.

@@ -3,29 +3,29 @@ ghost use Rattle.std.specs.Prelude.{◌≡◌, ℕ, chars, string_bytes};
 ghost use Rattle.std.specs.Prelude.{List, [], ◌++◌, fold};
 ghost use Rattle.std.specs.Prelude.{IfErr, IfOk, IfSome, OnOk, None};
 ghost use Rattle.html_lexemes.specs.declared.fault.ParseFault.TheVariants.{Memory};
-ghost use Rattle.html_grammar.specs.Items.{null_character, tag as tag_item};
-ghost use Rattle.html_grammar.specs.Kinds.{AreWithin, HasMarkup, IsOf, IsReadyFor};
-ghost use Rattle.html_grammar.specs.Modes.{mode_behind};
-ghost use Rattle.html_grammar.specs.PlainRead.{items_of};
-ghost use Rattle.lexeme_places.specs.Places.{place_lexeme};
-ghost use Rattle.lexeme_places.specs.PlaceKinds.{IsPlaceOf};
+ghost use Rattle.token_grammar.specs.Items.{null_character, tag as tag_item};
+ghost use Rattle.token_grammar.specs.Kinds.{AreWithin, HasMarkup, IsOf, IsReadyFor};
+ghost use Rattle.token_grammar.specs.Modes.{mode_behind};
+ghost use Rattle.token_grammar.specs.PlainRead.{items_of};
+ghost use Rattle.token_states.specs.Places.{place_lexeme};
+ghost use Rattle.token_states.specs.PlaceKinds.{IsPlaceOf};
 ghost use Rattle.html_tokenizer.specs.Tells.{IsPauseOf};
-ghost use Rattle.lexeme_places.specs.declared.place.Place.TheVariants.{Text as TextPlace};
+ghost use Rattle.token_states.specs.declared.place.Place.TheVariants.{Text as TextPlace};
 
 use crate::errors::{find_errors, may_follow_error, may_repeat};
 use crate::reader::{Pause, Reader};
-use html_grammar::TokenSink;
-use html_grammar::lexemes::Lexeme;
-use html_grammar::plain::{last_behind, tell_tokens, text_behind};
+use token_grammar::TokenSink;
+use token_grammar::lexemes::Lexeme;
+use token_grammar::plain::{last_behind, tell_tokens, text_behind};
 use html_lexemes::{ParseFault, ReferenceTable, Tag, Text, Token, TokenSinkResult};
-use lexeme_places::laws::place_of_a_kind;
-use lexeme_places::{Place, lexeme_from};
+use token_states::laws::place_of_a_kind;
+use token_states::{Place, lexeme_from};
 
 impl Reader {
     ghost use Rattle.html_tokenizer.specs.Holdings.{HoldsNothing};
     ghost use Rattle.html_tokenizer.specs.Reads.{Leaves, Reads, state_of};
     ghost use Rattle.html_tokenizer.specs.Tells.{AreUnanswered, Asks, IsAlike, TellsOn};
-    ghost use Rattle.lexeme_places.specs.Turns.{IsOver, IsUntagged};
+    ghost use Rattle.token_states.specs.Turns.{IsOver, IsUntagged};
 
     /// Tells the text that was read.
     pub(crate) fn tell_run<S: TokenSink>(&mut self, sink: &mut S) -> Result<(), ParseFault>

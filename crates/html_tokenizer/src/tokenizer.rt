@@ -2,28 +2,28 @@ ghost use Rattle.std.specs.Prelude.{◌≡◌, ◌++◌, ◌∷◌, ℕ, List, [
 ghost use Rattle.std.specs.Prelude.{IfErr, IfOk, IfSome, OnOk, Some};
 ghost use Rattle.std.specs.Char.{IsScalar};
 ghost use Rattle.html_lexemes.specs.declared.fault.ParseFault.TheVariants.{Failed, Memory};
-ghost use Rattle.html_grammar.specs.FirstMode.{first_mode};
-ghost use Rattle.html_grammar.specs.Kinds.{IsReadyFor};
-ghost use Rattle.html_grammar.specs.Modes.{text_of_state};
-ghost use Rattle.html_grammar.specs.PageText.{page_text};
-ghost use Rattle.html_grammar.specs.Reading.{IsClosed, Reading};
-ghost use Rattle.html_grammar.specs.Tags.{greater};
+ghost use Rattle.token_grammar.specs.FirstMode.{first_mode};
+ghost use Rattle.token_grammar.specs.Kinds.{IsReadyFor};
+ghost use Rattle.token_grammar.specs.Modes.{text_of_state};
+ghost use Rattle.token_grammar.specs.PageText.{page_text};
+ghost use Rattle.token_grammar.specs.Reading.{IsClosed, Reading};
+ghost use Rattle.token_grammar.specs.Tags.{greater};
 ghost use Rattle.html_tokenizer.specs.Fits.{IsFitReader};
 ghost use Rattle.html_tokenizer.specs.GoingProp.{HoldsUnless-prop};
 ghost use Rattle.html_tokenizer.specs.Holdings.{Holds, HoldsUnless};
 ghost use Rattle.html_tokenizer.specs.Tells.{Asks};
 ghost use Rattle.html_tokenizer.specs.declared.line_ends.LineEnds.TheVariants.{Within as WithinText};
-ghost use Rattle.lexeme_places.specs.HeldRuns.{held_stops};
-ghost use Rattle.lexeme_places.specs.declared.place.Place.TheVariants.{Text as TextPlace};
+ghost use Rattle.token_states.specs.HeldRuns.{held_stops};
+ghost use Rattle.token_states.specs.declared.place.Place.TheVariants.{Text as TextPlace};
 
 use crate::line_ends::LineEnds;
 use crate::reader::{Pause, Reader};
 use crate::results::{TokenizerResult, result_of};
-use html_grammar::plain::text_of_state;
-use html_grammar::{Mode, TokenSink, TokenizerOpts};
+use token_grammar::plain::text_of_state;
+use token_grammar::{Mode, TokenSink, TokenizerOpts};
 use html_lexemes::{BufferQueue, ParseFault, ReferenceTable};
-use lexeme_places::held_stops;
-use lexeme_places::laws::{going_is_no_lexeme, held_run_goes_on};
+use token_states::held_stops;
+use token_states::laws::{going_is_no_lexeme, held_run_goes_on};
 use std::alloc::Global;
 
 /// Reads the text of a page, in any pieces, and emits its tokens to a sink (WHATWG HTML, 13.2.5). What it emits is what

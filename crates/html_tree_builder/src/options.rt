@@ -3,7 +3,7 @@ ghost use Rattle.std.specs.Prelude.{◌≡◌, IfOk};
 
 use html_tokenizer::TokenizerOpts;
 use std::alloc::AllocError;
-use tree_builder::TreeBuilderOpts;
+use rules_table::TreeBuilderOpts;
 
 /// How a page is parsed.
 #[derive(Drop)]

@@ -6,16 +6,17 @@ ghost use Rattle.html_tokenizer.specs.Pieces.{joined};
 ghost use Rattle.html_tokenizer.specs.OtherSinks.{GoesOnAs};
 ghost use Rattle.html_tree_builder.specs.Grown.{IsGrown};
 ghost use Rattle.html_tree_builder.specs.Parsers.{state_in};
-ghost use Rattle.tree_rules.specs.Settling.{meaning};
-ghost use Rattle.tree_rules.specs.Welcome.{IsReady, IsWelcome};
-ghost use Rattle.tree_rules.specs.State.{State};
+ghost use Rattle.rules_table.specs.Settling.{meaning};
+ghost use Rattle.rules_table.specs.Welcome.{IsReady, IsWelcome};
+ghost use Rattle.rules_table.specs.State.{State};
 
 use crate::laws::a_builder_may_change_but_for_its_state;
-use html_forest::TreeSink;
+use tree_forest::TreeSink;
 use html_lexemes::{BufferQueue, ErrorMessage, ParseFault, Text};
 use html_tokenizer::Tokenizer;
 use html_tree_state::Construction;
-use tree_builder::{Parse, TreeBuilder};
+use rules_actions::Parse;
+use crate::builder::TreeBuilder;
 
 /// Parses a page that comes in pieces into a sink of trees (WHATWG HTML, 13.2). Pauses that the page asks for, for a
 /// script or a named encoding, are passed over. Where a call is refused since allocation fails, every later one is

@@ -1,9 +1,9 @@
 -- Bytes have one answer, since they have one tree.
 use Rattle.std.proofs.Common.{◌≡◌, sym, ap, subst, ◌∙◌, ℕ, List, []}
-use Rattle.html_forest.specs.Forest.{Forest}
-use Rattle.html_forest.specs.declared.sink.QuirksMode.{QuirksMode}
-use Rattle.reference_tables.specs.References.{References}
-use Rattle.page_reading.specs.ParseOpts.{ParseOpts}
+use Rattle.tree_forest.specs.Forest.{Forest}
+use Rattle.tree_forest.specs.declared.sink.QuirksMode.{QuirksMode}
+use Rattle.lex_base.specs.References.{References}
+use Rattle.html_tree_builder.specs.declared.options.ParseOpts.{ParseOpts}
 use Rattle.page_config.proofs.AnswerLemmas.{answer_is_one}
 use Rattle.page_config.specs.PageAnswers.{ArePageValues, HasAnswer, HasText, IsAnswerOf}
 use Rattle.page_config.specs.PageAnswers.{PageAnswer, fail, lines, lines_text}
@@ -12,8 +12,8 @@ use Rattle.page_config.specs.Settings.{PageSetting}
 use Rattle.page_reading.specs.PageTrees.{IsTreeOfBytes}
 use Rattle.render_conversion.specs.Conversion.{document_values}
 use Rattle.render_values.specs.Values.{Values}
-use Rattle.renderer_calls.specs.Renderers.{Marking}
-use Rattle.tagged_lines.specs.Tagged.{Item}
+use Rattle.block_trait.specs.Renderers.{Marking}
+use Rattle.text_lines.specs.Tagged.{Item}
 
 -- bytes have one tree
 abbrev pub OneTree : Type 0

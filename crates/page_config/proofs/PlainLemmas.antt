@@ -2,7 +2,7 @@
 use Rattle.std.proofs.Common.{ℕ, List, Option, None, Some}
 use Rattle.std.proofs.Common.{IfOk, IfSome, Global, String, chars, refl, string_bytes, sym, ◌∙◌}
 use Rattle.std.specs.Prelude.{Err, Ok, Result}
-use Rattle.reference_tables.specs.References.{References}
+use Rattle.lex_base.specs.References.{References}
 use Rattle.page_config.proofs.SeenSettings.{AreAlike}
 use Rattle.page_config.specs.PageAnswers.{Answers, IsTold, PageAnswer}
 use Rattle.page_config.specs.PlainPages.{HasPlainAnswer, HasPlainText, IsPlain, plain_view}

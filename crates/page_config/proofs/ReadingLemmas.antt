@@ -2,8 +2,8 @@
 use Rattle.std.proofs.Common.{◌≡◌, ◌≢◌, ◌⊎◌, inl, inr, ℕ, ◌<◌, List}
 use Rattle.std.proofs.Common.{refl, Option, None, Some, IfSome, sym, subst}
 use Rattle.block_renderer.specs.Seen.{IsTagging, marking}
-use Rattle.html_forest.specs.Forest.{Forest}
-use Rattle.html_forest.specs.declared.sink.QuirksMode.{QuirksMode}
+use Rattle.tree_forest.specs.Forest.{Forest}
+use Rattle.tree_forest.specs.declared.sink.QuirksMode.{QuirksMode}
 use Rattle.html_render_tree.proofs.OptionLemmas.{some_mapped}
 use Rattle.html_render_tree.specs.PageLines.{Setting, page_lines, page_text}
 use Rattle.page_config.specs.Errors.{error_of_render}
@@ -16,9 +16,9 @@ use Rattle.render_conversion.specs.Conversion.{document_values}
 use Rattle.render_conversion.specs.declared.error.RenderError.{RenderError}
 use Rattle.render_conversion.specs.declared.error.RenderError.TheVariants as rendering
 use Rattle.render_values.specs.Values.{Values, none}
-use Rattle.renderer_calls.specs.Renderers.{Marking}
-use Rattle.tagged_lines.specs.Tagged.{Item}
-use Rattle.text_marks.specs.Marks.{DecoratorView, Mark}
+use Rattle.block_trait.specs.Renderers.{Marking}
+use Rattle.text_lines.specs.Tagged.{Item}
+use Rattle.text_decorators.specs.Marks.{DecoratorView, Mark}
 
 pub read_values : {H : Type 0} (c : PageSetting H) (all : Option (List ℕ)) (forest : Forest) (mode : QuirksMode)
     (values : Values) → document_values c.rules forest ≡ values

@@ -6,9 +6,9 @@ use Rattle.page_config.specs.PageAnswers.{HasAnswer, HasText, IsAnswerOf, PageAn
 use Rattle.page_config.specs.Settings.{PageSetting}
 use Rattle.page_reading.specs.PageTrees.{IsTreeOfBytes}
 use Rattle.render_conversion.specs.Decorating.{seen_rule}
-use Rattle.renderer_calls.specs.Renderers.{Marking}
-use Rattle.renderer_calls.specs.declared.options.RenderOptions.{RenderOptions}
-use Rattle.tagged_lines.specs.Tagged.{Item}
+use Rattle.block_trait.specs.Renderers.{Marking}
+use Rattle.block_trait.specs.declared.options.RenderOptions.{RenderOptions}
+use Rattle.text_lines.specs.Tagged.{Item}
 
 pub record AreAlike (c d : PageSetting (Unit {0})) : Type 0 where
   pub table : c.table ≡ d.table

@@ -1,16 +1,16 @@
 -- What is answered of a page: a function of its bytes, a width, and what a configuration says.
 use Rattle.std.specs.Prelude.{◌≡◌, ◌≢◌, ◌⊎◌, ℕ, ◌<◌, List, None, Some}
 use Rattle.block_renderer.specs.Seen.{IsTagging, marking}
-use Rattle.html_forest.specs.Forest.{Forest}
-use Rattle.html_forest.specs.declared.sink.QuirksMode.{QuirksMode}
+use Rattle.tree_forest.specs.Forest.{Forest}
+use Rattle.tree_forest.specs.declared.sink.QuirksMode.{QuirksMode}
 pub use Rattle.html_render_tree.specs.PageLines.{lines_text}
 use Rattle.html_render_tree.specs.PageLines.{Setting, page_lines}
 use Rattle.page_reading.specs.PageTrees.{IsTreeOfBytes}
 use Rattle.render_conversion.specs.Conversion.{document_values}
 use Rattle.render_values.specs.Values.{Values, none}
-use Rattle.renderer_calls.specs.Renderers.{Marking}
-use Rattle.tagged_lines.specs.Tagged.{Item}
-use Rattle.text_marks.specs.Marks.{DecoratorView}
+use Rattle.block_trait.specs.Renderers.{Marking}
+use Rattle.text_lines.specs.Tagged.{Item}
+use Rattle.text_decorators.specs.Marks.{DecoratorView}
 use Rattle.page_config.specs.Settings.{PageSetting}
 
 -- The values of a page: what the tree of its bytes converts to.

@@ -8,15 +8,14 @@ ghost use Rattle.page_config.specs.Errors.{IsAnswer};
 ghost use Rattle.page_config.specs.PageAnswers.{Answers, IsTold, fail, too_narrow};
 ghost use Rattle.page_config.specs.PlainPages.{HasPlainAnswer, HasPlainText, IsPlain};
 ghost use Rattle.page_config.specs.Settings.{bare_setting, by_default, max_bytes_of};
-ghost use Rattle.text_marks.specs.Marks.{IsSteady};
+ghost use Rattle.text_decorators.specs.Marks.{IsSteady};
 
 use crate::config::Config;
 use crate::error::Error;
 use html_lexemes::{ByteReader, ReferenceTable};
 use std::alloc::Global;
-use tagged_lines::TaggedLine;
-use text_decorators::PlainDecorator;
-use text_marks::TextDecorator;
+use text_lines::TaggedLine;
+use text_decorators::{PlainDecorator, TextDecorator};
 
 /// A line of plain text.
 pub type PlainLine = TaggedLine<Vec<()>>;

@@ -12,8 +12,8 @@ use html_render_dom::RcDom;
 use html_render_tree::{RenderConfig, RenderTree};
 use page_reading::read_page;
 use std::alloc::Global;
-use tagged_lines::TaggedLine;
-use text_marks::TextDecorator;
+use text_lines::TaggedLine;
+use text_decorators::TextDecorator;
 
 impl<D: TextDecorator + Drop> Config<D> {
     ghost use Rattle.html_render_tree.specs.Settings.{setting_of};
@@ -21,10 +21,10 @@ impl<D: TextDecorator + Drop> Config<D> {
     ghost use Rattle.page_config.specs.Settings.{max_bytes_of, page_setting};
     ghost use Rattle.page_reading.specs.PageTrees.{IsTreeOfBytes};
     ghost use Rattle.render_values.specs.Values.{none};
-    ghost use Rattle.tagged_lines.specs.Tagged.{line_items};
+    ghost use Rattle.text_lines.specs.Tagged.{line_items};
     ghost use Rattle.block_renderer.specs.Seen.{IsTagging, tags_seen};
     ghost use Rattle.html_render_tree.specs.PageLaws.{AreWithin, IsTextWithin};
-    ghost use Rattle.text_marks.specs.Marks.{IsSteady};
+    ghost use Rattle.text_decorators.specs.Marks.{IsSteady};
     ghost use Rattle.html_render_tree.specs.WalkLaws.{AreNumbered};
 
     /// Reads a page to its end, and gives its tree: that of all the bytes that the reader had. It asks for one byte

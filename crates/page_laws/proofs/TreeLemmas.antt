@@ -1,15 +1,15 @@
 -- A page begins where the laws of its items ask it to.
 use Rattle.std.proofs.Common.{◌≡◌, ℕ, ◌+◌, refl, subst, sym, None, Some}
-use Rattle.html_forest.specs.Forest.{Forest}
-use Rattle.html_forest.specs.Orders.{IsForest}
-use Rattle.html_forest.specs.declared.sink.QuirksMode.{QuirksMode}
-use Rattle.kept_text.specs.KeptText.{IsAtBeginning, in_texts, in_told}
-use Rattle.kept_text.specs.PageTexts.{KeepsTextOfPage, items_of}
+use Rattle.tree_forest.specs.Forest.{Forest}
+use Rattle.tree_forest.specs.Orders.{IsForest}
+use Rattle.tree_forest.specs.declared.sink.QuirksMode.{QuirksMode}
+use Rattle.page_tree_laws.specs.KeptText.{IsAtBeginning, in_texts, in_told}
+use Rattle.page_tree_laws.specs.PageTexts.{KeepsTextOfPage, items_of}
 use Rattle.page_laws.specs.Trees.{HasSkeletonOfTree, KeepsTextOfTree}
-use Rattle.page_skeleton.specs.Skeleton.{HasSkeletonOfPage, IsSkeleton}
+use Rattle.page_tree_laws.specs.Skeleton.{HasSkeletonOfPage, IsSkeleton}
 use Rattle.html_tree_builder.specs.Begun.{begun}
-use Rattle.tree_rules.specs.Settling.{Ready}
-use Rattle.tree_rules.specs.declared.options.TreeBuilderOpts.{TreeBuilderOpts}
+use Rattle.rules_table.specs.Settling.{Ready}
+use Rattle.rules_table.specs.declared.options.TreeBuilderOpts.{TreeBuilderOpts}
 
 pub begun_ready : (options : TreeBuilderOpts) (forest : Forest) (quirks : QuirksMode) → IsForest forest →
     Ready (begun options forest quirks)

@@ -1,15 +1,15 @@
 -- What holds of the tree of every page.
 use Rattle.std.specs.Prelude.{◌≡◌, ℕ, ◌+◌, Bool, true, false, List, []}
-use Rattle.html_forest.specs.Forest.{Forest}
-use Rattle.html_forest.specs.Orders.{IsForest}
-use Rattle.html_forest.specs.declared.sink.QuirksMode.{QuirksMode}
+use Rattle.tree_forest.specs.Forest.{Forest}
+use Rattle.tree_forest.specs.Orders.{IsForest}
+use Rattle.tree_forest.specs.declared.sink.QuirksMode.{QuirksMode}
 use Rattle.html_tree_builder.specs.Grown.{Beginning, IsTreeOfPage}
 use Rattle.html_tree_builder.specs.declared.options.ParseOpts.{ParseOpts}
-use Rattle.kept_text.specs.KeptText.{TellsPlainTags, in_texts, in_told, is_kept}
-use Rattle.kept_text.specs.PageTexts.{items_of}
+use Rattle.page_tree_laws.specs.KeptText.{TellsPlainTags, in_texts, in_told, is_kept}
+use Rattle.page_tree_laws.specs.PageTexts.{items_of}
 use Rattle.page_reading.specs.PageTrees.{IsTreeOfBytes}
-use Rattle.page_skeleton.specs.Skeleton.{IsSkeleton, TellsNoFrames, child_elements}
-use Rattle.reference_tables.specs.References.{References}
+use Rattle.page_tree_laws.specs.Skeleton.{IsSkeleton, TellsNoFrames, child_elements}
+use Rattle.lex_base.specs.References.{References}
 
 -- text is kept, each character as often as it was emitted
 abbrev pub KeepsTextOfTree : {H : Type 0} → (ℕ → H) → Type 0

@@ -12,9 +12,9 @@ use Rattle.std.specs.Str.Parse.{ParsesSigned, ParsesUnsigned, digits_value}
 use Rattle.std.proofs.lemmas.Bool.Decides.{nat_tests}
 use Rattle.std.proofs.lemmas.Str.Parse.{IsNumeralModel, numerals_by_value, parse_plain, parse_plus, parse_signed_minus}
 use Rattle.std.proofs.lemmas.Str.Parse.{parse_signed_plain, parse_signed_plus, tells_all_ascii_digits}
-use Rattle.name_sets.specs.Sets.{is_ascii_word}
-use Rattle.name_sets.proofs.SetLemmas.{ascii_word}
-use Rattle.tree_words.proofs.WordLemmas.{word_chars}
+use Rattle.tree_names.specs.Sets.{is_ascii_word}
+use Rattle.tree_names.proofs.SetLemmas.{ascii_word}
+use Rattle.tree_predicates.proofs.WordLemmas.{word_chars}
 use Rattle.render_conversion.specs.Numbers.{negative, positive, read_digits, signed_of, unsigned_of}
 
 abbrev IsRead : (most : ℕ) → List ℕ → Type 0

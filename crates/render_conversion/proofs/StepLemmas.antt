@@ -5,8 +5,8 @@ use Rattle.std.proofs.Common.{Result, Ok, Err, OnOk, length, take, drop, refl, s
 use Rattle.std.proofs.Common.{append-nil}
 use Rattle.std.proofs.Common.{length-append, arith}
 use Rattle.std.proofs.lemmas.List.{take-append-le}
-use Rattle.forest_trees.specs.Trees.{node, steps, trees}
-use Rattle.html_forest.specs.Forest.{Forest, Kind, children_at, kind_at}
+use Rattle.tree_forest.specs.Trees.{node, steps, trees}
+use Rattle.tree_forest.specs.Forest.{Forest, Kind, children_at, kind_at}
 use Rattle.html_render_dom.specs.ChildNodes.{children_left}
 use Rattle.html_render_dom.specs.Numbers.{handle_of, number_of}
 use Rattle.html_render_dom.specs.declared.node.Handle.{Handle}

@@ -4,7 +4,7 @@ use Rattle.std.proofs.Common.{arith}
 use Rattle.std.specs.Prelude.{Option}
 use Rattle.std.proofs.lemmas.Bool.Decides.{nat_tests}
 use Rattle.std.proofs.lemmas.Str.{chars-nil}
-use Rattle.tagged_lines.proofs.Emptiness.{chars_nil}
+use Rattle.text_lines.proofs.Emptiness.{chars_nil}
 use Rattle.render_conversion.specs.Meanings.{imaged, leaf, nothing, or_empty}
 use Rattle.render_conversion.specs.declared.meaning.Meaning.{Meaning}
 use Rattle.render_values.specs.declared.info.RenderInfo.TheVariants.{Image}

@@ -3,8 +3,8 @@ use Rattle.std.proofs.Common.{◌≡◌, ℕ, ◌+◌, ◌<◌, true, false, if�
 use Rattle.std.proofs.Common.{sym, ap}
 use Rattle.std.proofs.Common.{◌∙◌, append_assoc, append-nil, arith}
 use Rattle.std.specs.Prelude.{Some}
-use Rattle.forest_trees.specs.Trees.{Trees, followed_by, node, none, steps, trees}
-use Rattle.html_forest.specs.Forest.{Forest, children_at, kind_at}
+use Rattle.tree_forest.specs.Trees.{Trees, followed_by, node, none, steps, trees}
+use Rattle.tree_forest.specs.Forest.{Forest, children_at, kind_at}
 use Rattle.html_render_dom.specs.Numbers.{number_of}
 use Rattle.html_render_dom.specs.declared.node.Handle.{Handle}
 use Rattle.render_conversion.specs.Titles.{is_title, own_text, text_of, title_of}

@@ -1,7 +1,7 @@
 -- Rows of the table of conversion: what rules of style say.
 use Rattle.std.specs.Prelude.{◌≡◌, ℕ, true, List, [], ◌∷◌, None, Some, bytes_eq, codes, if◌then◌else◌, pos}
-use Rattle.forest_trees.specs.Trees as of_trees
-use Rattle.text_marks.specs.declared.colour.Colour.{Colour}
+use Rattle.tree_forest.specs.Trees as of_trees
+use Rattle.text_decorators.specs.declared.colour.Colour.{Colour}
 use Rattle.text_pieces.specs.declared.white_space.WhiteSpace.TheVariants.{Normal, Pre}
 use Rattle.render_values.specs.Looks.{plain}
 use Rattle.render_values.specs.Values.{Values, none, value}

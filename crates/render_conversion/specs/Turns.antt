@@ -1,7 +1,7 @@
 -- What is still to be done while a page is converted.
 use Rattle.std.specs.Prelude.{◌≡◌, ℕ, ◌+◌, ◌<◌, List, [], ◌∷◌, ◌++◌, Option, None, Some, length, take}
-use Rattle.forest_trees.specs.Trees.{steps, trees}
-use Rattle.html_forest.specs.Forest.{Forest, kind_at}
+use Rattle.tree_forest.specs.Trees.{steps, trees}
+use Rattle.tree_forest.specs.Forest.{Forest, kind_at}
 use Rattle.html_render_dom.specs.ChildNodes.{children_left}
 use Rattle.html_render_dom.specs.Numbers.{handle_of, number_of}
 use Rattle.html_render_dom.specs.declared.node.Handle.{Handle}

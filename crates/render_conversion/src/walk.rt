@@ -1,7 +1,7 @@
 //! A page's nodes, one after another.
 ghost use Rattle.std.specs.Prelude.{◌≡◌, ◌∷◌, ◌++◌, [], OnOk};
-ghost use Rattle.html_forest.specs.Forest.{kind_at};
-ghost use Rattle.html_forest.specs.Orders.{IsForest};
+ghost use Rattle.tree_forest.specs.Forest.{kind_at};
+ghost use Rattle.tree_forest.specs.Orders.{IsForest};
 ghost use Rattle.html_render_dom.specs.Numbers.{number_of};
 ghost use Rattle.render_values.specs.Arena.{IsFlat};
 ghost use Rattle.render_conversion.specs.Heads.{head_of};
@@ -16,11 +16,11 @@ use crate::meaning::meaning_of;
 use crate::place::{Place, is_guarded, is_seen};
 use crate::styles::{PartStyle, look_of, style_of};
 use crate::turns::{Turn, Turns, push_visits};
-use forest_trees::a_tree_goes_one_step_on;
+use tree_forest::a_tree_goes_one_step_on;
 use html_render_dom::{ChildNodes, Handle, RcDom};
 use render_values::{Head, Opened, RenderInfo, RenderNode, RenderStyle, close};
 use std::alloc::{AllocError, Global};
-use style_cascade::StyleRule;
+use dom_styles::StyleRule;
 
 /// Does all that is still to be done. The error is allocation failure alone.
 pub(crate) fn read_all<'a>(

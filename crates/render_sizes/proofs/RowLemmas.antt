@@ -15,7 +15,7 @@ use Rattle.render_sizes.specs.RowCells.{cells_told, rows_told, skipped}
 use Rattle.render_sizes.specs.Sound.{AreTableCells}
 use Rattle.render_sizes.specs.declared.extent.Extent.{Extent}
 use Rattle.render_sizes.proofs.ExtentLemmas.{left_behind, left_is, next_extents, rest_values}
-use Rattle.table_places.specs.declared.cell.Cell.{Cell}
+use Rattle.table_grid.specs.declared.cell.Cell.{Cell}
 
 -- the cells that stand in rows, where so many rows came before
 abbrev pub counted : ℕ → List Cell → List Cell

@@ -6,7 +6,7 @@ use Rattle.std.specs.Char.{is_whitespace}
 use Rattle.std.specs.List.{list_all}
 use Rattle.std.proofs.lemmas.Bool.Decides.{nat_tests}
 use Rattle.std.proofs.lemmas.Str.{chars-nil}
-use Rattle.tagged_lines.proofs.Emptiness.{chars_nil}
+use Rattle.text_lines.proofs.Emptiness.{chars_nil}
 use Rattle.render_sizes.specs.Extents.{capped}
 use Rattle.render_sizes.specs.TextSizes.{added, size_behind, text_size}
 

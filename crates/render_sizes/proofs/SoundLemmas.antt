@@ -6,7 +6,7 @@ use Rattle.std.specs.List.Sorted.{IsNonDecreasingBy}
 use Rattle.std.proofs.lemmas.Bool.Decides.{nat_tests}
 use Rattle.std.proofs.lemmas.List.Elements.{All-cons, All-filter, All-nil, All-weaker, filter_passes}
 use Rattle.std.proofs.lemmas.List.Kept.{IsNonDecreasingBy-filter}
-use Rattle.column_shares.specs.Shares.{AreSized, table_asks, total_of}
+use Rattle.table_widths.specs.Shares.{AreSized, table_asks, total_of}
 use Rattle.render_values.specs.Values.{Values, none, value}
 use Rattle.render_values.specs.declared.info.RenderInfo.{RenderInfo}
 use Rattle.render_values.specs.declared.info.RenderInfo.TheVariants as infos
@@ -17,7 +17,7 @@ use Rattle.render_sizes.specs.TextSizes.{text_size}
 use Rattle.render_sizes.specs.declared.extent.Extent.{Extent}
 use Rattle.table_grid.specs.TheGrid.{grid}
 use Rattle.table_grid.specs.declared.columns.Column.{Column}
-use Rattle.table_places.specs.declared.cell.Cell.{Cell}
+use Rattle.table_grid.specs.declared.cell.Cell.{Cell}
 
 abbrev row_of : Cell → ℕ
 row_of c = c.row

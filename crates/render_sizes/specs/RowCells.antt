@@ -3,7 +3,7 @@ use Rattle.std.specs.Prelude.{ℕ, List, [], ◌∷◌, max, nat_lt, if◌then�
 use Rattle.render_values.specs.declared.info.RenderInfo.{RenderInfo}
 use Rattle.render_values.specs.declared.info.RenderInfo.TheVariants as infos
 use Rattle.render_sizes.specs.declared.extent.Extent.{Extent}
-use Rattle.table_places.specs.declared.cell.Cell.{Cell}
+use Rattle.table_grid.specs.declared.cell.Cell.{Cell}
 
 -- the rows that begin with a value
 abbrev pub rows_told : RenderInfo → ℕ

@@ -2,7 +2,7 @@
 use Rattle.std.specs.Prelude.{ℕ, ◌+◌, Bool, true, false, if◌then◌else◌, List, [], ◌∷◌}
 use Rattle.std.specs.Char.{is_whitespace}
 use Rattle.std.specs.List.{list_all}
-use Rattle.tagged_lines.specs.Columns.{width_of}
+use Rattle.text_lines.specs.Columns.{width_of}
 
 abbrev pub gap_columns : Bool → ℕ
 gap_columns true = 1

@@ -1,22 +1,20 @@
 //! Tables among the nodes of a render tree.
 ghost use Rattle.std.specs.Prelude.{◌≡◌, ◌+◌, ◌++◌, ◌≤◌, IfOk, OnOk, length};
-ghost use Rattle.column_shares.specs.Shares.{AreSized};
+ghost use Rattle.table_widths.specs.Shares.{AreSized};
 ghost use Rattle.render_sizes.specs.Extents.{Measure, extents, in_rows, measure_of, measured, table_extent, table_in};
 ghost use Rattle.render_sizes.specs.RowCells.{cells_told, rows_told, skipped};
 ghost use Rattle.render_values.specs.Arena.{IsFlat, values_of};
 ghost use Rattle.table_grid.specs.TheGrid.{grid};
-ghost use Rattle.table_rows.specs.Tables.{table_seen};
+ghost use Rattle.table_widths.specs.Tables.{table_seen};
 
 use crate::extent::Extent;
 use crate::laws::measured_is_sound;
 use crate::prefixes::Prefixes;
 use crate::sizes::{extents_behind, nodes_behind};
-use column_shares::asked_by_table;
+use table_widths::{Table, asked_by_table, table_of};
 use render_values::{RenderInfo, RenderNode};
 use std::alloc::{AllocError, Global};
-use table_grid::grid_of;
-use table_places::Cell;
-use table_rows::{Table, table_of};
+use table_grid::{Cell, grid_of};
 
 // The cells that stand in rows among nodes, each with the number of its row, from 1 on, and how many rows there are.
 #[derive(Drop)]

@@ -1,12 +1,12 @@
 //! How many columns a text takes on one line.
 ghost use Rattle.std.specs.Prelude.{◌≡◌, IsTrue, chars, false};
 ghost use Rattle.std.specs.Char.{is_whitespace};
-ghost use Rattle.tagged_lines.specs.Columns.{width_of};
+ghost use Rattle.text_lines.specs.Columns.{width_of};
 ghost use Rattle.render_sizes.specs.Extents.{capped};
 ghost use Rattle.render_sizes.specs.TextSizes.{added, gap_columns, size_behind, text_size};
 
 use render_values::is_white_space;
-use tagged_lines::{Columns, UnicodeColumns};
+use text_lines::{Columns, UnicodeColumns};
 
 fn width_of(c: char) -> usize
     ensures { result ≡ width_of c }

@@ -1,9 +1,9 @@
 //! An article, from its lines.
 use crate::values::{Line, Values};
 use anyhow::{Result, bail};
-use article_laying::LineOptions;
+use article_layout::LineOptions;
 use article_values::{Article, ArticleError};
-use row_fields::unescaped;
+use test_fields::unescaped;
 use std::alloc::Global;
 
 /// An article, or its first fault, and how it is laid out.

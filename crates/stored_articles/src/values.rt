@@ -1,7 +1,7 @@
 //! The values of an article, from lines.
 use anyhow::{Result, bail};
 use article_values::{Block, Inline};
-use row_fields::unescaped;
+use test_fields::unescaped;
 use std::alloc::Global;
 
 /// A line of a value.

@@ -2,8 +2,8 @@
 use crate::block::{Answer, Block, Pieces};
 use anyhow::{Result, bail};
 use block_renderer::SubRenderer;
-use renderer_calls::Renderer;
-use row_fields::unescaped;
+use block_trait::Renderer;
+use test_fields::unescaped;
 use std::alloc::Global;
 use std::mem;
 use text_decorators::TextDecorator;

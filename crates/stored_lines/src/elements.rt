@@ -1,7 +1,7 @@
 //! Lines of tagged text, as fields.
-use row_fields::push_escaped;
+use test_fields::push_escaped;
 use std::alloc::AllocError;
-use tagged_lines::{TaggedLine, TaggedLineElement};
+use text_lines::{TaggedLine, TaggedLineElement};
 use text_decorators::{Colour, RichAnnotation};
 
 /// An annotation that has a name.

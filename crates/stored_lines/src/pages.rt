@@ -8,10 +8,10 @@ use html_render_dom::RcDom;
 use html_render_tree::{RenderConfig, RenderError};
 use html_tree_builder::ParseOpts;
 use page_reading::PageReader;
-use row_fields::unescaped;
+use test_fields::unescaped;
 use std::alloc::Global;
-use style_cascade::StyleRule;
-use tagged_lines::TaggedLine;
+use dom_styles::StyleRule;
+use text_lines::TaggedLine;
 use text_decorators::{PlainDecorator, RichDecorator, TextDecorator, TrivialDecorator};
 
 /// A page, and how it is rendered, but for its decorator.

@@ -1,6 +1,6 @@
 //! Texts that come in pieces.
 use anyhow::{Result, bail};
-use row_fields::{characters, halves, whole};
+use test_fields::{characters, halves, whole};
 use std::alloc::Global;
 
 /// A way to read a text.

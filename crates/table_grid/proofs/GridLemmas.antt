@@ -8,15 +8,15 @@ use Rattle.std.proofs.lemmas.List.{get_or-map, length-map}
 use Rattle.std.proofs.lemmas.List.Elements.{All-map, Contains-get_or, Contains-append_left, Contains-append_right}
 use Rattle.std.proofs.lemmas.List.Kept.{IsNonDecreasingBy-filter}
 use Rattle.std.proofs.lemmas.Map.Keys.{IsStrictlyIncreasing-dedup}
-use Rattle.table_places.specs.declared.cell.Cell.{Cell}
-use Rattle.table_places.specs.declared.cell.PlacedCell.{PlacedCell}
-use Rattle.table_places.specs.Places.{cell_of, left_of, right_of, ArePlaced}
+use Rattle.table_grid.specs.declared.cell.Cell.{Cell}
+use Rattle.table_grid.specs.declared.cell.PlacedCell.{PlacedCell}
+use Rattle.table_grid.specs.Places.{cell_of, left_of, right_of, ArePlaced}
 use Rattle.table_grid.specs.declared.edges.SpannedCell.{SpannedCell}
 use Rattle.table_grid.specs.declared.columns.Column.{Column}
 use Rattle.table_grid.specs.declared.grid.GridCell.{GridCell}
 use Rattle.table_grid.specs.declared.grid.GridGap.{GridGap}
-use Rattle.table_places.specs.declared.gaps.Gap.{Gap}
-use Rattle.table_places.specs.Gaps.{IsGap, AreGaps}
+use Rattle.table_grid.specs.declared.gaps.Gap.{Gap}
+use Rattle.table_grid.specs.Gaps.{IsGap, AreGaps}
 use Rattle.table_grid.specs.Grid.{rank, AreEdges, span_in, span_left, has_column, row_of, rows_with_cells}
 use Rattle.table_grid.specs.Grid.{columns_between, has_size, grid_cell, gap_left, IsGrid}
 use Rattle.table_grid.proofs.RankLemmas.{rank_less, rank_within, rank_rises}

@@ -9,7 +9,7 @@ use Rattle.std.proofs.lemmas.List.{get_or_append_left, get_or_push}
 use Rattle.std.proofs.lemmas.List.Sums.{sum_by-cons}
 use Rattle.std.proofs.lemmas.List.Elements.{All-map}
 use Rattle.std.proofs.lemmas.List.FromFn.{get_or-map-range_with_len, map-range_with_len_more}
-use Rattle.table_columns.specs.Columns.{greatest_at, greatest_parts_of, AreWithin}
+use Rattle.table_grid.specs.Columns.{greatest_at, greatest_parts_of, AreWithin}
 use Rattle.table_grid.specs.declared.edges.SpannedCell.{SpannedCell}
 use Rattle.table_grid.specs.declared.columns.Column.{Column}
 use Rattle.table_grid.specs.Grid.{rank, size_part, least_part, column_at, has_size, left_before}

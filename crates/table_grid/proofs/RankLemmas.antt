@@ -11,7 +11,7 @@ use Rattle.std.proofs.lemmas.List.Sums.{sum_by-cons}
 use Rattle.std.proofs.lemmas.List.Kept.{AllPairs-from_increasing, Contains-dedup_nat, Contains-from_dedup}
 use Rattle.std.proofs.lemmas.List.Sorted.{Contains-permutation, IsPermutation-sym}
 use Rattle.std.proofs.lemmas.Map.Keys.{IsStrictlyIncreasing-dedup}
-use Rattle.table_places.specs.declared.cell.PlacedCell.{PlacedCell}
+use Rattle.table_grid.specs.declared.cell.PlacedCell.{PlacedCell}
 use Rattle.table_grid.specs.Grid.{rank, sides, AreEdges}
 
 pub rank_is : (xs : List ℕ) (x i : ℕ) → i ≤ length xs → ((j : ℕ) → j < i → get_or xs j 0 < x) →

@@ -7,10 +7,10 @@ use Rattle.std.proofs.Math.Nat.{mul-le-mul_left, mul-div-le, lt-mul-div-succ}
 use Rattle.std.proofs.lemmas.Bool.Decides.{nat_tests}
 use Rattle.std.proofs.lemmas.List.{get_or-map, length-map}
 use Rattle.std.proofs.lemmas.List.Elements.{All-map, All-head, All-tail, All-filter, filter_passes, All-weaker}
-use Rattle.table_columns.specs.Columns.{covers, value_of, greatest, greatest_at}
-use Rattle.table_places.specs.declared.cell.Cell.{Cell}
-use Rattle.table_places.specs.declared.cell.PlacedCell.{PlacedCell}
-use Rattle.table_places.specs.Places.{cell_of, ArePlaced}
+use Rattle.table_grid.specs.Columns.{covers, value_of, greatest, greatest_at}
+use Rattle.table_grid.specs.declared.cell.Cell.{Cell}
+use Rattle.table_grid.specs.declared.cell.PlacedCell.{PlacedCell}
+use Rattle.table_grid.specs.Places.{cell_of, ArePlaced}
 use Rattle.table_grid.specs.declared.edges.SpannedCell.{SpannedCell}
 use Rattle.table_grid.specs.declared.columns.Column.{Column}
 use Rattle.table_grid.specs.declared.grid.GridCell.{GridCell}

@@ -4,7 +4,8 @@ ghost use Rattle.table_grid.specs.Grid.{columns_between, has_size, left_before};
 
 use crate::edges::SpannedCell;
 use std::alloc::{AllocError, Global};
-use table_columns::{Part, greatest_parts};
+use crate::part::Part;
+use crate::asked_columns::greatest_parts;
 
 /// What a column of a table asks for, in columns of text.
 #[derive(Clone, Copy, Debug, PartialEq, Eq)]

@@ -7,7 +7,7 @@ use crate::columns::{Column, counts_before};
 use crate::edges::{SpannedCell, rank_in};
 use crate::grid::{GridCell, GridGap};
 use std::alloc::{AllocError, Global};
-use table_places::Gap;
+use crate::gaps::Gap;
 
 /// The cells with their columns among those that are left.
 pub(crate) fn spans_left(

@@ -5,8 +5,8 @@ use Rattle.std.specs.Prelude.{nat_le, nat_lt, fold, max, All, Option, Some}
 use Rattle.std.specs.Option.{option_map}
 use Rattle.std.proofs.lemmas.List.{length-replicate}
 use Rattle.std.proofs.lemmas.List.Elements.{All-nil, All-cons, All-head, All-tail}
-use Rattle.tagged_lines.specs.Columns.{width_of}
-use Rattle.tagged_lines.specs.Tagged.{Item, character, marker, tagged, line_columns}
+use Rattle.text_lines.specs.Columns.{width_of}
+use Rattle.text_lines.specs.Tagged.{Item, character, marker, tagged, line_columns}
 use Rattle.text_pieces.proofs.ItemColumns.{line_columns-append, line_columns-cons}
 use Rattle.text_borders.specs.Segments.{Segment, with_up, with_down, joins_above, joins_below, runs_above}
 use Rattle.text_borders.specs.Borders.{Border, horizontal, stretched, change_to, columns_where, with_segments}

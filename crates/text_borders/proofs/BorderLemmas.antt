@@ -6,8 +6,8 @@ use Rattle.std.specs.Option.{option_map}
 use Rattle.std.proofs.lemmas.Bool.Decides.{nat_tests}
 use Rattle.std.proofs.lemmas.List.{length-append, length-replicate, length-take, length-drop}
 use Rattle.std.proofs.lemmas.List.Sums.{sum_by-cons}
-use Rattle.tagged_lines.specs.Columns.{width_of, columns_of-one, text_columns, IsOfOneColumn}
-use Rattle.tagged_lines.specs.Tagged.{Item, character, line_columns}
+use Rattle.text_lines.specs.Columns.{width_of, columns_of-one, text_columns, IsOfOneColumn}
+use Rattle.text_lines.specs.Tagged.{Item, character, line_columns}
 use Rattle.text_pieces.proofs.ItemColumns.{line_columns-append, line_columns-cons}
 use Rattle.text_borders.specs.Segments.{Segment, glyph, glyph_of, with_up, with_down, without_left, without_right}
 use Rattle.text_borders.specs.Borders.{Border, Hole, horizontal, stretched, change_at, change_to, chop_before}

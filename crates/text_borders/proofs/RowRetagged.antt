@@ -5,7 +5,7 @@ use Prim.Native.Nat.{zero, suc}
 use Rattle.std.specs.Prelude.{fold, if◌then◌else◌, ◌&&◌, max, nat_le, nat_lt, Option, None, Some}
 use Rattle.std.specs.Option.{option_map}
 use Rattle.std.proofs.lemmas.List.{map-append}
-use Rattle.tagged_lines.specs.Tagged.{Item, character, marker, tagged, line_columns}
+use Rattle.text_lines.specs.Tagged.{Item, character, marker, tagged, line_columns}
 use Rattle.text_pieces.proofs.RetaggedItems.{chosen_by, replicate_mapped, drop_mapped, line_columns_retagged}
 use Rattle.text_borders.specs.Segments.{Segment, with_down, with_up}
 use Rattle.text_borders.specs.Borders.{Hole, Border, horizontal, plain, stretched, change_to, with_segments, with_hole}

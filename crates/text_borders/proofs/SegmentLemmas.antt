@@ -8,7 +8,7 @@ use Rattle.std.proofs.lemmas.Bool.Decides.{nat_tests}
 use Rattle.std.proofs.Math.ListN.{set}
 use Rattle.std.proofs.lemmas.List.{map-append, length-map, length-append, length-replicate}
 use Rattle.text_borders.specs.Segments.{Segment, glyph_of, segment_of, without_right}
-use Rattle.tagged_lines.specs.Tagged.{Item, line_columns}
+use Rattle.text_lines.specs.Tagged.{Item, line_columns}
 use Rattle.text_borders.specs.Borders.{Border, Hole, glyphs, shown_from, horizontal, stretched, change_at, change_to}
 use Rattle.text_borders.specs.Borders.{chop_before, with_segments, columns_where}
 use Rattle.text_borders.specs.declared.segment.BorderSegHoriz.{BorderSegHoriz}

@@ -3,7 +3,7 @@
 use Rattle.std.specs.Prelude.{ℕ, zero, suc, ◌+◌, ◌-◌, ◌/◌, max, Bool, true, false, ◌&&◌, nat_le, nat_lt, List, []}
 use Rattle.std.specs.Prelude.{◌∷◌, ◌++◌, Option, None, Some, map, fold, length, drop, replicate, if◌then◌else◌}
 use Rattle.std.specs.Option.{option_map}
-use Rattle.tagged_lines.specs.Tagged.{Item, character, marker, tagged, line_columns}
+use Rattle.text_lines.specs.Tagged.{Item, character, marker, tagged, line_columns}
 use Rattle.text_borders.specs.Segments.{with_up, with_down, joins_above, joins_below}
 use Rattle.text_borders.specs.Borders.{Border, horizontal, plain, stretched, change_to, columns_where, with_segments}
 use Rattle.text_borders.specs.Borders.{punched, shown, line_above}

@@ -1,6 +1,6 @@
 -- Words of the laws on rows of cells.
 use Rattle.std.specs.Prelude.{◌≡◌, ◌⊎◌, ℕ, ◌+◌, ◌-◌, ◌<◌, ◌≤◌, nat_lt, All, List, [], ◌∷◌, ◌++◌, length, if◌then◌else◌}
-use Rattle.tagged_lines.specs.Tagged.{line_columns}
+use Rattle.text_lines.specs.Tagged.{line_columns}
 use Rattle.text_borders.specs.Lines.{BlockLine, text, border}
 use Rattle.text_borders.specs.BorderLaws.{IsSound}
 use Rattle.text_borders.specs.Across.{Cell, Hanging}

@@ -2,7 +2,7 @@
 use Rattle.std.specs.Prelude.{ℕ, zero, suc, ◌+◌, ◌-◌, max, Bool, true, false, ◌==◌, nat_lt, List, [], ◌∷◌, ◌++◌, map}
 use Rattle.std.specs.Prelude.{fold, length, take, drop, replicate, if◌then◌else◌}
 use Rattle.std.specs.Option.{option_map}
-use Rattle.tagged_lines.specs.Tagged.{Item, character, tagged, line_items, line_columns}
+use Rattle.text_lines.specs.Tagged.{Item, character, tagged, line_items, line_columns}
 use Rattle.text_borders.specs.Segments.{Segment, arms, segment_of, glyph_of, with_up, with_down, without_left}
 use Rattle.text_borders.specs.Segments.{without_right, joins_above, joins_below, runs_above}
 use Rattle.text_borders.specs.declared.border.BorderHoriz.{BorderHoriz}

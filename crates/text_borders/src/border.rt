@@ -1,14 +1,14 @@
 //! Borders.
 ghost use Rattle.std.specs.Prelude.{◌≡◌, ◌+◌, ◌≤◌, [], ◌∷◌, ◌++◌, map, length, take, drop, replicate, OnOk, IfOk, IfSome};
 ghost use Rattle.std.specs.Prelude.{chars, string_bytes};
-ghost use Rattle.tagged_lines.specs.Tagged.{line_items, line_columns, tagged, IsJoined};
+ghost use Rattle.text_lines.specs.Tagged.{line_items, line_columns, tagged, IsJoined};
 ghost use Rattle.text_borders.specs.Segments.{glyph_of, segment_of};
 ghost use Rattle.text_borders.specs.Borders.{hole_of, shown_from, glyphs, line_above};
 ghost use Rattle.text_borders.specs.declared.segment.BorderSegHoriz.TheVariants as segments;
 
 use crate::segment::BorderSegHoriz;
 use std::alloc::{AllocError, Global};
-use tagged_lines::{EqualCopy, TaggedLine};
+use text_lines::{EqualCopy, TaggedLine};
 
 /// A horizontal line of segments, each one column, with joins to what stands above and below it, and texts that stand
 /// in holes of it.

@@ -1,7 +1,7 @@
 //! Laws of borders: each is the contract of a function that does nothing.
 ghost use Rattle.std.specs.Prelude.{◌≡◌, ℕ, ◌+◌, ◌≤◌, Bool, Option, Some, IfSome, List, All, length, map, max};
 ghost use Rattle.std.specs.Option.{option_map};
-ghost use Rattle.tagged_lines.specs.Tagged.{Item, line_columns};
+ghost use Rattle.text_lines.specs.Tagged.{Item, line_columns};
 ghost use Rattle.text_borders.specs.Segments.{Segment, with_up, with_down, joins_above, joins_below};
 ghost use Rattle.text_borders.specs.Borders.{Border, merged_above, merged_below, punched_at, punched, filled_to, shown};
 ghost use Rattle.text_borders.specs.BorderLaws.{IsChangedWhereAsked, AreInOrder, IsSound};
@@ -11,7 +11,7 @@ ghost use Rattle.text_borders.specs.Across.{as_text};
 ghost use Rattle.text_borders.specs.Lines.{BlockLine, line_shown};
 ghost use Rattle.text_borders.specs.Retagged.{reitem, reborder, reline, recell, rehanging, rerow};
 
-use tagged_lines::EqualCopy;
+use text_lines::EqualCopy;
 
 /// A border that takes in another from below has the segments that it had, joined to a line below exactly where the
 /// other has `┴ ┬ ┼ └ ┘`.

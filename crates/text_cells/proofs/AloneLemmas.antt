@@ -5,7 +5,7 @@ use Rattle.std.specs.Option.{option_map}
 use Rattle.std.proofs.Common.{sym, ap, subst, ◌∙◌, arith}
 use Rattle.std.proofs.lemmas.Bool.Decides.{nat_tests}
 use Rattle.std.proofs.lemmas.List.{append-nil, append_assoc}
-use Rattle.tagged_lines.specs.Tagged.{Item}
+use Rattle.text_lines.specs.Tagged.{Item}
 use Rattle.text_borders.specs.Segments.{with_up, with_down, joins_above, joins_below}
 use Rattle.text_borders.specs.Borders.{Border, horizontal, plain, stretched, change_to, with_segments}
 use Rattle.text_borders.specs.Lines.{BlockLine, text, border}
@@ -18,7 +18,7 @@ use Rattle.text_borders.specs.Across.{spaces, further}
 use Rattle.text_borders.specs.Borders.{punched}
 use Rattle.text_borders.specs.Lines.{line_shown}
 use Rattle.text_pieces.specs.Items.{has_text}
-use Rattle.tagged_lines.specs.Tagged.{line_items}
+use Rattle.text_lines.specs.Tagged.{line_items}
 use Rattle.text_cells.specs.Texts.{laid_text_of, in_row}
 use Rattle.text_cells.specs.declared.laid_line.LaidText.{LaidText}
 use Rattle.text_cells.proofs.GoingLemmas.{ends_here}

@@ -3,7 +3,7 @@ use Rattle.std.proofs.Common.{◌≡◌, ℕ, ◌+◌, ◌-◌, ◌≤◌, ◌<�
 use Rattle.std.proofs.Common.{append-nil, ap, ◌∙◌, refl, sym, arith}
 use Rattle.std.proofs.lemmas.Bool.Decides.{nat_tests}
 use Rattle.std.proofs.lemmas.List.{drop-drop}
-use Rattle.tagged_lines.specs.Tagged.{Item}
+use Rattle.text_lines.specs.Tagged.{Item}
 use Rattle.text_borders.specs.Borders.{Border, punched}
 use Rattle.text_borders.specs.Across.{Hanging, OpenCell, spaces, line_or, goes_on, with_holes, further, hanging_of}
 use Rattle.text_cells.specs.OpenCells.{after, left_at, next_cell}

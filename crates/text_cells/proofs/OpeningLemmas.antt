@@ -2,7 +2,7 @@
 use Rattle.std.proofs.Common.{◌≡◌, ℕ, zero, suc, ◌+◌, ◌-◌, Bool, true, false, List, [], ◌∷◌, ◌++◌, length, replicate}
 use Rattle.std.proofs.Common.{if◌then◌else◌, append-nil, append_assoc, ap, arith, map, ◌∙◌, refl, sym}
 use Rattle.std.proofs.lemmas.List.{map_push}
-use Rattle.tagged_lines.specs.Tagged.{Item}
+use Rattle.text_lines.specs.Tagged.{Item}
 use Rattle.text_borders.specs.Segments.{Segment, joins_above}
 use Rattle.text_borders.specs.Borders.{Border, horizontal, stretched, columns_where, with_segments, lines_above}
 use Rattle.text_borders.specs.Lines.{border}

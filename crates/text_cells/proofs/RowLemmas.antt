@@ -5,7 +5,7 @@ use Rattle.std.specs.Prelude.{nat_lt}
 use Rattle.std.proofs.lemmas.Bool.Decides.{nat_tests}
 use Rattle.std.proofs.lemmas.List.{drop-drop, drop_more, map_more, get_or_at, set_at, length-map, length-take-le}
 use Rattle.std.proofs.lemmas.List.{map-set, get_or-map}
-use Rattle.tagged_lines.specs.Tagged.{Item, character}
+use Rattle.text_lines.specs.Tagged.{Item, character}
 use Rattle.text_borders.specs.Across.{OpenCell, cell_items, row_items, row_lines}
 use Rattle.text_cells.specs.OpenCells.{after, sign_before}
 

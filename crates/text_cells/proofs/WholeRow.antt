@@ -3,7 +3,7 @@ use Rattle.std.proofs.Common.{◌≡◌, ℕ, Bool, List, ◌++◌, map, length,
 use Rattle.std.specs.Prelude.{Option, None, Some, fold, is_some}
 use Rattle.std.specs.Option.{option_map}
 use Rattle.std.proofs.lemmas.List.{take_at}
-use Rattle.tagged_lines.specs.Tagged.{Item}
+use Rattle.text_lines.specs.Tagged.{Item}
 use Rattle.text_borders.specs.Segments.{with_up, with_down}
 use Rattle.text_borders.specs.Borders.{Border, horizontal, plain, stretched, change_to, with_segments}
 use Rattle.text_borders.specs.Across.{Cell, Hanging, OpenCell, opened, row_width, signs, of_cells}

@@ -17,7 +17,7 @@ use crate::laid_line::LaidLine;
 use crate::line_vec::LineVec;
 use crate::opening::OpenCell;
 use std::alloc::{AllocError, Global};
-use tagged_lines::EqualCopy;
+use text_lines::EqualCopy;
 use text_borders::{BorderHoriz, RenderLine};
 
 /// Whether there is one cell, which goes on into no other row and has many lines.

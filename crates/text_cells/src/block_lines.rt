@@ -1,7 +1,7 @@
 //! The lines of a block or of a cell.
 ghost use Rattle.std.specs.Prelude.{◌≡◌, ◌<◌, [], ◌∷◌, ◌++◌, length, map, IfOk, OnOk};
 ghost use Rattle.std.specs.Option.{option_map};
-ghost use Rattle.tagged_lines.specs.Tagged.{line_items, IsJoined};
+ghost use Rattle.text_lines.specs.Tagged.{line_items, IsJoined};
 ghost use Rattle.text_borders.specs.Borders.{border_of};
 ghost use Rattle.text_borders.specs.Lines.{render_line_of, IsJoinedText};
 ghost use Rattle.text_cells.specs.Texts.{laid_line_of, laid_text_of, row_text, in_row};
@@ -16,7 +16,7 @@ use crate::wide_texts::WideTexts;
 use std::alloc::{AllocError, Global};
 use std::collections::VecDeque;
 use std::mem;
-use tagged_lines::{EqualCopy, TaggedLine};
+use text_lines::{EqualCopy, TaggedLine};
 use text_borders::{BorderHoriz, RenderLine};
 use text_pieces::has_text;
 

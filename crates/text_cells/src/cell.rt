@@ -2,7 +2,7 @@
 
 use crate::block_lines::BlockLines;
 use crate::wide_texts::WideTexts;
-use tagged_lines::TaggedLine;
+use text_lines::TaggedLine;
 use text_borders::BorderHoriz;
 
 /// The lines of a cell.

@@ -6,7 +6,7 @@ ghost use Rattle.text_cells.specs.OpenCells.{open_cell_of, ends};
 use crate::opening::OpenCell;
 use smallvec::SmallVec;
 use std::alloc::{AllocError, Global};
-use tagged_lines::EqualCopy;
+use text_lines::EqualCopy;
 
 /// The signs of so many cells take no memory of their own.
 const FEW: usize = 8;

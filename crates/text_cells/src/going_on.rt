@@ -9,7 +9,7 @@ use crate::cell::HangingCell;
 use crate::columns::behind;
 use crate::opening::OpenCell;
 use std::alloc::{AllocError, Global};
-use tagged_lines::EqualCopy;
+use text_lines::EqualCopy;
 use text_borders::BorderHoriz;
 
 /// The cells that go on, with the lines that are left: the next line of each makes a hole in the border below. The

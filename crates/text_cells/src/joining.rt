@@ -9,7 +9,7 @@ ghost use Rattle.text_cells.specs.OpenCells.{open_cell_of};
 use crate::columns::{Columns, behind};
 use crate::opening::OpenCell;
 use std::alloc::{AllocError, Global};
-use tagged_lines::EqualCopy;
+use text_lines::EqualCopy;
 use text_borders::BorderHoriz;
 
 /// The border above, stretched to the row, and joined to the signs and to the borders at the beginning of cells. The

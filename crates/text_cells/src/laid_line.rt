@@ -1,6 +1,6 @@
 //! Lines of a block, each with whether it has content.
 
-use tagged_lines::TaggedLine;
+use text_lines::TaggedLine;
 use text_borders::RenderLine;
 
 /// A line of a block.

@@ -8,7 +8,7 @@ use crate::cell::LineSet;
 use crate::laid_line::LaidLine;
 use crate::line_queue::LineQueue;
 use std::alloc::{AllocError, Global};
-use tagged_lines::{EqualCopy, TaggedLine};
+use text_lines::{EqualCopy, TaggedLine};
 use text_borders::{BorderHoriz, RenderLine};
 
 /// A cell of a row, without the borders that were its first and its last line.

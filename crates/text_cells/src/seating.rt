@@ -9,7 +9,7 @@ use crate::cell::{HangingCell, LineSet};
 use crate::columns::behind;
 use std::alloc::{AllocError, Global};
 use std::collections::VecDeque;
-use tagged_lines::EqualCopy;
+use text_lines::EqualCopy;
 
 /// The cells of a row: each hanging cell stands in place of the first cell that begins at its place or after it, or
 /// after the row. The error is allocation failure alone.

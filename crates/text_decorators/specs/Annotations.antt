@@ -1,6 +1,6 @@
 -- What contracts see of the annotations of rich text, which is the same in a copy.
 use Rattle.std.specs.Prelude.{ℕ, Bool, List, chars, string_bytes}
-use Rattle.text_marks.specs.declared.colour.Colour.{Colour as ColourParts}
+use Rattle.text_decorators.specs.declared.colour.Colour.{Colour as ColourParts}
 use Rattle.text_decorators.specs.declared.annotation.RichAnnotation.{RichAnnotation}
 use Rattle.text_decorators.specs.declared.annotation.RichAnnotation.TheVariants.{Default, Link, Image, Emphasis, Strong}
 use Rattle.text_decorators.specs.declared.annotation.RichAnnotation.TheVariants.{Strikeout, Code, Preformat, Colour}

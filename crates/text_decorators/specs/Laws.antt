@@ -3,9 +3,9 @@ use Rattle.std.specs.Prelude.{◌≡◌, true, false, refl}
 use Rattle.std.proofs.Common.{ap, sym, ◌∙◌}
 use Rattle.text_decorators.specs.Annotations.{RichTag, nothing, link, image, emphasis, strong, strikeout, code}
 use Rattle.text_decorators.specs.Annotations.{preformatted, colour, background, rich_tag}
-use Rattle.text_marks.specs.Marks.{Mark, link_start, emphasis_start, strong_start, strikeout_start, code_start}
-use Rattle.text_marks.specs.Marks.{superscript_start, image as image_mark, preformat_first, preformat_further}
-use Rattle.text_marks.specs.Marks.{colour_start, background_start}
+use Rattle.text_decorators.specs.Marks.{Mark, link_start, emphasis_start, strong_start, strikeout_start, code_start}
+use Rattle.text_decorators.specs.Marks.{superscript_start, image as image_mark, preformat_first, preformat_further}
+use Rattle.text_decorators.specs.Marks.{colour_start, background_start}
 use Rattle.text_decorators.specs.Texts.{IsRich}
 use Rattle.text_decorators.specs.declared.annotation.RichAnnotation.{RichAnnotation}
 use Rattle.text_decorators.specs.declared.annotation.RichAnnotation.TheVariants.{Default, Link, Image, Emphasis, Strong}

@@ -8,8 +8,8 @@ use Rattle.std.proofs.lemmas.Bool.{cases_lt}
 use Rattle.std.proofs.lemmas.Fmt.{decimal_by_steps, decimal_digit, decimal_step}
 use Rattle.std.proofs.lemmas.Int.{ints}
 use Rattle.std.proofs.lemmas.List.Sums.{sum_by-append}
-use Rattle.tagged_lines.specs.Columns.{width_of, text_columns, columns_of-one}
-use Rattle.text_marks.specs.Marks.{Mark, IsSteady, ordered_item}
+use Rattle.text_lines.specs.Columns.{width_of, text_columns, columns_of-one}
+use Rattle.text_decorators.specs.Marks.{Mark, IsSteady, ordered_item}
 use Rattle.text_decorators.specs.Texts.{plain_text, trivial_text, rich_text}
 use lib.Signed.{mag}
 

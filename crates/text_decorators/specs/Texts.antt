@@ -2,11 +2,11 @@
 use Rattle.std.specs.Prelude.{◌≡◌, ℕ, suc, Bool, true, false, List, [], ◌∷◌, ◌++◌, map, replicate, codes, chars}
 use Rattle.std.specs.Prelude.{string_bytes}
 use Rattle.std.specs.Fmt.{decimal, signed_decimal}
-use Rattle.tagged_lines.specs.Tagged.{Item, tagged}
-use Rattle.text_marks.specs.Marks.{Mark, link_start, link_end, emphasis_start, strong_start, strikeout_start}
-use Rattle.text_marks.specs.Marks.{code_start, superscript_start, superscript_end, image, preformat_first}
-use Rattle.text_marks.specs.Marks.{preformat_further, header, quote, unordered_item, ordered_item, colour_start}
-use Rattle.text_marks.specs.Marks.{background_start}
+use Rattle.text_lines.specs.Tagged.{Item, tagged}
+use Rattle.text_decorators.specs.Marks.{Mark, link_start, link_end, emphasis_start, strong_start, strikeout_start}
+use Rattle.text_decorators.specs.Marks.{code_start, superscript_start, superscript_end, image, preformat_first}
+use Rattle.text_decorators.specs.Marks.{preformat_further, header, quote, unordered_item, ordered_item, colour_start}
+use Rattle.text_decorators.specs.Marks.{background_start}
 use Rattle.text_decorators.specs.declared.annotation.RichAnnotation.{RichAnnotation}
 use Rattle.text_decorators.specs.declared.annotation.RichAnnotation.TheVariants.{Default, Link, Image, Emphasis, Strong}
 use Rattle.text_decorators.specs.declared.annotation.RichAnnotation.TheVariants.{Strikeout, Code, Preformat, Colour}

@@ -2,8 +2,8 @@ ghost use Rattle.std.specs.Prelude.{◌≡◌, IfOk};
 
 use crate::default_marks::literal;
 use std::alloc::{AllocError, Global};
-use tagged_lines::EqualCopy;
-use text_marks::Colour;
+use text_lines::EqualCopy;
+use crate::colour::Colour;
 
 /// What rich text notes beside a text.
 #[derive(Debug, Default, Drop, PartialEq, Eq)]

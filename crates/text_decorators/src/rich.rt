@@ -8,8 +8,9 @@ use crate::annotation::RichAnnotation;
 use crate::default_marks::{footnotes, literal, no_text, superscript_end, superscript_start};
 use crate::prefixes;
 use std::alloc::{AllocError, Global};
-use tagged_lines::TaggedLine;
-use text_marks::{Colour, SteadyPrefixes, TextDecorator};
+use text_lines::TaggedLine;
+use crate::colour::Colour;
+use crate::decorator::{SteadyPrefixes, TextDecorator};
 
 /// The decorator of rich text: annotations say what plain text has marks for, but for prefixes.
 #[derive(Clone, Copy)]

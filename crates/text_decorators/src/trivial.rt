@@ -4,8 +4,9 @@ ghost use Rattle.text_decorators.specs.Steady.{trivial_is_steady};
 
 use crate::default_marks::{footnotes, literal, no_text, superscript_end, superscript_start};
 use std::alloc::{AllocError, Global};
-use tagged_lines::TaggedLine;
-use text_marks::{Colour, SteadyPrefixes, TextDecorator};
+use text_lines::TaggedLine;
+use crate::colour::Colour;
+use crate::decorator::{SteadyPrefixes, TextDecorator};
 
 /// The decorator of text alone: it marks nothing but superscripts, and tags nothing.
 #[derive(Clone, Copy)]

@@ -5,7 +5,7 @@ use Rattle.std.specs.Prelude.{IsSomeAnd, string_bytes}
 use Rattle.std.proofs.lemmas.List.{map-append}
 use Rattle.std.proofs.lemmas.Option.{slice_get-get_or}
 use Rattle.std.proofs.lemmas.Str.{chars-append, IsUtf8-string_bytes}
-use Rattle.tagged_lines.proofs.Joins.{last_split, last_set}
+use Rattle.text_lines.proofs.Joins.{last_split, last_set}
 use Rattle.text_pieces.specs.declared.piece.Piece.{Piece}
 use Rattle.text_pieces.specs.declared.piece.Piece.TheVariants.{Text, Fragment}
 use Rattle.text_pieces.specs.Sources.{letter, sourced, piece_sources, sources_of, wrap_seen}

@@ -3,8 +3,8 @@ use Rattle.std.proofs.Common.{◌≡◌, ℕ, Bool, true, false, List, [], ◌�
 use Rattle.std.proofs.Common.{refl}
 use Rattle.std.specs.Prelude.{fold, if◌then◌else◌}
 use Prim.Native.Nat.{zero, suc}
-use Rattle.tagged_lines.specs.Columns.{text_columns}
-use Rattle.tagged_lines.specs.Tagged.{Item, character, marker, characters, line_columns}
+use Rattle.text_lines.specs.Columns.{text_columns}
+use Rattle.text_lines.specs.Tagged.{Item, character, marker, characters, line_columns}
 use Rattle.text_pieces.specs.Items.{has_text, item_columns, markers_of}
 use Rattle.text_pieces.specs.Sources.{Source, letter, fragment, names_of}
 use Rattle.text_pieces.specs.Retagged.{reitem, resource}

@@ -2,13 +2,13 @@
 ghost use Rattle.std.specs.Prelude.{◌≡◌, ℕ, List, ◌<◌, ◌≤◌, ◌++◌, [], length, chars, IfSome, IsNone, IsUtf8};
 ghost use Rattle.std.specs.Prelude.{encode_utf8};
 ghost use Rattle.std.specs.Char.{IsScalar};
-ghost use Rattle.tagged_lines.specs.Columns.{width_of};
-ghost use Rattle.tagged_lines.specs.Tagged.{line_items, line_text};
+ghost use Rattle.text_lines.specs.Columns.{width_of};
+ghost use Rattle.text_lines.specs.Tagged.{line_items, line_text};
 ghost use Rattle.text_pieces.specs.Sources.{is_break_point, is_white_space, is_filled};
 ghost use Rattle.text_pieces.specs.Cuts.{Lacks, IsCutAt, IsBehind};
 ghost use Rattle.text_pieces.specs.Items.{has_text};
 
-use tagged_lines::{Columns, EqualCopy, TaggedLine, UnicodeColumns};
+use text_lines::{Columns, EqualCopy, TaggedLine, UnicodeColumns};
 
 const ZERO_WIDTH_SPACE: char = '\u{200b}';
 

@@ -5,12 +5,12 @@ use Rattle.std.specs.Prelude.{Option, if◌then◌else◌}
 use Rattle.std.specs.Option.{option_map, option_and_then}
 use Rattle.std.proofs.lemmas.Bool.{false≢true}
 use Rattle.std.proofs.lemmas.List.{length-append, length-map}
-use Rattle.tagged_lines.specs.Tagged.{Item, line_columns}
-use Rattle.preserved_text.specs.Preserved.{space}
+use Rattle.text_lines.specs.Tagged.{Item, line_columns}
+use Rattle.text_preserved.specs.Preserved.{space}
 use Rattle.text_pieces.specs.Modes.{is_preserved, is_same_mode}
 use Rattle.text_pieces.specs.declared.white_space.WhiteSpace.{WhiteSpace}
 use Rattle.text_pieces.specs.declared.white_space.WhiteSpace.TheVariants.{Normal, Pre, PreWrap}
-use Rattle.preserved_text.proofs.ColumnLemmas.{line_columns-replicate}
+use Rattle.text_preserved.proofs.ColumnLemmas.{line_columns-replicate}
 use Rattle.text_pieces.proofs.ItemColumns.{line_columns-append}
 use Rattle.text_wrapping.specs.Lines.{lines_in}
 use Rattle.text_wrapping.specs.Blocks.{Block, padded, lines_behind, lines_or_empty, is_too_narrow, ended, line_ended}

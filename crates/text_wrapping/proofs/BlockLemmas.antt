@@ -4,13 +4,13 @@ use Rattle.std.proofs.Common.{sym, ap, ◌∙◌, refl, append_assoc, append-nil
 use Rattle.std.specs.Prelude.{Option, string_bytes, if◌then◌else◌}
 use Rattle.std.specs.Option.{option_map, option_and_then}
 use Rattle.std.proofs.lemmas.Bool.Decides.{nat_tests}
-use Rattle.tagged_lines.specs.Tagged.{Item}
+use Rattle.text_lines.specs.Tagged.{Item}
 use Rattle.text_pieces.specs.Cuts.{Lacks, IsCutAt}
 use Rattle.text_pieces.specs.Sources.{Source, letter, fragment, sourced, fragments, piece_sources, sources_of}
-use Rattle.preserved_text.specs.Preserved.{names_of}
+use Rattle.text_preserved.specs.Preserved.{names_of}
 use Rattle.text_pieces.specs.declared.piece.Piece.{Piece}
 use Rattle.text_pieces.specs.declared.piece.Piece.TheVariants.{Fragment}
-use Rattle.preserved_text.proofs.TrimLemmas.{sources-append, nil_length}
+use Rattle.text_preserved.proofs.TrimLemmas.{sources-append, nil_length}
 use Rattle.text_pieces.specs.Modes.{is_preserved, is_same_mode}
 use Rattle.text_pieces.specs.declared.white_space.WhiteSpace.{WhiteSpace}
 use Rattle.text_wrapping.specs.Lines.{lines_in, waiting_in}

@@ -4,15 +4,15 @@ use Rattle.std.specs.Prelude.{fold, not, ◌&&◌, ◌||◌, ◌==◌, nat_lt, O
 use Rattle.std.specs.List.{list_any}
 use Rattle.std.specs.Option.{option_map, option_and_then}
 use Rattle.std.proofs.lemmas.List.{map-append}
-use Rattle.tagged_lines.specs.Tagged.{Item, character, line_columns}
+use Rattle.text_lines.specs.Tagged.{Item, character, line_columns}
 use Rattle.text_pieces.specs.Sources.{Source, letter, fragment, fragments, names_of}
 use Rattle.text_pieces.specs.Modes.{is_preserved, is_wrapped, is_same_mode}
 use Rattle.text_pieces.specs.declared.white_space.WhiteSpace.{WhiteSpace}
 use Rattle.text_pieces.proofs.RetaggedItems.{chosen_by, replicate_mapped, line_columns_retagged, names_retagged}
-use Rattle.preserved_text.specs.Preserved.{preserved_lines, preserved_waiting, is_too_wide}
-use Rattle.preserved_text.proofs.LayingRetagged.{lines_retagged, lines_wait_retagged, too_wide_retagged}
-use Rattle.wrapping_laws.specs.Riders.{normal_lines, normal_waiting, has_wide_text}
-use Rattle.wrapping_laws.proofs.NormalRetagged.{normal_retagged, waiting_retagged, wide_text_retagged}
+use Rattle.text_preserved.specs.Preserved.{preserved_lines, preserved_waiting, is_too_wide}
+use Rattle.text_preserved.proofs.LayingRetagged.{lines_retagged, lines_wait_retagged, too_wide_retagged}
+use Rattle.text_normal.specs.Riders.{normal_lines, normal_waiting, has_wide_text}
+use Rattle.text_normal_laws.proofs.NormalRetagged.{normal_retagged, waiting_retagged, wide_text_retagged}
 use Rattle.text_wrapping.specs.Lines.{lines_in, waiting_in, is_wide_in}
 use Rattle.text_wrapping.specs.Blocks.{Block, line_feed, padded, lines_behind, is_too_narrow, ended, lines_or_empty}
 use Rattle.text_wrapping.specs.Blocks.{line_ended, with_letter, took, took_all, with_mode, in_mode, added, marked_by}

@@ -4,12 +4,12 @@ use Rattle.std.proofs.Common.{◌∙◌, refl, subst, arith}
 use Rattle.std.specs.Prelude.{Option, All, if◌then◌else◌}
 use Rattle.std.specs.Option.{option_map, option_and_then}
 use Rattle.std.proofs.lemmas.List.Elements.{All-nil, All-cons, All-head, All-tail, All-append}
-use Rattle.tagged_lines.specs.Tagged.{Item, line_columns}
+use Rattle.text_lines.specs.Tagged.{Item, line_columns}
 use Rattle.text_pieces.specs.Sources.{Source}
 use Rattle.text_pieces.specs.Modes.{is_preserved, is_wrapped, is_same_mode}
-use Rattle.preserved_text.specs.Preserved.{preserved_lines, is_too_wide as is_wide_source}
+use Rattle.text_preserved.specs.Preserved.{preserved_lines, is_too_wide as is_wide_source}
 use Rattle.text_pieces.specs.declared.white_space.WhiteSpace.{WhiteSpace}
-use Rattle.wrapping_laws.specs.Riders.{normal_lines, has_wide_text}
+use Rattle.text_normal.specs.Riders.{normal_lines, has_wide_text}
 use Rattle.text_wrapping.specs.Lines.{lines_in, is_wide_in}
 use Rattle.text_wrapping.specs.Blocks.{Block, padded, lines_behind, lines_or_empty, is_too_narrow, ended, line_ended}
 use Rattle.text_wrapping.specs.Blocks.{line_feed, with_letter, took, took_all, with_mode, in_mode, added, lines_of}

@@ -3,12 +3,12 @@ use Rattle.std.proofs.Common.{◌≡◌, ℕ, Bool, true, false, not, ◌&&◌, 
 use Rattle.std.proofs.Common.{◌∙◌, refl, subst, append_assoc, append-nil}
 use Rattle.std.specs.Prelude.{if◌then◌else◌}
 use Rattle.std.specs.Option.{option_map}
-use Rattle.tagged_lines.specs.Tagged.{Item}
+use Rattle.text_lines.specs.Tagged.{Item}
 use Rattle.text_pieces.specs.Sources.{Source, letter, sourced}
 use Rattle.text_pieces.specs.declared.white_space.WhiteSpace.TheVariants.{Normal}
-use Rattle.wrapping_laws.specs.Layout.{AreLinesOf, NeverFits}
-use Rattle.wrapping_laws.specs.Riders.{normal_lines, has_wide_text}
-use Rattle.wrapping_laws.specs.Letters.{letters_of}
+use Rattle.text_normal.specs.Layout.{AreLinesOf, NeverFits}
+use Rattle.text_normal.specs.Riders.{normal_lines, has_wide_text}
+use Rattle.text_normal.specs.Letters.{letters_of}
 use Rattle.text_wrapping.specs.Blocks.{Block, padded, lines_behind, lines_of, took_all, added, ended_lines}
 use Rattle.text_wrapping.specs.NormalBlocks.{normal_block}
 

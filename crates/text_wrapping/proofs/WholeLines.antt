@@ -1,12 +1,12 @@
 -- A source line that is one line, in a block that holds no text.
-use Rattle.std.proofs.Common.{◌≡◌, ℕ, Bool, true, false, List, [], ◌∷◌, ◌++◌, None, Some, refl, sym, ap, ◌∙◌}
+use Rattle.std.proofs.Common.{◌≡◌, Bool, true, false, List, [], ◌∷◌, ◌++◌, Some, refl, sym, ap, ◌∙◌}
 use Rattle.std.specs.Prelude.{not, ◌&&◌, if◌then◌else◌}
-use Rattle.tagged_lines.specs.Tagged.{Item}
+use Rattle.text_lines.specs.Tagged.{Item}
 use Rattle.text_pieces.specs.Modes.{is_preserved, is_wrapped}
 use Rattle.text_pieces.specs.Sources.{Source}
-use Rattle.preserved_text.specs.Preserved.{preserved_lines, preserved_waiting, is_too_wide}
-use Rattle.preserved_text.specs.PlainLines.{IsOnlyLine}
-use Rattle.wrapping_laws.specs.Riders.{normal_lines, normal_waiting, has_wide_text}
+use Rattle.text_preserved.specs.Preserved.{preserved_lines, preserved_waiting, is_too_wide}
+use Rattle.text_preserved.specs.PlainLines.{IsOnlyLine}
+use Rattle.text_normal.specs.Riders.{normal_lines, normal_waiting, has_wide_text}
 use Rattle.text_wrapping.specs.Blocks.{Block, behind_sources, with_lines, with_source, line_ended, is_too_narrow}
 use Rattle.text_wrapping.specs.Lines.{lines_in, waiting_in, is_wide_in}
 use Rattle.text_wrapping.proofs.BlockLemmas.{line_ended_by}

@@ -3,10 +3,10 @@ use Rattle.std.specs.Prelude.{ℕ, ◌-◌, ◌==◌, nat_lt, Bool, false, not, 
 use Rattle.std.specs.Prelude.{Some, All, map, fold, replicate, if◌then◌else◌}
 use Rattle.std.specs.List.{list_any}
 use Rattle.std.specs.Option.{option_map, option_and_then}
-use Rattle.tagged_lines.specs.Tagged.{Item, character, line_items, line_columns, IsJoined}
-use Rattle.tagged_lines.specs.Columns.{width_of}
+use Rattle.text_lines.specs.Tagged.{Item, character, line_items, line_columns, IsJoined}
+use Rattle.text_lines.specs.Columns.{width_of}
 use Rattle.text_pieces.specs.Sources.{Source, letter, fragment, fragments, sources_of, is_white_space}
-use Rattle.preserved_text.specs.Preserved.{names_of}
+use Rattle.text_preserved.specs.Preserved.{names_of}
 use Rattle.text_pieces.specs.Modes.{is_preserved, is_same_mode}
 use Rattle.text_pieces.specs.declared.white_space.WhiteSpace.{WhiteSpace}
 use Rattle.text_pieces.specs.declared.white_space.WhiteSpace.TheVariants.{Normal}

@@ -4,9 +4,9 @@ ghost use Rattle.std.specs.Prelude.{Some};
 ghost use Rattle.std.specs.Option.{option_and_then, option_map};
 ghost use Rattle.text_pieces.specs.Modes.{is_preserved};
 ghost use Rattle.text_pieces.specs.Sources.{Source, sourced};
-ghost use Rattle.tagged_lines.specs.Tagged.{Item, line_columns};
-ghost use Rattle.wrapping_laws.specs.Layout.{AreLinesOf, NeverFits};
-ghost use Rattle.wrapping_laws.specs.Letters.{letters_of, has_marker};
+ghost use Rattle.text_lines.specs.Tagged.{Item, line_columns};
+ghost use Rattle.text_normal.specs.Layout.{AreLinesOf, NeverFits};
+ghost use Rattle.text_normal.specs.Letters.{letters_of, has_marker};
 ghost use Rattle.text_wrapping.specs.Blocks.{Block, empty_block, added, ended, ended_lines, marked_by, padded};
 ghost use Rattle.text_wrapping.specs.LawWords.{line_ends, IsWithin};
 ghost use Rattle.text_pieces.specs.declared.white_space.WhiteSpace.{WhiteSpace as SeenMode};
@@ -15,10 +15,10 @@ ghost use Rattle.text_wrapping.specs.Blocks.{fragments_taken, broken, has_column
 ghost use Rattle.text_wrapping.specs.Retagged.{reitem, reblock, reblocked};
 ghost use Rattle.std.specs.Prelude.{map};
 
-use preserved_text::preserved_lines_keep_the_width;
-use tagged_lines::EqualCopy;
+use text_preserved::preserved_lines_keep_the_width;
+use text_lines::EqualCopy;
 use text_pieces::WhiteSpace;
-use wrapping_laws::{normal_lines_are_fullest, normal_lines_keep_the_width, wide_text_never_fits};
+use text_normal_laws::{normal_lines_are_fullest, normal_lines_keep_the_width, wide_text_never_fits};
 
 /// A block of normal text goes on after what it holds; an empty block is one without text.
 pub fn normal_text_is_kept<T: EqualCopy>()

@@ -2,20 +2,20 @@
 ghost use Rattle.std.specs.Prelude.{◌≡◌, ◌⊎◌, ◌++◌, [], true, false, None, Some, map, chars, All, IsTrue, IfOk, IfErr};
 ghost use Rattle.std.specs.Prelude.{◌∷◌, IfSome, OnOk, if◌then◌else◌};
 ghost use Rattle.text_pieces.specs.Sources.{sources_of, piece_sources, names};
-ghost use Rattle.preserved_text.specs.Preserved.{names_of};
+ghost use Rattle.text_preserved.specs.Preserved.{names_of};
 ghost use Rattle.text_pieces.specs.Modes.{is_preserved, is_same_mode};
 ghost use Rattle.text_wrapping.specs.Blocks.{lines_or_empty};
-ghost use Rattle.tagged_lines.specs.Tagged.{line_items, IsJoined};
+ghost use Rattle.text_lines.specs.Tagged.{line_items, IsJoined};
 
 use crate::copies::{clone_lines, clone_pieces};
 use crate::one_tag::push_tagged;
 use crate::padding::pad_lines;
 use crate::showing::{ends_in_columns, has_visible, have_columns};
-use preserved_text::{lay_line, lay_preserved, take_line};
+use text_preserved::{lay_line, lay_preserved, take_line};
 use std::alloc::{AllocError, Global};
-use tagged_lines::{EqualCopy, TaggedLine};
+use text_lines::{EqualCopy, TaggedLine};
 use text_pieces::{BlockError, LaidText, Piece, WhiteSpace, cut_at, push_text};
-use wrapping_laws::{lay_normal, lay_owned};
+use text_normal::{lay_normal, lay_owned};
 
 /// A `WrappedBlock` that keeps no note of refusals: for who lets it go once a call was refused.
 #[derive(Drop)]
@@ -38,7 +38,7 @@ impl<T: EqualCopy + Drop> TextBlock<T> {
     ghost use Rattle.text_wrapping.specs.Blocks.{AreJoinedLines};
     ghost use Rattle.text_wrapping.specs.Lines.{lines_in, waiting_in};
     ghost use Rattle.text_pieces.specs.Sources.{sourced, fragments};
-    ghost use Rattle.text_wrapping.specs.Blocks.{block_of, has_failed, empty_block, added, took_all, in_mode, ended};
+    ghost use Rattle.text_wrapping.specs.Blocks.{empty_block, added, took_all, in_mode, ended};
     ghost use Rattle.text_wrapping.specs.Blocks.{line_ended, ended_lines, fragments_taken, behind_sources, with_lines};
     ghost use Rattle.text_wrapping.specs.Blocks.{with_source, marked_by, padded, padding_of, is_too_narrow, broken};
     ghost use Rattle.text_wrapping.specs.Blocks.{has_columns, AreJoinedLines};

@@ -4,13 +4,13 @@ use Rattle.std.specs.Str.{chars}
 use Rattle.std.proofs.lemmas.Result.{err_from_is_err_and}
 use Rattle.std.proofs.lemmas.Str.{chars-nil}
 use Rattle.html_lexemes.specs.declared.names.QualName.{QualName}
-use Rattle.html_serializer.specs.Calls.{Call, finish, start}
-use Rattle.rebuilt_documents.specs.Contents.{in_no_namespace, none, span}
+use Rattle.tree_serializer.specs.Calls.{Call, finish, start}
+use Rattle.document_laws.specs.Contents.{in_no_namespace, none, span}
 use Rattle.article_values.specs.Articles.{link, no_blocks, no_inlines, numbers}
 use Rattle.article_values.specs.Sizes.{inline_size, inlines_size}
 use Rattle.article_values.specs.Views.{block_view, blocks_view, held, inline_view, inlines_view, items_view}
-use Rattle.written_articles.specs.Contents.{content_of_blocks, content_of_inlines, content_of_items}
-use Rattle.written_articles.specs.Tellings.{calls_and, text_content}
+use Rattle.article_writing.specs.Contents.{content_of_blocks, content_of_inlines, content_of_items}
+use Rattle.written_document_laws.specs.Tellings.{calls_and, text_content}
 use Rattle.article_writing.specs.Tells.{Tells, inner_content}
 use Rattle.article_writing.specs.declared.inner.Inner.TheVariants.{Blocks, Head}
 use Rattle.article_values.proofs.Weights.{blocks_weight, items_weight, one_of, weight, weight_of_bullets}

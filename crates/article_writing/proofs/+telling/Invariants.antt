@@ -1,8 +1,8 @@
 use Rattle.std.proofs.Common.{◌+◌, ◌*◌}
 use Rattle.article_values.specs.Sizes.{inline_size, inlines_size}
 use Rattle.article_values.specs.Views.{blocks_view, inlines_view, items_view}
-use Rattle.written_articles.specs.Contents.{content_of_blocks, content_of_inlines, content_of_items}
-use Rattle.written_articles.specs.Tellings.{calls_and}
+use Rattle.article_writing.specs.Contents.{content_of_blocks, content_of_inlines, content_of_items}
+use Rattle.written_document_laws.specs.Tellings.{calls_and}
 use Rattle.article_values.proofs.Weights.{blocks_weight, items_weight, weight}
 use Rattle.article_writing.proofs.InnerSizes.{inner_weight}
 use Rattle.article_writing.proofs.Telling.{IsLeft}

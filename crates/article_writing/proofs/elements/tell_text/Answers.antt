@@ -2,10 +2,10 @@ use Rattle.std.proofs.Common.{List, ◌∷◌, refl, sym, ◌∙◌, chars}
 use Rattle.article_writing.proofs.Telling.{one_told, retold}
 use Rattle.article_writing.proofs.Texts.{empty_calls, some_calls}
 use Rattle.std.specs.Prelude.{Ok, Result}
-use Rattle.html_serializer.specs.Calls.{Call, text_run}
-use Rattle.html_serializer.specs.declared.fault.SerializeFault.{SerializeFault}
+use Rattle.tree_serializer.specs.Calls.{Call, text_run}
+use Rattle.tree_serializer.specs.declared.fault.SerializeFault.{SerializeFault}
 use Rattle.article_writing.specs.Tells.{Tells}
-use Rattle.written_articles.specs.Tellings.{calls_and, text_content}
+use Rattle.written_document_laws.specs.Tellings.{calls_and, text_content}
 use Rattle.article_writing.proofs.elements.tell_text.Goals as goal
 
 pub returns-then-is_empty : goal.returns-then-is_empty

@@ -1,10 +1,10 @@
 use Rattle.std.proofs.Common.{◌≡◌, Err, ap, option_map, refl, string_bytes, subst}
 use Rattle.std.specs.Prelude.{IfSome}
-use Rattle.command_words.specs.Requests.{asked_of}
+use Rattle.command_line.specs.Requests.{asked_of}
 use Rattle.html2text.proofs.AnswerLemmas.{no_basic, table_refused}
 use Rattle.html2text.proofs.response.answer.Goals as goal
 use Rattle.html2text.specs.Responses.{Complains}
-use Rattle.named_files.specs.TableFiles.{IsNoTable}
+use Rattle.command_line.specs.TableFiles.{IsNoTable}
 
 pub returns-in-Err : goal.returns-in-Err
 returns-in-Err g c =

@@ -4,7 +4,7 @@ use Rattle.html2text.proofs.ResponseLemmas.{IsRead, asked_refusal, done_status, 
 use Rattle.html2text.proofs.ResponseLemmas.{table_refusal, table_status, unopened_refusal, words_status, writes_asked}
 use Rattle.html2text.proofs.ResponseLemmas.{writes_asked_part}
 use Rattle.html2text.proofs.response.respond.Goals as goal
-use Rattle.command_words.specs.FaultTexts.{fault_text}
+use Rattle.command_line.specs.FaultTexts.{fault_text}
 use Rattle.page_config.specs.declared.error.Error.TheVariants.{IoError}
 
 pub returns-clause-statuses : goal.returns-clause-statuses

@@ -1,5 +1,5 @@
 use Rattle.std.proofs.Common.{◌≡◌, ◌∙◌, ap, option_map, refl, string_bytes, subst}
-use Rattle.command_words.specs.Requests.{asked_of}
+use Rattle.command_line.specs.Requests.{asked_of}
 use Rattle.html2text.proofs.AnswerLemmas.{refused_here, refused_there, shown_here, shown_there}
 use Rattle.html2text.proofs.response.show_page.Goals as goal
 use Rattle.html2text.specs.Responses.{Complains}

@@ -1,5 +1,5 @@
 use Rattle.std.proofs.Common.{◌∙◌, ap}
-use Rattle.command_words.specs.Requests.{asked_of}
+use Rattle.command_line.specs.Requests.{asked_of}
 use Rattle.html2text.proofs.EndingLemmas.{ends_as}
 use Rattle.html2text.proofs.SettingLemmas.{decorated_setting, plain_has, plain_narrow, plain_nothing, sharing}
 use Rattle.html2text.proofs.showing.write_decorated.Goals as goal

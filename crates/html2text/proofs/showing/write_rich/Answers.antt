@@ -1,5 +1,5 @@
 use Rattle.std.proofs.Common.{◌≡◌, ◌∙◌, ap}
-use Rattle.command_words.specs.Requests.{asked_of}
+use Rattle.command_line.specs.Requests.{asked_of}
 use Rattle.html2text.proofs.EndingLemmas.{ends_as}
 use Rattle.html2text.proofs.SettingLemmas.{bare, rich_has, rich_narrow, rich_nothing, rich_setting, sharing}
 use Rattle.html2text.proofs.showing.write_rich.Goals as goal

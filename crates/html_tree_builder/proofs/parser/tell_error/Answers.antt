@@ -1,6 +1,6 @@
 use Rattle.html_tree_builder.proofs.ReadLemmas.{same_parsed}
 use Rattle.html_tree_builder.proofs.parser.tell_error.Goals as goal
-use Rattle.tree_builder.specs.declared.builder.TreeBuilder.{TreeBuilder}
+use Rattle.html_tree_builder.specs.declared.builder.TreeBuilder.{TreeBuilder}
 
 pub returns-clause-as_before : goal.returns-clause-as_before
 returns-clause-as_before g c =

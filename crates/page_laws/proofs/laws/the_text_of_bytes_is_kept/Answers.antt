@@ -1,8 +1,8 @@
 use Rattle.std.proofs.Common.{◌≡◌, ◌+◌, arith}
-use Rattle.html_forest.proofs.KeptForests.{page_alone_kept}
-use Rattle.kept_text.specs.KeptText.{in_texts, in_told}
-use Rattle.kept_text.specs.PageTexts.{items_of}
-use Rattle.utf8_decoding.specs.ReplacedText.{replaced_text}
+use Rattle.tree_forest.proofs.KeptForests.{page_alone_kept}
+use Rattle.page_tree_laws.specs.KeptText.{in_texts, in_told}
+use Rattle.page_tree_laws.specs.PageTexts.{items_of}
+use Rattle.page_decoding.specs.ReplacedText.{replaced_text}
 use Rattle.page_reading.specs.PageTrees.{first_of_page}
 use Rattle.page_laws.proofs.laws.the_text_of_bytes_is_kept.Goals as goal
 

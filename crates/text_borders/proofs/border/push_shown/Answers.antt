@@ -1,5 +1,5 @@
 use Rattle.std.proofs.Common.{sym, ap, ◌∙◌, ◌++◌, ◌-◌, map}
-use Rattle.tagged_lines.specs.Tagged.{line_items}
+use Rattle.text_lines.specs.Tagged.{line_items}
 use Rattle.text_borders.specs.Segments.{segment_of}
 use Rattle.text_borders.specs.Borders.{hole_of, shown_from}
 use Rattle.text_borders.proofs.SegmentLemmas.{front_is, rest_is, more_shown}

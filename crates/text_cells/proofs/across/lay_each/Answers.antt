@@ -5,7 +5,7 @@ use Rattle.text_borders.specs.Segments.{with_up, with_down}
 use Rattle.text_borders.specs.Borders.{border_of, horizontal, plain, stretched, change_to, with_segments}
 use Rattle.text_borders.specs.Across.{row_width, signs, of_cells, row_height, row_lines, with_holes}
 use Rattle.text_borders.specs.Across.{hanging_of as left_of}
-use Rattle.tagged_lines.specs.Tagged.{line_items}
+use Rattle.text_lines.specs.Tagged.{line_items}
 use Rattle.text_cells.specs.Cells.{cell_of, hanging_of}
 use Rattle.text_cells.specs.OpenCells.{open_cell_of, after}
 use Rattle.text_cells.proofs.WholeRow.{given_is, written, cells_are, above_is, below_is, lines_are, holes_are}

@@ -2,7 +2,7 @@ use Rattle.std.proofs.Common.{ap, ◌∙◌, Err}
 use Rattle.article_answers.proofs.ToldLines.{same_error, told_answer, told_narrow}
 use Rattle.article_answers.proofs.layout.ArticleLayArticle.layout.Goals as goal
 use Rattle.article_answers.specs.ArticleAnswers.{options_for}
-use Rattle.article_laying.specs.Settings.{options_of}
+use Rattle.article_layout.specs.Settings.{options_of}
 use Rattle.article_values.specs.Views.{blocks_view}
 use Rattle.page_config.specs.Settings.{bare_setting}
 use Rattle.page_config.specs.declared.error.Error.TheVariants as errors

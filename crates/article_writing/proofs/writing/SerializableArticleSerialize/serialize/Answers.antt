@@ -2,11 +2,11 @@ use Rattle.std.proofs.Common.{sym, ap, subst, ◌∙◌}
 use Rattle.std.specs.Str.{chars}
 use Rattle.std.specs.Prelude.{option_map}
 use Rattle.std.proofs.lemmas.Result.{err_from_is_err_and}
-use Rattle.html_serializer.specs.Calls.{reply_of}
-use Rattle.html_serializer.specs.Told.{IsTold}
+use Rattle.tree_serializer.specs.Calls.{reply_of}
+use Rattle.tree_serializer.specs.Told.{IsTold}
 use Rattle.article_values.specs.Views.{blocks_view}
-use Rattle.written_articles.specs.Contents.{content_of_blocks}
-use Rattle.written_articles.specs.Tellings.{document_calls}
+use Rattle.article_writing.specs.Contents.{content_of_blocks}
+use Rattle.written_document_laws.specs.Tellings.{document_calls}
 use Rattle.article_writing.proofs.Documents.{document_told, document_refused}
 use Rattle.article_writing.proofs.writing.SerializableArticleSerialize.serialize.Goals as goal
 

@@ -1,7 +1,7 @@
 use Rattle.std.proofs.Common.{sym}
-use Rattle.html_forest.specs.Changes.{detached}
-use Rattle.html_forest.specs.Forest.{children_at}
-use Rattle.html_forest.proofs.LawLists.{standing}
+use Rattle.tree_forest.specs.Changes.{detached}
+use Rattle.tree_forest.specs.Forest.{children_at}
+use Rattle.tree_forest.proofs.LawLists.{standing}
 use Rattle.html_render_dom.specs.Nodes.{forest_of}
 use Rattle.html_render_dom.proofs.LinkedNodes.{noted_child, stands_nowhere}
 use Rattle.html_render_dom.proofs.HeldForests.{beside_held, one_parent, out_held}

@@ -1,6 +1,6 @@
 use Rattle.std.proofs.Common.{◌≡◌, inl, sym, ap, ◌∙◌, subst, Some, length, ◌<◌}
-use Rattle.html_forest.specs.Changes.{reparented}
-use Rattle.html_forest.specs.Orders.{IsIn}
+use Rattle.tree_forest.specs.Changes.{reparented}
+use Rattle.tree_forest.specs.Orders.{IsIn}
 use Rattle.html_render_dom.specs.Siblings.{given, holder, spot_of}
 use Rattle.html_render_dom.specs.Nodes.{forest_of, links_of}
 use Rattle.html_render_dom.proofs.HeldForests.{children_chain, children_followed, children_held, first_held}

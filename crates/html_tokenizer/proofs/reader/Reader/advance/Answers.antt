@@ -1,9 +1,9 @@
 use Rattle.std.proofs.Common.{refl, sym, ◌∷◌, [], ◌++◌, string_bytes, subst}
 use Rattle.std.specs.Str.{chars}
-use Rattle.html_grammar.specs.Items.{characters}
-use Rattle.lexeme_places.specs.Places.{place_lexeme}
+use Rattle.token_grammar.specs.Items.{characters}
+use Rattle.token_states.specs.Places.{place_lexeme}
 use Rattle.html_tokenizer.specs.Tells.{Asks}
-use Rattle.lexeme_places.specs.Turns.{IsOver, IsUntagged}
+use Rattle.token_states.specs.Turns.{IsOver, IsUntagged}
 use Rattle.html_tokenizer.proofs.PauseMarks.{pause_mark}
 use Rattle.html_tokenizer.proofs.ReadsLemmas.{on_ok_map}
 use Rattle.html_tokenizer.proofs.ReadyLemmas.{placed_text}

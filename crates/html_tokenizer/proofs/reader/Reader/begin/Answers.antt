@@ -1,7 +1,7 @@
 use Rattle.std.proofs.Common.{[], refl, ap, ◌∙◌, string_bytes}
 use Rattle.std.proofs.lemmas.Str.{chars-nil}
 use Rattle.std.specs.Str.{chars}
-use Rattle.html_grammar.specs.Items.{characters}
+use Rattle.token_grammar.specs.Items.{characters}
 use Rattle.html_tokenizer.proofs.GoingLemmas.{going_sound}
 use Rattle.html_tokenizer.proofs.PendingLemmas.{some_table}
 use Rattle.html_tokenizer.proofs.ReadsLemmas.{held_none, null_read, opened_read, raw_opened, text_read}

@@ -1,7 +1,7 @@
 use Rattle.std.proofs.Common.{◌≡◌, [], append-nil, sym, ap, ◌∙◌, string_bytes, subst}
 use Rattle.std.proofs.lemmas.Str.{chars-nil}
 use Rattle.std.specs.Str.{chars}
-use Rattle.html_grammar.specs.Items.{characters, end_of_file}
+use Rattle.token_grammar.specs.Items.{characters, end_of_file}
 use Rattle.html_tokenizer.specs.Reads.{Leaves}
 use Rattle.html_tokenizer.proofs.ReadsLemmas.{leaves_same}
 use Rattle.html_tokenizer.proofs.TellsLemmas.{closed_by}

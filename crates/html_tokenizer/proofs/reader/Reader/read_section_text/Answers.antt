@@ -3,8 +3,8 @@ use Rattle.std.proofs.lemmas.Str.{chars-append, chars-nil, IsUtf8-string_bytes}
 use Rattle.std.proofs.lemmas.Bool.{ne_eqb}
 use Rattle.std.specs.Prelude.{not}
 use Rattle.std.specs.Str.{chars}
-use Rattle.html_grammar.specs.Items.{characters}
-use Rattle.lexeme_places.specs.Sound.{IsSound}
+use Rattle.token_grammar.specs.Items.{characters}
+use Rattle.token_states.specs.Sound.{IsSound}
 use Rattle.html_tokenizer.proofs.PendingLemmas.{some_table}
 use Rattle.html_tokenizer.proofs.RawReads.{begun_plain, section_character, section_null}
 use Rattle.html_tokenizer.proofs.ReadsLemmas.{on_ok_map, on_ok_two}

@@ -1,11 +1,11 @@
 use Rattle.std.proofs.Common.{◌≡◌, Bool, IfSome, MatchOption, ap, sym, ◌∙◌, ◌∷◌, string_bytes, subst}
 use Rattle.std.specs.Str.{chars}
-use Rattle.html_grammar.specs.Items.{characters}
-use Rattle.html_grammar.specs.declared.modes.Mode.{Mode}
+use Rattle.token_grammar.specs.Items.{characters}
+use Rattle.token_grammar.specs.declared.modes.Mode.{Mode}
 use Rattle.html_tokenizer.specs.Advances.{Advances, StaysWithinKind}
-use Rattle.lexeme_places.specs.PlaceKinds.{IsNoMarkup, IsPlaceOf, IsWithinMarkup}
+use Rattle.token_states.specs.PlaceKinds.{IsNoMarkup, IsPlaceOf, IsWithinMarkup}
 use Rattle.html_tokenizer.specs.declared.pending.Pending.{Pending}
-use Rattle.lexeme_places.specs.declared.place.Place.TheVariants.{MarkupDeclarationOpen}
+use Rattle.token_states.specs.declared.place.Place.TheVariants.{MarkupDeclarationOpen}
 use Rattle.html_tokenizer.proofs.RawReads.{in_section}
 use Rattle.html_tokenizer.proofs.ReadsLemmas.{leaves_same, on_ok_map}
 use Rattle.html_tokenizer.proofs.TellsLemmas.{asks_behind, if_ok_map, tells_then}

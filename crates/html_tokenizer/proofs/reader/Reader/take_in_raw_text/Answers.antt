@@ -1,11 +1,11 @@
 use Rattle.std.proofs.Common.{false, refl, ap, sym, ◌∙◌, ◌++◌, string_bytes, subst}
 use Rattle.std.proofs.lemmas.Str.{chars-append, IsUtf8-string_bytes}
 use Rattle.std.specs.Str.{chars}
-use Rattle.html_grammar.specs.Items.{characters}
+use Rattle.token_grammar.specs.Items.{characters}
 use Rattle.html_tokenizer.specs.Advances.{RawAdvances}
-use Rattle.lexeme_places.specs.PlaceKinds.{IsPlaceOf, IsWithinMarkup}
-use Rattle.html_grammar.specs.declared.modes.TextKind.TheVariants.{Raw}
-use Rattle.html_grammar.proofs.KindLemmas.{ready_of}
+use Rattle.token_states.specs.PlaceKinds.{IsPlaceOf, IsWithinMarkup}
+use Rattle.token_grammar.specs.declared.modes.TextKind.TheVariants.{Raw}
+use Rattle.token_grammar.proofs.KindLemmas.{ready_of}
 use Rattle.html_tokenizer.proofs.GoingLemmas.{within_markup}
 use Rattle.html_tokenizer.proofs.PendingLemmas.{raw_place, some_table}
 use Rattle.html_tokenizer.proofs.RawReads.{raw_before, raw_end_tag, raw_goes, raw_shifts}

@@ -1,11 +1,11 @@
 use Rattle.std.proofs.Common.{refl, ap, sym, ◌∙◌, ◌∷◌, [], ◌++◌, map, string_bytes, subst}
 use Rattle.std.proofs.lemmas.Str.{IsUtf8-string_bytes}
 use Rattle.std.specs.Str.{chars}
-use Rattle.html_grammar.specs.Items.{characters}
-use Rattle.html_grammar.specs.Lexemes.{ordinary_item}
+use Rattle.token_grammar.specs.Items.{characters}
+use Rattle.token_grammar.specs.Lexemes.{ordinary_item}
 use Rattle.std.specs.List.{fold}
 use Rattle.html_tokenizer.specs.Reads.{Leaves}
-use Rattle.lexeme_places.specs.SectionTurns.{SectionAdvances}
+use Rattle.token_states.specs.SectionTurns.{SectionAdvances}
 use Rattle.html_tokenizer.proofs.GoingLemmas.{section_going}
 use Rattle.html_tokenizer.proofs.PendingLemmas.{some_mode}
 use Rattle.html_tokenizer.proofs.RawReads.{section_more, section_on}

@@ -1,6 +1,6 @@
 use Rattle.std.proofs.Common.{string_bytes}
 use Rattle.std.specs.Str.{chars}
-use Rattle.html_grammar.specs.Items.{characters, error}
+use Rattle.token_grammar.specs.Items.{characters, error}
 use Rattle.html_tokenizer.proofs.ReadyLemmas.{ready_behind}
 use Rattle.html_tokenizer.proofs.TellsLemmas.{alike_more, tells_item, tells_then}
 use Rattle.html_tokenizer.proofs.reader.Reader.tell_errors.Goals as goal

@@ -1,4 +1,4 @@
-use Rattle.html_grammar.specs.Kinds.{IsReadyFor}
+use Rattle.token_grammar.specs.Kinds.{IsReadyFor}
 use Rattle.html_tokenizer.specs.Reads.{state_of}
 use Rattle.html_tokenizer.specs.Tells.{IsAlike, TellsOn}
 use Rattle.html_tokenizer.proofs.reader.Reader.tell_errors.Given as goal

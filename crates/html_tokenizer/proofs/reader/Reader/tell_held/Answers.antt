@@ -1,16 +1,16 @@
 use Rattle.std.proofs.Common.{◌≡◌, sym, ap, ◌∙◌, string_bytes, subst}
 use Rattle.std.proofs.lemmas.Str.{chars-nil}
 use Rattle.std.specs.Str.{chars}
-use Rattle.html_grammar.specs.Items.{characters, end_of_file, tag}
-use Rattle.html_grammar.specs.Kinds.{IsOf, IsReadyFor}
-use Rattle.html_grammar.specs.Lexemes.{tagged}
-use Rattle.html_grammar.specs.Modes.{mode_behind}
-use Rattle.html_grammar.specs.PlainRead.{items_of, lexeme_of}
-use Rattle.html_grammar.specs.Reading.{Reading}
-use Rattle.html_grammar.specs.declared.modes.Mode.{Mode}
-use Rattle.html_grammar.proofs.KindLemmas.{ready_of}
-use Rattle.lexeme_places.specs.PlaceKinds.{IsPlaceOf}
-use Rattle.lexeme_places.specs.Places.{place_lexeme}
+use Rattle.token_grammar.specs.Items.{characters, end_of_file, tag}
+use Rattle.token_grammar.specs.Kinds.{IsOf, IsReadyFor}
+use Rattle.token_grammar.specs.Lexemes.{tagged}
+use Rattle.token_grammar.specs.Modes.{mode_behind}
+use Rattle.token_grammar.specs.PlainRead.{items_of, lexeme_of}
+use Rattle.token_grammar.specs.Reading.{Reading}
+use Rattle.token_grammar.specs.declared.modes.Mode.{Mode}
+use Rattle.token_grammar.proofs.KindLemmas.{ready_of}
+use Rattle.token_states.specs.PlaceKinds.{IsPlaceOf}
+use Rattle.token_states.specs.Places.{place_lexeme}
 use Rattle.html_tokenizer.specs.Reads.{Follows}
 use Rattle.html_tokenizer.proofs.ReadsLemmas.{on_ok_map}
 use Rattle.html_tokenizer.proofs.ReadyLemmas.{are_unanswered, tagged_kind, told_kind}

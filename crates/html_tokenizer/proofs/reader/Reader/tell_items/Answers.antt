@@ -3,11 +3,11 @@ use Rattle.std.proofs.lemmas.Bool.{MatchBool-at_true}
 use Rattle.std.proofs.lemmas.Str.{chars-nil}
 use Rattle.std.specs.List.{fold}
 use Rattle.std.specs.Str.{chars}
-use Rattle.html_grammar.specs.Items.{characters}
-use Rattle.html_grammar.specs.Kinds.{IsReadyFor}
-use Rattle.html_grammar.specs.PlainRead.{items_of}
-use Rattle.html_grammar.specs.declared.modes.Mode.{Mode}
-use Rattle.html_grammar.proofs.KindLemmas.{within_welcome}
+use Rattle.token_grammar.specs.Items.{characters}
+use Rattle.token_grammar.specs.Kinds.{IsReadyFor}
+use Rattle.token_grammar.specs.PlainRead.{items_of}
+use Rattle.token_grammar.specs.declared.modes.Mode.{Mode}
+use Rattle.token_grammar.proofs.KindLemmas.{within_welcome}
 use Rattle.html_tokenizer.specs.Tells.{IsFirstAfterError}
 use Rattle.html_tokenizer.proofs.ReadsLemmas.{on_ok_map}
 use Rattle.html_tokenizer.proofs.TellsLemmas.{alike_items, tells_all, tells_then}

@@ -2,13 +2,13 @@ use Rattle.std.proofs.Common.{ap, refl, sym, subst, ◌∙◌, ◌++◌, string_
 use Rattle.std.proofs.lemmas.Str.{chars-nil}
 use Rattle.std.specs.Str.{chars}
 use Rattle.std.specs.List.{fold}
-use Rattle.html_grammar.specs.Items.{characters, tag}
-use Rattle.html_grammar.specs.Kinds.{AreWithin, IsOf, IsReadyFor}
-use Rattle.html_grammar.specs.Modes.{mode_behind}
-use Rattle.html_grammar.specs.Lexemes.{nothing, told, tagged}
-use Rattle.html_grammar.specs.PlainRead.{items_of, lexeme_of}
-use Rattle.html_grammar.specs.declared.modes.Mode.{Mode}
-use Rattle.html_grammar.proofs.KindLemmas.{ready_of}
+use Rattle.token_grammar.specs.Items.{characters, tag}
+use Rattle.token_grammar.specs.Kinds.{AreWithin, IsOf, IsReadyFor}
+use Rattle.token_grammar.specs.Modes.{mode_behind}
+use Rattle.token_grammar.specs.Lexemes.{nothing, told, tagged}
+use Rattle.token_grammar.specs.PlainRead.{items_of, lexeme_of}
+use Rattle.token_grammar.specs.declared.modes.Mode.{Mode}
+use Rattle.token_grammar.proofs.KindLemmas.{ready_of}
 use Rattle.html_tokenizer.specs.declared.pending.Pending.{Pending}
 use Rattle.html_tokenizer.proofs.ReadsLemmas.{found_from, held_none, never_nothing, on_ok_two, tagged_over, told_over}
 use Rattle.html_tokenizer.proofs.ReadyLemmas.{are_unanswered, tagged_kind, told_kind}

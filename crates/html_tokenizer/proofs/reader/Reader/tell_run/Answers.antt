@@ -1,7 +1,7 @@
 use Rattle.std.proofs.Common.{◌≡◌, [], refl, ap, sym, ◌∙◌, string_bytes}
 use Rattle.std.proofs.lemmas.Str.{chars-nil}
 use Rattle.std.specs.Str.{chars}
-use Rattle.html_grammar.specs.Items.{characters}
+use Rattle.token_grammar.specs.Items.{characters}
 use Rattle.html_tokenizer.proofs.ReadsLemmas.{empty_bytes}
 use Rattle.html_tokenizer.proofs.TellsLemmas.{tells_item, tells_same}
 use Rattle.html_tokenizer.proofs.reader.Reader.tell_run.Goals as goal

@@ -1,6 +1,6 @@
 use Rattle.std.proofs.Common.{◌≡◌, ◌++◌, ap, sym, subst, string_bytes}
 use Rattle.std.specs.Str.{chars}
-use Rattle.html_grammar.specs.Items.{characters}
+use Rattle.token_grammar.specs.Items.{characters}
 use Rattle.html_tokenizer.proofs.RunLemmas.{going_held, lines_behind, run_held}
 use Rattle.html_tokenizer.specs.PageRest.{page_rest}
 use Rattle.html_tokenizer.specs.Reads.{Leaves, state_of}

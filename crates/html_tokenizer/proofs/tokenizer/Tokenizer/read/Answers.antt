@@ -1,14 +1,14 @@
 use Rattle.std.proofs.Common.{◌≡◌, ◌<◌, IfSome, [], Some, refl, arith, length, ap, sym, ◌∙◌, ◌++◌, string_bytes, subst}
 use Rattle.std.proofs.lemmas.Str.{chars-nil}
 use Rattle.std.specs.Str.{chars}
-use Rattle.html_grammar.specs.Items.{characters}
+use Rattle.token_grammar.specs.Items.{characters}
 use Rattle.html_lexemes.specs.Queue.{Queue}
-use Rattle.html_grammar.specs.Meaning.{Meaning}
-use Rattle.html_grammar.specs.Tags.{greater}
+use Rattle.token_grammar.specs.Meaning.{Meaning}
+use Rattle.token_grammar.specs.Tags.{greater}
 use Rattle.html_tokenizer.specs.Inside.{Completes, IsEmptied}
 use Rattle.html_tokenizer.specs.PageRest.{page_rest}
-use Rattle.html_grammar.specs.declared.modes.Mode.{Mode}
-use Rattle.lexeme_places.specs.Goings.{IsGoing}
+use Rattle.token_grammar.specs.declared.modes.Mode.{Mode}
+use Rattle.token_states.specs.Goings.{IsGoing}
 use Rattle.html_tokenizer.specs.Tells.{Asks, TellsOn}
 use Rattle.html_tokenizer.proofs.TellsLemmas.{answers_pause, asks_behind, none_asked, tells_same, tells_then}
 use Rattle.html_tokenizer.proofs.Undecided.{AreOpenEnded, undecided}

@@ -1,6 +1,6 @@
 use Rattle.std.proofs.Common.{◌≡◌, ◌++◌, ap, sym, ◌∙◌, subst, string_bytes}
 use Rattle.std.specs.Str.{chars}
-use Rattle.html_grammar.specs.Items.{characters}
+use Rattle.token_grammar.specs.Items.{characters}
 use Rattle.html_tokenizer.proofs.ReadsLemmas.{held_none, leaves_same}
 use Rattle.html_tokenizer.proofs.RunLemmas.{free_lines, free_text, run_taken}
 use Rattle.html_tokenizer.specs.PageRest.{page_rest}

@@ -1,5 +1,5 @@
 use Rattle.std.proofs.Common.{sym, ◌∙◌, chars}
-use Rattle.wrapping_laws.proofs.WordLemmas.{empty_text, some_text}
+use Rattle.text_normal.proofs.WordLemmas.{empty_text, some_text}
 use Rattle.text_wrapping.specs.Blocks.{text_of}
 use Rattle.text_wrapping.proofs.BlockLemmas.{added_nothing, added_behind, run_taken, same_mode}
 use Rattle.text_wrapping.proofs.text_block.TextBlock.add_more.Goals as goal

@@ -1,7 +1,7 @@
 use Rattle.std.proofs.Common.{sym, ap, ◌∙◌, chars}
 use Rattle.std.specs.Prelude.{Err}
 use Rattle.std.proofs.lemmas.Result.{err_from_is_err_and, on_ok_weaker}
-use Rattle.wrapping_laws.proofs.WordLemmas.{empty_text, some_text}
+use Rattle.text_normal.proofs.WordLemmas.{empty_text, some_text}
 use Rattle.text_wrapping.specs.Blocks.{text_of}
 use Rattle.text_wrapping.proofs.BlockLemmas.{added_nothing, added_behind, added_refused, added_narrow}
 use Rattle.text_wrapping.proofs.text_block.TextBlock.add_text.Goals as goal

@@ -1,5 +1,5 @@
 use Rattle.std.proofs.Common.{sym, ◌∙◌, chars}
-use Rattle.wrapping_laws.proofs.WordLemmas.{empty_text}
+use Rattle.text_normal.proofs.WordLemmas.{empty_text}
 use Rattle.text_wrapping.specs.Blocks.{text_of}
 use Rattle.text_wrapping.proofs.BlockLemmas.{nothing_behind}
 use Rattle.text_wrapping.proofs.text_block.TextBlock.take_run.Goals as goal

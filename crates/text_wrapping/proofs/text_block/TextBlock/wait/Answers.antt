@@ -1,7 +1,7 @@
 use Rattle.std.proofs.Common.{◌≡◌, refl, sym, ap, ◌∙◌, length, arith}
 use Rattle.std.specs.Vec.Iter.{into_iter_items}
 use Rattle.text_pieces.specs.Sources.{names, fragments, sources_of}
-use Rattle.preserved_text.proofs.TrimLemmas.{nil_length}
+use Rattle.text_preserved.proofs.TrimLemmas.{nil_length}
 use Rattle.text_wrapping.specs.Blocks.{text_of, behind_sources}
 use Rattle.text_wrapping.proofs.BlockLemmas.{wait_more, wait_all, nothing_held}
 use Rattle.text_wrapping.proofs.text_block.TextBlock.wait.Goals as goal

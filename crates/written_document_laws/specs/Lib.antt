@@ -1,0 +1,4 @@
+pub mod Documents
+pub mod Tellings
+pub mod Trees
+pub mod Written
